@@ -1,0 +1,56 @@
+-- A plan within the limits, with its ports and prefixes in order.
+use Rattle.std.specs.Prelude.{ℕ, ◌*◌, ◌<◌, ◌≤◌, ◌≡◌, ◌%◌, Bool, false, ◌==◌, List, map, length, slice_index, All, AllPairs}
+use Rattle.std.specs.List.Sorted.{IsStrictlyIncreasing}
+use Rattle.savi_kinds.specs.declared.plan.Plan.{Plan}
+use Rattle.savi_kinds.specs.declared.plan.PortPlan.{PortPlan}
+use Rattle.savi_kinds.specs.declared.plan.PrefixPlan.{PrefixPlan}
+use Rattle.savi_kinds.specs.declared.address.Mac.{Mac}
+use Rattle.savi_kinds.specs.declared.address.Prefix.{Prefix}
+use Rattle.savi_kinds.specs.Ports.{number_of}
+use Rattle.savi_kinds.specs.Prefixes.{IsPrefix, AreApart, LiesIn, first_of, past_of, link_local, multicast, unspecified, loopback}
+
+-- the group bit of a MAC address: the lowest bit of its first octet (IEEE 802.3)
+abbrev pub is_group : Mac → Bool
+is_group mac = slice_index mac.0 0 % 2 == 1
+
+-- the numbers of the ports, in the order of the plan
+abbrev pub numbers_of : List PortPlan → List ℕ
+numbers_of ports = map (λ p. number_of p.number) ports
+
+-- the prefixes, in the order of the plan
+abbrev pub nets_of : List PrefixPlan → List Prefix
+nets_of prefixes = map (λ p. p.prefix) prefixes
+
+-- a number from the least to the most
+abbrev pub IsWithin : ℕ → ℕ → ℕ → Type 0
+IsWithin least most n = (least ≤ n) × (n ≤ most)
+
+-- a prefix whose addresses hosts may have: none of fe80::/64, ff00::/8, :: and ::1
+pub record IsHostPrefix (p : Prefix) : Type 0 where
+  pub prefix : IsPrefix p
+  pub not_link_local : AreApart p link_local
+  pub not_multicast : AreApart p multicast
+  pub not_unspecified : ¬ LiesIn unspecified p
+  pub not_loopback : ¬ LiesIn loopback p
+
+-- a whole number of seconds, in ms
+abbrev pub IsSeconds : ℕ → ℕ → ℕ → Type 0
+IsSeconds least most ms = (seconds : ℕ) × (ms ≡ 1000 * seconds) × IsWithin least most seconds
+
+pub record IsValidPlan (plan : Plan) : Type 0 where
+  pub unicast : is_group plan.mac ≡ false
+  pub per_port : IsWithin 1 64 plan.per_port
+  pub depth : IsWithin 1 256 plan.depth
+  pub entries : IsWithin 4131 1000000 plan.entries
+  pub bytes : IsWithin 1518 1073741824 plan.bytes
+  pub gap : IsWithin 1 59999 plan.gap
+  pub test : IsWithin 2 60000 plan.test
+  pub gap_first : plan.gap < plan.test
+  pub life : IsSeconds 1 86400 plan.life
+  -- from 1 to 16 ports, in rising order of number
+  pub port_count : IsWithin 1 16 (length plan.ports)
+  pub ports : IsStrictlyIncreasing (numbers_of plan.ports)
+  -- at most 32 prefixes, each of which ends before the next one begins
+  pub prefix_count : length plan.prefixes ≤ 32
+  pub host_prefixes : All IsHostPrefix (nets_of plan.prefixes)
+  pub prefixes : AllPairs (λ p q. past_of p ≤ first_of q) (nets_of plan.prefixes)
