@@ -4,3 +4,4 @@ pub mod Rules
 pub mod Prefixes
 pub mod MacText
 pub mod ValidPlan
+pub mod Arrivals

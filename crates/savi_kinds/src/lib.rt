@@ -9,6 +9,7 @@
 #![tactic(auto)]
 
 mod address;
+mod arrival;
 mod entry;
 mod limits;
 mod mac_text;
@@ -18,6 +19,7 @@ mod text;
 mod verdict;
 
 pub use address::{Addr, Mac, Moment, Prefix};
+pub use arrival::Next;
 pub use entry::{Act, Entry, How, Who};
 pub use limits::{
     BYTES_MOST, CONTROL_LINE_OCTETS, DEPTH_MOST, ENTRIES_LEAST, ENTRIES_MOST, ENTRIES_RESERVED,
