@@ -1,0 +1,7 @@
+pub mod Octets
+pub mod Buffers
+pub mod FirstPlace
+pub mod Keys
+pub mod OnlyOut
+pub mod Options
+pub mod Ready

@@ -1,0 +1,26 @@
+use Rattle.std.proofs.Common.{◌≡◌, ◌==◌, Bool, true, false, sym, ap, ◌∙◌}
+use Rattle.savi_kinds.specs.declared.port.Port.{Port}
+use Rattle.savi_kinds.specs.Ports.{number_of}
+use Rattle.savi_ends.specs.Places.{Place}
+use Rattle.savi_ends.proofs.Keys.{other_number}
+use Rattle.savi_ends.proofs.FirstPlace.{first_is, first_place-set, first_place-set_other, keys_of-set, first_place-absent}
+use Rattle.savi_ends.proofs.mem_places.put_numbered.Goals as goal
+
+pub unreachable-requires : goal.unreachable-requires
+unreachable-requires g c =
+    let none = first_place-absent (λ (key : Port). number_of key == number_of c.args.n) _ c.args.places.now.items c.in-None.ensures c.deref.ensures.value in
+    let clash : false ≡ true = sym (ap (λ (p : Place g.row.X.Denot). p.is_out) none) ∙ c.requires in
+    cc
+
+pub returns : goal.returns
+returns g c =
+    let test : Port → Bool = λ key. number_of key == number_of c.args.n in
+    let items = c.args.places.now.items in
+    let i = c.in-Some.i in
+    let p = c.index_mut.result.now in
+    let here = first_is test _ items i p c.in-Some.ensures c.deref.ensures.value c.index_mut.ensures.value in
+    record {
+      kept = ap (λ (place : Place g.row.X.Denot). place.stands) (first_place-set test items i p _ here);
+      others = λ other differs. first_place-set_other (λ (key : Port). number_of key == other) items i p _ here.within here.is (other_number (number_of p.0) (number_of c.args.n) other here.passes differs);
+      keys = keys_of-set items i p _ here.within here.is;
+    }

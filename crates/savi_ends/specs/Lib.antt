@@ -1,0 +1,16 @@
+pub mod Octets
+pub mod Faults
+pub mod Reads
+pub mod Writes
+pub mod Readings
+pub mod Places
+pub mod Fills
+pub mod Counts
+pub mod Pieces
+pub mod MemSources
+pub mod MemSinks
+pub mod MemClocks
+pub mod CountSinks
+pub mod MemPlaces
+pub mod MemWorlds
+pub mod FreshWorlds
