@@ -1,0 +1,4 @@
+pub mod Checksums
+pub mod FoldedSums
+pub mod OnesSums
+pub mod WordLists

@@ -1,0 +1,2 @@
+pub mod InternetChecksum
+pub mod WideSum
