@@ -1,0 +1,140 @@
+-- No list of octets is two inputs.
+use Rattle.std.proofs.Common.{lit<, ◌≡◌, ◌≢◌, ℕ, ◌+◌, ◌*◌, ◌^◌, ◌<◌, ◌≤◌, List, [], ◌∷◌, ◌++◌, length, take, drop, get_or, inl, inr, refl, sym, ap, subst, ◌∙◌, arith, length-append}
+use Rattle.std.specs.Int.{w32}
+use Rattle.savi_kinds.specs.declared.entry.How.{How}
+use Rattle.savi_kinds.specs.declared.entry.How.TheVariants as how
+use Rattle.savi_kinds.specs.Arrivals.{Arrival, Frame, Long, Input}
+use Rattle.pcap_io.specs.declared.kind.ByteOrder.{ByteOrder}
+use Rattle.pcap_io.specs.declared.kind.ByteOrder.TheVariants.{Little, Big}
+use Rattle.pcap_io.specs.declared.kind.TimeUnit.{TimeUnit}
+use Rattle.pcap_io.specs.declared.kind.TimeUnit.TheVariants.{Microseconds, Nanoseconds}
+use Rattle.pcap_io.specs.declared.kind.HeaderKind.{HeaderKind}
+use Rattle.pcap_io.specs.Numbers.{octets_of}
+use Rattle.pcap_io.specs.Kinds.{magic_of, IsHeader}
+use Rattle.pcap_io.specs.Records.{captured_of, IsRecordOf}
+use Rattle.pcap_io.specs.Runs.{BeginsRecord, EndsAs, IsRun, Arrive, ended}
+use Rattle.pcap_io.proofs.Fronts.{take_front, drop_front, captured_of-append}
+
+abbrev kind_of_parts : ByteOrder → TimeUnit → HeaderKind
+kind_of_parts order unit = record { order = order; unit = unit }
+
+-- two lists of octets whose first ones differ
+apart : (x y : ℕ) (xs ys : List ℕ) → x < y → x ∷ xs ≡ y ∷ ys → ⊥
+apart x y xs ys below same = omega (arith, ap (λ (l : List ℕ). get_or l 0 0) same)
+
+-- the magics of two kinds differ
+parts_once : (o p : ByteOrder) (u v : TimeUnit) → octets_of o w32 (magic_of u) ≡ octets_of p w32 (magic_of v) → kind_of_parts o u ≡ kind_of_parts p v
+parts_once Little Little Microseconds Microseconds same = refl
+parts_once Little Little Microseconds Nanoseconds same = cc
+parts_once Little Little Nanoseconds Microseconds same = cc
+parts_once Little Little Nanoseconds Nanoseconds same = refl
+parts_once Little Big Microseconds Microseconds same = absurd (apart 161 212 _ _ (lit< tt) (sym same))
+parts_once Little Big Microseconds Nanoseconds same = absurd (apart 161 212 _ _ (lit< tt) (sym same))
+parts_once Little Big Nanoseconds Microseconds same = absurd (apart 77 161 _ _ (lit< tt) same)
+parts_once Little Big Nanoseconds Nanoseconds same = absurd (apart 77 161 _ _ (lit< tt) same)
+parts_once Big Little Microseconds Microseconds same = absurd (apart 161 212 _ _ (lit< tt) same)
+parts_once Big Little Microseconds Nanoseconds same = absurd (apart 77 161 _ _ (lit< tt) (sym same))
+parts_once Big Little Nanoseconds Microseconds same = absurd (apart 161 212 _ _ (lit< tt) same)
+parts_once Big Little Nanoseconds Nanoseconds same = absurd (apart 77 161 _ _ (lit< tt) (sym same))
+parts_once Big Big Microseconds Microseconds same = refl
+parts_once Big Big Microseconds Nanoseconds same = cc
+parts_once Big Big Nanoseconds Microseconds same = cc
+parts_once Big Big Nanoseconds Nanoseconds same = refl
+
+-- a header is of one kind
+kind_once : (k l : HeaderKind) (header : List ℕ) → IsHeader k header → IsHeader l header → k ≡ l
+kind_once k l header one other = parts_once k.order l.order k.unit l.unit (sym one.magic ∙ other.magic)
+
+-- an input ends in one way
+ending_once : (kind : HeaderKind) (place : ℕ) (octets : List ℕ) (e f : How) → EndsAs kind place e octets → EndsAs kind place f octets → e ≡ f
+ending_once kind place octets how.End how.End one other = refl
+ending_once kind place octets how.End (how.Malformed at) one other = absurd (other.1 one)
+ending_once kind place octets (how.Malformed at) how.End one other = absurd (one.1 other)
+ending_once kind place octets (how.Malformed at) (how.Malformed to) one other = ap (λ (n : ℕ). how.Malformed n) (one.0 ∙ sym other.0)
+ending_once kind place octets how.Quit f one other = absurd one
+ending_once kind place octets (how.Overlong at) f one other = absurd one
+ending_once kind place octets how.Failed f one other = absurd one
+ending_once kind place octets how.Unwritten f one other = absurd one
+ending_once kind place octets (how.Full len) f one other = absurd one
+ending_once kind place octets e how.Quit one other = absurd other
+ending_once kind place octets e (how.Overlong at) one other = absurd other
+ending_once kind place octets e how.Failed one other = absurd other
+ending_once kind place octets e how.Unwritten one other = absurd other
+ending_once kind place octets e (how.Full len) one other = absurd other
+
+-- the size of a record is in its front
+record_size : (kind : HeaderKind) (octets : List ℕ) (a : Arrival) → IsRecordOf kind octets a → (length octets ≡ 16 + captured_of kind octets) × (captured_of kind octets ≤ 262144)
+record_size kind octets (Frame stamp frame) is = (omega (arith, is.0.size, is.0.captured), omega (arith, is.0.captured, is.1))
+record_size kind octets (Long stamp len) is = (omega (arith, is.0.size, is.0.captured), omega (arith, is.0.captured, is.2))
+
+-- a record is the record of one arrival
+arrival_once : (kind : HeaderKind) (octets : List ℕ) (a b : Arrival) → IsRecordOf kind octets a → IsRecordOf kind octets b → a ≡ b
+arrival_once kind octets (Frame stamp frame) (Frame stamp' frame') one other = cc (one.0.seen, other.0.seen, one.2, other.2)
+arrival_once kind octets (Frame stamp frame) (Long stamp' len) one other = absurd (omega (arith, one.0.captured, other.0.captured, one.1, other.1))
+arrival_once kind octets (Long stamp len) (Frame stamp' frame) one other = absurd (omega (arith, one.0.captured, other.0.captured, one.1, other.1))
+arrival_once kind octets (Long stamp len) (Long stamp' len') one other = cc (one.0.seen, other.0.seen, one.0.captured, other.0.captured)
+
+-- octets that begin with a record don't end the input
+no_ending : (kind : HeaderKind) (place : ℕ) (first rest : List ℕ) (a : Arrival) (e : How) → IsRecordOf kind first a → place + length first ≤ 2 ^ 62 → EndsAs kind place e (first ++ rest) → ⊥
+no_ending kind place first rest a how.End is within ends =
+    absurd (omega (arith, (record_size kind first a is).0, length-append first rest, ap length ends))
+no_ending kind place first rest a (how.Malformed at) is within ends =
+    let size = record_size kind first a is in
+    let same : captured_of kind (first ++ rest) ≡ captured_of kind first = captured_of-append kind first rest (omega (arith, size.0)) in
+    ends.2 (record {
+      whole = omega (arith, same, size.0, length-append first rest);
+      bounded = omega (arith, same, size.1);
+      placed = omega (arith, same, size.0, within);
+    })
+no_ending kind place first rest a how.Quit is within ends = ends
+no_ending kind place first rest a (how.Overlong at) is within ends = ends
+no_ending kind place first rest a how.Failed is within ends = ends
+no_ending kind place first rest a how.Unwritten is within ends = ends
+no_ending kind place first rest a (how.Full len) is within ends = ends
+
+-- the first records of the same octets are the same octets
+first_once : (kind : HeaderKind) (first rest first' rest' : List ℕ) (a b : Arrival) → first ++ rest ≡ first' ++ rest' → IsRecordOf kind first a → IsRecordOf kind first' b → (first ≡ first') × (rest ≡ rest')
+first_once kind first rest first' rest' a b same one other =
+    let size = (record_size kind first a one).0 in
+    let size' = (record_size kind first' b other).0 in
+    let captured : captured_of kind first ≡ captured_of kind first' =
+    sym (captured_of-append kind first rest (omega (arith, size)))
+    ∙ ap (λ (l : List ℕ). captured_of kind l) same
+    ∙ captured_of-append kind first' rest' (omega (arith, size')) in
+    let n = 16 + captured_of kind first' in (
+      sym (take_front first rest n (omega (arith, size, captured))) ∙ ap (take n) same ∙ take_front first' rest' n size',
+      sym (drop_front first rest n (omega (arith, size, captured))) ∙ ap (drop n) same ∙ drop_front first' rest' n size',
+    )
+
+abbrev input_of : List Arrival → How → Input
+input_of arrivals ending = record { arrivals = arrivals; ending = ending }
+
+more_once : (a b : Arrival) (one other : Input) → a ≡ b → one ≡ other → input_of (a ∷ one.arrivals) one.ending ≡ input_of (b ∷ other.arrivals) other.ending
+more_once a b one other first same =
+    ap (λ (i : Input). input_of (a ∷ i.arrivals) i.ending) same ∙ ap (λ (c : Arrival). input_of (c ∷ other.arrivals) other.ending) first
+
+-- what is left at a place is one run
+run_once : (arrivals others : List Arrival) (e f : How) (kind : HeaderKind) (place : ℕ) (octets : List ℕ) → IsRun kind place arrivals e octets → IsRun kind place others f octets → input_of arrivals e ≡ input_of others f
+run_once [] [] e f kind place octets one other = ap (λ (h : How). input_of [] h) (ending_once kind place octets e f one other)
+run_once [] (b ∷ others) e f kind place octets one other =
+    absurd (no_ending kind place other.0 other.1 b e other.3 other.4 (subst (λ (l : List ℕ). EndsAs kind place e l) other.2 one))
+run_once (a ∷ arrivals) [] e f kind place octets one other =
+    absurd (no_ending kind place one.0 one.1 a f one.3 one.4 (subst (λ (l : List ℕ). EndsAs kind place f l) one.2 other))
+run_once (a ∷ arrivals) (b ∷ others) e f kind place octets one other =
+    let same = first_once kind one.0 one.1 other.0 other.1 a b (sym one.2 ∙ other.2) one.3 other.3 in
+    let first = arrival_once kind one.0 a b one.3 (subst (λ (l : List ℕ). IsRecordOf kind l b) (sym same.0) other.3) in
+    let behind : IsRun kind (place + length one.0) others f one.1 =
+    subst (λ (l : List ℕ). IsRun kind (place + length l) others f one.1) (sym same.0)
+    (subst (λ (l : List ℕ). IsRun kind (place + length other.0) others f l) (sym same.1) other.5) in
+    let later : input_of arrivals e ≡ input_of others f = run_once arrivals others e f kind (place + length one.0) one.1 one.5 behind in
+    more_once a b (input_of arrivals e) (input_of others f) first later
+
+pub one_input : (kinds : List HeaderKind) (octets : List ℕ) (one other : Input) → Arrive kinds octets one → Arrive kinds octets other → one ≡ other
+one_input kinds octets one other (inl a) (inl b) =
+    let same : b.kind ≡ a.kind = kind_once b.kind a.kind (take 24 octets) b.header a.header in
+    let run : IsRun a.kind 24 other.arrivals other.ending (drop 24 octets) =
+    subst (λ (k : HeaderKind). IsRun k 24 other.arrivals other.ending (drop 24 octets)) same b.run in
+    run_once one.arrivals other.arrivals one.ending other.ending a.kind 24 (drop 24 octets) a.run run
+one_input kinds octets one other (inl a) (inr b) = absurd (b.none a.kind a.accepted a.header)
+one_input kinds octets one other (inr a) (inl b) = absurd (a.none b.kind b.accepted b.header)
+one_input kinds octets one other (inr a) (inr b) = a.malformed ∙ sym b.malformed

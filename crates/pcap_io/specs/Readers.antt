@@ -1,0 +1,84 @@
+-- What a reader of a capture is ready for, and what each of its answers says.
+use Rattle.std.specs.Prelude.{◌≡◌, ℕ, ◌+◌, ◌^◌, ◌<◌, ◌≤◌, List, [], ◌∷◌, ◌++◌, length, take, Option, Some, None, IfSome}
+use Rattle.savi_kinds.specs.declared.entry.How.{How}
+use Rattle.savi_kinds.specs.declared.entry.How.TheVariants as how
+use Rattle.savi_kinds.specs.declared.arrival.Next.{Next}
+use Rattle.savi_kinds.specs.declared.arrival.Next.TheVariants as next
+use Rattle.savi_kinds.specs.Arrivals.{Arrival, Frame, Long, Input}
+use Rattle.pcap_io.specs.declared.kind.HeaderKind.{HeaderKind}
+use Rattle.pcap_io.specs.Runs.{IsRun, Arrive, ended}
+
+pub data State : Type 0 where
+  -- nothing was read yet, and headers of these kinds are accepted
+  Fresh : (kinds : List HeaderKind) → State
+  -- the next record begins at this place, the number of the octets that were read so far
+  Running : (kind : HeaderKind) (place : ℕ) → State
+  -- the input has ended so, or a read has failed
+  Ended : (ending : How) → State
+
+-- A reader in this state, with these octets left in its source, will give this input.
+abbrev pub Comes : State → List ℕ → Input → Type 0
+Comes (Fresh kinds) octets input = Arrive kinds octets input
+Comes (Running kind place) octets input = IsRun kind place input.arrivals input.ending octets
+Comes (Ended ending) octets input = input ≡ ended ending
+
+-- how many octets were read so far
+abbrev pub place_of : State → ℕ
+place_of (Fresh kinds) = 0
+place_of (Running kind place) = place
+place_of (Ended ending) = 0
+
+-- the state holds no place past 2^62
+abbrev pub IsPlaced : State → Type 0
+IsPlaced state = place_of state ≤ 2 ^ 62
+
+-- From the first state to the second one these octets were taken and gave these arrivals: whatever comes
+-- behind them, they come before it.
+abbrev pub HasRead : State → State → List ℕ → List Arrival → Type 0
+HasRead first now gave arrivals =
+    (rest : List ℕ) (later : List Arrival) (ending : How)
+    → Comes now rest (record { arrivals = later; ending = ending })
+    → Comes first (gave ++ rest) (record { arrivals = arrivals ++ later; ending = ending })
+
+-- One arrival was read, a record of at least 16 octets, and the reader stands behind it.
+pub record HasReadOne (old new : State) (gave : List ℕ) (arrival : Arrival) : Type 0 where
+  pub read : HasRead old new gave (arrival ∷ [])
+  pub running : (kind : HeaderKind) × (new ≡ Running kind (place_of old + length gave))
+  pub some : 16 ≤ length gave
+  pub placed : place_of old + length gave ≤ 2 ^ 62
+
+-- Nothing comes any more, and the input ends so: what was taken, alone and with what is left behind it,
+-- where that is told, is no arrival and this ending.
+pub record HasEnded (old new : State) (gave : List ℕ) (left : Option (List ℕ)) (ending : How) : Type 0 where
+  pub state : new ≡ Ended ending
+  pub taken : Comes old gave (ended ending)
+  pub whole : IfSome left (λ rest. Comes old (gave ++ rest) (ended ending))
+
+-- A read failed: what was taken for this answer is no whole arrival.
+pub record HasFailed (old new : State) (gave : List ℕ) : Type 0 where
+  pub state : new ≡ Ended how.Failed
+  pub taken : (ending : How) × Comes old gave (ended ending)
+
+-- What an answer says of the octets that were taken for it, of the buffer, and of what is left.
+abbrev pub Answers : State → State → List ℕ → List ℕ → Option (List ℕ) → Next → Type 0
+Answers old new gave buf left (next.Frame stamp len) = (len ≤ 1518) × HasReadOne old new gave (Frame stamp (take len buf))
+Answers old new gave buf left (next.Long stamp len) = (1518 < len) × (len ≤ 262144) × HasReadOne old new gave (Long stamp len)
+Answers old new gave buf left next.End = HasEnded old new gave left how.End
+Answers old new gave buf left (next.Malformed at) = HasEnded old new gave left (how.Malformed at)
+Answers old new gave buf left next.Failed = HasFailed old new gave
+
+-- the answer of an input that has ended so
+abbrev pub answer_of : How → Option Next
+answer_of how.End = Some next.End
+answer_of (how.Malformed at) = Some (next.Malformed at)
+answer_of how.Failed = Some next.Failed
+answer_of how.Quit = None
+answer_of (how.Overlong at) = None
+answer_of how.Unwritten = None
+answer_of (how.Full len) = None
+
+-- what a reader that has ended answers again and again
+abbrev pub last_answer : State → Option Next
+last_answer (Fresh kinds) = None
+last_answer (Running kind place) = None
+last_answer (Ended ending) = answer_of ending

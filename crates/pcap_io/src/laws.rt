@@ -1,0 +1,23 @@
+ghost use Rattle.std.specs.Prelude.{◌≡◌, ◌+◌, ◌^◌, ◌≤◌, ℕ, List, [], ◌∷◌, length, map, Contains};
+ghost use Rattle.savi_kinds.specs.declared.entry.How.TheVariants as how;
+ghost use Rattle.savi_kinds.specs.Arrivals.{Input};
+ghost use Rattle.pcap_io.specs.declared.kind.HeaderKind.{HeaderKind};
+ghost use Rattle.pcap_io.specs.Kinds.{little_microseconds};
+ghost use Rattle.pcap_io.specs.Runs.{Arrive};
+ghost use Rattle.pcap_io.specs.Captures.{Sent, AreFrames, capture_text, arrival_of};
+
+/// Law: every list of octets is some input, whatever kinds of header are read.
+pub fn octets_arrive()
+    ensures { (kinds : List HeaderKind) (octets : List ℕ) → (input : Input) × Arrive kinds octets input }
+{}
+
+/// Law: no list of octets is two inputs.
+pub fn octets_arrive_once()
+    ensures { (kinds : List HeaderKind) (octets : List ℕ) (one other : Input) → Arrive kinds octets one → Arrive kinds octets other → one ≡ other }
+{}
+
+/// Law: what the writer wrote is read again as the same frames, by every reader that accepts its header.
+/// The capture is no longer than an input may be, 2^62 octets.
+pub fn captures_are_read_again()
+    ensures { (kinds : List HeaderKind) (items : List Sent) → Contains kinds little_microseconds → AreFrames items → length (capture_text items) ≤ 2 ^ 62 → Arrive kinds (capture_text items) (record { arrivals = map arrival_of items; ending = how.End }) }
+{}
