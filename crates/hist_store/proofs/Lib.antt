@@ -1,0 +1,4 @@
+pub mod StoreLemmas
+pub mod MemberLemmas
+pub mod LineLemmas
+pub mod JournalLemmas

@@ -1,0 +1,100 @@
+-- The journal: what the plan is, then a line for each entry, numbered from 0, and how many there are.
+use Rattle.std.specs.Prelude.{ℕ, ◌+◌, List, [], ◌∷◌, ◌++◌, length, map, codes, decimal, if◌then◌else◌}
+use Rattle.savi_kinds.specs.declared.plan.Plan.{Plan}
+use Rattle.savi_kinds.specs.declared.plan.PortPlan.{PortPlan}
+use Rattle.savi_kinds.specs.declared.plan.PrefixPlan.{PrefixPlan}
+use Rattle.savi_kinds.specs.declared.plan.Role.{Role}
+use Rattle.savi_kinds.specs.declared.plan.Role.TheVariants.{Host, Server, Trusted}
+use Rattle.savi_kinds.specs.declared.plan.Method.{Method}
+use Rattle.savi_kinds.specs.declared.plan.Method.TheVariants.{Fcfs, Dhcp, Mixed}
+use Rattle.savi_kinds.specs.declared.plan.Format.{Format}
+use Rattle.savi_kinds.specs.declared.plan.Format.TheVariants.{Pcap, Stream}
+use Rattle.savi_kinds.specs.declared.address.Prefix.{Prefix}
+use Rattle.savi_kinds.specs.MacText.{mac_text}
+use Rattle.hist_store.specs.Rows.{Row}
+use Rattle.hist_store.specs.TextOfLines.{lines_text}
+use Rattle.hist_store.specs.PortTexts.{port_text}
+use Rattle.hist_store.specs.LineTexts.{line_fields}
+
+abbrev pub role_text : Role → List ℕ
+role_text Host = codes "host"
+role_text Server = codes "server"
+role_text Trusted = codes "trusted"
+
+abbrev pub method_text : Method → List ℕ
+method_text Fcfs = codes "fcfs"
+method_text Dhcp = codes "dhcp"
+method_text Mixed = codes "mixed"
+
+abbrev pub format_text : Format → List ℕ
+format_text Pcap = codes "pcap"
+format_text Stream = codes "stream"
+
+-- The text of an IPv6 address (RFC 5952) is an argument of what follows: nothing here depends on which text it is.
+
+-- the address, '/', and how many bits
+abbrev pub prefix_text : (ℕ → List ℕ) → Prefix → List ℕ
+prefix_text address_text prefix = address_text prefix.net.0 ++ codes "/" ++ decimal prefix.len
+
+abbrev pub port_fields : PortPlan → List (List ℕ)
+port_fields port = codes "port" ∷ port_text port.number ∷ role_text port.role ∷ format_text port.format ∷ []
+
+abbrev pub prefix_fields : (ℕ → List ℕ) → PrefixPlan → List (List ℕ)
+prefix_fields address_text plan = codes "prefix" ∷ prefix_text address_text plan.prefix ∷ method_text plan.method ∷ []
+
+-- a setting's name and its number
+abbrev pub setting : List ℕ → ℕ → List (List ℕ)
+setting name value = name ∷ decimal value ∷ []
+
+-- the version of this text, the switch's own address, and whether source addresses are validated and packets with an
+-- unknown next header dropped
+abbrev pub word_lines : Plan → List (List (List ℕ))
+word_lines plan =
+    (codes "savi-journal" ∷ codes "1" ∷ [])
+    ∷ (codes "mac" ∷ mac_text plan.mac ∷ [])
+    ∷ (codes "savi" ∷ (if plan.savi then codes "on" else codes "off") ∷ [])
+    ∷ (codes "unknown" ∷ (if plan.drop_unknown then codes "drop" else codes "pass") ∷ [])
+    ∷ []
+
+abbrev pub limit_lines : Plan → List (List (List ℕ))
+limit_lines plan =
+    setting (codes "per_port") plan.per_port
+    ∷ setting (codes "depth") plan.depth
+    ∷ setting (codes "entries") plan.entries
+    ∷ setting (codes "bytes") plan.bytes
+    ∷ []
+
+-- in ms
+abbrev pub time_lines : Plan → List (List (List ℕ))
+time_lines plan =
+    setting (codes "gap") plan.gap
+    ∷ setting (codes "test") plan.test
+    ∷ setting (codes "binding") plan.life
+    ∷ []
+
+abbrev pub begin_line : List (List ℕ)
+begin_line = codes "begin" ∷ []
+
+-- the settings, the ports and the prefixes, and `begin`
+abbrev pub header_lines : (ℕ → List ℕ) → Plan → List (List (List ℕ))
+header_lines address_text plan = word_lines plan ++ limit_lines plan ++ time_lines plan ++ map port_fields plan.ports ++ map (prefix_fields address_text) plan.prefixes ++ begin_line ∷ []
+
+-- the lines of the entries, the first of which has this number
+abbrev pub entry_lines : ℕ → List Row → List (List (List ℕ))
+entry_lines n [] = []
+entry_lines n (row ∷ rows) = line_fields n row ∷ entry_lines (n + 1) rows
+
+abbrev pub end_line : ℕ → List (List ℕ)
+end_line count = setting (codes "end") count
+
+-- The texts, each line with its line feed.
+
+abbrev pub header_text : (ℕ → List ℕ) → Plan → List ℕ
+header_text address_text plan = lines_text (header_lines address_text plan)
+
+abbrev pub end_text : ℕ → List ℕ
+end_text count = lines_text (end_line count ∷ [])
+
+-- the journal of these rows, the oldest first
+abbrev pub journal_text : (ℕ → List ℕ) → Plan → List Row → List ℕ
+journal_text address_text plan rows = lines_text (header_lines address_text plan ++ entry_lines 0 rows ++ end_line (length rows) ∷ [])

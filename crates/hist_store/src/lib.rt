@@ -1,0 +1,21 @@
+//! The history of a switch, and its text, the journal.
+//!
+//! `Hist` keeps the entries in order, each with its octets; contracts see a list of rows (`specs/Rows.antt`). The
+//! journal is a text of lines (`specs/JournalTexts.antt`): its header, a line for each entry and a last line. What
+//! `put_header`, `put_line` and `put_end` write is that text, octet by octet. Nothing takes memory but `Hist::make`.
+#![tactic(auto)]
+
+mod end_fields;
+mod header;
+mod hist;
+mod line;
+mod pieces;
+mod port_fields;
+#[cfg(test)]
+mod tests;
+mod verdict_fields;
+
+pub use header::{put_end, put_header};
+pub use hist::Hist;
+pub use line::put_line;
+pub use pieces::{JOURNAL_LINE_OCTETS, JournalLine};

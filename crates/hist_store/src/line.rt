@@ -1,0 +1,84 @@
+ghost use Rattle.std.specs.Prelude.{◌≡◌, ◌+◌, ◌≤◌, ◌++◌};
+ghost use Rattle.arrayvec.specs.ArrayVec.{array_vec_len};
+ghost use Rattle.hist_store.specs.TextOfLines.{spaced};
+ghost use Rattle.hist_store.specs.LineTexts.{FitsAct, FitsLine, act_fields, line_text, probe_fields};
+
+use crate::end_fields::{put_how, put_who};
+use crate::pieces::{JournalLine, put_decimal, put_hex, put_number, put_word};
+use crate::port_fields::{put_port_field, put_ports};
+use crate::verdict_fields::put_entry_verdict;
+use savi_kinds::{Act, Entry};
+
+/// Writes the journal's line of the entry with this number, in place of what the buffer held. The line is
+/// without its line feed.
+///
+/// The entry has a verdict exactly where it is a frame or a long frame; what its line lacks is empty or 0; an
+/// end has a reason of its kind. One pass over the octets.
+pub fn put_line(n: u64, e: &Entry, octets: &[u8], into: &mut JournalLine)
+    requires { FitsLine (record { entry = e.now; octets = octets.now }) }
+    ensures { into.new.items ≡ line_text n (record { entry = e.now; octets = octets.now }) }
+{
+    into.clear();
+    put_decimal(into, n);
+    put_number(into, u64::from(e.by));
+    put_number(into, e.moment);
+    put_act(into, e, octets);
+}
+
+// Appends the fields of an entry's act, each with a space in front.
+fn put_act(into: &mut JournalLine, e: &Entry, octets: &[u8])
+    requires room { array_vec_len into.old + 3300 ≤ 3400 }
+    requires fits { FitsAct e.now octets.now e.now.act }
+    ensures { into.new.items ≡ into.old.items ++ spaced (act_fields e.now octets.now e.now.act) }
+{
+    match e.act {
+        Act::Frame { port, stamp, .. } => {
+            put_word(into, "F");
+            put_port_field(into, port);
+            put_number(into, stamp);
+            put_hex(into, octets);
+            put_entry_verdict(into, e.verdict);
+            put_ports(into, e.outs);
+            put_ports(into, e.cuts);
+            put_probes(into, e);
+        }
+        Act::Long { port, stamp, len } => {
+            put_word(into, "L");
+            put_port_field(into, port);
+            put_number(into, stamp);
+            put_number(into, u64::from(len));
+            put_entry_verdict(into, e.verdict);
+            put_probes(into, e);
+        }
+        Act::Tick { stamp } => {
+            put_word(into, "T");
+            put_number(into, stamp);
+            put_probes(into, e);
+        }
+        Act::Command { stamp, .. } => {
+            put_word(into, "C");
+            put_number(into, stamp);
+            put_hex(into, octets);
+            put_probes(into, e);
+        }
+        Act::Drain { port, count } => {
+            put_word(into, "D");
+            put_port_field(into, port);
+            put_number(into, u64::from(count));
+        }
+        Act::End { who, how } => {
+            put_word(into, "E");
+            put_who(into, who);
+            put_how(into, how);
+        }
+    }
+}
+
+// Appends how many probes were queued and how many left out, each with a space in front.
+fn put_probes(into: &mut JournalLine, e: &Entry)
+    requires { array_vec_len into.old + 42 ≤ 3400 }
+    ensures text { into.new.items ≡ into.old.items ++ spaced (probe_fields e.now) }
+{
+    put_number(into, u64::from(e.probes));
+    put_number(into, u64::from(e.lost));
+}
