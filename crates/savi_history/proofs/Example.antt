@@ -1,0 +1,92 @@
+-- The worked history of two captures, computed.
+use Rattle.std.proofs.Common.{ℕ, ◌≡◌, List, [], ◌∷◌, refl, lit≤, true, false, Some, None}
+use Rattle.savi_kinds.specs.declared.port.Port.{Port}
+use Rattle.savi_kinds.specs.declared.plan.Plan.{Plan}
+use Rattle.savi_kinds.specs.declared.plan.Role.TheVariants as roles
+use Rattle.savi_kinds.specs.declared.plan.Format.TheVariants as formats
+use Rattle.savi_kinds.specs.declared.verdict.Verdict.{Verdict}
+use Rattle.savi_kinds.specs.declared.verdict.Verdict.TheVariants as verdicts
+use Rattle.savi_kinds.specs.declared.verdict.Rule.TheVariants as rules
+use Rattle.savi_kinds.specs.declared.verdict.Scope.TheVariants as scopes
+use Rattle.savi_kinds.specs.declared.entry.Act.TheVariants as acts
+use Rattle.savi_kinds.specs.declared.entry.Act.{Act}
+use Rattle.savi_kinds.specs.declared.entry.Who.TheVariants as passes
+use Rattle.savi_kinds.specs.declared.entry.How.TheVariants as hows
+use Rattle.savi_kinds.specs.Arrivals.{Arrival, Input}
+use Rattle.savi_kinds.specs.Arrivals as arrivals
+use Rattle.v6_chain.specs.Kinds.{kind_of}
+use Rattle.hist_store.specs.Rows.{Row}
+use Rattle.savi_history.specs.Bases.{empty}
+use Rattle.savi_history.specs.Replay.{replayed}
+use Rattle.savi_history.specs.Summary.{summary_of}
+use Rattle.savi_history.specs.Judged.{judged}
+use Rattle.savi_history.specs.Queues.{sent}
+
+abbrev pub port_one : Port
+port_one = record { number = 1; low = lit≤ tt; high = lit≤ tt }
+
+abbrev pub port_two : Port
+port_two = record { number = 2; low = lit≤ tt; high = lit≤ tt }
+
+abbrev pub plan : Plan
+plan = record {
+  mac = record { 0 = 2 ∷ 0 ∷ 0 ∷ 0 ∷ 0 ∷ 1 ∷ [] };
+  savi = false;
+  drop_unknown = true;
+  per_port = 32;
+  depth = 256;
+  entries = 262144;
+  bytes = 67108864;
+  gap = 250;
+  test = 500;
+  life = 300000;
+  control = None;
+  journal = [];
+  ports = record { number = port_one; role = roles.Host; format = formats.Pcap; input = []; output = [] }
+      ∷ record { number = port_two; role = roles.Trusted; format = formats.Pcap; input = []; output = [] } ∷ [];
+  prefixes = [];
+}
+
+abbrev pub advert : List ℕ
+advert = 51 ∷ 51 ∷ 0 ∷ 0 ∷ 0 ∷ 1 ∷ 2 ∷ 0 ∷ 0 ∷ 0 ∷ 0 ∷ 34 ∷ 134 ∷ 221 ∷ 96 ∷ 0 ∷ 0 ∷ 0 ∷ 0 ∷ 16 ∷ 58 ∷ 255 ∷ 254 ∷ 128 ∷ 0 ∷ 0 ∷ 0 ∷ 0 ∷ 0 ∷ 0 ∷ 0 ∷ 0 ∷ 0 ∷ 0 ∷ 0 ∷ 0 ∷ 0 ∷ 34 ∷ 255 ∷ 2 ∷ 0 ∷ 0 ∷ 0 ∷ 0 ∷ 0 ∷ 0 ∷ 0 ∷ 0 ∷ 0 ∷ 0 ∷ 0 ∷ 0 ∷ 0 ∷ 1 ∷ 134 ∷ 0 ∷ 53 ∷ 6 ∷ 64 ∷ 0 ∷ 7 ∷ 8 ∷ 0 ∷ 0 ∷ 0 ∷ 0 ∷ 0 ∷ 0 ∷ 0 ∷ 0 ∷ []
+
+abbrev pub packet : List ℕ
+packet = 2 ∷ 0 ∷ 0 ∷ 0 ∷ 0 ∷ 254 ∷ 2 ∷ 0 ∷ 0 ∷ 0 ∷ 0 ∷ 17 ∷ 134 ∷ 221 ∷ 96 ∷ 0 ∷ 0 ∷ 0 ∷ 0 ∷ 0 ∷ 59 ∷ 64 ∷ 254 ∷ 128 ∷ 0 ∷ 0 ∷ 0 ∷ 0 ∷ 0 ∷ 0 ∷ 0 ∷ 0 ∷ 0 ∷ 0 ∷ 0 ∷ 0 ∷ 0 ∷ 17 ∷ 254 ∷ 128 ∷ 0 ∷ 0 ∷ 0 ∷ 0 ∷ 0 ∷ 0 ∷ 0 ∷ 0 ∷ 0 ∷ 0 ∷ 0 ∷ 0 ∷ 0 ∷ 254 ∷ []
+
+abbrev pub inputs : List Input
+inputs = record { arrivals = arrivals.Frame 1000 advert ∷ arrivals.Frame 1001 packet ∷ []; ending = hows.End }
+    ∷ record { arrivals = arrivals.Frame 1002 advert ∷ []; ending = hows.End } ∷ []
+
+abbrev pub other : ℕ → ℕ → Act → Row
+other by moment act = record { entry = record { by = by; moment = moment; act = act; verdict = None; outs = record { 0 = 0 }; cuts = record { 0 = 0 }; probes = 0; lost = 0 }; octets = [] }
+
+abbrev pub frame : ℕ → ℕ → Act → Verdict → ℕ → List ℕ → Row
+frame by moment act verdict outs octets = record { entry = record { by = by; moment = moment; act = act; verdict = Some verdict; outs = record { 0 = outs }; cuts = record { 0 = 0 }; probes = 0; lost = 0 }; octets = octets }
+
+pub advert_dropped : judged 1 plan empty [] 1 1000 advert ≡ verdicts.Drop rules.RouterAdvert
+unfolding kind_of
+advert_dropped = refl
+
+pub two_captures : replayed plan empty inputs ≡
+    other 5 1002 (acts.End (passes.Egress port_two) hows.End)
+    ∷ other 4 1002 (acts.End (passes.Egress port_one) hows.End)
+    ∷ other 3 1002 (acts.End passes.Ticker hows.End)
+    ∷ other 1 1002 (acts.End (passes.Ingress port_two) hows.End)
+    ∷ other 4 1002 (acts.Drain port_one 1)
+    ∷ frame 1 1002 (acts.Frame port_two 1002 124 70) (verdicts.Pass scopes.All) 1 advert
+    ∷ other 0 1001 (acts.End (passes.Ingress port_one) hows.End)
+    ∷ other 5 1001 (acts.Drain port_two 1)
+    ∷ frame 0 1001 (acts.Frame port_one 1001 70 54) (verdicts.Pass scopes.All) 2 packet
+    ∷ frame 0 1000 (acts.Frame port_one 1000 0 70) (verdicts.Drop rules.RouterAdvert) 0 advert
+    ∷ other 2 0 (acts.End passes.Control hows.End)
+    ∷ []
+unfolding kind_of
+two_captures = refl
+
+pub summed_up : summary_of (replayed plan empty inputs) ≡ record { entries = 11; frames = 3; passed = 2; dropped = 1; probes = 0; lost = 0; cut = 0 }
+unfolding kind_of lib.Count.ones
+summed_up = refl
+
+pub sent_at_two : sent empty 2 (replayed plan empty inputs) ≡ record { moment = 1001; octets = packet } ∷ []
+unfolding kind_of
+sent_at_two = refl

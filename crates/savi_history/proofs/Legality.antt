@@ -1,0 +1,205 @@
+-- The history of a replay is legal.
+use Rattle.std.proofs.Common.{◌≡◌, ◌≢◌, ℕ, suc, ◌+◌, ◌<◌, ◌≤◌, ◌==◌, ◌||◌, nat_lt, Bool, true, false, List, [], ◌∷◌, ◌++◌, map, get_or, length, refl, sym, ◌∙◌, subst, arith, if◌then◌else◌, ◌⊎◌, inl, inr}
+use Rattle.std.proofs.lemmas.Bool.{cases_lt, cases_eq}
+use Rattle.std.proofs.lemmas.Bool.Decides.{nat_tests}
+use Rattle.std.proofs.lemmas.List.{length-map}
+use Rattle.std.specs.List.{All, list_any}
+use Rattle.std.specs.List.Sorted.{IsStrictlyIncreasing}
+use Rattle.savi_kinds.specs.declared.port.Port.{Port}
+use Rattle.savi_kinds.specs.declared.plan.Plan.{Plan}
+use Rattle.savi_kinds.specs.declared.plan.PortPlan.{PortPlan}
+use Rattle.savi_kinds.specs.declared.entry.Who.{Who}
+use Rattle.savi_kinds.specs.declared.entry.Who.TheVariants as passes
+use Rattle.savi_kinds.specs.declared.entry.How.{How}
+use Rattle.savi_kinds.specs.declared.entry.How.TheVariants as hows
+use Rattle.savi_kinds.specs.Ports.{number_of}
+use Rattle.savi_kinds.specs.ValidPlan.{numbers_of}
+use Rattle.savi_kinds.specs.Arrivals.{Arrival, Input}
+use Rattle.savi_kinds.specs.Arrivals as arrivals
+use Rattle.hist_store.specs.Rows.{Row}
+use Rattle.savi_history.specs.Bases.{empty}
+use Rattle.savi_history.specs.Limits.{has_room}
+use Rattle.savi_history.specs.Passes.{pass_of, has_ended, has_port, place_of, place_among, control_pass, ticker_pass, egress_pass, AllEnded}
+use Rattle.savi_history.specs.Queues.{queue}
+use Rattle.savi_history.specs.Events.{Event, Drain, End}
+use Rattle.savi_history.specs.Legal.{IsLegal, IsOpen, MayCome}
+use Rattle.savi_history.specs.Readable.{IsArrival, IsEnding, IsInput}
+use Rattle.savi_history.specs.Turns.{Turn, Arrives, Ends, who_of, turn_at, turns, port_turns, enter, merge, merged}
+use Rattle.savi_history.specs.Replay.{event_of, with_event, with_drain, drained, entered, after, after_all, egress_ended, control_turns, replayed}
+use Rattle.savi_history.proofs.Ends.{later_event}
+use Rattle.savi_history.proofs.Waiting.{ended_now, ended_other, ended_arrival, ended_drain, ended_drained, empty_end, drained_empty}
+use Rattle.savi_history.proofs.PassNumbers.{number_at, place_at, known_at}
+use Rattle.savi_history.proofs.Finished.{finished_low}
+
+-- a turn that a reader of a port of the plan may give, or control's end
+abbrev pub IsTurn : Plan → Turn → Type 0
+IsTurn plan (Arrives port arrival) = (has_port plan (number_of port) ≡ true) × IsArrival arrival
+IsTurn plan (Ends (passes.Ingress port) how) = (has_port plan (number_of port) ≡ true) × IsEnding how
+IsTurn plan (Ends passes.Control how) = how ≡ hows.End
+IsTurn plan (Ends passes.Ticker how) = ⊥
+IsTurn plan (Ends (passes.Egress port) how) = ⊥
+
+abbrev pub AreTurns : Plan → List Turn → Type 0
+AreTurns plan [] = Unit {0}
+AreTurns plan (x ∷ xs) = IsTurn plan x × AreTurns plan xs
+
+abbrev pub AreKnown : Plan → List PortPlan → Type 0
+AreKnown plan [] = Unit {0}
+AreKnown plan (p ∷ ports) = (has_port plan (number_of p.number) ≡ true) × AreKnown plan ports
+
+-- legal, with nothing waiting and each egress and the ticker open
+pub record IsGood (plan : Plan) (past : List Row) : Type 0 where
+  pub legal : IsLegal plan empty past
+  pub outputs : (pass : ℕ) → control_pass plan < pass → has_ended empty pass past ≡ false
+  pub quiet : (k : ℕ) → k < length plan.ports → queue empty (number_at plan k) past ≡ []
+
+place_in_at : (ns : List ℕ) (n x : ℕ) (b : Bool) → (b || list_any (λ m. m == x) ns) ≡ true → (list_any (λ m. m == x) ns ≡ true → place_among ns x < length ns) → (if b then 0 else suc (place_among ns x)) < suc (length ns)
+place_in_at ns n x true is step = omega arith
+place_in_at ns n x false is step = let more = step is in omega arith
+
+place_in : (ns : List ℕ) (x : ℕ) → list_any (λ n. n == x) ns ≡ true → place_among ns x < length ns
+place_in [] x is = cc
+place_in (n ∷ ns) x is = place_in_at ns n x (n == x) is (λ there. place_in ns x there)
+
+module _ (plan : Plan) where
+  ticked_at : (past : List Row) (pass : ℕ) → AllEnded empty (control_pass plan + 1) past → pass < ticker_pass plan + 1 → (pass ≡ ticker_pass plan) ⊎ (pass ≢ ticker_pass plan) → has_ended empty pass (with_event plan empty past (End passes.Ticker hows.End)) ≡ true
+  ticked_at past pass inputs below (inl same) = subst (λ (n : ℕ). has_ended empty n (with_event plan empty past (End passes.Ticker hows.End)) ≡ true) (sym same) (ended_now plan empty past passes.Ticker hows.End)
+  ticked_at past pass inputs below (inr other) = later_event plan empty past (End passes.Ticker hows.End) pass (inputs pass (omega arith))
+
+  legal_event : (past : List Row) (event : Event) → IsLegal plan empty past → MayCome plan empty past event → IsLegal plan empty (with_event plan empty past event)
+  legal_event past event legal may = ((event, may, refl), legal)
+
+  legal_drain_at : (past : List Row) (port : Port) (b : Bool) → (length (queue empty (number_of port) past) == 0) ≡ b → IsLegal plan empty past → IsOpen plan empty past (passes.Egress port)
+      → IsLegal plan empty (if b then past else with_event plan empty past (Drain port (length (queue empty (number_of port) past))))
+  legal_drain_at past port true is legal is_open = legal
+  legal_drain_at past port false is legal is_open =
+      legal_event past (Drain port (length (queue empty (number_of port) past))) legal (is_open, grind (arith, nat_tests), omega arith)
+
+  legal_drained : (ports : List PortPlan) (past : List Row) → AreKnown plan ports → IsLegal plan empty past → ((pass : ℕ) → control_pass plan < pass → has_ended empty pass past ≡ false) → IsLegal plan empty (drained plan empty ports past)
+  legal_drained [] past known legal outputs = legal
+  legal_drained (q ∷ qs) past known legal outputs =
+      let count = length (queue empty (number_of q.number) past) in
+      legal_drained qs (with_drain plan empty q.number count past) known.1
+      (legal_drain_at past q.number (count == 0) refl legal (record { known = known.0; running = outputs (egress_pass plan (number_of q.number)) (omega arith) }))
+      (λ pass above. ended_drain plan empty past q.number count pass ∙ outputs pass above)
+
+  known_all : (ports : List PortPlan) → ((k : ℕ) → k < length ports → has_port plan (get_or (numbers_of ports) k 0) ≡ true) → AreKnown plan ports
+  known_all [] each = tt
+  known_all (p ∷ ports) each = (each 0 (omega arith), known_all ports (λ k inside. each (suc k) (omega arith)))
+
+  all_known : AreKnown plan plan.ports
+  all_known = known_all plan.ports (λ k inside. known_at plan k inside)
+
+  may_arrive : (past : List Row) (port : Port) (a : Arrival) → IsOpen plan empty past (passes.Ingress port) → has_room plan past ≡ true → IsArrival a → MayCome plan empty past (event_of port a)
+  may_arrive past port (arrivals.Frame stamp octets) is_open room fits = (record { open_pass = is_open; room = room; fits = fits.0 }, fits.1)
+  may_arrive past port (arrivals.Long stamp len) is_open room fits = (record { open_pass = is_open; room = room; fits = fits.0 }, fits.1, fits.2)
+
+  place_below : (port : Port) → has_port plan (number_of port) ≡ true → place_of plan (number_of port) < length plan.ports
+  place_below port known =
+      let size : length (numbers_of plan.ports) ≡ length plan.ports = length-map plan.ports (λ p. number_of p.number) in
+      let below = place_in (numbers_of plan.ports) (number_of port) known in
+      omega arith
+
+  may_end_ingress : (past : List Row) (port : Port) (how : How) → IsOpen plan empty past (passes.Ingress port) → IsEnding how → MayCome plan empty past (End (passes.Ingress port) how)
+  may_end_ingress past port hows.End is_open fits = (is_open, tt)
+  may_end_ingress past port hows.Quit is_open fits = absurd fits
+  may_end_ingress past port (hows.Malformed at) is_open fits = (is_open, fits)
+  may_end_ingress past port (hows.Overlong at) is_open fits = absurd fits
+  may_end_ingress past port hows.Failed is_open fits = (is_open, tt)
+  may_end_ingress past port hows.Unwritten is_open fits = absurd fits
+  may_end_ingress past port (hows.Full len) is_open fits = absurd fits
+
+  good_end : (past : List Row) (who : Who) (how : How) → IsGood plan past → pass_of plan who ≤ control_pass plan → MayCome plan empty past (End who how) → IsGood plan (with_event plan empty past (End who how))
+  good_end past who how good low may = record {
+    legal = legal_event past (End who how) good.legal may;
+    outputs = λ pass above. ended_other plan empty past who how pass (λ same. absurd (omega arith)) ∙ good.outputs pass above;
+    quiet = λ k inside. empty_end plan empty past who how (number_at plan k) (good.quiet k inside);
+  }
+
+  good_arrival : (past : List Row) (port : Port) (a : Arrival) (b : Bool) → has_room plan past ≡ b → IsGood plan past → has_port plan (number_of port) ≡ true → IsArrival a → has_ended empty (pass_of plan (passes.Ingress port)) past ≡ false
+      → IsGood plan (if b then drained plan empty plan.ports (with_event plan empty past (event_of port a)) else with_event plan empty past (End (passes.Ingress port) (hows.Full (length past))))
+  good_arrival past port a true room good known fits running =
+      let entered_row = with_event plan empty past (event_of port a) in
+      let outputs : (pass : ℕ) → control_pass plan < pass → has_ended empty pass entered_row ≡ false = λ pass above. ended_arrival plan empty past port a pass ∙ good.outputs pass above in
+      record {
+        legal = legal_drained plan.ports entered_row all_known (legal_event past (event_of port a) good.legal (may_arrive past port a (record { known = known; running = running }) room fits)) outputs;
+        outputs = λ pass above. ended_drained plan empty plan.ports entered_row pass ∙ outputs pass above;
+        quiet = λ k inside. drained_empty plan empty plan.ports entered_row k inside;
+      }
+  good_arrival past port a false room good known fits running =
+      let below = place_below port known in
+      good_end past (passes.Ingress port) (hows.Full (length past)) good (omega arith) (record { known = known; running = running }, record { no_room = room; all = refl })
+
+  good_entered : (t : Turn) (past : List Row) → IsGood plan past → IsTurn plan t → has_ended empty (pass_of plan (who_of t)) past ≡ false → IsGood plan (entered plan empty t past)
+  good_entered (Arrives port a) past good fits running = good_arrival past port a (has_room plan past) refl good fits.0 fits.1 running
+  good_entered (Ends (passes.Ingress port) how) past good fits running =
+      let below = place_below port fits.0 in
+      good_end past (passes.Ingress port) how good (omega arith) (may_end_ingress past port how (record { known = fits.0; running = running }) fits.1)
+  good_entered (Ends passes.Control how) past good fits running =
+      rw fits (good_end past passes.Control hows.End good (omega arith) (record { known = refl; running = running }, tt))
+  good_entered (Ends passes.Ticker how) past good fits running = absurd fits
+  good_entered (Ends (passes.Egress port) how) past good fits running = absurd fits
+
+  good_after : (t : Turn) (past : List Row) (b : Bool) → has_ended empty (pass_of plan (who_of t)) past ≡ b → IsGood plan past → IsTurn plan t → IsGood plan (if b then past else entered plan empty t past)
+  good_after t past true is good fits = good
+  good_after t past false is good fits = good_entered t past good fits is
+
+  good_all : (ts : List Turn) (past : List Row) → AreTurns plan ts → IsGood plan past → IsGood plan (after_all plan empty ts past)
+  good_all [] past fits good = good
+  good_all (t ∷ ts) past fits good = good_all ts (after plan empty t past) fits.1 (good_after t past (has_ended empty (pass_of plan (who_of t)) past) refl good fits.0)
+
+  module _ (x : Turn) (rest : List Turn → List Turn) (fits : IsTurn plan x) (behind : (ys : List Turn) → AreTurns plan ys → AreTurns plan (rest ys)) where
+    enter_at : (b : Bool) (y : Turn) (ys : List Turn) → AreTurns plan (y ∷ ys) → AreTurns plan (enter x rest ys) → AreTurns plan (if b then y ∷ enter x rest ys else x ∷ rest (y ∷ ys))
+    enter_at true y ys are step = (are.0, step)
+    enter_at false y ys are step = (fits, behind (y ∷ ys) are)
+
+    turns_enter : (ys : List Turn) → AreTurns plan ys → AreTurns plan (enter x rest ys)
+    turns_enter [] are = (fits, behind [] tt)
+    turns_enter (y ∷ ys) are = enter_at (nat_lt (turn_at y) (turn_at x)) y ys are (turns_enter ys are.1)
+
+  turns_merge : (xs ys : List Turn) → AreTurns plan xs → AreTurns plan ys → AreTurns plan (merge xs ys)
+  turns_merge [] ys are_x are_y = are_y
+  turns_merge (x ∷ xs) ys are_x are_y = turns_enter x (merge xs) are_x.0 (λ zs are. turns_merge xs zs are_x.1 are) ys are_y
+
+  turns_from : (port : Port) (before : List Arrival) (how : How) → has_port plan (number_of port) ≡ true → All IsArrival before → IsEnding how → AreTurns plan (map (λ a. Arrives port a) before ++ Ends (passes.Ingress port) how ∷ [])
+  turns_from port [] how known fits ends = ((known, ends), tt)
+  turns_from port (a ∷ before) how known fits ends = ((known, fits 0 a (omega arith)), turns_from port before how known (λ k d inside. fits (suc k) d (omega arith)) ends)
+
+  turns_ports : (ports : List PortPlan) (inputs : List Input) → AreKnown plan ports → All IsInput inputs → AreTurns plan (merged (port_turns ports inputs))
+  turns_ports [] inputs known are = tt
+  turns_ports (p ∷ ports) [] known are = tt
+  turns_ports (p ∷ ports) (i ∷ inputs) known are =
+      let first : IsInput i = are 0 i (omega arith) in
+      turns_merge (turns p.number i) (merged (port_turns ports inputs)) (turns_from p.number i.arrivals i.ending known.0 first.arrivals first.ending)
+      (turns_ports ports inputs known.1 (λ k d inside. are (suc k) d (omega arith)))
+
+  legal_egress : (ports : List PortPlan) (j : ℕ) (past : List Row) → ((k : ℕ) → k < length ports → place_of plan (get_or (numbers_of ports) k 0) ≡ j + k) → AreKnown plan ports → IsLegal plan empty past → AllEnded empty (ticker_pass plan + 1) past
+      → ((k : ℕ) → k < length ports → has_ended empty (egress_pass plan (get_or (numbers_of ports) k 0)) past ≡ false) → ((k : ℕ) → k < length ports → queue empty (get_or (numbers_of ports) k 0) past ≡ []) → IsLegal plan empty (egress_ended plan empty ports past)
+  legal_egress [] j past places known legal ended running quiet = legal
+  legal_egress (q ∷ qs) j past places known legal ended running quiet =
+      let who = passes.Egress q.number in
+      let here : place_of plan (number_of q.number) ≡ j + 0 = places 0 (omega arith) in
+      legal_egress qs (j + 1) (with_event plan empty past (End who hows.End))
+      (λ k inside. let there = places (suc k) (omega arith) in omega arith)
+      known.1
+      (legal_event past (End who hows.End) legal (record { known = known.0; running = running 0 (omega arith) }, (ended, quiet 0 (omega arith))))
+      (λ pass below. later_event plan empty past (End who hows.End) pass (ended pass below))
+      (λ k inside. ended_other plan empty past who hows.End (egress_pass plan (get_or (numbers_of qs) k 0)) (λ same. let there = places (suc k) (omega arith) in absurd (omega arith)) ∙ running (suc k) (omega arith))
+      (λ k inside. empty_end plan empty past who hows.End (get_or (numbers_of qs) k 0) (quiet (suc k) (omega arith)))
+
+  good_start : IsGood plan []
+  good_start = record { legal = tt; outputs = λ pass above. refl; quiet = λ k inside. refl }
+
+  pub replay_legal : (inputs : List Input) → IsStrictlyIncreasing (numbers_of plan.ports) → length inputs ≡ length plan.ports → All IsInput inputs → IsLegal plan empty (replayed plan empty inputs)
+  replay_legal inputs rising size are =
+      let before : List Row = after_all plan empty (merged (control_turns ∷ port_turns plan.ports inputs)) [] in
+      let good : IsGood plan before = good_all (merged (control_turns ∷ port_turns plan.ports inputs)) [] (turns_merge control_turns (merged (port_turns plan.ports inputs)) (refl, tt) (turns_ports plan.ports inputs all_known are)) good_start in
+      let inputs_ended : AllEnded empty (control_pass plan + 1) before = λ pass below. finished_low plan empty inputs rising size pass (cases_lt pass (length plan.ports)) below in
+      let ticked = with_event plan empty before (End passes.Ticker hows.End) in
+      legal_egress plan.ports 0 ticked
+      (λ k inside. place_at plan k rising inside ∙ omega arith)
+      all_known
+      (legal_event before (End passes.Ticker hows.End) good.legal (record { known = refl; running = good.outputs (ticker_pass plan) (omega arith) }, inputs_ended))
+      (λ pass below. ticked_at before pass inputs_ended below (cases_eq pass (ticker_pass plan)))
+      (λ k inside. ended_other plan empty before passes.Ticker hows.End (egress_pass plan (number_at plan k)) (λ same. absurd (omega arith)) ∙ good.outputs (egress_pass plan (number_at plan k)) (omega arith))
+      (λ k inside. empty_end plan empty before passes.Ticker hows.End (number_at plan k) (good.quiet k inside))

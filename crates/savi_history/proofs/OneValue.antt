@@ -1,0 +1,157 @@
+-- What has the same text is the same.
+use Rattle.std.proofs.Common.{◌≡◌, ◌≢◌, ◌==◌, ℕ, ◌*◌, ◌/◌, ◌%◌, ◌^◌, ◌<◌, ◌≤◌, Bool, true, false, if◌then◌else◌, List, [], ◌∷◌, length, map, decimal, Ok, refl, ap, sym, ◌∙◌, subst, arith}
+use Rattle.std.proofs.lemmas.Bool.Decides.{nat_tests}
+use Rattle.std.proofs.lemmas.Fmt.{decimal_injective}
+use Rattle.std.proofs.Math.Bridge.{le_prop}
+use Rattle.std.specs.List.{join_with_byte}
+use Rattle.hex.specs.Hex.{IsBytes, encode_lower, lower_digits, decode_of}
+use Rattle.hex.proofs.HexLemmas.{length-encode_with, decode_of-encode_lower}
+use Rattle.savi_kinds.specs.declared.port.Port.{Port}
+use Rattle.savi_kinds.specs.declared.plan.Role.{Role}
+use Rattle.savi_kinds.specs.declared.plan.Role.TheVariants.{Host, Server, Trusted}
+use Rattle.savi_kinds.specs.declared.plan.Method.{Method}
+use Rattle.savi_kinds.specs.declared.plan.Method.TheVariants.{Fcfs, Dhcp, Mixed}
+use Rattle.savi_kinds.specs.declared.plan.Format.{Format}
+use Rattle.savi_kinds.specs.declared.plan.Format.TheVariants.{Pcap, Stream}
+use Rattle.savi_kinds.specs.declared.address.Mac.{Mac}
+use Rattle.savi_kinds.specs.declared.entry.Who.{Who}
+use Rattle.savi_kinds.specs.declared.entry.Who.TheVariants.{Ingress, Control, Ticker, Egress}
+use Rattle.savi_kinds.specs.declared.entry.How.{How}
+use Rattle.savi_kinds.specs.declared.entry.How.TheVariants as hows
+use Rattle.savi_kinds.specs.Ports.{number_of}
+use Rattle.savi_kinds.specs.MacText.{hex_digit, hex_pair, mac_text}
+use Rattle.hist_store.specs.TextOfLines.{or_dash}
+use Rattle.hist_store.specs.PortTexts.{port_text}
+use Rattle.hist_store.specs.EndTexts.{who_text, how_fields}
+use Rattle.hist_store.specs.LineTexts.{hex_text}
+use Rattle.hist_store.specs.JournalTexts.{role_text, method_text, format_text}
+
+-- ports
+
+abbrev the_port : (n : ℕ) → 1 ≤ n → n ≤ 16 → Port
+the_port n low high = record { number = n; low = low; high = high }
+
+one_bound : (a b : ℕ) (p q : a ≤ b) → p ≡ q
+one_bound a b p q = le_prop p q
+
+the_port_same : (n m : ℕ) → n ≡ m → (low : 1 ≤ n) (high : n ≤ 16) (low' : 1 ≤ m) (high' : m ≤ 16) → the_port n low high ≡ the_port m low' high'
+the_port_same n m same low high =
+    subst (λ (k : ℕ). (low' : 1 ≤ k) (high' : k ≤ 16) → the_port n low high ≡ the_port k low' high') same
+    (λ low' high'. ap (λ (l : 1 ≤ n). the_port n l high) (one_bound 1 n low low') ∙ ap (λ (h : n ≤ 16). the_port n low' h) (one_bound n 16 high high'))
+
+port_same : (p q : Port) → number_of p ≡ number_of q → p ≡ q
+port_same p q same = the_port_same p.number q.number same p.low p.high q.low q.high
+
+pub port_by_text : (p q : Port) → port_text p ≡ port_text q → p ≡ q
+port_by_text p q same =
+    let first : p.number ≤ 16 = p.high in
+    let second : q.number ≤ 16 = q.high in
+    port_same p q (decimal_injective p.number q.number (omega arith) (omega arith) same)
+
+-- octets
+
+or_dash_same : (s t : List ℕ) (m n : ℕ) → length s ≡ 2 * m → length t ≡ 2 * n → or_dash s ≡ or_dash t → s ≡ t
+or_dash_same [] [] m n p q e = refl
+or_dash_same [] (y ∷ t) m n p q e = let empty : [] ≡ t = cc in let one : length (y ∷ t) ≡ 1 = ap (λ (l : List ℕ). length (y ∷ l)) (sym empty) in absurd (omega arith)
+or_dash_same (x ∷ s) [] m n p q e = let empty : [] ≡ s = cc in let one : length (x ∷ s) ≡ 1 = ap (λ (l : List ℕ). length (x ∷ l)) (sym empty) in absurd (omega arith)
+or_dash_same (x ∷ s) (y ∷ t) m n p q e = e
+
+pub octets_by_text : (xs ys : List ℕ) → IsBytes xs → IsBytes ys → hex_text xs ≡ hex_text ys → xs ≡ ys
+octets_by_text xs ys p q same =
+    let codes_same : encode_lower xs ≡ encode_lower ys =
+    or_dash_same (encode_lower xs) (encode_lower ys) (length xs) (length ys) (length-encode_with lower_digits xs) (length-encode_with lower_digits ys) same in
+    let decoded : Ok xs ≡ Ok ys = sym (decode_of-encode_lower xs p) ∙ ap decode_of codes_same ∙ decode_of-encode_lower ys q in
+    cc decoded
+
+-- a MAC address
+
+digit_same : (a b : ℕ) → hex_digit a ≡ hex_digit b → a ≡ b
+digit_same a b same = grind (arith, nat_tests)
+
+octet_same : (x y : ℕ) → hex_digit (x / 16) ≡ hex_digit (y / 16) → hex_digit (x % 16) ≡ hex_digit (y % 16) → x ≡ y
+octet_same x y high low =
+    let first : x / 16 ≡ y / 16 = digit_same (x / 16) (y / 16) high in
+    let second : x % 16 ≡ y % 16 = digit_same (x % 16) (y % 16) low in
+    omega arith
+
+pairs_same : (xs ys : List ℕ) → join_with_byte 58 (map hex_pair xs) ≡ join_with_byte 58 (map hex_pair ys) → xs ≡ ys
+pairs_same [] [] e = refl
+pairs_same [] (y ∷ []) e = cc
+pairs_same [] (y ∷ y' ∷ ys) e = cc
+pairs_same (x ∷ []) [] e = cc
+pairs_same (x ∷ x' ∷ xs) [] e = cc
+pairs_same (x ∷ []) (y ∷ []) e =
+    let high : hex_digit (x / 16) ≡ hex_digit (y / 16) = cc in
+    let low : hex_digit (x % 16) ≡ hex_digit (y % 16) = cc in
+    ap (λ (o : ℕ). o ∷ []) (octet_same x y high low)
+pairs_same (x ∷ []) (y ∷ y' ∷ ys) e = cc
+pairs_same (x ∷ x' ∷ xs) (y ∷ []) e = cc
+pairs_same (x ∷ x' ∷ xs) (y ∷ y' ∷ ys) e =
+    let high : hex_digit (x / 16) ≡ hex_digit (y / 16) = cc in
+    let low : hex_digit (x % 16) ≡ hex_digit (y % 16) = cc in
+    let more : join_with_byte 58 (map hex_pair (x' ∷ xs)) ≡ join_with_byte 58 (map hex_pair (y' ∷ ys)) = cc in
+    let first : x ≡ y = octet_same x y high low in
+    let rest : x' ∷ xs ≡ y' ∷ ys = pairs_same (x' ∷ xs) (y' ∷ ys) more in
+    cc (first, rest)
+
+abbrev the_mac : List ℕ → Mac
+the_mac octets = record { 0 = octets }
+
+pub mac_by_text : (m n : Mac) → mac_text m ≡ mac_text n → m ≡ n
+mac_by_text m n same = ap the_mac (pairs_same m.0 n.0 same)
+
+-- names
+
+-- texts that begin with different octets
+pub first_apart : {x y : ℕ} {s t : List ℕ} → x ∷ s ≡ y ∷ t → (x == y) ≡ false → ⊥
+first_apart {x} {y} e other = let same : x ≡ y = cc in let apart : x ≢ y = grind (arith, nat_tests) in apart same
+
+pub role_by_text : (a b : Role) → role_text a ≡ role_text b → a ≡ b
+role_by_text Host Host e = refl
+role_by_text Server Server e = refl
+role_by_text Trusted Trusted e = refl
+role_by_text a b e = absurd (first_apart e refl)
+
+pub format_by_text : (a b : Format) → format_text a ≡ format_text b → a ≡ b
+format_by_text Pcap Pcap e = refl
+format_by_text Stream Stream e = refl
+format_by_text a b e = absurd (first_apart e refl)
+
+pub method_by_text : (a b : Method) → method_text a ≡ method_text b → a ≡ b
+method_by_text Fcfs Fcfs e = refl
+method_by_text Dhcp Dhcp e = refl
+method_by_text Mixed Mixed e = refl
+method_by_text a b e = absurd (first_apart e refl)
+
+pub switch_by_text : (a b : Bool) (on off : List ℕ) → (on ≡ off → ⊥) → (if a then on else off) ≡ (if b then on else off) → a ≡ b
+switch_by_text true true on off apart e = refl
+switch_by_text true false on off apart e = absurd (apart e)
+switch_by_text false true on off apart e = absurd (apart (sym e))
+switch_by_text false false on off apart e = refl
+
+pub who_by_text : (a b : Who) → who_text a ≡ who_text b → a ≡ b
+who_by_text (Ingress p) (Ingress q) e = let text : port_text p ≡ port_text q = cc in ap Ingress (port_by_text p q text)
+who_by_text (Egress p) (Egress q) e = let text : port_text p ≡ port_text q = cc in ap Egress (port_by_text p q text)
+who_by_text Control Control e = refl
+who_by_text Ticker Ticker e = refl
+who_by_text a b e = absurd (first_apart e refl)
+
+-- a reason whose place is a number of 64 bits, and whose length is this one
+abbrev pub IsReasonAt : ℕ → How → Type 0
+IsReasonAt count hows.End = Unit {0}
+IsReasonAt count hows.Quit = Unit {0}
+IsReasonAt count (hows.Malformed at) = at < 2 ^ 64
+IsReasonAt count (hows.Overlong at) = at < 2 ^ 64
+IsReasonAt count hows.Failed = Unit {0}
+IsReasonAt count hows.Unwritten = Unit {0}
+IsReasonAt count (hows.Full len) = len ≡ count
+
+pub how_by_text : (count : ℕ) (a b : How) → IsReasonAt count a → IsReasonAt count b → how_fields a ≡ how_fields b → a ≡ b
+how_by_text count hows.End hows.End p q e = refl
+how_by_text count hows.Quit hows.Quit p q e = refl
+how_by_text count hows.Failed hows.Failed p q e = refl
+how_by_text count hows.Unwritten hows.Unwritten p q e = refl
+how_by_text count (hows.Full m) (hows.Full n) p q e = ap hows.Full (p ∙ sym q)
+how_by_text count (hows.Malformed m) (hows.Malformed n) p q e = let text : decimal m ≡ decimal n = cc in ap hows.Malformed (decimal_injective m n p q text)
+how_by_text count (hows.Overlong m) (hows.Overlong n) p q e = let text : decimal m ≡ decimal n = cc in ap hows.Overlong (decimal_injective m n p q text)
+how_by_text count a b p q e = cc

@@ -1,0 +1,51 @@
+-- How the inputs of a history ended.
+use Rattle.std.specs.Prelude.{Bool, true, false, List}
+use Rattle.std.specs.List.{list_any}
+use Rattle.savi_kinds.specs.declared.entry.Act.{Act}
+use Rattle.savi_kinds.specs.declared.entry.Act.TheVariants as acts
+use Rattle.savi_kinds.specs.declared.entry.How.{How}
+use Rattle.savi_kinds.specs.declared.entry.How.TheVariants as hows
+use Rattle.hist_store.specs.Rows.{Row}
+
+-- the input was malformed
+abbrev pub is_malformed_reason : How → Bool
+is_malformed_reason hows.End = false
+is_malformed_reason hows.Quit = false
+is_malformed_reason (hows.Malformed at) = true
+is_malformed_reason (hows.Overlong at) = false
+is_malformed_reason hows.Failed = false
+is_malformed_reason hows.Unwritten = false
+is_malformed_reason (hows.Full len) = false
+
+-- there was no room for the input
+abbrev pub is_full_reason : How → Bool
+is_full_reason hows.End = false
+is_full_reason hows.Quit = false
+is_full_reason (hows.Malformed at) = false
+is_full_reason (hows.Overlong at) = false
+is_full_reason hows.Failed = false
+is_full_reason hows.Unwritten = false
+is_full_reason (hows.Full len) = true
+
+-- an end with a reason of which this holds
+abbrev pub ends_with : (How → Bool) → Act → Bool
+ends_with holds (acts.Frame port stamp at len) = false
+ends_with holds (acts.Long port stamp len) = false
+ends_with holds (acts.Tick stamp) = false
+ends_with holds (acts.Command stamp at len) = false
+ends_with holds (acts.Drain port count) = false
+ends_with holds (acts.End who how) = holds how
+
+abbrev pub is_malformed_end : Act → Bool
+is_malformed_end act = ends_with is_malformed_reason act
+
+abbrev pub is_full_end : Act → Bool
+is_full_end act = ends_with is_full_reason act
+
+-- an input of the history was malformed
+abbrev pub has_malformed : List Row → Bool
+has_malformed rows = list_any (λ r. is_malformed_end r.entry.act) rows
+
+-- an input of the history ended for want of room
+abbrev pub has_full : List Row → Bool
+has_full rows = list_any (λ r. is_full_end r.entry.act) rows

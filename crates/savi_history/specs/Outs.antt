@@ -1,0 +1,31 @@
+-- The ports to which a frame goes: where no station is known, each port of its scope but the ingress port.
+use Rattle.std.specs.Prelude.{ℕ, ◌==◌, ◌&&◌, ◌||◌, not, Bool, true, List}
+use Rattle.std.specs.List.{filter}
+use Rattle.savi_kinds.specs.declared.plan.Plan.{Plan}
+use Rattle.savi_kinds.specs.declared.plan.PortPlan.{PortPlan}
+use Rattle.savi_kinds.specs.declared.port.PortSet.{PortSet}
+use Rattle.savi_kinds.specs.declared.verdict.Scope.{Scope}
+use Rattle.savi_kinds.specs.declared.verdict.Scope.TheVariants.{All, TrustedOnly, TrustedAnd}
+use Rattle.savi_kinds.specs.declared.verdict.Verdict.{Verdict}
+use Rattle.savi_kinds.specs.declared.verdict.Verdict.TheVariants.{Pass, Drop}
+use Rattle.savi_kinds.specs.Ports.{number_of}
+use Rattle.savi_kinds.specs.PortSets.{no_ports, set_of}
+use Rattle.savi_kinds.specs.ValidPlan.{numbers_of}
+use Rattle.hist_store.specs.Rows.{Row}
+use Rattle.savi_history.specs.Bases.{Base}
+use Rattle.savi_history.specs.Passes.{is_trusted}
+
+-- whether a port of the plan is in a scope
+abbrev pub is_in_scope : Scope → PortPlan → Bool
+is_in_scope All q = true
+is_in_scope TrustedOnly q = is_trusted q.role
+is_in_scope (TrustedAnd p) q = is_trusted q.role || (number_of q.number == number_of p)
+
+-- the ports of a scope, without one
+abbrev pub others_in : Plan → Scope → ℕ → List PortPlan
+others_in plan scope port = filter (λ q. is_in_scope scope q && not (number_of q.number == port)) plan.ports
+
+-- of a frame in this VLAN with this verdict, after this past
+abbrev pub outs : ℕ → Plan → Base → List Row → ℕ → Verdict → PortSet
+outs vlan plan base past port (Pass scope) = set_of (numbers_of (others_in plan scope port))
+outs vlan plan base past port (Drop rule) = no_ports

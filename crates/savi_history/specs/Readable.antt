@@ -1,0 +1,25 @@
+-- What a reader of an input may give.
+use Rattle.std.specs.Prelude.{◌<◌, ◌≤◌, length, All}
+use Rattle.savi_kinds.specs.declared.entry.How.{How}
+use Rattle.savi_kinds.specs.declared.entry.How.TheVariants as hows
+use Rattle.savi_kinds.specs.Arrivals.{Arrival, Frame, Long, Input}
+use Rattle.savi_history.specs.Legal.{IsU32, IsU64}
+
+-- a frame of at most 1,518 octets, or a longer one; numbers of 64 and 32 bits
+abbrev pub IsArrival : Arrival → Type 0
+IsArrival (Frame stamp octets) = IsU64 stamp × (length octets ≤ 1518)
+IsArrival (Long stamp len) = IsU64 stamp × (1518 < len) × IsU32 len
+
+-- the end, a place at fault, or a failed read
+abbrev pub IsEnding : How → Type 0
+IsEnding hows.End = Unit {0}
+IsEnding hows.Quit = ⊥
+IsEnding (hows.Malformed at) = IsU64 at
+IsEnding (hows.Overlong at) = ⊥
+IsEnding hows.Failed = Unit {0}
+IsEnding hows.Unwritten = ⊥
+IsEnding (hows.Full len) = ⊥
+
+pub record IsInput (input : Input) : Type 0 where
+  pub arrivals : All IsArrival input.arrivals
+  pub ending : IsEnding input.ending

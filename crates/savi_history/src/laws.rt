@@ -1,0 +1,36 @@
+//! The laws on whole histories. Each function does nothing: its contract is the law.
+
+ghost use Rattle.std.specs.Prelude.{◌≡◌, ℕ, List, length, All};
+ghost use Rattle.savi_kinds.specs.Arrivals.{Input};
+ghost use Rattle.savi_kinds.specs.ValidPlan.{IsValidPlan};
+ghost use Rattle.savi_kinds.specs.declared.plan.Plan.{Plan};
+ghost use Rattle.hist_store.specs.Rows.{Row};
+ghost use Rattle.savi_history.specs.Bases.{Base, empty};
+ghost use Rattle.savi_history.specs.Legal.{IsLegal, IsFinished};
+ghost use Rattle.savi_history.specs.Readable.{IsInput};
+ghost use Rattle.savi_history.specs.Replay.{replayed};
+ghost use Rattle.savi_history.specs.Adverts.{IsGuarded};
+ghost use Rattle.savi_history.specs.Journals.{IsAddressText, IsJournalOfOne};
+
+/// In a legal history no router advertisement that the header chain shows, and no first fragment whose chain is cut,
+/// passes a port of a host or a server (RFC 6105, RFC 7113, RFC 7112 section 5).
+pub fn adverts_are_stopped()
+    ensures { (plan : Plan) (base : Base) (past : List Row) → IsLegal plan base past → IsGuarded plan past }
+{}
+
+/// In the history of a replay of one input for each port of the plan, every pass has ended.
+pub fn replays_end_every_pass()
+    ensures { (plan : Plan) (base : Base) (inputs : List Input) → IsValidPlan plan → length inputs ≡ length plan.ports → IsFinished plan base (replayed plan base inputs) }
+{}
+
+/// The history of a replay of what readers may give, one input for each port of the plan, is legal.
+pub fn replays_are_legal()
+    ensures { (plan : Plan) (inputs : List Input) → IsValidPlan plan → length inputs ≡ length plan.ports → All IsInput inputs → IsLegal plan empty (replayed plan empty inputs) }
+{}
+
+/// A journal tells the history: no text is the journal of two legal histories from the start of a switch, nor of two
+/// plans that differ in more than the names of inputs and outputs. It holds for each way to write IPv6 addresses (RFC
+/// 5952) that gives no two of them the same text, and in which there is neither a space, a control character nor a '/'.
+pub fn journals_tell_one_history()
+    ensures { (address_text : ℕ → List ℕ) → IsAddressText address_text → IsJournalOfOne address_text }
+{}
