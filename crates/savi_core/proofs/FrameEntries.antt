@@ -1,0 +1,36 @@
+-- The entry of a frame.
+use Rattle.std.proofs.Common.{ℕ, ◌≡◌, List, length, Some, ap, ◌∙◌}
+use Rattle.savi_kinds.specs.declared.port.Port.{Port}
+use Rattle.savi_kinds.specs.declared.port.PortSet.{PortSet}
+use Rattle.savi_kinds.specs.declared.verdict.Verdict.{Verdict}
+use Rattle.savi_kinds.specs.declared.entry.Entry.{Entry}
+use Rattle.savi_kinds.specs.declared.entry.Act.TheVariants as acts
+use Rattle.savi_kinds.specs.declared.entry.Who.TheVariants.{Ingress}
+use Rattle.savi_kinds.specs.Ports.{number_of}
+use Rattle.hist_store.specs.Rows.{held}
+use Rattle.savi_history.specs.Bases.{empty}
+use Rattle.savi_history.specs.Passes.{pass_of}
+use Rattle.savi_history.specs.Moments.{moment_at}
+use Rattle.savi_history.specs.Outs.{outs}
+use Rattle.savi_history.specs.Queues.{cuts}
+use Rattle.savi_history.specs.Events.{the_vlan, verdict_of}
+use Rattle.savi_history.specs.Events as events
+use Rattle.savi_core.specs.Machines.{Machine}
+use Rattle.savi_core.specs.Steps.{entry_of}
+
+abbrev pub made : Port → ℕ → ℕ → ℕ → ℕ → ℕ → Verdict → PortSet → PortSet → Entry
+made port stamp len by moment at verdict out cut = record { by = by; moment = moment; act = acts.Frame port stamp at len; verdict = Some verdict; outs = out; cuts = cut; probes = 0; lost = 0 }
+
+-- an entry whose parts are those of a frame's row is that row's
+pub frame_entry_is : (m : Machine) (port : Port) (stamp : ℕ) (octets : List ℕ) (by moment at : ℕ) (verdict : Verdict) (out cut : PortSet) → by ≡ pass_of m.plan (Ingress port) → moment ≡ moment_at empty m.past stamp → at ≡ held m.past → verdict ≡ verdict_of m.plan empty m.past port stamp octets → out ≡ outs the_vlan m.plan empty m.past (number_of port) verdict → cut ≡ cuts m.plan empty m.past out → made port stamp (length octets) by moment at verdict out cut ≡ entry_of m (events.Frame port stamp octets)
+frame_entry_is m port stamp octets by moment at verdict out cut by_is moment_is at_is verdict_is out_is cut_is =
+    let v = verdict_of m.plan empty m.past port stamp octets in
+    let o = outs the_vlan m.plan empty m.past (number_of port) v in
+    let c = cuts m.plan empty m.past o in
+    let size = length octets in
+    ap (λ (x : PortSet). made port stamp size by moment at verdict out x) cut_is
+    ∙ ap (λ (x : PortSet). made port stamp size by moment at verdict x (cuts m.plan empty m.past x)) out_is
+    ∙ ap (λ (x : Verdict). let goes = outs the_vlan m.plan empty m.past (number_of port) x in made port stamp size by moment at x goes (cuts m.plan empty m.past goes)) verdict_is
+    ∙ ap (λ n. made port stamp size n moment at v o c) by_is
+    ∙ ap (λ n. made port stamp size (pass_of m.plan (Ingress port)) n at v o c) moment_is
+    ∙ ap (λ n. made port stamp size (pass_of m.plan (Ingress port)) (moment_at empty m.past stamp) n v o c) at_is

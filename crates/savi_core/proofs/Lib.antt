@@ -1,0 +1,14 @@
+pub mod Places
+pub mod Sets
+pub mod Frames
+pub mod Changes
+pub mod Holding
+pub mod Counting
+pub mod Remembering
+pub mod Stepping
+pub mod Moving
+pub mod FrameEntries
+pub mod Judged
+pub mod Pieces
+pub mod Summing
+pub mod Finding

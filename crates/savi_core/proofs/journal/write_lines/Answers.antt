@@ -1,0 +1,24 @@
+use Rattle.std.proofs.Common.{◌≡◌, arith, ◌∙◌, refl, ap, subst, ◌++◌, ◌∷◌, [], List, ℕ}
+use Rattle.hist_store.specs.LineTexts.{line_text}
+use Rattle.hist_store.specs.Rows.{Row}
+use Rattle.savi_core.specs.Buffers.{Holds}
+use Rattle.savi_core.specs.Written.{with_lines}
+use Rattle.savi_core.proofs.Pieces.{holds-more, with_lines-push, row_here}
+use Rattle.savi_core.proofs.journal.write_lines.Goals as goal
+
+pub loop-n-preserved : goal.loop-n-preserved
+loop-n-preserved g c =
+    let n : ℕ = c.loop-n.n in
+    let row : Row = record { entry = c.entry-entry.result; octets = c.octets.result.now } in
+    let was = c.loop-n.invariant in
+    let text : List ℕ = with_lines c.args.buffer.now.octets c.args.hist.now.rows n in
+    let line : c.as_slice.result.now ≡ line_text n row = c.as_slice.ensures.value ∙ c.put_line.ensures in
+    let more = holds-more _ (g.K.Sink.written c.loop-n.sink) _ c.loop-n.buffer.octets c.write_line.new.buffer.octets text (c.as_slice.result.now ++ 10 ∷ []) was.holds (c.in-Done.ensures.done refl) in
+    record {
+      room = c.in-Done.ensures.room ∙ was.room;
+      later = omega (arith, was.later, c.in-Done.ensures.later);
+      holds = subst
+          (λ (t : List ℕ). Holds (g.K.Sink.written c.args.sink.now) (g.K.Sink.written c.write_line.new.sink) c.write_line.new.buffer.octets t)
+          (ap (λ (l : List ℕ). text ++ (l ++ 10 ∷ [])) line ∙ with_lines-push c.args.buffer.now.octets c.args.hist.now.rows n row (row_here _ c.entry-entry.result c.octets.result.now c.entry-entry.ensures c.octets.ensures))
+          more;
+    }

@@ -1,0 +1,16 @@
+use Rattle.std.proofs.Common.{◌+◌, ◌<◌, ◌&&◌, length, ap, ◌∙◌, sym, arith}
+use Rattle.std.specs.Prelude.{nat_le, reverse}
+use Rattle.std.proofs.lemmas.Bool.{lt-ltb}
+use Rattle.std.proofs.lemmas.List.{length-reverse}
+use Rattle.hist_store.specs.Rows.{held}
+use Rattle.savi_core.proofs.Remembering.{held-reverse}
+use Rattle.savi_core.proofs.machine.Core.has_room.Goals as goal
+
+pub returns-then-len-self : goal.returns-then-len-self
+returns-then-len-self c =
+    let inside = c.self.inside in
+    let rows = inside.hist.rows in
+    let few : length (reverse rows) + 4130 < inside.plan.entries = omega (arith, length-reverse rows, c.len.ensures, c.if-len-self.true) in
+    rw (← c.self.view_is) (
+    ap (λ n. nat_le (n + 1518) inside.plan.bytes) (c.held.ensures ∙ sym (held-reverse rows))
+    ∙ sym (ap (λ b. b && nat_le (held (reverse rows) + 1518) inside.plan.bytes) (lt-ltb (length (reverse rows) + 4130) inside.plan.entries few)))

@@ -1,0 +1,10 @@
+pub mod Judging
+pub mod Batches
+pub mod Machines
+pub mod Steps
+pub mod Waits
+pub mod Counts
+pub mod Remembers
+pub mod Buffers
+pub mod Written
+pub mod Sums

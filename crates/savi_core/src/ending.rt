@@ -1,0 +1,51 @@
+//! How the inputs of a history ended.
+
+ghost use Rattle.std.specs.Prelude.{◌≡◌};
+ghost use Rattle.savi_history.specs.Endings.{is_malformed_end, is_full_end, has_malformed, has_full};
+
+use hist_store::Hist;
+use savi_kinds::{Act, How};
+
+/// Whether an input of the history was malformed. O(n) in the entries.
+pub fn has_malformed(hist: &Hist) -> bool
+    ensures { result ≡ has_malformed hist.now.rows }
+{
+    for n in 0..hist.len() {
+        if is_malformed_end(hist.entry(n).act) {
+            return true;
+        }
+    }
+    false
+}
+
+/// Whether an input of the history ended for want of room. O(n) in the entries.
+pub fn has_full(hist: &Hist) -> bool
+    ensures { result ≡ has_full hist.now.rows }
+{
+    for n in 0..hist.len() {
+        if is_full_end(hist.entry(n).act) {
+            return true;
+        }
+    }
+    false
+}
+
+// Whether an entry is the end of a malformed input.
+fn is_malformed_end(act: Act) -> bool
+    ensures { result ≡ is_malformed_end act }
+{
+    match act {
+        Act::End { who: _, how } => matches!(how, How::Malformed(_)),
+        _ => false,
+    }
+}
+
+// Whether an entry is the end of an input for which there was no room.
+fn is_full_end(act: Act) -> bool
+    ensures { result ≡ is_full_end act }
+{
+    match act {
+        Act::End { who: _, how } => matches!(how, How::Full(_)),
+        _ => false,
+    }
+}

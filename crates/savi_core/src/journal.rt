@@ -1,0 +1,86 @@
+//! The journal of a history, written in large pieces.
+
+ghost use Rattle.std.specs.Prelude.{◌≡◌, ◌≤◌, ◌++◌, ◌∷◌, ℕ, [], List, length, All};
+ghost use Rattle.savi_kinds.specs.declared.plan.Plan.{Plan};
+ghost use Rattle.savi_ends.specs.declared.sink.Put.{Put};
+ghost use Rattle.savi_ends.specs.Faults.{Rose};
+ghost use Rattle.savi_ends.specs.Octets.{behind};
+ghost use Rattle.hist_store.specs.LineTexts.{FitsLine};
+ghost use Rattle.hist_store.specs.JournalTexts.{journal_text};
+ghost use Rattle.savi_core.specs.Buffers.{Holds};
+ghost use Rattle.savi_core.specs.Written.{with_lines};
+
+use crate::buffer::Buffer;
+use hist_store::{Hist, JOURNAL_LINE_OCTETS, JournalLine, put_end, put_header, put_line};
+use savi_ends::{Put, Sink};
+use savi_kinds::Plan;
+
+/// Writes the journal of a plan without prefixes and of its history, in pieces of at least 64 KiB and the last one.
+/// O(n) in the octets of the journal.
+pub fn write_journal<K: Sink>(plan: &Plan, hist: &Hist, sink: &mut K, buffer: &mut Buffer) -> Put
+    requires ports { length plan.now.ports ≤ 16 }
+    requires no_prefixes { plan.now.prefixes ≡ [] }
+    requires rows { All FitsLine hist.now.rows }
+    requires empty { buffer.old.octets ≡ [] }
+    requires room { 3401 ≤ buffer.old.room }
+    ensures done { result ≡ Put.Done → (address_text : ℕ → List ℕ) → K.written sink.new ≡ behind (K.written sink.old) (journal_text address_text plan.now hist.now.rows) }
+    ensures later { K.faults sink.old ≤ K.faults sink.new }
+    ensures cause { result ≡ Put.Failed → Rose (K.faults sink.old) (K.faults sink.new) }
+{
+    let mut line = JournalLine::new();
+    put_header(plan, &mut line);
+    match buffer.put(sink, line.as_slice()) {
+        Put::Done => {}
+        Put::Failed => return Put::Failed,
+    }
+    match write_lines(hist, sink, buffer, &mut line) {
+        Put::Done => {}
+        Put::Failed => return Put::Failed,
+    }
+    put_end(hist.len(), &mut line);
+    match buffer.put(sink, line.as_slice()) {
+        Put::Done => {}
+        Put::Failed => return Put::Failed,
+    }
+    buffer.flush(sink)
+}
+
+// Writes the lines of the entries.
+fn write_lines<K: Sink>(
+    hist: &Hist,
+    sink: &mut K,
+    buffer: &mut Buffer,
+    line: &mut JournalLine,
+) -> Put
+    requires rows { All FitsLine hist.now.rows }
+    requires room { 3401 ≤ buffer.old.room }
+    ensures room { buffer.new.room ≡ buffer.old.room }
+    ensures done { result ≡ Put.Done → Holds (K.written sink.old) (K.written sink.new) buffer.new.octets (with_lines buffer.old.octets hist.now.rows (length hist.now.rows)) }
+    ensures later { K.faults sink.old ≤ K.faults sink.new }
+    ensures cause { result ≡ Put.Failed → Rose (K.faults sink.old) (K.faults sink.new) }
+{
+    for n in 0..hist.len() {
+        let entry = hist.entry(n);
+        put_line(n, &entry, hist.octets(n), line);
+        match write_line(sink, buffer, line.as_slice()) {
+            Put::Done => {}
+            Put::Failed => return Put::Failed,
+        }
+    }
+    Put::Done
+}
+
+// Writes a line with its line feed.
+fn write_line<K: Sink>(sink: &mut K, buffer: &mut Buffer, line: &[u8]) -> Put
+    requires line { length line.now ≤ 3400 }
+    requires room { 3401 ≤ buffer.old.room }
+    ensures room { buffer.new.room ≡ buffer.old.room }
+    ensures done { result ≡ Put.Done → Holds (K.written sink.old) (K.written sink.new) buffer.new.octets (buffer.old.octets ++ (line.now ++ 10 ∷ [])) }
+    ensures later { K.faults sink.old ≤ K.faults sink.new }
+    ensures cause { result ≡ Put.Failed → Rose (K.faults sink.old) (K.faults sink.new) }
+{
+    match buffer.put(sink, line) {
+        Put::Done => buffer.put(sink, b"\n"),
+        Put::Failed => Put::Failed,
+    }
+}

@@ -1,0 +1,382 @@
+//! The machine.
+
+ghost use Rattle.std.specs.Prelude.{ℕ, List, ◌≡◌, ◌≤◌, ◌<◌, true, false, ◌&&◌, ◌||◌, [], length, reverse, IfOk, IsSomeAnd, Some, ◌+◌, Option};
+ghost use Rattle.savi_kinds.specs.Ports.{number_of};
+ghost use Rattle.savi_ends.specs.declared.sink.Put.{Put};
+ghost use Rattle.savi_ends.specs.Faults.{Rose};
+ghost use Rattle.savi_ends.specs.Octets.{behind};
+ghost use Rattle.hist_store.specs.JournalTexts.{journal_text};
+ghost use Rattle.savi_history.specs.Summary.{summary_of};
+ghost use Rattle.savi_history.specs.Endings.{has_malformed, has_full};
+ghost use Rattle.savi_core.specs.Sums.{sum_of};
+ghost use Rattle.savi_kinds.specs.PortSets.{is_member};
+ghost use Rattle.savi_kinds.specs.ValidPlan.{IsValidPlan, IsWithin};
+ghost use Rattle.savi_history.specs.Bases.{empty};
+ghost use Rattle.savi_history.specs.Passes.{has_port, has_pass, pass_of, control_pass, has_ended};
+ghost use Rattle.savi_history.specs.Limits.{has_room};
+ghost use Rattle.savi_history.specs.Queues.{is_closed, cuts};
+ghost use Rattle.savi_history.specs.Outs.{outs};
+ghost use Rattle.savi_history.specs.Events.{the_vlan};
+ghost use Rattle.savi_history.specs.Events as events;
+ghost use Rattle.savi_history.specs.Legal.{IsLegal, IsOpen};
+ghost use Rattle.savi_kinds.specs.declared.entry.Who.TheVariants.{Egress};
+ghost use Rattle.savi_core.specs.Machines.{HasShortQueues, started, row_at, queue_at, number_at};
+ghost use Rattle.savi_core.specs.Counts.{open_below};
+ghost use Rattle.savi_core.specs.Steps.{event_of, MayStep, Did, Drained, entry_of};
+
+use crate::batch::Batch;
+use crate::buffer::Buffer;
+use crate::ending::{has_full, has_malformed};
+use crate::entries::{moment_at, plain_entry, verdict_by};
+use crate::event::{Event, Stepped};
+use crate::journal::write_journal;
+use crate::judge::judge;
+use crate::outs::ports_of;
+use crate::passes::{pass_of, place_of, role_of};
+use crate::queues::{end_queue, make_queues, move_frames, queue_frame};
+use crate::summary::{Summary, sum_up};
+use egress_ring::EgressRing;
+use hist_store::Hist;
+use savi_ends::{Put, Sink};
+use savi_kinds::{
+    Act, ENTRIES_RESERVED, Entry, FRAME_OCTETS_MOST, How, LAST_MOMENT, Moment, PORTS_MOST, Plan,
+    Port, PortSet, Rule, Verdict, Who,
+};
+use std::alloc::{AllocError, Global};
+use std::marker::Model;
+
+/// The most passes of a switch: an ingress and an egress for each port, control and the ticker.
+const PASSES_MOST: usize = 2 * PORTS_MOST + 2;
+
+/// A switch that guards messages and floods what passes. Contracts see its plan, and its history with the newest row
+/// first; the history is always legal. All memory is taken by `make`.
+#[derive(Drop)]
+pub struct Core {
+    plan: Plan,
+    hist: Hist,
+    moment: Moment,
+    closed: [bool; PASSES_MOST],
+    queues: Vec<EgressRing>,
+}
+
+impl Model for Core {
+    ghost use Rattle.std.specs.Prelude.{◌≡◌, reverse};
+    ghost use Rattle.savi_core.specs.Machines.{Machine};
+    ghost use Rattle.savi_core.specs.Remembers.{Remembers};
+
+    ghost Value = { Machine };
+
+    ghost view = { λ c. record { plan = c.plan; past = reverse c.hist.rows } };
+
+    ghost invariant = { λ c. Remembers c.plan c.hist.rows c.moment c.closed c.queues.items
+        × (c.hist.entry_room ≡ c.plan.entries)
+        × (c.hist.byte_room ≡ c.plan.bytes) };
+}
+
+impl Core {
+    /// The switch of this plan at its start. It takes all its memory here.
+    pub fn make(alloc: Global, plan: Plan) -> Result<Core, AllocError>
+        requires valid { IsValidPlan plan }
+        requires guard_only { plan.savi ≡ false }
+        ensures { IfOk result (λ core. core ≡ started plan) }
+    {
+        let hist = Hist::make(alloc, plan.entries, plan.bytes)?;
+        let queues = make_queues(alloc, plan.ports.as_slice().len(), plan.depth)?;
+        Ok(Core {
+            plan,
+            hist,
+            moment: 0,
+            closed: [false; PASSES_MOST],
+            queues,
+        })
+    }
+
+    /// Enters an event. The answer is `Full`, and nothing has changed, exactly where it is a frame and the history has
+    /// no room for another input; else it is the one entry that was made. O(ports) beside one pass over the octets of a
+    /// frame, and their copy.
+    pub fn step(&mut self, ev: Event<'_>) -> Stepped
+        requires { MayStep self.old (event_of ev) }
+        ensures { Did self.old (event_of ev.entry) self.new result }
+    {
+        match ev {
+            Event::Frame {
+                port,
+                stamp,
+                octets,
+            } => self.frame(port, stamp, octets),
+            Event::Long { port, stamp, len } => self.long(port, stamp, len),
+            Event::End { who, how } => self.end(who, how),
+        }
+    }
+
+    /// Takes at most so many frames from the front of a port's queue into the batch, in place of what it held. The
+    /// answer is `Nothing`, and the core has not changed, exactly where nothing waits; it is never `Full`. O(frames)
+    /// beside the copy of their octets.
+    pub fn drain(&mut self, port: Port, most: u32, into: &mut Batch) -> Stepped
+        requires most { IsWithin 1 256 most }
+        requires open { IsOpen self.old.plan empty self.old.past (Egress port) }
+        ensures { Drained self.old port most self.new into.new result }
+    {
+        into.clear();
+        let place = place_of(&self.plan, port);
+        let count = most.min(self.queues[place].len());
+        if count == 0 {
+            return Stepped::Nothing;
+        }
+        let entry = self.drain_entry(port, count);
+        move_frames(&mut self.queues[place], &self.hist, count, into);
+        self.moment = entry.moment;
+        self.hist.append(entry, &[]);
+        Stepped::Done(entry)
+    }
+
+    /// The plan of the switch. O(1).
+    pub fn plan(&self) -> &Plan
+        ensures { result.now ≡ self.now.plan }
+    {
+        &self.plan
+    }
+
+    /// How many entries the history has, which is legal; no queue is longer than the plan's depth. O(1).
+    pub fn len(&self) -> u64
+        ensures len { result ≡ length self.now.past }
+        ensures legal { IsLegal self.now.plan empty self.now.past }
+        ensures within { HasShortQueues self.now }
+    {
+        let _moment = self.moment;
+        self.hist.len()
+    }
+
+    /// The entry with this number, counted from 0. O(1).
+    pub fn entry(&self, n: u64) -> Entry
+        requires { n < length self.now.past }
+        ensures { IsSomeAnd (row_at self.now n) (λ row. row.entry ≡ result) }
+    {
+        self.hist.entry(n)
+    }
+
+    /// The octets of the entry with this number, counted from 0. O(1).
+    pub fn octets(&self, n: u64) -> &[u8]
+        requires { n < length self.now.past }
+        ensures { IsSomeAnd (row_at self.now n) (λ row. row.octets ≡ result.now) }
+    {
+        self.hist.octets(n)
+    }
+
+    /// How many items wait at a port of the plan. O(ports), at most 16.
+    pub fn queued(&self, port: Port) -> u32
+        requires { has_port self.now.plan (number_of port) ≡ true }
+        ensures { result ≡ length (queue_at self.now port) }
+    {
+        self.queues[place_of(&self.plan, port)].len()
+    }
+
+    /// Whether a pass of the plan has ended. O(ports), at most 16.
+    pub fn ended(&self, who: Who) -> bool
+        requires { has_pass self.now.plan who ≡ true }
+        ensures { result ≡ has_ended empty (pass_of self.now.plan who) self.now.past }
+    {
+        self.closed[pass_of(&self.plan, who) as usize]
+    }
+
+    /// How many of the ingress passes and control haven't ended. O(ports), at most 16.
+    pub fn inputs_left(&self) -> u32
+        ensures { result ≡ open_below self.now.past (control_pass self.now.plan + 1) }
+    {
+        let mut left = 0;
+        for pass in 0..self.plan.ports.as_slice().len() + 1 {
+            if !self.closed[pass] {
+                left += 1;
+            }
+        }
+        left
+    }
+
+    /// Writes the journal (`docs/FORMATS.md`) of a plan without prefixes: in pieces of the buffer's size, and the last
+    /// one. O(n) in the octets of the journal.
+    pub fn write_journal<K: Sink>(&self, sink: &mut K, buffer: &mut Buffer) -> Put
+        requires no_prefixes { self.now.plan.prefixes ≡ [] }
+        requires empty { buffer.old.octets ≡ [] }
+        requires room { 3401 ≤ buffer.old.room }
+        ensures done { result ≡ Put.Done → (address_text : ℕ → List ℕ) → K.written sink.new ≡ behind (K.written sink.old) (journal_text address_text self.now.plan (reverse self.now.past)) }
+        ensures later { K.faults sink.old ≤ K.faults sink.new }
+        ensures cause { result ≡ Put.Failed → Rose (K.faults sink.old) (K.faults sink.new) }
+    {
+        write_journal(&self.plan, &self.hist, sink, buffer)
+    }
+
+    /// How many entries there are, of which kinds, and what was left out. O(n) in the entries.
+    pub fn summary(&self) -> Summary
+        ensures { sum_of result ≡ summary_of self.now.past }
+    {
+        sum_up(&self.hist)
+    }
+
+    /// Whether an input was malformed. O(n) in the entries.
+    pub fn has_malformed(&self) -> bool
+        ensures { result ≡ has_malformed self.now.past }
+    {
+        has_malformed(&self.hist)
+    }
+
+    /// Whether an input ended for want of room. O(n) in the entries.
+    pub fn has_full(&self) -> bool
+        ensures { result ≡ has_full self.now.past }
+    {
+        has_full(&self.hist)
+    }
+
+    // Whether there is room for another input.
+    fn has_room(&self) -> bool
+        ensures { result ≡ has_room self.now.plan self.now.past }
+    {
+        self.hist.len() + ENTRIES_RESERVED < self.plan.entries
+            && self.hist.held() + FRAME_OCTETS_MOST as u64 <= self.plan.bytes
+    }
+
+    // Enters a frame.
+    fn frame(&mut self, port: Port, stamp: u64, octets: &[u8]) -> Stepped
+        requires { MayStep self.old (events.Frame port stamp octets.now) }
+        ensures { Did self.old (events.Frame port stamp octets.now) self.new result }
+    {
+        if !self.has_room() {
+            return Stepped::Full {
+                len: self.hist.len(),
+            };
+        }
+        let entry = self.frame_entry(port, stamp, octets);
+        let n = self.hist.len();
+        queue_frame(
+            &mut self.queues,
+            self.plan.ports.as_slice(),
+            entry.outs,
+            entry.cuts,
+            n,
+        );
+        self.moment = entry.moment;
+        self.hist.append(entry, octets);
+        Stepped::Done(entry)
+    }
+
+    // The entry of a frame.
+    fn frame_entry(&self, port: Port, stamp: u64, octets: &[u8]) -> Entry
+        requires { MayStep self.now (events.Frame port stamp octets.now) }
+        ensures { result ≡ entry_of self.now (events.Frame port stamp octets.now) }
+    {
+        let role = role_of(&self.plan, port);
+        let verdict = verdict_by(judge(role, self.plan.drop_unknown, octets));
+        let outs = self.outs(port, verdict);
+        Entry {
+            by: pass_of(&self.plan, Who::Ingress(port)),
+            moment: moment_at(self.moment, stamp),
+            act: Act::Frame {
+                port,
+                stamp,
+                at: self.hist.held(),
+                len: octets.len() as u32,
+            },
+            verdict: Some(verdict),
+            outs,
+            cuts: self.cuts(outs),
+            probes: 0,
+            lost: 0,
+        }
+    }
+
+    // The entry of a drain.
+    fn drain_entry(&self, port: Port, count: u32) -> Entry
+        ensures { result ≡ entry_of self.now (events.Drain port count) }
+    {
+        let by = pass_of(&self.plan, Who::Egress(port));
+        plain_entry(by, self.moment, Act::Drain { port, count }, None)
+    }
+
+    // Enters a frame that is too long.
+    fn long(&mut self, port: Port, stamp: u64, len: u32) -> Stepped
+        requires { MayStep self.old (events.Long port stamp len) }
+        ensures { Did self.old (events.Long port stamp len) self.new result }
+    {
+        if !self.has_room() {
+            return Stepped::Full {
+                len: self.hist.len(),
+            };
+        }
+        let entry = self.long_entry(port, stamp, len);
+        self.moment = entry.moment;
+        self.hist.append(entry, &[]);
+        Stepped::Done(entry)
+    }
+
+    // The entry of a frame that is too long.
+    fn long_entry(&self, port: Port, stamp: u64, len: u32) -> Entry
+        ensures { result ≡ entry_of self.now (events.Long port stamp len) }
+    {
+        let by = pass_of(&self.plan, Who::Ingress(port));
+        let moment = moment_at(self.moment, stamp);
+        let verdict = Verdict::Drop(Rule::Malformed);
+        plain_entry(by, moment, Act::Long { port, stamp, len }, Some(verdict))
+    }
+
+    // Enters the end of a pass.
+    fn end(&mut self, who: Who, how: How) -> Stepped
+        requires { MayStep self.old (events.End who how) }
+        ensures { Did self.old (events.End who how) self.new result }
+    {
+        let entry = self.end_entry(who, how);
+        self.closed[entry.by as usize] = true;
+        end_queue(&mut self.queues, &self.plan, who, how);
+        self.moment = entry.moment;
+        self.hist.append(entry, &[]);
+        Stepped::Done(entry)
+    }
+
+    // The entry of the end of a pass.
+    fn end_entry(&self, who: Who, how: How) -> Entry
+        ensures { result ≡ entry_of self.now (events.End who how) }
+    {
+        let by = pass_of(&self.plan, who);
+        plain_entry(by, self.moment, Act::End { who, how }, None)
+    }
+
+    // The ports to which a frame with this verdict goes.
+    fn outs(&self, port: Port, verdict: Verdict) -> PortSet
+        ensures { result ≡ outs the_vlan self.now.plan empty self.now.past (number_of port) verdict }
+    {
+        match verdict {
+            Verdict::Pass(scope) => ports_of(&self.plan, scope, port),
+            Verdict::Drop(_) => PortSet::empty(),
+        }
+    }
+
+    // Those of these ports whose queue takes nothing.
+    fn cuts(&self, outs: PortSet) -> PortSet
+        ensures { result ≡ cuts self.now.plan empty self.now.past outs }
+    {
+        let mut cuts = PortSet::empty();
+        for (place, port) in self.plan.ports.as_slice().iter().enumerate() {
+            if self.is_cut(outs, place, port.number) {
+                cuts = cuts.with(port.number);
+            }
+        }
+        cuts
+    }
+
+    // Whether a frame to these ports is left out at the port at this place.
+    fn is_cut(&self, outs: PortSet, place: usize, port: Port) -> bool
+        requires within { place < length self.now.plan.ports }
+        requires port { number_at self.now.plan place ≡ number_of port }
+        ensures { let n = number_of port in
+            result ≡ (is_member outs n && is_closed self.now.plan empty self.now.past n) }
+    {
+        outs.contains(port) && self.is_closed(place)
+    }
+
+    // Whether the port at this place takes nothing: its queue is full, or its egress has ended.
+    fn is_closed(&self, place: usize) -> bool
+        requires { place < length self.now.plan.ports }
+        ensures { result ≡ is_closed self.now.plan empty self.now.past (number_at self.now.plan place) }
+    {
+        self.queues[place].len() >= self.plan.depth
+            || self.closed[self.plan.ports.as_slice().len() + 2 + place]
+    }
+}

@@ -1,0 +1,409 @@
+//! Frames of the wire, the rules that stop them, the worked history and the limits.
+
+ghost use Rattle.std.specs.Prelude.{◌≡◌, ◌≤◌, ◌+◌, true, false, IfOk};
+ghost use Rattle.savi_kinds.specs.Ports.{number_of};
+ghost use Rattle.savi_kinds.specs.ValidPlan.{IsValidPlan, IsWithin};
+ghost use Rattle.savi_history.specs.Bases.{empty};
+ghost use Rattle.savi_history.specs.Passes.{has_port, has_pass, control_pass, AllEnded};
+ghost use Rattle.savi_history.specs.Legal.{IsOpen, MayEnd, MayEndEgress};
+
+use crate::judge::judge;
+use crate::passes::place_of;
+use crate::{Batch, Core, Event, Stepped};
+use savi_kinds::{
+    Act, Entry, Format, How, Mac, Plan, Port, PortPlan, PortPlans, PortSet, PrefixPlans, Role,
+    Rule, Scope, Text, Verdict, Who,
+};
+use std::alloc::{AllocError, Global};
+use std::process::Abort;
+use std::test::Fail;
+
+/// The frames of IEEE 802.1Q, RFC 8200, RFC 7112 and RFC 6105, each with the rule that stops it at a host's port.
+const AT_A_HOST: [(&str, &str, Option<Rule>); 15] = [
+    (
+        "thirteen octets",
+        "0200000000fe02000000001186",
+        Some(Rule::Malformed),
+    ),
+    (
+        "the last reserved group",
+        "0180c200000f0200000000110800",
+        Some(Rule::ReservedGroup),
+    ),
+    (
+        "the address behind the reserved groups",
+        "0180c20000100200000000110800",
+        None,
+    ),
+    (
+        "a group as source",
+        "0200000000110100000000fe0800",
+        Some(Rule::SourceMac),
+    ),
+    (
+        "a customer tag",
+        "0200000000fe02000000001181000001",
+        Some(Rule::Tagged),
+    ),
+    (
+        "a service tag",
+        "0200000000fe02000000001188a80001",
+        Some(Rule::Tagged),
+    ),
+    (
+        "a cut IPv6 header",
+        "0200000000fe02000000001186dd6000000000003b40fe800000000000000000000000000011fe8000000000000000000000000000",
+        Some(Rule::BadIpv6),
+    ),
+    (
+        "a cut chain in a first fragment",
+        "33330000000102000000002286dd6000000000102c4020010db8000100000000000000000022ff0200000000000000000000000000013c000001000000023a01010c00000000",
+        Some(Rule::HiddenUpper),
+    ),
+    (
+        "a later fragment",
+        "33330000000102000000002286dd6000000000102c4020010db8000100000000000000000022ff0200000000000000000000000000013c000008000000020000000000000000",
+        None,
+    ),
+    (
+        "an unknown next header",
+        "0200000000fe02000000001186dd600000000000fd40fe800000000000000000000000000011fe8000000000000000000000000000fe",
+        Some(Rule::UnknownNextHeader),
+    ),
+    (
+        "a router advertisement",
+        "33330000000102000000002286dd6000000000103afffe800000000000000000000000000022ff02000000000000000000000000000186003506400007080000000000000000",
+        Some(Rule::RouterAdvert),
+    ),
+    (
+        "one behind destination options",
+        "33330000000102000000002286dd6000000000183cfffe800000000000000000000000000022ff0200000000000000000000000000013a0001040000000086003506400007080000000000000000",
+        Some(Rule::RouterAdvert),
+    ),
+    (
+        "one in an atomic fragment",
+        "33330000000102000000002286dd6000000000182cfffe800000000000000000000000000022ff0200000000000000000000000000013a0000010000000186003506400007080000000000000000",
+        Some(Rule::RouterAdvert),
+    ),
+    (
+        "one with a hop limit of 64",
+        "33330000000102000000002286dd6000000000103a40fe800000000000000000000000000022ff02000000000000000000000000000186003506400007080000000000000000",
+        None,
+    ),
+    (
+        "a packet without an upper header",
+        "0200000000fe02000000001186dd6000000000003b40fe800000000000000000000000000011fe8000000000000000000000000000fe",
+        None,
+    ),
+];
+
+#[test]
+fn rules_stop_their_frames_at_a_host(rt: HostRuntime) -> Result<(), Fail> {
+    for (name, text, rule) in AT_A_HOST {
+        let frame = hex::decode(rt.alloc(), text)?;
+        assert_eq!(rt; judge(Role::Host, true, frame.as_slice()), rule, "{name}");
+    }
+    Ok(())
+}
+
+/// A router advertisement of a host, 70 octets (RFC 4861 section 4.2).
+const ADVERT: &str =
+    "33330000000102000000002286dd6000000000103afffe800000000000000000000000000022ff02000000000000000000000000000186003506400007080000000000000000";
+
+/// A packet without an upper header, 54 octets.
+const PACKET: &str =
+    "0200000000fe02000000001186dd6000000000003b40fe800000000000000000000000000011fe8000000000000000000000000000fe";
+
+/// What is put to the switch.
+#[derive(Clone, Copy)]
+enum Put {
+    Advert(Port, u64),
+    Packet(Port, u64),
+    Drain(Port),
+    End(Who),
+}
+
+// The port of this number.
+fn port_at(n: u8) -> Port
+    requires low { 1 ≤ n }
+    requires high { n ≤ 16 }
+    ensures { number_of result ≡ n }
+{
+    match Port::new(n) {
+        Some(port) => port,
+        None => unreachable!(),
+    }
+}
+
+// A host at port 1 and a trusted port 2, where sources aren't validated.
+fn plan_of(alloc: Global, entries: u64, bytes: u64) -> Result<Plan, AllocError>
+    requires entries { IsWithin 4131 1000000 entries }
+    requires bytes { IsWithin 1518 1073741824 bytes }
+    ensures valid { IfOk result (λ plan. IsValidPlan plan) }
+    ensures guard_only { IfOk result (λ plan. plan.savi ≡ false) }
+{
+    let mut ports = Vec::new(alloc);
+    ports.push(port_plan(alloc, port_at(1), Role::Host))?;
+    ports.push(port_plan(alloc, port_at(2), Role::Trusted))?;
+    Ok(Plan {
+        mac: Mac([2, 0, 0, 0, 0, 1]),
+        savi: false,
+        drop_unknown: true,
+        per_port: 32,
+        depth: 256,
+        entries,
+        bytes,
+        gap: 250,
+        test: 500,
+        life: 300_000,
+        control: None,
+        journal: Text::new(String::new(alloc)),
+        ports: PortPlans::new(ports),
+        prefixes: PrefixPlans::new(Vec::new(alloc)),
+    })
+}
+
+fn port_plan(alloc: Global, number: Port, role: Role) -> PortPlan
+    ensures { result.number ≡ number }
+{
+    PortPlan {
+        number,
+        role,
+        format: Format::Pcap,
+        input: Text::new(String::new(alloc)),
+        output: Text::new(String::new(alloc)),
+    }
+}
+
+// Whether a pass is one of the plan's.
+fn has_pass(plan: &Plan, who: Who) -> bool
+    ensures { result ≡ has_pass plan.now who }
+{
+    match who {
+        Who::Ingress(port) | Who::Egress(port) => has_port(plan, port),
+        Who::Control | Who::Ticker => true,
+    }
+}
+
+fn has_port(plan: &Plan, port: Port) -> bool
+    ensures { result ≡ has_port plan.now (number_of port) }
+{
+    place_of(plan, port) < plan.ports.as_slice().len()
+}
+
+// Whether a pass is one of the plan's and hasn't ended.
+fn is_open(core: &Core, who: Who) -> bool
+    ensures { result ≡ true → IsOpen core.now.plan empty core.now.past who }
+{
+    has_pass(core.plan(), who) && !core.ended(who)
+}
+
+// Whether every ingress pass and control have ended.
+fn inputs_ended(core: &Core) -> bool
+    ensures { result ≡ true → AllEnded empty (control_pass core.now.plan + 1) core.now.past }
+{
+    core.inputs_left() == 0
+}
+
+// Whether a pass may end because nothing is left to do.
+fn may_end(core: &Core, who: Who) -> bool
+    requires { has_pass core.now.plan who ≡ true }
+    ensures { result ≡ true → MayEnd core.now.plan empty core.now.past who How.End }
+{
+    match who {
+        Who::Ingress(_) | Who::Control => true,
+        Who::Ticker => inputs_ended(core),
+        Who::Egress(port) => egress_may_end(core, port),
+    }
+}
+
+fn egress_may_end(core: &Core, port: Port) -> bool
+    requires { has_port core.now.plan (number_of port) ≡ true }
+    ensures { result ≡ true → MayEndEgress core.now.plan empty core.now.past (number_of port) How.End }
+{
+    if !inputs_ended(core) {
+        return false;
+    }
+    if !core.ended(Who::Ticker) {
+        return false;
+    }
+    core.queued(port) == 0
+}
+
+// Enters a frame at a port whose ingress is open.
+fn enter_frame(rt: &impl Abort, core: &mut Core, port: Port, stamp: u64, octets: &[u8]) -> Stepped {
+    assert!(rt; is_open(core, Who::Ingress(port)));
+    assert!(rt; octets.len() <= 1518);
+    core.step(Event::Frame {
+        port,
+        stamp,
+        octets,
+    })
+}
+
+// Enters the end of a pass that may end.
+fn enter_end(rt: &impl Abort, core: &mut Core, who: Who) -> Stepped {
+    assert!(rt; is_open(core, who));
+    assert!(rt; may_end(core, who));
+    core.step(Event::End { who, how: How::End })
+}
+
+// Drains a port whose egress is open.
+fn drain(rt: &impl Abort, core: &mut Core, port: Port, batch: &mut Batch) -> Stepped {
+    assert!(rt; is_open(core, Who::Egress(port)));
+    core.drain(port, 256, batch)
+}
+
+#[test]
+fn two_captures_make_eleven_entries(rt: HostRuntime) -> Result<(), Fail> {
+    let (one, two) = (port_at(1), port_at(2));
+    let plan = plan_of(rt.alloc(), 262_144, 67_108_864)?;
+    let mut core = Core::make(rt.alloc(), plan)?;
+    let mut batch = Batch::make(rt.alloc())?;
+    let advert = hex::decode(rt.alloc(), ADVERT)?;
+    let packet = hex::decode(rt.alloc(), PACKET)?;
+    let passed = Some(Verdict::Pass(Scope::All));
+    let dropped = Some(Verdict::Drop(Rule::RouterAdvert));
+    let rows = [
+        (Put::End(Who::Control), 2, 0, end_act(Who::Control), None, 0),
+        (
+            Put::Advert(one, 1000),
+            0,
+            1000,
+            frame_act(one, 1000, 0, 70),
+            dropped,
+            0,
+        ),
+        (
+            Put::Packet(one, 1001),
+            0,
+            1001,
+            frame_act(one, 1001, 70, 54),
+            passed,
+            2,
+        ),
+        (Put::Drain(two), 5, 1001, drain_act(two), None, 0),
+        (
+            Put::End(Who::Ingress(one)),
+            0,
+            1001,
+            end_act(Who::Ingress(one)),
+            None,
+            0,
+        ),
+        (
+            Put::Advert(two, 1002),
+            1,
+            1002,
+            frame_act(two, 1002, 124, 70),
+            passed,
+            1,
+        ),
+        (Put::Drain(one), 4, 1002, drain_act(one), None, 0),
+        (
+            Put::End(Who::Ingress(two)),
+            1,
+            1002,
+            end_act(Who::Ingress(two)),
+            None,
+            0,
+        ),
+        (
+            Put::End(Who::Ticker),
+            3,
+            1002,
+            end_act(Who::Ticker),
+            None,
+            0,
+        ),
+        (
+            Put::End(Who::Egress(one)),
+            4,
+            1002,
+            end_act(Who::Egress(one)),
+            None,
+            0,
+        ),
+        (
+            Put::End(Who::Egress(two)),
+            5,
+            1002,
+            end_act(Who::Egress(two)),
+            None,
+            0,
+        ),
+    ];
+    for (what, by, moment, act, verdict, outs) in rows {
+        let want = Entry {
+            by,
+            moment,
+            act,
+            verdict,
+            outs: PortSet(outs),
+            cuts: PortSet(0),
+            probes: 0,
+            lost: 0,
+        };
+        let stepped = match what {
+            Put::Advert(port, stamp) => enter_frame(&rt, &mut core, port, stamp, &advert),
+            Put::Packet(port, stamp) => enter_frame(&rt, &mut core, port, stamp, &packet),
+            Put::Drain(port) => drain(&rt, &mut core, port, &mut batch),
+            Put::End(who) => enter_end(&rt, &mut core, who),
+        };
+        assert_eq!(rt; stepped, Stepped::Done(want));
+    }
+    assert_eq!(rt; core.len(), 11);
+    assert_eq!(rt; batch.len(), 1);
+    let (moment, octets) = batch.item(0);
+    assert_eq!(rt; moment, 1002);
+    assert_eq!(rt; octets, advert.as_slice());
+    Ok(())
+}
+
+fn end_act(who: Who) -> Act {
+    Act::End { who, how: How::End }
+}
+
+fn frame_act(port: Port, stamp: u64, at: u64, len: u32) -> Act {
+    Act::Frame {
+        port,
+        stamp,
+        at,
+        len,
+    }
+}
+
+fn drain_act(port: Port) -> Act {
+    Act::Drain { port, count: 1 }
+}
+
+#[test]
+fn limits_are_exact(rt: HostRuntime) -> Result<(), Fail> {
+    let (one, two) = (port_at(1), port_at(2));
+    let packet = hex::decode(rt.alloc(), PACKET)?;
+    let mut batch = Batch::make(rt.alloc())?;
+    // The entries and octets of a plan, and how many frames of 54 octets enter.
+    let rows = [
+        (4131, 4000, 1),
+        (4133, 4000, 3),
+        (5000, 1571, 1),
+        (5000, 1572, 2),
+    ];
+    for (entries, bytes, frames) in rows {
+        assert!(rt; entries >= 4131 && entries <= 1_000_000);
+        assert!(rt; bytes >= 1518 && bytes <= 1_073_741_824);
+        let plan = plan_of(rt.alloc(), entries, bytes)?;
+        let mut core = Core::make(rt.alloc(), plan)?;
+        for n in 0..frames {
+            let stepped = enter_frame(&rt, &mut core, one, n, &packet);
+            assert!(rt; matches!(stepped, Stepped::Done(_)));
+        }
+        let full = Stepped::Full { len: frames };
+        assert_eq!(rt; enter_frame(&rt, &mut core, one, 9, &packet), full);
+        let drained = drain(&rt, &mut core, two, &mut batch);
+        assert!(rt; matches!(drained, Stepped::Done(_)));
+        let ended = enter_end(&rt, &mut core, Who::Ingress(one));
+        assert!(rt; matches!(ended, Stepped::Done(_)));
+    }
+    Ok(())
+}
