@@ -1,0 +1,205 @@
+-- The state of a replay behind the last turn.
+use Rattle.std.proofs.Common.{◌≡◌, ℕ, zero, suc, ◌+◌, ◌<◌, ◌≤◌, true, List, [], ◌∷◌, ◌++◌, length, map, get_or, refl, sym, ap, ◌∙◌, subst, arith, ◌⊎◌, inl, inr, Option, None, IfSome}
+use Rattle.std.proofs.lemmas.Bool.{cases_lt}
+use Rattle.std.proofs.lemmas.List.{length-map, get_or-map, get_or_default, get_or_past, same_lists}
+use Rattle.std.specs.List.{All}
+use Rattle.savi_kinds.specs.declared.port.Port.{Port}
+use Rattle.savi_kinds.specs.declared.plan.Plan.{Plan}
+use Rattle.savi_kinds.specs.declared.plan.PortPlan.{PortPlan}
+use Rattle.savi_kinds.specs.declared.entry.Who.TheVariants.{Ticker}
+use Rattle.savi_kinds.specs.declared.entry.How.TheVariants as hows
+use Rattle.savi_kinds.specs.Ports.{number_of}
+use Rattle.savi_kinds.specs.Arrivals.{Input}
+use Rattle.savi_ends.specs.Octets.{behind}
+use Rattle.pcap_io.specs.Captures.{header_text}
+use Rattle.pcap_io.specs.Readers.{Comes}
+use Rattle.hist_store.specs.Rows.{Row}
+use Rattle.savi_history.specs.Bases.{empty}
+use Rattle.savi_history.specs.Passes.{AllEnded, has_ended, control_pass}
+use Rattle.savi_history.specs.Queues.{Item, sent}
+use Rattle.savi_history.specs.Events.{End}
+use Rattle.savi_history.specs.Turns.{Turn, turns, port_turns, merged}
+use Rattle.savi_history.specs.Replay.{with_event, after_all, egress_ended, control_turns}
+use Rattle.savi_history.proofs.Ends.{AreOf}
+use Rattle.savi_history.proofs.Reaching.{Head, Done, Agrees, IsLeft, AreLeft, joined, reaches_end}
+use Rattle.port_worker.specs.declared.port_ends.Ahead.{Ahead}
+use Rattle.port_worker.specs.declared.port_ends.Ahead.TheVariants as ahead
+use Rattle.port_worker.specs.declared.port_ends.PortEnds.{PortEnds}
+use Rattle.port_worker.specs.Inputs.{IsKnown, Gives, WillCome, moment_of}
+use Rattle.port_worker.specs.SentFrames.{records_of}
+use Rattle.port_worker.specs.Replays.{IsUnread, IsReplayed, ports_held, ports_planned}
+use Rattle.port_worker.proofs.Planned.{count_is}
+use Rattle.port_worker.proofs.Progress.{head_of, done_at_none, Gone, ProgressBy}
+use Rattle.port_worker.proofs.Running.{Running, head_at, element}
+
+collected_at : {X : Type 0} (n : ℕ) (P : ℕ → X → Type 0) (x : X) (xs : List X) → P 0 x → ((k : ℕ) (d : X) → k < n → P (suc k) (get_or xs k d)) → (k : ℕ) (d : X) → k < suc n → P k (get_or (x ∷ xs) k d)
+collected_at n P x xs first later zero d inside = first
+collected_at n P x xs first later (suc k) d inside = later k d (omega arith)
+
+-- a list of things, one for each place
+collect : {X : Type 0} (n : ℕ) (P : ℕ → X → Type 0) → ((k : ℕ) → k < n → (x : X) × P k x) → (xs : List X) × (length xs ≡ n) × ((k : ℕ) (d : X) → k < n → P k (get_or xs k d))
+collect zero P each = ([], refl, λ k d inside. absurd (omega arith))
+collect {X} (suc n) P each =
+    let first = each 0 (omega arith) in
+    let later = collect n (λ k x. P (suc k) x) (λ k inside. each (suc k) (omega arith)) in
+    (first.0 ∷ later.0, ap (λ (m : ℕ). suc m) later.1, collected_at n P first.0 later.0 first.1 later.2)
+
+joined_count : (taken rest : List (List Turn)) → length taken ≡ length rest → length (joined taken rest) ≡ length taken
+joined_count [] rest size = refl
+joined_count (t ∷ taken) [] size = absurd (omega arith)
+joined_count (t ∷ taken) (r ∷ rest) size = ap (λ (n : ℕ). suc n) (joined_count taken rest (omega arith))
+
+joined_at : (taken rest : List (List Turn)) (k : ℕ) (d : List Turn) → length taken ≡ length rest → k < length taken → get_or (joined taken rest) k d ≡ get_or taken k [] ++ get_or rest k []
+joined_at [] rest k d size inside = absurd (omega arith)
+joined_at (t ∷ taken) [] k d size inside = absurd (omega arith)
+joined_at (t ∷ taken) (r ∷ rest) zero d size inside = refl
+joined_at (t ∷ taken) (r ∷ rest) (suc k) d size inside = joined_at taken rest k d (omega arith) (omega arith)
+
+port_turns_count : (plans : List PortPlan) (inputs : List Input) → length inputs ≡ length plans → length (port_turns plans inputs) ≡ length plans
+port_turns_count [] inputs size = refl
+port_turns_count (p ∷ plans) [] size = absurd (omega arith)
+port_turns_count (p ∷ plans) (i ∷ inputs) size = ap (λ (n : ℕ). suc n) (port_turns_count plans inputs (omega arith))
+
+port_turns_at : (plans : List PortPlan) (inputs : List Input) (k : ℕ) (d : List Turn) (port : Port) (i : Input) → length inputs ≡ length plans → k < length plans → get_or (port_turns plans inputs) k d ≡ turns (get_or (map (λ p. p.number) plans) k port) (get_or inputs k i)
+port_turns_at [] inputs k d port i size inside = absurd (omega arith)
+port_turns_at (p ∷ plans) [] k d port i size inside = absurd (omega arith)
+port_turns_at (p ∷ plans) (j ∷ inputs) zero d port i size inside = refl
+port_turns_at (p ∷ plans) (j ∷ inputs) (suc k) d port i size inside = port_turns_at plans inputs k d port i (omega arith) (omega arith)
+
+all_done : (o : List (Option ℕ)) → All (λ n. n ≡ None) o → (k : ℕ) → k < length o → get_or o k None ≡ None
+all_done o none k inside = none k None inside
+
+module _ {S K C : Type 0} (left : S → Option (List ℕ)) (written : K → Option (List ℕ)) (source_faults : S → ℕ) (sink_faults : K → ℕ) (plan : Plan) (first ports : List (PortEnds S K C)) (past : List Row)
+    (planned : ports_held first ≡ ports_planned plan) (r : Running left written source_faults sink_faults plan first ports past) (known : All (λ p. IsKnown p.ahead) ports) (none : All (λ n. n ≡ None) (map moment_of ports)) where
+  done_at : (k : ℕ) (d : PortEnds S K C) → k < length ports → (get_or ports k d).ahead ≡ ahead.Done
+  done_at k d inside =
+      let sizes = length-map ports moment_of in
+      done_at_none (get_or ports k d).ahead (known k d inside) (sym (get_or-map moment_of ports k d None inside) ∙ none k None (omega arith))
+
+  heads_done : (k : ℕ) → k < length (map head_of ports) → get_or (map head_of ports) k Done ≡ Done
+  heads_done k inside =
+      let sizes = length-map ports head_of in
+      let within : k < length ports = omega arith in
+      let d = element ports k within in
+      rw (head_at ports k d Done within, done_at k d within) refl
+
+  size_now : length ports ≡ length plan.ports
+  size_now = r.later.size ∙ count_is first plan planned
+
+  ended_at : (pass : ℕ) → pass < control_pass plan + 1 → (pass < length ports) ⊎ (length ports ≤ pass) → has_ended empty pass past ≡ true
+  ended_at pass below (inl inside) =
+      let sizes = length-map ports head_of in
+      subst (λ (h : Head). Agrees empty past pass h) (heads_done pass (omega arith)) (r.agree pass (omega arith))
+  ended_at pass below (inr outside) =
+      let size = size_now in
+      let same : pass ≡ control_pass plan = omega arith in
+      rw same r.control
+
+  pub inputs_ended : AllEnded empty (control_pass plan + 1) past
+  inputs_ended pass below = ended_at pass below (cases_lt pass (length ports))
+
+  -- the whole input of a port
+  record Whole (k : ℕ) (both : Input × List Turn) : Type 0 where
+    of : AreOf plan k both.1
+    split : (d : PortEnds S K C) → get_or r.taken k [] ++ both.1 ≡ turns (get_or first k d).port both.0
+    came : (d : PortEnds S K C) → WillCome left (get_or first k d) both.0
+
+  whole_at : (k : ℕ) → k < length first → (both : Input × List Turn) × Whole k both
+  whole_at k inside =
+      let size = r.later.size in
+      let d = element first k inside in
+      let gone : Gone left plan k (get_or first k d) (get_or r.taken k []) =
+      subst (λ (a : Ahead). ProgressBy left plan k (get_or first k d) (get_or ports k d) (get_or r.taken k []) a) (done_at k d (omega arith)) (r.progress k d inside) in (
+        (gone.input, gone.rest),
+        record {
+          of = gone.of;
+          split = λ e. subst (λ (p : PortEnds S K C). get_or r.taken k [] ++ gone.rest ≡ turns p.port gone.input) (get_or_default first k d e inside) gone.split;
+          came = λ e. subst (λ (p : PortEnds S K C). WillCome left p gone.input) (get_or_default first k d e inside) gone.came;
+        },
+      )
+
+  wholes : (xs : List (Input × List Turn)) × (length xs ≡ length first) × ((k : ℕ) (d : Input × List Turn) → k < length first → Whole k (get_or xs k d))
+  wholes = collect (length first) Whole whole_at
+
+  pub inputs_of : List Input
+  inputs_of = map (λ (b : Input × List Turn). b.0) wholes.0
+
+  rests : List (List Turn)
+  rests = map (λ (b : Input × List Turn). b.1) wholes.0
+
+  inputs_count : length inputs_of ≡ length first
+  unfolding inputs_of
+  inputs_count = length-map wholes.0 (λ (b : Input × List Turn). b.0) ∙ wholes.1
+
+  rests_count : length rests ≡ length first
+  unfolding rests
+  rests_count = length-map wholes.0 (λ (b : Input × List Turn). b.1) ∙ wholes.1
+
+  both_default : Input × List Turn
+  both_default = (record { arrivals = []; ending = hows.End }, [])
+
+  input_at : (k : ℕ) (i : Input) → k < length first → get_or inputs_of k i ≡ (get_or wholes.0 k both_default).0
+  unfolding inputs_of
+  input_at k i inside = let size = wholes.1 in get_or-map (λ (b : Input × List Turn). b.0) wholes.0 k both_default i (omega arith)
+
+  rest_at : (k : ℕ) → k < length first → get_or rests k [] ≡ (get_or wholes.0 k both_default).1
+  unfolding rests
+  rest_at k inside = let size = wholes.1 in get_or-map (λ (b : Input × List Turn). b.1) wholes.0 k both_default [] (omega arith)
+
+  of_at : (k : ℕ) → (k < length first) ⊎ (length first ≤ k) → AreOf plan k (get_or rests k [])
+  of_at k (inl inside) = rw (rest_at k inside) (wholes.2 k both_default inside).of
+  of_at k (inr outside) = let size = rests_count in rw (get_or_past rests k [] (omega arith)) tt
+
+  left_at : (k : ℕ) → (k < length (map head_of ports)) ⊎ (length (map head_of ports) ≤ k) → IsLeft (get_or (map head_of ports) k Done) (get_or rests k [])
+  left_at k (inl inside) = rw (heads_done k inside) tt
+  left_at k (inr outside) = rw (get_or_past (map head_of ports) k Done outside) tt
+
+  rests_left : AreLeft plan (map head_of ports) rests
+  rests_left =
+      let size = r.later.size in
+      let sizes = length-map ports head_of in
+      let count = rests_count in
+      record {
+        size = omega arith;
+        of = λ k. of_at k (cases_lt k (length first));
+        each = λ k. left_at k (cases_lt k (length (map head_of ports)));
+      }
+
+  port_at : (k : ℕ) (d : PortEnds S K C) → k < length first → get_or (ports_planned plan) k d.port ≡ (get_or first k d).port
+  port_at k d inside = ap (λ (l : List Port). get_or l k d.port) (sym planned) ∙ get_or-map (λ (p : PortEnds S K C). p.port) first k d d.port inside
+
+  turns_are : joined r.taken rests ≡ port_turns plan.ports inputs_of
+  turns_are =
+      let count = count_is first plan planned in
+      let rests_size = rests_count in
+      let inputs_size = inputs_count in
+      let taken_size = r.taken_size in
+      let count_joined = joined_count r.taken rests (omega arith) in
+      let count_turns = port_turns_count plan.ports inputs_of (omega arith) in
+      same_lists (joined r.taken rests) (port_turns plan.ports inputs_of) (omega arith) (λ k d inside.
+      let within : k < length first = omega arith in
+      let e = element first k within in
+      joined_at r.taken rests k d (omega arith) (omega arith)
+      ∙ ap (λ (l : List Turn). get_or r.taken k [] ++ l) (rest_at k within)
+      ∙ (wholes.2 k both_default within).split e
+      ∙ ap (λ (i : Input). turns (get_or first k e).port i) (sym (input_at k both_default.0 within))
+      ∙ ap (λ (p : Port). turns p (get_or inputs_of k both_default.0)) (sym (port_at k e within))
+      ∙ sym (port_turns_at plan.ports inputs_of k d e.port both_default.0 (omega arith) (omega arith)))
+
+  past_is : past ≡ after_all plan empty (merged (control_turns ∷ port_turns plan.ports inputs_of)) []
+  past_is =
+      reaches_end plan empty (map head_of ports) r.taken past rests heads_done r.agree rests_left r.reaches
+      ∙ ap (λ (l : List (List Turn)). after_all plan empty (merged (control_turns ∷ l)) []) turns_are
+
+  pub replayed_all : (now : List Row) → All IsUnread first → now ≡ egress_ended plan empty plan.ports (with_event plan empty past (End Ticker hows.End)) → ((q : ℕ) → sent empty q now ≡ sent empty q past) → IsReplayed left written plan now first ports
+  replayed_all now unread finished same = record {
+    inputs = inputs_of;
+    size = inputs_count;
+    history = finished ∙ ap (λ (l : List Row). egress_ended plan empty plan.ports (with_event plan empty l (End Ticker hows.End))) past_is;
+    arrived = λ k d i inside.
+        let p = get_or first k d in
+        subst (λ (input : Input). IfSome (left p.ends.source) (λ octets. Comes p.reader octets input)) (sym (input_at k i inside))
+        (subst (λ (a : Ahead). IfSome (left p.ends.source) (λ octets. Gives p.reader p.buf a octets (get_or wholes.0 k both_default).0)) (unread k d inside).0 ((wholes.2 k both_default inside).came d));
+    wrote = λ k d inside.
+        r.wrote k d inside ∙ ap (λ (l : List Item). behind (written (get_or first k d).ends.sink) (header_text ++ records_of l)) (sym (same (number_of (get_or first k d).port)));
+  }

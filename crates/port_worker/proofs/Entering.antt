@@ -1,0 +1,46 @@
+-- The turn of a port, entered.
+use Rattle.std.proofs.Common.{◌≡◌, ℕ, Bool, true, false, length, refl, sym, ap, ◌∙◌, subst}
+use Rattle.savi_kinds.specs.declared.port.Port.{Port}
+use Rattle.savi_kinds.specs.declared.entry.Who.TheVariants.{Ingress}
+use Rattle.savi_kinds.specs.declared.entry.How.TheVariants as hows
+use Rattle.savi_kinds.specs.Arrivals.{Arrival}
+use Rattle.savi_kinds.specs.Arrivals as arrivals
+use Rattle.savi_history.specs.Bases.{empty}
+use Rattle.savi_history.specs.Limits.{has_room}
+use Rattle.savi_history.specs.Events.{End}
+use Rattle.savi_history.specs.Turns.{Arrives}
+use Rattle.savi_history.specs.Replay as replay
+use Rattle.savi_core.specs.Machines.{Machine, with_event}
+use Rattle.savi_core.specs.Steps.{Did, HasRoomFor, HasNoRoomFor}
+use Rattle.savi_core.specs.declared.event.Stepped.{Stepped}
+use Rattle.savi_core.specs.declared.event.Stepped.TheVariants as stepped
+use Rattle.port_worker.specs.Steps.{Enters, IfFull, IfDone}
+
+room : (m : Machine) (port : Port) (arrival : Arrival) → HasRoomFor m (replay.event_of port arrival) → has_room m.plan m.past ≡ true
+room m port (arrivals.Frame stamp octets) has = has
+room m port (arrivals.Long stamp len) has = has
+
+no_room : (m : Machine) (port : Port) (arrival : Arrival) → HasNoRoomFor m (replay.event_of port arrival) → has_room m.plan m.past ≡ false
+no_room m port (arrivals.Frame stamp octets) has = has
+no_room m port (arrivals.Long stamp len) has = has
+
+module _ (old mid new : Machine) (port : Port) (arrival : Arrival) where
+  entered_done : (result : Bool) → HasRoomFor old (replay.event_of port arrival) → mid ≡ with_event old (replay.event_of port arrival) → result ≡ true → new ≡ mid → Enters old.plan port (Arrives port arrival) old.past result new.past
+  entered_done result has mid_is answer same =
+      subst (λ (b : Bool). Enters old.plan port (Arrives port arrival) old.past b new.past) (sym answer)
+      (arrival, refl, room old port arrival has, ap (λ (m : Machine). m.past) (same ∙ mid_is))
+
+  entered_full : (result : Bool) (len : ℕ) → HasNoRoomFor old (replay.event_of port arrival) → mid ≡ old → len ≡ length old.past → result ≡ false → new ≡ with_event mid (End (Ingress port) (hows.Full len)) → Enters old.plan port (Arrives port arrival) old.past result new.past
+  entered_full result len has mid_is len_is answer made =
+      let past_is : new.past ≡ replay.with_event old.plan empty old.past (End (Ingress port) (hows.Full len)) =
+      ap (λ (m : Machine). m.past) (made ∙ ap (λ (m : Machine). with_event m (End (Ingress port) (hows.Full len))) mid_is) in
+      subst (λ (b : Bool). Enters old.plan port (Arrives port arrival) old.past b new.past) (sym answer)
+      (hows.Full len, past_is, rw (no_room old port arrival has) (past_is ∙ ap (λ (n : ℕ). replay.with_event old.plan empty old.past (End (Ingress port) (hows.Full n))) len_is), rw (no_room old port arrival has) refl)
+
+  pub entered_arrival : (R Q : Type 0) (result : Bool) (answer : Stepped) → Did old (replay.event_of port arrival) mid answer
+      → IfFull answer (λ len. (result ≡ false) × (new ≡ with_event mid (End (Ingress port) (hows.Full len))) × R)
+      → IfDone answer ((result ≡ true) × (new ≡ mid) × Q)
+      → Enters old.plan port (Arrives port arrival) old.past result new.past
+  entered_arrival R Q result (stepped.Done entry) did full done = entered_done result did.0 did.1 done.0 done.1
+  entered_arrival R Q result (stepped.Full len) did full done = entered_full result len did.0 did.1 did.2 full.0 full.1
+  entered_arrival R Q result stepped.Nothing did full done = absurd did

@@ -1,0 +1,16 @@
+pub mod SoFar
+pub mod FirstOf
+pub mod Looks
+pub mod Entering
+pub mod Records
+pub mod Planned
+pub mod Draining
+pub mod Advancing
+pub mod Finishing
+pub mod Entered
+pub mod Progress
+pub mod Measures
+pub mod Running
+pub mod Stepping
+pub mod Starting
+pub mod Ending

@@ -1,0 +1,197 @@
+-- The state of a replay between two turns.
+use Rattle.std.proofs.Common.{◌≡◌, ℕ, ◌<◌, ◌≤◌, true, false, List, [], ◌∷◌, length, map, get_or, refl, sym, ap, ◌∙◌, subst, arith, ◌⊎◌, inl, inr, Option}
+use Rattle.std.proofs.lemmas.Bool.{cases_lt}
+use Rattle.std.proofs.lemmas.List.{length-map, get_or-map, get_or_past}
+use Rattle.std.specs.List.{All}
+use Rattle.savi_kinds.specs.declared.port.Port.{Port}
+use Rattle.savi_kinds.specs.declared.plan.Plan.{Plan}
+use Rattle.savi_kinds.specs.Ports.{number_of}
+use Rattle.savi_ends.specs.Octets.{behind}
+use Rattle.hist_store.specs.Rows.{Row}
+use Rattle.savi_history.specs.Bases.{empty}
+use Rattle.savi_history.specs.Passes.{has_ended, control_pass}
+use Rattle.savi_history.specs.Queues.{queue}
+use Rattle.savi_history.specs.Turns.{Turn, turns}
+use Rattle.savi_history.proofs.PassNumbers.{number_at}
+use Rattle.savi_history.proofs.Reaching.{Head, Unread, Known, Done, IsLeft, AreLeft, AllRead, AllAgree, Agrees, Reaches, joined, reaches_start, reaches_take}
+use Rattle.savi_history.proofs.Reaching as reaching
+use Rattle.port_worker.specs.declared.port_ends.Ahead.{Ahead}
+use Rattle.port_worker.specs.declared.port_ends.Ahead.TheVariants as ahead
+use Rattle.port_worker.specs.declared.port_ends.PortEnds.{PortEnds}
+use Rattle.port_worker.specs.Pairs.{EachPair}
+use Rattle.port_worker.specs.Inputs.{IsSound, IsKnown, IsLooked, moment_of}
+use Rattle.port_worker.specs.SentFrames.{capture_of}
+use Rattle.port_worker.specs.Replays.{IsLater}
+use Rattle.port_worker.proofs.Measures.{weight, undone, undone_same}
+use Rattle.port_worker.proofs.Progress.{head_of, head_ahead, moment_same, read_known, Goes, Progress, ProgressBy}
+
+pub record Running {S K C : Type 0} (left : S → Option (List ℕ)) (written : K → Option (List ℕ)) (source_faults : S → ℕ) (sink_faults : K → ℕ) (plan : Plan) (first ports : List (PortEnds S K C)) (past : List Row) : Type 0 where
+  pub later : EachPair (IsLater source_faults sink_faults) first ports
+  pub sound : (k : ℕ) (d : PortEnds S K C) → k < length first → IsSound (get_or ports k d).reader (get_or ports k d).ahead
+  pub taken : List (List Turn)
+  pub taken_size : length taken ≡ length first
+  pub reaches : Reaches plan empty (map head_of ports) taken past
+  pub agree : AllAgree empty past (map head_of ports)
+  pub progress : (k : ℕ) (d : PortEnds S K C) → k < length first → Progress left plan k (get_or first k d) (get_or ports k d) (get_or taken k [])
+  pub control : has_ended empty (control_pass plan) past ≡ true
+  pub outputs : (pass : ℕ) → control_pass plan < pass → has_ended empty pass past ≡ false
+  pub quiet : (k : ℕ) → k < length plan.ports → queue empty (number_at plan k) past ≡ []
+  pub wrote : (k : ℕ) (d : PortEnds S K C) → k < length first → written (get_or ports k d).ends.sink ≡ behind (written (get_or first k d).ends.sink) (capture_of (number_of (get_or first k d).port) past)
+
+-- the head of the port at a place
+pub head_at : {S K C : Type 0} (ports : List (PortEnds S K C)) (k : ℕ) (d : PortEnds S K C) (h : Head) → k < length ports → get_or (map head_of ports) k h ≡ head_of (get_or ports k d)
+head_at ports k d h inside = get_or-map head_of ports k d h inside
+
+pub element : {X : Type 0} (xs : List X) (k : ℕ) → k < length xs → X
+element [] k inside = absurd (omega arith)
+element (x ∷ xs) k inside = x
+
+pub moments_same : {S K C : Type 0} (ports : List (PortEnds S K C)) → map reaching.moment_of (map head_of ports) ≡ map moment_of ports
+moments_same [] = refl
+moments_same (p ∷ ports) = ap (λ (o : Option ℕ). o ∷ map reaching.moment_of (map head_of ports)) (moment_same p.port p.buf p.ahead) ∙ ap (λ (l : List (Option ℕ)). moment_of p ∷ l) (moments_same ports)
+
+pub all_read : {S K C : Type 0} (ports : List (PortEnds S K C)) → All (λ p. IsKnown p.ahead) ports → AllRead (map head_of ports)
+all_read ports known k inside =
+    let size = length-map ports head_of in
+    let within : k < length ports = omega arith in
+    let d = element ports k within in
+    rw (head_at ports k d Done within) (read_known (get_or ports k d).port (get_or ports k d).buf (get_or ports k d).ahead (known k d within))
+
+-- what holds of an input that is done, and of one that isn't
+abbrev pub IsOpenAs : List Row → ℕ → Ahead → Type 0
+IsOpenAs past k a = (a ≡ ahead.Done → has_ended empty k past ≡ true) × ((a ≡ ahead.Done → ⊥) → has_ended empty k past ≡ false)
+
+pub agrees_from : (past : List Row) (k : ℕ) (port : Port) (buf : List ℕ) (a : Ahead) → IsOpenAs past k a → Agrees empty past k (head_ahead port buf a)
+agrees_from past k port buf ahead.Unread is = is.1 (λ same. cc)
+agrees_from past k port buf (ahead.Frame stamp len) is = is.1 (λ same. cc)
+agrees_from past k port buf (ahead.Long stamp len) is = is.1 (λ same. cc)
+agrees_from past k port buf ahead.End is = is.1 (λ same. cc)
+agrees_from past k port buf (ahead.Malformed at) is = is.1 (λ same. cc)
+agrees_from past k port buf ahead.Done is = is.0 refl
+
+pub agrees_as : (past : List Row) (k : ℕ) (port : Port) (buf : List ℕ) (a : Ahead) → Agrees empty past k (head_ahead port buf a) → IsOpenAs past k a
+agrees_as past k port buf ahead.Unread is = (λ same. cc, λ other. is)
+agrees_as past k port buf (ahead.Frame stamp len) is = (λ same. cc, λ other. is)
+agrees_as past k port buf (ahead.Long stamp len) is = (λ same. cc, λ other. is)
+agrees_as past k port buf ahead.End is = (λ same. cc, λ other. is)
+agrees_as past k port buf (ahead.Malformed at) is = (λ same. cc, λ other. is)
+agrees_as past k port buf ahead.Done is = (λ same. is, λ other. absurd (other refl))
+
+pub agrees_same : (past now : List Row) (k : ℕ) (h : Head) → has_ended empty k now ≡ has_ended empty k past → Agrees empty past k h → Agrees empty now k h
+agrees_same past now k Unread same is = same ∙ is
+agrees_same past now k (Known turn) same is = same ∙ is
+agrees_same past now k Done same is = same ∙ is
+
+-- the turns that may be left where more is known may be left where less is
+left_less : {S K C : Type 0} (p q : PortEnds S K C) (a : Ahead) (turns : List Turn) → p.ahead ≡ a → (IsKnown p.ahead → q ≡ p) → IsLeft (head_of q) turns → IsLeft (head_ahead p.port p.buf a) turns
+left_less p q ahead.Unread turns is same there = tt
+left_less {S} {K} {C} p q (ahead.Frame stamp len) turns is same there = subst (λ (b : Ahead). IsLeft (head_ahead p.port p.buf b) turns) is (subst (λ (r : PortEnds S K C). IsLeft (head_of r) turns) (same (subst IsKnown (sym is) tt)) there)
+left_less {S} {K} {C} p q (ahead.Long stamp len) turns is same there = subst (λ (b : Ahead). IsLeft (head_ahead p.port p.buf b) turns) is (subst (λ (r : PortEnds S K C). IsLeft (head_of r) turns) (same (subst IsKnown (sym is) tt)) there)
+left_less {S} {K} {C} p q ahead.End turns is same there = subst (λ (b : Ahead). IsLeft (head_ahead p.port p.buf b) turns) is (subst (λ (r : PortEnds S K C). IsLeft (head_of r) turns) (same (subst IsKnown (sym is) tt)) there)
+left_less {S} {K} {C} p q (ahead.Malformed at) turns is same there = subst (λ (b : Ahead). IsLeft (head_ahead p.port p.buf b) turns) is (subst (λ (r : PortEnds S K C). IsLeft (head_of r) turns) (same (subst IsKnown (sym is) tt)) there)
+left_less p q ahead.Done turns is same there = tt
+
+goes_by : {S K C : Type 0} (left : S → Option (List ℕ)) (plan : Plan) (k : ℕ) (old new : PortEnds S K C) (taken : List Turn) (a : Ahead) → (a ≡ ahead.Done → ⊥) → Goes left old new taken → ProgressBy left plan k old new taken a
+goes_by left plan k old new taken ahead.Unread other goes = goes
+goes_by left plan k old new taken (ahead.Frame stamp len) other goes = goes
+goes_by left plan k old new taken (ahead.Long stamp len) other goes = goes
+goes_by left plan k old new taken ahead.End other goes = goes
+goes_by left plan k old new taken (ahead.Malformed at) other goes = goes
+goes_by left plan k old new taken ahead.Done other goes = absurd (other refl)
+
+progress_known : {S K C : Type 0} (left : S → Option (List ℕ)) (plan : Plan) (k : ℕ) (old p q : PortEnds S K C) (taken : List Turn) (a : Ahead) → p.ahead ≡ a → IsKnown a → (IsKnown p.ahead → q ≡ p) → Progress left plan k old p taken → Progress left plan k old q taken
+progress_known {S} {K} {C} left plan k old p q taken a is known same progress = subst (λ (r : PortEnds S K C). Progress left plan k old r taken) (sym (same (subst IsKnown (sym is) known))) progress
+
+progress_look : {S K C : Type 0} (left : S → Option (List ℕ)) (source_faults : S → ℕ) (plan : Plan) (k : ℕ) (old p q : PortEnds S K C) (taken : List Turn) (a : Ahead) → p.ahead ≡ a → IsLooked left source_faults p q → IsKnown q.ahead → Progress left plan k old p taken → Progress left plan k old q taken
+progress_look left source_faults plan k old p q taken ahead.Unread is looked known progress =
+    let goes : Goes left old p taken = subst (λ (b : Ahead). ProgressBy left plan k old p taken b) is progress in
+    goes_by left plan k old q taken q.ahead (λ done. let e = looked.done done in cc)
+    (record { before = goes.before; taken_is = goes.taken_is; comes = λ input will. goes.comes input (looked.comes known input will) })
+progress_look left source_faults plan k old p q taken (ahead.Frame stamp len) is looked known progress = progress_known left plan k old p q taken (ahead.Frame stamp len) is tt looked.same progress
+progress_look left source_faults plan k old p q taken (ahead.Long stamp len) is looked known progress = progress_known left plan k old p q taken (ahead.Long stamp len) is tt looked.same progress
+progress_look left source_faults plan k old p q taken ahead.End is looked known progress = progress_known left plan k old p q taken ahead.End is tt looked.same progress
+progress_look left source_faults plan k old p q taken (ahead.Malformed at) is looked known progress = progress_known left plan k old p q taken (ahead.Malformed at) is tt looked.same progress
+progress_look left source_faults plan k old p q taken ahead.Done is looked known progress = progress_known left plan k old p q taken ahead.Done is tt looked.same progress
+
+done_both : {S K C : Type 0} (left : S → Option (List ℕ)) (source_faults : S → ℕ) (p q : PortEnds S K C) → IsLooked left source_faults p q → p.ahead ≡ ahead.Done → q.ahead ≡ ahead.Done
+done_both {S} {K} {C} left source_faults p q looked is = ap (λ (r : PortEnds S K C). r.ahead) (looked.same (subst IsKnown (sym is) tt)) ∙ is
+
+module _ {S K C : Type 0} (left : S → Option (List ℕ)) (written : K → Option (List ℕ)) (source_faults : S → ℕ) (sink_faults : K → ℕ) (plan : Plan) (first : List (PortEnds S K C)) where
+  abbrev Runs : List (PortEnds S K C) → List Row → Type 0
+  Runs ports past = Running left written source_faults sink_faults plan first ports past
+
+  module _ (ports new : List (PortEnds S K C)) (past : List Row) (r : Runs ports past) (looked : EachPair (IsLooked left source_faults) ports new) (known : All (λ p. IsKnown p.ahead) new) where
+    size_ports : length ports ≡ length first
+    size_ports = r.later.size
+
+    left_at : (rest : List (List Turn)) (k : ℕ) → AreLeft plan (map head_of new) rest → (k < length ports) ⊎ (length ports ≤ k) → IsLeft (get_or (map head_of ports) k Done) (get_or rest k [])
+    left_at rest k there (inl inside) =
+        let d = element ports k inside in
+        let size = looked.size in
+        rw (head_at ports k d Done inside)
+        (left_less (get_or ports k d) (get_or new k d) (get_or ports k d).ahead (get_or rest k []) refl (looked.each k d inside).same
+        (subst (λ (h : Head). IsLeft h (get_or rest k [])) (head_at new k d Done (omega arith)) (there.each k)))
+    left_at rest k there (inr outside) = let size = length-map ports head_of in rw (get_or_past (map head_of ports) k Done (omega arith)) tt
+
+    agree_at : (k : ℕ) → k < length (map head_of new) → Agrees empty past k (get_or (map head_of new) k Done)
+    agree_at k inside =
+        let size_new = length-map new head_of in
+        let size = looked.size in
+        let within : k < length ports = omega arith in
+        let d = element ports k within in
+        let p = get_or ports k d in
+        let q = get_or new k d in
+        let look = looked.each k d within in
+        let size_old = length-map ports head_of in
+        let was : IsOpenAs past k p.ahead = agrees_as past k p.port p.buf p.ahead (subst (λ (h : Head). Agrees empty past k h) (head_at ports k d Done within) (r.agree k (omega arith))) in
+        rw (head_at new k d Done (omega arith))
+        (agrees_from past k q.port q.buf q.ahead ((λ done. was.0 (look.done done)), (λ other. was.1 (λ done. other (done_both left source_faults p q look done)))))
+
+    pub look_step : Runs new past
+    look_step = record {
+      later = record {
+        size = looked.size ∙ r.later.size;
+        each = λ k d inside.
+            let look = looked.each k d (omega (arith, size_ports)) in
+            let was = r.later.each k d inside in
+            record { port = look.port ∙ was.port; source = omega (arith, look.later, was.source); sink = rw look.sink was.sink };
+      };
+      sound = λ k d inside. (looked.each k d (omega (arith, size_ports))).sound (known k d (omega (arith, size_ports, looked.size)));
+      taken = r.taken;
+      taken_size = r.taken_size;
+      reaches = λ rest there.
+          let sizes = length-map ports head_of in
+          let sizes_new = length-map new head_of in
+          let size = looked.size in
+          let there_size = there.size in
+          r.reaches rest (record { size = omega arith; of = there.of; each = λ k. left_at rest k there (cases_lt k (length ports)) });
+      agree = agree_at;
+      progress = λ k d inside. let within : k < length ports = omega (arith, size_ports) in
+          progress_look left source_faults plan k (get_or first k d) (get_or ports k d) (get_or new k d) (get_or r.taken k []) (get_or ports k d).ahead refl (looked.each k d within) (known k d (omega (arith, looked.size))) (r.progress k d inside);
+      control = r.control;
+      outputs = r.outputs;
+      quiet = r.quiet;
+      wrote = λ k d inside. rw (looked.each k d (omega (arith, size_ports))).sink (r.wrote k d inside);
+    }
+
+    weight_open : (a : Ahead) → (a ≡ ahead.Done → ⊥) → weight a ≡ 1
+    weight_open ahead.Unread other = refl
+    weight_open (ahead.Frame stamp len) other = refl
+    weight_open (ahead.Long stamp len) other = refl
+    weight_open ahead.End other = refl
+    weight_open (ahead.Malformed at) other = refl
+    weight_open ahead.Done other = absurd (other refl)
+
+    weight_kept : (k : ℕ) (d : PortEnds S K C) → k < length ports → (p : Ahead) → (get_or ports k d).ahead ≡ p → IsKnown p → weight (get_or new k d).ahead ≡ weight p
+    weight_kept k d inside p is known_p = ap (λ (q : PortEnds S K C). weight q.ahead) ((looked.each k d inside).same (subst IsKnown (sym is) known_p)) ∙ ap weight is
+
+    weight_look : (k : ℕ) (d : PortEnds S K C) → k < length ports → (p : Ahead) → (get_or ports k d).ahead ≡ p → weight (get_or new k d).ahead ≡ weight p
+    weight_look k d inside ahead.Unread is = weight_open (get_or new k d).ahead (λ done. let e = (looked.each k d inside).done done in cc)
+    weight_look k d inside (ahead.Frame stamp len) is = weight_kept k d inside (ahead.Frame stamp len) is tt
+    weight_look k d inside (ahead.Long stamp len) is = weight_kept k d inside (ahead.Long stamp len) is tt
+    weight_look k d inside ahead.End is = weight_kept k d inside ahead.End is tt
+    weight_look k d inside (ahead.Malformed at) is = weight_kept k d inside (ahead.Malformed at) is tt
+    weight_look k d inside ahead.Done is = weight_kept k d inside ahead.Done is tt
+
+    pub look_undone : undone new ≡ undone ports
+    look_undone = undone_same ports new looked.size (λ k d inside. weight_look k d inside (get_or ports k d).ahead refl)

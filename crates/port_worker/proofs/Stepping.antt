@@ -1,0 +1,294 @@
+-- One turn of a replay.
+use Rattle.std.proofs.Common.{◌≡◌, ◌≢◌, ℕ, ◌+◌, ◌-◌, ◌<◌, ◌≤◌, Bool, true, false, List, [], ◌∷◌, ◌++◌, length, map, get_or, set, refl, sym, ap, ◌∙◌, subst, arith, ◌⊎◌, inl, inr, Option, Some, None, IfSome, IsSome}
+use Rattle.std.proofs.lemmas.Bool.{cases_eq}
+use Rattle.std.proofs.lemmas.List.{length-map, length-set, get_or-map, get_or-set_same, get_or-set_other, get_or_default, ext_get_or}
+use Rattle.std.specs.List.{All}
+use Rattle.std.specs.List.Sorted.{IsStrictlyIncreasing}
+use Rattle.savi_kinds.specs.declared.port.Port.{Port}
+use Rattle.savi_kinds.specs.declared.plan.Plan.{Plan}
+use Rattle.savi_kinds.specs.declared.entry.Who.TheVariants.{Ingress}
+use Rattle.savi_kinds.specs.declared.entry.How.{How}
+use Rattle.savi_kinds.specs.declared.entry.How.TheVariants as hows
+use Rattle.savi_kinds.specs.Ports.{number_of}
+use Rattle.savi_kinds.specs.ValidPlan.{numbers_of}
+use Rattle.savi_ends.specs.Octets.{behind}
+use Rattle.pcap_io.specs.Readers.{State}
+use Rattle.hist_store.specs.Rows.{Row}
+use Rattle.savi_history.specs.Bases.{empty}
+use Rattle.savi_history.specs.Passes.{has_ended, pass_of, place_of, control_pass}
+use Rattle.savi_history.specs.Turns.{Turn, Ends, who_of}
+use Rattle.savi_history.specs.Picks.{IsLeast}
+use Rattle.savi_history.specs.Replay.{entered}
+use Rattle.savi_history.proofs.Ends.{after_open}
+use Rattle.savi_history.proofs.PassNumbers.{place_at}
+use Rattle.savi_history.proofs.Reaching.{Head, Unread, Known, Done, Agrees, Reaches, reaches_take}
+use Rattle.savi_history.proofs.Reaching as reaching
+use Rattle.port_worker.specs.declared.port_ends.Ahead.{Ahead}
+use Rattle.port_worker.specs.declared.port_ends.Ahead.TheVariants as ahead
+use Rattle.port_worker.specs.declared.port_ends.PortEnds.{PortEnds}
+use Rattle.port_worker.specs.Pairs.{EachPair}
+use Rattle.port_worker.specs.Inputs.{IsSound, IsReadable, IsKnown, turn_of, turn_ahead, moment_of}
+use Rattle.port_worker.specs.SentFrames.{capture_of, IsSent}
+use Rattle.port_worker.specs.Steps.{IsStepped, ends_input, ahead_after}
+use Rattle.port_worker.specs.Replays.{ports_held, ports_planned}
+use Rattle.port_worker.proofs.Planned.{count_is, number_is}
+use Rattle.port_worker.proofs.Entered.{ended_entered_other, ended_entered_open, ended_entered_done, quiet_entered}
+use Rattle.port_worker.proofs.Progress.{head_of, head_ahead, turn_at_moment, AtTurn, at_turn, Goes, Progress, goes_at, goes_on_at, stops_at, ends_at, progress_sink}
+use Rattle.port_worker.proofs.Measures.{weight, undone, undone_same, undone_less, entered_longer, goes_below}
+use Rattle.port_worker.proofs.Running.{Running, head_at, element, moments_same, all_read, agrees_same}
+
+some_same : (u t : Turn) → Some u ≡ Some t → u ≡ t
+some_same u t is = cc
+
+no_end : (plan : Plan) (past : List Row) (u t : Turn) → Some u ≡ Some t → ends_input plan past u ≡ true → ends_input plan past t ≡ false → ⊥
+no_end plan past u t is ends goes = let e : ends_input plan past u ≡ ends_input plan past t = ap (ends_input plan past) (some_same u t is) in cc
+
+readable_of : (plan : Plan) (past : List Row) (port : Port) (state : State) (buf : List ℕ) (a : Ahead) (t : Turn) → turn_ahead port buf a ≡ Some t → ends_input plan past t ≡ false → IsSound state a → IsReadable state
+readable_of plan past port state buf ahead.Unread t is goes sound = cc
+readable_of plan past port state buf (ahead.Frame stamp len) t is goes sound = sound.1
+readable_of plan past port state buf (ahead.Long stamp len) t is goes sound = sound.1
+readable_of plan past port state buf ahead.End t is goes sound = absurd (no_end plan past (Ends (Ingress port) hows.End) t is refl goes)
+readable_of plan past port state buf (ahead.Malformed at) t is goes sound = absurd (no_end plan past (Ends (Ingress port) (hows.Malformed at)) t is refl goes)
+readable_of plan past port state buf ahead.Done t is goes sound = cc
+
+pub known_open : {S K C : Type 0} (p : PortEnds S K C) (t : Turn) (h : Head) → h ≡ head_of p → h ≡ Known t → head_of p ≡ Known t
+known_open p t h is known = sym is ∙ known
+
+module _ {S K C : Type 0} (left : S → Option (List ℕ)) (written : K → Option (List ℕ)) (source_faults : S → ℕ) (sink_faults : K → ℕ) (plan : Plan) (first ports new : List (PortEnds S K C)) (past now : List Row) (j : ℕ)
+    (planned : ports_held first ≡ ports_planned plan) (rising : IsStrictlyIncreasing (numbers_of plan.ports))
+    (r : Running left written source_faults sink_faults plan first ports past) (known : All (λ p. IsKnown p.ahead) ports) (least : IsLeast (map moment_of ports) j) where
+  pub inside : j < length ports
+  inside = let within = least.inside in let size = length-map ports moment_of in omega arith
+
+  pub d_here : PortEnds S K C
+  d_here = element ports j inside
+
+  abbrev pub here : PortEnds S K C
+  here = get_or ports j d_here
+
+  pub turn_here : (t : Turn) × (turn_of here ≡ Some t) × (head_of here ≡ Known t)
+  turn_here = turn_at_moment here.port here.buf here.ahead least.least (sym (get_or-map moment_of ports j d_here None inside) ∙ least.there)
+
+  abbrev pub turn : Turn
+  turn = turn_here.0
+
+  pass_is : (k : ℕ) (d : PortEnds S K C) → k < length first → pass_of plan (Ingress (get_or first k d).port) ≡ k
+  pass_is k d within =
+      let count = count_is first plan planned in
+      ap (place_of plan) (number_is first plan k d planned within) ∙ place_at plan k rising (omega arith)
+
+  port_is : (k : ℕ) (d : PortEnds S K C) → k < length first → (get_or ports k d).port ≡ (get_or first k d).port
+  port_is k d within = (r.later.each k d within).port
+
+  inside_first : j < length first
+  inside_first = let size = r.later.size in let within = inside in omega arith
+
+  at_here : AtTurn (left here.ends.source) here.port here.reader here.buf here.ahead turn
+  at_here = at_turn (left here.ends.source) here.port here.reader here.buf here.ahead turn turn_here.1
+
+  who_from : AtTurn (left here.ends.source) here.port here.reader here.buf here.ahead turn → pass_of plan (who_of turn) ≡ j
+  who_from (inl arrives) = ap (λ (t : Turn). pass_of plan (who_of t)) arrives.1 ∙ ap (λ (p : Port). pass_of plan (Ingress p)) (port_is j d_here inside_first) ∙ pass_is j d_here inside_first
+  who_from (inr ends) = ap (λ (t : Turn). pass_of plan (who_of t)) ends.1 ∙ ap (λ (p : Port). pass_of plan (Ingress p)) (port_is j d_here inside_first) ∙ pass_is j d_here inside_first
+
+  pub who_is : pass_of plan (who_of turn) ≡ j
+  who_is = who_from at_here
+
+  pub turn_known : (d : PortEnds S K C) → IsSome (turn_of (get_or ports j d))
+  turn_known d = subst (λ (p : PortEnds S K C). IsSome (turn_of p)) (get_or_default ports j d_here d inside) (rw turn_here.1 refl)
+
+  head_here : get_or (map head_of ports) j Done ≡ Known turn
+  head_here = head_at ports j d_here Done inside ∙ turn_here.2
+
+  pub running_j : has_ended empty j past ≡ false
+  running_j = let within = inside in let size = length-map ports head_of in subst (λ (h : Head). Agrees empty past j h) head_here (r.agree j (omega arith))
+
+  pub running_turn : has_ended empty (pass_of plan (who_of turn)) past ≡ false
+  running_turn = ap (λ (n : ℕ). has_ended empty n past) who_is ∙ running_j
+
+  module _ (stepped : EachPair (IsStepped sink_faults) ports new) (others : (k : ℕ) (d : PortEnds S K C) → k ≢ j → k < length ports → (get_or new k d).ahead ≡ (get_or ports k d).ahead)
+      (entered_is : (d : PortEnds S K C) → IfSome (turn_of (get_or ports j d)) (λ t. now ≡ entered plan empty t past))
+      (ahead_is : (d : PortEnds S K C) → IfSome (turn_of (get_or ports j d)) (λ t. (get_or new j d).ahead ≡ ahead_after (ends_input plan past t)))
+      (sent_is : EachPair (IsSent written past now) ports new) where
+    pub now_is : now ≡ entered plan empty turn past
+    now_is = subst (λ (o : Option Turn). IfSome o (λ t. now ≡ entered plan empty t past)) turn_here.1 (entered_is d_here)
+
+    there_ahead : (get_or new j d_here).ahead ≡ ahead_after (ends_input plan past turn)
+    there_ahead = subst (λ (o : Option Turn). IfSome o (λ t. (get_or new j d_here).ahead ≡ ahead_after (ends_input plan past t))) turn_here.1 (ahead_is d_here)
+
+    abbrev there : PortEnds S K C
+    there = get_or new j d_here
+
+    same_there : there ≡ record here { ends = record here.ends { sink = there.ends.sink }; ahead = there.ahead }
+    same_there = (stepped.each j d_here inside).same
+
+    size_new : length new ≡ length ports
+    size_new = stepped.size
+
+    head_kept : (k : ℕ) (d : PortEnds S K C) → k ≢ j → k < length ports → head_of (get_or new k d) ≡ head_of (get_or ports k d)
+    head_kept k d other within =
+        ap (λ (p : PortEnds S K C). head_of p) (stepped.each k d within).same ∙ ap (λ (a : Ahead). head_ahead (get_or ports k d).port (get_or ports k d).buf a) (others k d other within)
+
+    heads_at : (k : ℕ) → k < length ports → (k ≡ j) ⊎ (k ≢ j) → get_or (map head_of new) k Done ≡ get_or (set (map head_of ports) j (head_of there)) k Done
+    heads_at k within (inl same) =
+        let size = length-map ports head_of in
+        let size_n = size_new in
+        rw (same, head_at new j d_here Done (omega arith)) (sym (get_or-set_same (map head_of ports) j (head_of there) Done (omega arith)))
+    heads_at k within (inr other) =
+        let d = element ports k within in
+        let size_n = size_new in
+        head_at new k d Done (omega arith) ∙ head_kept k d other within ∙ sym (head_at ports k d Done within) ∙ sym (get_or-set_other (map head_of ports) j k (head_of there) Done other)
+
+    heads_new : map head_of new ≡ set (map head_of ports) j (head_of there)
+    heads_new =
+        let sizes = length-map ports head_of in
+        let sizes_new = length-map new head_of in
+        let size_n = size_new in
+        let size_set = length-set (map head_of ports) j (head_of there) in
+        ext_get_or Done (map head_of new) (set (map head_of ports) j (head_of there)) (omega arith) (λ k within. heads_at k (omega arith) (cases_eq k j))
+
+    reaches_new : Reaches plan empty (map head_of new) (set r.taken j (get_or r.taken j [] ++ turn ∷ [])) now
+    reaches_new =
+        let least_heads : IsLeast (map reaching.moment_of (map head_of ports)) j = rw (moments_same ports) least in
+        let step = reaches_take plan empty (map head_of ports) r.taken past j turn (head_of there) head_here who_is (all_read ports known) r.agree least_heads r.reaches in
+        subst (λ (hs : List Head). Reaches plan empty hs (set r.taken j (get_or r.taken j [] ++ turn ∷ [])) now) (sym heads_new)
+        (subst (λ (l : List Row). Reaches plan empty (set (map head_of ports) j (head_of there)) (set r.taken j (get_or r.taken j [] ++ turn ∷ [])) l) (after_open plan empty turn past running_turn ∙ sym now_is) step)
+
+    agree_there : (b : Bool) → ends_input plan past turn ≡ b → there.ahead ≡ ahead_after b → Agrees empty now j (head_ahead there.port there.buf there.ahead)
+    agree_there true ends is = rw is (ap (λ (l : List Row). has_ended empty j l) now_is ∙ ap (λ (n : ℕ). has_ended empty n (entered plan empty turn past)) (sym who_is) ∙ ended_entered_done plan past turn ends)
+    agree_there false ends is = rw is (ap (λ (l : List Row). has_ended empty j l) now_is ∙ ended_entered_open plan past turn j ends ∙ running_j)
+
+    agree_at : (k : ℕ) → k < length ports → (k ≡ j) ⊎ (k ≢ j) → Agrees empty now k (get_or (map head_of new) k Done)
+    agree_at k within (inl same) =
+        let size_n = size_new in
+        rw (same, head_at new j d_here Done (omega arith)) (agree_there (ends_input plan past turn) refl there_ahead)
+    agree_at k within (inr other) =
+        let d = element ports k within in
+        let size_n = size_new in
+        let size = length-map ports head_of in
+        rw (head_at new k d Done (omega arith), head_kept k d other within)
+        (agrees_same past now k (head_of (get_or ports k d)) (ap (λ (l : List Row). has_ended empty k l) now_is ∙ ended_entered_other plan past turn k (λ e. other (sym e ∙ who_is)))
+        (subst (λ (h : Head). Agrees empty past k h) (head_at ports k d Done within) (r.agree k (omega arith))))
+
+    goes_here : Goes left (get_or first j d_here) here (get_or r.taken j [])
+    goes_here = goes_at left plan j (get_or first j d_here) here (get_or r.taken j []) here.ahead turn here.port here.buf turn_here.1 (r.progress j d_here inside_first)
+
+    source_there : there.ends.source ≡ here.ends.source
+    source_there = ap (λ (p : PortEnds S K C). p.ends.source) same_there
+
+    reader_there : there.reader ≡ here.reader
+    reader_there = ap (λ (p : PortEnds S K C). p.reader) same_there
+
+    ends_true : (ending : How) → turn ≡ Ends (Ingress here.port) ending → ends_input plan past turn ≡ false → ⊥
+    ends_true ending is goes = let e : ends_input plan past turn ≡ true = ap (ends_input plan past) is in cc
+
+    progress_there : (b : Bool) → ends_input plan past turn ≡ b → there.ahead ≡ ahead_after b → AtTurn (left here.ends.source) here.port here.reader here.buf here.ahead turn
+        → Progress left plan j (get_or first j d_here) there (get_or r.taken j [] ++ turn ∷ [])
+    progress_there true ends is (inl arrives) =
+        stops_at left plan j (get_or first j d_here) here there (get_or r.taken j []) turn (port_is j d_here inside_first) (pass_is j d_here inside_first) turn_here.1 goes_here source_there reader_there is arrives.0 arrives.1 arrives.2
+    progress_there true ends is (inr ending) =
+        ends_at left plan j (get_or first j d_here) here there (get_or r.taken j []) turn (port_is j d_here inside_first) (pass_is j d_here inside_first) turn_here.1 goes_here source_there reader_there is ending.0 ending.1 ending.2
+    progress_there false ends is (inl arrives) =
+        goes_on_at left plan j (get_or first j d_here) here there (get_or r.taken j []) turn (port_is j d_here inside_first) (pass_is j d_here inside_first) turn_here.1 goes_here source_there reader_there is arrives.0 arrives.1 arrives.2
+    progress_there false ends is (inr ending) = absurd (ends_true ending.0 ending.1 ends)
+
+    same_other : (k : ℕ) (d : PortEnds S K C) → k ≢ j → k < length ports → get_or new k d ≡ record (get_or ports k d) { ends = record (get_or ports k d).ends { sink = (get_or new k d).ends.sink } }
+    same_other k d other within =
+        (stepped.each k d within).same
+        ∙ ap (λ (a : Ahead). record (get_or ports k d) { ends = record (get_or ports k d).ends { sink = (get_or new k d).ends.sink }; ahead = a }) (others k d other within)
+
+    progress_at : (k : ℕ) (d : PortEnds S K C) → k < length first → (k ≡ j) ⊎ (k ≢ j) → Progress left plan k (get_or first k d) (get_or new k d) (get_or (set r.taken j (get_or r.taken j [] ++ turn ∷ [])) k [])
+    progress_at k d within (inl same) =
+        let size_t = r.taken_size in
+        let size_n = size_new in
+        let size_p = r.later.size in
+        rw (same, get_or-set_same r.taken j (get_or r.taken j [] ++ turn ∷ []) [] (omega arith), get_or_default first j d d_here (omega arith), get_or_default new j d d_here (omega arith))
+        (progress_there (ends_input plan past turn) refl there_ahead at_here)
+    progress_at k d within (inr other) =
+        let size_p = r.later.size in
+        rw (get_or-set_other r.taken j k (get_or r.taken j [] ++ turn ∷ []) [] other)
+        (subst (λ (p : PortEnds S K C). Progress left plan k (get_or first k d) p (get_or r.taken k [])) (sym (same_other k d other (omega arith)))
+        (progress_sink left plan k (get_or first k d) (get_or ports k d) (get_or new k d).ends.sink (get_or r.taken k []) (get_or ports k d).ahead (r.progress k d within)))
+
+    sound_there : (b : Bool) → ends_input plan past turn ≡ b → there.ahead ≡ ahead_after b → IsSound there.reader there.ahead
+    sound_there true ends is = rw is tt
+    sound_there false ends is =
+        rw (is, reader_there) (readable_of plan past here.port here.reader here.buf here.ahead turn turn_here.1 ends (r.sound j d_here inside_first))
+
+    sound_at : (k : ℕ) (d : PortEnds S K C) → k < length first → (k ≡ j) ⊎ (k ≢ j) → IsSound (get_or new k d).reader (get_or new k d).ahead
+    sound_at k d within (inl same) =
+        let size_n = size_new in
+        let size_p = r.later.size in
+        rw (same, get_or_default new j d d_here (omega arith)) (sound_there (ends_input plan past turn) refl there_ahead)
+    sound_at k d within (inr other) =
+        let size_p = r.later.size in
+        subst (λ (p : PortEnds S K C). IsSound p.reader p.ahead) (sym (same_other k d other (omega arith))) (r.sound k d within)
+
+    pub turn_step : Running left written source_faults sink_faults plan first new now
+    turn_step =
+        let size_p = r.later.size in
+        let size_n = size_new in
+        let count = count_is first plan planned in
+        let within_j = inside_first in
+        let who = who_is in
+        record {
+          later = record {
+            size = size_n ∙ size_p;
+            each = λ k d within.
+                let one = stepped.each k d (omega arith) in
+                let was = r.later.each k d within in
+                record {
+                  port = ap (λ (p : PortEnds S K C). p.port) one.same ∙ was.port;
+                  source = subst (λ (s : S). source_faults (get_or first k d).ends.source ≤ source_faults s) (sym (ap (λ (p : PortEnds S K C). p.ends.source) one.same)) was.source;
+                  sink = omega (arith, one.later, was.sink);
+                };
+          };
+          sound = λ k d within. sound_at k d within (cases_eq k j);
+          taken = set r.taken j (get_or r.taken j [] ++ turn ∷ []);
+          taken_size = length-set r.taken j (get_or r.taken j [] ++ turn ∷ []) ∙ r.taken_size;
+          reaches = reaches_new;
+          agree = λ k within. let sizes = length-map new head_of in agree_at k (omega arith) (cases_eq k j);
+          progress = λ k d within. progress_at k d within (cases_eq k j);
+          control = rw now_is (ended_entered_other plan past turn (control_pass plan) (λ e. absurd (omega arith)) ∙ r.control);
+          outputs = λ pass above. rw now_is (ended_entered_other plan past turn pass (λ e. absurd (omega arith)) ∙ r.outputs pass above);
+          quiet = λ k within. rw now_is (quiet_entered plan past turn k within (r.quiet k within));
+          wrote = λ k d within.
+              let port = port_is k d within in
+              let front = written (get_or first k d).ends.sink in
+              sent_is.each k d (omega arith) front (r.wrote k d within ∙ ap (λ (p : Port). behind front (capture_of (number_of p) past)) (sym port))
+              ∙ ap (λ (p : Port). behind front (capture_of (number_of p) now)) port;
+        }
+
+    weight_one : (a : Ahead) (port : Port) (buf : List ℕ) → turn_ahead port buf a ≡ Some turn → weight a ≡ 1
+    weight_one ahead.Unread port buf is = cc
+    weight_one (ahead.Frame stamp len) port buf is = refl
+    weight_one (ahead.Long stamp len) port buf is = refl
+    weight_one ahead.End port buf is = refl
+    weight_one (ahead.Malformed at) port buf is = refl
+    weight_one ahead.Done port buf is = cc
+
+    weight_here : weight here.ahead ≡ 1
+    weight_here = weight_one here.ahead here.port here.buf turn_here.1
+
+    weight_other : (k : ℕ) (d : PortEnds S K C) → k ≢ j → k < length ports → weight (get_or new k d).ahead ≡ weight (get_or ports k d).ahead
+    weight_other k d other within = ap weight (others k d other within)
+
+    weight_at : (k : ℕ) (d : PortEnds S K C) → there.ahead ≡ ahead.Unread → k < length ports → (k ≡ j) ⊎ (k ≢ j) → weight (get_or new k d).ahead ≡ weight (get_or ports k d).ahead
+    weight_at k d goes within (inl same) =
+        let size_n = size_new in
+        let one : weight there.ahead ≡ 1 = ap weight goes in
+        rw (same, get_or_default new j d d_here (omega arith), get_or_default ports j d d_here inside) (one ∙ sym weight_here)
+    weight_at k d goes within (inr other) = weight_other k d other within
+
+    smaller_at : (b : Bool) → ends_input plan past turn ≡ b → there.ahead ≡ ahead_after b → (plan.entries - length now) + undone new < (plan.entries - length past) + undone ports
+    smaller_at true ends is =
+        let longer : length past + 1 ≤ length now = rw now_is (entered_longer plan past turn) in
+        let less : undone new + 1 ≡ undone ports = undone_less ports new j d_here size_new inside weight_other weight_here (ap weight is) in
+        omega arith
+    smaller_at false ends is =
+        let longer : length past + 1 ≤ length now = rw now_is (entered_longer plan past turn) in
+        let below = goes_below plan past turn ends in
+        let same : undone new ≡ undone ports = undone_same ports new size_new (λ k d within. weight_at k d is within (cases_eq k j)) in
+        omega arith
+
+    pub smaller : (plan.entries - length now) + undone new < (plan.entries - length past) + undone ports
+    smaller = smaller_at (ends_input plan past turn) refl there_ahead

@@ -1,0 +1,214 @@
+use Rattle.std.proofs.Common.{◌≡◌, ℕ, ◌+◌, ◌-◌, ◌<◌, List, [], length, map, get_or, refl, sym, ap, ◌∙◌, subst, Option, Some, None, IfSome}
+use Rattle.savi_kinds.specs.declared.plan.Plan.{Plan}
+use Rattle.savi_kinds.specs.declared.entry.Who.TheVariants.{Ingress, Egress, Control, Ticker}
+use Rattle.savi_kinds.specs.declared.entry.How.TheVariants as hows
+use Rattle.hist_store.specs.Rows.{Row}
+use Rattle.savi_history.specs.Bases.{empty}
+use Rattle.savi_history.specs.Passes.{AllEnded, control_pass}
+use Rattle.savi_history.specs.Events.{End}
+use Rattle.savi_history.specs.Legal.{IsOpen}
+use Rattle.savi_history.specs.Picks.{IsPick}
+use Rattle.savi_history.specs.Replay.{with_event, egress_ended, entered}
+use Rattle.savi_core.specs.Machines.{Machine}
+use Rattle.port_worker.specs.declared.port_ends.PortEnds.{PortEnds}
+use Rattle.port_worker.specs.Inputs.{turn_of, moment_of}
+use Rattle.port_worker.specs.Steps.{ends_input, ahead_after}
+use Rattle.port_worker.specs.Replays.{ports_planned}
+use Rattle.port_worker.proofs.Measures.{undone}
+use Rattle.port_worker.proofs.Running.{Running, look_step, look_undone}
+use Rattle.port_worker.proofs.Stepping.{turn_step, smaller, turn_known, running_j, inside}
+use Rattle.port_worker.proofs.Starting.{start, looked_later, stepped_later, rose_since, planned_now, sound_now, outputs_now, quiet_now, input_open}
+use Rattle.port_worker.proofs.Ending.{inputs_ended, replayed_all}
+use Rattle.port_worker.proofs.Finishing.{did_end}
+use Rattle.port_worker.proofs.turns.replay.Goals as goal
+
+nothing : {X : Type 0} (o : Option X) → ((x : X) → o ≡ Some x → ⊥) → o ≡ None
+nothing None not = refl
+nothing (Some x) not = absurd (not x refl)
+
+pub turns-init : goal.turns-init
+turns-init g c =
+    let plan = c.args.core.now.plan in
+    let first = c.args.ports.now in
+    let ports = c.begin_all.new.ports in
+    let none : c.begin_all.result ≡ None = nothing c.begin_all.result c.in_default.not-Some in
+    let made = did_end c.args.core.now Control hows.End c.step-control.new.self c.step-control.result c.step-control.ensures in
+    let past_is : c.step-control.new.self.past ≡ with_event plan empty [] (End Control hows.End) =
+    ap (λ (m : Machine). m.past) made ∙ ap (λ (l : List Row). with_event plan empty l (End Control hows.End)) c.requires.start in
+    record {
+      same_plan = ap (λ (m : Machine). m.plan) made;
+      runs = subst (λ (l : List Row). Running g.S.Source.left g.K.Sink.written g.S.Source.faults g.K.Sink.faults plan first ports l) (sym past_is)
+          (start g.S.Source.left g.K.Sink.written g.S.Source.faults g.K.Sink.faults plan first ports c.requires.planned c.requires.valid.ports c.requires.unread c.begin_all.ensures.begun (c.begin_all.ensures.done none));
+    }
+
+pub returns-in-Some-look_all-clause-later : goal.returns-in-Some-look_all-clause-later
+returns-in-Some-look_all-clause-later g c =
+    looked_later g.S.Source.left g.S.Source.faults g.K.Sink.faults c.args.ports.now c.turns.ports c.look_all.new.ports c.turns.invariant.runs.later c.look_all.ensures.looked
+
+pub returns-in-Some-look_all-clause-cause : goal.returns-in-Some-look_all-clause-cause
+returns-in-Some-look_all-clause-cause g c =
+    let P = PortEnds g.row.S.Denot g.row.K.Denot g.row.C.Denot in
+    let later = c.turns.invariant.runs.later in
+    rose_since (λ (p : P). g.S.Source.faults p.ends.source) c.in-Some-look_all.port c.args.ports.now c.turns.ports c.look_all.new.ports later.size (λ k d within. (later.each k d within).source) c.in-Some-look_all.ensures.failed
+
+pub finish-requires-clause-planned : goal.finish-requires-clause-planned
+finish-requires-clause-planned g c =
+    let plan = c.args.core.now.plan in
+    let first = c.args.ports.now in
+    let known = c.look_all.ensures.known (nothing c.look_all.result c.in_default-look_all.not-Some) in
+    let runs = look_step g.S.Source.left g.K.Sink.written g.S.Source.faults g.K.Sink.faults plan first c.turns.ports c.look_all.new.ports c.turns.core.past c.turns.invariant.runs c.look_all.ensures.looked known in
+    planned_now g.S.Source.left g.K.Sink.written g.S.Source.faults g.K.Sink.faults plan first c.look_all.new.ports c.requires.planned c.requires.valid.ports c.turns.core.past runs
+    ∙ ap ports_planned (sym c.turns.invariant.same_plan)
+
+pub finish-requires-clause-inputs : goal.finish-requires-clause-inputs
+finish-requires-clause-inputs g c =
+    let plan = c.args.core.now.plan in
+    let first = c.args.ports.now in
+    let ports = c.look_all.new.ports in
+    let known = c.look_all.ensures.known (nothing c.look_all.result c.in_default-look_all.not-Some) in
+    let runs = look_step g.S.Source.left g.K.Sink.written g.S.Source.faults g.K.Sink.faults plan first c.turns.ports ports c.turns.core.past c.turns.invariant.runs c.look_all.ensures.looked known in
+    let none : IsPick (map moment_of ports) None = subst (λ (o : Option ℕ). IsPick (map moment_of ports) o) (nothing c.next_of.result c.in_default-next_of.not-Some) c.next_of.ensures in
+    subst (λ (p : Plan). AllEnded empty (control_pass p + 1) c.turns.core.past) (sym c.turns.invariant.same_plan)
+    (inputs_ended g.S.Source.left g.K.Sink.written g.S.Source.faults g.K.Sink.faults plan first ports c.turns.core.past c.requires.planned runs known none)
+
+pub finish-requires-clause-quiet : goal.finish-requires-clause-quiet
+finish-requires-clause-quiet g c =
+    let plan = c.args.core.now.plan in
+    let first = c.args.ports.now in
+    let known = c.look_all.ensures.known (nothing c.look_all.result c.in_default-look_all.not-Some) in
+    let runs = look_step g.S.Source.left g.K.Sink.written g.S.Source.faults g.K.Sink.faults plan first c.turns.ports c.look_all.new.ports c.turns.core.past c.turns.invariant.runs c.look_all.ensures.looked known in
+    quiet_now g.S.Source.left g.K.Sink.written g.S.Source.faults g.K.Sink.faults plan first c.look_all.new.ports c.requires.planned c.requires.valid.ports c.turns.core.past runs
+
+pub returns-in_default-next_of-clause-later : goal.returns-in_default-next_of-clause-later
+returns-in_default-next_of-clause-later g c =
+    looked_later g.S.Source.left g.S.Source.faults g.K.Sink.faults c.args.ports.now c.turns.ports c.look_all.new.ports c.turns.invariant.runs.later c.look_all.ensures.looked
+
+pub returns-in_default-next_of-clause-finished : goal.returns-in_default-next_of-clause-finished
+returns-in_default-next_of-clause-finished g c answer =
+    let plan = c.args.core.now.plan in
+    let first = c.args.ports.now in
+    let ports = c.look_all.new.ports in
+    let past = c.turns.core.past in
+    let known = c.look_all.ensures.known (nothing c.look_all.result c.in_default-look_all.not-Some) in
+    let runs = look_step g.S.Source.left g.K.Sink.written g.S.Source.faults g.K.Sink.faults plan first c.turns.ports ports past c.turns.invariant.runs c.look_all.ensures.looked known in
+    let none : IsPick (map moment_of ports) None = subst (λ (o : Option ℕ). IsPick (map moment_of ports) o) (nothing c.next_of.result c.in_default-next_of.not-Some) c.next_of.ensures in
+    replayed_all g.S.Source.left g.K.Sink.written g.S.Source.faults g.K.Sink.faults plan first ports past c.requires.planned runs known none c.finish.new.core.past c.requires.unread
+    (subst (λ (p : Plan). c.finish.new.core.past ≡ egress_ended p empty p.ports (with_event p empty past (End Ticker hows.End))) c.turns.invariant.same_plan c.finish.ensures.past)
+    c.finish.ensures.sent
+
+pub advance-requires-clause-planned : goal.advance-requires-clause-planned
+advance-requires-clause-planned g c =
+    let plan = c.args.core.now.plan in
+    let first = c.args.ports.now in
+    let known = c.look_all.ensures.known (nothing c.look_all.result c.in_default-look_all.not-Some) in
+    let runs = look_step g.S.Source.left g.K.Sink.written g.S.Source.faults g.K.Sink.faults plan first c.turns.ports c.look_all.new.ports c.turns.core.past c.turns.invariant.runs c.look_all.ensures.looked known in
+    planned_now g.S.Source.left g.K.Sink.written g.S.Source.faults g.K.Sink.faults plan first c.look_all.new.ports c.requires.planned c.requires.valid.ports c.turns.core.past runs
+    ∙ ap ports_planned (sym c.turns.invariant.same_plan)
+
+pub advance-requires-clause-sound : goal.advance-requires-clause-sound
+advance-requires-clause-sound g c =
+    let plan = c.args.core.now.plan in
+    let first = c.args.ports.now in
+    let known = c.look_all.ensures.known (nothing c.look_all.result c.in_default-look_all.not-Some) in
+    let runs = look_step g.S.Source.left g.K.Sink.written g.S.Source.faults g.K.Sink.faults plan first c.turns.ports c.look_all.new.ports c.turns.core.past c.turns.invariant.runs c.look_all.ensures.looked known in
+    sound_now g.S.Source.left g.K.Sink.written g.S.Source.faults g.K.Sink.faults plan first c.look_all.new.ports c.requires.planned c.requires.valid.ports c.turns.core.past runs
+
+pub advance-requires-clause-known : goal.advance-requires-clause-known
+advance-requires-clause-known g c =
+    let plan = c.args.core.now.plan in
+    let first = c.args.ports.now in
+    let ports = c.look_all.new.ports in
+    let past = c.turns.core.past in
+    let known = c.look_all.ensures.known (nothing c.look_all.result c.in_default-look_all.not-Some) in
+    let runs = look_step g.S.Source.left g.K.Sink.written g.S.Source.faults g.K.Sink.faults plan first c.turns.ports ports past c.turns.invariant.runs c.look_all.ensures.looked known in
+    turn_known g.S.Source.left g.K.Sink.written g.S.Source.faults g.K.Sink.faults plan first ports ports past past c.in-Some-next_of.place c.requires.planned c.requires.valid.ports runs known c.in-Some-next_of.ensures
+
+pub advance-requires-clause-open : goal.advance-requires-clause-open
+advance-requires-clause-open g c d =
+    let plan = c.args.core.now.plan in
+    let first = c.args.ports.now in
+    let ports = c.look_all.new.ports in
+    let past = c.turns.core.past in
+    let place = c.in-Some-next_of.place in
+    let known = c.look_all.ensures.known (nothing c.look_all.result c.in_default-look_all.not-Some) in
+    let runs = look_step g.S.Source.left g.K.Sink.written g.S.Source.faults g.K.Sink.faults plan first c.turns.ports ports past c.turns.invariant.runs c.look_all.ensures.looked known in
+    subst (λ (p : Plan). IsOpen p empty past (Ingress (get_or ports place d).port)) (sym c.turns.invariant.same_plan)
+    (input_open g.S.Source.left g.K.Sink.written g.S.Source.faults g.K.Sink.faults plan first ports c.requires.planned c.requires.valid.ports past runs place d
+    (inside g.S.Source.left g.K.Sink.written g.S.Source.faults g.K.Sink.faults plan first ports ports past past place c.requires.planned c.requires.valid.ports runs known c.in-Some-next_of.ensures)
+    (running_j g.S.Source.left g.K.Sink.written g.S.Source.faults g.K.Sink.faults plan first ports ports past past place c.requires.planned c.requires.valid.ports runs known c.in-Some-next_of.ensures))
+
+pub advance-requires-clause-outputs : goal.advance-requires-clause-outputs
+advance-requires-clause-outputs g c k d within =
+    let plan = c.args.core.now.plan in
+    let first = c.args.ports.now in
+    let ports = c.look_all.new.ports in
+    let past = c.turns.core.past in
+    let known = c.look_all.ensures.known (nothing c.look_all.result c.in_default-look_all.not-Some) in
+    let runs = look_step g.S.Source.left g.K.Sink.written g.S.Source.faults g.K.Sink.faults plan first c.turns.ports ports past c.turns.invariant.runs c.look_all.ensures.looked known in
+    subst (λ (p : Plan). IsOpen p empty past (Egress (get_or ports k d).port)) (sym c.turns.invariant.same_plan)
+    (outputs_now g.S.Source.left g.K.Sink.written g.S.Source.faults g.K.Sink.faults plan first ports c.requires.planned c.requires.valid.ports past runs k d within)
+
+pub advance-requires-clause-quiet : goal.advance-requires-clause-quiet
+advance-requires-clause-quiet g c =
+    let plan = c.args.core.now.plan in
+    let first = c.args.ports.now in
+    let known = c.look_all.ensures.known (nothing c.look_all.result c.in_default-look_all.not-Some) in
+    let runs = look_step g.S.Source.left g.K.Sink.written g.S.Source.faults g.K.Sink.faults plan first c.turns.ports c.look_all.new.ports c.turns.core.past c.turns.invariant.runs c.look_all.ensures.looked known in
+    quiet_now g.S.Source.left g.K.Sink.written g.S.Source.faults g.K.Sink.faults plan first c.look_all.new.ports c.requires.planned c.requires.valid.ports c.turns.core.past runs
+
+pub returns-in-Some-advance-clause-later : goal.returns-in-Some-advance-clause-later
+returns-in-Some-advance-clause-later g c =
+    stepped_later g.S.Source.faults g.K.Sink.faults c.args.ports.now c.look_all.new.ports c.advance.new.ports
+    (looked_later g.S.Source.left g.S.Source.faults g.K.Sink.faults c.args.ports.now c.turns.ports c.look_all.new.ports c.turns.invariant.runs.later c.look_all.ensures.looked)
+    c.advance.ensures.stepped
+
+pub returns-in-Some-advance-clause-cause : goal.returns-in-Some-advance-clause-cause
+returns-in-Some-advance-clause-cause g c =
+    let P = PortEnds g.row.S.Denot g.row.K.Denot g.row.C.Denot in
+    let later = looked_later g.S.Source.left g.S.Source.faults g.K.Sink.faults c.args.ports.now c.turns.ports c.look_all.new.ports c.turns.invariant.runs.later c.look_all.ensures.looked in
+    rose_since (λ (p : P). g.K.Sink.faults p.ends.sink) c.in-Some-advance.port c.args.ports.now c.look_all.new.ports c.advance.new.ports later.size (λ k d within. (later.each k d within).sink) c.in-Some-advance.ensures.failed
+
+pub turns-smaller : goal.turns-smaller
+turns-smaller g c =
+    let P = PortEnds g.row.S.Denot g.row.K.Denot g.row.C.Denot in
+    let plan = c.args.core.now.plan in
+    let first = c.args.ports.now in
+    let ports = c.look_all.new.ports in
+    let new = c.advance.new.ports in
+    let past = c.turns.core.past in
+    let now = c.advance.new.core.past in
+    let place = c.in-Some-next_of.place in
+    let known = c.look_all.ensures.known (nothing c.look_all.result c.in_default-look_all.not-Some) in
+    let runs = look_step g.S.Source.left g.K.Sink.written g.S.Source.faults g.K.Sink.faults plan first c.turns.ports ports past c.turns.invariant.runs c.look_all.ensures.looked known in
+    let none = nothing c.advance.result c.in_default-advance.not-Some in
+    let entered_is : (d : P) → IfSome (turn_of (get_or ports place d)) (λ t. now ≡ entered plan empty t past) =
+    subst (λ (p : Plan). (d : P) → IfSome (turn_of (get_or ports place d)) (λ t. now ≡ entered p empty t past)) c.turns.invariant.same_plan (c.advance.ensures.entered none) in
+    let ahead_is : (d : P) → IfSome (turn_of (get_or ports place d)) (λ t. (get_or new place d).ahead ≡ ahead_after (ends_input plan past t)) =
+    subst (λ (p : Plan). (d : P) → IfSome (turn_of (get_or ports place d)) (λ t. (get_or new place d).ahead ≡ ahead_after (ends_input p past t))) c.turns.invariant.same_plan (c.advance.ensures.ahead none) in
+    let less = smaller g.S.Source.left g.K.Sink.written g.S.Source.faults g.K.Sink.faults plan first ports new past now place c.requires.planned c.requires.valid.ports runs known c.in-Some-next_of.ensures
+    c.advance.ensures.stepped (c.advance.ensures.others none) entered_is ahead_is (c.advance.ensures.sent none) in
+    let same = look_undone g.S.Source.left g.K.Sink.written g.S.Source.faults g.K.Sink.faults plan first c.turns.ports ports past c.turns.invariant.runs c.look_all.ensures.looked known in
+    subst (λ (n : ℕ). (plan.entries - length now) + undone new < (plan.entries - length past) + n) same less
+
+pub turns-preserved : goal.turns-preserved
+turns-preserved g c =
+    let P = PortEnds g.row.S.Denot g.row.K.Denot g.row.C.Denot in
+    let plan = c.args.core.now.plan in
+    let first = c.args.ports.now in
+    let ports = c.look_all.new.ports in
+    let new = c.advance.new.ports in
+    let past = c.turns.core.past in
+    let now = c.advance.new.core.past in
+    let place = c.in-Some-next_of.place in
+    let known = c.look_all.ensures.known (nothing c.look_all.result c.in_default-look_all.not-Some) in
+    let runs = look_step g.S.Source.left g.K.Sink.written g.S.Source.faults g.K.Sink.faults plan first c.turns.ports ports past c.turns.invariant.runs c.look_all.ensures.looked known in
+    let none = nothing c.advance.result c.in_default-advance.not-Some in
+    let entered_is : (d : P) → IfSome (turn_of (get_or ports place d)) (λ t. now ≡ entered plan empty t past) =
+    subst (λ (p : Plan). (d : P) → IfSome (turn_of (get_or ports place d)) (λ t. now ≡ entered p empty t past)) c.turns.invariant.same_plan (c.advance.ensures.entered none) in
+    let ahead_is : (d : P) → IfSome (turn_of (get_or ports place d)) (λ t. (get_or new place d).ahead ≡ ahead_after (ends_input plan past t)) =
+    subst (λ (p : Plan). (d : P) → IfSome (turn_of (get_or ports place d)) (λ t. (get_or new place d).ahead ≡ ahead_after (ends_input p past t))) c.turns.invariant.same_plan (c.advance.ensures.ahead none) in
+    record {
+      same_plan = c.advance.ensures.plan ∙ c.turns.invariant.same_plan;
+      runs = turn_step g.S.Source.left g.K.Sink.written g.S.Source.faults g.K.Sink.faults plan first ports new past now place c.requires.planned c.requires.valid.ports runs known c.in-Some-next_of.ensures
+          c.advance.ensures.stepped (c.advance.ensures.others none) entered_is ahead_is (c.advance.ensures.sent none);
+    }

@@ -1,0 +1,87 @@
+-- The input of a port: what is known of it, and what the octets that are left will still give.
+use Rattle.std.specs.Prelude.{◌≡◌, ◌≢◌, ℕ, suc, ◌<◌, ◌≤◌, ◌^◌, List, ◌∷◌, take, Option, Some, None, IfSome}
+use Rattle.savi_kinds.specs.declared.port.Port.{Port}
+use Rattle.savi_kinds.specs.declared.entry.Who.TheVariants.{Ingress}
+use Rattle.savi_kinds.specs.declared.entry.How.TheVariants as hows
+use Rattle.savi_kinds.specs.Arrivals.{Arrival, Input}
+use Rattle.savi_kinds.specs.Arrivals as arrivals
+use Rattle.pcap_io.specs.Runs.{ended}
+use Rattle.pcap_io.specs.Readers.{State, Ended, Comes}
+use Rattle.savi_history.specs.Turns.{Turn, Arrives, Ends}
+use Rattle.port_worker.specs.declared.port_ends.Ahead.{Ahead}
+use Rattle.port_worker.specs.declared.port_ends.Ahead.TheVariants as ahead
+use Rattle.port_worker.specs.declared.port_ends.PortEnds.{PortEnds}
+
+-- the turn at a port by what was read: a frame's octets are the first of the buffer
+abbrev pub turn_ahead : Port → List ℕ → Ahead → Option Turn
+turn_ahead port buf ahead.Unread = None
+turn_ahead port buf (ahead.Frame stamp len) = Some (Arrives port (arrivals.Frame stamp (take len buf)))
+turn_ahead port buf (ahead.Long stamp len) = Some (Arrives port (arrivals.Long stamp len))
+turn_ahead port buf ahead.End = Some (Ends (Ingress port) hows.End)
+turn_ahead port buf (ahead.Malformed at) = Some (Ends (Ingress port) (hows.Malformed at))
+turn_ahead port buf ahead.Done = None
+
+-- the turn that was read and isn't entered yet
+abbrev pub turn_of : {S K C : Type 0} → PortEnds S K C → Option Turn
+turn_of p = turn_ahead p.port p.buf p.ahead
+
+abbrev pub moment_ahead : Ahead → Option ℕ
+moment_ahead ahead.Unread = None
+moment_ahead (ahead.Frame stamp len) = Some (suc stamp)
+moment_ahead (ahead.Long stamp len) = Some (suc stamp)
+moment_ahead ahead.End = Some 0
+moment_ahead (ahead.Malformed at) = Some 0
+moment_ahead ahead.Done = None
+
+-- when that turn comes: an ending at once, and an arrival by its stamp
+abbrev pub moment_of : {S K C : Type 0} → PortEnds S K C → Option ℕ
+moment_of p = moment_ahead p.ahead
+
+-- an input with one more arrival in front
+abbrev pub with_first : Arrival → Input → Input
+with_first a input = record { arrivals = a ∷ input.arrivals; ending = input.ending }
+
+-- the reader goes on only where no read has failed
+abbrev pub IsReadable : State → Type 0
+IsReadable state = state ≢ Ended hows.Failed
+
+-- a frame has at most 1,518 octets, and a longer one more; a place is a number of 64 bits
+abbrev pub IsSound : State → Ahead → Type 0
+IsSound state ahead.Unread = IsReadable state
+IsSound state (ahead.Frame stamp len) = (len ≤ 1518) × IsReadable state
+IsSound state (ahead.Long stamp len) = (1518 < len) × IsReadable state
+IsSound state ahead.End = Unit {0}
+IsSound state (ahead.Malformed at) = at < 2 ^ 64
+IsSound state ahead.Done = Unit {0}
+
+-- The next input was read, or the input has ended.
+abbrev pub IsKnown : Ahead → Type 0
+IsKnown ahead.Unread = ⊥
+IsKnown (ahead.Frame stamp len) = Unit {0}
+IsKnown (ahead.Long stamp len) = Unit {0}
+IsKnown ahead.End = Unit {0}
+IsKnown (ahead.Malformed at) = Unit {0}
+IsKnown ahead.Done = Unit {0}
+
+-- With these octets left in the source this input comes, what was read of it in front.
+abbrev pub Gives : State → List ℕ → Ahead → List ℕ → Input → Type 0
+Gives state buf ahead.Unread octets input = Comes state octets input
+Gives state buf (ahead.Frame stamp len) octets input = (later : Input) × (input ≡ with_first (arrivals.Frame stamp (take len buf)) later) × Comes state octets later
+Gives state buf (ahead.Long stamp len) octets input = (later : Input) × (input ≡ with_first (arrivals.Long stamp len) later) × Comes state octets later
+Gives state buf ahead.End octets input = input ≡ ended hows.End
+Gives state buf (ahead.Malformed at) octets input = input ≡ ended (hows.Malformed at)
+Gives state buf ahead.Done octets input = Unit {0}
+
+-- This input is still to come at the port, where its source tells what is left.
+abbrev pub WillCome : {S K C : Type 0} → (S → Option (List ℕ)) → PortEnds S K C → Input → Type 0
+WillCome left p input = IfSome (left p.ends.source) (λ octets. Gives p.reader p.buf p.ahead octets input)
+
+-- One port before and after a read of what comes next: what comes now comes before.
+pub record IsLooked {S K C : Type 0} (left : S → Option (List ℕ)) (faults : S → ℕ) (old new : PortEnds S K C) : Type 0 where
+  pub port : new.port ≡ old.port
+  pub sink : new.ends.sink ≡ old.ends.sink
+  pub sound : IsKnown new.ahead → IsSound new.reader new.ahead
+  pub later : faults old.ends.source ≤ faults new.ends.source
+  pub comes : IsKnown new.ahead → (input : Input) → WillCome left new input → WillCome left old input
+  pub same : IsKnown old.ahead → new ≡ old
+  pub done : new.ahead ≡ ahead.Done → old.ahead ≡ ahead.Done

@@ -1,0 +1,7 @@
+pub mod Pairs
+pub mod Inputs
+pub mod Steps
+pub mod SentFrames
+pub mod Choices
+pub mod Replays
+pub mod Causes

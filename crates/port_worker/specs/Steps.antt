@@ -1,0 +1,58 @@
+-- What the turn of a port does to the history, before the queues are drained.
+use Rattle.std.specs.Prelude.{◌≡◌, ◌≤◌, ℕ, Bool, true, false, not, List}
+use Rattle.savi_kinds.specs.declared.port.Port.{Port}
+use Rattle.savi_kinds.specs.declared.plan.Plan.{Plan}
+use Rattle.savi_kinds.specs.declared.entry.Who.TheVariants.{Ingress}
+use Rattle.savi_kinds.specs.declared.entry.How.{How}
+use Rattle.savi_kinds.specs.Arrivals.{Arrival}
+use Rattle.hist_store.specs.Rows.{Row}
+use Rattle.savi_history.specs.Bases.{empty}
+use Rattle.savi_history.specs.Limits.{has_room}
+use Rattle.savi_history.specs.Events.{End}
+use Rattle.savi_history.specs.Legal.{IsOpen, IsFull}
+use Rattle.port_worker.specs.declared.port_ends.Ahead.{Ahead}
+use Rattle.port_worker.specs.declared.port_ends.Ahead.TheVariants as ahead
+use Rattle.port_worker.specs.declared.port_ends.PortEnds.{PortEnds}
+use Rattle.savi_core.specs.Machines.{Machine}
+use Rattle.savi_core.specs.declared.event.Stepped.{Stepped}
+use Rattle.savi_core.specs.declared.event.Stepped.TheVariants as stepped
+use Rattle.savi_history.specs.Turns.{Turn, Arrives, Ends}
+use Rattle.savi_history.specs.Replay.{event_of, with_event, entered}
+
+-- whether the input of a turn ends with it: an ending, or an arrival for which there is no room
+abbrev pub ends_input : Plan → List Row → Turn → Bool
+ends_input plan past (Arrives port arrival) = not (has_room plan past)
+ends_input plan past (Ends who how) = true
+
+-- An arrival was entered; or the input ended, and its end is all that the turn makes.
+abbrev pub Enters : Plan → Port → Turn → List Row → Bool → List Row → Type 0
+Enters plan port turn old true new =
+    (arrival : Arrival) × (turn ≡ Arrives port arrival) × (has_room plan old ≡ true) × (new ≡ with_event plan empty old (event_of port arrival))
+Enters plan port turn old false new =
+    (how : How) × (new ≡ with_event plan empty old (End (Ingress port) how)) × (new ≡ entered plan empty turn old) × (ends_input plan old turn ≡ true)
+
+-- what holds of an answer that says that there was no room
+abbrev pub IfFull : Stepped → (ℕ → Type 0) → Type 0
+IfFull (stepped.Done entry) P = Unit {0}
+IfFull (stepped.Full len) P = P len
+IfFull stepped.Nothing P = Unit {0}
+
+-- what holds where an entry was made
+abbrev pub IfDone : Stepped → Type 0 → Type 0
+IfDone (stepped.Done entry) P = P
+IfDone (stepped.Full len) P = Unit {0}
+IfDone stepped.Nothing P = Unit {0}
+
+-- where there was no room, the pass of the port is open and may end for that
+abbrev pub IsFullAt : Machine → Port → Stepped → Type 0
+IsFullAt m port answer = IfFull answer (λ len. IsOpen m.plan empty m.past (Ingress port) × IsFull m.plan m.past len)
+
+-- one port before and after a step: only its sink and what is known of its input have changed
+pub record IsStepped {S K C : Type 0} (faults : K → ℕ) (old new : PortEnds S K C) : Type 0 where
+  pub same : new ≡ record old { ends = record old.ends { sink = new.ends.sink }; ahead = new.ahead }
+  pub later : faults old.ends.sink ≤ faults new.ends.sink
+
+-- what is known of the input behind a turn
+abbrev pub ahead_after : Bool → Ahead
+ahead_after true = ahead.Done
+ahead_after false = ahead.Unread

@@ -1,0 +1,15 @@
+//! The loop of a replay over the ports of a switch, of which there may be any number.
+//!
+//! Each port has a capture to be read and one to be written (the libpcap savefile format). `replay` makes the one history
+//! of all inputs, as `savi_history` defines it, and writes at each port a capture of what is sent there. Its contract
+//! says so of the octets that the sources tell and of those that the sinks hold (`specs/Replays.antt`).
+#![tactic(auto)]
+
+mod choice;
+mod looking;
+mod outputs;
+mod port_ends;
+mod turns;
+
+pub use port_ends::PortEnds;
+pub use turns::{Stopped, replay};

@@ -1,0 +1,191 @@
+//! The ends of one port, and what was read ahead of its input.
+
+ghost use Rattle.std.specs.Prelude.{◌≡◌, ◌≢◌, ◌≤◌, ◌^◌, ◌<◌, true, false, IsSome, IfSome, Option, Some, ℕ};
+
+use pcap_io::PcapReader;
+use savi_core::{Core, Event, Stepped};
+use savi_ends::{Clock, Ends, Sink, Source};
+use savi_kinds::{FRAME_OCTETS_MOST, How, Next, Port, Who};
+
+/// The ends of one port, with the reader of its input and room for one frame.
+#[derive(Drop)]
+pub struct PortEnds<S, K, C> {
+    pub port: Port,
+    pub ends: Ends<S, K, C>,
+    reader: PcapReader,
+    buf: [u8; FRAME_OCTETS_MOST],
+    ahead: Ahead,
+}
+
+// What was read of an input and isn't entered yet.
+#[derive(Clone, Copy)]
+enum Ahead {
+    // Nothing.
+    Unread,
+    // A frame, whose octets are the first `len` of the buffer.
+    Frame { stamp: u64, len: u32 },
+    // A frame that is too long.
+    Long { stamp: u64, len: u32 },
+    // The end behind a whole record.
+    End,
+    // The place of what is at fault.
+    Malformed { at: u64 },
+    // The end of the input was entered.
+    Done,
+}
+
+impl<S, K, C> PortEnds<S, K, C> {
+    ghost use Rattle.port_worker.specs.Inputs.{moment_of, IsReadable};
+    ghost use Rattle.port_worker.specs.Replays.{IsUnread};
+
+    /// The ends of a port, of which nothing was read yet, and the reader of its input.
+    pub fn new(port: Port, ends: Ends<S, K, C>, reader: PcapReader) -> PortEnds<S, K, C>
+        requires { IsReadable reader }
+        ensures port { result.port ≡ port }
+        ensures ends { result.ends ≡ ends }
+        ensures reader { result.reader ≡ reader }
+        ensures unread { IsUnread result }
+    {
+        PortEnds {
+            port,
+            ends,
+            reader,
+            buf: [0; FRAME_OCTETS_MOST],
+            ahead: Ahead::Unread,
+        }
+    }
+
+    /// The port and its ends, given back.
+    pub fn into_parts(self) -> (Port, Ends<S, K, C>)
+        ensures port { result.0 ≡ self.port }
+        ensures ends { result.1 ≡ self.ends }
+    {
+        let PortEnds {
+            port,
+            ends,
+            reader: _,
+            buf: _,
+            ahead: _,
+        } = self;
+        (port, ends)
+    }
+
+    // When the turn that was read comes: an ending at once, an arrival by its stamp.
+    pub(crate) fn moment(&self) -> Option<u128>
+        ensures { result ≡ moment_of self.now }
+    {
+        match self.ahead {
+            Ahead::Unread | Ahead::Done => None,
+            Ahead::Frame { stamp, len: _ } | Ahead::Long { stamp, len: _ } => {
+                Some(u128::from(stamp) + 1)
+            }
+            Ahead::End | Ahead::Malformed { at: _ } => Some(0),
+        }
+    }
+}
+
+impl<S: Source, K, C: Clock> PortEnds<S, K, C> {
+    ghost use Rattle.savi_ends.specs.Faults.{Rose};
+    ghost use Rattle.port_worker.specs.Inputs.{IsSound, IsKnown, IsLooked};
+
+    // Reads what comes next, where that isn't known. The answer is false where a read failed.
+    pub(crate) fn look(&mut self) -> bool
+        requires { IsSound self.old.reader self.old.ahead }
+        ensures looked { IsLooked S.left S.faults self.old self.new }
+        ensures known { result ≡ true → IsKnown self.new.ahead }
+        ensures failed { result ≡ false → Rose (S.faults self.old.ends.source) (S.faults self.new.ends.source) }
+    {
+        let Ahead::Unread = self.ahead else {
+            return true;
+        };
+        match self
+            .reader
+            .next(&mut self.ends.source, &mut self.ends.clock, &mut self.buf)
+        {
+            Next::Frame { stamp, len } => self.ahead = Ahead::Frame { stamp, len },
+            Next::Long { stamp, len } => self.ahead = Ahead::Long { stamp, len },
+            Next::End => self.ahead = Ahead::End,
+            Next::Malformed { at } => self.ahead = Ahead::Malformed { at },
+            Next::Failed => return false,
+        }
+        true
+    }
+}
+
+impl<S, K, C> PortEnds<S, K, C> {
+    ghost use Rattle.savi_kinds.specs.declared.entry.Who.TheVariants.{Ingress};
+    ghost use Rattle.savi_kinds.specs.declared.entry.How.TheVariants as hows;
+    ghost use Rattle.savi_history.specs.Bases.{empty};
+    ghost use Rattle.savi_history.specs.Legal.{IsOpen, MayEnd};
+    ghost use Rattle.savi_history.specs.Events.{End};
+    ghost use Rattle.savi_core.specs.Machines.{with_event};
+    ghost use Rattle.port_worker.specs.Inputs.{IsSound, turn_of};
+    ghost use Rattle.port_worker.specs.Steps.{Enters, IsFullAt, IfFull, IfDone};
+    ghost use Rattle.port_worker.specs.declared.port_ends.Ahead.TheVariants as ahead;
+
+    // Enters the turn that was read. The answer is true where it is an arrival that was entered; else the input has
+    // ended, and its end was entered.
+    pub(crate) fn enter(&mut self, core: &mut Core) -> bool
+        requires known { IsSome (turn_of self.old) }
+        requires sound { IsSound self.old.reader self.old.ahead }
+        requires open { IsOpen core.old.plan empty core.old.past (Ingress self.old.port) }
+        ensures plan { core.new.plan ≡ core.old.plan }
+        ensures entered { IfSome (turn_of self.old) (λ turn. Enters core.old.plan self.old.port turn core.old.past result core.new.past) }
+        ensures rest { self.new ≡ record self.old { ahead = self.new.ahead } }
+        ensures arrived { result ≡ true → self.new.ahead ≡ ahead.Unread }
+        ensures ended { result ≡ false → self.new.ahead ≡ ahead.Done }
+    {
+        match self.ahead {
+            Ahead::Frame { stamp, len } => {
+                let stepped = core.step(Event::Frame {
+                    port: self.port,
+                    stamp,
+                    octets: &self.buf[..len as usize],
+                });
+                self.settle(core, stepped)
+            }
+            Ahead::Long { stamp, len } => {
+                let stepped = core.step(Event::Long {
+                    port: self.port,
+                    stamp,
+                    len,
+                });
+                self.settle(core, stepped)
+            }
+            Ahead::End => self.end(core, How::End),
+            Ahead::Malformed { at } => self.end(core, How::Malformed(at)),
+            Ahead::Unread | Ahead::Done => unreachable!(),
+        }
+    }
+
+    // Goes on behind an arrival that was entered, or ends where there was no room for it.
+    fn settle(&mut self, core: &mut Core, stepped: Stepped) -> bool
+        requires full { IsFullAt core.old self.old.port stepped }
+        ensures full { IfFull stepped (λ len. (result ≡ false) × (core.new ≡ with_event core.old (End (Ingress self.old.port) (hows.Full len))) × (self.new ≡ record self.old { ahead = ahead.Done })) }
+        ensures done { IfDone stepped ((result ≡ true) × (core.new ≡ core.old) × (self.new ≡ record self.old { ahead = ahead.Unread })) }
+    {
+        match stepped {
+            Stepped::Full { len } => self.end(core, How::Full(len)),
+            Stepped::Done(_) | Stepped::Nothing => {
+                self.ahead = Ahead::Unread;
+                true
+            }
+        }
+    }
+
+    // Ends the input. The answer is false.
+    fn end(&mut self, core: &mut Core, how: How) -> bool
+        requires open { IsOpen core.old.plan empty core.old.past (Ingress self.old.port) }
+        requires may { MayEnd core.old.plan empty core.old.past (Ingress self.old.port) how }
+        ensures answer { result ≡ false }
+        ensures entered { core.new ≡ with_event core.old (End (Ingress self.old.port) how) }
+        ensures rest { self.new ≡ record self.old { ahead = ahead.Done } }
+    {
+        let _entry = core.step(Event::End {
+            who: Who::Ingress(self.port),
+            how,
+        });
+        self.ahead = Ahead::Done;
+        false
+    }
+}
