@@ -1,0 +1,24 @@
+# The switch, its demonstration and its benchmark. Each needs the Rattle toolchain (`rt` on the path) and no network.
+
+.PHONY: build demo bench check clean
+
+# The proved program. The first build proves each crate, which takes some minutes; a later one takes seconds.
+build: build/savi_switch
+
+build/savi_switch: $(wildcard crates/*/src/*.rt crates/*/specs/*.antt crates/*/proofs/*.antt) crates.txt HANDLES
+	tools/build
+
+# A replay of two captures of Linux hosts, one of which attacks.
+demo: build
+	tools/demo
+
+# The program beside a C program that does the same octet work without judging.
+bench: build
+	bench/run build/savi_switch
+
+# The merge gate.
+check:
+	rt ci
+
+clean:
+	rm -rf build

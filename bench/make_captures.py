@@ -1,0 +1,36 @@
+#!/usr/bin/env python3
+"""Writes two captures for the benchmark: 60,000 frames each, 54 octets long, every eighth 1,500.
+
+usage: make_captures.py FOLDER
+"""
+import struct
+import sys
+
+FRAMES = 60_000
+HEADER = bytes.fromhex("d4c3b2a1020004000000000000000000ffff000001000000")
+
+
+def frame(port, size):
+    """A plain IPv6 packet (next header 59) from a host of this port, padded to the size."""
+    source = bytes([2, 0, 0, 0, 0, 16 * port + port])
+    ethernet = bytes.fromhex("0200000000fe") + source + bytes.fromhex("86dd")
+    payload = size - 14 - 40
+    ip = bytes.fromhex("60000000") + struct.pack(">HBB", payload, 59, 64)
+    addresses = bytes.fromhex("fe80" + 26 * "0" + f"{16 * port + port:02x}") + bytes.fromhex("fe80" + 26 * "0" + "fe")
+    return ethernet + ip + addresses + bytes(payload)
+
+
+def main(folder):
+    for port in (1, 2):
+        short, long = frame(port, 54), frame(port, 1500)
+        with open(f"{folder}/{port}.pcap", "wb") as out:
+            out.write(HEADER)
+            for k in range(FRAMES):
+                octets = long if k % 8 == 7 else short
+                stamp = 1000 + 2 * k + port
+                out.write(struct.pack("<IIII", stamp // 1000, 1000 * (stamp % 1000), len(octets), len(octets)))
+                out.write(octets)
+
+
+if __name__ == "__main__":
+    main(sys.argv[1])

@@ -1,0 +1,6 @@
+pub mod FixedPlans
+pub mod WordLists
+pub mod Played
+pub mod PortLists
+pub mod TwoPorts
+pub mod WholeRun

@@ -1,0 +1,9 @@
+pub mod Words
+pub mod FixedPlan
+pub mod Causes
+pub mod Session
+pub mod Played
+pub mod Spots
+pub mod NamedSpots
+pub mod PortPlaces
+pub mod RealWorlds

@@ -1,0 +1,26 @@
+-- The places of the real world.
+use Rattle.savi_ends.specs.declared.world.Std.{Std}
+use Rattle.savi_ends.specs.declared.world.Std.TheVariants.{Out, Err}
+use Rattle.savi_ends.specs.Places.{Place, Book}
+use Rattle.savi_switch.specs.declared.file_source.FileSource.{FileSource}
+use Rattle.savi_switch.specs.declared.file_sink.FileSink.{FileSink}
+use Rattle.savi_switch.specs.declared.machine_clock.MachineClock.{MachineClock}
+use Rattle.savi_switch.specs.declared.real_world.RealWorld.{RealWorld}
+use Rattle.savi_switch.specs.Spots.{place_of}
+use Rattle.savi_switch.specs.NamedSpots.{named_place}
+use Rattle.savi_switch.specs.PortPlaces.{port_place}
+
+abbrev pub std_place : RealWorld → Std → Place FileSink
+std_place w Out = place_of w.out
+std_place w Err = place_of w.err
+
+abbrev pub book_of : RealWorld → Book FileSource FileSink MachineClock
+book_of w = record {
+  faults = w.faults;
+  inputs = named_place w.input;
+  outputs = named_place w.output;
+  ports = port_place w.ports;
+  control = place_of w.control;
+  ticker = place_of w.ticker;
+  std = std_place w;
+}

@@ -1,0 +1,47 @@
+//! A switch that guards a shared network: it replays captures, and says of each frame what became of it.
+//!
+//! The contract of the program is that of `run`, the top call, over each world that keeps the contracts of `savi_ends`;
+//! `main` makes the real one.
+#![tactic(auto)]
+
+mod file_sink;
+mod file_source;
+mod fixed_plan;
+mod machine_clock;
+mod named_spot;
+mod port_spots;
+mod real_world;
+mod session;
+mod spot;
+#[cfg(test)]
+mod tests;
+mod top;
+mod two_ports;
+mod words;
+
+use real_world::RealWorld;
+use std::env;
+use std::process::ExitCode;
+use top::{NO_MEMORY, USAGE, run};
+
+fn main(rt: HostRuntime) -> ExitCode {
+    ExitCode::from(status_of(rt))
+}
+
+// The status of a run in the real world. Words that aren't text are no form of the command line.
+fn status_of(rt: HostRuntime) -> u8 {
+    let alloc = rt.alloc();
+    let mut arguments = match env::args(&rt) {
+        Ok(arguments) => arguments,
+        Err(_) => return USAGE,
+    };
+    let _program = arguments.next();
+    let words: Vec<String> = match arguments.collect(alloc) {
+        Ok(words) => words,
+        Err(_) => return NO_MEMORY,
+    };
+    match RealWorld::make(rt, alloc) {
+        Ok(mut world) => run(alloc, words.as_slice(), &mut world),
+        Err(_) => NO_MEMORY,
+    }
+}

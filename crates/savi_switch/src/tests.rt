@@ -1,0 +1,341 @@
+//! Runs of the whole program over a world in memory.
+
+use crate::top::run;
+use savi_ends::{Ends, MemClock, MemEnds, MemSink, MemSource, MemWorld};
+use savi_kinds::{Port, Text};
+use std::alloc::{AllocError, Global};
+use std::test::Fail;
+
+/// The header of a capture, little-endian with microseconds (the libpcap savefile format).
+const HEADER: &str = "d4c3b2a1020004000000000000000000ffff000001000000";
+
+/// A router advertisement of a host, 70 octets (RFC 4861 section 4.2).
+const ADVERT: &str =
+    "33330000000102000000002286dd6000000000103afffe800000000000000000000000000022ff02000000000000000000000000000186003506400007080000000000000000";
+
+/// A packet without an upper header, 54 octets.
+const PACKET: &str =
+    "0200000000fe02000000001186dd6000000000003b40fe800000000000000000000000000011fe8000000000000000000000000000fe";
+
+/// In front of 70 octets at 1,000 ms, of 54 at 1,001 ms, and of 70 at 1,002 ms.
+const AT_1000: &str = "01000000000000004600000046000000";
+
+const AT_1001: &str = "01000000e80300003600000036000000";
+
+const AT_1002: &str = "01000000d00700004600000046000000";
+
+/// In front of one octet at 0 ms.
+const ONE_OCTET: &str = "00000000000000000100000001000000";
+
+/// What a journal begins with.
+const JOURNAL_HEADER: [&str; 14] = [
+    "savi-journal 1",
+    "mac 02:00:00:00:00:01",
+    "savi off",
+    "unknown drop",
+    "per_port 32",
+    "depth 256",
+    "entries 262144",
+    "bytes 67108864",
+    "gap 250",
+    "test 500",
+    "binding 300000",
+    "port 1 host pcap",
+    "port 2 trusted pcap",
+    "begin",
+];
+
+const WORKED_LINES: [&str; 12] = [
+    "0 2 0 E control end",
+    "1 0 1000 F 1 1000 33330000000102000000002286dd6000000000103afffe800000000000000000000000000022ff02000000000000000000000000000186003506400007080000000000000000 drop-RouterAdvert - - 0 0",
+    "2 0 1001 F 1 1001 0200000000fe02000000001186dd6000000000003b40fe800000000000000000000000000011fe8000000000000000000000000000fe pass-all 2 - 0 0",
+    "3 5 1001 D 2 1",
+    "4 0 1001 E in1 end",
+    "5 1 1002 F 2 1002 33330000000102000000002286dd6000000000103afffe800000000000000000000000000022ff02000000000000000000000000000186003506400007080000000000000000 pass-all 1 - 0 0",
+    "6 4 1002 D 1 1",
+    "7 1 1002 E in2 end",
+    "8 3 1002 E ticker end",
+    "9 4 1002 E out1 end",
+    "10 5 1002 E out2 end",
+    "end 11",
+];
+
+const EMPTY_LINES: [&str; 7] = [
+    "0 2 0 E control end",
+    "1 0 0 E in1 end",
+    "2 1 0 E in2 end",
+    "3 3 0 E ticker end",
+    "4 4 0 E out1 end",
+    "5 5 0 E out2 end",
+    "end 6",
+];
+
+/// The number of the opening, read or write that is to fail, counted from 1; 0 for none.
+#[derive(Clone, Copy)]
+struct Faults {
+    opening: u64,
+    first_read: u64,
+    second_write: u64,
+    journal_write: u64,
+    summary_write: u64,
+}
+
+const NO_FAULT: Faults = Faults {
+    opening: 0,
+    first_read: 0,
+    second_write: 0,
+    journal_write: 0,
+    summary_write: 0,
+};
+
+// The octets of these hexadecimal texts, one behind the other.
+fn octets_of(alloc: Global, texts: &[&str]) -> Result<Vec<u8>, Fail> {
+    let mut all = Vec::new(alloc);
+    for text in texts {
+        let part = hex::decode(alloc, *text)?;
+        all.extend_from_slice(part.as_slice())?;
+    }
+    Ok(all)
+}
+
+// The lines of two lists, each with its line feed.
+fn text_of(alloc: Global, head: &[&str], rest: &[&str]) -> Result<Vec<u8>, AllocError> {
+    let mut all = Vec::new(alloc);
+    for line in head {
+        all.extend_from_slice(line.as_bytes())?;
+        all.push(b'\n')?;
+    }
+    for line in rest {
+        all.extend_from_slice(line.as_bytes())?;
+        all.push(b'\n')?;
+    }
+    Ok(all)
+}
+
+fn words_of(alloc: Global, texts: &[&str]) -> Result<Vec<String>, AllocError> {
+    let mut words = Vec::new(alloc);
+    for text in texts {
+        words.push(String::from_str(alloc, *text)?)?;
+    }
+    Ok(words)
+}
+
+// The ends of a port, of which this read and this write fail.
+fn ends_of(alloc: Global, octets: Vec<u8>, read: u64, write: u64) -> Result<MemEnds, AllocError> {
+    Ok(Ends {
+        source: MemSource::new(octets, 65_536, [read].to_vec(alloc)?),
+        sink: MemSink::make(alloc, 8_192, [write].to_vec(alloc)?)?,
+        clock: MemClock::new(Vec::new(alloc)),
+    })
+}
+
+// A world with these captures at the two ports, and so many octets of room for the journal.
+fn world_of(
+    alloc: Global,
+    first: Vec<u8>,
+    second: Vec<u8>,
+    room: usize,
+    faults: Faults,
+) -> Result<MemWorld, Fail> {
+    let one = Port::new(1).ok_or("no port")?;
+    let two = Port::new(2).ok_or("no port")?;
+    let mut ports = Vec::new(alloc);
+    ports.push((one, Some(ends_of(alloc, first, faults.first_read, 0)?)))?;
+    ports.push((two, Some(ends_of(alloc, second, 0, faults.second_write)?)))?;
+    let name = Text::new(String::from_str(alloc, "journal.txt")?);
+    let journal = MemSink::make(alloc, room, [faults.journal_write].to_vec(alloc)?)?;
+    let mut outputs = Vec::new(alloc);
+    outputs.push((name, Some(journal)))?;
+    Ok(MemWorld {
+        inputs: Vec::new(alloc),
+        outputs,
+        ports,
+        control: Some(ends_of(alloc, Vec::new(alloc), 0, 0)?),
+        ticker: Some(MemClock::new(Vec::new(alloc))),
+        out: Some(MemSink::make(alloc, 256, [faults.summary_write].to_vec(alloc)?)?),
+        err: Some(MemSink::make(alloc, 256, Vec::new(alloc))?),
+        fails: [faults.opening].to_vec(alloc)?,
+        opened: 0,
+        faulty: 0,
+    })
+}
+
+fn journal_of(world: &MemWorld) -> &[u8] {
+    match world.outputs.as_slice() {
+        [(_, Some(sink))] => sink.written(),
+        _ => &[],
+    }
+}
+
+fn output_of(world: &MemWorld, place: usize) -> &[u8] {
+    match world.ports.as_slice().get(place) {
+        Some((_, Some(ends))) => ends.sink.written(),
+        _ => &[],
+    }
+}
+
+fn summary_of(world: &MemWorld) -> &[u8] {
+    match &world.out {
+        Some(sink) => sink.written(),
+        None => &[],
+    }
+}
+
+#[test]
+fn the_worked_captures_are_replayed(rt: HostRuntime) -> Result<(), Fail> {
+    let alloc = rt.alloc();
+    let first = octets_of(alloc, &[HEADER, AT_1000, ADVERT, AT_1001, PACKET])?;
+    let second = octets_of(alloc, &[HEADER, AT_1002, ADVERT])?;
+    let mut world = world_of(alloc, first, second, 8_192, NO_FAULT)?;
+    assert!(rt; world.is_fresh());
+    let words = words_of(alloc, &["replay", "plan"])?;
+    assert_eq!(rt; run(alloc, words.as_slice(), &mut world), 0);
+    let journal = text_of(alloc, &JOURNAL_HEADER, &WORKED_LINES)?;
+    assert_eq!(rt; journal_of(&world), journal.as_slice());
+    let at_one = octets_of(alloc, &[HEADER, AT_1002, ADVERT])?;
+    let at_two = octets_of(alloc, &[HEADER, AT_1001, PACKET])?;
+    assert_eq!(rt; output_of(&world, 0), at_one.as_slice());
+    assert_eq!(rt; output_of(&world, 1), at_two.as_slice());
+    assert_eq!(rt;
+        summary_of(&world),
+        b"entries 11 frames 3 passed 2 dropped 1 probes 0 lost 0 cut 0\n".as_slice()
+    );
+    Ok(())
+}
+
+#[test]
+fn captures_without_a_record_make_a_journal(rt: HostRuntime) -> Result<(), Fail> {
+    let alloc = rt.alloc();
+    let header = octets_of(alloc, &[HEADER])?;
+    let first = octets_of(alloc, &[HEADER])?;
+    let second = octets_of(alloc, &[HEADER])?;
+    let mut world = world_of(alloc, first, second, 8_192, NO_FAULT)?;
+    assert!(rt; world.is_fresh());
+    let words = words_of(alloc, &["replay", "plan"])?;
+    assert_eq!(rt; run(alloc, words.as_slice(), &mut world), 0);
+    let journal = text_of(alloc, &JOURNAL_HEADER, &EMPTY_LINES)?;
+    assert_eq!(rt; journal_of(&world), journal.as_slice());
+    assert_eq!(rt; output_of(&world, 0), header.as_slice());
+    assert_eq!(rt; output_of(&world, 1), header.as_slice());
+    assert_eq!(rt;
+        summary_of(&world),
+        b"entries 6 frames 0 passed 0 dropped 0 probes 0 lost 0 cut 0\n".as_slice()
+    );
+    Ok(())
+}
+
+#[test]
+fn each_status_has_its_cause(rt: HostRuntime) -> Result<(), Fail> {
+    let rows: [(&str, &[&str], Faults, u8); 10] = [
+        ("no words", &[], NO_FAULT, 2),
+        ("one word", &["replay"], NO_FAULT, 2),
+        ("three words", &["replay", "plan", "plan"], NO_FAULT, 2),
+        ("another form", &["serve", "plan"], NO_FAULT, 2),
+        (
+            "the first opening",
+            &["replay", "plan"],
+            Faults {
+                opening: 1,
+                ..NO_FAULT
+            },
+            7,
+        ),
+        (
+            "the last opening",
+            &["replay", "plan"],
+            Faults {
+                opening: 3,
+                ..NO_FAULT
+            },
+            7,
+        ),
+        (
+            "a read",
+            &["replay", "plan"],
+            Faults {
+                first_read: 1,
+                ..NO_FAULT
+            },
+            5,
+        ),
+        (
+            "a write",
+            &["replay", "plan"],
+            Faults {
+                second_write: 2,
+                ..NO_FAULT
+            },
+            6,
+        ),
+        (
+            "the journal",
+            &["replay", "plan"],
+            Faults {
+                journal_write: 1,
+                ..NO_FAULT
+            },
+            6,
+        ),
+        (
+            "the summary",
+            &["replay", "plan"],
+            Faults {
+                summary_write: 1,
+                ..NO_FAULT
+            },
+            6,
+        ),
+    ];
+    let alloc = rt.alloc();
+    for (name, texts, faults, status) in rows {
+        let first = octets_of(alloc, &[HEADER, AT_1000, ADVERT, AT_1001, PACKET])?;
+        let second = octets_of(alloc, &[HEADER, AT_1002, ADVERT])?;
+        let mut world = world_of(alloc, first, second, 8_192, faults)?;
+        assert!(rt; world.is_fresh());
+        let words = words_of(alloc, texts)?;
+        assert_eq!(rt; run(alloc, words.as_slice(), &mut world), status, "{name}");
+    }
+    Ok(())
+}
+
+#[test]
+fn a_capture_that_is_cut_is_malformed(rt: HostRuntime) -> Result<(), Fail> {
+    let alloc = rt.alloc();
+    for len in 0..180_usize {
+        let mut first = octets_of(alloc, &[HEADER, AT_1000, ADVERT, AT_1001, PACKET])?;
+        first.truncate(len);
+        let second = octets_of(alloc, &[HEADER])?;
+        let mut world = world_of(alloc, first, second, 8_192, NO_FAULT)?;
+        assert!(rt; world.is_fresh());
+        let words = words_of(alloc, &["replay", "plan"])?;
+        let status = if len == 24 || len == 110 { 0 } else { 4 };
+        assert_eq!(rt;
+            run(alloc, words.as_slice(), &mut world),
+            status,
+            "{len} octets"
+        );
+    }
+    Ok(())
+}
+
+#[test]
+fn a_history_is_full_at_its_limit(rt: HostRuntime) -> Result<(), Fail> {
+    let alloc = rt.alloc();
+    let record = octets_of(alloc, &[ONE_OCTET, "00"])?;
+    for (frames, status) in [(258_012_u32, 0), (258_013, 8)] {
+        let mut first = octets_of(alloc, &[HEADER])?;
+        for _ in 0..frames {
+            first.extend_from_slice(record.as_slice())?;
+        }
+        let second = octets_of(alloc, &[HEADER])?;
+        let mut world = world_of(alloc, first, second, 16_777_216, NO_FAULT)?;
+        assert!(rt; world.is_fresh());
+        let words = words_of(alloc, &["replay", "plan"])?;
+        assert_eq!(rt;
+            run(alloc, words.as_slice(), &mut world),
+            status,
+            "{frames} frames"
+        );
+    }
+    Ok(())
+}
