@@ -1,0 +1,3 @@
+pub mod OptionLists
+pub mod Readings
+pub mod TestOrder
