@@ -1,0 +1,2 @@
+pub mod ProbeOctets
+pub mod ProbeReading
