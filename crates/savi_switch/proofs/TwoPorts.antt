@@ -127,3 +127,11 @@ played_two {S} {K} {C} left written plan old new n1 n2 one last a b first second
 -- two elements that were added to none
 pub both_added : {X : Type 0} (none one both : List X) (a b : X) → none ≡ [] → one ≡ none ++ a ∷ [] → both ≡ one ++ b ∷ [] → both ≡ a ∷ b ∷ []
 both_added none one both a b none_is one_is both_is = rw (both_is, one_is, none_is) refl
+
+-- where the list is as it was, so are the ends
+pub ends_back : {S K C : Type 0} (old new : List (PortEnds S K C)) (n1 n2 one last : PortEnds S K C) (first second first' second' : Ends S K C)
+    → old ≡ n1 ∷ n2 ∷ [] → new ≡ one ∷ last ∷ [] → n1.ends ≡ first → n2.ends ≡ second → first' ≡ one.ends → second' ≡ last.ends
+    → new ≡ old → (first' ≡ first) × (second' ≡ second)
+ends_back {S} {K} {C} old new n1 n2 one last first second first' second' old_is new_is e1 e2 e3 e4 same =
+    let both : one ∷ last ∷ [] ≡ n1 ∷ n2 ∷ [] = sym new_is ∙ same ∙ old_is in
+    (e3 ∙ ap (λ (ps : List (PortEnds S K C)). (get_or ps 0 n1).ends) both ∙ e1, e4 ∙ ap (λ (ps : List (PortEnds S K C)). (get_or ps 1 n1).ends) both ∙ e2)

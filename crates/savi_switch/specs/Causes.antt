@@ -1,5 +1,5 @@
 -- When each status comes.
-use Rattle.std.specs.Prelude.{◌≡◌, ◌<◌, ◌⊎◌, ◌==◌, ℕ, true, List, [], ◌∷◌, IsSome, IsSomeAnd}
+use Rattle.std.specs.Prelude.{◌≡◌, ◌<◌, ◌⊎◌, ◌==◌, ℕ, true, List, [], ◌∷◌, IfSome, IsSome, IsSomeAnd}
 use Rattle.std.specs.List.{list_any}
 use Rattle.savi_ends.specs.declared.world.Std.TheVariants.{Out, Err}
 use Rattle.savi_ends.specs.Places.{Place, Book}
@@ -52,3 +52,17 @@ pub record IsElsewhereSame {S K C : Type 0} (old new : Book S K C) : Type 0 wher
   pub control : new.control ≡ old.control
   pub ticker : new.ticker ≡ old.ticker
   pub errors : new.std Err ≡ old.std Err
+
+-- the end that is told in this place is kept there as it was
+abbrev pub IsBack : {X : Type 0} → Place X → Place X → Type 0
+IsBack old new = IfSome old.stands (λ told. IsSomeAnd new.stands (λ kept. kept ≡ told))
+
+-- the ends of both ports and of the journal are as they were
+pub record IsUnused {S K C : Type 0} (old new : Book S K C) : Type 0 where
+  pub first : IsBack (old.ports 1) (new.ports 1)
+  pub second : IsBack (old.ports 2) (new.ports 2)
+  pub journal : IsBack (old.outputs journal_name) (new.outputs journal_name)
+
+-- the statuses of a run that read and wrote nothing at its ports and in its journal
+abbrev pub unused_statuses : List ℕ
+unused_statuses = 1 ∷ 7 ∷ []

@@ -56,6 +56,7 @@ pub fn play<S: Source, K: Sink, C: Clock>(
     requires unread { All IsUnread ports.old }
     ensures later { EachPair (IsLater S.faults K.faults) ports.old ports.new }
     ensures journal { K.faults journal.old ≤ K.faults journal.new }
+    ensures none { result ≡ Ended.NoMemory → (ports.new ≡ ports.old) × (journal.new ≡ journal.old) }
     ensures read { result ≡ Ended.ReadFault → HasRisen (λ p. S.faults p.ends.source) ports.old ports.new }
     ensures write { result ≡ Ended.WriteFault → HasRisen (λ p. K.faults p.ends.sink) ports.old ports.new ⊎ Rose (K.faults journal.old) (K.faults journal.new) }
     ensures played { IfFinished result (IsPlayedBy S.left K.written plan ports.old ports.new journal.old journal.new) }

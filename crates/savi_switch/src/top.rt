@@ -9,7 +9,7 @@ ghost use Rattle.savi_history.specs.Summary.{summary_text};
 ghost use Rattle.savi_core.specs.Sums.{sum_of};
 ghost use Rattle.savi_switch.specs.Words.{IsReplay};
 ghost use Rattle.savi_switch.specs.FixedPlan.{IsFixedPlan};
-ghost use Rattle.savi_switch.specs.Causes.{HasFault, HasReadFault, HasWriteFault, IsElsewhereSame, IsOneOf, KeepsAll, finished_statuses, session_statuses, quiet_statuses, statuses};
+ghost use Rattle.savi_switch.specs.Causes.{HasFault, HasReadFault, HasWriteFault, IsElsewhereSame, IsOneOf, IsUnused, KeepsAll, finished_statuses, session_statuses, quiet_statuses, unused_statuses, statuses};
 ghost use Rattle.savi_switch.specs.Session.{IsReplayOf, Took};
 
 use crate::fixed_plan::{JOURNAL_NAME, fixed_plan};
@@ -49,6 +49,7 @@ pub fn run<W: World>(alloc: Global, words: &[String], world: &mut W) -> u8
     ensures replay { IsOneOf finished_statuses result → IsReplayOf W.S.left W.K.written (W.book world.old) (W.book world.new) result }
     ensures kept { IsOneOf session_statuses result → KeepsAll (W.book world.new) }
     ensures quiet { IsOneOf quiet_statuses result → (W.book world.new).std ≡ (W.book world.old).std }
+    ensures unused { IsOneOf unused_statuses result → IsUnused (W.book world.old) (W.book world.new) }
     ensures elsewhere { IsElsewhereSame (W.book world.old) (W.book world.new) }
 {
     if !is_replay(words) {
@@ -72,6 +73,7 @@ fn replay_files<W: World>(alloc: Global, plan: Plan, world: &mut W) -> u8
     ensures replay { IsOneOf finished_statuses result → IsReplayOf W.S.left W.K.written (W.book world.old) (W.book world.new) result }
     ensures kept { IsOneOf session_statuses result → KeepsAll (W.book world.new) }
     ensures quiet { IsOneOf quiet_statuses result → (W.book world.new).std ≡ (W.book world.old).std }
+    ensures unused { IsOneOf unused_statuses result → IsUnused (W.book world.old) (W.book world.new) }
     ensures elsewhere { IsElsewhereSame (W.book world.old) (W.book world.new) }
 {
     let [first_plan, second_plan] = plan.ports.as_slice() else {

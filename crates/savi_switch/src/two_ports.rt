@@ -38,6 +38,7 @@ pub fn play_two<S: Source, K: Sink, C: Clock>(
 ) -> Played<S, K, C>
     requires fixed { IsFixedPlan plan }
     requires numbers { ports_planned plan ≡ numbers.0 ∷ numbers.1 ∷ [] }
+    ensures none { result.ended ≡ Ended.NoMemory → (result.first ≡ first) × (result.second ≡ second) × (journal.new ≡ journal.old) }
     ensures read { result.ended ≡ Ended.ReadFault → Rose (S.faults first.source) (S.faults result.first.source) ⊎ Rose (S.faults second.source) (S.faults result.second.source) }
     ensures write { result.ended ≡ Ended.WriteFault → Rose (K.faults first.sink) (K.faults result.first.sink) ⊎ (Rose (K.faults second.sink) (K.faults result.second.sink) ⊎ Rose (K.faults journal.old) (K.faults journal.new)) }
     ensures played { IfFinished result.ended (IsPlayed S.left K.written plan first second result.first result.second journal.old journal.new) }

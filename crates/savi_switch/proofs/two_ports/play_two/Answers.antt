@@ -2,7 +2,7 @@ use Rattle.std.proofs.Common.{◌≡◌, ◌⊎◌, inl, inr, ◌∙◌, ap, ari
 use Rattle.savi_ends.specs.declared.world.Ends.{Ends}
 use Rattle.savi_ends.specs.Faults.{Rose}
 use Rattle.savi_switch.specs.Played.{HasRisen, IsPlayed, IsPlayedBy}
-use Rattle.savi_switch.proofs.TwoPorts.{taken_two, risen_two, if_finished, played_two, both_added}
+use Rattle.savi_switch.proofs.TwoPorts.{taken_two, risen_two, if_finished, played_two, both_added, ends_back}
 use Rattle.savi_switch.proofs.two_ports.play_two.Given as given
 use Rattle.savi_switch.proofs.two_ports.play_two.Goals as goal
 
@@ -51,3 +51,11 @@ returns-clause-played g c =
     c.requires.fixed c.requires.numbers (before g c) (behind g c) c.new.ensures.ends c.new-2.ensures.ends c.close.ensures c.close-2.ensures
     c.new.ensures.port c.new-2.ensures.port (c.new.ensures.reader ∙ c.of_kind.ensures) (c.new-2.ensures.reader ∙ c.of_kind-2.ensures) played)
     c.play-ended.ensures.played
+
+pub returns-clause-none : goal.returns-clause-none
+returns-clause-none g c = λ failed.
+    let both = c.play-ended.ensures.none failed in
+    let ends = ends_back c.as_mut_slice.result.now c.play-ended.new.ports c.new.result c.new-2.result c.take_last-one.result c.take_last-last.result
+    c.args.first c.args.second c.close.result c.close-2.result
+    (before g c) (behind g c) c.new.ensures.ends c.new-2.ensures.ends c.close.ensures c.close-2.ensures both.0 in
+    (ends.0, ends.1, both.1)
