@@ -1,8 +1,11 @@
 -- What was read in call after call, joined.
-use Rattle.std.proofs.Common.{◌≡◌, ℕ, List, [], ◌++◌, Option, Some, None, append_assoc, refl, subst}
+use Rattle.std.proofs.Common.{◌≡◌, ℕ, List, [], ◌++◌, Option, Some, None, append_assoc, append-nil, IfSome, refl, subst}
+use Rattle.savi_ends.proofs.Octets.{if_told}
+use Rattle.savi_kinds.specs.declared.entry.How.{How}
+use Rattle.pcap_io.specs.Runs.{ended}
 use Rattle.savi_ends.specs.Octets.{Takes}
 use Rattle.savi_kinds.specs.Arrivals.{Arrival}
-use Rattle.pcap_io.specs.Readers.{State, HasRead}
+use Rattle.pcap_io.specs.Readers.{State, Comes, HasRead, HasEnded, HasFailed}
 
 -- a call that filled a whole buffer took what the buffer holds
 pub takes_whole : (before after : Option (List ℕ)) (gave buf : List ℕ) → Takes before after gave → gave ≡ buf → Takes before after buf
@@ -21,3 +24,20 @@ has_read_more first mid now a b arrivals more one next rest later ending comes =
 pub takes_none : (left : Option (List ℕ)) → Takes left left []
 takes_none None = refl
 takes_none (Some rest) = refl
+
+-- A run of calls that read these arrivals and then ended: what they took together are these arrivals and
+-- this ending, and so is the whole that was left at first, where that is told.
+pub taken_input : (first mid now : State) (a b : List ℕ) (arrivals : List Arrival) (left : Option (List ℕ)) (ending : How) → HasRead first mid a arrivals → HasEnded mid now b left ending → Comes first (a ++ b) (record { arrivals = arrivals; ending = ending })
+taken_input first mid now a b arrivals left ending read one = rw append-nil at (read b [] ending one.taken)
+
+pub whole_input : (first mid now : State) (a b : List ℕ) (arrivals : List Arrival) (before left : Option (List ℕ)) (ending : How) → HasRead first mid a arrivals → HasEnded mid now b left ending → Takes before left (a ++ b) → IfSome before (λ octets. Comes first octets (record { arrivals = arrivals; ending = ending }))
+whole_input first mid now a b arrivals before left ending read one takes =
+    if_told (λ octets. Comes first octets (record { arrivals = arrivals; ending = ending })) (a ++ b) before left takes
+    (λ rest told. rw (append_assoc a b rest) (rw append-nil at (read (b ++ rest) [] ending (whole_of left rest one.whole told))))
+  where
+    whole_of : (left : Option (List ℕ)) (rest : List ℕ) → IfSome left (λ behind. Comes mid (b ++ behind) (ended ending)) → left ≡ Some rest → Comes mid (b ++ rest) (ended ending)
+    whole_of left rest whole told = rw told at whole
+
+-- A run of calls that read these arrivals and then failed: what they took together are these arrivals.
+pub failed_input : (first mid now : State) (a b : List ℕ) (arrivals : List Arrival) → HasRead first mid a arrivals → HasFailed mid now b → (ending : How) × Comes first (a ++ b) (record { arrivals = arrivals; ending = ending })
+failed_input first mid now a b arrivals read one = (one.taken.0, rw append-nil at (read b [] one.taken.0 one.taken.1))

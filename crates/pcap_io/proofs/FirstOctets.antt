@@ -1,5 +1,5 @@
 -- The header of an input, and an input without one.
-use Rattle.std.proofs.Common.{◌≡◌, ℕ, ◌+◌, ◌^◌, ◌<◌, ◌≤◌, List, [], ◌∷◌, ◌++◌, length, take, drop, min, Option, Some, None, IfSome, Contains, inl, inr, refl, sym, ap, subst, ◌∙◌, arith, append-nil, append_assoc, length-append}
+use Rattle.std.proofs.Common.{◌≡◌, ℕ, ◌+◌, ◌<◌, List, [], ◌++◌, length, Option, Some, None, IfSome, Contains, inl, inr, refl, ap, subst, ◌∙◌, arith, append-nil, append_assoc, length-append}
 use Rattle.std.proofs.lemmas.List.{length-take}
 use Rattle.savi_ends.specs.Octets.{NothingLeft}
 use Rattle.savi_kinds.specs.declared.entry.How.{How}
@@ -10,7 +10,7 @@ use Rattle.savi_kinds.specs.Arrivals.{Arrival, Input}
 use Rattle.pcap_io.specs.declared.kind.HeaderKind.{HeaderKind}
 use Rattle.pcap_io.specs.Kinds.{IsHeader}
 use Rattle.pcap_io.specs.Runs.{Arrive, ended}
-use Rattle.pcap_io.specs.Readers.{State, Fresh, Running, Ended, Comes, HasRead, HasReadOne, HasEnded, HasFailed, Answers}
+use Rattle.pcap_io.specs.Readers.{State, Fresh, Running, Ended, Comes, HasReadOne, HasEnded, HasFailed, Answers}
 use Rattle.pcap_io.proofs.Fronts.{take_front, drop_front}
 use Rattle.pcap_io.proofs.Endings.{if_nothing_left, whatever_left}
 

@@ -6,3 +6,4 @@ pub mod FirstOctets
 pub mod Existence
 pub mod Uniqueness
 pub mod Written
+pub mod WholeRuns

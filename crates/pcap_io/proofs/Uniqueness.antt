@@ -1,5 +1,6 @@
 -- No list of octets is two inputs.
-use Rattle.std.proofs.Common.{lit<, ◌≡◌, ◌≢◌, ℕ, ◌+◌, ◌*◌, ◌^◌, ◌<◌, ◌≤◌, List, [], ◌∷◌, ◌++◌, length, take, drop, get_or, inl, inr, refl, sym, ap, subst, ◌∙◌, arith, length-append}
+use Rattle.std.proofs.Common.{lit<, ◌≡◌, ℕ, ◌+◌, ◌^◌, ◌<◌, ◌≤◌, List, [], ◌∷◌, ◌++◌, length, take, drop, get_or, inl, inr, refl, sym, ap, subst, ◌∙◌, arith, append_assoc, length-append}
+use Rattle.std.proofs.lemmas.List.{length-take, take-append-le, drop-append-le}
 use Rattle.std.specs.Int.{w32}
 use Rattle.savi_kinds.specs.declared.entry.How.{How}
 use Rattle.savi_kinds.specs.declared.entry.How.TheVariants as how
@@ -12,7 +13,7 @@ use Rattle.pcap_io.specs.declared.kind.HeaderKind.{HeaderKind}
 use Rattle.pcap_io.specs.Numbers.{octets_of}
 use Rattle.pcap_io.specs.Kinds.{magic_of, IsHeader}
 use Rattle.pcap_io.specs.Records.{captured_of, IsRecordOf}
-use Rattle.pcap_io.specs.Runs.{BeginsRecord, EndsAs, IsRun, Arrive, ended}
+use Rattle.pcap_io.specs.Runs.{EndsAs, IsRun, Arrive}
 use Rattle.pcap_io.proofs.Fronts.{take_front, drop_front, captured_of-append}
 
 abbrev kind_of_parts : ByteOrder → TimeUnit → HeaderKind
@@ -138,3 +139,35 @@ one_input kinds octets one other (inl a) (inl b) =
 one_input kinds octets one other (inl a) (inr b) = absurd (b.none a.kind a.accepted a.header)
 one_input kinds octets one other (inr a) (inl b) = absurd (a.none b.kind b.accepted b.header)
 one_input kinds octets one other (inr a) (inr b) = a.malformed ∙ sym b.malformed
+
+-- a front of some octets holds a front of their arrivals
+front_run : (arrivals others : List Arrival) (e f : How) (kind : HeaderKind) (place : ℕ) (octets more : List ℕ) → IsRun kind place arrivals e octets → IsRun kind place others f (octets ++ more) → (later : List Arrival) × (others ≡ arrivals ++ later)
+front_run [] others e f kind place octets more one whole = (others, refl)
+front_run (a ∷ arrivals) [] e f kind place octets more one whole =
+    let split : octets ++ more ≡ one.0 ++ (one.1 ++ more) = ap (λ (l : List ℕ). l ++ more) one.2 ∙ append_assoc one.0 one.1 more in
+    absurd (no_ending kind place one.0 (one.1 ++ more) a f one.3 one.4 (subst (λ (l : List ℕ). EndsAs kind place f l) split whole))
+front_run (a ∷ arrivals) (b ∷ others) e f kind place octets more one whole =
+    let split : octets ++ more ≡ one.0 ++ (one.1 ++ more) = ap (λ (l : List ℕ). l ++ more) one.2 ∙ append_assoc one.0 one.1 more in
+    let same = first_once kind one.0 (one.1 ++ more) whole.0 whole.1 a b (sym split ∙ whole.2) one.3 whole.3 in
+    let first = arrival_once kind one.0 a b one.3 (subst (λ (l : List ℕ). IsRecordOf kind l b) (sym same.0) whole.3) in
+    let behind : IsRun kind (place + length one.0) others f (one.1 ++ more) =
+    subst (λ (l : List ℕ). IsRun kind (place + length l) others f (one.1 ++ more)) (sym same.0)
+    (subst (λ (l : List ℕ). IsRun kind (place + length whole.0) others f l) (sym same.1) whole.5) in
+    let later = front_run arrivals others e f kind (place + length one.0) one.1 more one.5 behind in
+    (later.0, ap (λ (c : Arrival). c ∷ others) (sym first) ∙ ap (λ (l : List Arrival). a ∷ l) later.1)
+
+pub front_input : (kinds : List HeaderKind) (octets more : List ℕ) (part whole : Input) → Arrive kinds octets part → Arrive kinds (octets ++ more) whole → (later : List Arrival) × (whole.arrivals ≡ part.arrivals ++ later)
+front_input kinds octets more part whole (inr a) b = (whole.arrivals, ap (λ (i : Input). i.arrivals ++ whole.arrivals) (sym a.malformed))
+front_input kinds octets more part whole (inl a) b =
+    let room : 24 ≤ length octets = omega (arith, a.header.size, length-take 24 octets) in
+    let same : take 24 (octets ++ more) ≡ take 24 octets = take-append-le 24 octets more room in
+    let header : IsHeader a.kind (take 24 (octets ++ more)) = subst (λ (l : List ℕ). IsHeader a.kind l) (sym same) a.header in
+    elim b [
+      | inr none ↦ absurd (none.none a.kind a.accepted header)
+      | inl w ↦
+          let kind : w.kind ≡ a.kind = kind_once w.kind a.kind (take 24 (octets ++ more)) w.header header in
+          let run : IsRun a.kind 24 whole.arrivals whole.ending (drop 24 octets ++ more) =
+          subst (λ (l : List ℕ). IsRun a.kind 24 whole.arrivals whole.ending l) (drop-append-le 24 octets more room)
+          (subst (λ (k : HeaderKind). IsRun k 24 whole.arrivals whole.ending (drop 24 (octets ++ more))) kind w.run) in
+          front_run part.arrivals whole.arrivals part.ending whole.ending a.kind 24 (drop 24 octets) more a.run run
+    ]

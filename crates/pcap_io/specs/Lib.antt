@@ -6,3 +6,4 @@ pub mod Readers
 pub mod ReaderStates
 pub mod Pieces
 pub mod Captures
+pub mod Calls

@@ -1,5 +1,5 @@
 -- How contracts see what a reader keeps.
-use Rattle.std.specs.Prelude.{ℕ, List, [], ◌∷◌, Option, Some, None}
+use Rattle.std.specs.Prelude.{List, [], ◌∷◌, Option, Some, None}
 use Rattle.savi_kinds.specs.declared.entry.How.TheVariants as how
 use Rattle.pcap_io.specs.declared.kind.HeaderKind.{HeaderKind}
 use Rattle.pcap_io.specs.declared.reader.State.{State as Kept}

@@ -12,9 +12,13 @@ mod kind;
 mod laws;
 mod reader;
 mod record;
+#[cfg(test)]
+mod tests;
 mod writer;
 
 pub use kind::{ByteOrder, HeaderKind, TimeUnit};
-pub use laws::{captures_are_read_again, octets_arrive, octets_arrive_once};
+pub use laws::{
+    calls_give_input, captures_are_read_again, front_arrives, octets_arrive, octets_arrive_once,
+};
 pub use reader::PcapReader;
 pub use writer::{begin, put};

@@ -71,7 +71,7 @@ all_done o none k inside = none k None inside
 
 module _ {S K C : Type 0} (left : S → Option (List ℕ)) (written : K → Option (List ℕ)) (source_faults : S → ℕ) (sink_faults : K → ℕ) (plan : Plan) (first ports : List (PortEnds S K C)) (past : List Row)
     (planned : ports_held first ≡ ports_planned plan) (r : Running left written source_faults sink_faults plan first ports past) (known : All (λ p. IsKnown p.ahead) ports) (none : All (λ n. n ≡ None) (map moment_of ports)) where
-  done_at : (k : ℕ) (d : PortEnds S K C) → k < length ports → (get_or ports k d).ahead ≡ ahead.Done
+  pub done_at : (k : ℕ) (d : PortEnds S K C) → k < length ports → (get_or ports k d).ahead ≡ ahead.Done
   done_at k d inside =
       let sizes = length-map ports moment_of in
       done_at_none (get_or ports k d).ahead (known k d inside) (sym (get_or-map moment_of ports k d None inside) ∙ none k None (omega arith))

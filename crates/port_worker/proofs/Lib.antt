@@ -14,3 +14,4 @@ pub mod Running
 pub mod Stepping
 pub mod Starting
 pub mod Ending
+pub mod Fitting

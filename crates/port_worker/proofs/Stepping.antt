@@ -31,7 +31,8 @@ use Rattle.port_worker.specs.Inputs.{IsSound, IsReadable, IsKnown, turn_of, turn
 use Rattle.port_worker.specs.SentFrames.{capture_of, IsSent}
 use Rattle.port_worker.specs.Steps.{IsStepped, ends_input, ahead_after}
 use Rattle.port_worker.specs.Replays.{ports_held, ports_planned}
-use Rattle.port_worker.proofs.Planned.{count_is, number_is}
+use Rattle.port_worker.proofs.Planned.{count_is, number_is, numbers_differ}
+use Rattle.port_worker.proofs.Fitting.{FitsSoFar, fits_turned}
 use Rattle.port_worker.proofs.Entered.{ended_entered_other, ended_entered_open, ended_entered_done, quiet_entered}
 use Rattle.port_worker.proofs.Progress.{head_of, head_ahead, turn_at_moment, AtTurn, at_turn, Goes, Progress, goes_at, goes_on_at, stops_at, ends_at, progress_sink}
 use Rattle.port_worker.proofs.Measures.{weight, undone, undone_same, undone_less, entered_longer, goes_below}
@@ -292,3 +293,19 @@ module _ {S K C : Type 0} (left : S → Option (List ℕ)) (written : K → Opti
 
     pub smaller : (plan.entries - length now) + undone new < (plan.entries - length past) + undone ports
     smaller = smaller_at (ends_input plan past turn) refl there_ahead
+
+    turn_at : (d : PortEnds S K C) → turn_of (get_or ports j d) ≡ Some turn
+    turn_at d = subst (λ (p : PortEnds S K C). turn_of p ≡ Some turn) (get_or_default ports j d_here d inside) turn_here.1
+
+    ahead_at : (d : PortEnds S K C) → (get_or new j d).ahead ≡ ahead_after (ends_input plan past turn)
+    ahead_at d = subst (λ (o : Option Turn). IfSome o (λ t. (get_or new j d).ahead ≡ ahead_after (ends_input plan past t))) (turn_at d) (ahead_is d)
+
+    numbers_apart : (k : ℕ) (d : PortEnds S K C) → k < length first → k ≢ j → number_of (get_or first j d).port ≢ number_of (get_or first k d).port
+    numbers_apart k d within other same =
+        let count = count_is first plan planned in
+        let here_within = inside_first in
+        numbers_differ plan k j rising (omega arith) (omega arith) other (sym (number_is first plan k d planned within) ∙ sym same ∙ number_is first plan j d planned inside_first)
+
+    -- the sources still fit the history
+    pub fits_step : EachPair (FitsSoFar left past) first ports → EachPair (FitsSoFar left now) first new
+    fits_step so_far = fits_turned left sink_faults plan first ports new past now j turn port_is numbers_apart inside_first so_far stepped others turn_at now_is ahead_at

@@ -6,7 +6,8 @@ use Rattle.savi_kinds.specs.declared.entry.How.TheVariants as hows
 use Rattle.savi_kinds.specs.Arrivals.{Arrival, Input}
 use Rattle.savi_kinds.specs.Arrivals as arrivals
 use Rattle.pcap_io.specs.Runs.{ended}
-use Rattle.pcap_io.specs.Readers.{State, Ended, Comes}
+use Rattle.savi_ends.specs.Octets.{Takes}
+use Rattle.pcap_io.specs.Readers.{State, Ended, Comes, HasReadOne, HasEnded}
 use Rattle.savi_history.specs.Turns.{Turn, Arrives, Ends}
 use Rattle.port_worker.specs.declared.port_ends.Ahead.{Ahead}
 use Rattle.port_worker.specs.declared.port_ends.Ahead.TheVariants as ahead
@@ -76,6 +77,19 @@ Gives state buf ahead.Done octets input = Unit {0}
 abbrev pub WillCome : {S K C : Type 0} → (S → Option (List ℕ)) → PortEnds S K C → Input → Type 0
 WillCome left p input = IfSome (left p.ends.source) (λ octets. Gives p.reader p.buf p.ahead octets input)
 
+-- The octets that were taken from the source for what is known next are that arrival, or the input ends with them.
+abbrev pub IsReadAs : State → State → List ℕ → List ℕ → Option (List ℕ) → Ahead → Type 0
+IsReadAs old new gave buf left ahead.Unread = ⊥
+IsReadAs old new gave buf left (ahead.Frame stamp len) = HasReadOne old new gave (arrivals.Frame stamp (take len buf))
+IsReadAs old new gave buf left (ahead.Long stamp len) = HasReadOne old new gave (arrivals.Long stamp len)
+IsReadAs old new gave buf left ahead.End = HasEnded old new gave left hows.End
+IsReadAs old new gave buf left (ahead.Malformed at) = HasEnded old new gave left (hows.Malformed at)
+IsReadAs old new gave buf left ahead.Done = ⊥
+
+abbrev pub ReadsAhead : {S K C : Type 0} → (S → Option (List ℕ)) → PortEnds S K C → PortEnds S K C → Type 0
+ReadsAhead left old new =
+    (gave : List ℕ) × Takes (left old.ends.source) (left new.ends.source) gave × IsReadAs old.reader new.reader gave new.buf (left new.ends.source) new.ahead
+
 -- One port before and after a read of what comes next: what comes now comes before.
 pub record IsLooked {S K C : Type 0} (left : S → Option (List ℕ)) (faults : S → ℕ) (old new : PortEnds S K C) : Type 0 where
   pub port : new.port ≡ old.port
@@ -85,3 +99,4 @@ pub record IsLooked {S K C : Type 0} (left : S → Option (List ℕ)) (faults : 
   pub comes : IsKnown new.ahead → (input : Input) → WillCome left new input → WillCome left old input
   pub same : IsKnown old.ahead → new ≡ old
   pub done : new.ahead ≡ ahead.Done → old.ahead ≡ ahead.Done
+  pub read : old.ahead ≡ ahead.Unread → IsKnown new.ahead → ReadsAhead left old new

@@ -10,6 +10,8 @@ use Rattle.pcap_io.specs.Readers.{Comes}
 use Rattle.hist_store.specs.Rows.{Row}
 use Rattle.savi_history.specs.Bases.{empty}
 use Rattle.savi_history.specs.Replay.{replayed}
+use Rattle.savi_history.specs.PortInputs.{arrived, input_end}
+use Rattle.savi_history.specs.Fits.{Fits}
 use Rattle.port_worker.specs.declared.port_ends.Ahead.TheVariants as ahead
 use Rattle.port_worker.specs.declared.port_ends.PortEnds.{PortEnds}
 use Rattle.port_worker.specs.Inputs.{IsReadable}
@@ -48,3 +50,8 @@ pub record IsReplayed {S K C : Type 0} (left : S → Option (List ℕ)) (written
       → IfSome (left (slice_index_or old k d).ends.source) (λ octets. Comes (slice_index_or old k d).reader octets (slice_index_or inputs k i))
   pub wrote : (k : ℕ) (d : PortEnds S K C) → k < length old
       → written (slice_index_or new k d).ends.sink ≡ behind (written (slice_index_or old k d).ends.sink) (capture_of (number_of (slice_index_or old k d).port) past)
+
+-- what the source of a port gave up fits what the history holds of its input
+abbrev pub IsFit : {S K C : Type 0} → (S → Option (List ℕ)) → List Row → PortEnds S K C → PortEnds S K C → Type 0
+IsFit left past old new =
+    Fits (Comes old.reader) (left old.ends.source) (left new.ends.source) (arrived (number_of old.port) past) (input_end (number_of old.port) past)

@@ -17,7 +17,7 @@ ghost use Rattle.port_worker.specs.Pairs.{EachPair};
 ghost use Rattle.port_worker.specs.Inputs.{IsSound, turn_of};
 ghost use Rattle.port_worker.specs.SentFrames.{IsSent};
 ghost use Rattle.port_worker.specs.Steps.{IsStepped, ends_input, ahead_after};
-ghost use Rattle.port_worker.specs.Replays.{RoseAt, ports_held, ports_planned, IsUnread, IsLater, IsReplayed};
+ghost use Rattle.port_worker.specs.Replays.{RoseAt, ports_held, ports_planned, IsUnread, IsLater, IsReplayed, IsFit};
 ghost use Rattle.port_worker.specs.Causes.{IsCause};
 
 use crate::choice::next_of;
@@ -61,6 +61,7 @@ pub fn replay<S: Source, K: Sink, C: Clock>(
     ensures plan { core.new.plan ≡ core.old.plan }
     ensures later { EachPair (IsLater S.faults K.faults) ports.old ports.new }
     ensures finished { result ≡ Stopped.Finished → IsReplayed S.left K.written core.old.plan core.new.past ports.old ports.new }
+    ensures fits { result ≡ Stopped.Finished → EachPair (IsFit S.left core.new.past) ports.old ports.new }
     ensures ended { result ≡ Stopped.Finished → IsFinished core.old.plan empty core.new.past }
     ensures cause { IsCause S.faults K.faults ports.old ports.new result }
 {

@@ -6,7 +6,7 @@ ghost use Rattle.savi_history.specs.Endings.{is_malformed_end, is_full_end, has_
 use hist_store::Hist;
 use savi_kinds::{Act, How};
 
-/// Whether an input of the history was malformed. O(n) in the entries.
+/// Whether an input of the history was malformed, or a line of it was too long. O(n) in the entries.
 pub fn has_malformed(hist: &Hist) -> bool
     ensures { result ≡ has_malformed hist.now.rows }
 {
@@ -30,12 +30,12 @@ pub fn has_full(hist: &Hist) -> bool
     false
 }
 
-// Whether an entry is the end of a malformed input.
+// Whether an entry is the end of an input that was malformed or had a line that is too long.
 fn is_malformed_end(act: Act) -> bool
     ensures { result ≡ is_malformed_end act }
 {
     match act {
-        Act::End { who: _, how } => matches!(how, How::Malformed(_)),
+        Act::End { who: _, how } => matches!(how, How::Malformed(_) | How::Overlong(_)),
         _ => false,
     }
 }

@@ -18,8 +18,7 @@ ghost use Rattle.savi_history.specs.Queues.{is_closed, cuts};
 ghost use Rattle.savi_history.specs.Outs.{outs};
 ghost use Rattle.savi_history.specs.Events.{the_vlan};
 ghost use Rattle.savi_history.specs.Events as events;
-ghost use Rattle.savi_history.specs.Legal.{IsLegal, IsOpen};
-ghost use Rattle.savi_kinds.specs.declared.entry.Who.TheVariants.{Egress};
+ghost use Rattle.savi_history.specs.Legal.{IsLegal};
 ghost use Rattle.savi_core.specs.Machines.{HasShortQueues, started, row_at, queue_at, number_at};
 ghost use Rattle.savi_core.specs.Counts.{open_below};
 ghost use Rattle.savi_core.specs.Steps.{event_of, MayStep, Did, Drained, entry_of};
@@ -114,7 +113,7 @@ impl Core {
     /// beside the copy of their octets.
     pub fn drain(&mut self, port: Port, most: u32, into: &mut Batch) -> Stepped
         requires most { IsWithin 1 256 most }
-        requires open { IsOpen self.old.plan empty self.old.past (Egress port) }
+        requires port { has_port self.old.plan (number_of port) ≡ true }
         ensures { Drained self.old port most self.new into.new result }
     {
         into.clear();

@@ -18,3 +18,4 @@ pub mod OneHistory
 pub mod AddressTexts
 pub mod Finished
 pub mod Legality
+pub mod PortInputs

@@ -7,12 +7,12 @@ use Rattle.savi_kinds.specs.declared.entry.How.{How}
 use Rattle.savi_kinds.specs.declared.entry.How.TheVariants as hows
 use Rattle.hist_store.specs.Rows.{Row}
 
--- the input was malformed
+-- the input was malformed, or a line of it was too long
 abbrev pub is_malformed_reason : How → Bool
 is_malformed_reason hows.End = false
 is_malformed_reason hows.Quit = false
 is_malformed_reason (hows.Malformed at) = true
-is_malformed_reason (hows.Overlong at) = false
+is_malformed_reason (hows.Overlong at) = true
 is_malformed_reason hows.Failed = false
 is_malformed_reason hows.Unwritten = false
 is_malformed_reason (hows.Full len) = false
@@ -42,7 +42,7 @@ is_malformed_end act = ends_with is_malformed_reason act
 abbrev pub is_full_end : Act → Bool
 is_full_end act = ends_with is_full_reason act
 
--- an input of the history was malformed
+-- an input of the history was malformed, or a line of it was too long
 abbrev pub has_malformed : List Row → Bool
 has_malformed rows = list_any (λ r. is_malformed_end r.entry.act) rows
 

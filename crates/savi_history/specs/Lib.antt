@@ -16,5 +16,7 @@ pub mod Summary
 pub mod Adverts
 pub mod Outputs
 pub mod Endings
+pub mod PortInputs
+pub mod Fits
 pub mod Journals
 pub mod Readable

@@ -11,19 +11,23 @@ use Rattle.savi_kinds.specs.ValidPlan.{numbers_of}
 use Rattle.savi_ends.specs.declared.world.Ends.{Ends}
 use Rattle.savi_ends.specs.Faults.{Rose}
 use Rattle.savi_ends.specs.Octets.{behind}
-use Rattle.pcap_io.specs.Kinds.{little_microseconds}
+use Rattle.pcap_io.specs.Kinds.{classic_kinds}
 use Rattle.pcap_io.specs.Readers.{State, Fresh, Comes}
 use Rattle.savi_history.specs.Bases.{empty}
 use Rattle.savi_history.specs.Replay.{replayed}
+use Rattle.savi_history.specs.PortInputs.{arrived, input_end}
+use Rattle.savi_history.specs.Fits.{Fits}
+use Rattle.hist_store.specs.Rows.{Row}
+use Rattle.pcap_io.specs.Runs.{Arrive}
 use Rattle.savi_history.specs.Summary.{Summary}
 use Rattle.port_worker.specs.declared.port_ends.PortEnds.{PortEnds}
-use Rattle.port_worker.specs.Replays.{ports_planned}
+use Rattle.port_worker.specs.Replays.{ports_planned, IsFit}
 use Rattle.savi_core.specs.Sums.{sum_of}
 use Rattle.savi_switch.specs.declared.session.Ended.{Ended}
 use Rattle.savi_switch.specs.declared.session.Ended.TheVariants.{NoMemory, ReadFault, WriteFault, Finished}
 use Rattle.savi_switch.specs.FixedPlan.{IsFixedPlan}
 use Rattle.savi_switch.specs.Session.{sent_capture}
-use Rattle.savi_switch.specs.Played.{HasRisen, IsPlayed, IsPlayedBy, WasInput, IfFinished}
+use Rattle.savi_switch.specs.Played.{HasRisen, IsPlayed, IsPlayedBy, WasInput, FitsEnds, IfFinished}
 use Rattle.savi_switch.proofs.FixedPlans.{fixed_numbers}
 
 one_list : {X : Type 0} (new G : List X) (one last : X) → length new ≡ 2 → new ≡ (G ++ one ∷ []) ++ last ∷ [] → new ≡ one ∷ last ∷ []
@@ -80,9 +84,22 @@ pair_of (x ∷ []) d two = absurd (omega (arith, two))
 pair_of (x ∷ y ∷ []) d two = refl
 pair_of (x ∷ y ∷ z ∷ xs) d two = absurd (omega (arith, two))
 
--- a fresh reader of the one kind gives what its source had left
-fresh_input : (left : Option (List ℕ)) (state : State) (input : Input) → state ≡ Fresh (little_microseconds ∷ []) → IfSome left (λ octets. Comes state octets input) → WasInput left input
+-- a fresh reader gives what its source had left
+fresh_input : (left : Option (List ℕ)) (state : State) (input : Input) → state ≡ Fresh classic_kinds → IfSome left (λ octets. Comes state octets input) → WasInput left input
 fresh_input left state input fresh comes = subst (λ (s : State). IfSome left (λ octets. Comes s octets input)) fresh comes
+
+-- what a fresh reader's source gave up
+fits_ends : {S K C : Type 0} (left : S → Option (List ℕ)) (past : List Row) (p q : PortEnds S K C) (a : Port) (n : ℕ) (x x' : Ends S K C) → p.ends ≡ x → x' ≡ q.ends → p.port ≡ a → number_of a ≡ n → p.reader ≡ Fresh classic_kinds
+    → IsFit left past p q → FitsEnds left x x' n past
+fits_ends {S} {K} {C} left past p q a n x x' x_is x'_is port_is n_is fresh fit =
+    let m : ℕ = number_of p.port in
+    let read : Fits (Arrive classic_kinds) (left p.ends.source) (left q.ends.source) (arrived m past) (input_end m past) =
+    subst (λ (s : State). Fits (Comes s) (left p.ends.source) (left q.ends.source) (arrived m past) (input_end m past)) fresh fit in
+    let at_first : Fits (Arrive classic_kinds) (left x.source) (left q.ends.source) (arrived m past) (input_end m past) =
+    subst (λ (e : Ends S K C). Fits (Arrive classic_kinds) (left e.source) (left q.ends.source) (arrived m past) (input_end m past)) x_is read in
+    let at_both : Fits (Arrive classic_kinds) (left x.source) (left x'.source) (arrived m past) (input_end m past) =
+    subst (λ (e : Ends S K C). Fits (Arrive classic_kinds) (left x.source) (left e.source) (arrived m past) (input_end m past)) (sym x'_is) at_first in
+    subst (λ (k : ℕ). Fits (Arrive classic_kinds) (left x.source) (left x'.source) (arrived k past) (input_end k past)) (ap number_of port_is ∙ n_is) at_both
 
 -- a session over the list of two ports is one over the two
 pub played_two : {S K C : Type 0} (left : S → Option (List ℕ)) (written : K → Option (List ℕ)) (plan : Plan) (old new : List (PortEnds S K C)) (n1 n2 one last : PortEnds S K C) (a b : Port) (first second first' second' : Ends S K C) (journal journal' : K) (status : ℕ) (summary : Summary)
@@ -90,7 +107,7 @@ pub played_two : {S K C : Type 0} (left : S → Option (List ℕ)) (written : K 
     → old ≡ n1 ∷ n2 ∷ [] → new ≡ one ∷ last ∷ []
     → n1.ends ≡ first → n2.ends ≡ second → first' ≡ one.ends → second' ≡ last.ends
     → n1.port ≡ a → n2.port ≡ b
-    → n1.reader ≡ Fresh (little_microseconds ∷ []) → n2.reader ≡ Fresh (little_microseconds ∷ [])
+    → n1.reader ≡ Fresh classic_kinds → n2.reader ≡ Fresh classic_kinds
     → IsPlayedBy left written plan old new journal journal' status summary
     → IsPlayed left written plan first second first' second' journal journal' status summary
 played_two {S} {K} {C} left written plan old new n1 n2 one last a b first second first' second' journal journal' status summary fixed planned old_is new_is e1 e2 e3 e4 p1 p2 r1 r2 played =
@@ -104,6 +121,8 @@ played_two {S} {K} {C} left written plan old new n1 n2 one last a b first second
     let came1 = rw old_is at played.replay.arrived 1 n1 none (omega (arith, two)) in
     let wrote0 = rw (old_is, new_is) at played.replay.wrote 0 n1 (omega (arith, two)) in
     let wrote1 = rw (old_is, new_is) at played.replay.wrote 1 n1 (omega (arith, two)) in
+    let fit0 = rw (old_is, new_is) at played.fits.each 0 n1 (omega (arith, two)) in
+    let fit1 = rw (old_is, new_is) at played.fits.each 1 n1 (omega (arith, two)) in
     record {
       first_input = one_input;
       second_input = other_input;
@@ -113,6 +132,8 @@ played_two {S} {K} {C} left written plan old new n1 n2 one last a b first second
       replay = played.replay.history ∙ ap (λ (i : List Input). replayed plan empty i) (pair_of inputs none (played.replay.size ∙ two));
       legal = played.legal;
       finished = played.finished;
+      first_fits = fits_ends left played.past n1 one a 1 first first' e1 e3 p1 numbers.0 r1 fit0;
+      second_fits = fits_ends left played.past n2 last b 2 second second' e2 e4 p2 numbers.1 r2 fit1;
       first_took = ap (λ (x : Ends S K C). written x.sink) e3 ∙ wrote0
           ∙ ap (λ (x : Ends S K C). behind (written x.sink) (sent_capture (number_of n1.port) played.past)) e1
           ∙ ap (λ (n : ℕ). behind (written first.sink) (sent_capture n played.past)) (ap number_of p1 ∙ numbers.0);

@@ -4,19 +4,26 @@ use Rattle.savi_kinds.specs.declared.plan.Plan.{Plan}
 use Rattle.savi_kinds.specs.declared.plan.PortPlan.{PortPlan}
 use Rattle.savi_kinds.specs.Ports.{number_of}
 use Rattle.savi_kinds.specs.ValidPlan.{numbers_of}
-use Rattle.savi_kinds.specs.Arrivals.{Input}
+use Rattle.savi_kinds.specs.declared.entry.How.{How}
+use Rattle.savi_kinds.specs.declared.entry.How.TheVariants as hows
+use Rattle.savi_kinds.specs.Arrivals.{Arrival, Input}
 use Rattle.savi_ends.specs.declared.world.Std.{Std}
 use Rattle.savi_ends.specs.declared.world.Std.TheVariants.{Out, Err}
 use Rattle.savi_ends.specs.declared.world.Ends.{Ends}
 use Rattle.savi_ends.specs.Octets.{behind}
 use Rattle.savi_ends.specs.Places.{Place, Book, OthersStay}
+use Rattle.pcap_io.specs.Kinds.{classic_kinds}
+use Rattle.pcap_io.specs.Runs.{Arrive}
 use Rattle.savi_history.specs.Bases.{empty}
+use Rattle.savi_history.specs.PortInputs.{arrived, input_end}
+use Rattle.savi_history.specs.Fits.{Fits, EndsUnfailed}
 use Rattle.savi_history.specs.Summary.{Summary, summary_of, summary_text}
+use Rattle.hist_store.specs.Rows.{Row}
 use Rattle.savi_history.proofs.Guarded.{guarded}
 use Rattle.savi_switch.specs.FixedPlan.{IsFixedPlan, journal_name}
 use Rattle.savi_switch.specs.Causes.{KeepsAll, IsElsewhereSame}
 use Rattle.savi_switch.specs.Session.{IsReplayOf, Took, plain_journal, sent_capture}
-use Rattle.savi_switch.specs.Played.{IsPlayed, WasInput}
+use Rattle.savi_switch.specs.Played.{IsPlayed, WasInput, FitsEnds}
 use Rattle.savi_switch.proofs.FixedPlans.{fixed_numbers}
 
 -- The books between the calls: two ports and the journal are opened, kept again, and the summary is written.
@@ -28,16 +35,52 @@ pub record IsWorked {S K C : Type 0} (b0 b1 b2 b3 b4 b5 b6 b7 : Book S K C) (fir
   pub others2 : OthersStay b1.ports b2.ports 2
   pub rest2 : b2 ≡ record b1 { faults = b2.faults; ports = b2.ports }
   pub told3 : IfSome (b2.outputs journal_name).stands (λ t. journal ≡ t)
+  pub others3 : OthersStay b2.outputs b3.outputs journal_name
   pub rest3 : b3 ≡ record b2 { faults = b3.faults; outputs = b3.outputs }
   pub kept4 : (b4.ports 1).stands ≡ Some first'
+  pub others4 : OthersStay b3.ports b4.ports 1
   pub rest4 : b4 ≡ record b3 { ports = b4.ports }
   pub kept5 : (b5.ports 2).stands ≡ Some second'
   pub others5 : OthersStay b4.ports b5.ports 2
   pub rest5 : b5 ≡ record b4 { ports = b5.ports }
   pub kept6 : (b6.outputs journal_name).stands ≡ Some journal'
+  pub others6 : OthersStay b5.outputs b6.outputs journal_name
   pub rest6 : b6 ≡ record b5 { outputs = b6.outputs }
   pub others7 : OthersStay b6.std b7.std Out
   pub rest7 : b7 ≡ record b6 { std = b7.std }
+
+-- the same by the numbers of the two ports
+pub worked_by : {S K C : Type 0} (b0 b1 b2 b3 b4 b5 b6 b7 : Book S K C) (first second first' second' : Ends S K C) (journal journal' : K) (n m : ℕ) → n ≡ 1 → m ≡ 2
+    → IfSome (b0.ports n).stands (λ t. first ≡ t) → OthersStay b0.ports b1.ports n → b1 ≡ record b0 { faults = b1.faults; ports = b1.ports }
+    → IfSome (b1.ports m).stands (λ t. second ≡ t) → OthersStay b1.ports b2.ports m → b2 ≡ record b1 { faults = b2.faults; ports = b2.ports }
+    → IfSome (b2.outputs journal_name).stands (λ t. journal ≡ t) → OthersStay b2.outputs b3.outputs journal_name → b3 ≡ record b2 { faults = b3.faults; outputs = b3.outputs }
+    → (b4.ports n).stands ≡ Some first' → OthersStay b3.ports b4.ports n → b4 ≡ record b3 { ports = b4.ports }
+    → (b5.ports m).stands ≡ Some second' → OthersStay b4.ports b5.ports m → b5 ≡ record b4 { ports = b5.ports }
+    → (b6.outputs journal_name).stands ≡ Some journal' → OthersStay b5.outputs b6.outputs journal_name → b6 ≡ record b5 { outputs = b6.outputs }
+    → OthersStay b6.std b7.std Out → b7 ≡ record b6 { std = b7.std }
+    → IsWorked b0 b1 b2 b3 b4 b5 b6 b7 first second first' second' journal journal'
+worked_by b0 b1 b2 b3 b4 b5 b6 b7 first second first' second' journal journal' n m n_is m_is told1 others1 rest1 told2 others2 rest2 told3 others3 rest3 kept4 others4 rest4 kept5 others5 rest5 kept6 others6 rest6 others7 rest7 = record {
+  told1 = subst (λ (k : ℕ). IfSome (b0.ports k).stands (λ t. first ≡ t)) n_is told1;
+  others1 = subst (λ (k : ℕ). OthersStay b0.ports b1.ports k) n_is others1;
+  rest1 = rest1;
+  told2 = subst (λ (k : ℕ). IfSome (b1.ports k).stands (λ t. second ≡ t)) m_is told2;
+  others2 = subst (λ (k : ℕ). OthersStay b1.ports b2.ports k) m_is others2;
+  rest2 = rest2;
+  told3 = told3;
+  others3 = others3;
+  rest3 = rest3;
+  kept4 = subst (λ (k : ℕ). (b4.ports k).stands ≡ Some first') n_is kept4;
+  others4 = subst (λ (k : ℕ). OthersStay b3.ports b4.ports k) n_is others4;
+  rest4 = rest4;
+  kept5 = subst (λ (k : ℕ). (b5.ports k).stands ≡ Some second') m_is kept5;
+  others5 = subst (λ (k : ℕ). OthersStay b4.ports b5.ports k) m_is others5;
+  rest5 = rest5;
+  kept6 = kept6;
+  others6 = others6;
+  rest6 = rest6;
+  others7 = others7;
+  rest7 = rest7;
+}
 
 -- the input of an end that was told
 gave_of : {S K C : Type 0} (left : S → Option (List ℕ)) (stands : Option (Ends S K C)) (ends : Ends S K C) (input : Input) → IfSome stands (λ t. ends ≡ t) → WasInput (left ends.source) input → IfSome stands (λ told. WasInput (left told.source) input)
@@ -48,6 +91,23 @@ gave_of {S} {K} {C} left (Some t) ends input told was = subst (λ (e : Ends S K 
 took_by : {X : Type 0} (written : X → Option (List ℕ)) (old new : Option X) (x x' : X) (octets : List ℕ) → IfSome old (λ t. x ≡ t) → new ≡ Some x' → written x' ≡ behind (written x) octets → IfSome old (λ told. IsSomeAnd new (λ kept. written kept ≡ behind (written told) octets))
 took_by written None new x x' octets told kept took = tt
 took_by {X} written (Some t) new x x' octets told kept took = rw kept (took ∙ ap (λ (y : X). behind (written y) octets) told)
+
+-- what an end that was told gave up fits where it fitted when it was handed out
+fits_by : {S K C : Type 0} (left : S → Option (List ℕ)) (old new : Option (Ends S K C)) (x x' : Ends S K C) (n : ℕ) (past : List Row) → IfSome old (λ t. x ≡ t) → new ≡ Some x' → FitsEnds left x x' n past
+    → IfSome old (λ told. IsSomeAnd new (λ kept. FitsEnds left told kept n past))
+fits_by left None new x x' n past told kept fits = tt
+fits_by {S} {K} {C} left (Some t) new x x' n past told kept fits = rw kept (subst (λ (e : Ends S K C). FitsEnds left e x' n past) told fits)
+
+-- an input that fits has ended, and not by a read that failed
+unfailed : (Arrives : List ℕ → Input → Type 0) (before after : Option (List ℕ)) (entered : List Arrival) (ending : Option How) → Fits Arrives before after entered ending → EndsUnfailed ending
+unfailed Arrives before after entered None fits = fits
+unfailed Arrives before after entered (Some hows.End) fits = tt
+unfailed Arrives before after entered (Some hows.Quit) fits = fits
+unfailed Arrives before after entered (Some (hows.Malformed at)) fits = tt
+unfailed Arrives before after entered (Some (hows.Overlong at)) fits = fits
+unfailed Arrives before after entered (Some hows.Failed) fits = fits
+unfailed Arrives before after entered (Some hows.Unwritten) fits = fits
+unfailed Arrives before after entered (Some (hows.Full len)) fits = tt
 
 one≢two : ◌≢◌ {A = ℕ} 1 2
 one≢two e = absurd (omega (arith, e))
@@ -112,6 +172,10 @@ whole_run {S} {K} {C} left written plan b0 b1 b2 b3 b4 b5 b6 b7 first second fir
       replay = played.replay;
       legal = played.legal;
       finished = played.finished;
+      first_ends = unfailed (Arrive classic_kinds) (left first.source) (left first'.source) (arrived 1 played.past) (input_end 1 played.past) played.first_fits;
+      second_ends = unfailed (Arrive classic_kinds) (left second.source) (left second'.source) (arrived 2 played.past) (input_end 2 played.past) played.second_fits;
+      first_fits = fits_by left (b0.ports 1).stands (b7.ports 1).stands first first' 1 played.past w.told1 (first_kept b0 b1 b2 b3 b4 b5 b6 b7 first second first' second' journal journal' w) played.first_fits;
+      second_fits = fits_by left (b0.ports 2).stands (b7.ports 2).stands second second' 2 played.past told2 (second_kept b0 b1 b2 b3 b4 b5 b6 b7 first second first' second' journal journal' w) played.second_fits;
       journal = took_by written (b0.outputs journal_name).stands (b7.outputs journal_name).stands journal journal' (plain_journal plan played.past) told3 (journal_kept b0 b1 b2 b3 b4 b5 b6 b7 first second first' second' journal journal' w) played.journal_took;
       first_took = took_by (λ (e : Ends S K C). written e.sink) (b0.ports 1).stands (b7.ports 1).stands first first' (sent_capture 1 played.past) w.told1 (first_kept b0 b1 b2 b3 b4 b5 b6 b7 first second first' second' journal journal' w) played.first_took;
       second_took = took_by (λ (e : Ends S K C). written e.sink) (b0.ports 2).stands (b7.ports 2).stands second second' (sent_capture 2 played.past) told2 (second_kept b0 b1 b2 b3 b4 b5 b6 b7 first second first' second' journal journal' w) played.second_took;
@@ -145,4 +209,10 @@ elsewhere {S} {K} {C} b0 b1 b2 b3 b4 b5 b6 b7 first second first' second' journa
       control = ap (λ (b : Book S K C). b.control) w.rest7 ∙ ap (λ (b : Book S K C). b.control) w.rest6 ∙ ap (λ (b : Book S K C). b.control) w.rest5 ∙ ap (λ (b : Book S K C). b.control) w.rest4 ∙ ap (λ (b : Book S K C). b.control) w.rest3 ∙ ap (λ (b : Book S K C). b.control) w.rest2 ∙ ap (λ (b : Book S K C). b.control) w.rest1;
       ticker = ap (λ (b : Book S K C). b.ticker) w.rest7 ∙ ap (λ (b : Book S K C). b.ticker) w.rest6 ∙ ap (λ (b : Book S K C). b.ticker) w.rest5 ∙ ap (λ (b : Book S K C). b.ticker) w.rest4 ∙ ap (λ (b : Book S K C). b.ticker) w.rest3 ∙ ap (λ (b : Book S K C). b.ticker) w.rest2 ∙ ap (λ (b : Book S K C). b.ticker) w.rest1;
       errors = w.others7 Err err≢out ∙ ap (λ (b : Book S K C). b.std Err) w.rest6 ∙ ap (λ (b : Book S K C). b.std Err) w.rest5 ∙ ap (λ (b : Book S K C). b.std Err) w.rest4 ∙ ap (λ (b : Book S K C). b.std Err) w.rest3 ∙ ap (λ (b : Book S K C). b.std Err) w.rest2 ∙ ap (λ (b : Book S K C). b.std Err) w.rest1;
+      ports = λ n other1 other2.
+          ap (λ (b : Book S K C). b.ports n) w.rest7 ∙ ap (λ (b : Book S K C). b.ports n) w.rest6 ∙ w.others5 n other2 ∙ w.others4 n other1
+          ∙ ap (λ (b : Book S K C). b.ports n) w.rest3 ∙ w.others2 n other2 ∙ w.others1 n other1;
+      outputs = λ name other.
+          ap (λ (b : Book S K C). b.outputs name) w.rest7 ∙ w.others6 name other ∙ ap (λ (b : Book S K C). b.outputs name) w.rest5 ∙ ap (λ (b : Book S K C). b.outputs name) w.rest4
+          ∙ w.others3 name other ∙ ap (λ (b : Book S K C). b.outputs name) w.rest2 ∙ ap (λ (b : Book S K C). b.outputs name) w.rest1;
     }

@@ -1,8 +1,8 @@
 -- When each status comes.
-use Rattle.std.specs.Prelude.{◌≡◌, ◌<◌, ◌⊎◌, ◌==◌, ℕ, true, List, [], ◌∷◌, IfSome, IsSome, IsSomeAnd}
+use Rattle.std.specs.Prelude.{◌≡◌, ◌≢◌, ◌<◌, ◌⊎◌, ◌==◌, ℕ, true, List, [], ◌∷◌, IfSome, IsSome, IsSomeAnd}
 use Rattle.std.specs.List.{list_any}
 use Rattle.savi_ends.specs.declared.world.Std.TheVariants.{Out, Err}
-use Rattle.savi_ends.specs.Places.{Place, Book}
+use Rattle.savi_ends.specs.Places.{Place, Book, OthersStay}
 use Rattle.savi_switch.specs.FixedPlan.{journal_name}
 
 -- the end that is kept in a place has a fault; it had none when it was handed out
@@ -34,7 +34,7 @@ session_statuses = 0 ∷ 4 ∷ 5 ∷ 6 ∷ 8 ∷ []
 
 -- the statuses of a run that wrote nothing to standard output
 abbrev pub quiet_statuses : List ℕ
-quiet_statuses = 1 ∷ 2 ∷ 7 ∷ []
+quiet_statuses = 1 ∷ 2 ∷ 5 ∷ 7 ∷ []
 
 -- all statuses
 abbrev pub statuses : List ℕ
@@ -46,12 +46,14 @@ pub record KeepsAll {S K C : Type 0} (book : Book S K C) : Type 0 where
   pub second : IsSome (book.ports 2).stands
   pub journal : IsSome (book.outputs journal_name).stands
 
--- no place was touched but ports, outputs and standard output
+-- no place was touched but those of the two ports, of the journal and of standard output
 pub record IsElsewhereSame {S K C : Type 0} (old new : Book S K C) : Type 0 where
   pub inputs : new.inputs ≡ old.inputs
   pub control : new.control ≡ old.control
   pub ticker : new.ticker ≡ old.ticker
   pub errors : new.std Err ≡ old.std Err
+  pub ports : (n : ℕ) → n ≢ 1 → n ≢ 2 → new.ports n ≡ old.ports n
+  pub outputs : OthersStay old.outputs new.outputs journal_name
 
 -- the end that is told in this place is kept there as it was
 abbrev pub IsBack : {X : Type 0} → Place X → Place X → Type 0

@@ -6,7 +6,7 @@ use Rattle.savi_ends.specs.declared.world.Std.TheVariants.{Out, Err}
 use Rattle.savi_ends.specs.declared.world.Ends.{Ends}
 use Rattle.savi_ends.specs.Octets.{behind}
 use Rattle.savi_ends.specs.Places.{Place, Book}
-use Rattle.pcap_io.specs.Kinds.{little_microseconds}
+use Rattle.pcap_io.specs.Kinds.{classic_kinds}
 use Rattle.pcap_io.specs.Runs.{Arrive}
 use Rattle.pcap_io.specs.Captures.{capture_text}
 use Rattle.hist_store.specs.Rows.{Row}
@@ -16,6 +16,8 @@ use Rattle.savi_history.specs.Queues.{sent}
 use Rattle.savi_history.specs.Outputs.{sent_items}
 use Rattle.savi_history.specs.Legal.{IsLegal, IsFinished}
 use Rattle.savi_history.specs.Replay.{replayed}
+use Rattle.savi_history.specs.PortInputs.{arrived, input_end}
+use Rattle.savi_history.specs.Fits.{Fits, EndsUnfailed}
 use Rattle.savi_history.specs.Endings.{has_malformed, has_full}
 use Rattle.savi_history.specs.Adverts.{IsGuarded}
 use Rattle.savi_history.specs.Summary.{summary_of, summary_text}
@@ -28,7 +30,13 @@ status_of past = if has_malformed past then 4 else if has_full past then 8 else 
 -- The source of a port gave this input, where it tells its octets.
 abbrev pub Gave : {S K C : Type 0} → (S → Option (List ℕ)) → Place (Ends S K C) → Input → Type 0
 Gave left old input =
-    IfSome old.stands (λ told. IfSome (left told.source) (λ octets. Arrive (little_microseconds ∷ []) octets input))
+    IfSome old.stands (λ told. IfSome (left told.source) (λ octets. Arrive classic_kinds octets input))
+
+-- What the source of a port gave up fits what the history holds of its input.
+abbrev pub FitsPort : {S K C : Type 0} → (S → Option (List ℕ)) → Book S K C → Book S K C → ℕ → List Row → Type 0
+FitsPort left old new port past =
+    IfSome (old.ports port).stands (λ told. IsSomeAnd (new.ports port).stands (λ kept.
+    Fits (Arrive classic_kinds) (left told.source) (left kept.source) (arrived port past) (input_end port past)))
 
 -- A sink that is kept took these octets behind those that it held when it was told.
 abbrev pub Took : {X : Type 0} → (X → Option (List ℕ)) → Place X → Place X → List ℕ → Type 0
@@ -47,7 +55,7 @@ abbrev pub plain_journal : Plan → List Row → List ℕ
 plain_journal plan past = journal_text (λ address. []) plan (reverse past)
 
 -- A replay with this status: one history, legal and finished, is the replay of what the sources of the two ports gave;
--- the journal took its text, each port's sink what it sends there, and standard output its summary; standard error took
+-- no input ended by a read that failed, and what each source gave up fits the history; the journal took its text, each port's sink what it sends there, and standard output its summary; standard error took
 -- nothing; and no advertisement and no hidden fragment passed a host's port in it.
 pub record IsReplayOf {S K C : Type 0} (left : S → Option (List ℕ)) (written : K → Option (List ℕ)) (old new : Book S K C) (status : ℕ) : Type 0 where
   pub plan : Plan
@@ -60,6 +68,10 @@ pub record IsReplayOf {S K C : Type 0} (left : S → Option (List ℕ)) (written
   pub replay : past ≡ replayed plan empty (first ∷ second ∷ [])
   pub legal : IsLegal plan empty past
   pub finished : IsFinished plan empty past
+  pub first_ends : EndsUnfailed (input_end 1 past)
+  pub second_ends : EndsUnfailed (input_end 2 past)
+  pub first_fits : FitsPort left old new 1 past
+  pub second_fits : FitsPort left old new 2 past
   pub journal : Took written (old.outputs journal_name) (new.outputs journal_name) (plain_journal plan past)
   pub first_took : TookSent written old new 1 past
   pub second_took : TookSent written old new 2 past

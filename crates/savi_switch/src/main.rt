@@ -5,12 +5,13 @@
 #![tactic(auto)]
 
 mod file_sink;
-mod file_source;
 mod fixed_plan;
 mod machine_clock;
 mod named_spot;
 mod port_spots;
 mod real_world;
+#[cfg(test)]
+mod recording_world;
 mod session;
 mod spot;
 #[cfg(test)]

@@ -5,11 +5,11 @@ ghost use Rattle.savi_kinds.specs.Ports.{number_of};
 ghost use Rattle.savi_ends.specs.Faults.{Rose};
 
 use crate::file_sink::FileSink;
-use crate::file_source::FileSource;
 use crate::machine_clock::MachineClock;
 use crate::named_spot::NamedSpot;
 use crate::port_spots::PortSpots;
 use crate::spot::Spot;
+use file_ends::FileSource;
 use savi_ends::{Ends, OpenFailed, Sink, Source, Std, World};
 use savi_kinds::{Port, PortPlan, Text};
 use std::alloc::{AllocError, Global};

@@ -1,6 +1,8 @@
 //! Runs of the whole program over a world in memory.
 
+use crate::recording_world::RecordingWorld;
 use crate::top::run;
+use arrayvec::ArrayVec;
 use savi_ends::{Ends, MemClock, MemEnds, MemSink, MemSource, MemWorld};
 use savi_kinds::{Port, Text};
 use std::alloc::{AllocError, Global};
@@ -200,6 +202,286 @@ fn the_worked_captures_are_replayed(rt: HostRuntime) -> Result<(), Fail> {
         summary_of(&world),
         b"entries 11 frames 3 passed 2 dropped 1 probes 0 lost 0 cut 0\n".as_slice()
     );
+    Ok(())
+}
+
+/// What the program asks of its world, in order.
+const OPENINGS: &str =
+    "port 1 host pcap 1.pcap 1.out \nport 2 trusted pcap 2.pcap 2.out \noutput journal.txt \nstd out \n";
+
+#[test]
+fn the_files_of_the_plan_are_opened(rt: HostRuntime) -> Result<(), Fail> {
+    let alloc = rt.alloc();
+    let first = octets_of(alloc, &[HEADER])?;
+    let second = octets_of(alloc, &[HEADER])?;
+    let world = world_of(alloc, first, second, 8_192, NO_FAULT)?;
+    assert!(rt; world.is_fresh());
+    let mut recording = RecordingWorld {
+        world,
+        openings: ArrayVec::new(),
+    };
+    let words = words_of(alloc, &["replay", "plan"])?;
+    assert_eq!(rt; run(alloc, words.as_slice(), &mut recording), 0);
+    assert_eq!(rt; recording.openings.as_slice(), OPENINGS.as_bytes());
+    Ok(())
+}
+
+/// The header of a capture, the header of a record of 54 octets at 1 s and a half, and the status.
+const HEADERS: [(&str, &str, &str, u8); 5] = [
+    (
+        "little-endian, microseconds",
+        "d4c3b2a1020004000000000000000000ffff000001000000",
+        "0100000020a107003600000036000000",
+        0,
+    ),
+    (
+        "big-endian, microseconds",
+        "a1b2c3d40002000400000000000000000000ffff00000001",
+        "000000010007a1200000003600000036",
+        0,
+    ),
+    (
+        "little-endian, nanoseconds",
+        "4d3cb2a1020004000000000000000000ffff000001000000",
+        "010000000065cd1d3600000036000000",
+        0,
+    ),
+    (
+        "big-endian, nanoseconds",
+        "a1b23c4d0002000400000000000000000000ffff00000001",
+        "000000011dcd65000000003600000036",
+        0,
+    ),
+    (
+        "another magic number",
+        "a1b2c3d50002000400000000000000000000ffff00000001",
+        "000000010007a1200000003600000036",
+        4,
+    ),
+];
+
+/// The journal of a first capture without a header that is known.
+const MALFORMED_LINES: [&str; 7] = [
+    "0 2 0 E control end",
+    "1 0 0 E in1 malformed 0",
+    "2 1 0 E in2 end",
+    "3 3 0 E ticker end",
+    "4 4 0 E out1 end",
+    "5 5 0 E out2 end",
+    "end 6",
+];
+
+/// In front of 54 octets at 1,500 ms, as it is written.
+const AT_1500: &str = "0100000020a107003600000036000000";
+
+#[test]
+fn each_classic_header_is_read(rt: HostRuntime) -> Result<(), Fail> {
+    let alloc = rt.alloc();
+    for (name, header, record, status) in HEADERS {
+        let first = octets_of(alloc, &[header, record, PACKET])?;
+        let second = octets_of(alloc, &[HEADER])?;
+        let mut world = world_of(alloc, first, second, 8_192, NO_FAULT)?;
+        assert!(rt; world.is_fresh());
+        let words = words_of(alloc, &["replay", "plan"])?;
+        assert_eq!(rt; run(alloc, words.as_slice(), &mut world), status, "{name}");
+        let sent = if status == 0 {
+            octets_of(alloc, &[HEADER, AT_1500, PACKET])?
+        } else {
+            let journal = text_of(alloc, &JOURNAL_HEADER, &MALFORMED_LINES)?;
+            assert_eq!(rt; journal_of(&world), journal.as_slice(), "{name}");
+            octets_of(alloc, &[HEADER])?
+        };
+        assert_eq!(rt; output_of(&world, 1), sent.as_slice(), "{name}");
+    }
+    Ok(())
+}
+
+/// A frame with an IPv6 packet (RFC 8200) or without one: its name, whether it comes in at the second port, its first
+/// octets, to how many octets zeros fill it up, and whether it passes.
+const FRAMES: [(&str, bool, &[&str], usize, bool); 15] = [
+    (
+        "no next header",
+        false,
+        &[ETHERNET, "6000000000003b40", ADDRESSES],
+        54,
+        true,
+    ),
+    (
+        "a source of a group",
+        false,
+        &[ETHERNET, "6000000000003b40", GROUP_SOURCE],
+        54,
+        false,
+    ),
+    (
+        "a cut chain",
+        false,
+        &[ETHERNET, "6000000000043c40", ADDRESSES, "3b000000"],
+        58,
+        false,
+    ),
+    (
+        "hop-by-hop options behind destination options",
+        false,
+        &[
+            ETHERNET,
+            "6000000000103c40",
+            ADDRESSES,
+            "0000010400000000",
+            "3b00010400000000",
+        ],
+        70,
+        false,
+    ),
+    (
+        "a second fragment header",
+        false,
+        &[
+            ETHERNET,
+            "6000000000102c40",
+            ADDRESSES,
+            "2c00000000000001",
+            "3b00000000000001",
+        ],
+        70,
+        false,
+    ),
+    (
+        "a first fragment whose chain is cut",
+        false,
+        &[
+            ETHERNET,
+            "60000000000c2c40",
+            ADDRESSES,
+            "3c00000100000001",
+            "3a000000",
+        ],
+        66,
+        false,
+    ),
+    (
+        "the same at a trusted port",
+        true,
+        &[
+            ETHERNET,
+            "60000000000c2c40",
+            ADDRESSES,
+            "3c00000100000001",
+            "3a000000",
+        ],
+        66,
+        true,
+    ),
+    (
+        "a later fragment",
+        false,
+        &[
+            ETHERNET,
+            "6000000000102c40",
+            ADDRESSES,
+            "3a00000800000001",
+            "8600000000000000",
+        ],
+        70,
+        true,
+    ),
+    (
+        "an unknown next header",
+        false,
+        &[ETHERNET, "600000000000fd40", ADDRESSES],
+        54,
+        false,
+    ),
+    (
+        "the same at a trusted port",
+        true,
+        &[ETHERNET, "600000000000fd40", ADDRESSES],
+        54,
+        true,
+    ),
+    (
+        "a tag of a VLAN",
+        false,
+        &["0200000000fe0200000000118100000a86dd"],
+        60,
+        false,
+    ),
+    (
+        "a reserved group, at a trusted port",
+        true,
+        &["0180c20000000200000000220800"],
+        60,
+        false,
+    ),
+    (
+        "13 octets",
+        false,
+        &["0200000000fe02000000001108"],
+        13,
+        false,
+    ),
+    (
+        "1,518 octets",
+        false,
+        &["0200000000fe0200000000110800"],
+        1518,
+        true,
+    ),
+    (
+        "1,519 octets",
+        false,
+        &["0200000000fe0200000000110800"],
+        1519,
+        false,
+    ),
+];
+
+/// From a host to a router; IPv6 behind it (RFC 2464 section 3).
+const ETHERNET: &str = "0200000000fe02000000001186dd";
+
+/// From fe80::11 to fe80::fe.
+const ADDRESSES: &str = "fe800000000000000000000000000011fe8000000000000000000000000000fe";
+
+/// From ff02::1 to fe80::fe.
+const GROUP_SOURCE: &str = "ff020000000000000000000000000001fe8000000000000000000000000000fe";
+
+// A capture with one frame, at 1,000 ms.
+fn capture_of(alloc: Global, frame: &[u8]) -> Result<Vec<u8>, Fail> {
+    let mut capture = octets_of(alloc, &[HEADER, "0100000000000000"])?;
+    let len = u32::try_from(frame.len()).ok().ok_or("a long frame")?;
+    let len = len.to_le_bytes();
+    capture.extend_from_slice(&len)?;
+    capture.extend_from_slice(&len)?;
+    capture.extend_from_slice(frame)?;
+    Ok(capture)
+}
+
+#[test]
+fn each_rule_stops_its_frames(rt: HostRuntime) -> Result<(), Fail> {
+    let alloc = rt.alloc();
+    for (name, at_second, texts, octets, passes) in FRAMES {
+        let mut frame = octets_of(alloc, texts)?;
+        for _ in frame.len()..octets {
+            frame.push(0)?;
+        }
+        let nothing = octets_of(alloc, &[HEADER])?;
+        let capture = capture_of(alloc, frame.as_slice())?;
+        let (first, second, out) = if at_second {
+            (nothing, capture, 0)
+        } else {
+            (capture, nothing, 1)
+        };
+        let mut world = world_of(alloc, first, second, 8_192, NO_FAULT)?;
+        assert!(rt; world.is_fresh());
+        let words = words_of(alloc, &["replay", "plan"])?;
+        assert_eq!(rt; run(alloc, words.as_slice(), &mut world), 0, "{name}");
+        let sent = if passes {
+            capture_of(alloc, frame.as_slice())?
+        } else {
+            octets_of(alloc, &[HEADER])?
+        };
+        assert_eq!(rt; output_of(&world, out), sent.as_slice(), "{name}");
+    }
     Ok(())
 }
 

@@ -8,17 +8,11 @@ ghost use Rattle.savi_switch.specs.Played.{IfFinished, IsPlayed};
 ghost use Rattle.port_worker.specs.Replays.{ports_planned};
 
 use crate::session::{Ended, play};
-use pcap_io::{ByteOrder, HeaderKind, PcapReader, TimeUnit};
+use pcap_io::PcapReader;
 use port_worker::PortEnds;
 use savi_ends::{Clock, Ends, Sink, Source};
 use savi_kinds::{Plan, Port};
 use std::alloc::Global;
-
-/// The one header that inputs may have.
-const HEADER_KIND: HeaderKind = HeaderKind {
-    order: ByteOrder::Little,
-    unit: TimeUnit::Microseconds,
-};
 
 /// How a session ended, with the ends of its ports.
 pub struct Played<S, K, C> {
@@ -55,11 +49,11 @@ pub fn play_two<S: Source, K: Sink, C: Clock>(
     };
     add(
         &mut ports,
-        PortEnds::new(numbers.0, first, PcapReader::of_kind(HEADER_KIND)),
+        PortEnds::new(numbers.0, first, PcapReader::new()),
     );
     add(
         &mut ports,
-        PortEnds::new(numbers.1, second, PcapReader::of_kind(HEADER_KIND)),
+        PortEnds::new(numbers.1, second, PcapReader::new()),
     );
     let ended = play(alloc, plan, ports.as_mut_slice(), journal);
     let last = take_last(&mut ports);

@@ -37,9 +37,9 @@ returns-in-Whole-pass_over-clause-octets g c =
       front ++ body.0,
       takes_more front body.0 _ _ _ first body.1,
       (
-        c.if-len-gt-FRAME_OCTETS_MOST.true,
-        c.if-len-gt-CAPTURED_OCTETS_MOST.false,
-        long_read c.args.kind c.args.place c.stamp_in-stamp.result c.number_at-len.result front body.0 room body.2 c.number_at-len.ensures c.stamp_in-stamp.ensures c.if-len-gt-FRAME_OCTETS_MOST.true c.if-len-gt-CAPTURED_OCTETS_MOST.false (omega arith),
+        omega arith,
+        omega arith,
+        long_read c.args.kind c.args.place c.stamp_in-stamp.result c.number_at-len.result front body.0 room body.2 c.number_at-len.ensures c.stamp_in-stamp.ensures (omega arith) (omega arith) (omega arith),
       ),
     )
 
@@ -78,8 +78,8 @@ returns-in-Whole-fill-clause-octets g c =
       front ++ c.fill-2.new.buf,
       takes_more front c.fill-2.new.buf _ _ _ first (takes_whole _ _ body.0 c.fill-2.new.buf body.1 body.2),
       (
-        c.if-len-gt-FRAME_OCTETS_MOST.false,
-        frame_read c.args.kind c.args.place c.stamp_in-stamp.result c.number_at-len.result front c.fill-2.new.buf _ room piece c.number_at-len.ensures c.stamp_in-stamp.ensures c.if-len-gt-FRAME_OCTETS_MOST.false (omega arith),
+        omega arith,
+        frame_read c.args.kind c.args.place c.stamp_in-stamp.result c.number_at-len.result front c.fill-2.new.buf _ room piece c.number_at-len.ensures c.stamp_in-stamp.ensures (omega arith) (omega arith),
       ),
     )
 

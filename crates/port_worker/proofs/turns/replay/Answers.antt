@@ -13,12 +13,14 @@ use Rattle.savi_core.specs.Machines.{Machine}
 use Rattle.port_worker.specs.declared.port_ends.PortEnds.{PortEnds}
 use Rattle.port_worker.specs.Inputs.{turn_of, moment_of}
 use Rattle.port_worker.specs.Steps.{ends_input, ahead_after}
+use Rattle.port_worker.specs.Pairs.{EachPair}
 use Rattle.port_worker.specs.Replays.{ports_planned}
 use Rattle.port_worker.proofs.Measures.{undone}
 use Rattle.port_worker.proofs.Running.{Running, look_step, look_undone}
-use Rattle.port_worker.proofs.Stepping.{turn_step, smaller, turn_known, running_j, inside}
+use Rattle.port_worker.proofs.Stepping.{turn_step, fits_step, smaller, turn_known, running_j, inside}
 use Rattle.port_worker.proofs.Starting.{start, looked_later, stepped_later, rose_since, planned_now, sound_now, outputs_now, quiet_now, input_open}
-use Rattle.port_worker.proofs.Ending.{inputs_ended, replayed_all}
+use Rattle.port_worker.proofs.Ending.{inputs_ended, replayed_all, done_at}
+use Rattle.port_worker.proofs.Fitting.{FitsSoFar, fits_started, fits_looked, fits_finished}
 use Rattle.port_worker.proofs.Finishing.{did_end}
 use Rattle.port_worker.proofs.turns.replay.Goals as goal
 
@@ -39,6 +41,8 @@ turns-init g c =
       same_plan = ap (λ (m : Machine). m.plan) made;
       runs = subst (λ (l : List Row). Running g.S.Source.left g.K.Sink.written g.S.Source.faults g.K.Sink.faults plan first ports l) (sym past_is)
           (start g.S.Source.left g.K.Sink.written g.S.Source.faults g.K.Sink.faults plan first ports c.requires.planned c.requires.valid.ports c.requires.unread c.begin_all.ensures.begun (c.begin_all.ensures.done none));
+      fits = subst (λ (l : List Row). EachPair (FitsSoFar g.S.Source.left l) first ports) (sym past_is)
+          (fits_started g.S.Source.left g.K.Sink.faults plan first ports c.requires.unread c.begin_all.ensures.begun);
     }
 
 pub returns-in-Some-look_all-clause-later : goal.returns-in-Some-look_all-clause-later
@@ -95,6 +99,20 @@ returns-in_default-next_of-clause-finished g c answer =
     replayed_all g.S.Source.left g.K.Sink.written g.S.Source.faults g.K.Sink.faults plan first ports past c.requires.planned runs known none c.finish.new.core.past c.requires.unread
     (subst (λ (p : Plan). c.finish.new.core.past ≡ egress_ended p empty p.ports (with_event p empty past (End Ticker hows.End))) c.turns.invariant.same_plan c.finish.ensures.past)
     c.finish.ensures.sent
+
+pub returns-in_default-next_of-clause-fits : goal.returns-in_default-next_of-clause-fits
+returns-in_default-next_of-clause-fits g c answer =
+    let plan = c.args.core.now.plan in
+    let first = c.args.ports.now in
+    let ports = c.look_all.new.ports in
+    let past = c.turns.core.past in
+    let known = c.look_all.ensures.known (nothing c.look_all.result c.in_default-look_all.not-Some) in
+    let runs = look_step g.S.Source.left g.K.Sink.written g.S.Source.faults g.K.Sink.faults plan first c.turns.ports ports past c.turns.invariant.runs c.look_all.ensures.looked known in
+    let none : IsPick (map moment_of ports) None = subst (λ (o : Option ℕ). IsPick (map moment_of ports) o) (nothing c.next_of.result c.in_default-next_of.not-Some) c.next_of.ensures in
+    fits_finished g.S.Source.left plan first ports past c.finish.new.core.past
+    (fits_looked g.S.Source.left g.S.Source.faults past first c.turns.ports ports c.turns.invariant.fits c.look_all.ensures.looked known)
+    (done_at g.S.Source.left g.K.Sink.written g.S.Source.faults g.K.Sink.faults plan first ports past c.requires.planned runs known none)
+    (subst (λ (p : Plan). c.finish.new.core.past ≡ egress_ended p empty p.ports (with_event p empty past (End Ticker hows.End))) c.turns.invariant.same_plan c.finish.ensures.past)
 
 pub advance-requires-clause-planned : goal.advance-requires-clause-planned
 advance-requires-clause-planned g c =
@@ -211,4 +229,7 @@ turns-preserved g c =
       same_plan = c.advance.ensures.plan ∙ c.turns.invariant.same_plan;
       runs = turn_step g.S.Source.left g.K.Sink.written g.S.Source.faults g.K.Sink.faults plan first ports new past now place c.requires.planned c.requires.valid.ports runs known c.in-Some-next_of.ensures
           c.advance.ensures.stepped (c.advance.ensures.others none) entered_is ahead_is (c.advance.ensures.sent none);
+      fits = fits_step g.S.Source.left g.K.Sink.written g.S.Source.faults g.K.Sink.faults plan first ports new past now place c.requires.planned c.requires.valid.ports runs known c.in-Some-next_of.ensures
+          c.advance.ensures.stepped (c.advance.ensures.others none) entered_is ahead_is (c.advance.ensures.sent none)
+          (fits_looked g.S.Source.left g.S.Source.faults past first c.turns.ports ports c.turns.invariant.fits c.look_all.ensures.looked known);
     }

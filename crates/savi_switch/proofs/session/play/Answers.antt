@@ -1,4 +1,4 @@
-use Rattle.std.proofs.Common.{inl, refl, []}
+use Rattle.std.proofs.Common.{inl, inr, refl, []}
 use Rattle.savi_switch.proofs.FixedPlans.{fixed_valid}
 use Rattle.savi_switch.proofs.Played.{rose_any, played_to_end}
 use Rattle.savi_switch.proofs.session.play.Goals as goal
@@ -17,5 +17,8 @@ returns-in-WriteFault-clause-write g c = λ failed.
 pub returns-in-Done-clause-played : goal.returns-in-Done-clause-played
 returns-in-Done-clause-played g c =
     played_to_end g.S.Source.left g.K.Sink.written c.args.plan c.in-Ok.core c.replay.new.core c.args.ports.now c.replay.new.ports c.args.journal.now c.write_journal.new.sink c.status_by.result c.summary.result
-    c.in-Ok.ensures c.in-Finished.ensures.plan (c.in-Finished.ensures.finished refl) c.len-legal.ensures.legal (c.in-Finished.ensures.ended refl)
+    c.in-Ok.ensures c.in-Finished.ensures.plan (c.in-Finished.ensures.finished refl) (c.in-Finished.ensures.fits refl) c.len-legal.ensures.legal (c.in-Finished.ensures.ended refl)
     (c.in-Done.ensures.done refl (λ address. [])) c.status_by.ensures c.summary.ensures
+
+pub returns-clause-write : goal.returns-clause-write
+returns-clause-write g c = λ failed. inr (c.in-Failed.ensures.cause refl)

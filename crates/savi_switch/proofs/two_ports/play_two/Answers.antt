@@ -7,10 +7,10 @@ use Rattle.savi_switch.proofs.two_ports.play_two.Given as given
 use Rattle.savi_switch.proofs.two_ports.play_two.Goals as goal
 
 -- the ports of the session
-added : (g : given.Over) (c : goal.After-close-2 g) → c.add-2.new.items.items ≡ c.new.result ∷ c.new-2.result ∷ []
-added g c = both_added _ _ _ c.new.result c.new-2.result c.in-Ok.ensures.items c.add.ensures.items c.add-2.ensures.items
+added : (g : given.Over) (c : goal.After-close-2 g) → c.add-2.new.items.items ≡ c.new-2.result ∷ c.new-4.result ∷ []
+added g c = both_added _ _ _ c.new-2.result c.new-4.result c.in-Ok.ensures.items c.add.ensures.items c.add-2.ensures.items
 
-before : (g : given.Over) (c : goal.After-close-2 g) → c.as_mut_slice.result.now ≡ c.new.result ∷ c.new-2.result ∷ []
+before : (g : given.Over) (c : goal.After-close-2 g) → c.as_mut_slice.result.now ≡ c.new-2.result ∷ c.new-4.result ∷ []
 before g c = c.as_mut_slice.ensures.value ∙ added g c
 
 -- the ports behind it
@@ -23,15 +23,15 @@ behind g c =
 
 pub returns-clause-read : goal.returns-clause-read
 returns-clause-read g c = λ failed.
-    risen_two (λ (e : Ends g.row.S.Denot g.row.K.Denot g.row.C.Denot). g.S.Source.faults e.source) c.as_mut_slice.result.now c.play-ended.new.ports c.new.result c.new-2.result c.take_last-one.result c.take_last-last.result
+    risen_two (λ (e : Ends g.row.S.Denot g.row.K.Denot g.row.C.Denot). g.S.Source.faults e.source) c.as_mut_slice.result.now c.play-ended.new.ports c.new-2.result c.new-4.result c.take_last-one.result c.take_last-last.result
     c.args.first c.args.second c.close.result c.close-2.result
-    (before g c) (behind g c) c.new.ensures.ends c.new-2.ensures.ends c.close.ensures c.close-2.ensures (c.play-ended.ensures.read failed)
+    (before g c) (behind g c) c.new-2.ensures.ends c.new-4.ensures.ends c.close.ensures c.close-2.ensures (c.play-ended.ensures.read failed)
 
 sink_risen : (g : given.Over) (c : goal.After-close-2 g) → HasRisen (λ p. g.K.Sink.faults p.ends.sink) c.as_mut_slice.result.now c.play-ended.new.ports → Rose (g.K.Sink.faults c.args.first.sink) (g.K.Sink.faults c.close.result.sink) ⊎ Rose (g.K.Sink.faults c.args.second.sink) (g.K.Sink.faults c.close-2.result.sink)
 sink_risen g c risen =
-    risen_two (λ (e : Ends g.row.S.Denot g.row.K.Denot g.row.C.Denot). g.K.Sink.faults e.sink) c.as_mut_slice.result.now c.play-ended.new.ports c.new.result c.new-2.result c.take_last-one.result c.take_last-last.result
+    risen_two (λ (e : Ends g.row.S.Denot g.row.K.Denot g.row.C.Denot). g.K.Sink.faults e.sink) c.as_mut_slice.result.now c.play-ended.new.ports c.new-2.result c.new-4.result c.take_last-one.result c.take_last-last.result
     c.args.first c.args.second c.close.result c.close-2.result
-    (before g c) (behind g c) c.new.ensures.ends c.new-2.ensures.ends c.close.ensures c.close-2.ensures risen
+    (before g c) (behind g c) c.new-2.ensures.ends c.new-4.ensures.ends c.close.ensures c.close-2.ensures risen
 
 pub returns-clause-write : goal.returns-clause-write
 returns-clause-write g c = λ failed.
@@ -46,16 +46,16 @@ returns-clause-played g c =
     (IsPlayedBy g.S.Source.left g.K.Sink.written c.args.plan c.as_mut_slice.result.now c.play-ended.new.ports c.args.journal.now c.play-ended.new.journal)
     (IsPlayed g.S.Source.left g.K.Sink.written c.args.plan c.args.first c.args.second c.close.result c.close-2.result c.args.journal.now c.play-ended.new.journal)
     (λ status summary played.
-    played_two g.S.Source.left g.K.Sink.written c.args.plan c.as_mut_slice.result.now c.play-ended.new.ports c.new.result c.new-2.result c.take_last-one.result c.take_last-last.result
+    played_two g.S.Source.left g.K.Sink.written c.args.plan c.as_mut_slice.result.now c.play-ended.new.ports c.new-2.result c.new-4.result c.take_last-one.result c.take_last-last.result
     c.args.numbers.0 c.args.numbers.1 c.args.first c.args.second c.close.result c.close-2.result c.args.journal.now c.play-ended.new.journal status summary
-    c.requires.fixed c.requires.numbers (before g c) (behind g c) c.new.ensures.ends c.new-2.ensures.ends c.close.ensures c.close-2.ensures
-    c.new.ensures.port c.new-2.ensures.port (c.new.ensures.reader ∙ c.of_kind.ensures) (c.new-2.ensures.reader ∙ c.of_kind-2.ensures) played)
+    c.requires.fixed c.requires.numbers (before g c) (behind g c) c.new-2.ensures.ends c.new-4.ensures.ends c.close.ensures c.close-2.ensures
+    c.new-2.ensures.port c.new-4.ensures.port (c.new-2.ensures.reader ∙ c.new.ensures) (c.new-4.ensures.reader ∙ c.new-3.ensures) played)
     c.play-ended.ensures.played
 
 pub returns-clause-none : goal.returns-clause-none
 returns-clause-none g c = λ failed.
     let both = c.play-ended.ensures.none failed in
-    let ends = ends_back c.as_mut_slice.result.now c.play-ended.new.ports c.new.result c.new-2.result c.take_last-one.result c.take_last-last.result
+    let ends = ends_back c.as_mut_slice.result.now c.play-ended.new.ports c.new-2.result c.new-4.result c.take_last-one.result c.take_last-last.result
     c.args.first c.args.second c.close.result c.close-2.result
-    (before g c) (behind g c) c.new.ensures.ends c.new-2.ensures.ends c.close.ensures c.close-2.ensures both.0 in
+    (before g c) (behind g c) c.new-2.ensures.ends c.new-4.ensures.ends c.close.ensures c.close-2.ensures both.0 in
     (ends.0, ends.1, both.1)

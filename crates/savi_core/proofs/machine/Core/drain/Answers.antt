@@ -16,6 +16,7 @@ use Rattle.savi_core.specs.Steps.{entry_of, count_of}
 use Rattle.savi_core.specs.Waits.{after_drain}
 use Rattle.savi_core.proofs.Places.{placed, place_within, length-numbers}
 use Rattle.savi_core.proofs.Changes.{after_set}
+use Rattle.savi_core.proofs.Closed.{waits_open}
 use Rattle.savi_core.proofs.Remembering.{holds_at, holds_length}
 use Rattle.savi_core.proofs.Stepping.{row, stepped_view, remembers_drain, drain_fits}
 use Rattle.savi_core.proofs.machine.Core.drain.Goals as goal
@@ -24,7 +25,7 @@ pub index-requires : goal.index-requires
 index-requires c =
     let inside = c.self.inside in
     let number = number_of c.args.port in
-    let known : has_port inside.plan number ≡ true = ap (λ (m : Machine). has_port m.plan number) c.self.view_is ∙ c.requires.open.known in
+    let known : has_port inside.plan number ≡ true = ap (λ (m : Machine). has_port m.plan number) c.self.view_is ∙ c.requires.port in
     omega (arith, place_within inside.plan number known, c.place_of-place.ensures.place, c.self.invariant.0.queue_count)
 
 pub returns-then-count-eq0 : goal.returns-then-count-eq0
@@ -32,7 +33,7 @@ returns-then-count-eq0 c =
     let inside = c.self.inside in
     let number = number_of c.args.port in
     let w = c.index.result.now in
-    let known : has_port inside.plan number ≡ true = ap (λ (m : Machine). has_port m.plan number) c.self.view_is ∙ c.requires.open.known in
+    let known : has_port inside.plan number ≡ true = ap (λ (m : Machine). has_port m.plan number) c.self.view_is ∙ c.requires.port in
     let holds = holds_at inside.plan inside.hist.rows inside.moment inside.closed inside.queues.items c.self.invariant.0 number c.place_of-place.result w known c.place_of-place.ensures.place c.index.ensures in
     let none : length (queue empty number (reverse inside.hist.rows)) ≡ 0 = omega (arith, holds_length inside.plan.depth inside.hist.rows number w holds, c.len.ensures.len, c.min-count.ensures, c.if-count-eq0.true, c.requires.most.0) in
     (ap (λ (m : Machine). queue_at m c.args.port) (sym c.self.view_is) ∙ nil_from_length (queue empty number (reverse inside.hist.rows)) none, c.clear.ensures, refl)
@@ -41,14 +42,14 @@ pub index_mut-requires : goal.index_mut-requires
 index_mut-requires c =
     let inside = c.self.inside in
     let number = number_of c.args.port in
-    let known : has_port inside.plan number ≡ true = ap (λ (m : Machine). has_port m.plan number) c.self.view_is ∙ c.requires.open.known in
+    let known : has_port inside.plan number ≡ true = ap (λ (m : Machine). has_port m.plan number) c.self.view_is ∙ c.requires.port in
     omega (arith, place_within inside.plan number known, c.place_of-place.ensures.place, c.self.invariant.0.queue_count)
 
 pub move_frames-requires-clause-frames : goal.move_frames-requires-clause-frames
 move_frames-requires-clause-frames c =
     let inside = c.self.inside in
     let number = number_of c.args.port in
-    let known : has_port inside.plan number ≡ true = ap (λ (m : Machine). has_port m.plan number) c.self.view_is ∙ c.requires.open.known in
+    let known : has_port inside.plan number ≡ true = ap (λ (m : Machine). has_port m.plan number) c.self.view_is ∙ c.requires.port in
     (holds_at inside.plan inside.hist.rows inside.moment inside.closed inside.queues.items c.self.invariant.0 number c.place_of-place.result c.index_mut.result.now known c.place_of-place.ensures.place c.index_mut.ensures.value).frames
 
 pub move_frames-requires-clause-count : goal.move_frames-requires-clause-count
@@ -59,7 +60,7 @@ move_frames-requires-clause-count c =
     let place = c.place_of-place.result in
     let w = c.index.result.now in
     let v = c.index_mut.result.now in
-    let known : has_port inside.plan number ≡ true = ap (λ (m : Machine). has_port m.plan number) c.self.view_is ∙ c.requires.open.known in
+    let known : has_port inside.plan number ≡ true = ap (λ (m : Machine). has_port m.plan number) c.self.view_is ∙ c.requires.port in
     let holds = holds_at inside.plan rows inside.moment inside.closed inside.queues.items c.self.invariant.0 number place w known c.place_of-place.ensures.place c.index.ensures in
     let holds_v = holds_at inside.plan rows inside.moment inside.closed inside.queues.items c.self.invariant.0 number place v known c.place_of-place.ensures.place c.index_mut.ensures.value in
     omega (arith, holds_length inside.plan.depth rows number w holds, holds_length inside.plan.depth rows number v holds_v, c.len.ensures.len, c.min-count.ensures)
@@ -70,7 +71,7 @@ append-requires-clause-room c =
     let rows = inside.hist.rows in
     let number = number_of c.args.port in
     let w = c.index.result.now in
-    let known : has_port inside.plan number ≡ true = ap (λ (m : Machine). has_port m.plan number) c.self.view_is ∙ c.requires.open.known in
+    let known : has_port inside.plan number ≡ true = ap (λ (m : Machine). has_port m.plan number) c.self.view_is ∙ c.requires.port in
     let holds = holds_at inside.plan rows inside.moment inside.closed inside.queues.items c.self.invariant.0 number c.place_of-place.result w known c.place_of-place.ensures.place c.index.ensures in
     let some : 0 < length (queue empty number (reverse rows)) = omega (arith, holds_length inside.plan.depth rows number w holds, c.len.ensures.len, c.min-count.ensures, c.if-count-eq0.false) in
     omega (arith, drain_fits inside.plan rows inside.moment inside.closed inside.queues.items c.self.invariant.0 number known some, c.self.invariant.1)
@@ -87,12 +88,13 @@ invariant_of-self c =
     let v = c.index_mut.result.now in
     let e = c.drain_entry-entry.result in
     let event = events.Drain c.args.port count in
-    let open_pass = subst (λ (m : Machine). IsOpen m.plan empty m.past (Egress c.args.port)) (sym c.self.view_is) c.requires.open in
-    let known = open_pass.known in
+    let known : has_port inside.plan number ≡ true = ap (λ (m : Machine). has_port m.plan number) c.self.view_is ∙ c.requires.port in
     let holds = holds_at inside.plan rows inside.moment inside.closed inside.queues.items c.self.invariant.0 number place w known c.place_of-place.ensures.place c.index.ensures in
     let size = holds_length inside.plan.depth rows number w holds in
     let least : 1 ≤ count = omega (arith, c.if-count-eq0.false) in
     let most : count ≤ length (queue empty number (reverse rows)) = omega (arith, size, c.len.ensures.len, c.min-count.ensures) in
+    let open_pass : IsOpen inside.plan empty (reverse rows) (Egress c.args.port) =
+    record { known = known; running = waits_open inside.plan (reverse rows) number c.self.invariant.0.legal known (omega (arith, least, most)) } in
     let e_is = subst (λ (m : Machine). e ≡ entry_of m event) (sym c.self.view_is) c.drain_entry-entry.ensures in
     let in_place = placed inside.plan number known in
     let within : place < length numbers = omega (arith, c.place_of-place.ensures.place, in_place.within) in
@@ -119,7 +121,7 @@ returns c =
     let w = c.index.result.now in
     let v = c.index_mut.result.now in
     let e = c.drain_entry-entry.result in
-    let known : has_port inside.plan number ≡ true = ap (λ (x : Machine). has_port x.plan number) c.self.view_is ∙ c.requires.open.known in
+    let known : has_port inside.plan number ≡ true = ap (λ (x : Machine). has_port x.plan number) c.self.view_is ∙ c.requires.port in
     let holds = holds_at inside.plan rows inside.moment inside.closed inside.queues.items c.self.invariant.0 number place w known c.place_of-place.ensures.place c.index.ensures in
     let holds_v = holds_at inside.plan rows inside.moment inside.closed inside.queues.items c.self.invariant.0 number place v known c.place_of-place.ensures.place c.index_mut.ensures.value in
     let queue_is : queue empty number (reverse rows) ≡ queue_at m port = ap (λ (x : Machine). queue_at x port) c.self.view_is in

@@ -25,7 +25,7 @@ pub struct FileSource {
 impl FileSource {
     /// Opens the file of this name.
     pub fn open<R: Files<File = File>>(rt: &R, alloc: Global, name: &str) -> io::Result<FileSource>
-        ensures { IfOk result (λ s. s.faults ≡ 0) }
+        ensures { IfOk result (λ s. ⟦<FileSource as Source>⟧.faults s ≡ 0) }
     {
         let file = File::open(rt, name)?;
         let piece = vec![in alloc; 0; PIECE_OCTETS]?;

@@ -1,0 +1,9 @@
+//! Files as ends of the switch: a file that is read as a source.
+//!
+//! What a file holds is outside of every contract, so such an end tells nothing of its octets. That its
+//! failures are counted is proved.
+#![tactic(auto)]
+
+mod file_source;
+
+pub use file_source::FileSource;

@@ -1,0 +1,275 @@
+-- What the sources gave up fits the history between two turns.
+use Rattle.std.proofs.Common.{◌≡◌, ◌≢◌, ℕ, ◌+◌, ◌<◌, Bool, true, false, not, List, [], ◌∷◌, ◌++◌, length, take, get_or, refl, sym, ap, ◌∙◌, subst, arith, append_assoc, append-nil, ◌⊎◌, inl, inr, Option, Some, None, IfSome}
+use Rattle.std.proofs.lemmas.Bool.{cases_eq}
+use Rattle.std.specs.List.{All}
+use Rattle.savi_kinds.specs.declared.port.Port.{Port}
+use Rattle.savi_kinds.specs.declared.plan.Plan.{Plan}
+use Rattle.savi_kinds.specs.declared.entry.Who.TheVariants.{Ingress, Control, Ticker}
+use Rattle.savi_kinds.specs.declared.entry.How.{How}
+use Rattle.savi_kinds.specs.declared.entry.How.TheVariants as hows
+use Rattle.savi_kinds.specs.Ports.{number_of}
+use Rattle.savi_kinds.specs.Arrivals.{Arrival}
+use Rattle.savi_kinds.specs.Arrivals as arrivals
+use Rattle.savi_ends.specs.Octets.{in_front, Takes}
+use Rattle.pcap_io.specs.declared.kind.HeaderKind.{HeaderKind}
+use Rattle.pcap_io.specs.Readers.{State, Running, Comes, HasRead, place_of}
+use Rattle.pcap_io.specs.Runs.{ended}
+use Rattle.hist_store.specs.Rows.{Row}
+use Rattle.savi_history.specs.Bases.{empty}
+use Rattle.savi_history.specs.Limits.{has_room}
+use Rattle.savi_history.specs.Events.{End}
+use Rattle.savi_history.specs.Turns.{Turn, Arrives, Ends}
+use Rattle.savi_history.specs.Replay.{with_event, entered, egress_ended}
+use Rattle.savi_history.specs.PortInputs.{arrived, input_end}
+use Rattle.savi_history.specs.Fits.{Fits, IsWhole}
+use Rattle.savi_history.proofs.PortInputs.{HoldsSame, IsTurnOf, more_entered, full_entered, end_entered, other_entered, same_finished}
+use Rattle.port_worker.specs.declared.port_ends.Ahead.{Ahead}
+use Rattle.port_worker.specs.declared.port_ends.Ahead.TheVariants as ahead
+use Rattle.port_worker.specs.declared.port_ends.PortEnds.{PortEnds}
+use Rattle.port_worker.specs.Inputs.{IsKnown, IsLooked, IsReadAs, turn_ahead, turn_of}
+use Rattle.port_worker.specs.SentFrames.{OnlySink}
+use Rattle.port_worker.specs.Steps.{IsStepped, ends_input, ahead_after}
+use Rattle.port_worker.specs.Replays.{IsUnread, IsFit}
+use Rattle.port_worker.specs.Pairs.{EachPair}
+
+abbrev pub IsRunning : State → Type 0
+IsRunning state = (kind : HeaderKind) × (place : ℕ) × (state ≡ Running kind place)
+
+-- what was taken from the source so far is what was entered and what is known, and so much of the input has ended
+abbrev pub FitsAhead : State → State → List ℕ → List ℕ → Option (List ℕ) → Option (List ℕ) → List Arrival → Option How → Ahead → Type 0
+FitsAhead first now gave buf before after entered_so ending ahead.Unread = (ending ≡ None) × HasRead first now gave entered_so
+FitsAhead first now gave buf before after entered_so ending (ahead.Frame stamp len) = (ending ≡ None) × HasRead first now gave (entered_so ++ arrivals.Frame stamp (take len buf) ∷ []) × IsRunning now
+FitsAhead first now gave buf before after entered_so ending (ahead.Long stamp len) = (ending ≡ None) × HasRead first now gave (entered_so ++ arrivals.Long stamp len ∷ []) × IsRunning now
+FitsAhead first now gave buf before after entered_so ending ahead.End = (ending ≡ None) × IsWhole (Comes first) before entered_so hows.End
+FitsAhead first now gave buf before after entered_so ending (ahead.Malformed at) = (ending ≡ None) × IsWhole (Comes first) before entered_so (hows.Malformed at)
+FitsAhead first now gave buf before after entered_so ending ahead.Done = Fits (Comes first) before after entered_so ending
+
+pub record FitsSoFar {S K C : Type 0} (left : S → Option (List ℕ)) (past : List Row) (old new : PortEnds S K C) : Type 0 where
+  pub gave : List ℕ
+  pub takes : Takes (left old.ends.source) (left new.ends.source) gave
+  pub fits : FitsAhead old.reader new.reader gave new.buf (left old.ends.source) (left new.ends.source) (arrived (number_of old.port) past) (input_end (number_of old.port) past) new.ahead
+
+-- octets
+
+front_none : (o : Option (List ℕ)) → in_front [] o ≡ o
+front_none None = refl
+front_none (Some octets) = refl
+
+front_twice : (one two : List ℕ) (o : Option (List ℕ)) → in_front one (in_front two o) ≡ in_front (one ++ two) o
+front_twice one two None = refl
+front_twice one two (Some octets) = ap (λ (l : List ℕ). Some l) (sym (append_assoc one two octets))
+
+takes_twice : (a b c : Option (List ℕ)) (one two : List ℕ) → Takes a b one → Takes b c two → Takes a c (one ++ two)
+takes_twice a b c one two first next = first ∙ ap (in_front one) next ∙ front_twice one two c
+
+-- one read behind another
+read_twice : (first mid now : State) (one two : List ℕ) (front back : List Arrival) → HasRead first mid one front → HasRead mid now two back → HasRead first now (one ++ two) (front ++ back)
+read_twice first mid now one two front back read_one read_two rest later ending comes =
+    subst (λ (octets : List ℕ). Comes first octets (record { arrivals = (front ++ back) ++ later; ending = ending })) (sym (append_assoc one two rest))
+    (subst (λ (list : List Arrival). Comes first (one ++ (two ++ rest)) (record { arrivals = list; ending = ending })) (sym (append_assoc front back later))
+    (read_one (two ++ rest) (back ++ later) ending (read_two rest later ending comes)))
+
+-- the input ends behind what was read
+whole_at : (first mid : State) (one two : List ℕ) (front : List Arrival) (how : How) (a b c : Option (List ℕ)) → Takes a b one → Takes b c two → HasRead first mid one front
+    → IfSome c (λ rest. Comes mid (two ++ rest) (ended how)) → IsWhole (Comes first) a front how
+whole_at first mid one two front how a b None take_one take_two read_one is =
+    rw (take_one, take_two) tt
+whole_at first mid one two front how a b (Some rest) take_one take_two read_one is =
+    rw (take_one, take_two) (subst (λ (list : List Arrival). Comes first (one ++ (two ++ rest)) (record { arrivals = list; ending = how })) (append-nil front) (read_one (two ++ rest) [] how is))
+
+-- a read of what comes next
+
+read_more : {S K C : Type 0} (left : S → Option (List ℕ)) (past : List Row) (first old new : PortEnds S K C) (one two : List ℕ) (a : Ahead) → new.ahead ≡ a
+    → Takes (left first.ends.source) (left old.ends.source) one → Takes (left old.ends.source) (left new.ends.source) two
+    → input_end (number_of first.port) past ≡ None → HasRead first.reader old.reader one (arrived (number_of first.port) past)
+    → IsReadAs old.reader new.reader two new.buf (left new.ends.source) a
+    → FitsAhead first.reader new.reader (one ++ two) new.buf (left first.ends.source) (left new.ends.source) (arrived (number_of first.port) past) (input_end (number_of first.port) past) a
+read_more left past first old new one two ahead.Unread a_is take_one take_two none read is = absurd is
+read_more left past first old new one two (ahead.Frame stamp len) a_is take_one take_two none read is =
+    (none, read_twice first.reader old.reader new.reader one two (arrived (number_of first.port) past) (arrivals.Frame stamp (take len new.buf) ∷ []) read is.read, (is.running.0, place_of old.reader + length two, is.running.1))
+read_more left past first old new one two (ahead.Long stamp len) a_is take_one take_two none read is =
+    (none, read_twice first.reader old.reader new.reader one two (arrived (number_of first.port) past) (arrivals.Long stamp len ∷ []) read is.read, (is.running.0, place_of old.reader + length two, is.running.1))
+read_more left past first old new one two ahead.End a_is take_one take_two none read is =
+    (none, whole_at first.reader old.reader one two (arrived (number_of first.port) past) hows.End (left first.ends.source) (left old.ends.source) (left new.ends.source) take_one take_two read is.whole)
+read_more left past first old new one two (ahead.Malformed at) a_is take_one take_two none read is =
+    (none, whole_at first.reader old.reader one two (arrived (number_of first.port) past) (hows.Malformed at) (left first.ends.source) (left old.ends.source) (left new.ends.source) take_one take_two read is.whole)
+read_more left past first old new one two ahead.Done a_is take_one take_two none read is = absurd is
+
+known_same : {S K C : Type 0} (left : S → Option (List ℕ)) (past : List Row) (first old new : PortEnds S K C) (a : Ahead) → old.ahead ≡ a → IsKnown a → (IsKnown old.ahead → new ≡ old) → FitsSoFar left past first old → FitsSoFar left past first new
+known_same {S} {K} {C} left past first old new a is known same so_far = subst (λ (p : PortEnds S K C). FitsSoFar left past first p) (sym (same (subst IsKnown (sym is) known))) so_far
+
+look_one : {S K C : Type 0} (left : S → Option (List ℕ)) (faults : S → ℕ) (past : List Row) (first old new : PortEnds S K C) (a : Ahead) → old.ahead ≡ a → IsLooked left faults old new → IsKnown new.ahead → FitsSoFar left past first old → FitsSoFar left past first new
+look_one left faults past first old new ahead.Unread is looked known so_far =
+    let more = looked.read is known in
+    let fits : FitsAhead first.reader old.reader so_far.gave old.buf (left first.ends.source) (left old.ends.source) (arrived (number_of first.port) past) (input_end (number_of first.port) past) ahead.Unread =
+    subst (λ (b : Ahead). FitsAhead first.reader old.reader so_far.gave old.buf (left first.ends.source) (left old.ends.source) (arrived (number_of first.port) past) (input_end (number_of first.port) past) b) is so_far.fits in
+    record {
+      gave = so_far.gave ++ more.0;
+      takes = takes_twice (left first.ends.source) (left old.ends.source) (left new.ends.source) so_far.gave more.0 so_far.takes more.1;
+      fits = read_more left past first old new so_far.gave more.0 new.ahead refl so_far.takes more.1 fits.0 fits.1 more.2;
+    }
+look_one left faults past first old new (ahead.Frame stamp len) is looked known so_far = known_same left past first old new (ahead.Frame stamp len) is tt looked.same so_far
+look_one left faults past first old new (ahead.Long stamp len) is looked known so_far = known_same left past first old new (ahead.Long stamp len) is tt looked.same so_far
+look_one left faults past first old new ahead.End is looked known so_far = known_same left past first old new ahead.End is tt looked.same so_far
+look_one left faults past first old new (ahead.Malformed at) is looked known so_far = known_same left past first old new (ahead.Malformed at) is tt looked.same so_far
+look_one left faults past first old new ahead.Done is looked known so_far = known_same left past first old new ahead.Done is tt looked.same so_far
+
+pub fits_looked : {S K C : Type 0} (left : S → Option (List ℕ)) (faults : S → ℕ) (past : List Row) (first old new : List (PortEnds S K C)) → EachPair (FitsSoFar left past) first old → EachPair (IsLooked left faults) old new → All (λ p. IsKnown p.ahead) new → EachPair (FitsSoFar left past) first new
+fits_looked left faults past first old new so_far looked known = record {
+  size = looked.size ∙ so_far.size;
+  each = λ k d within.
+      look_one left faults past (get_or first k d) (get_or old k d) (get_or new k d) (get_or old k d).ahead refl (looked.each k d (omega (arith, so_far.size))) (known k d (omega (arith, looked.size, so_far.size))) (so_far.each k d within);
+}
+
+-- the start
+
+start_one : {S K C : Type 0} (left : S → Option (List ℕ)) (faults : K → ℕ) (plan : Plan) (old new : PortEnds S K C) → IsUnread old → OnlySink faults old new → FitsSoFar left (with_event plan empty [] (End Control hows.End)) old new
+start_one {S} {K} {C} left faults plan old new unread only =
+    let start : FitsSoFar left (with_event plan empty [] (End Control hows.End)) old (record old { ends = record old.ends { sink = new.ends.sink } }) =
+    record {
+      gave = [];
+      takes = sym (front_none (left old.ends.source));
+      fits = rw unread.0 (refl, λ rest later ending comes. comes);
+    } in
+    subst (λ (p : PortEnds S K C). FitsSoFar left (with_event plan empty [] (End Control hows.End)) old p) (sym only.same) start
+
+pub fits_started : {S K C : Type 0} (left : S → Option (List ℕ)) (faults : K → ℕ) (plan : Plan) (first new : List (PortEnds S K C)) → All IsUnread first → EachPair (OnlySink faults) first new → EachPair (FitsSoFar left (with_event plan empty [] (End Control hows.End))) first new
+fits_started left faults plan first new unread only = record { size = only.size; each = λ k d within. start_one left faults plan (get_or first k d) (get_or new k d) (unread k d within) (only.each k d within) }
+
+-- a turn
+
+-- nothing that this port is changed but the sink, and the history holds the same of its input
+same_one : {S K C : Type 0} (left : S → Option (List ℕ)) (faults : K → ℕ) (past now : List Row) (first old new : PortEnds S K C) → IsStepped faults old new → new.ahead ≡ old.ahead → HoldsSame (number_of first.port) past now → FitsSoFar left past first old → FitsSoFar left now first new
+same_one {S} {K} {C} left faults past now first old new stepped ahead_is holds so_far =
+    let moved : FitsSoFar left now first (record old { ends = record old.ends { sink = new.ends.sink } }) =
+    record {
+      gave = so_far.gave;
+      takes = so_far.takes;
+      fits = rw (holds.arrivals_same, holds.end_same) so_far.fits;
+    } in
+    let same : new ≡ record old { ends = record old.ends { sink = new.ends.sink } } =
+    stepped.same ∙ ap (λ (a : Ahead). record old { ends = record old.ends { sink = new.ends.sink }; ahead = a }) ahead_is in
+    subst (λ (p : PortEnds S K C). FitsSoFar left now first p) (sym same) moved
+
+-- behind the turn of this port
+
+same_turn : (t u : Turn) → Some t ≡ Some u → u ≡ t
+same_turn t u is = cc
+
+nothing_more : (state : State) → IsRunning state → Comes state [] (record { arrivals = []; ending = hows.End })
+nothing_more state running = rw running.2 refl
+
+-- what was read alone, with nothing behind it
+read_alone : (first reader : State) (gave : List ℕ) (front : List Arrival) → HasRead first reader gave front → IsRunning reader → Comes first gave (record { arrivals = front; ending = hows.End })
+read_alone first reader gave front read running =
+    subst (λ (octets : List ℕ). Comes first octets (record { arrivals = front; ending = hows.End })) (append-nil gave)
+    (subst (λ (list : List Arrival). Comes first (gave ++ []) (record { arrivals = list; ending = hows.End })) (append-nil front) (read [] [] hows.End (nothing_more reader running)))
+
+arrival_fits : (first reader : State) (gave buf : List ℕ) (before after : Option (List ℕ)) (plan : Plan) (past : List Row) (port : Port) (arrival : Arrival) (room : Bool) → Takes before after gave → has_room plan past ≡ room
+    → input_end (number_of port) past ≡ None → HasRead first reader gave (arrived (number_of port) past ++ arrival ∷ []) → IsRunning reader
+    → FitsAhead first reader gave buf before after (arrived (number_of port) (entered plan empty (Arrives port arrival) past)) (input_end (number_of port) (entered plan empty (Arrives port arrival) past)) (ahead_after (not room))
+arrival_fits first reader gave buf before after plan past port arrival true takes room_is none read running =
+    let more = more_entered plan empty past port arrival room_is in
+    (more.end_same ∙ none, subst (λ (list : List Arrival). HasRead first reader gave list) (sym more.arrivals_more) read)
+arrival_fits first reader gave buf before after plan past port arrival false takes room_is none read running =
+    let full = full_entered plan empty past port arrival room_is in
+    subst (λ (e : Option How). Fits (Comes first) before after (arrived (number_of port) (entered plan empty (Arrives port arrival) past)) e) (sym full.ended_so) (record {
+      gave = gave;
+      takes = takes;
+      refused = arrival;
+      read = subst (λ (list : List Arrival). Comes first gave (record { arrivals = list ++ arrival ∷ []; ending = hows.End })) (sym full.arrivals_same) (read_alone first reader gave (arrived (number_of port) past ++ arrival ∷ []) read running);
+    })
+
+arrival_turn : (first reader : State) (gave buf : List ℕ) (before after : Option (List ℕ)) (plan : Plan) (past : List Row) (port : Port) (arrival : Arrival) (b : Ahead) (turn : Turn) → Takes before after gave → turn ≡ Arrives port arrival
+    → b ≡ ahead_after (ends_input plan past turn) → input_end (number_of port) past ≡ None → HasRead first reader gave (arrived (number_of port) past ++ arrival ∷ []) → IsRunning reader
+    → FitsAhead first reader gave buf before after (arrived (number_of port) (entered plan empty turn past)) (input_end (number_of port) (entered plan empty turn past)) b
+arrival_turn first reader gave buf before after plan past port arrival b turn takes turn_is b_is none read running =
+    let b_now : b ≡ ahead_after (not (has_room plan past)) = b_is ∙ ap (λ (t : Turn). ahead_after (ends_input plan past t)) turn_is in
+    subst (λ (t : Turn). FitsAhead first reader gave buf before after (arrived (number_of port) (entered plan empty t past)) (input_end (number_of port) (entered plan empty t past)) b) (sym turn_is)
+    (subst (λ (c : Ahead). FitsAhead first reader gave buf before after (arrived (number_of port) (entered plan empty (Arrives port arrival) past)) (input_end (number_of port) (entered plan empty (Arrives port arrival) past)) c) (sym b_now)
+    (arrival_fits first reader gave buf before after plan past port arrival (has_room plan past) takes refl none read running))
+
+end_turn : (first reader : State) (gave buf : List ℕ) (before after : Option (List ℕ)) (plan : Plan) (past : List Row) (port : Port) (how : How) (b : Ahead) (turn : Turn) → turn ≡ Ends (Ingress port) how
+    → b ≡ ahead_after (ends_input plan past turn) → Fits (Comes first) before after (arrived (number_of port) past) (Some how)
+    → FitsAhead first reader gave buf before after (arrived (number_of port) (entered plan empty turn past)) (input_end (number_of port) (entered plan empty turn past)) b
+end_turn first reader gave buf before after plan past port how b turn turn_is b_is fits =
+    let held = end_entered plan empty past port how in
+    let b_now : b ≡ ahead.Done = b_is ∙ ap (λ (t : Turn). ahead_after (ends_input plan past t)) turn_is in
+    let now = with_event plan empty past (End (Ingress port) how) in
+    let at_end : Fits (Comes first) before after (arrived (number_of port) now) (input_end (number_of port) now) =
+    subst (λ (e : Option How). Fits (Comes first) before after (arrived (number_of port) now) e) (sym held.ended_so)
+    (subst (λ (list : List Arrival). Fits (Comes first) before after list (Some how)) (sym held.arrivals_same) fits) in
+    subst (λ (t : Turn). FitsAhead first reader gave buf before after (arrived (number_of port) (entered plan empty t past)) (input_end (number_of port) (entered plan empty t past)) b) (sym turn_is)
+    (subst (λ (c : Ahead). FitsAhead first reader gave buf before after (arrived (number_of port) now) (input_end (number_of port) now) c) (sym b_now) at_end)
+
+entered_fits : (first reader : State) (gave buf : List ℕ) (before after : Option (List ℕ)) (plan : Plan) (past : List Row) (port : Port) (a b : Ahead) (turn : Turn) → Takes before after gave → turn_ahead port buf a ≡ Some turn
+    → b ≡ ahead_after (ends_input plan past turn)
+    → FitsAhead first reader gave buf before after (arrived (number_of port) past) (input_end (number_of port) past) a
+    → FitsAhead first reader gave buf before after (arrived (number_of port) (entered plan empty turn past)) (input_end (number_of port) (entered plan empty turn past)) b
+entered_fits first reader gave buf before after plan past port ahead.Unread b turn takes is b_is fits = cc
+entered_fits first reader gave buf before after plan past port (ahead.Frame stamp len) b turn takes is b_is fits =
+    let arrival = arrivals.Frame stamp (take len buf) in
+    arrival_turn first reader gave buf before after plan past port arrival b turn takes (same_turn (Arrives port arrival) turn is) b_is fits.0 fits.1 fits.2
+entered_fits first reader gave buf before after plan past port (ahead.Long stamp len) b turn takes is b_is fits =
+    let arrival = arrivals.Long stamp len in
+    arrival_turn first reader gave buf before after plan past port arrival b turn takes (same_turn (Arrives port arrival) turn is) b_is fits.0 fits.1 fits.2
+entered_fits first reader gave buf before after plan past port ahead.End b turn takes is b_is fits =
+    end_turn first reader gave buf before after plan past port hows.End b turn (same_turn (Ends (Ingress port) hows.End) turn is) b_is fits.1
+entered_fits first reader gave buf before after plan past port (ahead.Malformed at) b turn takes is b_is fits =
+    end_turn first reader gave buf before after plan past port (hows.Malformed at) b turn (same_turn (Ends (Ingress port) (hows.Malformed at)) turn is) b_is fits.1
+entered_fits first reader gave buf before after plan past port ahead.Done b turn takes is b_is fits = cc
+
+here_one : {S K C : Type 0} (left : S → Option (List ℕ)) (faults : K → ℕ) (plan : Plan) (past now : List Row) (first old new : PortEnds S K C) (turn : Turn) → old.port ≡ first.port → IsStepped faults old new → turn_of old ≡ Some turn
+    → now ≡ entered plan empty turn past → new.ahead ≡ ahead_after (ends_input plan past turn) → FitsSoFar left past first old → FitsSoFar left now first new
+here_one {S} {K} {C} left faults plan past now first old new turn port_is stepped turn_is now_is ahead_is so_far =
+    let turn_first : turn_ahead first.port old.buf old.ahead ≡ Some turn = ap (λ (p : Port). turn_ahead p old.buf old.ahead) (sym port_is) ∙ turn_is in
+    let moved : FitsSoFar left (entered plan empty turn past) first (record old { ends = record old.ends { sink = new.ends.sink }; ahead = new.ahead }) =
+    record {
+      gave = so_far.gave;
+      takes = so_far.takes;
+      fits = entered_fits first.reader old.reader so_far.gave old.buf (left first.ends.source) (left old.ends.source) plan past first.port old.ahead new.ahead turn so_far.takes turn_first ahead_is so_far.fits;
+    } in
+    subst (λ (l : List Row). FitsSoFar left l first new) (sym now_is) (subst (λ (p : PortEnds S K C). FitsSoFar left (entered plan empty turn past) first p) (sym stepped.same) moved)
+
+-- whose turn it was
+turn_port : (port : Port) (buf : List ℕ) (a : Ahead) (turn : Turn) → turn_ahead port buf a ≡ Some turn → IsTurnOf port turn
+turn_port port buf ahead.Unread turn is = cc
+turn_port port buf (ahead.Frame stamp len) turn is = rw (same_turn (Arrives port (arrivals.Frame stamp (take len buf))) turn is) refl
+turn_port port buf (ahead.Long stamp len) turn is = rw (same_turn (Arrives port (arrivals.Long stamp len)) turn is) refl
+turn_port port buf ahead.End turn is = rw (same_turn (Ends (Ingress port) hows.End) turn is) refl
+turn_port port buf (ahead.Malformed at) turn is = rw (same_turn (Ends (Ingress port) (hows.Malformed at)) turn is) refl
+turn_port port buf ahead.Done turn is = cc
+
+module _ {S K C : Type 0} (left : S → Option (List ℕ)) (faults : K → ℕ) (plan : Plan) (first old new : List (PortEnds S K C)) (past now : List Row) (j : ℕ) (turn : Turn)
+    (ports_are : (k : ℕ) (d : PortEnds S K C) → k < length first → (get_or old k d).port ≡ (get_or first k d).port)
+    (differ : (k : ℕ) (d : PortEnds S K C) → k < length first → k ≢ j → number_of (get_or first j d).port ≢ number_of (get_or first k d).port)
+    (inside : j < length first) (so_far : EachPair (FitsSoFar left past) first old) (stepped : EachPair (IsStepped faults) old new)
+    (others : (k : ℕ) (d : PortEnds S K C) → k ≢ j → k < length old → (get_or new k d).ahead ≡ (get_or old k d).ahead)
+    (turn_is : (d : PortEnds S K C) → turn_of (get_or old j d) ≡ Some turn) (now_is : now ≡ entered plan empty turn past)
+    (ahead_is : (d : PortEnds S K C) → (get_or new j d).ahead ≡ ahead_after (ends_input plan past turn)) where
+  turned_at : (k : ℕ) (d : PortEnds S K C) → k < length first → (k ≡ j) ⊎ (k ≢ j) → FitsSoFar left now (get_or first k d) (get_or new k d)
+  turned_at k d within (inl same) =
+      rw same (here_one left faults plan past now (get_or first j d) (get_or old j d) (get_or new j d) turn (ports_are j d inside) (stepped.each j d (omega (arith, so_far.size, inside))) (turn_is d) now_is (ahead_is d) (so_far.each j d inside))
+  turned_at k d within (inr other) =
+      let whose : IsTurnOf (get_or first j d).port turn = subst (λ (p : Port). IsTurnOf p turn) (ports_are j d inside) (turn_port (get_or old j d).port (get_or old j d).buf (get_or old j d).ahead turn (turn_is d)) in
+      let holds = other_entered plan empty past (get_or first j d).port turn (number_of (get_or first k d).port) whose (differ k d within other) in
+      subst (λ (l : List Row). FitsSoFar left l (get_or first k d) (get_or new k d)) (sym now_is)
+      (same_one left faults past (entered plan empty turn past) (get_or first k d) (get_or old k d) (get_or new k d) (stepped.each k d (omega (arith, so_far.size))) (others k d other (omega (arith, so_far.size))) holds (so_far.each k d within))
+
+  pub fits_turned : EachPair (FitsSoFar left now) first new
+  fits_turned = record { size = stepped.size ∙ so_far.size; each = λ k d within. turned_at k d within (cases_eq k j) }
+
+-- the end
+
+pub fits_finished : {S K C : Type 0} (left : S → Option (List ℕ)) (plan : Plan) (first old : List (PortEnds S K C)) (past now : List Row) → EachPair (FitsSoFar left past) first old → ((k : ℕ) (d : PortEnds S K C) → k < length old → (get_or old k d).ahead ≡ ahead.Done)
+    → now ≡ egress_ended plan empty plan.ports (with_event plan empty past (End Ticker hows.End)) → EachPair (IsFit left now) first old
+fits_finished left plan first old past now so_far done now_is = record {
+  size = so_far.size;
+  each = λ k d within.
+      let one = so_far.each k d within in
+      let n = number_of (get_or first k d).port in
+      let holds = same_finished plan empty past n in
+      let fits : FitsAhead (get_or first k d).reader (get_or old k d).reader one.gave (get_or old k d).buf (left (get_or first k d).ends.source) (left (get_or old k d).ends.source) (arrived n past) (input_end n past) ahead.Done =
+      subst (λ (a : Ahead). FitsAhead (get_or first k d).reader (get_or old k d).reader one.gave (get_or old k d).buf (left (get_or first k d).ends.source) (left (get_or old k d).ends.source) (arrived n past) (input_end n past) a) (done k d (omega (arith, so_far.size))) one.fits in
+      rw (now_is, holds.arrivals_same, holds.end_same) fits;
+}

@@ -1,0 +1,40 @@
+-- What the octets of a port's source are to the history, by how the input ended there. `Arrives` says which input some
+-- octets are; `before` and `after` are what the source had left, where it tells that.
+use Rattle.std.specs.Prelude.{ℕ, List, [], ◌∷◌, ◌++◌, Option, Some, None, IfSome}
+use Rattle.savi_kinds.specs.declared.entry.How.{How}
+use Rattle.savi_kinds.specs.declared.entry.How.TheVariants as hows
+use Rattle.savi_kinds.specs.Arrivals.{Arrival, Input}
+use Rattle.savi_ends.specs.Octets.{Takes}
+
+-- all that the source had left is these arrivals, and ends so
+abbrev pub IsWhole : (List ℕ → Input → Type 0) → Option (List ℕ) → List Arrival → How → Type 0
+IsWhole Arrives before arrivals ending = IfSome before (λ octets. Arrives octets (record { arrivals = arrivals; ending = ending }))
+
+-- what the source gave up is these arrivals and one more, for which there was no room
+pub record IsCut (Arrives : List ℕ → Input → Type 0) (before after : Option (List ℕ)) (arrivals : List Arrival) : Type 0 where
+  pub gave : List ℕ
+  pub takes : Takes before after gave
+  pub refused : Arrival
+  pub read : Arrives gave (record { arrivals = arrivals ++ refused ∷ []; ending = hows.End })
+
+-- No input ends in another way, since a read that fails stops the replay.
+abbrev pub Fits : (List ℕ → Input → Type 0) → Option (List ℕ) → Option (List ℕ) → List Arrival → Option How → Type 0
+Fits Arrives before after arrivals (Some hows.End) = IsWhole Arrives before arrivals hows.End
+Fits Arrives before after arrivals (Some (hows.Malformed at)) = IsWhole Arrives before arrivals (hows.Malformed at)
+Fits Arrives before after arrivals (Some (hows.Full len)) = IsCut Arrives before after arrivals
+Fits Arrives before after arrivals (Some hows.Quit) = ⊥
+Fits Arrives before after arrivals (Some (hows.Overlong at)) = ⊥
+Fits Arrives before after arrivals (Some hows.Failed) = ⊥
+Fits Arrives before after arrivals (Some hows.Unwritten) = ⊥
+Fits Arrives before after arrivals None = ⊥
+
+-- the input has ended, and not by a read that failed
+abbrev pub EndsUnfailed : Option How → Type 0
+EndsUnfailed (Some hows.End) = Unit {0}
+EndsUnfailed (Some (hows.Malformed at)) = Unit {0}
+EndsUnfailed (Some (hows.Full len)) = Unit {0}
+EndsUnfailed (Some hows.Quit) = ⊥
+EndsUnfailed (Some (hows.Overlong at)) = ⊥
+EndsUnfailed (Some hows.Failed) = ⊥
+EndsUnfailed (Some hows.Unwritten) = ⊥
+EndsUnfailed None = ⊥

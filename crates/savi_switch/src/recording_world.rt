@@ -1,0 +1,128 @@
+//! A world in memory that records what is asked of it: of each opening its arguments, in order.
+
+ghost use Rattle.std.specs.Prelude.{◌≡◌, true, Some};
+ghost use Rattle.savi_kinds.specs.Ports.{number_of};
+ghost use Rattle.savi_ends.specs.MemWorlds.{book_of};
+ghost use Rattle.savi_ends.specs.Places.{OthersStay};
+
+use arrayvec::ArrayVec;
+use savi_ends::{MemClock, MemEnds, MemSink, MemSource, MemWorld, OpenFailed, Std, World};
+use savi_kinds::{Format, Port, PortPlan, Role};
+
+/// A world in memory, and a text with one line for each opening.
+#[derive(Drop)]
+pub struct RecordingWorld {
+    pub world: MemWorld,
+    pub openings: ArrayVec<u8, 256>,
+}
+
+// Adds these words as a line. What there is no room for is left out, and the text is another one then.
+fn record(openings: &mut ArrayVec<u8, 256>, words: &[&str]) {
+    for word in words {
+        for octet in word.as_bytes() {
+            let _full = openings.try_push(*octet);
+        }
+        let _full = openings.try_push(b' ');
+    }
+    let _full = openings.try_push(b'\n');
+}
+
+impl World for RecordingWorld {
+    type S = MemSource;
+
+    type K = MemSink;
+
+    type C = MemClock;
+
+    ghost book = { λ w. book_of w.world };
+
+    fn faults(&self) -> u64 {
+        self.world.faults()
+    }
+
+    fn input(&mut self, name: &str) -> Result<MemSource, OpenFailed> {
+        record(&mut self.openings, &["input", name]);
+        self.world.input(name)
+    }
+
+    fn output(&mut self, name: &str) -> Result<MemSink, OpenFailed> {
+        record(&mut self.openings, &["output", name]);
+        self.world.output(name)
+    }
+
+    fn port(&mut self, n: Port, plan: &PortPlan) -> Result<MemEnds, OpenFailed> {
+        let role = match plan.role {
+            Role::Host => "host",
+            Role::Server => "server",
+            Role::Trusted => "trusted",
+        };
+        let format = match plan.format {
+            Format::Pcap => "pcap",
+            Format::Stream => "stream",
+        };
+        let number = match n.get() {
+            1 => "1",
+            2 => "2",
+            _ => "another",
+        };
+        let input = plan.input.as_str();
+        let output = plan.output.as_str();
+        record(
+            &mut self.openings,
+            &["port", number, role, format, input, output],
+        );
+        self.world.port(n, plan)
+    }
+
+    fn control(&mut self, source: &str, sink: &str, live: bool) -> Result<MemEnds, OpenFailed> {
+        record(&mut self.openings, &["control", source, sink]);
+        self.world.control(source, sink, live)
+    }
+
+    fn ticker(&mut self) -> MemClock {
+        record(&mut self.openings, &["ticker"]);
+        self.world.ticker()
+    }
+
+    fn std(&mut self, which: Std) -> MemSink {
+        let name = match which {
+            Std::Out => "out",
+            Std::Err => "err",
+        };
+        record(&mut self.openings, &["std", name]);
+        self.world.std(which)
+    }
+
+    fn keep_port(&mut self, n: Port, ends: MemEnds)
+        requires { ((book_of self.old.world).ports (number_of n)).is_out ≡ true }
+        ensures kept { ((book_of self.new.world).ports (number_of n)).stands ≡ Some ends }
+        ensures others { OthersStay (book_of self.old.world).ports (book_of self.new.world).ports (number_of n) }
+        ensures rest { book_of self.new.world ≡ record (book_of self.old.world) { ports = (book_of self.new.world).ports } }
+    {
+        self.world.keep_port(n, ends);
+    }
+
+    fn keep_control(&mut self, ends: MemEnds)
+        requires { (book_of self.old.world).control.is_out ≡ true }
+        ensures kept { (book_of self.new.world).control.stands ≡ Some ends }
+        ensures rest { book_of self.new.world ≡ record (book_of self.old.world) { control = (book_of self.new.world).control } }
+    {
+        self.world.keep_control(ends);
+    }
+
+    fn keep_input(&mut self, source: MemSource) {
+        self.world.keep_input(source);
+    }
+
+    fn keep_output(&mut self, name: &str, sink: MemSink) {
+        self.world.keep_output(name, sink);
+    }
+
+    fn keep_ticker(&mut self, clock: MemClock) {
+        self.world.keep_ticker(clock);
+    }
+
+    fn keep_std(&mut self, which: Std, sink: MemSink) {
+        self.world.keep_std(which, sink);
+    }
+}
