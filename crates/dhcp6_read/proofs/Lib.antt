@@ -1,0 +1,5 @@
+pub mod Rows
+pub mod Tellings
+pub mod Holders
+pub mod Heads
+pub mod Readings

@@ -1,0 +1,4 @@
+pub mod Options
+pub mod Levels
+pub mod Message
+pub mod Steps
