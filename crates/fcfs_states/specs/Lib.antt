@@ -1,0 +1,9 @@
+pub mod States
+pub mod Premises
+pub mod Table
+pub mod Next
+pub mod TableLaws
+pub mod Ageing
+pub mod Aged
+pub mod AgeingLaws
+pub mod FirstCome
