@@ -1,0 +1,186 @@
+-- How many requests there are.
+use Rattle.std.proofs.Common.{ℕ, ◌≡◌, ◌≢◌, ◌+◌, ◌*◌, ◌≤◌, ◌<◌, ◌==◌, nat_le, zero, suc, Bool, true, false, not, List, [], ◌∷◌, ◌++◌, length, count_by, cond, refl, sym, ◌∙◌, ap, subst, arith, inl, inr, length-append, Some, None}
+use Rattle.std.specs.Str.{bytes_eq}
+use Rattle.std.specs.Cmp.Lexicographic.{same_text}
+use Rattle.std.proofs.lemmas.Bool.{cases_Bool, cases_eq, and_parts, and_cases, not-false, not_from_true, ltb-true, lt-ltb, eqb-true, eq-eqb, eqb-false, leb-true, le-leb, lt-leb}
+use Rattle.std.proofs.lemmas.List.Elements.{filter_passes, All-filter, filter-append}
+use Rattle.savi_kinds.specs.Ports.{number_of}
+use Rattle.savi_kinds.specs.declared.verdict.Rule.TheVariants.{PendingFull}
+use Rattle.dhcp_states.specs.declared.request.Request.{Request}
+use Rattle.dhcp_states.specs.Requests.{is_open, open_at, is_at, has_pair, count_at, has_asked, is_full, refusal, without_pair, with_request}
+use Rattle.dhcp_states.specs.Limits.{IsWithinLimits, IsOnePerPair}
+use Rattle.dhcp_states.proofs.Filters.{filter-all, filter-wider, count_by-cons, count_by-push, count_by-filter-le, count_by-filter_none, count_by-filter_fewer}
+
+-- what is open at a later moment is open at an earlier one
+is_open-earlier : (t u : ℕ) → t ≤ u → (request : Request) → is_open u request ≡ true → is_open t request ≡ true
+is_open-earlier t u later request is = lt-ltb t (request.opened + 120000) (omega (arith, later, ltb-true u (request.opened + 120000) is))
+
+pub open_at-later : (t u : ℕ) (requests : List Request) → t ≤ u → open_at u (open_at t requests) ≡ open_at u requests
+open_at-later t u requests later = filter-wider (is_open t) (is_open u) (is_open-earlier t u later) requests
+
+-- what is open stays open when the requests with a pair go
+pub open_at-without_pair : (t tid : ℕ) (duid : List ℕ) (requests : List Request) → open_at t (without_pair tid duid (open_at t requests)) ≡ without_pair tid duid (open_at t requests)
+open_at-without_pair t tid duid requests =
+    filter-all (is_open t) (without_pair tid duid (open_at t requests))
+    (All-filter (λ request. not (has_pair tid duid request)) (λ request. is_open t request ≡ true) (open_at t requests) (filter_passes (is_open t) requests))
+
+-- a request is open at the moment at which it is asked
+pub open_at-with_request : (t : ℕ) (request : Request) (requests : List Request) → request.opened ≡ t → open_at t (with_request request (open_at t requests)) ≡ with_request request (open_at t requests)
+open_at-with_request t request requests now =
+    let is : is_open t request ≡ true = lt-ltb t (request.opened + 120000) (omega (arith, now)) in
+    let last : open_at t (request ∷ []) ≡ request ∷ [] = rw is refl in
+    let left : List Request = without_pair request.tid request.duid.items (open_at t requests) in
+    filter-append (is_open t) left (request ∷ [])
+    ∙ ap (λ ys. ys ++ open_at t (request ∷ [])) (open_at-without_pair t request.tid request.duid.items requests)
+    ∙ ap (λ ys. left ++ ys) last
+
+pub IsOnePerPair-open_at : (t : ℕ) (requests : List Request) → IsOnePerPair requests → IsOnePerPair (open_at t requests)
+IsOnePerPair-open_at t requests one tid duid = omega (arith, one tid duid, count_by-filter-le (has_pair tid duid) (is_open t) requests)
+
+pub IsOnePerPair-without_pair : (tid : ℕ) (duid : List ℕ) (requests : List Request) → IsOnePerPair requests → IsOnePerPair (without_pair tid duid requests)
+IsOnePerPair-without_pair tid duid requests one id octets = omega (arith, one id octets, count_by-filter-le (has_pair id octets) (λ request. not (has_pair tid duid request)) requests)
+
+-- a request has one pair
+pub has_pair-same : (id : ℕ) (octets : List ℕ) (request : Request) → has_pair id octets request ≡ true → (id ≡ request.tid) × (octets ≡ request.duid.items)
+has_pair-same id octets request is =
+    let both : ((request.tid == id) ≡ true) × (bytes_eq request.duid.items octets ≡ true) = and_parts (request.tid == id) (bytes_eq request.duid.items octets) is in
+    (sym (eqb-true request.tid id both.0), sym (same_text request.duid.items octets (sym both.1)))
+
+-- none with the pair of a request is left when those with its pair go
+none_left : (id : ℕ) (octets : List ℕ) (request : Request) (requests : List Request) → has_pair id octets request ≡ true → count_by (has_pair id octets) (without_pair request.tid request.duid.items requests) ≡ 0
+none_left id octets request requests is =
+    let same : (id ≡ request.tid) × (octets ≡ request.duid.items) = has_pair-same id octets request is in
+    rw (same.0, same.1) (count_by-filter_none (has_pair request.tid request.duid.items) (λ other. not (has_pair request.tid request.duid.items other)) (λ other has. not_from_true (has_pair request.tid request.duid.items other) has) requests)
+
+pub IsOnePerPair-with_request : (request : Request) (requests : List Request) → IsOnePerPair requests → IsOnePerPair (with_request request requests)
+IsOnePerPair-with_request request requests one id octets =
+    let left : List Request = without_pair request.tid request.duid.items requests in
+    let all : count_by (has_pair id octets) (left ++ request ∷ []) ≡ count_by (has_pair id octets) left + cond (has_pair id octets request) 1 0 = count_by-push (has_pair id octets) left request in
+    let before : count_by (has_pair id octets) left ≤ 1 = IsOnePerPair-without_pair request.tid request.duid.items requests one id octets in
+    elim (cases_Bool (has_pair id octets request)) [
+      | inl is ↦
+          let none : count_by (has_pair id octets) left ≡ 0 = none_left id octets request requests is in
+          let sum : count_by (has_pair id octets) (left ++ request ∷ []) ≡ count_by (has_pair id octets) left + 1 = all ∙ rw is refl in
+          omega (arith, sum, none)
+      | inr other ↦
+          let sum : count_by (has_pair id octets) (left ++ request ∷ []) ≡ count_by (has_pair id octets) left + 0 = all ∙ rw other refl in
+          omega (arith, sum, before)
+    ]
+
+pub IsWithinLimits-open_at : (t : ℕ) {requests : List Request} → IsWithinLimits requests → IsWithinLimits (open_at t requests)
+IsWithinLimits-open_at t {requests} within = record {
+  room = λ port. omega (arith, within.room port, count_by-filter-le (is_at port) (is_open t) requests);
+  pairs = IsOnePerPair-open_at t requests within.pairs;
+}
+
+pub IsWithinLimits-without_pair : (tid : ℕ) (duid : List ℕ) {requests : List Request} → IsWithinLimits requests → IsWithinLimits (without_pair tid duid requests)
+IsWithinLimits-without_pair tid duid {requests} within = record {
+  room = λ port. omega (arith, within.room port, count_by-filter-le (is_at port) (λ request. not (has_pair tid duid request)) requests);
+  pairs = IsOnePerPair-without_pair tid duid requests within.pairs;
+}
+
+-- a port that isn't full has room for a request, in place of the one that it renews or beside the others
+pub has_room : (port tid : ℕ) (duid : List ℕ) (requests : List Request) → count_at port requests ≤ 16 → is_full port tid duid requests ≡ false → count_at port (without_pair tid duid requests) + 1 ≤ 16
+has_room port tid duid requests most not_full =
+    let fewer : count_at port (without_pair tid duid requests) ≤ count_at port requests = count_by-filter-le (is_at port) (λ request. not (has_pair tid duid request)) requests in
+    let own : Bool = has_asked port tid duid requests in
+    elim (and_cases (count_at port requests == 16) (not own) not_full) [
+      | inl below ↦
+          let ne : count_at port requests ≢ 16 = eqb-false (count_at port requests) 16 below in
+          omega (arith, fewer, most, ne)
+      | inr renewed ↦
+          let less : count_at port (without_pair tid duid requests) + 1 ≤ count_at port requests = count_by-filter_fewer (is_at port) (has_pair tid duid) requests (not-false own renewed) in
+          omega (arith, less, most)
+    ]
+
+-- where a request isn't refused, its port isn't full
+pub is_full-not_refused : (port tid : ℕ) (duid : List ℕ) (requests : List Request) → None ≡ refusal port tid duid requests → is_full port tid duid requests ≡ false
+is_full-not_refused port tid duid requests not_refused =
+    elim (cases_Bool (is_full port tid duid requests)) [
+      | inl full ↦ let refused : None ≡ Some PendingFull = not_refused ∙ rw full refl in cc
+      | inr room ↦ room
+    ]
+
+-- so a port has at most 16 requests when one was asked that isn't refused
+count_at-with_request : (request : Request) (requests : List Request) → IsWithinLimits requests → is_full (number_of request.port) request.tid request.duid.items requests ≡ false → (port : ℕ) → count_at port (with_request request requests) ≤ 16
+count_at-with_request request requests within not_full port =
+    let left : List Request = without_pair request.tid request.duid.items requests in
+    let all : count_at port (left ++ request ∷ []) ≡ count_at port left + cond (is_at port request) 1 0 = count_by-push (is_at port) left request in
+    let before : count_at port left ≤ 16 = (IsWithinLimits-without_pair request.tid request.duid.items within).room port in
+    elim (cases_Bool (is_at port request)) [
+      | inl here ↦
+          let same : number_of request.port ≡ port = eqb-true (number_of request.port) port here in
+          let not_full_here : is_full port request.tid request.duid.items requests ≡ false = subst (λ n. is_full n request.tid request.duid.items requests ≡ false) same not_full in
+          let more : count_at port left + 1 ≤ 16 = has_room port request.tid request.duid.items requests (within.room port) not_full_here in
+          let sum : count_at port (left ++ request ∷ []) ≡ count_at port left + 1 = all ∙ rw here refl in
+          omega (arith, sum, more)
+      | inr other ↦
+          let sum : count_at port (left ++ request ∷ []) ≡ count_at port left + 0 = all ∙ rw other refl in
+          omega (arith, sum, before)
+    ]
+
+pub IsWithinLimits-with_request : (request : Request) {requests : List Request} → IsWithinLimits requests → is_full (number_of request.port) request.tid request.duid.items requests ≡ false → IsWithinLimits (with_request request requests)
+IsWithinLimits-with_request request {requests} within not_full = record {
+  room = count_at-with_request request requests within not_full;
+  pairs = IsOnePerPair-with_request request requests within.pairs;
+}
+
+-- how many requests the ports up to k have
+abbrev count_up_to : ℕ → List Request → ℕ
+count_up_to k requests = count_by (λ request. nat_le (number_of request.port) k) requests
+
+-- a request at a port up to k + 1 is at one up to k or at k + 1
+up_to_suc : (n k : ℕ) → cond (nat_le n (suc k)) 1 0 ≤ cond (nat_le n k) 1 0 + cond (n == suc k) 1 0
+up_to_suc n k =
+    elim (cases_Bool (nat_le n (suc k))) [
+      | inl up ↦
+          let bound : n ≤ suc k = leb-true n (suc k) up in
+          elim (cases_eq n (suc k)) [
+            | inl same ↦ rw (up, eq-eqb n (suc k) same) (omega arith)
+            | inr other ↦
+                let ne : n ≢ suc k = other in
+                let below : n ≤ k = omega (arith, bound, ne) in
+                rw (up, le-leb n k below) (omega arith)
+          ]
+      | inr past ↦ rw past (omega arith)
+    ]
+
+count_up_to-suc : (k : ℕ) (requests : List Request) → count_up_to (suc k) requests ≤ count_up_to k requests + count_at (suc k) requests
+count_up_to-suc k [] = omega arith
+count_up_to-suc k (request ∷ requests) =
+    let n : ℕ = number_of request.port in
+    let wide : count_up_to (suc k) (request ∷ requests) ≡ cond (nat_le n (suc k)) 1 0 + count_up_to (suc k) requests = count_by-cons (λ other. nat_le (number_of other.port) (suc k)) request requests in
+    let narrow : count_up_to k (request ∷ requests) ≡ cond (nat_le n k) 1 0 + count_up_to k requests = count_by-cons (λ other. nat_le (number_of other.port) k) request requests in
+    let last : count_at (suc k) (request ∷ requests) ≡ cond (n == suc k) 1 0 + count_at (suc k) requests = count_by-cons (is_at (suc k)) request requests in
+    omega (arith, wide, narrow, last, up_to_suc n k, count_up_to-suc k requests)
+
+count_up_to-zero : (requests : List Request) → count_up_to 0 requests ≡ 0
+count_up_to-zero [] = refl
+count_up_to-zero (request ∷ requests) =
+    let n : ℕ = number_of request.port in
+    let low : 1 ≤ n = request.port.low in
+    let past : nat_le n 0 ≡ false = lt-leb n 0 (omega (arith, low)) in
+    let all : count_up_to 0 (request ∷ requests) ≡ cond (nat_le n 0) 1 0 + count_up_to 0 requests = count_by-cons (λ other. nat_le (number_of other.port) 0) request requests in
+    all ∙ rw past (omega (arith, count_up_to-zero requests))
+
+count_up_to-le : (k : ℕ) (requests : List Request) → IsWithinLimits requests → count_up_to k requests ≤ 16 * k
+count_up_to-le zero requests room = omega (arith, count_up_to-zero requests)
+count_up_to-le (suc k) requests within = omega (arith, count_up_to-suc k requests, within.room (suc k), count_up_to-le k requests within)
+
+count_up_to-all : (requests : List Request) → count_up_to 16 requests ≡ length requests
+count_up_to-all [] = refl
+count_up_to-all (request ∷ requests) =
+    let n : ℕ = number_of request.port in
+    let high : n ≤ 16 = request.port.high in
+    let all : count_up_to 16 (request ∷ requests) ≡ cond (nat_le n 16) 1 0 + count_up_to 16 requests = count_by-cons (λ other. nat_le (number_of other.port) 16) request requests in
+    all ∙ rw (le-leb n 16 high) (omega (arith, count_up_to-all requests))
+
+-- 16 requests for each of 16 ports are 256
+length-le : (requests : List Request) → IsWithinLimits requests → length requests ≤ 256
+length-le requests within = omega (arith, count_up_to-le 16 requests within, count_up_to-all requests)
+
+-- there is room for one more request where one was asked that isn't refused
+pub length-without_pair-lt : (request : Request) (requests : List Request) → IsWithinLimits requests → is_full (number_of request.port) request.tid request.duid.items requests ≡ false → length (without_pair request.tid request.duid.items requests) < 256
+length-without_pair-lt request requests within not_full =
+    let left : List Request = without_pair request.tid request.duid.items requests in
+    omega (arith, length-le (with_request request requests) (IsWithinLimits-with_request request within not_full), length-append left (request ∷ []))

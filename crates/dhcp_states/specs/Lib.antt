@@ -1,0 +1,4 @@
+pub mod Requests
+pub mod Limits
+pub mod Bindings
+pub mod Laws
