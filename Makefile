@@ -5,16 +5,19 @@
 # The proved program. The first build proves each crate, which takes some minutes; a later one takes seconds.
 build: build/savi_switch
 
-build/savi_switch: $(wildcard crates/*/src/*.rt crates/*/specs/*.antt crates/*/proofs/*.antt) crates.txt HANDLES
-	tools/build
+build/%: $(wildcard crates/*/src/*.rt crates/*/specs/*.antt crates/*/proofs/*.antt) crates.txt HANDLES
+	tools/build $*
 
 # A replay of two captures of Linux hosts, one of which attacks.
 demo: build
 	tools/demo
 
-# The program beside a C program that does the same octet work without judging.
-bench: build
+# The program beside a C program that does the same octet work without judging; the reader of captures beside tcpdump; the
+# pass lock beside a mutex.
+bench: build build/capture_bench build/lock_bench
 	bench/run build/savi_switch
+	bench/captures.py build/capture_bench
+	bench/lock build/lock_bench
 
 # The merge gate.
 check:

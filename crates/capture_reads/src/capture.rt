@@ -1,32 +1,50 @@
-// The records of a capture in the little-endian pcap form.
+// The frames of a capture.
 
-ghost use Rattle.std.specs.Prelude.{◌<◌, length, IfSome};
+ghost use Rattle.std.specs.Prelude.{IfOk};
+ghost use Rattle.pcap_io.specs.Kinds.{classic_kinds};
+ghost use Rattle.pcap_io.specs.Runs.{Arrive};
+ghost use Rattle.capture_reads.specs.Frames.{input_of};
 
-use byteorder::{ByteOrder, LittleEndian};
+use pcap_io::PcapReader;
+use savi_ends::{MemClock, SureSource};
+use savi_kinds::{FRAME_OCTETS_MOST, Next};
+use std::alloc::Global;
+use std::rt::Files;
+use std::{fs, io};
 
-/// Octets of the header of a capture.
-const FILE_HEADER: usize = 24;
-/// Octets of the header of a record.
-const RECORD_HEADER: usize = 16;
-/// Where a record gives the number of octets that it holds.
-const CAPTURED_AT: usize = 8;
-
-/// What stands behind the header of a capture.
-pub fn records_of(octets: &[u8]) -> &[u8] {
-    octets.get(FILE_HEADER..).unwrap_or(&[])
+/// A frame as it was captured.
+#[derive(Drop)]
+pub struct Frame {
+    /// When (ms).
+    pub stamp: u64,
+    pub octets: Vec<u8>,
 }
 
-/// The frame of the first record and what stands behind it, where a whole record is left.
-pub fn next_frame(records: &[u8]) -> Option<(&[u8], &[u8])>
-    ensures { IfSome result (λ parts. length parts.1.now < length records.now) }
+/// The frames of the capture of this name, in order.
+pub fn frames_of<R: Files + AllocGlobal>(rt: &R, name: &str) -> io::Result<Vec<Frame>> {
+    frames_in(rt.alloc(), fs::read(rt, name)?)
+}
+
+/// The frames of a capture with one of the four classic headers, in order. The error is `InvalidData`
+/// for a capture that is malformed or has a frame of more than 1,518 octets.
+fn frames_in(alloc: Global, octets: Vec<u8>) -> io::Result<Vec<Frame>>
+    ensures { IfOk result (λ frames. Arrive classic_kinds octets.items (input_of frames.items)) }
 {
-    if records.len() < RECORD_HEADER {
-        return None;
+    let mut source = SureSource::new(octets);
+    let mut clock = MemClock::new(Vec::new(alloc));
+    let mut reader = PcapReader::new();
+    let mut buf = [0; FRAME_OCTETS_MOST];
+    let mut frames = Vec::new(alloc);
+    loop {
+        match reader.next(&mut source, &mut clock, &mut buf) {
+            Next::Frame { stamp, len } => {
+                let octets = buf[..len as usize].to_vec(alloc)?;
+                frames.push(Frame { stamp, octets })?;
+            }
+            Next::End => return Ok(frames),
+            Next::Long { .. } | Next::Malformed { .. } | Next::Failed => {
+                return Err(io::ErrorKind::InvalidData.into());
+            }
+        }
     }
-    let len = LittleEndian::read_u32(&records[CAPTURED_AT..]) as usize;
-    let body = &records[RECORD_HEADER..];
-    if body.len() < len {
-        return None;
-    }
-    Some(body.split_at(len))
 }

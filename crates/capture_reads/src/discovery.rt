@@ -1,23 +1,36 @@
-// A line for a message of neighbor discovery.
+// The lines for messages of neighbor discovery.
 
 ghost use Rattle.std.specs.Prelude.{◌≤◌, length};
 
+use crate::capture::frames_of;
 use nd_read::{
     NEIGHBOR_ADVERTISEMENT, NEIGHBOR_SOLICITATION, Nd, REDIRECT, ROUTER_ADVERTISEMENT,
     ROUTER_SOLICITATION, nd,
 };
 use savi_kinds::Addr;
 use std::alloc::{AllocError, Global};
+use std::io;
 use std::net::Ipv6Addr;
+use std::rt::Files;
 use v6_chain::{Chain, HEADER_LEN, ICMPV6, Ip, chain, ip};
 
 /// The EtherType of IPv6 (RFC 2464 section 3).
-const ETHERTYPE_IPV6: u16 = 0x86dd;
+pub const ETHERTYPE_IPV6: u16 = 0x86dd;
 /// Octets of an Ethernet header.
-const ETHERNET_LEN: usize = 14;
+pub const ETHERNET_LEN: usize = 14;
+
+/// Prints a line for each frame of a capture.
+pub fn print_messages<R: Files + AllocGlobal + Print>(rt: &R, name: &str) -> io::Result<()> {
+    let frames = frames_of(rt, name)?;
+    for (number, frame) in (1..).zip(&frames) {
+        let line = line(rt.alloc(), number, &frame.octets)?;
+        println!(rt; "{line}")?;
+    }
+    Ok(())
+}
 
 /// The line for a frame, or why there is no message of neighbor discovery in it.
-pub fn line(alloc: Global, number: u64, frame: &[u8]) -> Result<String, AllocError> {
+fn line(alloc: Global, number: u64, frame: &[u8]) -> Result<String, AllocError> {
     let packet = match eth_frame::read(frame) {
         Ok(eth) if eth.kind == ETHERTYPE_IPV6 => &frame[ETHERNET_LEN..],
         Ok(eth) => return format!(in alloc; "{number}\tEtherType {:04x}", eth.kind),
@@ -81,6 +94,6 @@ fn target_text(alloc: Global, target: Option<Addr>) -> Result<String, AllocError
 }
 
 /// The address, which prints as RFC 5952 says.
-fn text(address: Addr) -> Ipv6Addr {
+pub fn text(address: Addr) -> Ipv6Addr {
     Ipv6Addr::from_bits(address.0)
 }
