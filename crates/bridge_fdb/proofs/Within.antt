@@ -1,0 +1,168 @@
+-- How many stations there are.
+use Rattle.std.proofs.Common.{◌≡◌, ◌≢◌, ℕ, ◌+◌, ◌*◌, ◌^◌, ◌≤◌, ◌<◌, ◌==◌, nat_le, nat_lt, zero, suc, Bool, true, false, not, ◌&&◌, cond, List, [], ◌∷◌, ◌++◌, length, filter, count_by, All, refl, sym, ◌∙◌, ap, subst, arith, inl, inr, length-append}
+use Rattle.std.specs.List.{list_any}
+use Rattle.std.proofs.lemmas.Bool.{cases_Bool, cases_eq, cond_both, and_parts, and_cases, or_cases, false≢true, not-false, ltb-true, eqb-true, eq-eqb, leb-true, le-leb, lt-leb, leb-false}
+use Rattle.std.proofs.lemmas.List.Elements.{All-append, All-cons, All-filter, All-weaker, All-nil, filter_passes}
+use Rattle.std.proofs.lemmas.List.Kept.{AllPairs-cons, AllPairs-filter}
+use Rattle.savi_kinds.specs.Ports.{number_of}
+use Rattle.bridge_fdb.specs.declared.station.Station.{Station}
+use Rattle.bridge_fdb.specs.Stations.{mac_number, is_live, live_at, is_of, is_below, is_above, is_at, count_at}
+use Rattle.bridge_fdb.specs.Learning.{is_known, is_full, with_station, learned}
+use Rattle.bridge_fdb.specs.Limits.{IsWithinLimits}
+use Rattle.bridge_fdb.proofs.Filters.{count_by-cons, count_by-push, count_by-filter-le}
+use Rattle.bridge_fdb.proofs.Rising.{AllPairs-append}
+use Rattle.bridge_fdb.proofs.Parts.{count_with}
+
+pub IsWithinLimits-filter : (p : Station → Bool) (xs : List Station) → IsWithinLimits xs → IsWithinLimits (filter p xs)
+IsWithinLimits-filter p xs within = record {
+  rising = AllPairs-filter (λ earlier later. mac_number earlier.mac < mac_number later.mac) p xs within.rising;
+  room = λ port. omega (arith, within.room port, count_by-filter-le (is_at port) p xs);
+  in_time = All-filter p (λ station. station.last ≤ 2 ^ 62) xs within.in_time;
+}
+
+pub IsWithinLimits-with : (s : Station) (xs : List Station) → IsWithinLimits xs → s.last ≤ 2 ^ 62 → ((port : ℕ) → count_at port (with_station s xs) ≤ 256) → IsWithinLimits (with_station s xs)
+IsWithinLimits-with s xs within moment room =
+    let n : ℕ = mac_number s.mac in
+    let R : Station → Station → Type 0 = λ earlier later. mac_number earlier.mac < mac_number later.mac in
+    let front : List Station = filter (is_below n) xs in
+    let back : List Station = filter (is_above n) xs in
+    let lower : All (λ y. mac_number y.mac < n) front = All-weaker (λ y. is_below n y ≡ true) (λ y. mac_number y.mac < n) (λ y h. ltb-true (mac_number y.mac) n h) front (filter_passes (is_below n) xs) in
+    let higher : All (R s) back = All-weaker (λ y. is_above n y ≡ true) (R s) (λ y h. ltb-true n (mac_number y.mac) h) back (filter_passes (is_above n) xs) in
+    record {
+      rising =
+          AllPairs-append R front (s ∷ back) (AllPairs-filter R (is_below n) xs within.rising)
+          (AllPairs-cons R s back higher (AllPairs-filter R (is_above n) xs within.rising))
+          (All-weaker (λ y. mac_number y.mac < n) (λ y. All (R y) (s ∷ back)) (λ y low. All-cons (R y) s back low (All-weaker (R s) (R y) (λ z high. omega (arith, low, high)) back higher)) front lower);
+      room = room;
+      in_time =
+          All-append (λ station. station.last ≤ 2 ^ 62) front (s ∷ back) (All-filter (is_below n) (λ station. station.last ≤ 2 ^ 62) xs within.in_time)
+          (All-cons (λ station. station.last ≤ 2 ^ 62) s back moment (All-filter (is_above n) (λ station. station.last ≤ 2 ^ 62) xs within.in_time));
+    }
+
+-- one that is known is counted
+pub known-counted : (p q : Station → Bool) (xs : List Station) → list_any (λ x. p x && q x) xs ≡ true → 1 ≤ count_by p (filter q xs)
+known-counted p q [] some = absurd (false≢true some)
+known-counted p q (x ∷ xs) some =
+    elim (or_cases (p x && q x) (list_any (λ y. p y && q y) xs) some) [
+      | inl here ↦
+          let is : (p x ≡ true) × (q x ≡ true) = and_parts (p x) (q x) here in
+          let one : count_by p (x ∷ filter q xs) ≡ 1 + count_by p (filter q xs) = count_by-cons p x (filter q xs) ∙ rw is.0 refl in
+          rw is.1 (omega (arith, one))
+      | inr later ↦
+          let less : 1 ≤ count_by p (filter q xs) = known-counted p q xs later in
+          let one : count_by p (x ∷ filter q xs) ≡ cond (p x) 1 0 + count_by p (filter q xs) = count_by-cons p x (filter q xs) in
+          cond_both (q x) (x ∷ filter q xs) (filter q xs) (λ ys. 1 ≤ count_by p ys) (λ _. omega (arith, less, one)) (λ _. less)
+    ]
+
+-- there is room for a station where its port has fewer than 256, or has the station
+pub room-with : (s : Station) (xs : List Station) → IsWithinLimits xs → count_at (number_of s.port) xs < 256 + count_at (number_of s.port) (filter (is_of (mac_number s.mac)) xs) → (port : ℕ) → count_at port (with_station s xs) ≤ 256
+room-with s xs within room port =
+    let all : count_at port (with_station s xs) + count_at port (filter (is_of (mac_number s.mac)) xs) ≡ count_at port xs + cond (is_at port s) 1 0 = count_with (is_at port) s xs in
+    elim (cases_Bool (is_at port s)) [
+      | inl here ↦
+          let same : number_of s.port ≡ port = eqb-true (number_of s.port) port here in
+          let fits : count_at port xs < 256 + count_at port (filter (is_of (mac_number s.mac)) xs) = subst (λ k. count_at k xs < 256 + count_at k (filter (is_of (mac_number s.mac)) xs)) same room in
+          let sum : count_at port (with_station s xs) + count_at port (filter (is_of (mac_number s.mac)) xs) ≡ count_at port xs + 1 = all ∙ rw here refl in
+          omega (arith, sum, fits)
+      | inr other ↦
+          let sum : count_at port (with_station s xs) + count_at port (filter (is_of (mac_number s.mac)) xs) ≡ count_at port xs + 0 = all ∙ rw other refl in
+          omega (arith, sum, within.room port)
+    ]
+
+pub learned-known : (s : Station) (xs : List Station) → is_known s xs ≡ true → learned s xs ≡ with_station s xs
+learned-known s xs known =
+    elim (cases_Bool (is_full s xs)) [
+      | inl full ↦ simp (full, known) refl
+      | inr room ↦ simp (room) refl
+    ]
+
+pub learned-room : (s : Station) (xs : List Station) → count_at (number_of s.port) xs < 256 → learned s xs ≡ with_station s xs
+learned-room s xs room = rw (lt-leb 256 (count_at (number_of s.port) xs) room) refl
+
+pub learned-full : (s : Station) (xs : List Station) → 256 ≤ count_at (number_of s.port) xs → is_known s xs ≡ false → learned s xs ≡ xs
+learned-full s xs full new = rw (le-leb 256 (count_at (number_of s.port) xs) full, new) refl
+
+pub IsWithinLimits-learned : (s : Station) (xs : List Station) → s.last ≤ 2 ^ 62 → IsWithinLimits xs → IsWithinLimits (learned s xs)
+IsWithinLimits-learned s xs moment within =
+    elim (cases_Bool (is_known s xs)) [
+      | inl known ↦
+          let one : 1 ≤ count_at (number_of s.port) (filter (is_of (mac_number s.mac)) xs) = known-counted (is_at (number_of s.port)) (is_of (mac_number s.mac)) xs known in
+          rw (learned-known s xs known) (IsWithinLimits-with s xs within moment (room-with s xs within (omega (arith, one, within.room (number_of s.port)))))
+      | inr new ↦
+          elim (cases_Bool (is_full s xs)) [
+            | inl full ↦ rw (learned-full s xs (leb-true 256 (count_at (number_of s.port) xs) full) new) within
+            | inr not_full ↦
+                let room : count_at (number_of s.port) xs < 256 = leb-false 256 (count_at (number_of s.port) xs) not_full in
+                rw (learned-room s xs room) (IsWithinLimits-with s xs within moment (room-with s xs within (omega (arith, room))))
+          ]
+    ]
+
+-- how many stations the ports up to k have
+abbrev count_up_to : ℕ → List Station → ℕ
+count_up_to k stations = count_by (λ station. nat_le (number_of station.port) k) stations
+
+up_to_suc : (n k : ℕ) → cond (nat_le n (suc k)) 1 0 ≤ cond (nat_le n k) 1 0 + cond (n == suc k) 1 0
+up_to_suc n k =
+    elim (cases_Bool (nat_le n (suc k))) [
+      | inl up ↦
+          let bound : n ≤ suc k = leb-true n (suc k) up in
+          elim (cases_eq n (suc k)) [
+            | inl same ↦ rw (up, eq-eqb n (suc k) same) (omega arith)
+            | inr other ↦
+                let ne : n ≢ suc k = other in
+                let below : n ≤ k = omega (arith, bound, ne) in
+                rw (up, le-leb n k below) (omega arith)
+          ]
+      | inr past ↦ rw past (omega arith)
+    ]
+
+count_up_to-suc : (k : ℕ) (stations : List Station) → count_up_to (suc k) stations ≤ count_up_to k stations + count_at (suc k) stations
+count_up_to-suc k [] = omega arith
+count_up_to-suc k (station ∷ stations) =
+    let n : ℕ = number_of station.port in
+    let wide : count_up_to (suc k) (station ∷ stations) ≡ cond (nat_le n (suc k)) 1 0 + count_up_to (suc k) stations = count_by-cons (λ other. nat_le (number_of other.port) (suc k)) station stations in
+    let narrow : count_up_to k (station ∷ stations) ≡ cond (nat_le n k) 1 0 + count_up_to k stations = count_by-cons (λ other. nat_le (number_of other.port) k) station stations in
+    let last : count_at (suc k) (station ∷ stations) ≡ cond (n == suc k) 1 0 + count_at (suc k) stations = count_by-cons (is_at (suc k)) station stations in
+    omega (arith, wide, narrow, last, up_to_suc n k, count_up_to-suc k stations)
+
+count_up_to-zero : (stations : List Station) → count_up_to 0 stations ≡ 0
+count_up_to-zero [] = refl
+count_up_to-zero (station ∷ stations) =
+    let n : ℕ = number_of station.port in
+    let low : 1 ≤ n = station.port.low in
+    let past : nat_le n 0 ≡ false = lt-leb n 0 (omega (arith, low)) in
+    let all : count_up_to 0 (station ∷ stations) ≡ cond (nat_le n 0) 1 0 + count_up_to 0 stations = count_by-cons (λ other. nat_le (number_of other.port) 0) station stations in
+    all ∙ rw past (omega (arith, count_up_to-zero stations))
+
+count_up_to-le : (k : ℕ) (stations : List Station) → ((port : ℕ) → count_at port stations ≤ 256) → count_up_to k stations ≤ 256 * k
+count_up_to-le zero stations room = omega (arith, count_up_to-zero stations)
+count_up_to-le (suc k) stations room = omega (arith, count_up_to-suc k stations, room (suc k), count_up_to-le k stations room)
+
+count_up_to-all : (stations : List Station) → count_up_to 16 stations ≡ length stations
+count_up_to-all [] = refl
+count_up_to-all (station ∷ stations) =
+    let n : ℕ = number_of station.port in
+    let high : n ≤ 16 = station.port.high in
+    let all : count_up_to 16 (station ∷ stations) ≡ cond (nat_le n 16) 1 0 + count_up_to 16 stations = count_by-cons (λ other. nat_le (number_of other.port) 16) station stations in
+    all ∙ rw (le-leb n 16 high) (omega (arith, count_up_to-all stations))
+
+-- 256 stations for each of 16 ports are 4096
+length-le : (stations : List Station) → ((port : ℕ) → count_at port stations ≤ 256) → length stations ≤ 4096
+length-le stations room = omega (arith, count_up_to-le 16 stations room, count_up_to-all stations)
+
+-- there are fewer where a port has fewer
+pub length-lt : (s : Station) (xs : List Station) → IsWithinLimits xs → count_at (number_of s.port) xs < 256 → length xs < 4096
+length-lt s xs within room = omega (arith, length-le (xs ++ s ∷ []) more, length-append xs (s ∷ []))
+  where
+    more : (port : ℕ) → count_at port (xs ++ s ∷ []) ≤ 256
+    more port =
+        let all : count_at port (xs ++ s ∷ []) ≡ count_at port xs + cond (is_at port s) 1 0 = count_by-push (is_at port) xs s in
+        elim (cases_Bool (is_at port s)) [
+          | inl here ↦
+              let fits : count_at port xs < 256 = subst (λ k. count_at k xs < 256) (eqb-true (number_of s.port) port here) room in
+              let sum : count_at port (xs ++ s ∷ []) ≡ count_at port xs + 1 = all ∙ rw here refl in
+              omega (arith, sum, fits)
+          | inr other ↦
+              let sum : count_at port (xs ++ s ∷ []) ≡ count_at port xs + 0 = all ∙ rw other refl in
+              omega (arith, sum, within.room port)
+        ]

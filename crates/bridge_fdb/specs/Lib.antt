@@ -1,0 +1,6 @@
+pub mod Stations
+pub mod Learning
+pub mod Limits
+pub mod Laws
+pub mod Tallies
+pub mod Places

@@ -1,0 +1,56 @@
+-- The stations of a bridge, in order of MAC address, and which of them are live (IEEE 802.1Q sections 8.8 and 8.8.3).
+use Rattle.std.specs.Prelude.{ℕ, ◌+◌, ◌==◌, nat_lt, Bool, Option, List, [], ◌∷◌, filter, count_by, find}
+use Rattle.std.specs.Int.{w64, from_be_bytes}
+use Rattle.std.specs.Option.{option_map}
+use Rattle.savi_kinds.specs.Ports.{number_of}
+use Rattle.savi_kinds.specs.declared.address.Mac.{Mac}
+use Rattle.savi_kinds.specs.declared.port.Port.{Port}
+use Rattle.bridge_fdb.specs.declared.station.Station.{Station}
+
+-- a MAC address as a number: its six octets as they stand in a frame, the first one the highest
+unfoldable pub mac_number : Mac → ℕ
+mac_number mac = from_be_bytes w64 (0 ∷ 0 ∷ mac.0)
+
+-- the station that was seen at a port at moment t
+abbrev pub station_of : Mac → Port → ℕ → Station
+station_of mac port t = record { mac = mac; port = port; last = t }
+
+-- the moment at which a station ends: 300 s after it was seen last, the recommended ageing time (IEEE 802.1Q table 8-6)
+abbrev pub end_of : Station → ℕ
+end_of station = station.last + 300000
+
+-- a station is live before the moment at which it ends, and at that moment it is no longer
+abbrev pub is_live : ℕ → Station → Bool
+is_live t station = nat_lt t (end_of station)
+
+-- the stations that are live at moment t
+abbrev pub live_at : ℕ → List Station → List Station
+live_at t stations = filter (is_live t) stations
+
+-- whether a station's MAC address is the one with this number
+abbrev pub is_of : ℕ → Station → Bool
+is_of number station = mac_number station.mac == number
+
+-- whether it is lower
+abbrev pub is_below : ℕ → Station → Bool
+is_below number station = nat_lt (mac_number station.mac) number
+
+-- whether it is higher
+abbrev pub is_above : ℕ → Station → Bool
+is_above number station = nat_lt number (mac_number station.mac)
+
+-- whether a station was seen last at the port of this number
+abbrev pub is_at : ℕ → Station → Bool
+is_at port station = number_of station.port == port
+
+-- how many stations there are at a port
+abbrev pub count_at : ℕ → List Station → ℕ
+count_at port stations = count_by (is_at port) stations
+
+-- the port of the station with this MAC address
+abbrev pub place_of : Mac → List Station → Option Port
+place_of mac stations = option_map (λ station. station.port) (find (is_of (mac_number mac)) stations)
+
+-- what is told of a station: its MAC address, its port, and the moment at which it ends
+abbrev pub row_of : Station → Mac × Port × ℕ
+row_of station = (station.mac, station.port, end_of station)

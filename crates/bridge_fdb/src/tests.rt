@@ -1,0 +1,50 @@
+//! Stations as frames come in.
+
+use crate::Fdb;
+use savi_kinds::{Mac, Port};
+use std::test::Fail;
+
+fn port(number: u8) -> Result<Port, Fail> {
+    Ok(Port::new(number).ok_or("no port has this number")?)
+}
+
+fn mac(n: u16) -> Mac {
+    let [high, low] = n.to_be_bytes();
+    Mac([2, 0, 0, 0, high, low])
+}
+
+#[test]
+fn stations_are_learned_and_end(rt: HostRuntime) -> Result<(), Fail> {
+    let mut fdb = Fdb::make(rt.alloc())?;
+    let (p1, p2) = (port(1)?, port(2)?);
+    for n in 0..255u16 {
+        fdb.learn(mac(n), p1, 1_000 + u64::from(n));
+    }
+    let calls = [
+        ("the 256th", 255, p1, 1_255, 255, Some(p1)),
+        ("the 257th", 256, p1, 1_256, 256, None),
+        ("at another port", 256, p2, 1_300, 256, Some(p2)),
+        ("a full port takes none", 256, p1, 1_301, 256, Some(p2)),
+        ("one that moves", 7, p2, 1_302, 7, Some(p2)),
+        ("in its stead", 256, p1, 1_303, 256, Some(p1)),
+        ("none has ended", 300, p1, 300_999, 0, Some(p1)),
+        ("the first as it ends", 300, p1, 301_000, 0, None),
+        ("in its place", 301, p1, 301_000, 300, Some(p1)),
+        ("no second one", 302, p1, 301_000, 302, None),
+    ];
+    for (name, seen, p, t, asked, wanted) in calls {
+        fdb.learn(mac(seen), p, t);
+        assert_eq!(rt; fdb.place(mac(asked), t), wanted, "{name}");
+    }
+    let rows = [
+        (0, Some((mac(1), p1, 301_001))),
+        (6, Some((mac(7), p2, 301_302))),
+        (255, Some((mac(256), p1, 301_303))),
+        (256, Some((mac(300), p1, 601_000))),
+        (257, None),
+    ];
+    for (i, wanted) in rows {
+        assert_eq!(rt; fdb.row(i, 301_000), wanted, "row {i}");
+    }
+    Ok(())
+}
