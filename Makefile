@@ -2,24 +2,24 @@
 
 .PHONY: build demo bench check clean
 
-# The proved program. The first build proves each crate, which takes some minutes; a later one takes seconds.
+# The proved program. The first build proves each crate, 15 to 30 minutes on 4 cores; a later one takes seconds.
 build: build/savi_switch
 
 build/%: $(wildcard crates/*/src/*.rt crates/*/specs/*.antt crates/*/proofs/*.antt) crates.txt HANDLES
 	tools/build $*
 
-# A replay of two captures of Linux hosts, one of which attacks.
+# A replay of two captures of Linux hosts, one of which attacks. The first time takes the build, a later one a second.
 demo: build
 	tools/demo
 
 # The program beside a C program that does the same octet work without judging; the reader of captures beside tcpdump; the
-# pass lock beside a mutex.
+# pass lock beside a mutex. The first time takes the builds, and then about a minute.
 bench: build build/capture_bench build/lock_bench
 	bench/run build/savi_switch
 	bench/captures.py build/capture_bench
 	bench/lock build/lock_bench
 
-# The merge gate.
+# The merge gate: 40 to 60 minutes from nothing on 4 cores, seconds where its proofs are kept.
 check:
 	rt ci
 
