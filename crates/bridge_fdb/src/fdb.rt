@@ -54,8 +54,8 @@ impl Fdb {
     /// Learns at moment `t` (ms) that a frame from `mac` came in at port `p`: a station that is live there is live anew;
     /// else it is now there, where the port has fewer than 256 live stations; else no live station has changed. O(log n)
     /// for a station that is live there, and else one move of the stations of higher MAC addresses by one place; and,
-    /// where 256 stations are kept at the port of which one may have ended, one pass over the stations that are kept, at
-    /// most one in a ms.
+    /// where 256 stations are kept at the port of which one may have ended, some passes over all stations that are kept,
+    /// at most once in a ms.
     pub fn learn(&mut self, mac: Mac, p: Port, t: Moment)
         requires { t ≤ 2 ^ 62 }
         ensures learned { live_at t self.new ≡ learned (station_of mac p t) (live_at t self.old) }

@@ -9,8 +9,8 @@
 -- * At most one pass is out, and the value is away from the slot exactly then.
 -- * H has as many entries as the third word says.
 -- * What a pass has seen begins H, and so does what a pass had seen that was joined into it.
--- * A pass that knows how many numbers were given out is the first one or the one that it was joined into, and knows it
---   rightly: at most as many as the lock was made for, and those are at most 34.
+-- * At most one pass knows how many numbers were given out, and it knows it rightly: at most as many as the lock was made
+--   for, and those are at most 34.
 -- * There are as many passes as numbers were given out, and together they have as many keys.
 -- * Each number that was given out is a key of one pass and of no other, and no other number is a key or has an entry in H.
 -- * The list at the key i of a pass is the entries of i in H. A pass that isn't spent has its own number among its keys.
