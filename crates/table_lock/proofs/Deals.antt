@@ -45,7 +45,7 @@ module _ {A : Type 0} where
 
 -- the view of a new pass is that of a pass between two turns
 pub newcomer_pass : (v : View) (number : ℕ) → v.seats ≡ number → newcomer v ≡ at_turn number Idle (newcomer v)
-newcomer_pass v number e = ap (λ (s : ℕ). record { number = s; stage = Idle; seats = 0; seen = []; mine = (s, []) ∷ []; fixed = v.fixed; told = [] }) e
+newcomer_pass v number e = ap (λ (s : ℕ). record { number = Some s; stage = Idle; seats = 0; seen = []; mine = (s, []) ∷ []; fixed = v.fixed; told = [] }) e
 
 -- the pass is the k-th of a lock
 pub record IsDealt (z : Rattle.atomic_table.specs.Seated.TableId) (F : List ℕ) (k : ℕ) (p : Pass) : Type 0 where

@@ -16,7 +16,7 @@ module _ {V : Type 0} (history : V → History) (fixed : V → List ℕ) (F : Li
   looks_at t is slot = subst (λ (c : List (ℕ × Option V)). Allows (Keeps history fixed F N) slots id (m.0, c) 1 (λ n. n) (looked history fixed (blank history fixed F N) (m.0, c))) (sym slot)
       (looks history fixed F N slots id m.0 t is)
 
-  pub makes_at : (t : ℕ) (x : V) (e : Entry) → m.0.stage ≡ Out t → m.1 ≡ (0, Some x) ∷ [] → history x ≡ m.0.seen ++ e ∷ [] → e.0 ≡ m.0.number → length (history x) < 2 ^ 63
+  pub makes_at : (t : ℕ) (x : V) (e : Entry) → m.0.stage ≡ Out t → m.1 ≡ (0, Some x) ∷ [] → history x ≡ m.0.seen ++ e ∷ [] → m.0.number ≡ Some e.0 → length (history x) < 2 ^ 63
       → Allows (Keeps history fixed F N) slots id m 2 (λ n. (n + 1) % 2 ^ 64) (made history (blank history fixed F N) m)
   makes_at t x e is slot grows by small = subst (λ (c : List (ℕ × Option V)). Allows (Keeps history fixed F N) slots id (m.0, c) 2 (λ n. (n + 1) % 2 ^ 64) (made history (blank history fixed F N) (m.0, c))) (sym slot)
       (makes history fixed F N slots id m.0 t x e is grows by small)
@@ -54,4 +54,4 @@ module _ {V : Type 0} (history : V → History) (fixed : V → List ℕ) (number
   entered_view = k.view_is
       ∙ (ap (λ (x : View). record x { stage = Out (ticket_of x.stage); seen = history k.value }) waits
       ∙ (ap (λ (x : View). record x { stage = Out r; seen = history k.value }) idle
-      ∙ ap (λ (x : History). record { number = number; stage = Out r; seats = v.seats; seen = history k.value; mine = (number, x) ∷ []; fixed = v.fixed; told = [] }) (sym entered_own)))
+      ∙ ap (λ (x : History). record { number = Some number; stage = Out r; seats = v.seats; seen = history k.value; mine = (number, x) ∷ []; fixed = v.fixed; told = [] }) (sym entered_own)))

@@ -16,20 +16,20 @@ mine_more i H e is = filter-append (λ (x : Entry). eqb x.0 i) H (e ∷ []) ∙ 
 pub mine_same : (i : ℕ) (H : History) (e : Entry) → e.0 ≢ i → mine i (H ++ e ∷ []) ≡ mine i H
 mine_same i H e not = filter-append (λ (x : Entry). eqb x.0 i) H (e ∷ []) ∙ (ap (λ b. mine i H ++ cond b (e ∷ []) []) (ne_eqb e.0 i not) ∙ append-nil (mine i H))
 
-abbrev list_at : ℕ → Entry → ℕ × History → History
-list_at n e x = cond (eqb x.0 n) (x.1 ++ e ∷ []) x.1
+abbrev list_at : Entry → ℕ × History → History
+list_at e x = cond (eqb x.0 e.0) (x.1 ++ e ∷ []) x.1
 
-pub has_added : (n : ℕ) (e : Entry) (m : Map) (i : ℕ) (es : History) → Has m i es → Has (added n e m) i (cond (eqb i n) (es ++ e ∷ []) es)
-has_added n e m i es h = (h.0, at_map (λ (x : ℕ × History). (x.0, list_at n e x)) m h.0 (i, es) h.1)
+pub has_added : (e : Entry) (m : Map) (i : ℕ) (es : History) → Has m i es → Has (added e m) i (cond (eqb i e.0) (es ++ e ∷ []) es)
+has_added e m i es h = (h.0, at_map (λ (x : ℕ × History). (x.0, list_at e x)) m h.0 (i, es) h.1)
 
-pub added_has : (n : ℕ) (e : Entry) (m : Map) (i : ℕ) (es : History) → Has (added n e m) i es → (old : History) × Has m i old × (es ≡ cond (eqb i n) (old ++ e ∷ []) old)
-added_has n e m i es h =
-    let t = map_back (λ (x : ℕ × History). (x.0, list_at n e x)) m h.0 (i, es) h.1 in
+pub added_has : (e : Entry) (m : Map) (i : ℕ) (es : History) → Has (added e m) i es → (old : History) × Has m i old × (es ≡ cond (eqb i e.0) (old ++ e ∷ []) old)
+added_has e m i es h =
+    let t = map_back (λ (x : ℕ × History). (x.0, list_at e x)) m h.0 (i, es) h.1 in
     let number : t.0.0 ≡ i = ap (λ (x : ℕ × History). x.0) t.2 in
-    (t.0.1, (h.0, t.1 ∙ ap (λ (j : ℕ). some (j, t.0.1)) number), ap (λ (x : ℕ × History). x.1) (sym t.2) ∙ ap (λ (j : ℕ). cond (eqb j n) (t.0.1 ++ e ∷ []) t.0.1) number)
+    (t.0.1, (h.0, t.1 ∙ ap (λ (j : ℕ). some (j, t.0.1)) number), ap (λ (x : ℕ × History). x.1) (sym t.2) ∙ ap (λ (j : ℕ). cond (eqb j e.0) (t.0.1 ++ e ∷ []) t.0.1) number)
 
-pub length-added : (n : ℕ) (e : Entry) (m : Map) → length (added n e m) ≡ length m
-length-added n e m = length-map m (λ (x : ℕ × History). (x.0, list_at n e x))
+pub length-added : (e : Entry) (m : Map) → length (added e m) ≡ length m
+length-added e m = length-map m (λ (x : ℕ × History). (x.0, list_at e x))
 
 pub has_left : (m m' : Map) (i : ℕ) (es : History) → Has m i es → Has (m ++ m') i es
 has_left m m' i es h = (h.0, at_longer m m' h.0 (i, es) h.1)

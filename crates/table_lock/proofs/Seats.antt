@@ -57,9 +57,9 @@ Old views views' = (j : ℕ) (u : View) → get_elem? views' j ≡ some u → (g
 abbrev OutStay : List View → List View → Type 0
 OutStay views views' = (j : ℕ) (u : View) (t : ℕ) → get_elem? views j ≡ some u → u.stage ≡ Out t → get_elem? views' j ≡ some u
 
-module _ (F : List ℕ) (H : History) (n counter : ℕ) (owner : ℕ → ℕ) where
+module _ (F : List ℕ) (H : History) (n : ℕ) (owner : ℕ → ℕ) where
   -- a view that a split leaves alone
-  fits_beside : (j : ℕ) (v : View) → j ≢ counter → Fits F H n counter owner j v → Fits F H (n + 1) counter (put owner n n) j v
+  fits_beside : (j : ℕ) (v : View) → j ≢ owner 0 → Fits F H n owner j v → Fits F H (n + 1) (put owner n n) j v
   fits_beside j v other f = record {
     seen = f.seen;
     fixed = f.fixed;
@@ -70,54 +70,54 @@ module _ (F : List ℕ) (H : History) (n counter : ℕ) (owner : ℕ → ℕ) wh
     spent = f.spent;
   }
 
-  fits_one_more : (j : ℕ) (v : View) → v.stage ≢ Spent → v.seats ≢ 0 → Fits F H n counter owner j v → Fits F H (n + 1) counter (put owner n n) j (one_more v)
+  fits_one_more : (j : ℕ) (v : View) → v.stage ≢ Spent → v.seats ≢ 0 → Fits F H n owner j v → Fits F H (n + 1) (put owner n n) j (one_more v)
   fits_one_more j v alive counts f = record {
     seen = f.seen;
     fixed = f.fixed;
     keys = λ i es h. let k = f.keys i es h in let b = k.0 in (omega arith, put_else owner n n i (λ z. omega arith) ∙ k.1, k.2);
     own = f.own;
-    count = λ _. (ap (λ (z : ℕ). z + 1) (f.count counts).0, (f.count counts).1);
+    count = λ _. let c = f.count counts in (ap (λ (z : ℕ). z + 1) c.0, c.1 ∙ sym (put_else owner n n 0 (λ z. counts (c.0 ∙ sym z))));
     told = f.told;
     spent = λ z. absurd (alive z);
   }
 
-  fits_newcomer : (j : ℕ) (v : View) → j ≡ n → v.seats ≡ n → v.fixed ≡ F → mine n H ≡ [] → Fits F H (n + 1) counter (put owner n n) j (newcomer v)
+  fits_newcomer : (j : ℕ) (v : View) → j ≡ n → v.seats ≡ n → v.fixed ≡ F → mine n H ≡ [] → Fits F H (n + 1) (put owner n n) j (newcomer v)
   fits_newcomer j v last seats fixed_is fresh = record {
     seen = (H, refl);
     fixed = λ _. fixed_is;
     keys = λ i es h. let o = has_only v.seats [] i es h in let number : i ≡ n = sym o.0 ∙ seats in
         (omega arith, put_here owner n n i number ∙ sym last, sym o.1 ∙ (sym fresh ∙ ap (λ (x : ℕ). mine x H) (sym number)));
-    own = λ _. ([], (0, refl));
+    own = λ _. (v.seats, [], refl, (0, refl));
     count = λ z. absurd (z refl);
     told = λ k xs h. absurd (some-ne-none xs (sym h));
     spent = λ z. let k : Idle ≡ Spent = z in cc;
   }
 
-  fits_spent : (counter' : ℕ) (owner' : ℕ → ℕ) (j : ℕ) → Fits F H n counter' owner' j spent
-  fits_spent counter' owner' j = record {
+  fits_spent : (owner' : ℕ → ℕ) (j : ℕ) → Fits F H n owner' j spent
+  fits_spent owner' j = record {
     seen = (H, refl);
     fixed = λ z. absurd (z refl);
     keys = λ i es h. absurd (some-ne-none (i, es) (sym h.1));
     own = λ z. absurd (z refl);
     count = λ z. absurd (z refl);
     told = λ k xs h. absurd (some-ne-none xs (sym h));
-    spent = λ _. (refl, refl, refl);
+    spent = λ _. (refl, refl, refl, refl);
   }
 
   -- a view that a join of `other` into `id` leaves alone
-  fits_apart : (id other j : ℕ) (v : View) → j ≢ other → Fits F H n counter owner j v → Fits F H n (moved other id counter) (λ i. moved other id (owner i)) j v
+  fits_apart : (id other j : ℕ) (v : View) → j ≢ other → Fits F H n owner j v → Fits F H n (λ i. moved other id (owner i)) j v
   fits_apart id other j v apart f = record {
     seen = f.seen;
     fixed = f.fixed;
     keys = λ i es h. let k = f.keys i es h in (k.0, put_else (λ x. x) other id (owner i) (λ z. apart (sym k.1 ∙ z)) ∙ k.1, k.2);
     own = f.own;
-    count = λ z. let c = f.count z in (c.0, c.1 ∙ sym (put_else (λ x. x) other id counter (λ y. apart (c.1 ∙ y))));
+    count = λ z. let c = f.count z in (c.0, c.1 ∙ sym (put_else (λ x. x) other id (owner 0) (λ y. apart (c.1 ∙ y))));
     told = f.told;
     spent = f.spent;
   }
 
-  fits_both : (id other : ℕ) (v w : View) → (other ≡ id → ⊥) → v.stage ≢ Spent → w.stage ≢ Spent → Fits F H n counter owner id v → Fits F H n counter owner other w
-      → Fits F H n (moved other id counter) (λ i. moved other id (owner i)) id (both v w)
+  fits_both : (id other : ℕ) (v w : View) → (other ≡ id → ⊥) → v.stage ≢ Spent → w.stage ≢ Spent → Fits F H n owner id v → Fits F H n owner other w
+      → Fits F H n (λ i. moved other id (owner i)) id (both v w)
   fits_both id other v w apart va wa f g = record {
     seen = starts_either H v.seen w.seen f.seen g.seen;
     fixed = λ _. f.fixed va;
@@ -125,18 +125,18 @@ module _ (F : List ℕ) (H : History) (n counter : ℕ) (owner : ℕ → ℕ) wh
         (λ (a : Has v.mine i es). let k = f.keys i es a in (k.0, put_else (λ x. x) other id (owner i) (λ z. apart (sym z ∙ k.1)) ∙ k.1, k.2))
         (λ (b : Has w.mine i es). let k = g.keys i es b in (k.0, put_here (λ x. x) other id (owner i) k.1, k.2))
         (has_either v.mine w.mine i es h);
-    own = λ _. let o = f.own va in (o.0, has_left v.mine w.mine v.number o.0 o.1);
+    own = λ _. let o = f.own va in (o.0, o.1, o.2, has_left v.mine w.mine o.0 o.1 o.3);
     count = counts (ℕ_discrete v.seats 0);
     told = tells;
     spent = λ z. let k : Idle ≡ Spent = z in cc;
   }
     where
-      counts : Dec (v.seats ≡ 0) → v.seats + w.seats ≢ 0 → (v.seats + w.seats ≡ n) × (id ≡ moved other id counter)
-      counts (yes e) z = let c = g.count (λ y. z (omega arith)) in let a = c.0 in (omega arith, sym (put_here (λ x. x) other id counter (sym c.1)))
+      counts : Dec (v.seats ≡ 0) → v.seats + w.seats ≢ 0 → (v.seats + w.seats ≡ n) × (id ≡ moved other id (owner 0))
+      counts (yes e) z = let c = g.count (λ y. z (omega arith)) in let a = c.0 in (omega arith, sym (put_here (λ x. x) other id (owner 0) (sym c.1)))
       counts (no ne) z =
           let c = f.count ne in let a = c.0 in
           let none_there : w.seats ≡ 0 = dite (ℕ_discrete w.seats 0) (λ y. y) (λ y. absurd (apart ((g.count y).1 ∙ sym c.1))) in
-          (omega arith, c.1 ∙ sym (put_else (λ x. x) other id counter (λ y. apart (sym y ∙ sym c.1))))
+          (omega arith, c.1 ∙ sym (put_else (λ x. x) other id (owner 0) (λ y. apart (sym y ∙ sym c.1))))
 
       tells : (k : ℕ) (xs : History) → get_elem? (v.seen ∷ w.seen ∷ (v.told ++ w.told)) k ≡ some xs → StartsWith H xs
       tells zero xs e = subst (λ (x : History). StartsWith H x) (some-injective v.seen xs e) f.seen
@@ -179,7 +179,6 @@ module _ {V : Type 0} (history : V → History) (fixed : V → List ℕ) (F : Li
   splits id v is counts room s r at = record {
     H = r.H;
     n = r.n + 1;
-    counter = r.counter;
     owner = put r.owner r.n r.n;
     ticket = r.ticket;
     serving = r.serving;
@@ -187,6 +186,11 @@ module _ {V : Type 0} (history : V → History) (fixed : V → List ℕ) (F : Li
     served = r.served;
     few = let k = known.0 in omega arith;
     most = r.most;
+    has_count = (
+      one_more v,
+      ap (λ (x : ℕ). get_elem? (rest ++ newcomer v ∷ []) x) (put_else r.owner r.n r.n 0 (λ z. counts (known.0 ∙ sym z)) ∙ sym known.1) ∙ at_longer rest (newcomer v ∷ []) id (one_more v) (set_here s.views id (one_more v) (at_below s.views id v at)),
+      ap (λ (z : ℕ). z + 1) known.0,
+    );
     all = length-append rest (newcomer v ∷ []) ∙ ap (λ (z : ℕ). z + 1) (length-set s.views id (one_more v) ∙ r.all);
     counted =
         let a = sum_by_push (λ (u : View). tickets u.stage) rest (newcomer v) in
@@ -200,11 +204,11 @@ module _ {V : Type 0} (history : V → History) (fixed : V → List ℕ) (F : Li
         omega arith;
     ranges = ranges_old s r (rest ++ newcomer v ∷ []) old;
     apart = apart_old s r (rest ++ newcomer v ∷ []) old;
-    each = all_snoc (λ j u. Fits F r.H (r.n + 1) r.counter (put r.owner r.n r.n) j u) rest (newcomer v)
-        (all_set (λ j u. Fits F r.H (r.n + 1) r.counter (put r.owner r.n r.n) j u) s.views id (one_more v)
-        (fits_one_more F r.H r.n r.counter r.owner id v alive counts f)
-        (λ j u other atj. fits_beside F r.H r.n r.counter r.owner j u (λ e. other (e ∙ sym known.1)) (r.each j u atj)))
-        (fits_newcomer F r.H r.n r.counter r.owner (length rest) v (length-set s.views id (one_more v) ∙ r.all) known.0 (f.fixed alive) (r.others r.n (omega arith)));
+    each = all_snoc (λ j u. Fits F r.H (r.n + 1) (put r.owner r.n r.n) j u) rest (newcomer v)
+        (all_set (λ j u. Fits F r.H (r.n + 1) (put r.owner r.n r.n) j u) s.views id (one_more v)
+        (fits_one_more F r.H r.n r.owner id v alive counts f)
+        (λ j u other atj. fits_beside F r.H r.n r.owner j u (λ e. other (e ∙ sym known.1)) (r.each j u atj)))
+        (fits_newcomer F r.H r.n r.owner (length rest) v (length-set s.views id (one_more v) ∙ r.all) known.0 (f.fixed alive) (r.others r.n (omega arith)));
     keyed = λ i l. keyed_after i l (ℕ_discrete i r.n);
     others = λ i l. r.others i (omega arith);
     placed = placed_old s r (rest ++ newcomer v ∷ []) old
@@ -214,13 +218,13 @@ module _ {V : Type 0} (history : V → History) (fixed : V → List ℕ) (F : Li
       rest : List View
       rest = set s.views id (one_more v)
 
-      f : Fits F r.H r.n r.counter r.owner id v
+      f : Fits F r.H r.n r.owner id v
       f = r.each id v at
 
       alive : v.stage ≢ Spent
       alive = idle_alive v is
 
-      known : (v.seats ≡ r.n) × (id ≡ r.counter)
+      known : (v.seats ≡ r.n) × (id ≡ r.owner 0)
       known = f.count counts
 
       old : Old s.views (rest ++ newcomer v ∷ [])
@@ -258,7 +262,6 @@ module _ {V : Type 0} (history : V → History) (fixed : V → List ℕ) (F : Li
   joins id v other w is js s r at apart there = record {
     H = r.H;
     n = r.n;
-    counter = moved other id r.counter;
     owner = λ i. moved other id (r.owner i);
     ticket = r.ticket;
     serving = r.serving;
@@ -266,6 +269,7 @@ module _ {V : Type 0} (history : V → History) (fixed : V → List ℕ) (F : Li
     served = r.served;
     few = r.few;
     most = r.most;
+    has_count = count_after r.has_count;
     all = length-set first other spent ∙ (length-set s.views id (both v w) ∙ r.all);
     counted =
         let a = total_set (λ (u : View). tickets u.stage) s.views id v (both v w) at in
@@ -279,11 +283,11 @@ module _ {V : Type 0} (history : V → History) (fixed : V → List ℕ) (F : Li
         omega arith;
     ranges = ranges_old s r (set first other spent) old;
     apart = apart_old s r (set first other spent) old;
-    each = all_set (λ j u. Fits F r.H r.n (moved other id r.counter) (λ i. moved other id (r.owner i)) j u) first other spent
-        (fits_spent F r.H r.n r.counter r.owner (moved other id r.counter) (λ i. moved other id (r.owner i)) other)
-        (λ j u others at_first. all_set (λ x y. x ≢ other → Fits F r.H r.n (moved other id r.counter) (λ i. moved other id (r.owner i)) x y) s.views id (both v w)
-        (λ _. fits_both F r.H r.n r.counter r.owner id other v w apart (idle_alive v is) (idle_alive w js) (r.each id v at) (r.each other w there_before))
-        (λ x y _ atx o. fits_apart F r.H r.n r.counter r.owner id other x y o (r.each x y atx)) j u at_first others);
+    each = all_set (λ j u. Fits F r.H r.n (λ i. moved other id (r.owner i)) j u) first other spent
+        (fits_spent F r.H r.n r.owner (λ i. moved other id (r.owner i)) other)
+        (λ j u others at_first. all_set (λ x y. x ≢ other → Fits F r.H r.n (λ i. moved other id (r.owner i)) x y) s.views id (both v w)
+        (λ _. fits_both F r.H r.n r.owner id other v w apart (idle_alive v is) (idle_alive w js) (r.each id v at) (r.each other w there_before))
+        (λ x y _ atx o. fits_apart F r.H r.n r.owner id other x y o (r.each x y atx)) j u at_first others);
     keyed = λ i l. keyed_after i (r.keyed i l);
     others = r.others;
     placed = placed_old s r (set first other spent) old
@@ -303,6 +307,31 @@ module _ {V : Type 0} (history : V → History) (fixed : V → List ℕ) (F : Li
 
       taker : get_elem? (set first other spent) id ≡ some (both v w)
       taker = set_else first other id spent (λ e. apart (sym e)) ∙ set_here s.views id (both v w) (at_below s.views id v at)
+
+      -- the taker has the count where either had it
+      count_after : (u : View) × (get_elem? s.views (r.owner 0) ≡ some u) × (u.seats ≡ r.n) → (u : View) × (get_elem? (set first other spent) (moved other id (r.owner 0)) ≡ some u) × (u.seats ≡ r.n)
+      count_after k = dite (ℕ_discrete (r.owner 0) other)
+          (λ same.
+          let is_w : k.0 ≡ w = some-injective k.0 w (sym k.1 ∙ (ap (λ (x : ℕ). get_elem? s.views x) same ∙ there_before)) in
+          let none_here : v.seats ≡ 0 = dite (ℕ_discrete v.seats 0) (λ y. y) (λ y. absurd (apart (sym same ∙ sym ((r.each id v at).count y).1))) in (
+            both v w,
+            ap (λ (x : ℕ). get_elem? (set first other spent) x) (put_here (λ x. x) other id (r.owner 0) same) ∙ taker,
+            (let c : w.seats ≡ r.n = ap (λ (x : View). x.seats) (sym is_w) ∙ k.2 in omega arith),
+          ))
+          (λ not_other. dite (ℕ_discrete (r.owner 0) id)
+          (λ same.
+          let is_v : k.0 ≡ v = some-injective k.0 v (sym k.1 ∙ (ap (λ (x : ℕ). get_elem? s.views x) same ∙ at)) in
+          let none_there : w.seats ≡ 0 = dite (ℕ_discrete w.seats 0) (λ y. y) (λ y. absurd (not_other (sym ((r.each other w there_before).count y).1))) in (
+            both v w,
+            ap (λ (x : ℕ). get_elem? (set first other spent) x) (put_else (λ x. x) other id (r.owner 0) not_other ∙ same) ∙ taker,
+            (let c : v.seats ≡ r.n = ap (λ (x : View). x.seats) (sym is_v) ∙ k.2 in omega arith),
+          ))
+          (λ not_id. (
+            k.0,
+            ap (λ (x : ℕ). get_elem? (set first other spent) x) (put_else (λ x. x) other id (r.owner 0) not_other)
+                ∙ (set_else first other (r.owner 0) spent not_other ∙ (set_else s.views id (r.owner 0) (both v w) not_id ∙ k.1)),
+            k.2,
+          )))
 
       keyed_after : (i : ℕ) → (u : View) × (es : History) × (get_elem? s.views (r.owner i) ≡ some u) × Has u.mine i es
           → (u : View) × (es : History) × (get_elem? (set first other spent) (moved other id (r.owner i)) ≡ some u) × Has u.mine i es
@@ -366,7 +395,7 @@ module _ {V : Type 0} (history : V → History) (fixed : V → List ℕ) (F : Li
           (λ e. (e, some-injective u v (sym atj ∙ (ap (λ (x : ℕ). get_elem? s.views x) e ∙ at))))
           (λ ne. let a = two_le_total (λ (y : View). length y.mine) s.views j id u v ne atj at in let b = has_some u.mine i es h in let c = r.shared in let d = r.few in absurd (omega arith))
 
-      f : Fits F r.H r.n r.counter r.owner id v
+      f : Fits F r.H r.n r.owner id v
       f = r.each id v at
 
       go : Placed r.H s.homes s.views → Ended v xs
@@ -384,14 +413,13 @@ module _ {V : Type 0} (history : V → History) (fixed : V → List ℕ) (F : Li
           let u = p.1.1 in
           let alive : u.stage ≢ Spent = λ z. let k : Out p.1.2 ≡ Spent = sym p.1.4 ∙ z in cc in
           let own = (r.each p.1.0 u p.1.3).own alive in
-          let o = only_here p.1.0 u u.number own.0 p.1.3 own.1 in
+          let o = only_here p.1.0 u own.0 own.1 p.1.3 own.3 in
           absurd (out_apart s.views id v p.1.0 u p.1.2 at (ap tickets is) p.1.3 p.1.4 o.0)
 
   pub opens : (x : V) → history x ≡ [] → fixed x ≡ F → 1 ≤ N → N ≤ 34 → K (opening (0 ∷ 0 ∷ 0 ∷ []) (Some x ∷ []) (opening_view F))
   opens x empty same some_pass few = record {
     H = [];
     n = 1;
-    counter = 0;
     owner = λ _. 0;
     ticket = 0;
     serving = 0;
@@ -400,15 +428,16 @@ module _ {V : Type 0} (history : V → History) (fixed : V → List ℕ) (F : Li
     few = some_pass;
     most = few;
     all = refl;
+    has_count = (opening_view F, refl, refl);
     counted = refl;
     shared = refl;
     ranges = λ j u e. subst (λ (y : View). InRange 0 0 y.stage) (at_only (opening_view F) j u e).1 tt;
     apart = λ j u e k w h t a b. (at_only (opening_view F) j u e).0 ∙ sym (at_only (opening_view F) k w h).0;
-    each = λ j u e. let o = at_only (opening_view F) j u e in subst (λ (y : ℕ × View). Fits F [] 1 0 (λ _. 0) y.0 y.1) (λ i. (sym o.0 i, o.1 i)) record {
+    each = λ j u e. let o = at_only (opening_view F) j u e in subst (λ (y : ℕ × View). Fits F [] 1 (λ _. 0) y.0 y.1) (λ i. (sym o.0 i, o.1 i)) record {
       seen = ([], refl);
       fixed = λ _. refl;
       keys = λ i es h. let k = has_only 0 [] i es h in let n = k.0 in (omega arith, refl, sym k.1);
-      own = λ _. ([], (0, refl));
+      own = λ _. (0, [], refl, (0, refl));
       count = λ _. (refl, refl);
       told = λ k xs h. absurd (some-ne-none xs (sym h));
       spent = λ z. let k : Idle ≡ Spent = z in cc;

@@ -1,5 +1,5 @@
 -- Each step of one pass keeps the rule: draw, look, made and pass on.
-use Rattle.std.proofs.Common.{◌≡◌, ◌≢◌, ℕ, ◌+◌, ◌%◌, ◌^◌, ◌<◌, ◌≤◌, inl, inr, eqb, eq-eqb, ne_eqb, cond, List, [], ◌∷◌, ◌++◌, length, get_or, set, sym, refl, ap, ◌∙◌, subst, arith, mod-eq_of_lt, length-set, length-append, Option, Some}
+use Rattle.std.proofs.Common.{◌≡◌, ◌≢◌, ℕ, ◌+◌, ◌%◌, ◌^◌, ◌<◌, ◌≤◌, inl, inr, eqb, eq-eqb, ne_eqb, cond, List, [], ◌∷◌, ◌++◌, length, get_or, set, sym, refl, ap, ◌∙◌, subst, arith, mod-eq_of_lt, length-set, length-append, Option, Some, unwrap_or}
 use mathlib.Core.Logic.{dite}
 use mathlib.Core.Option.{none, some, some-injective, some-ne-none}
 use mathlib.Core.Option as maybe
@@ -49,9 +49,9 @@ stage_range serving ticket st st' e h = subst (InRange serving ticket) e h
 pub stage_ticket : (st st' : Stage) (t : ℕ) → st ≡ st' → IsTicket st' t → IsTicket st t
 stage_ticket st st' t e h = subst (λ (x : Stage). IsTicket x t) (sym e) h
 
-module _ (F : List ℕ) (H : History) (n counter : ℕ) (owner : ℕ → ℕ) where
+module _ (F : List ℕ) (H : History) (n : ℕ) (owner : ℕ → ℕ) where
   -- another stage, between steps
-  pub refits : (j : ℕ) (v : View) (st : Stage) → v.stage ≢ Spent → st ≢ Spent → Fits F H n counter owner j v → Fits F H n counter owner j (at_stage v st)
+  pub refits : (j : ℕ) (v : View) (st : Stage) → v.stage ≢ Spent → st ≢ Spent → Fits F H n owner j v → Fits F H n owner j (at_stage v st)
   refits j v st from to f = record {
     seen = f.seen;
     fixed = λ _. f.fixed from;
@@ -63,7 +63,7 @@ module _ (F : List ℕ) (H : History) (n counter : ℕ) (owner : ℕ → ℕ) wh
   }
 
   -- an entry of another pass
-  fits_more : (j : ℕ) (v : View) (e : Entry) → ((i : ℕ) (es : History) → Has v.mine i es → e.0 ≢ i) → Fits F H n counter owner j v → Fits F (H ++ e ∷ []) n counter owner j v
+  fits_more : (j : ℕ) (v : View) (e : Entry) → ((i : ℕ) (es : History) → Has v.mine i es → e.0 ≢ i) → Fits F H n owner j v → Fits F (H ++ e ∷ []) n owner j v
   fits_more j v e other f = record {
     seen = starts_longer H (e ∷ []) v.seen f.seen;
     fixed = f.fixed;
@@ -75,17 +75,17 @@ module _ (F : List ℕ) (H : History) (n counter : ℕ) (owner : ℕ → ℕ) wh
   }
 
   -- an entry of the pass itself, which had seen all
-  added_is : (i : ℕ) (e : Entry) (number : ℕ) (old es : History) → e.0 ≡ number → old ≡ mine i H → es ≡ cond (eqb i number) (old ++ e ∷ []) old → es ≡ mine i (H ++ e ∷ [])
-  added_is i e number old es by was is = dite (ℕ_discrete i number)
-      (λ here. is ∙ (ap (λ b. cond b (old ++ e ∷ []) old) (eq-eqb i number here) ∙ (ap (λ (x : History). x ++ e ∷ []) was ∙ sym (mine_more i H e (by ∙ sym here)))))
-      (λ other. is ∙ (ap (λ b. cond b (old ++ e ∷ []) old) (ne_eqb i number other) ∙ (was ∙ sym (mine_same i H e (λ z. other (sym z ∙ by))))))
+  added_is : (i : ℕ) (e : Entry) (old es : History) → old ≡ mine i H → es ≡ cond (eqb i e.0) (old ++ e ∷ []) old → es ≡ mine i (H ++ e ∷ [])
+  added_is i e old es was is = dite (ℕ_discrete i e.0)
+      (λ here. is ∙ (ap (λ b. cond b (old ++ e ∷ []) old) (eq-eqb i e.0 here) ∙ (ap (λ (x : History). x ++ e ∷ []) was ∙ sym (mine_more i H e (sym here)))))
+      (λ other. is ∙ (ap (λ b. cond b (old ++ e ∷ []) old) (ne_eqb i e.0 other) ∙ (was ∙ sym (mine_same i H e (λ z. other (sym z))))))
 
-  fits_noted : (j : ℕ) (v : View) (e : Entry) → v.stage ≢ Spent → v.seen ≡ H → e.0 ≡ v.number → Fits F H n counter owner j v → Fits F (H ++ e ∷ []) n counter owner j (noted v e)
-  fits_noted j v e alive all by f = record {
+  fits_noted : (j : ℕ) (v : View) (e : Entry) → v.stage ≢ Spent → v.seen ≡ H → Fits F H n owner j v → Fits F (H ++ e ∷ []) n owner j (noted v e)
+  fits_noted j v e alive all f = record {
     seen = starts_same (H ++ e ∷ []) (H ++ e ∷ []) (v.seen ++ e ∷ []) (ap (λ (x : History). x ++ e ∷ []) (sym all)) (starts_whole (H ++ e ∷ []));
     fixed = f.fixed;
-    keys = λ i es h. let t = added_has v.number e v.mine i es h in let k = f.keys i t.0 t.1 in (k.0, k.1, added_is i e v.number t.0 es by k.2 t.2);
-    own = λ z. let o = f.own z in (cond (eqb v.number v.number) (o.0 ++ e ∷ []) o.0, has_added v.number e v.mine v.number o.0 o.1);
+    keys = λ i es h. let t = added_has e v.mine i es h in let k = f.keys i t.0 t.1 in (k.0, k.1, added_is i e t.0 es k.2 t.2);
+    own = λ z. let o = f.own z in (o.0, cond (eqb o.0 e.0) (o.1 ++ e ∷ []) o.1, o.2, has_added e v.mine o.0 o.1 o.3);
     count = f.count;
     told = λ k xs h. starts_longer H (e ∷ []) xs (f.told k xs h);
     spent = λ z. absurd (alive z);
@@ -114,19 +114,19 @@ module _ {V : Type 0} (history : V → History) (fixed : V → List ℕ) (F : Li
       → serving' ≤ 2 ^ 63
       → waiting s.views + tickets w.stage + serving' ≡ ticket' + tickets v.stage
       → length w.mine ≡ length v.mine
+      → w.seats ≡ v.seats
       → InRange serving' ticket' w.stage
       → ((j : ℕ) (u : View) → j ≢ id → get_elem? s.views j ≡ some u → InRange serving' ticket' u.stage)
       → ((k : ℕ) (u : View) → k ≢ id → get_elem? s.views k ≡ some u → (t : ℕ) → IsTicket w.stage t → IsTicket u.stage t → ⊥)
-      → Fits F H' r.n r.counter r.owner id w
-      → ((j : ℕ) (u : View) → j ≢ id → get_elem? s.views j ≡ some u → Fits F H' r.n r.counter r.owner j u)
+      → Fits F H' r.n r.owner id w
+      → ((j : ℕ) (u : View) → j ≢ id → get_elem? s.views j ≡ some u → Fits F H' r.n r.owner j u)
       → ((i : ℕ) (es : History) → Has v.mine i es → (es' : History) × Has w.mine i es')
       → ((i : ℕ) → r.n ≤ i → mine i H' ≡ [])
       → Placed H' homes' (set s.views id w)
       → K record { words = words'; homes = homes'; views = set s.views id w }
-  changes s r id v w words' homes' H' ticket' serving' at words served counts sizes range ranges fresh fits each has none_else placed = record {
+  changes s r id v w words' homes' H' ticket' serving' at words served counts sizes seats range ranges fresh fits each has none_else placed = record {
     H = H';
     n = r.n;
-    counter = r.counter;
     owner = r.owner;
     ticket = ticket';
     serving = serving';
@@ -135,18 +135,26 @@ module _ {V : Type 0} (history : V → History) (fixed : V → List ℕ) (F : Li
     few = r.few;
     most = r.most;
     all = length-set s.views id w ∙ r.all;
+    has_count = count_after r.has_count;
     counted = let t = total_set (λ (u : View). tickets u.stage) s.views id v w at in omega arith;
     shared = let t = total_set (λ (u : View). length u.mine) s.views id v w at in let q = r.shared in omega arith;
     ranges = all_set (λ j u. InRange serving' ticket' u.stage) s.views id w range ranges;
     apart = all_set (λ j u. (k : ℕ) (x : View) → get_elem? (set s.views id w) k ≡ some x → (t : ℕ) → IsTicket u.stage t → IsTicket x.stage t → j ≡ k) s.views id w
         (all_set (λ k x. (t : ℕ) → IsTicket w.stage t → IsTicket x.stage t → id ≡ k) s.views id w (λ t a b. refl) (λ k x other atk t a b. absurd (fresh k x other atk t a b)))
         (λ j u other atj. all_set (λ k x. (t : ℕ) → IsTicket u.stage t → IsTicket x.stage t → j ≡ k) s.views id w (λ t a b. absurd (fresh j u other atj t b a)) (λ k x _ atk. r.apart j u atj k x atk));
-    each = all_set (λ j u. Fits F H' r.n r.counter r.owner j u) s.views id w fits each;
+    each = all_set (λ j u. Fits F H' r.n r.owner j u) s.views id w fits each;
     keyed = λ i l. keyed_after i (r.keyed i l);
     others = none_else;
     placed = placed;
   }
     where
+      count_after : (u : View) × (get_elem? s.views (r.owner 0) ≡ some u) × (u.seats ≡ r.n) → (u : View) × (get_elem? (set s.views id w) (r.owner 0) ≡ some u) × (u.seats ≡ r.n)
+      count_after k = dite (ℕ_discrete (r.owner 0) id)
+          (λ same.
+          let is : k.0 ≡ v = some-injective k.0 v (sym k.1 ∙ (ap (λ (x : ℕ). get_elem? s.views x) same ∙ at)) in
+          (w, ap (λ (x : ℕ). get_elem? (set s.views id w) x) same ∙ set_here s.views id w (at_below s.views id v at), seats ∙ (sym (ap (λ (x : View). x.seats) is) ∙ k.2)))
+          (λ other. (k.0, set_else s.views id (r.owner 0) w other ∙ k.1, k.2))
+
       keyed_after : (i : ℕ) → (u : View) × (es : History) × (get_elem? s.views (r.owner i) ≡ some u) × Has u.mine i es
           → (u : View) × (es : History) × (get_elem? (set s.views id w) (r.owner i) ≡ some u) × Has u.mine i es
       keyed_after i k = dite (ℕ_discrete (r.owner i) id)
@@ -183,10 +191,11 @@ module _ {V : Type 0} (history : V → History) (fixed : V → List ℕ) (F : Li
             r.served
             (let e = ap tickets is in omega arith)
             refl
+            refl
             (omega arith, omega arith)
             (λ j u other atj. wider r.serving r.ticket u.stage (r.ranges j u atj))
             (λ k u other atk t ta tb. let b = below r.serving r.ticket t u.stage (r.ranges k u atk) tb in let e : get_or s.words 0 0 ≡ t = ta in omega arith)
-            (refits F r.H r.n r.counter r.owner id v (Waiting (get_or s.words 0 0)) (λ z. let k : Idle ≡ Spent = sym is ∙ z in cc) (λ z. cc) (r.each id v at))
+            (refits F r.H r.n r.owner id v (Waiting (get_or s.words 0 0)) (λ z. let k : Idle ≡ Spent = sym is ∙ z in cc) (λ z. cc) (r.each id v at))
             (λ j u other atj. r.each j u atj)
             (λ i es h. (es, h))
             r.others
@@ -270,6 +279,7 @@ module _ {V : Type 0} (history : V → History) (fixed : V → List ℕ) (F : Li
                 r.served
                 (let e = ap tickets is in let c = r.counted in omega arith)
                 refl
+                refl
                 (ticket_is ∙ (sym here ∙ serving), omega arith, omega arith)
                 (λ j u _ atj. r.ranges j u atj)
                 (λ k u other atk t' ta tb. other (sym (r.apart id v at k u atk t' (stage_ticket v.stage (Waiting t) t' is (sym ticket_is ∙ ta)) tb)))
@@ -300,7 +310,7 @@ module _ {V : Type 0} (history : V → History) (fixed : V → List ℕ) (F : Li
             ),
           )
 
-  pub makes : (slots id : ℕ) (v : View) (t : ℕ) (x : V) (e : Entry) → v.stage ≡ Out t → history x ≡ v.seen ++ e ∷ [] → e.0 ≡ v.number → length (history x) < 2 ^ 63
+  pub makes : (slots id : ℕ) (v : View) (t : ℕ) (x : V) (e : Entry) → v.stage ≡ Out t → history x ≡ v.seen ++ e ∷ [] → v.number ≡ Some e.0 → length (history x) < 2 ^ 63
       → Allows K slots id (v, (0, Some x) ∷ []) 2 (λ n. (n + 1) % 2 ^ 64) (made history blank (v, (0, Some x) ∷ []))
   makes slots id v t x e is grows by fits s r one at small =
       let g = gone s r id v t at is in
@@ -311,7 +321,8 @@ module _ {V : Type 0} (history : V → History) (fixed : V → List ℕ) (F : Li
       let next : length (r.H ++ e ∷ []) ≡ length r.H + 1 = length-append r.H (e ∷ []) in
       let fresh : (get_or s.words 2 0 + 1) % 2 ^ 64 ≡ length (r.H ++ e ∷ []) = mod-eq_of_lt (omega arith) ∙ (ap (λ (z : ℕ). z + 1) found ∙ sym next) in
       let own = f.own alive in
-      let mine_key = f.keys v.number own.0 own.1 in (
+      let key = f.keys own.0 own.1 own.3 in
+      let number : e.0 ≡ own.0 = ap (λ (o : Option ℕ). unwrap_or o e.0) (sym by ∙ own.2) in (
         noted v e,
         keeps,
         tt,
@@ -319,15 +330,16 @@ module _ {V : Type 0} (history : V → History) (fixed : V → List ℕ) (F : Li
             (ap (λ (ws : List ℕ). set ws 2 ((get_or s.words 2 0 + 1) % 2 ^ 64)) r.words ∙ ap (λ (z : ℕ). r.ticket ∷ r.serving ∷ z ∷ []) fresh)
             r.served
             (let c = r.counted in omega arith)
-            (length-added v.number e v.mine)
+            (length-added e v.mine)
+            refl
             (r.ranges id v at)
             (λ j u _ atj. r.ranges j u atj)
             (λ k u other atk t' ta tb. other (sym (r.apart id v at k u atk t' ta tb)))
-            (fits_noted F r.H r.n r.counter r.owner id v e alive g.1 by f)
-            (λ j u other atj. let fu = r.each j u atj in fits_more F r.H r.n r.counter r.owner j u e
-            (λ i es h z. other (sym (fu.keys i es h).1 ∙ (ap r.owner (sym z ∙ by) ∙ mine_key.1))) fu)
-            (λ i es h. (cond (eqb i v.number) (es ++ e ∷ []) es, has_added v.number e v.mine i es h))
-            (λ i le. mine_same i r.H e (λ z. let b = mine_key.0 in let same : v.number ≡ i = sym by ∙ z in omega arith) ∙ r.others i le)
+            (fits_noted F r.H r.n r.owner id v e alive g.1 f)
+            (λ j u other atj. let fu = r.each j u atj in fits_more F r.H r.n r.owner j u e
+            (λ i es h z. other (sym (fu.keys i es h).1 ∙ (ap r.owner (sym z ∙ number) ∙ key.1))) fu)
+            (λ i es h. (cond (eqb i e.0) (es ++ e ∷ []) es, has_added e v.mine i es h))
+            (λ i le. mine_same i r.H e (λ z. let b = key.0 in let same : own.0 ≡ i = sym number ∙ z in omega arith) ∙ r.others i le)
             (inr (g.0, (id, noted v e, t, set_here s.views id (noted v e) (at_below s.views id v at), is, ap (λ (l : History). l ++ e ∷ []) g.1))),
         (x, e, refl, grows, by, refl),
       )
@@ -350,10 +362,11 @@ module _ {V : Type 0} (history : V → History) (fixed : V → List ℕ) (F : Li
             (omega arith)
             (let e = ap tickets is in let c = r.counted in omega arith)
             refl
+            refl
             tt
             (λ j u other atj. served_next r.serving r.ticket u.stage (λ a. other (sym (r.apart id v at j u atj r.serving (stage_ticket v.stage (Out t) r.serving is served) a))) (r.ranges j u atj))
             (λ k u other atk t' ta tb. ta)
-            (refits F r.H r.n r.counter r.owner id v Idle alive (λ z. cc) f)
+            (refits F r.H r.n r.owner id v Idle alive (λ z. cc) f)
             (λ j u _ atj. r.each j u atj)
             (λ i es h. (es, h))
             r.others

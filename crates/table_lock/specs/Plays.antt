@@ -1,6 +1,6 @@
 -- What each kind of step tells the pass that makes it. `m` is the pass before with what it has out of the slot, `r` the word that was found,
 -- `m'` the pass after. The two exchanges of the slot, which take the value and put it back, change nothing that a pass knows.
-use Rattle.std.specs.Prelude.{◌≡◌, ◌≢◌, ℕ, ◌+◌, ◌==◌, ◌^◌, ◌<◌, ◌≤◌, List, [], ◌∷◌, ◌++◌, map, length, nat_lt, Option, Some, if◌then◌else◌}
+use Rattle.std.specs.Prelude.{◌≡◌, ◌≢◌, ℕ, ◌+◌, ◌==◌, ◌^◌, ◌<◌, ◌≤◌, List, [], ◌∷◌, ◌++◌, map, length, nat_lt, Option, Some, None, if◌then◌else◌}
 use Rattle.atomic_table.specs.Table.{Me, Step}
 use Rattle.table_lock.specs.Entries.{Entry, History, mine, StartsWith}
 use Rattle.table_lock.specs.Rule.{Map, Has}
@@ -21,13 +21,13 @@ ticket_of (Out t) = t
 abbrev pub at_stage : View → Stage → View
 at_stage v stage = record v { stage = stage }
 
--- the map after one more entry at a number
-abbrev pub added : ℕ → Entry → Map → Map
-added number e m = map (λ (x : ℕ × History). (x.0, (if x.0 == number then x.1 ++ e ∷ [] else x.1))) m
+-- the map after one more entry, which joins the list at its number
+abbrev pub added : Entry → Map → Map
+added e m = map (λ (x : ℕ × History). (x.0, (if x.0 == e.0 then x.1 ++ e ∷ [] else x.1))) m
 
 -- the view after one more entry of its pass
 abbrev pub noted : View → Entry → View
-noted v e = record v { seen = v.seen ++ e ∷ []; mine = added v.number e v.mine }
+noted v e = record v { seen = v.seen ++ e ∷ []; mine = added e v.mine }
 
 module _ {V : Type 0} (history : V → History) (fixed : V → List ℕ) where
   -- where the turn has come, the value is the pass's and the pass sees its whole history
@@ -46,7 +46,7 @@ module _ {V : Type 0} (history : V → History) (fixed : V → List ℕ) where
 module _ {V : Type 0} (history : V → History) where
   -- made: the last entry of the value in the slot joins what the pass has seen and made
   abbrev pub made : Step (Option V) → Sat V → ℕ → Sat V → Type 0
-  made st m r m' = (x : V) × (e : Entry) × (m.1 ≡ (0, Some x) ∷ []) × (history x ≡ m.0.seen ++ e ∷ []) × (e.0 ≡ m.0.number) × (m' ≡ (noted m.0 e, m.1))
+  made st m r m' = (x : V) × (e : Entry) × (m.1 ≡ (0, Some x) ∷ []) × (history x ≡ m.0.seen ++ e ∷ []) × (m.0.number ≡ Some e.0) × (m' ≡ (noted m.0 e, m.1))
 
 module _ {V : Type 0} where
   -- draw: the word found is the pass's ticket
@@ -62,7 +62,7 @@ abbrev pub one_more : View → View
 one_more v = record v { seats = v.seats + 1 }
 
 abbrev pub newcomer : View → View
-newcomer v = record { number = v.seats; stage = Idle; seats = 0; seen = []; mine = (v.seats, []) ∷ []; fixed = v.fixed; told = [] }
+newcomer v = record { number = Some v.seats; stage = Idle; seats = 0; seen = []; mine = (v.seats, []) ∷ []; fixed = v.fixed; told = [] }
 
 -- join: the taker has the longer history, the keys of both and the count of either, and remembers what both had seen
 abbrev pub longer : History → History → History
@@ -72,4 +72,4 @@ abbrev pub both : View → View → View
 both v w = record { number = v.number; stage = Idle; seats = v.seats + w.seats; seen = longer v.seen w.seen; mine = v.mine ++ w.mine; fixed = v.fixed; told = v.seen ∷ w.seen ∷ (v.told ++ w.told) }
 
 abbrev pub spent : View
-spent = record { number = 0; stage = Spent; seats = 0; seen = []; mine = []; fixed = []; told = [] }
+spent = record { number = None; stage = Spent; seats = 0; seen = []; mine = []; fixed = []; told = [] }

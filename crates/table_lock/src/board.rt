@@ -27,7 +27,8 @@ pub enum Stage {
 
 /// What a pass knows. No value of it is made.
 pub struct View {
-    pub number: u64,
+    /// The pass's own number, which a spent one hasn't.
+    pub number: Option<u64>,
     pub stage: Stage,
     /// How many numbers were given out, and 0 where another pass knows that.
     pub seats: u64,

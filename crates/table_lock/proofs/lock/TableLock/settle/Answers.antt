@@ -1,4 +1,4 @@
-use Rattle.std.proofs.Common.{sym, ap, ◌∙◌, subst, arith}
+use Rattle.std.proofs.Common.{ℕ, sym, ap, ◌∙◌, subst, arith, Some}
 use Rattle.table_lock.specs.declared.board.View.{View}
 use Rattle.table_lock.specs.Turns.{IsGrown}
 use Rattle.table_lock.proofs.Holds.{makes_at}
@@ -13,5 +13,5 @@ fetch_add-requires g c =
       c.requires.table,
       omega arith,
       makes_at g.V.Kept.history g.V.Kept.fixed (g.V.Kept.fixed c.args.self.now.table.shared.key.0.value) c.args.self.now.table.shared.key.1 c.args.self.now.table.shared.table_id.slots c.args.place.now.id c.args.place.now.me
-          out.0 h.0 grew.0 (ap (λ (v : View). v.stage) out.1) h.1 grew.2 (grew.1 ∙ sym (ap (λ (v : View). v.number) out.1)) grew.3,
+          out.0 h.0 grew.0 (ap (λ (v : View). v.stage) out.1) h.1 grew.2 (ap (λ (v : View). v.number) out.1 ∙ ap (λ (n : ℕ). Some n) (sym grew.1)) grew.3,
     )
