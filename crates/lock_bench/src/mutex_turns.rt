@@ -1,6 +1,7 @@
 //! Turns at a `Mutex`.
 ghost use Rattle.std.specs.Thread.{IsSync};
 
+use crate::timing::{Timing, micros_since};
 use std::alloc::Global;
 use std::io;
 use std::sync::{Mutex, Wait};
@@ -29,15 +30,17 @@ fn run_threads<R: Threads + Wait + Sync>(rt: &R, lock: &Mutex<Tally>, threads: u
     );
 }
 
-/// How many microseconds so many threads take for so many turns each.
-pub fn micros<R: Threads + Wait + Sync + Clock>(
+/// Times so many turns of each of so many threads, once the mutex is made.
+pub fn time_turns<R: Threads + Wait + Sync + Clock>(
     rt: &R,
     alloc: Global,
     threads: u32,
     turns: u32,
-) -> io::Result<u128> {
+) -> io::Result<Timing> {
     let lock = Mutex::new(Tally::make(alloc, u64::from(threads) * u64::from(turns))?);
-    let start = Instant::now(rt)?;
+    let start = Instant::now(rt);
     run_threads(rt, &lock, threads, turns);
-    Ok(start.elapsed(rt)?.as_micros())
+    let micros = micros_since(rt, start)?;
+    let made = lock.lock(rt).numbers().len() as u64;
+    Ok(Timing { micros, made })
 }

@@ -1,4 +1,4 @@
-ghost use Rattle.std.specs.Prelude.{◌≡◌, ◌<◌, [], ◌∷◌, ◌++◌, length, IfOk, IsTrue, if◌then◌else◌, ◌↔◌};
+ghost use Rattle.std.specs.Prelude.{◌≡◌, ◌<◌, ◌≤◌, [], ◌∷◌, ◌++◌, length, IfOk, IsTrue, if◌then◌else◌, ◌↔◌};
 
 use crate::kept::Kept;
 use std::alloc::{AllocError, Global};
@@ -54,9 +54,10 @@ impl Tally {
         has_room
     }
 
-    /// The numbers that were added, in order. O(1).
+    /// The numbers that were added, in order, at most as many as there is room for. O(1).
     pub fn numbers(&self) -> &[u32]
-        ensures { result.now ≡ self.now.numbers }
+        ensures numbers { result.now ≡ self.now.numbers }
+        ensures room { length self.now.numbers ≤ self.now.room }
     {
         self.numbers.as_slice()
     }

@@ -1,6 +1,5 @@
-use Rattle.table_lock.specs.Passes.{IsPassOf}
-use Rattle.table_lock.specs.Tallies.{tally_fixed}
+use Rattle.lock_bench.specs.Made.{HasMade}
 use Rattle.lock_bench.proofs.pass_turns.take_turns.Given as goal
 
 abbrev pub invariant-loop : goal.invariant-loop
-invariant-loop g l = IsPassOf tally_fixed l.lock l.pass
+invariant-loop g l = HasMade l.lock l.counter l.pass
