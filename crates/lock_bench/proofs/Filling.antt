@@ -1,6 +1,5 @@
--- A turn makes an entry unless the tally is full, and passes that have taken as many turns as there is room for leave it full.
-use Rattle.std.proofs.Common.{◌≡◌, ◌≢◌, ◌⊎◌, ◌↔◌, inl, inr, ℕ, zero, suc, ◌+◌, ◌*◌, ◌<◌, ◌≤◌, List, [], ◌∷◌, ◌++◌, length, Bool, true, false, cond, IsTrue, eqb, eq-eqb, ne_eqb, sym, refl, ap, ◌∙◌, subst, arith, length-append, get_or, Some}
-use Rattle.std.proofs.lemmas.List.{map-append}
+-- Passes that have taken as many turns as the tally has room for leave it full.
+use Rattle.std.proofs.Common.{◌≡◌, ◌⊎◌, inl, inr, ℕ, zero, suc, ◌+◌, ◌*◌, ◌<◌, ◌≤◌, List, [], ◌∷◌, length, cond, eq-eqb, ne_eqb, sym, refl, ap, ◌∙◌, subst, arith, length-append, get_or, Some}
 use Rattle.std.proofs.Math.Nat.{suc-mul}
 use mathlib.Core.Logic.{dite}
 use native.Mathlib.Decide.{ℕ_discrete, dec_le}
@@ -13,7 +12,6 @@ use Rattle.table_lock.specs.Passes.{AreNumbered, lock_first, lock_seats, pass_nu
 use Rattle.lock_bench.specs.Made.{HasMade, HaveFilled, room_of}
 use Rattle.table_lock.specs.Entries.{Entry, History, mine, StartsWith}
 use Rattle.table_lock.specs.Tallies.{Tallied, tally_fixed, tally_history}
-use Rattle.table_lock.proofs.Maps.{mine_more}
 
 starts_le : (whole front : History) → StartsWith whole front → length front ≤ length whole
 starts_le whole front s = let e = ap length s.1 ∙ length-append front s.0 in omega arith
@@ -23,7 +21,7 @@ abbrev below : ℕ → History → ℕ
 below zero H = 0
 below (suc n) H = below n H + length (mine n H)
 
--- an entry counts where its number is below n, and once
+-- an entry of a pass with another number isn't counted, and one with such a number once
 below_no : (n : ℕ) (e : Entry) (H : History) → n ≤ e.0 → below n (e ∷ H) ≡ below n H
 below_no zero e H past = refl
 below_no (suc n) e H past =
