@@ -1,5 +1,5 @@
 -- A frame has one class.
-use Rattle.std.proofs.Common.{◌≡◌, ℕ, ◌+◌, ◌<◌, ◌≤◌, Bool, true, false, List, length, Option, Some, None, Result, Ok, Err, refl, sym, ap, ◌∙◌, subst, inl, inr, arith}
+use Rattle.std.proofs.Common.{◌≡◌, ℕ, Bool, List, Option, Some, None, Ok, Err, refl, sym, ap, ◌∙◌, subst, inl, inr, arith}
 use Rattle.savi_kinds.specs.Prefixes.{LiesIn, multicast}
 use Rattle.eth_frame.specs.declared.header.Eth.{Eth}
 use Rattle.eth_frame.specs.Frame.{payload_of}
@@ -12,12 +12,11 @@ use Rattle.v6_chain.specs.Packet.{IsPacket, IsRefused, header_of}
 use Rattle.v6_chain.specs.Outcome.{message_of}
 use Rattle.v6_chain.proofs.Unique.{one_outcome}
 use Rattle.nd_read.specs.declared.message.Nd.{Nd}
-use Rattle.nd_read.specs.declared.message.NdFault.{NdFault}
 use Rattle.nd_read.proofs.TestOrder.{same_reading}
 use Rattle.frame_class.specs.declared.classes.Class.{Class}
 use Rattle.frame_class.specs.declared.classes.Class.TheVariants.{Runt, Tagged, Other, BadIp, Ip6}
 use Rattle.frame_class.specs.declared.classes.Read.{Read}
-use Rattle.frame_class.specs.declared.classes.Read.TheVariants.{Bad, Hidden, Unknown, Later, Icmp, Udp, Plain}
+use Rattle.frame_class.specs.declared.classes.Read.TheVariants.{Icmp, Udp, Plain}
 use Rattle.frame_class.specs.Reading.{ipv6_type, IsTag, HasHeader, IsNdOf, IsMessageRead, IsReadBy, IsReadOf, IsClassOf}
 
 one_nd : (ip : Ip) (message : List ℕ) (fragmented : Bool) (a b : Option Nd) → IsNdOf ip message fragmented a → IsNdOf ip message fragmented b → a ≡ b

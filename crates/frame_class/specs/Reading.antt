@@ -54,7 +54,7 @@ IsMessageRead ip proto message behind_fragment (Udp to first fragmented) =
 IsMessageRead ip proto message behind_fragment Plain = (proto ≢ 58) × (proto ≢ 17)
 IsMessageRead ip proto message behind_fragment _ = ⊥
 
--- what a packet shows behind its fixed header, by what its header chain comes to
+-- what is read of a packet whose header chain comes to this outcome
 abbrev pub IsReadBy : Ip → List ℕ → Chain → Read → Type 0
 IsReadBy ip payload (chains.Bad fault) read = read ≡ Bad
 IsReadBy ip payload chains.Hidden read = read ≡ Hidden
@@ -62,6 +62,7 @@ IsReadBy ip payload (chains.Unknown value) read = read ≡ Unknown
 IsReadBy ip payload chains.Later read = read ≡ Later
 IsReadBy ip payload (chains.Upper proto at fragmented) read = IsMessageRead ip proto (message_of ip payload at) fragmented read
 
+-- what a packet shows behind its fixed header
 abbrev pub IsReadOf : Ip → List ℕ → Read → Type 0
 IsReadOf ip payload read = (outcome : Chain) × IsOutcome ip payload outcome × IsReadBy ip payload outcome read
 

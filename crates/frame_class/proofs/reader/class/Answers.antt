@@ -1,6 +1,5 @@
-use Rattle.std.proofs.Common.{ℕ, ◌-◌, List, length, take, drop, refl, subst}
+use Rattle.std.proofs.Common.{ℕ, List, refl, subst}
 use Rattle.std.proofs.lemmas.List.{take_rest}
-use Rattle.eth_frame.specs.declared.header.Eth.{Eth}
 use Rattle.frame_class.specs.Reading.{HasHeader, IsPacketClass, IsClassOf}
 use Rattle.frame_class.proofs.OneClass.{one_class}
 use Rattle.frame_class.proofs.Layers.{packet_class_is}
