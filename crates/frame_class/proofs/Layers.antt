@@ -1,0 +1,34 @@
+-- What each layer adds to the reading of a frame.
+use Rattle.std.proofs.Common.{◌≡◌, ℕ, ◌+◌, ◌-◌, List, length, take, drop, sym, ap, ◌∙◌, subst, arith}
+use Rattle.std.proofs.lemmas.List.{take_rest}
+use Rattle.eth_frame.specs.declared.header.Eth.{Eth}
+use Rattle.eth_frame.specs.Frame.{payload_of}
+use Rattle.v6_chain.specs.declared.packet.Ip.{Ip}
+use Rattle.v6_chain.specs.declared.packet.IpFault.{IpFault}
+use Rattle.v6_chain.specs.Packet.{IsPacket, IsRefused, body_of}
+use Rattle.v6_chain.specs.Outcome.{message_of}
+use Rattle.frame_class.specs.declared.classes.Class.{Class}
+use Rattle.frame_class.specs.declared.classes.Class.TheVariants.{Runt, Tagged, Other, BadIp, Ip6}
+use Rattle.frame_class.specs.Reading.{ipv6_type, HasHeader, IsReadOf, IsPacketClass, IsClassOf}
+
+-- the octets from a place of the body on are the message there
+pub message_is : (ip : Ip) (payload : List ℕ) (len place at : ℕ) → len ≡ ip.len → place ≡ at
+    → take (length (take (40 + len - 40) (drop 40 payload)) - place) (drop place (take (40 + len - 40) (drop 40 payload))) ≡ message_of ip payload at
+message_is ip payload len place at len_is place_is =
+    let counted : 40 + len - 40 ≡ ip.len = omega arith in
+    let body : take (40 + len - 40) (drop 40 payload) ≡ body_of ip payload = ap (λ (n : ℕ). take n (drop 40 payload)) counted in
+    take_rest (take (40 + len - 40) (drop 40 payload)) place
+    ∙ ap (λ (l : List ℕ). drop place l) body
+    ∙ ap (λ (n : ℕ). drop n (body_of ip payload)) place_is
+
+-- a frame with the EtherType of IPv6 is what its packet is
+pub packet_class_is : (frame : List ℕ) (eth : Eth) (class : Class) → HasHeader frame eth → eth.kind ≡ ipv6_type → IsPacketClass eth (payload_of frame) class → IsClassOf frame class
+packet_class_is frame eth (BadIp header) has kind is =
+    let P : Eth → Type 0 = λ e. HasHeader frame e × (e.kind ≡ ipv6_type) × ((fault : IpFault) × IsRefused (payload_of frame) fault) in
+    subst P (sym is.0) (has, kind, is.1)
+packet_class_is frame eth (Ip6 header ip read) has kind is =
+    let P : Eth → Type 0 = λ e. HasHeader frame e × (e.kind ≡ ipv6_type) × IsPacket (payload_of frame) ip × IsReadOf ip (payload_of frame) read in
+    subst P (sym is.0) (has, kind, is.1, is.2)
+packet_class_is frame eth Runt has kind is = absurd is
+packet_class_is frame eth (Tagged header) has kind is = absurd is
+packet_class_is frame eth (Other header) has kind is = absurd is

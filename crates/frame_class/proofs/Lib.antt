@@ -1,0 +1,3 @@
+pub mod LeastOctets
+pub mod OneClass
+pub mod Layers

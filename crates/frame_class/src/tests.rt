@@ -1,0 +1,140 @@
+//! A frame of each class, its octets written out by RFC 2464, RFC 8200, RFC 4861 and RFC 768.
+
+use crate::{Class, Read, class};
+use eth_frame::Eth;
+use nd_read::Nd;
+use savi_kinds::{Addr, FRAME_OCTETS_MOST, Mac};
+use std::test::Fail;
+use v6_chain::Ip;
+
+/// The header that each frame has, with its EtherType.
+fn eth(kind: u16) -> Eth {
+    Eth {
+        dst: Mac([0x33, 0x33, 0x00, 0x00, 0x00, 0x01]),
+        src: Mac([0x02, 0x00, 0x00, 0x00, 0x00, 0x22]),
+        kind,
+    }
+}
+
+/// A packet from fe80::22 to ff02::1.
+fn packet(next: u8, hop: u8, len: u16, read: Read) -> Class {
+    Class::Ip6 {
+        eth: eth(0x86dd),
+        ip: Ip {
+            src: Addr(0xfe80_0000_0000_0000_0000_0000_0000_0022),
+            dst: Addr(0xff02_0000_0000_0000_0000_0000_0000_0001),
+            next,
+            hop,
+            len,
+        },
+        read,
+    }
+}
+
+fn icmp(kind: u8, fragmented: bool, nd: Option<Nd>) -> Read {
+    Read::Icmp {
+        kind,
+        fragmented,
+        nd,
+    }
+}
+
+fn udp(to: u16, first: Option<u8>, fragmented: bool) -> Read {
+    Read::Udp {
+        to,
+        first,
+        fragmented,
+    }
+}
+
+#[test]
+fn frames_have_their_class(rt: HostRuntime) -> Result<(), Fail> {
+    for (name, octets, want) in [
+        ("13 octets", "33330000000102000000002286", Class::Runt),
+        (
+            "a customer tag",
+            "3333000000010200000000228100006486dd",
+            Class::Tagged { eth: eth(0x8100) },
+        ),
+        (
+            "a service tag",
+            "33330000000102000000002288a80064",
+            Class::Tagged { eth: eth(0x88a8) },
+        ),
+        (
+            "ARP",
+            "33330000000102000000002208060001",
+            Class::Other { eth: eth(0x0806) },
+        ),
+        (
+            "version 4",
+            "33330000000102000000002286dd4000000000003b40fe800000000000000000000000000022ff020000000000000000000000000001",
+            Class::BadIp { eth: eth(0x86dd) },
+        ),
+        (
+            "two fragment headers",
+            "33330000000102000000002286dd6000000000102c40fe800000000000000000000000000022ff0200000000000000000000000000012c000001000000023b00000100000002",
+            packet(44, 64, 16, Read::Bad),
+        ),
+        (
+            "destination options cut in a first fragment",
+            "33330000000102000000002286dd6000000000102c40fe800000000000000000000000000022ff0200000000000000000000000000013c000001000000023a01010c00000000",
+            packet(44, 64, 16, Read::Hidden),
+        ),
+        (
+            "next header 253, for experiments",
+            "33330000000102000000002286dd600000000000fd40fe800000000000000000000000000022ff020000000000000000000000000001",
+            packet(253, 64, 0, Read::Unknown),
+        ),
+        (
+            "a second fragment",
+            "33330000000102000000002286dd6000000000082c40fe800000000000000000000000000022ff0200000000000000000000000000013a00000800000002",
+            packet(44, 64, 8, Read::Later),
+        ),
+        (
+            "a router advertisement",
+            "33330000000102000000002286dd6000000000103afffe800000000000000000000000000022ff02000000000000000000000000000186003506400007080000000000000000",
+            packet(58, 255, 16, icmp(134, false, Some(Nd::Ra))),
+        ),
+        (
+            "the first fragment of one",
+            "33330000000102000000002286dd6000000000182cfffe800000000000000000000000000022ff0200000000000000000000000000013a0000010000000186003506400007080000000000000000",
+            packet(44, 255, 24, icmp(134, true, None)),
+        ),
+        (
+            "a router solicitation that a router forwarded",
+            "33330000000102000000002286dd6000000000083a40fe800000000000000000000000000022ff0200000000000000000000000000018500000000000000",
+            packet(58, 64, 8, icmp(133, false, None)),
+        ),
+        (
+            "an echo request",
+            "33330000000102000000002286dd6000000000083a40fe800000000000000000000000000022ff0200000000000000000000000000018000000000000000",
+            packet(58, 64, 8, icmp(128, false, Some(Nd::Other))),
+        ),
+        (
+            "UDP to 547 with payload",
+            "33330000000102000000002286dd6000000000091140fe800000000000000000000000000022ff02000000000000000000000000000102220223000900000d",
+            packet(17, 64, 9, udp(547, Some(13), false)),
+        ),
+        (
+            "UDP to 546 with none",
+            "33330000000102000000002286dd6000000000081140fe800000000000000000000000000022ff0200000000000000000000000000010223022200080000",
+            packet(17, 64, 8, udp(546, None, false)),
+        ),
+        (
+            "UDP behind a fragment header",
+            "33330000000102000000002286dd6000000000102c40fe800000000000000000000000000022ff02000000000000000000000000000111000000000000010222022300080000",
+            packet(44, 64, 16, udp(547, None, true)),
+        ),
+        (
+            "no next header",
+            "33330000000102000000002286dd6000000000003b40fe800000000000000000000000000022ff020000000000000000000000000001",
+            packet(59, 64, 0, Read::Plain),
+        ),
+    ] {
+        let frame = hex::decode(rt.alloc(), octets)?;
+        assert!(rt; frame.len() <= FRAME_OCTETS_MOST, "{name}");
+        assert_eq!(rt; class(&frame), want, "{name}");
+    }
+    Ok(())
+}

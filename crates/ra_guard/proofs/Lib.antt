@@ -1,0 +1,3 @@
+pub mod RuleOrder
+pub mod HeaderRules
+pub mod Stopping
