@@ -1,5 +1,5 @@
 -- The texts of a MAC address (RFC 7042 section 2.1): six pairs of hexadecimal digits with colons between.
-use Rattle.std.specs.Prelude.{ℕ, ◌/◌, ◌%◌, ◌≡◌, List, [], ◌∷◌, All, map, length, nat_lt, ◌+◌, if◌then◌else◌}
+use Rattle.std.specs.Prelude.{ℕ, ◌/◌, ◌%◌, ◌≡◌, List, [], ◌∷◌, ◌++◌, All, map, length, nat_lt, ◌+◌, if◌then◌else◌}
 use Rattle.std.specs.List.{join_with_byte}
 use Rattle.std.specs.Str.Parse.{AllDigits, digits_value}
 use Rattle.savi_kinds.specs.declared.address.Mac.{Mac}
@@ -31,3 +31,11 @@ pub record IsMacText (text : List ℕ) (mac : Mac) : Type 0 where
   pub six : length pairs ≡ 6
   pub spelled : text ≡ join_with_byte colon pairs
   pub value : mac.0 ≡ map (digits_value 16) pairs
+
+-- the text begins with a pair that writes this octet, and `rest` stands behind it
+abbrev pub BeginsWithPair : List ℕ → ℕ → List ℕ → Type 0
+BeginsWithPair text octet rest = (pair : List ℕ) × IsPair pair × (octet ≡ digits_value 16 pair) × (text ≡ pair ++ rest)
+
+-- the same behind a colon
+abbrev pub BeginsWithNext : List ℕ → ℕ → List ℕ → Type 0
+BeginsWithNext text octet rest = (next : List ℕ) × (text ≡ colon ∷ next) × BeginsWithPair next octet rest
