@@ -48,7 +48,7 @@ abbrev pub IsAddrText : List ℕ → Addr → Type 0
 IsAddrText text a = IsWhole text a ⊎ IsCompressed text a
 
 -- the eight numbers of 16 bits that an address is, the highest first
-abbrev pub groups_of : Addr → List ℕ
+unfoldable pub groups_of : Addr → List ℕ
 groups_of a =
     (a.0 / 2 ^ 112 % 2 ^ 16) ∷ (a.0 / 2 ^ 96 % 2 ^ 16) ∷ (a.0 / 2 ^ 80 % 2 ^ 16) ∷ (a.0 / 2 ^ 64 % 2 ^ 16)
     ∷ (a.0 / 2 ^ 48 % 2 ^ 16) ∷ (a.0 / 2 ^ 32 % 2 ^ 16) ∷ (a.0 / 2 ^ 16 % 2 ^ 16) ∷ (a.0 % 2 ^ 16) ∷ []
@@ -59,13 +59,16 @@ groups_text groups = joined (map hex groups)
 
 -- The spelling of RFC 5952 section 4: '::' in place of the longest run of zero groups, and of two as long in place of
 -- the first; a single zero group is written as it is.
-unfoldable pub addr_text : Addr → List ℕ
-addr_text a =
-    let groups = groups_of a in
+unfoldable pub spelling : List ℕ → List ℕ
+spelling groups =
     let run = longest_zero_run groups in
     if nat_lt 1 run.1
     then groups_text (take run.0 groups) ++ codes "::" ++ groups_text (drop (run.0 + run.1) groups)
     else groups_text groups
+
+-- the text of an address that is written
+abbrev pub addr_text : Addr → List ℕ
+addr_text a = spelling (groups_of a)
 
 -- from `start` on stand `len` groups of zeros
 pub record IsZeroRun (groups : List ℕ) (start len : ℕ) : Type 0 where

@@ -77,13 +77,11 @@ fn push_groups(text: &mut ArrayString<39>, groups: &[u16])
     ensures bytes { text.new.bytes ≡ text.old.bytes ++ groups_text groups.now }
     ensures len { array_string_len text.new ≤ array_string_len text.old + 5 * length groups.now }
 {
-    let mut first = true;
-    for group in groups {
-        if !first {
+    for (i, group) in groups.iter().enumerate() {
+        if i > 0 {
             text.push(':');
         }
         push_group(text, *group);
-        first = false;
     }
 }
 
