@@ -1,3 +1,4 @@
 pub mod Members
 pub mod AddrGrammar
 pub mod AddrSpelling
+pub mod MacGrammar
