@@ -1,5 +1,5 @@
 -- The texts of addresses in the words of the library's grammar, which reads IPv4 tails too.
-use Rattle.std.proofs.Common.{ℕ, zero, suc, ◌≡◌, ◌≢◌, ◌+◌, ◌-◌, ◌*◌, ◌/◌, ◌%◌, ◌^◌, ◌<◌, ◌≤◌, ◌==◌, Bool, true, false, List, [], ◌∷◌, ◌++◌, All, map, length, get_or, take, drop, replicate, flat_map, decimal, refl, sym, ap, ap₂, ◌∙◌, subst, arith, inl, inr, append_assoc, append-nil, eq-eqb, ne_eqb, length-append, true≢false, Option, Some, None, Result, Ok, Err, if◌then◌else◌}
+use Rattle.std.proofs.Common.{ℕ, zero, suc, ◌≡◌, ◌≢◌, ◌+◌, ◌-◌, ◌*◌, ◌/◌, ◌%◌, ◌^◌, ◌<◌, ◌≤◌, ◌==◌, Bool, true, false, List, [], ◌∷◌, ◌++◌, All, map, length, get_or, take, drop, replicate, flat_map, decimal, refl, sym, ap, ap₂, ◌∙◌, subst, arith, inl, inr, append_assoc, append-nil, eq-eqb, ne_eqb, length-append, true≢false, lit≤, Option, Some, None, Result, Ok, Err, if◌then◌else◌}
 use Rattle.std.specs.List.{list_any}
 use Rattle.std.proofs.lemmas.Bool.{cases_eq}
 use Rattle.std.proofs.lemmas.List.{length-map, length-replicate}
@@ -18,21 +18,32 @@ use Rattle.std.proofs.NetLemmas.Theorems.{IsIpv6Text_unique}
 use Rattle.savi_kinds.specs.declared.address.Addr.{Addr}
 use Rattle.savi_kinds.specs.AddrText.{IsGroup, numbers_of, joined, number_of_groups, IsWhole, IsCompressed, IsAddrText}
 
--- how many dots a text has
+-- how often a character stands in a text
+abbrev pub marks : ℕ → List ℕ → ℕ
+marks b [] = 0
+marks b (c ∷ cs) = (if c == b then 1 else 0) + marks b cs
+
+-- neither a hexadecimal digit nor a colon
+abbrev pub IsMark : ℕ → Type 0
+IsMark b = (16 ≤ digit_value b) × (58 ≢ b)
+
+-- '.', which stands in IPv4 tails alone, and '/'
 abbrev pub dots : List ℕ → ℕ
-dots [] = 0
-dots (c ∷ cs) = (if c == 46 then 1 else 0) + dots cs
+dots text = marks 46 text
+
+pub marks-append : (b : ℕ) (xs ys : List ℕ) → marks b (xs ++ ys) ≡ marks b xs + marks b ys
+marks-append b [] ys = omega arith
+marks-append b (x ∷ xs) ys = omega (arith, marks-append b xs ys)
 
 dots-append : (xs ys : List ℕ) → dots (xs ++ ys) ≡ dots xs + dots ys
-dots-append [] ys = omega arith
-dots-append (x ∷ xs) ys = omega (arith, dots-append xs ys)
+dots-append xs ys = marks-append 46 xs ys
 
-dots-digits : (ds : List ℕ) → AllDigits 16 ds → dots ds ≡ 0
-dots-digits [] h = refl
-dots-digits (d ∷ ds) h =
-    elim (cases_eq d 46) [
-      | inl dot ↦ let no_digit : digit_value d ≡ 36 = ap digit_value dot in absurd (omega (arith, h.0))
-      | inr other ↦ rw (ne_eqb d 46 other) (omega (arith, dots-digits ds h.1))
+marks-digits : (b : ℕ) → IsMark b → (ds : List ℕ) → AllDigits 16 ds → marks b ds ≡ 0
+marks-digits b mark [] h = refl
+marks-digits b mark (d ∷ ds) h =
+    elim (cases_eq d b) [
+      | inl same ↦ let value : digit_value d ≡ digit_value b = ap digit_value same in absurd (omega (arith, h.0, mark.0))
+      | inr other ↦ rw (ne_eqb d b other) (omega (arith, marks-digits b mark ds h.1))
     ]
 
 pub dots-any : (text : List ℕ) → list_any (λ c. c == 46) text ≡ false → dots text ≡ 0
@@ -66,13 +77,15 @@ joined-behind : (g : List ℕ) (gs : List (List ℕ)) → joined (g ∷ gs) ≡ 
 joined-behind g [] = sym (append-nil g)
 joined-behind g (h ∷ gs) = ap (λ t. g ++ (58 ∷ t)) (joined-behind h gs)
 
-dots-behind : (gs : List (List ℕ)) → All IsGroup gs → dots (behind gs) ≡ 0
-dots-behind [] h = refl
-dots-behind (g ∷ gs) h = omega (arith, dots-append g (behind gs), dots-digits g (All-head IsGroup g gs h).0.1, dots-behind gs (All-tail IsGroup g gs h))
+marks-behind : (b : ℕ) → IsMark b → (gs : List (List ℕ)) → All IsGroup gs → marks b (behind gs) ≡ 0
+marks-behind b mark [] h = refl
+marks-behind b mark (g ∷ gs) h =
+    rw (ne_eqb 58 b mark.1) (omega (arith, marks-append b g (behind gs), marks-digits b mark g (All-head IsGroup g gs h).0.1, marks-behind b mark gs (All-tail IsGroup g gs h)))
 
-dots-joined : (gs : List (List ℕ)) → All IsGroup gs → dots (joined gs) ≡ 0
-dots-joined [] h = refl
-dots-joined (g ∷ gs) h = rw joined-behind (omega (arith, dots-append g (behind gs), dots-digits g (All-head IsGroup g gs h).0.1, dots-behind gs (All-tail IsGroup g gs h)))
+marks-joined : (b : ℕ) → IsMark b → (gs : List (List ℕ)) → All IsGroup gs → marks b (joined gs) ≡ 0
+marks-joined b mark [] h = refl
+marks-joined b mark (g ∷ gs) h =
+    rw joined-behind (omega (arith, marks-append b g (behind gs), marks-digits b mark g (All-head IsGroup g gs h).0.1, marks-behind b mark gs (All-tail IsGroup g gs h)))
 
 more_groups : (ipv4 : Bool) (gs : List (List ℕ)) → All IsGroup gs → IsGroupsAfter ipv4 (58 ∷ []) (behind gs) (numbers_of gs)
 more_groups ipv4 [] h = refl
@@ -131,14 +144,12 @@ pub record InGrammar (text : List ℕ) (a : Addr) : Type 0 where
   pub numbers : List ℕ
   pub colon_hex : IsColonHex text numbers
   pub value : a.0 ≡ number_of_groups numbers
-  pub no_dot : dots text ≡ 0
 
 whole_in_grammar : (text : List ℕ) (a : Addr) → IsWhole text a → InGrammar text a
 whole_in_grammar text a h = record {
   numbers = numbers_of h.groups;
   colon_hex = inl (rw h.spelled (groups_in_grammar true h.groups h.hex_digits), length-map h.groups (digits_value 16) ∙ h.eight);
   value = h.value;
-  no_dot = ap dots h.spelled ∙ dots-joined h.groups h.hex_digits;
 }
 
 compressed_in_grammar : (text : List ℕ) (a : Addr) → IsCompressed text a → InGrammar text a
@@ -160,12 +171,21 @@ compressed_in_grammar text a h =
         value = ap (λ n. numbers_of h.front ++ replicate n 0 ++ numbers_of h.back) (sym gap);
       });
       value = h.value;
-      no_dot = omega (arith, ap dots h.spelled, dots-append (joined h.front ++ (58 ∷ 58 ∷ [])) (joined h.back), dots-append (joined h.front) (58 ∷ 58 ∷ []), dots-joined h.front h.hex_front, dots-joined h.back h.hex_back);
     }
 
 pub in_grammar : (text : List ℕ) (a : Addr) → IsAddrText text a → InGrammar text a
 in_grammar text a (inl h) = whole_in_grammar text a h
 in_grammar text a (inr h) = compressed_in_grammar text a h
+
+-- a mark stands in no text of an address
+pub no_mark : (b : ℕ) → IsMark b → (text : List ℕ) (a : Addr) → IsAddrText text a → marks b text ≡ 0
+no_mark b mark text a (inl h) = ap (marks b) h.spelled ∙ marks-joined b mark h.groups h.hex_digits
+no_mark b mark text a (inr h) =
+    let colons : marks b (58 ∷ 58 ∷ []) ≡ 0 = rw (ne_eqb 58 b mark.1) in
+    omega (arith, ap (marks b) h.spelled, marks-append b (joined h.front ++ (58 ∷ 58 ∷ [])) (joined h.back), marks-append b (joined h.front) (58 ∷ 58 ∷ []), marks-joined b mark h.front h.hex_front, marks-joined b mark h.back h.hex_back)
+
+pub no_dot : (text : List ℕ) (a : Addr) → IsAddrText text a → dots text ≡ 0
+no_dot = no_mark 46 (lit≤ tt, λ e. omega arith)
 
 pub from_grammar : (text numbers : List ℕ) (a : Addr) → IsColonHex text numbers → dots text ≡ 0 → a.0 ≡ number_of_groups numbers → IsAddrText text a
 from_grammar text numbers a (inl h) none value =

@@ -2,3 +2,5 @@ pub mod Members
 pub mod AddrGrammar
 pub mod AddrSpelling
 pub mod MacGrammar
+pub mod LengthGrammar
+pub mod PrefixGrammar
