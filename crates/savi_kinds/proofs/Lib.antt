@@ -4,3 +4,4 @@ pub mod AddrSpelling
 pub mod MacGrammar
 pub mod LengthGrammar
 pub mod PrefixGrammar
+pub mod AddrWritten

@@ -1,5 +1,5 @@
 -- The texts of a MAC address (RFC 7042 section 2.1): six pairs of hexadecimal digits with colons between.
-use Rattle.std.specs.Prelude.{ℕ, ◌/◌, ◌%◌, ◌≡◌, List, [], ◌∷◌, ◌++◌, All, map, length, nat_lt, ◌+◌, if◌then◌else◌}
+use Rattle.std.specs.Prelude.{ℕ, ◌/◌, ◌%◌, ◌^◌, ◌<◌, ◌≡◌, List, [], ◌∷◌, ◌++◌, All, map, length, nat_lt, ◌+◌, if◌then◌else◌}
 use Rattle.std.specs.List.{join_with_byte}
 use Rattle.std.specs.Str.Parse.{AllDigits, digits_value}
 use Rattle.savi_kinds.specs.declared.address.Mac.{Mac}
@@ -15,6 +15,10 @@ hex_pair octet = hex_digit (octet / 16) ∷ hex_digit (octet % 16) ∷ []
 -- ':'
 abbrev pub colon : ℕ
 colon = 58
+
+-- what the type keeps: six numbers of eight bits
+abbrev pub HasSixOctets : Mac → Type 0
+HasSixOctets mac = (length mac.0 ≡ 6) × All (λ octet. octet < 2 ^ 8) mac.0
 
 -- the text that is written, in lower case
 abbrev pub mac_text : Mac → List ℕ
