@@ -1,5 +1,5 @@
 -- The texts of addresses in the words of the library's grammar, which reads IPv4 tails too.
-use Rattle.std.proofs.Common.{ℕ, zero, suc, ◌≡◌, ◌≢◌, ◌+◌, ◌-◌, ◌*◌, ◌/◌, ◌%◌, ◌^◌, ◌<◌, ◌≤◌, ◌==◌, Bool, true, false, List, [], ◌∷◌, ◌++◌, All, map, length, get_or, take, drop, replicate, flat_map, decimal, refl, sym, ap, ap₂, ◌∙◌, subst, arith, inl, inr, append_assoc, append-nil, eq-eqb, ne_eqb, length-append, true≢false, lit≤, Option, Some, None, Result, Ok, Err, if◌then◌else◌}
+use Rattle.std.proofs.Common.{ℕ, ◌≡◌, ◌≢◌, ◌+◌, ◌-◌, ◌≤◌, ◌==◌, Bool, true, false, List, [], ◌∷◌, ◌++◌, All, length, replicate, decimal, refl, sym, ap, ap₂, ◌∙◌, subst, arith, inl, inr, append-nil, eq-eqb, ne_eqb, length-append, true≢false, lit≤, Option, Some, None, Result, Ok, Err, if◌then◌else◌}
 use Rattle.std.specs.List.{list_any}
 use Rattle.std.proofs.lemmas.Bool.{cases_eq}
 use Rattle.std.proofs.lemmas.List.{length-map, length-replicate}
@@ -10,8 +10,7 @@ use Rattle.std.specs.Str.Parse.{AllDigits, digits_value}
 use Rattle.std.specs.Char.{digit_value}
 use Rattle.std.specs.Int.{w128, from_be_bytes}
 use Rattle.std.specs.Net.Addr.{octets_of, ipv6_bits, ipv6_segments}
-use Rattle.std.specs.Net.Grammar.{IsGroupsAfter, IsGroups, IsElided, IsColonHex, IsDotted, IsIpv6Text, Parses}
-use Rattle.std.specs.Net.Text.{dotted_text}
+use Rattle.std.specs.Net.Grammar.{IsGroupsAfter, IsGroups, IsColonHex, IsDotted, IsIpv6Text, Parses}
 use Rattle.std.specs.declared.net.ipv6_addr.Ipv6Addr.{Ipv6Addr}
 use Rattle.std.proofs.NetLemmas.Arrays.{eight_items}
 use Rattle.std.proofs.NetLemmas.Theorems.{IsIpv6Text_unique}

@@ -1,7 +1,7 @@
 -- What is written of an address and of a prefix is read again.
-use Rattle.std.proofs.Common.{ℕ, zero, suc, ◌≡◌, ◌≢◌, ◌==◌, ◌+◌, ◌-◌, ◌*◌, ◌/◌, ◌%◌, ◌^◌, ◌<◌, ◌≤◌, ◌⊎◌, Bool, true, false, List, [], ◌∷◌, ◌++◌, All, map, length, get_or, take, drop, replicate, flat_map, decimal, refl, sym, ap, ap₂, ◌∙◌, subst, arith, inl, inr, nat_lt, lt-ltb, le-ltb, eq-eqb, ne_eqb, append-nil, append_assoc, length-append, length-drop, length-take-le, if◌then◌else◌}
-use Rattle.std.proofs.lemmas.Bool.{cases_lt, cases_eq, cond_both}
-use Rattle.std.proofs.lemmas.List.Elements.{All-nil, All-cons, All-head, All-tail, All-weaker}
+use Rattle.std.proofs.Common.{ℕ, zero, suc, ◌≡◌, ◌+◌, ◌*◌, ◌/◌, ◌%◌, ◌^◌, ◌<◌, ◌≤◌, List, [], ◌∷◌, ◌++◌, All, length, take, drop, flat_map, refl, sym, ap, ap₂, ◌∙◌, subst, arith, inl, inr, nat_lt, lt-ltb, le-ltb, ne_eqb, append-nil, length-append, length-drop, length-take-le, if◌then◌else◌}
+use Rattle.std.proofs.lemmas.Bool.{cases_lt, cases_eq}
+use Rattle.std.proofs.lemmas.List.Elements.{All-head, All-tail, All-weaker}
 use Rattle.std.proofs.Math.Nat.{div-div-eq-div-mul}
 use Rattle.std.specs.Net.Text as Std
 use Rattle.std.specs.Net.Text.{hex, longest_zero_run, hex_groups_text}

@@ -1,5 +1,5 @@
 -- The texts of MAC addresses, a pair at a time.
-use Rattle.std.proofs.Common.{ℕ, suc, ◌≡◌, ◌≢◌, ◌==◌, Bool, true, false, true≢false, eq-eqb, ne_eqb, ◌+◌, ◌-◌, ◌*◌, ◌/◌, ◌%◌, ◌<◌, ◌≤◌, List, [], ◌∷◌, ◌++◌, All, Option, Some, None, IfNone, map, length, take, drop, refl, sym, ap, ap₂, ◌∙◌, subst, arith, append-nil}
+use Rattle.std.proofs.Common.{ℕ, ◌≡◌, ◌≢◌, ◌==◌, Bool, true, false, true≢false, eq-eqb, ne_eqb, ◌-◌, ◌/◌, ◌%◌, ◌<◌, List, [], ◌∷◌, ◌++◌, All, Option, Some, None, IfNone, map, length, take, drop, refl, sym, ap, ap₂, ◌∙◌, subst, arith, append-nil}
 use Rattle.std.proofs.lemmas.List.{length-map, take_at, drop_at}
 use Rattle.std.proofs.lemmas.List.Elements.{All-nil, All-cons, All-head, All-tail}
 use Rattle.std.specs.List.{join_with_byte}
@@ -66,18 +66,18 @@ octets_in (p ∷ ps) text some h e = (behind ps, (p, All-head IsPair p ps h, ref
 pub from_octets : (text : List ℕ) (mac : Mac) → length mac.0 ≡ 6 → Octets text mac.0 → IsMacText text mac
 from_octets text mac six h = go text mac.0 mac refl six h
   where
-  go : (text os : List ℕ) (mac : Mac) → mac.0 ≡ os → length mac.0 ≡ 6 → Octets text os → IsMacText text mac
-  go text [] mac is six h = absurd h
-  go text (o ∷ os) mac is six h =
-      let (rest, (pair, is_pair, value, split), more) = h in
-      let later = pairs_of os rest more in
-      record {
-        pairs = pair ∷ later.pairs;
-        hex_digits = All-cons IsPair pair later.pairs is_pair later.hex;
-        six = omega (arith, six, ap length is, ap length later.value, length-map later.pairs (digits_value 16));
-        spelled = split ∙ ap (λ t. pair ++ t) later.spelled ∙ sym (joined-behind pair later.pairs);
-        value = is ∙ ap₂ ◌∷◌ value later.value;
-      }
+    go : (text os : List ℕ) (mac : Mac) → mac.0 ≡ os → length mac.0 ≡ 6 → Octets text os → IsMacText text mac
+    go text [] mac is six h = absurd h
+    go text (o ∷ os) mac is six h =
+        let (rest, (pair, is_pair, value, split), more) = h in
+        let later = pairs_of os rest more in
+        record {
+          pairs = pair ∷ later.pairs;
+          hex_digits = All-cons IsPair pair later.pairs is_pair later.hex;
+          six = omega (arith, six, ap length is, ap length later.value, length-map later.pairs (digits_value 16));
+          spelled = split ∙ ap (λ t. pair ++ t) later.spelled ∙ sym (joined-behind pair later.pairs);
+          value = is ∙ ap₂ ◌∷◌ value later.value;
+        }
 
 -- a text of a MAC address holds six octets
 pub octets_of : (text : List ℕ) (mac : Mac) → IsMacText text mac → (os : List ℕ) × Octets text os × (length os ≡ 6)

@@ -1,5 +1,5 @@
 -- The texts of prefixes: an address in front of the first slash, and a length behind it.
-use Rattle.std.proofs.Common.{ℕ, zero, suc, ◌≡◌, ◌≢◌, ◌==◌, ◌+◌, ◌-◌, ◌*◌, ◌^◌, ◌%◌, ◌<◌, ◌≤◌, Bool, true, false, List, [], ◌∷◌, ◌++◌, Option, Some, None, length, take, drop, get_or, decimal, refl, sym, ap, ap₂, ◌∙◌, subst, arith, cond, nat_lt, inl, inr, append_assoc, length-drop, add-one, take-append-drop, drop-cons, eq-eqb, ne_eqb, lt-ltb, le-ltb, lit≤, length-append, one-add}
+use Rattle.std.proofs.Common.{ℕ, ◌≡◌, ◌≢◌, ◌==◌, ◌+◌, ◌-◌, ◌*◌, ◌^◌, ◌%◌, ◌<◌, ◌≤◌, List, [], ◌∷◌, ◌++◌, Some, None, length, take, drop, get_or, decimal, refl, sym, ap, ap₂, ◌∙◌, subst, arith, inl, inr, append_assoc, length-drop, add-one, take-append-drop, drop-cons, eq-eqb, ne_eqb, lt-ltb, lit≤, length-append}
 use Rattle.std.proofs.lemmas.Bool.{cases_eq}
 use Rattle.std.proofs.lemmas.Option.{none-some}
 use Rattle.std.proofs.lemmas.List.{take_at, drop_at, take_all}

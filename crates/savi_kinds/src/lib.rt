@@ -19,6 +19,8 @@ mod mac_text;
 mod plan;
 mod port;
 mod prefix_text;
+#[cfg(test)]
+mod tests;
 mod text;
 mod text_laws;
 mod verdict;
@@ -38,7 +40,8 @@ pub use port::{Port, PortSet};
 pub use prefix_text::read_prefix;
 pub use text::Text;
 pub use text_laws::{
-    a_text_is_of_one_addr, a_text_is_of_one_mac, a_text_is_of_one_prefix, addr_texts_are_plain, addr_texts_are_read_again,
-    addr_texts_have_one_spelling, mac_texts_are_read_again, prefix_texts_are_read_again,
+    a_text_is_of_one_addr, a_text_is_of_one_mac, a_text_is_of_one_prefix, addr_texts_are_plain,
+    addr_texts_are_read_again, addr_texts_have_one_spelling, mac_texts_are_read_again,
+    prefix_texts_are_read_again,
 };
 pub use verdict::{Rule, Scope, Verdict};

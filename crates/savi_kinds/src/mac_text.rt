@@ -83,14 +83,3 @@ fn push_pair(text: &mut ArrayString<17>, octet: u8)
     text.push(put_digit(octet >> 4));
     text.push(put_digit(octet & 0x0f));
 }
-
-#[cfg(test)]
-mod tests {
-    use super::*;
-
-    #[test]
-    fn a_mac_is_six_pairs_in_lower_case(rt: HostRuntime) {
-        let text = put_mac(Mac([0x02, 0x00, 0x5e, 0xab, 0xcd, 0xef]));
-        assert_eq!(rt; text.as_str(), "02:00:5e:ab:cd:ef");
-    }
-}

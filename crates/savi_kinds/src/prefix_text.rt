@@ -42,7 +42,11 @@ fn read_len(digits: &[u8]) -> Option<u8>
         return None;
     }
     let len = str::from_utf8(digits).ok()?.parse().ok()?;
-    if len <= PREFIX_BITS_MOST { Some(len) } else { None }
+    if len <= PREFIX_BITS_MOST {
+        Some(len)
+    } else {
+        None
+    }
 }
 
 // Whether the first character is a digit other than '0'.

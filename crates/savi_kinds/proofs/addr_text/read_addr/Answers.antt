@@ -1,10 +1,6 @@
-use Rattle.std.proofs.Common.{◌≡◌, true≢false, sym, ◌∙◌}
-use Rattle.std.specs.Net.Addr.{ipv6_segments}
-use Rattle.savi_kinds.specs.declared.address.Addr.{Addr}
-use Rattle.savi_kinds.specs.AddrText.{IsAddrText}
+use Rattle.std.proofs.Common.{true≢false, sym, ◌∙◌}
 use Rattle.savi_kinds.proofs.AddrGrammar.{no_dot, dots-any, any-dots, refused, taken}
 use Rattle.savi_kinds.proofs.addr_text.read_addr.Goals as goal
-
 
 pub returns-then-contains-clause-only : goal.returns-then-contains-clause-only
 returns-then-contains-clause-only c = λ a h. true≢false (sym c.if-contains.true ∙ c.contains.ensures.value ∙ any-dots _ (no_dot _ a h))

@@ -1,5 +1,4 @@
-use Rattle.std.proofs.Common.{ℕ, ◌<◌, length, drop, refl, arith, length-drop}
-use Rattle.savi_kinds.specs.declared.address.Mac.{Mac}
+use Rattle.std.proofs.Common.{ℕ, refl, arith, length-drop}
 use Rattle.savi_kinds.proofs.MacGrammar.{octets_of, after_first, after_next, no_first, no_next, nothing_left, left_none, left_some, from_octets}
 use Rattle.savi_kinds.proofs.mac_text.read_mac.Goals as goal
 

@@ -1,4 +1,3 @@
-use Rattle.std.proofs.Common.{ℕ, List, IfNone}
 use Rattle.savi_kinds.proofs.MacGrammar.{no_pair_behind}
 use Rattle.savi_kinds.proofs.mac_text.read_next.Goals as goal
 
