@@ -53,13 +53,13 @@ groups-octets n =
     ap₂ ◌∷◌ (two_octets n (2 ^ 112)) (ap₂ ◌∷◌ (two_octets n (2 ^ 96)) (ap₂ ◌∷◌ (two_octets n (2 ^ 80)) (ap₂ ◌∷◌ (two_octets n (2 ^ 64)) (ap₂ ◌∷◌ (two_octets n (2 ^ 48)) (ap₂ ◌∷◌ (two_octets n (2 ^ 32)) (ap₂ ◌∷◌ (two_octets n (2 ^ 16)) (ap₂ ◌∷◌ last refl)))))))
 
 -- a run of two groups of zeros and more is written '::', and a shorter one as it is
-pub long_run : (groups : List ℕ) (run : ℕ × ℕ) → run ≡ longest_zero_run groups → 1 < run.1 → groups_text (take run.0 groups) ++ (58 ∷ 58 ∷ []) ++ groups_text (drop (run.0 + run.1) groups) ≡ spelling groups
+pub long_run : (groups : List ℕ) (run : ℕ × ℕ) → run ≡ longest_zero_run groups → 2 ≤ run.1 → groups_text (take run.0 groups) ++ (58 ∷ 58 ∷ []) ++ groups_text (drop (run.0 + run.1) groups) ≡ spelling groups
 unfolding spelling
 long_run groups run is long = rw (← is, lt-ltb 1 run.1 long)
 
-pub short_run : (groups : List ℕ) (run : ℕ × ℕ) → run ≡ longest_zero_run groups → run.1 ≤ 1 → groups_text groups ≡ spelling groups
+pub short_run : (groups : List ℕ) (run : ℕ × ℕ) → run ≡ longest_zero_run groups → run.1 < 2 → groups_text groups ≡ spelling groups
 unfolding spelling
-short_run groups run is short = rw (← is, le-ltb 1 run.1 short)
+short_run groups run is short = rw (← is, le-ltb 1 run.1 (omega (arith, short)))
 
 -- a digit written, and none
 pub step_some : (least n d r : ℕ) (old mid new : List ℕ) → least ≤ n → mid ≡ new → new ≡ old ++ (r ∷ []) → r ≡ hex_digit d → mid ≡ old ++ digit_from least n d

@@ -9,8 +9,16 @@ use crate::digit::put_digit;
 use arrayvec::ArrayString;
 use std::net::Ipv6Addr;
 
-// What separates groups of an address, and stands twice for the groups of zeros that are left out.
+// What stands for the groups of zeros that are left out.
 const COLONS: &str = "::";
+
+// The groups of zeros that are left out at least (RFC 5952 section 4.2.2).
+const RUN_LEAST: usize = 2;
+
+// The least groups that have four, three and two digits.
+const FOUR_DIGITS: u16 = 0x1000;
+const THREE_DIGITS: u16 = 0x100;
+const TWO_DIGITS: u16 = 0x10;
 
 /// Reads an IPv6 address (RFC 4291 section 2.2): eight groups of one to four hexadecimal digits of either case with
 /// colons between them, or fewer groups and one `::` for one group of zeros or more.
@@ -35,8 +43,7 @@ pub fn put_addr(a: Addr) -> ArrayString<39>
     let groups = groups_of(a);
     let (start, len) = longest_zero_run(&groups);
     let mut text = ArrayString::new();
-    // A single group of zeros is not shortened (RFC 5952 section 4.2.2).
-    if len > 1 {
+    if len >= RUN_LEAST {
         push_groups(&mut text, &groups[..start]);
         text.push_str(COLONS);
         push_groups(&mut text, &groups[start + len..]);
@@ -91,13 +98,13 @@ fn push_group(text: &mut ArrayString<39>, group: u16)
     ensures bytes { text.new.bytes ≡ text.old.bytes ++ hex group }
     ensures len { array_string_len text.new ≤ array_string_len text.old + 4 }
 {
-    if group >= 0x1000 {
+    if group >= FOUR_DIGITS {
         text.push(put_digit((group >> 12) as u8));
     }
-    if group >= 0x100 {
+    if group >= THREE_DIGITS {
         text.push(put_digit((group >> 8 & 0x0f) as u8));
     }
-    if group >= 0x10 {
+    if group >= TWO_DIGITS {
         text.push(put_digit((group >> 4 & 0x0f) as u8));
     }
     text.push(put_digit((group & 0x0f) as u8));
