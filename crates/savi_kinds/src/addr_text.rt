@@ -17,7 +17,9 @@ const RUN_LEAST: usize = 2;
 
 // The least groups that have four, three and two digits.
 const FOUR_DIGITS: u16 = 0x1000;
+
 const THREE_DIGITS: u16 = 0x100;
+
 const TWO_DIGITS: u16 = 0x10;
 
 /// Reads an IPv6 address (RFC 4291 section 2.2): eight groups of one to four hexadecimal digits of either case with
