@@ -1,4 +1,5 @@
--- The texts of an IPv6 address: those that are read (RFC 4291 section 2.2, forms 1 and 2), and the one that is written (RFC 5952 section 4).
+-- The texts of an IPv6 address: those that are read (RFC 4291 section 2.2, forms 1 and 2), and the one that is written
+-- (RFC 5952 section 4).
 use Rattle.std.specs.Prelude.{ℕ, ◌+◌, ◌/◌, ◌%◌, ◌^◌, ◌<◌, ◌≤◌, ◌≡◌, ◌⊎◌, List, [], ◌∷◌, ◌++◌, All, map, length, replicate, take, drop, codes, nat_lt, if◌then◌else◌}
 use Rattle.std.specs.List.{join_with_byte}
 use Rattle.std.specs.Str.Parse.{IsNumeral, digits_value}
@@ -81,7 +82,8 @@ pub record IsFirstLongest (groups : List ℕ) (start len : ℕ) : Type 0 where
   pub longest : (other_start other_len : ℕ) → IsZeroRun groups other_start other_len → other_len ≤ len
   pub first : (other_start : ℕ) → IsZeroRun groups other_start len → start ≤ other_start
 
--- the rules of RFC 5952 section 4.2: the first of the longest runs of zeros is shortened, where it has two groups or more
+-- The rules of RFC 5952 section 4.2: the first of the longest runs of zeros is shortened, where it has two groups or
+-- more.
 pub record IsSpelling (text groups : List ℕ) : Type 0 where
   pub start : ℕ
   pub len : ℕ

@@ -15,11 +15,13 @@ const COLONS: &str = "::";
 // The groups of zeros that are left out at least (RFC 5952 section 4.2.2).
 const RUN_LEAST: usize = 2;
 
-// The least groups that have four, three and two digits.
+// The least group that has four digits.
 const FOUR_DIGITS: u16 = 0x1000;
 
+// The least group that has three digits.
 const THREE_DIGITS: u16 = 0x100;
 
+// The least group that has two digits.
 const TWO_DIGITS: u16 = 0x10;
 
 /// Reads an IPv6 address (RFC 4291 section 2.2): eight groups of one to four hexadecimal digits of either case with

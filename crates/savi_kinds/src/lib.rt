@@ -5,8 +5,12 @@
 //! plan as lists. The one predicate of a plan that is within the limits, `IsValidPlan` of
 //! `specs/ValidPlan.antt`, stands here, since each call that takes a plan needs it.
 //!
-//! Read for the texts: RFC 4291 sections 2.2 and 2.3 (addresses and prefixes), RFC 5952 section 4 (the one spelling of an
-//! address), RFC 7042 section 2.1 (MAC addresses).
+//! Addresses, prefixes and MAC addresses are read from texts and written (`specs/AddrText.antt`,
+//! `specs/PrefixText.antt`, `specs/MacText.antt`); what the texts come to is in the laws of
+//! `text_laws`: what is written is read again, and a text has one value.
+//!
+//! Read for the texts: RFC 4291 sections 2.2 and 2.3 (addresses and prefixes), RFC 5952 section 4
+//! (the one spelling of an address), RFC 7042 section 2.1 (MAC addresses).
 #![tactic(auto)]
 
 mod addr_text;
