@@ -5,3 +5,5 @@ pub mod Prefixes
 pub mod MacText
 pub mod ValidPlan
 pub mod Arrivals
+pub mod AddrText
+pub mod PrefixText

@@ -5,19 +5,31 @@
 //! plan as lists. The one predicate of a plan that is within the limits, `IsValidPlan` of
 //! `specs/ValidPlan.antt`, stands here, since each call that takes a plan needs it.
 //!
-//! Read for the texts: RFC 7042 section 2.1 (MAC addresses).
+//! Addresses, prefixes and MAC addresses are read from texts and written (`specs/AddrText.antt`,
+//! `specs/PrefixText.antt`, `specs/MacText.antt`); what the texts come to is in the laws of
+//! `text_laws`: what is written is read again, and a text has one value.
+//!
+//! Read for the texts: RFC 4291 sections 2.2 and 2.3 (addresses and prefixes), RFC 5952 section 4
+//! (the one spelling of an address), RFC 7042 section 2.1 (MAC addresses).
 #![tactic(auto)]
 
+mod addr_text;
 mod address;
 mod arrival;
+mod digit;
 mod entry;
 mod limits;
 mod mac_text;
 mod plan;
 mod port;
+mod prefix_text;
+#[cfg(test)]
+mod tests;
 mod text;
+mod text_laws;
 mod verdict;
 
+pub use addr_text::{put_addr, read_addr};
 pub use address::{Addr, Mac, Moment, Prefix};
 pub use arrival::Next;
 pub use entry::{Act, Entry, How, Who};
@@ -26,8 +38,14 @@ pub use limits::{
     FRAME_OCTETS_LEAST, FRAME_OCTETS_MOST, GAP_MOST_MS, LAST_MOMENT, LIFE_MOST_S, PER_PORT_MOST,
     PORTS_MOST, PREFIXES_MOST, TEST_LEAST_MS, TEST_MOST_MS,
 };
-pub use mac_text::put_mac;
+pub use mac_text::{put_mac, read_mac};
 pub use plan::{Format, Method, Plan, PortPlan, PortPlans, PrefixPlan, PrefixPlans, Role};
 pub use port::{Port, PortSet};
+pub use prefix_text::read_prefix;
 pub use text::Text;
+pub use text_laws::{
+    a_text_is_of_one_addr, a_text_is_of_one_mac, a_text_is_of_one_prefix, addr_texts_are_plain,
+    addr_texts_are_read_again, addr_texts_have_one_spelling, mac_texts_are_read_again,
+    prefix_texts_are_read_again,
+};
 pub use verdict::{Rule, Scope, Verdict};

@@ -1,9 +1,55 @@
-ghost use Rattle.std.specs.Prelude.{◌≡◌, ◌<◌, ◌+◌, ◌≤◌, ◌∷◌, ◌++◌};
+ghost use Rattle.std.specs.Prelude.{◌≡◌, ◌+◌, ◌≤◌, ◌∷◌, ◌++◌, ℕ, List, IfSome, IfNone};
 ghost use Rattle.arrayvec.specs.ArrayString.{array_string_len};
-ghost use Rattle.savi_kinds.specs.MacText.{colon, hex_digit, hex_pair, mac_text};
+ghost use Rattle.savi_kinds.specs.declared.address.Mac.{Mac};
+ghost use Rattle.savi_kinds.specs.MacText.{colon, hex_pair, mac_text, IsMacText, BeginsWithPair, BeginsWithNext};
 
 use crate::address::Mac;
+use crate::digit::put_digit;
 use arrayvec::ArrayString;
+
+/// Reads a MAC address (RFC 7042 section 2.1): six pairs of hexadecimal digits of either case with colons between them.
+///
+/// `None` for every other text.
+pub fn read_mac(text: &[u8]) -> Option<Mac>
+    ensures read { IfSome result (IsMacText text.now) }
+    ensures only { IfNone result ((m : Mac) → ¬ IsMacText text.now m) }
+{
+    let (first, rest) = read_pair(text)?;
+    let (second, rest) = read_next(rest)?;
+    let (third, rest) = read_next(rest)?;
+    let (fourth, rest) = read_next(rest)?;
+    let (fifth, rest) = read_next(rest)?;
+    let (sixth, rest) = read_next(rest)?;
+    if rest.is_empty() {
+        Some(Mac([first, second, third, fourth, fifth, sixth]))
+    } else {
+        None
+    }
+}
+
+// Reads a colon and an octet, and gives what stands behind them.
+fn read_next(text: &[u8]) -> Option<(u8, &[u8])>
+    ensures read { IfSome result (λ r. BeginsWithNext text.now r.0 r.1.now) }
+    ensures only { IfNone result ((octet : ℕ) (rest : List ℕ) → ¬ BeginsWithNext text.now octet rest) }
+{
+    match text {
+        [b':', pair @ ..] => read_pair(pair),
+        _ => None,
+    }
+}
+
+// Reads an octet as two digits, and gives what stands behind them.
+fn read_pair(text: &[u8]) -> Option<(u8, &[u8])>
+    ensures read { IfSome result (λ r. BeginsWithPair text.now r.0 r.1.now) }
+    ensures only { IfNone result ((octet : ℕ) (rest : List ℕ) → ¬ BeginsWithPair text.now octet rest) }
+{
+    let [high, low, rest @ ..] = text else {
+        return None;
+    };
+    let high = char::from(*high).to_digit(16)?;
+    let low = char::from(*low).to_digit(16)?;
+    Some(((high * 16 + low) as u8, rest))
+}
 
 /// The text of a MAC address: six pairs of lower-case hexadecimal digits with colons between them, 17 octets.
 pub fn put_mac(m: Mac) -> ArrayString<17>
@@ -36,28 +82,4 @@ fn push_pair(text: &mut ArrayString<17>, octet: u8)
 {
     text.push(put_digit(octet >> 4));
     text.push(put_digit(octet & 0x0f));
-}
-
-// The lower-case hexadecimal digit of a number below 16.
-fn put_digit(value: u8) -> char
-    requires { value < 16 }
-    ensures digit { result ≡ hex_digit value }
-    ensures ascii { result < 128 }
-{
-    if value < 10 {
-        char::from(b'0' + value)
-    } else {
-        char::from(b'a' + (value - 10))
-    }
-}
-
-#[cfg(test)]
-mod tests {
-    use super::*;
-
-    #[test]
-    fn a_mac_is_six_pairs_in_lower_case(rt: HostRuntime) {
-        let text = put_mac(Mac([0x02, 0x00, 0x5e, 0xab, 0xcd, 0xef]));
-        assert_eq!(rt; text.as_str(), "02:00:5e:ab:cd:ef");
-    }
 }

@@ -1,0 +1,5 @@
+use Rattle.savi_kinds.proofs.AddrWritten.{written_addr}
+use Rattle.savi_kinds.proofs.text_laws.addr_texts_are_read_again.Goals as goal
+
+pub returns : goal.returns
+returns c = written_addr
