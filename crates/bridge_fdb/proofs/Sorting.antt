@@ -1,5 +1,5 @@
 -- What is kept of stations in order of MAC address, when they change.
-use Rattle.std.proofs.Common.{◌≡◌, ℕ, ◌+◌, ◌≤◌, ◌<◌, Bool, not, List, ◌∷◌, ◌++◌, length, filter, take, drop, refl, sym, ◌∙◌, ap, arith, length-append, length-set}
+use Rattle.std.proofs.Common.{◌≡◌, ℕ, ◌+◌, ◌<◌, Bool, not, List, ◌∷◌, ◌++◌, length, filter, take, drop, refl, sym, ◌∙◌, ap, arith, length-append, length-set}
 use Rattle.std.proofs.Math.ListN.{set}
 use Rattle.std.proofs.lemmas.List.{map-set, map-append, take-map, drop-map, take-append-drop}
 use Rattle.std.proofs.lemmas.List.Filters.{length-filter_both}

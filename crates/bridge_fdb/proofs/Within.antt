@@ -1,12 +1,12 @@
 -- How many stations there are.
-use Rattle.std.proofs.Common.{◌≡◌, ◌≢◌, ℕ, ◌+◌, ◌*◌, ◌^◌, ◌≤◌, ◌<◌, ◌==◌, nat_le, nat_lt, zero, suc, Bool, true, false, not, ◌&&◌, cond, List, [], ◌∷◌, ◌++◌, length, filter, count_by, All, refl, sym, ◌∙◌, ap, subst, arith, inl, inr, length-append}
+use Rattle.std.proofs.Common.{◌≡◌, ◌≢◌, ℕ, ◌+◌, ◌*◌, ◌^◌, ◌≤◌, ◌<◌, ◌==◌, nat_le, zero, suc, Bool, true, false, ◌&&◌, cond, List, [], ◌∷◌, ◌++◌, length, filter, count_by, All, refl, ◌∙◌, subst, arith, inl, inr, length-append}
 use Rattle.std.specs.List.{list_any}
-use Rattle.std.proofs.lemmas.Bool.{cases_Bool, cases_eq, cond_both, and_parts, and_cases, or_cases, false≢true, not-false, ltb-true, eqb-true, eq-eqb, leb-true, le-leb, lt-leb, leb-false}
-use Rattle.std.proofs.lemmas.List.Elements.{All-append, All-cons, All-filter, All-weaker, All-nil, filter_passes}
+use Rattle.std.proofs.lemmas.Bool.{cases_Bool, cases_eq, cond_both, and_parts, or_cases, false≢true, ltb-true, eqb-true, eq-eqb, leb-true, le-leb, lt-leb, leb-false}
+use Rattle.std.proofs.lemmas.List.Elements.{All-append, All-cons, All-filter, All-weaker, filter_passes}
 use Rattle.std.proofs.lemmas.List.Kept.{AllPairs-cons, AllPairs-filter}
 use Rattle.savi_kinds.specs.Ports.{number_of}
 use Rattle.bridge_fdb.specs.declared.station.Station.{Station}
-use Rattle.bridge_fdb.specs.Stations.{mac_number, is_live, live_at, is_of, is_below, is_above, is_at, count_at}
+use Rattle.bridge_fdb.specs.Stations.{mac_number, is_of, is_below, is_above, is_at, count_at}
 use Rattle.bridge_fdb.specs.Learning.{is_known, is_full, with_station, learned}
 use Rattle.bridge_fdb.specs.Limits.{IsRising, IsWithinLimits}
 use Rattle.bridge_fdb.proofs.Filters.{count_by-cons, count_by-push, count_by-filter-le}

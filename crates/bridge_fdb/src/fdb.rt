@@ -53,9 +53,9 @@ impl Fdb {
 
     /// Learns at moment `t` (ms) that a frame from `mac` came in at port `p`: a station that is live there is live anew;
     /// else it is now there, where the port has fewer than 256 live stations; else no live station has changed. O(log n)
-    /// for a station that is live there, and else one move of the stations of higher MAC addresses by one place; and,
-    /// where 256 stations are kept at the port of which one may have ended, some passes over all stations that are kept,
-    /// at most once in a ms.
+    /// for a station that is live there, and where the port has no room. Else one move of the stations of higher MAC
+    /// addresses by one place; and, where 256 stations are kept at the port of which one may have ended, some passes over
+    /// all stations that are kept, at most once in a ms.
     pub fn learn(&mut self, mac: Mac, p: Port, t: Moment)
         requires { t ≤ 2 ^ 62 }
         ensures learned { live_at t self.new ≡ learned (station_of mac p t) (live_at t self.old) }
@@ -144,8 +144,8 @@ fn renew(stations: &mut SortedStations, tally: &mut Tally, station: Station) -> 
     }
 }
 
-// Learns a station that isn't live at its port: it is now there, where the port has fewer than 256 live stations. It stays
-// apart, so that the way of a known station is short.
+// Learns a station that isn't live at its port: it is now there, where the port has fewer than 256 live stations. Not
+// inlined, so that `learn` itself is short enough to be.
 #[inline(never)]
 fn admit(stations: &mut SortedStations, tally: &mut Tally, station: Station)
     requires limits { IsWithinLimits stations.old }

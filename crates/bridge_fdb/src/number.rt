@@ -14,14 +14,15 @@ pub(crate) fn number(mac: Mac) -> u64
     ensures { result ≡ mac_number mac }
 {
     let [first, second, third, fourth, fifth, sixth] = mac.0;
+    // In the two parts in which six octets are copied: a load that spans two stores waits until both have reached memory.
     let high = u32::from_be_bytes([first, second, third, fourth]);
     let low = u16::from_be_bytes([fifth, sixth]);
     u64::from(high) * 0x1_0000 + u64::from(low)
 }
 
-// How many of these numbers, which are in order, are lower than this one. O(log n). Half of the branches on a number would
-// be foretold wrong, so none is made but the last: the steps are as many for each length, they stand one behind the other,
-// and so each comparison can be a conditional move. Within a caller's loop it would be a branch again.
+// How many of these numbers, which are in order, are lower than this one. O(log n). A branch on a number would be
+// mispredicted every other time. So the number of steps is the same for each length: then the compiler unrolls them, and
+// each comparison becomes a conditional move. Inlined into a caller's loop it would become a branch again.
 #[inline(never)]
 pub(crate) fn count_lower(numbers: &[u64], wanted: u64) -> usize
     requires order { IsNonDecreasing numbers.now }

@@ -15,7 +15,7 @@ use std::alloc::{AllocError, Global};
 use std::marker::Model;
 
 // At most 4,096 stations in order of MAC address. Beside them stand their MAC addresses as numbers: a search reads these
-// alone, and at 8 octets for a station all of them stay in the processor's first cache.
+// alone, at 8 octets a station, and compares each at once.
 #[derive(Drop)]
 pub(crate) struct SortedStations {
     stations: Vec<Station>,

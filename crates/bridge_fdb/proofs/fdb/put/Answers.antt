@@ -1,5 +1,4 @@
 use Rattle.std.proofs.Common.{sym, ◌∙◌, arith}
-use Rattle.savi_kinds.specs.Ports.{number_of}
 use Rattle.bridge_fdb.specs.Stations.{mac_number}
 use Rattle.bridge_fdb.proofs.Parts.{of_found}
 use Rattle.bridge_fdb.proofs.Within.{IsWithinLimits-with, room-with, length-lt}

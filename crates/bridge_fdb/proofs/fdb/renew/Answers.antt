@@ -1,9 +1,9 @@
-use Rattle.std.proofs.Common.{◌≡◌, ◌≤◌, ◌&&◌, true, sym, refl, ◌∙◌, arith, filter}
+use Rattle.std.proofs.Common.{◌≡◌, ◌≤◌, true, sym, refl, ◌∙◌, arith, filter}
 use Rattle.std.proofs.lemmas.Bool.{and_parts}
 use Rattle.savi_kinds.specs.Ports.{number_of}
 use Rattle.bridge_fdb.specs.Stations.{mac_number, is_at, is_live, is_of, count_at}
 use Rattle.bridge_fdb.specs.Places.{StandsAt, BelongsAt}
-use Rattle.bridge_fdb.proofs.Parts.{set_stands, known_found, known_missing, of_count}
+use Rattle.bridge_fdb.proofs.Parts.{known_found, known_missing, of_count}
 use Rattle.bridge_fdb.proofs.Within.{IsWithinLimits-with, room-with}
 use Rattle.bridge_fdb.proofs.Tallied.{Tallies-renewed}
 use Rattle.bridge_fdb.proofs.fdb.renew.Goals as goal

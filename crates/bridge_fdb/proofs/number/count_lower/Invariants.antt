@@ -1,4 +1,3 @@
-use Rattle.std.proofs.Common.{ℕ}
 use Rattle.bridge_fdb.proofs.Numbers.{IsWindow}
 use Rattle.bridge_fdb.proofs.number.count_lower.Given as goal
 

@@ -1,12 +1,9 @@
-use Rattle.std.proofs.Common.{◌≡◌, ◌+◌, ◌<◌, ◌≤◌, List, true, ap, sym, subst, ◌∙◌, arith}
+use Rattle.std.proofs.Common.{◌≡◌, ◌+◌, List, true, sym, ◌∙◌, arith}
 use Rattle.std.proofs.lemmas.Bool.{lt-ltb}
-use Rattle.savi_kinds.specs.Ports.{number_of}
 use Rattle.bridge_fdb.specs.declared.station.Station.{Station}
-use Rattle.bridge_fdb.specs.Stations.{station_of, is_live, is_at, live_at, count_at}
-use Rattle.bridge_fdb.specs.Learning.{with_station}
-use Rattle.bridge_fdb.proofs.Filters.{count_by-filter-le}
+use Rattle.bridge_fdb.specs.Stations.{station_of, is_live, live_at}
 use Rattle.bridge_fdb.proofs.Parts.{live_with}
-use Rattle.bridge_fdb.proofs.Within.{learned-known, learned-room}
+use Rattle.bridge_fdb.proofs.Within.{learned-known}
 use Rattle.bridge_fdb.proofs.fdb.Fdb.learn.Goals as goal
 
 pub returns-else-not-renew-clause-learned : goal.returns-else-not-renew-clause-learned

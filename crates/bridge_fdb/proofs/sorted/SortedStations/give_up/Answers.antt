@@ -1,4 +1,4 @@
-use Rattle.std.proofs.Common.{◌≡◌, ◌≤◌, Bool, not, ◌||◌, length, arith, vec_capacity}
+use Rattle.std.proofs.Common.{Bool, not, ◌||◌, arith}
 use Rattle.savi_kinds.specs.Ports.{number_of}
 use Rattle.bridge_fdb.specs.declared.station.Station.{Station}
 use Rattle.bridge_fdb.specs.Stations.{is_at, is_live}

@@ -1,4 +1,4 @@
-use Rattle.std.proofs.Common.{◌≡◌, ◌≤◌, ◌<◌, length, arith, vec_capacity}
+use Rattle.std.proofs.Common.{◌<◌, length, arith}
 use Rattle.bridge_fdb.specs.Stations.{mac_number}
 use Rattle.bridge_fdb.specs.Places.{BelongsAt}
 use Rattle.bridge_fdb.proofs.Sorting.{IsSorted-insert}

@@ -1,8 +1,5 @@
-use Rattle.std.proofs.Common.{◌≡◌, ◌≢◌, ◌≤◌, ◌<◌, ℕ, List, length, get_or, sym, ◌∙◌, subst, arith}
-use Rattle.std.specs.List.{AllWithin}
-use Rattle.std.proofs.lemmas.List.Elements.{at_read}
-use Rattle.bridge_fdb.specs.Stations.{mac_number}
-use Rattle.bridge_fdb.specs.Sorted.{IsSorted, numbers_of}
+use Rattle.std.proofs.Common.{ℕ, List, arith}
+use Rattle.bridge_fdb.specs.Sorted.{IsSorted}
 use Rattle.bridge_fdb.proofs.Numbers.{IsNonDecreasing-numbers, sorted_length, stands_by_number, belongs_by_number}
 use Rattle.bridge_fdb.proofs.sorted.SortedStations.search.Goals as goal
 
