@@ -13,11 +13,12 @@ demo: build
 	tools/demo
 
 # The program beside a C program that does the same octet work without judging; the reader of captures beside tcpdump; the
-# pass lock beside a mutex. The first time takes the builds, and then about a minute.
-bench: build build/capture_bench build/lock_bench
+# pass lock beside a mutex; the stations beside a hash map. The first time takes the builds, and then about a minute.
+bench: build build/capture_bench build/lock_bench build/fdb_bench
 	bench/run build/savi_switch
 	bench/captures.py build/capture_bench
 	bench/lock build/lock_bench
+	bench/stations build/fdb_bench
 
 # The merge gate: 40 to 60 minutes from nothing on 4 cores, seconds where its proofs are kept.
 check:

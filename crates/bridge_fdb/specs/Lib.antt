@@ -4,3 +4,4 @@ pub mod Limits
 pub mod Laws
 pub mod Tallies
 pub mod Places
+pub mod Sorted

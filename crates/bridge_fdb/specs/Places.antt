@@ -1,5 +1,5 @@
 -- Where the station of a MAC address stands in a list in order of MAC address, or would stand.
-use Rattle.std.specs.Prelude.{ℕ, ◌≡◌, ◌+◌, ◌≤◌, ◌<◌, Result, Ok, Err, Some, None, List, find, filter, slice_get, take, drop, length}
+use Rattle.std.specs.Prelude.{ℕ, ◌≡◌, ◌+◌, ◌≤◌, ◌<◌, Result, None, List, find, filter, slice_get, take, drop, length}
 use Rattle.std.specs.Result.{MatchResult}
 use Rattle.bridge_fdb.specs.declared.station.Station.{Station}
 use Rattle.bridge_fdb.specs.Stations.{is_of, is_below, is_above}

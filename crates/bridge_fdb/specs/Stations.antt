@@ -1,5 +1,5 @@
 -- The stations of a bridge, in order of MAC address, and which of them are live (IEEE 802.1Q sections 8.8 and 8.8.3).
-use Rattle.std.specs.Prelude.{ℕ, ◌+◌, ◌==◌, nat_lt, Bool, Option, List, [], ◌∷◌, filter, count_by, find}
+use Rattle.std.specs.Prelude.{ℕ, ◌+◌, ◌==◌, nat_lt, Bool, Option, List, ◌∷◌, filter, count_by, find}
 use Rattle.std.specs.Int.{w64, from_be_bytes}
 use Rattle.std.specs.Option.{option_map}
 use Rattle.savi_kinds.specs.Ports.{number_of}

@@ -1,5 +1,5 @@
 -- What is kept beside the list of stations: how many there are at each port, and a moment before which none of them ends.
-use Rattle.std.specs.Prelude.{ℕ, ◌≡◌, ◌+◌, ◌-◌, ◌≤◌, ◌<◌, ◌||◌, Bool, not, List, filter, slice_index}
+use Rattle.std.specs.Prelude.{ℕ, ◌≡◌, ◌+◌, ◌-◌, ◌≤◌, ◌<◌, ◌||◌, not, List, filter, slice_index}
 use Rattle.std.specs.List.{All}
 use Rattle.savi_kinds.specs.Ports.{number_of}
 use Rattle.bridge_fdb.specs.declared.station.Station.{Station}

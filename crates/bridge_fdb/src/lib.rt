@@ -8,7 +8,8 @@
 
 mod fdb;
 mod laws;
-mod search;
+mod number;
+mod sorted;
 mod station;
 mod tally;
 #[cfg(test)]

@@ -2,10 +2,13 @@
 
 ghost use Rattle.std.specs.Prelude.{◌≡◌, ◌≤◌, ◌+◌, ◌^◌, ◌&&◌};
 
-use savi_kinds::{Mac, Moment, Port};
+use savi_kinds::{Mac, Moment, PORTS_MOST, Port};
 
 /// The most live stations of one port.
 pub const STATIONS_MOST: usize = 256;
+
+/// The most live stations of all ports.
+pub(crate) const ALL_STATIONS_MOST: usize = STATIONS_MOST * PORTS_MOST;
 
 /// How long a station stays live, in ms: the recommended ageing time of 300 s (IEEE 802.1Q table 8-6).
 pub const AGEING_TIME_MS: u64 = 300_000;

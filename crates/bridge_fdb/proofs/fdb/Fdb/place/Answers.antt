@@ -6,17 +6,17 @@ use Rattle.bridge_fdb.proofs.fdb.Fdb.place.Goals as goal
 
 pub returns-then-is_live : goal.returns-then-is_live
 returns-then-is_live c =
-    let at : StandsAt (mac_number c.args.mac) c.self.inside.stations.items c.in-Ok.at = rw c.as_slice.ensures.value at c.in-Ok.ensures in
-    let live : is_live c.args.t c.index.result.now ≡ true = sym c.is_live.ensures ∙ c.if-is_live.true in
-    rw (← c.self.view_is) (sym (place_found c.args.mac c.args.t c.self.inside.stations.items c.in-Ok.at c.index.result.now c.self.invariant.0.rising at c.index.ensures ∙ rw live refl))
+    let at : StandsAt (mac_number c.args.mac) c.self.inside.stations c.in-Ok.at = c.in-Ok.ensures in
+    let live : is_live c.args.t c.at-station.result ≡ true = sym c.is_live.ensures ∙ c.if-is_live.true in
+    rw (← c.self.view_is) (sym (place_found c.args.mac c.args.t c.self.inside.stations c.in-Ok.at c.at-station.result c.self.invariant.0.rising at c.at-station.ensures ∙ rw live refl))
 
 pub returns-else-is_live : goal.returns-else-is_live
 returns-else-is_live c =
-    let at : StandsAt (mac_number c.args.mac) c.self.inside.stations.items c.in-Ok.at = rw c.as_slice.ensures.value at c.in-Ok.ensures in
-    let ended : is_live c.args.t c.index.result.now ≡ false = sym c.is_live.ensures ∙ c.if-is_live.false in
-    rw (← c.self.view_is) (sym (place_found c.args.mac c.args.t c.self.inside.stations.items c.in-Ok.at c.index.result.now c.self.invariant.0.rising at c.index.ensures ∙ rw ended refl))
+    let at : StandsAt (mac_number c.args.mac) c.self.inside.stations c.in-Ok.at = c.in-Ok.ensures in
+    let ended : is_live c.args.t c.at-station.result ≡ false = sym c.is_live.ensures ∙ c.if-is_live.false in
+    rw (← c.self.view_is) (sym (place_found c.args.mac c.args.t c.self.inside.stations c.in-Ok.at c.at-station.result c.self.invariant.0.rising at c.at-station.ensures ∙ rw ended refl))
 
 pub returns-in-Err : goal.returns-in-Err
 returns-in-Err c =
-    let at : BelongsAt (mac_number c.args.mac) c.self.inside.stations.items c.in-Err.field-0 = rw c.as_slice.ensures.value at c.in-Err.ensures in
-    rw (← c.self.view_is) (sym (place_missing c.args.mac c.args.t c.self.inside.stations.items c.in-Err.field-0 c.self.invariant.0.rising at))
+    let at : BelongsAt (mac_number c.args.mac) c.self.inside.stations c.in-Err.field-0 = c.in-Err.ensures in
+    rw (← c.self.view_is) (sym (place_missing c.args.mac c.args.t c.self.inside.stations c.in-Err.field-0 c.self.invariant.0.rising at))

@@ -1,0 +1,53 @@
+//! Calls of `bridge_fdb`, timed beside look-ups in std's `HashMap`, or compared with those of a plain list.
+//!
+//! usage: fdb_bench time|compare. `time` prints a line for each kind of call: its name, how many were made, and the
+//! nanoseconds of the processor that they took (and a number that depends on the answers). `compare` prints how many of 100,000 calls answered alike, and it stops at
+//! the first one that didn't. With no word, or another one, it prints nothing.
+#![tactic(auto)]
+
+mod compare;
+mod keys;
+mod plain_list;
+mod timed;
+
+use std::alloc::Global;
+use std::time::CpuClock;
+use std::{env, io};
+use timed::Timed;
+
+fn main(rt: HostRuntime) -> io::Result<()> {
+    let Some(word) = env::args(&rt)?.nth(1) else {
+        return Ok(());
+    };
+    match word.as_str() {
+        "compare" => {
+            let alike = compare::count_alike(rt.alloc())?;
+            println!(rt; "{alike} of {} calls answer alike", compare::CALLS)?;
+        }
+        "time" => {
+            for timed in &all_timed(&rt, rt.alloc())? {
+                println!(rt;
+                    "{} {} {} {}",
+                    timed.name,
+                    timed.calls,
+                    timed.took.as_nanos(),
+                    timed.answers
+                )?;
+            }
+        }
+        _ => {}
+    }
+    Ok(())
+}
+
+fn all_timed<R: CpuClock>(rt: &R, alloc: Global) -> io::Result<Vec<Timed>> {
+    let mut times = Vec::new(alloc);
+    times.push(timed::walk(rt, alloc)?)?;
+    times.push(timed::hash_map(rt, alloc)?)?;
+    times.push(timed::place(rt, alloc)?)?;
+    times.push(timed::learn_known(rt, alloc)?)?;
+    times.push(timed::learn_refused(rt, alloc)?)?;
+    times.push(timed::learn_replaced(rt, alloc)?)?;
+    times.push(timed::learn_flood(rt, alloc)?)?;
+    Ok(times)
+}
