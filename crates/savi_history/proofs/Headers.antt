@@ -13,7 +13,7 @@ use Rattle.savi_kinds.specs.declared.address.Mac.{Mac}
 use Rattle.savi_kinds.specs.declared.address.Prefix.{Prefix}
 use Rattle.savi_kinds.specs.MacText.{mac_text}
 use Rattle.savi_kinds.specs.Prefixes.{first_of}
-use Rattle.savi_kinds.specs.ValidPlan.{IsValidPlan, IsHostPrefix, nets_of}
+use Rattle.savi_kinds.specs.ValidPlan.{IsValidPlan, IsPlanPrefix, nets_of}
 use Rattle.hist_store.specs.PortTexts.{port_text}
 use Rattle.hist_store.specs.JournalTexts.{role_text, method_text, format_text, prefix_text, port_fields, prefix_fields, word_lines, limit_lines, time_lines, begin_line, header_lines}
 use Rattle.savi_history.specs.Journals.{without_port_names, without_names, IsAddress, IsAddressText}
@@ -88,7 +88,7 @@ module _ (address_text : ℕ → List ℕ) (is : IsAddressText address_text) whe
   abbrev the_prefix_plan : ℕ → ℕ → Method → PrefixPlan
   the_prefix_plan net len method = record { prefix = record { net = record { 0 = net }; len = len }; method = method }
 
-  prefix_same : (x y : PrefixPlan) → IsHostPrefix x.prefix → IsHostPrefix y.prefix → IsAddress (first_of x.prefix) → IsAddress (first_of y.prefix)
+  prefix_same : (x y : PrefixPlan) → IsPlanPrefix x.prefix → IsPlanPrefix y.prefix → IsAddress (first_of x.prefix) → IsAddress (first_of y.prefix)
       → prefix_text address_text x.prefix ≡ prefix_text address_text y.prefix → method_text x.method ≡ method_text y.method → x ≡ y
   prefix_same x y hx hy ax ay text method =
       let net = x.prefix.net.0 in
@@ -104,7 +104,7 @@ module _ (address_text : ℕ → List ℕ) (is : IsAddressText address_text) whe
       ap (λ (n : ℕ). the_prefix_plan n x.prefix.len x.method) nets ∙ ap (λ (n : ℕ). the_prefix_plan net' n x.method) lens
       ∙ ap (λ (m : Method). the_prefix_plan net' y.prefix.len m) (method_by_text x.method y.method method)
 
-  same_prefixes : (xs ys : List PrefixPlan) (es fs : List Line) → All IsHostPrefix (nets_of xs) → All IsHostPrefix (nets_of ys)
+  same_prefixes : (xs ys : List PrefixPlan) (es fs : List Line) → All IsPlanPrefix (nets_of xs) → All IsPlanPrefix (nets_of ys)
       → All (λ net. IsAddress (first_of net)) (nets_of xs) → All (λ net. IsAddress (first_of net)) (nets_of ys)
       → behind xs es ≡ behind ys fs → (xs ≡ ys) × (es ≡ fs)
   same_prefixes [] [] es fs hx hy ax ay e = let rest : es ≡ fs = cc in (refl, rest)
@@ -113,9 +113,9 @@ module _ (address_text : ℕ → List ℕ) (is : IsAddressText address_text) whe
   same_prefixes (x ∷ xs) (y ∷ ys) es fs hx hy ax ay e =
       let within = λ (net : Prefix). IsAddress (first_of net) in
       let line = prefix_line e in
-      let first : x ≡ y = prefix_same x y (All-head IsHostPrefix x.prefix (nets_of xs) hx) (All-head IsHostPrefix y.prefix (nets_of ys) hy)
+      let first : x ≡ y = prefix_same x y (All-head IsPlanPrefix x.prefix (nets_of xs) hx) (All-head IsPlanPrefix y.prefix (nets_of ys) hy)
       (All-head within x.prefix (nets_of xs) ax) (All-head within y.prefix (nets_of ys) ay) line.first line.second in
-      let more = same_prefixes xs ys es fs (All-tail IsHostPrefix x.prefix (nets_of xs) hx) (All-tail IsHostPrefix y.prefix (nets_of ys) hy)
+      let more = same_prefixes xs ys es fs (All-tail IsPlanPrefix x.prefix (nets_of xs) hx) (All-tail IsPlanPrefix y.prefix (nets_of ys) hy)
       (All-tail within x.prefix (nets_of xs) ax) (All-tail within y.prefix (nets_of ys) ay) line.rest in
       (cc (first, more.0), more.1)
 
@@ -246,6 +246,6 @@ pub header_by_lines : (address_text : ℕ → List ℕ) → IsAddressText addres
 header_by_lines address_text is plan plan' es fs valid valid' within within' e =
     let same = same_settings address_text is plan plan' es fs e in
     let ports = same_ports address_text is plan.ports plan'.ports plan.prefixes plan'.prefixes es fs same.rest in
-    let prefixes = same_prefixes address_text is plan.prefixes plan'.prefixes es fs valid.host_prefixes valid'.host_prefixes within within' ports.1 in
+    let prefixes = same_prefixes address_text is plan.prefixes plan'.prefixes es fs valid.plan_prefixes valid'.plan_prefixes within within' ports.1 in
     let numbers = same_numbers address_text is plan plan' es fs valid valid' same in
     (same_plan plan plan' (mac_by_text plan.mac plan'.mac same.mac) same.savi same.unknown numbers ports.0 prefixes.0, prefixes.1)

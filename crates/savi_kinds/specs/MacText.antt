@@ -1,4 +1,4 @@
--- The texts of a MAC address (RFC 7042 section 2.1): six pairs of hexadecimal digits with colons between.
+-- The texts of a MAC address (RFC 6991 section 3): six pairs of hexadecimal digits with colons between.
 use Rattle.std.specs.Prelude.{ℕ, ◌/◌, ◌%◌, ◌^◌, ◌<◌, ◌≡◌, List, [], ◌∷◌, ◌++◌, All, map, length, nat_lt, ◌+◌, if◌then◌else◌}
 use Rattle.std.specs.List.{join_with_byte}
 use Rattle.std.specs.Str.Parse.{AllDigits, digits_value}

@@ -25,8 +25,9 @@ nets_of prefixes = map (λ p. p.prefix) prefixes
 abbrev pub IsWithin : ℕ → ℕ → ℕ → Type 0
 IsWithin least most n = (least ≤ n) × (n ≤ most)
 
--- a prefix whose addresses hosts may have: none of fe80::/64, ff00::/8, :: and ::1
-pub record IsHostPrefix (p : Prefix) : Type 0 where
+-- a prefix that a plan may name: apart from fe80::/64, which is on-link in every plan, and from ff00::/8 (multicast), and without ::
+-- and ::1
+pub record IsPlanPrefix (p : Prefix) : Type 0 where
   pub prefix : IsPrefix p
   pub not_link_local : AreApart p link_local
   pub not_multicast : AreApart p multicast
@@ -47,10 +48,10 @@ pub record IsValidPlan (plan : Plan) : Type 0 where
   pub test : IsWithin 2 60000 plan.test
   pub gap_first : plan.gap < plan.test
   pub life : IsSeconds 1 86400 plan.life
-  -- from 1 to 16 ports, in rising order of number
+  -- from 1 to 16 ports, in rising order of number; that each number is from 1 to 16 is kept by the type of a port
   pub port_count : IsWithin 1 16 (length plan.ports)
   pub ports : IsStrictlyIncreasing (numbers_of plan.ports)
   -- at most 32 prefixes, each of which ends before the next one begins
   pub prefix_count : length plan.prefixes ≤ 32
-  pub host_prefixes : All IsHostPrefix (nets_of plan.prefixes)
+  pub plan_prefixes : All IsPlanPrefix (nets_of plan.prefixes)
   pub prefixes : AllPairs (λ p q. past_of p ≤ first_of q) (nets_of plan.prefixes)

@@ -10,7 +10,7 @@
 //! `text_laws`: what is written is read again, and a text has one value.
 //!
 //! Read for the texts: RFC 4291 sections 2.2 and 2.3 (addresses and prefixes), RFC 5952 section 4
-//! (the one spelling of an address), RFC 7042 section 2.1 (MAC addresses).
+//! (the one spelling of an address), RFC 6991 section 3 (MAC addresses).
 #![tactic(auto)]
 
 mod addr_text;

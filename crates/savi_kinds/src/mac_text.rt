@@ -7,7 +7,7 @@ use crate::address::Mac;
 use crate::digit::put_digit;
 use arrayvec::ArrayString;
 
-/// Reads a MAC address (RFC 7042 section 2.1): six pairs of hexadecimal digits of either case with colons between them.
+/// Reads a MAC address (RFC 6991 section 3): six pairs of hexadecimal digits of either case with colons between them.
 ///
 /// `None` for every other text.
 pub fn read_mac(text: &[u8]) -> Option<Mac>

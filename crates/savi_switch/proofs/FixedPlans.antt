@@ -8,7 +8,7 @@ use Rattle.savi_kinds.specs.declared.plan.Plan.{Plan}
 use Rattle.savi_kinds.specs.declared.plan.PortPlan.{PortPlan}
 use Rattle.savi_kinds.specs.declared.plan.PrefixPlan.{PrefixPlan}
 use Rattle.savi_kinds.specs.Prefixes.{past_of, first_of}
-use Rattle.savi_kinds.specs.ValidPlan.{IsValidPlan, IsHostPrefix, IsWithin, numbers_of, nets_of, is_group}
+use Rattle.savi_kinds.specs.ValidPlan.{IsValidPlan, IsPlanPrefix, IsWithin, numbers_of, nets_of, is_group}
 use Rattle.savi_switch.specs.FixedPlan.{IsFixedPlan, Shown, shown}
 
 -- the numbers of the ports are those that are shown
@@ -43,6 +43,6 @@ fixed_valid plan fixed = record {
   port_count = subst (IsWithin 1 16) (sym (fixed_count plan fixed)) (lit≤ tt, lit≤ tt);
   ports = subst IsStrictlyIncreasing (sym (fixed_numbers plan fixed)) one_two;
   prefix_count = omega (arith, ap (λ (ps : List PrefixPlan). length ps) fixed.prefixes);
-  host_prefixes = subst (λ (ps : List PrefixPlan). All IsHostPrefix (nets_of ps)) (sym fixed.prefixes) (All-nil IsHostPrefix);
+  plan_prefixes = subst (λ (ps : List PrefixPlan). All IsPlanPrefix (nets_of ps)) (sym fixed.prefixes) (All-nil IsPlanPrefix);
   prefixes = subst (λ (ps : List PrefixPlan). AllPairs (λ p q. past_of p ≤ first_of q) (nets_of ps)) (sym fixed.prefixes) (no_pairs (λ p q. past_of p ≤ first_of q));
 }

@@ -28,6 +28,6 @@ returns-clause-valid c =
       port_count = rw ports_are (lit≤ tt, lit≤ tt);
       ports = rw ports_are (rising_two (number_of c.port_plan.result.number) (number_of c.port_plan-2.result.number) (omega (arith, one, two)));
       prefix_count = rw none (lit≤ tt);
-      host_prefixes = rw none (λ k d within. absurd (omega (arith, within)));
+      plan_prefixes = rw none (λ k d within. absurd (omega (arith, within)));
       prefixes = rw none (λ i j d before within. absurd (omega (arith, within)));
     }
