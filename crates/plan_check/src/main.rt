@@ -1,0 +1,73 @@
+//! Reads the configurations that its words name, as for a replay of captures, and prints the plan of each, or what is
+//! wrong with it. Without a word it prints nothing.
+//!
+//! The status is 0 where each text says a plan, and else 3.
+#![tactic(auto)]
+
+mod words;
+
+use savi_conf::read_plan;
+use savi_kinds::{Plan, put_addr, put_mac};
+use std::process::ExitCode;
+use std::{env, fs, io};
+use words::{format_word, method_word, role_word, savi_word, unknown_word};
+
+// The status where a text says no plan.
+const REFUSED: u8 = 3;
+
+fn main(rt: HostRuntime) -> io::Result<ExitCode> {
+    let mut status = 0;
+    for name in env::args(&rt)?.skip(1) {
+        let text = fs::read(&rt, name.as_str())?;
+        match read_plan(rt.alloc(), text.as_slice(), true) {
+            Ok(plan) => print_plan(&rt, name.as_str(), &plan)?,
+            Err(fault) => {
+                println!(rt; "{name}: {fault}")?;
+                status = REFUSED;
+            }
+        }
+    }
+    Ok(ExitCode::from(status))
+}
+
+// A line for each part of the plan.
+fn print_plan(rt: &impl Print, name: &str, plan: &Plan) -> io::Result<()> {
+    println!(rt; "{name}: a plan")?;
+    let mac = put_mac(plan.mac);
+    println!(rt; "mac {}", mac.as_str())?;
+    println!(rt; "savi {}", savi_word(plan.savi))?;
+    println!(rt; "unknown {}", unknown_word(plan.drop_unknown))?;
+    println!(rt; "per_port {} depth {}", plan.per_port, plan.depth)?;
+    println!(rt; "entries {} bytes {}", plan.entries, plan.bytes)?;
+    println!(rt;
+        "gap {} ms, test {} ms, binding {} ms",
+        plan.gap, plan.test, plan.life
+    )?;
+    println!(rt; "journal {}", plan.journal.as_str())?;
+    print_ports(rt, plan)?;
+    print_prefixes(rt, plan)
+}
+
+fn print_ports(rt: &impl Print, plan: &Plan) -> io::Result<()> {
+    for port in plan.ports.as_slice() {
+        let number = port.number.get();
+        let role = role_word(port.role);
+        let format = format_word(port.format);
+        let (input, output) = (port.input.as_str(), port.output.as_str());
+        println!(rt; "port {number} {role} {format} {input} {output}")?;
+    }
+    Ok(())
+}
+
+fn print_prefixes(rt: &impl Print, plan: &Plan) -> io::Result<()> {
+    for entry in plan.prefixes.as_slice() {
+        let net = put_addr(entry.prefix.net);
+        println!(rt;
+            "prefix {}/{} {}",
+            net.as_str(),
+            entry.prefix.len,
+            method_word(entry.method)
+        )?;
+    }
+    Ok(())
+}

@@ -1,0 +1,11 @@
+pub mod Tables
+pub mod Listed
+pub mod KeysLemmas
+pub mod RangeLemmas
+pub mod PrefixLemmas
+pub mod Both
+pub mod PartsLemmas
+pub mod FaultOrder
+pub mod Pairs
+pub mod InOrder
+pub mod MetLemmas

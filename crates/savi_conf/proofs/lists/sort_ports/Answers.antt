@@ -1,0 +1,7 @@
+use Rattle.std.proofs.Common.{rules}
+use Rattle.std.proofs.lemmas.List.Sorted.{IsNonDecreasingBy-from_sort_by_key}
+use Rattle.savi_kinds.specs.Ports.{number_of}
+use Rattle.savi_conf.proofs.lists.sort_ports.Goals as goal
+
+pub returns-clause-order : goal.returns-clause-order
+returns-clause-order c = IsNonDecreasingBy-from_sort_by_key (λ p. number_of p.number) _ c.sort_unstable_by_key.ensures.sorted (λ a r q k. search rules)

@@ -1,0 +1,9 @@
+use Rattle.std.proofs.Common.{take}
+use Rattle.std.specs.List.{All}
+use Rattle.toml.specs.View.{table_view}
+use Rattle.savi_conf.specs.Keys.{HasOnly}
+use Rattle.savi_conf.specs.KeyNames.{keys_of}
+use Rattle.savi_conf.proofs.parts.have_only.Given as goal
+
+abbrev pub invariant-loop-table : goal.invariant-loop-table
+invariant-loop-table l = All (λ t. HasOnly (keys_of l.keys) (table_view t.now)) (take l.table-index l.tables)

@@ -1,0 +1,23 @@
+use Rattle.std.proofs.Common.{refl, sym, ◌∙◌}
+use Rattle.std.proofs.lemmas.Bool.{false≢true}
+use Rattle.savi_conf.specs.Keys.{Keys, HasRequired}
+use Rattle.savi_conf.specs.KeyNames.{keys_of}
+use Rattle.savi_conf.proofs.Listed.{All-at, All-next, All-whole}
+use Rattle.savi_conf.proofs.PartsLemmas.{Seen, view_of}
+use Rattle.savi_conf.proofs.parts.have_required.Goals as goal
+
+abbrev Meets : Keys → Seen → Type 0
+Meets keys t = HasRequired keys (view_of t)
+
+pub returns-then-not-has_required : goal.returns-then-not-has_required
+returns-then-not-has_required c = (
+  λ never. absurd (false≢true never),
+  λ all. sym c.if-not-has_required.true ∙ c.has_required.ensures.1 (All-at (Meets (keys_of c.args.keys.now)) c.args.tables.now c.loop-table.table-index c.table-item.result c.loop-table-test.true c.table-item.is all),
+)
+
+pub loop-table-preserved : goal.loop-table-preserved
+loop-table-preserved c =
+    All-next (Meets (keys_of c.args.keys.now)) c.args.tables.now c.loop-table.table-index c.table-item.result c.loop-table-test.true c.table-item.is c.loop-table.invariant (c.has_required.ensures.0 c.if-not-has_required.false)
+
+pub returns : goal.returns
+returns c = (λ _. All-whole (Meets (keys_of c.args.keys.now)) c.args.tables.now c.loop-table.table-index c.loop-table-test.false c.loop-table.invariant, λ _. refl)

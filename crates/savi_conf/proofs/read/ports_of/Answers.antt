@@ -1,0 +1,19 @@
+use Rattle.std.proofs.Common.{◌≢◌}
+use Rattle.savi_conf.specs.declared.fault.Fault.TheVariants.{PortNumbers}
+use Rattle.savi_conf.specs.Parts.{document_of}
+use Rattle.savi_conf.specs.Requirements.{number_in}
+use Rattle.savi_conf.specs.Told.{CanSayPort}
+use Rattle.savi_conf.proofs.Listed.{All-unmap, AllPairs-unmap}
+use Rattle.savi_conf.proofs.MetLemmas.{ports_said}
+use Rattle.savi_conf.proofs.PartsLemmas.{view_of}
+use Rattle.savi_conf.proofs.read.ports_of.Goals as goal
+
+pub port_plans-requires-clause-each : goal.port_plans-requires-clause-each
+port_plans-requires-clause-each c =
+    let parts = c.args.parts.now in
+    All-unmap CanSayPort (λ t. view_of t) parts.ports.now (rw c.requires.parts.ports (ports_said parts.replay (document_of parts) c.requires.meets))
+
+pub port_plans-requires-clause-different : goal.port_plans-requires-clause-different
+port_plans-requires-clause-different c =
+    let parts = c.args.parts.now in
+    AllPairs-unmap (λ p q. number_in p ≢ number_in q) (λ t. view_of t) parts.ports.now (rw c.requires.parts.ports (c.requires.meets PortNumbers).different)

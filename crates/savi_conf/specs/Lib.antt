@@ -1,0 +1,11 @@
+pub mod Documents
+pub mod Keys
+pub mod KeyNames
+pub mod Words
+pub mod Faults
+pub mod FaultTexts
+pub mod Requirements
+pub mod Parts
+pub mod PlanOf
+pub mod Told
+pub mod Answers

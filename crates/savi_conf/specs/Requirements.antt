@@ -1,0 +1,145 @@
+-- What a configuration has to meet. Each fault is that one requirement isn't met.
+use Rattle.std.specs.Prelude.{ℕ, ℤ, pos, ◌≤ℤ◌, ◌<ℤ◌, ◌≤◌, ◌<◌, ◌≡◌, ◌≢◌, Bool, true, false, List, length, codes, Option, Some, None, is_some, IfSome, IsSomeAnd, All, AllPairs}
+use Rattle.toml.specs.Data.{Members}
+use Rattle.savi_kinds.specs.declared.address.Mac.{Mac}
+use Rattle.savi_kinds.specs.declared.plan.Format.TheVariants.{Stream}
+use Rattle.savi_kinds.specs.declared.address.Prefix.{Prefix}
+use Rattle.savi_kinds.specs.MacText.{IsMacText}
+use Rattle.savi_kinds.specs.PrefixText.{IsPrefixText}
+use Rattle.savi_kinds.specs.Prefixes.{AreApart}
+use Rattle.savi_kinds.specs.ValidPlan.{is_group, IsPlanPrefix}
+use Rattle.savi_conf.specs.declared.fault.Fault.{Fault}
+use Rattle.savi_conf.specs.declared.fault.Fault.TheVariants.{UnknownKey, WrongKind, MissingKey, SwitchMac, SaviWord, NextHeaderWord, PerPort, Depth, Entries, Bytes, Times, PortCount, PortNumbers, RoleWord, FormatWord, PrefixTexts, PrefixRanges, MethodWord, StreamInReplay, NotBuilt}
+use Rattle.savi_conf.specs.Documents.{text_at, text_or, integer_at, integer_or, tables_at}
+use Rattle.savi_conf.specs.Keys.{Keys, top_keys, port_keys, prefix_keys, HasOnly, HasKinds, HasRequired}
+use Rattle.savi_conf.specs.Words.{role_word, method_word, format_word, savi_word, unknown_word, HasWord}
+use Rattle.savi_conf.specs.Faults.{fault_number}
+
+-- the tables of the ports, and those of the prefixes
+abbrev pub ports_in : Members → List Members
+ports_in document = tables_at (codes "port") document
+
+abbrev pub prefixes_in : Members → List Members
+prefixes_in document = tables_at (codes "prefix") document
+
+-- an integer from the least to the most
+abbrev pub IsBetween : ℕ → ℕ → ℤ → Type 0
+IsBetween least most z = (pos least ≤ℤ z) × (z ≤ℤ pos most)
+
+-- the text of a MAC address without the group bit (IEEE 802.3)
+pub record IsSwitchMac (text : List ℕ) : Type 0 where
+  pub mac : Mac
+  pub spelled : IsMacText text mac
+  pub unicast : is_group mac ≡ false
+
+-- the requirement `Each` for the document, each port and each prefix, by their keys
+pub record EachTable (Each : Keys → Members → Type 0) (document : Members) : Type 0 where
+  pub top : Each top_keys document
+  pub ports : All (Each port_keys) (ports_in document)
+  pub prefixes : All (Each prefix_keys) (prefixes_in document)
+
+-- `control` and `control_out` stand together
+abbrev pub HasBothControls : Members → Type 0
+HasBothControls document = is_some (text_at (codes "control") document) ≡ is_some (text_at (codes "control_out") document)
+
+-- the limits
+abbrev pub per_port_in : Members → ℤ
+per_port_in document = integer_or (codes "per_port") (pos 32) document
+
+abbrev pub depth_in : Members → ℤ
+depth_in document = integer_or (codes "depth") (pos 256) document
+
+abbrev pub entries_in : Members → ℤ
+entries_in document = integer_or (codes "entries") (pos 262144) document
+
+abbrev pub bytes_in : Members → ℤ
+bytes_in document = integer_or (codes "bytes") (pos 67108864) document
+
+-- the times in ms, and the life of a binding in s
+abbrev pub gap_in : Members → ℤ
+gap_in document = integer_or (codes "probe_gap_ms") (pos 250) document
+
+abbrev pub test_in : Members → ℤ
+test_in document = integer_or (codes "test_ms") (pos 500) document
+
+abbrev pub life_in : Members → ℤ
+life_in document = integer_or (codes "binding_s") (pos 300) document
+
+pub record HasTimes (document : Members) : Type 0 where
+  pub gap : IsBetween 1 59999 (gap_in document)
+  pub test : IsBetween 2 60000 (test_in document)
+  pub gap_first : gap_in document <ℤ test_in document
+  pub life : IsBetween 1 86400 (life_in document)
+
+-- the port's number
+abbrev pub number_in : Members → Option ℤ
+number_in port = integer_at (codes "number") port
+
+pub record HasNumbers (ports : List Members) : Type 0 where
+  pub range : All (λ port. IfSome (number_in port) (IsBetween 1 16)) ports
+  pub different : AllPairs (λ p q. number_in p ≢ number_in q) ports
+
+-- the table's text at `prefix` is that of this prefix
+abbrev pub HasPrefix : Members → Prefix → Type 0
+HasPrefix t p = IsSomeAnd (text_at (codes "prefix") t) (λ text. IsPrefixText text p)
+
+-- the text of a prefix
+pub record IsSomePrefix (text : List ℕ) : Type 0 where
+  pub prefix : Prefix
+  pub spelled : IsPrefixText text prefix
+
+pub record HasPrefixTexts (prefixes : List Members) : Type 0 where
+  pub count : length prefixes ≤ 32
+  pub texts : All (λ t. IfSome (text_at (codes "prefix") t) IsSomePrefix) prefixes
+
+-- the prefix of the table, where it has one, is one that a plan may name
+pub record TellsPlanPrefix (t : Members) : Type 0 where
+  pub each : (p : Prefix) → HasPrefix t p → IsPlanPrefix p
+
+-- the prefixes of the tables, where both have one, have no address in common
+pub record HaveApartRanges (t u : Members) : Type 0 where
+  pub each : (p q : Prefix) → HasPrefix t p → HasPrefix u q → AreApart p q
+
+pub record HasPrefixRanges (prefixes : List Members) : Type 0 where
+  pub planned : All TellsPlanPrefix prefixes
+  pub apart : AllPairs HaveApartRanges prefixes
+
+-- the word of `savi`, and that of `unknown`
+abbrev pub savi_in : Members → List ℕ
+savi_in document = text_or (codes "savi") (savi_word true) document
+
+abbrev pub unknown_in : Members → List ℕ
+unknown_in document = text_or (codes "unknown") (unknown_word true) document
+
+-- nothing is asked for that isn't there yet: validation of sources and control
+pub record AsksForBuilt (document : Members) : Type 0 where
+  pub savi : savi_in document ≡ savi_word false
+  pub control : text_at (codes "control") document ≡ None
+
+-- what a document has to meet, so that it hasn't this fault; `replay` is the form of the command line
+abbrev pub Meets : Bool → Members → Fault → Type 0
+Meets replay document UnknownKey = EachTable HasOnly document
+Meets replay document WrongKind = EachTable HasKinds document
+Meets replay document MissingKey = EachTable HasRequired document × HasBothControls document
+Meets replay document SwitchMac = IfSome (text_at (codes "mac") document) IsSwitchMac
+Meets replay document SaviWord = HasWord (codes "savi") savi_word document
+Meets replay document NextHeaderWord = HasWord (codes "unknown") unknown_word document
+Meets replay document PerPort = IsBetween 1 64 (per_port_in document)
+Meets replay document Depth = IsBetween 1 256 (depth_in document)
+Meets replay document Entries = IsBetween 4131 1000000 (entries_in document)
+Meets replay document Bytes = IsBetween 1518 1073741824 (bytes_in document)
+Meets replay document Times = HasTimes document
+Meets replay document PortCount = (1 ≤ length (ports_in document)) × (length (ports_in document) ≤ 16)
+Meets replay document PortNumbers = HasNumbers (ports_in document)
+Meets replay document RoleWord = All (HasWord (codes "role") role_word) (ports_in document)
+Meets replay document FormatWord = All (HasWord (codes "format") format_word) (ports_in document)
+Meets replay document PrefixTexts = HasPrefixTexts (prefixes_in document)
+Meets replay document PrefixRanges = HasPrefixRanges (prefixes_in document)
+Meets replay document MethodWord = All (HasWord (codes "method") method_word) (prefixes_in document)
+Meets replay document StreamInReplay = replay ≡ true → All (λ port. text_at (codes "format") port ≢ Some (format_word Stream)) (ports_in document)
+Meets replay document NotBuilt = AsksForBuilt document
+
+-- the fault applies, and none with a lower number does
+pub record IsFirstFault (replay : Bool) (document : Members) (fault : Fault) : Type 0 where
+  pub applies : ¬ Meets replay document fault
+  pub first : (other : Fault) → fault_number other < fault_number fault → Meets replay document other

@@ -1,0 +1,21 @@
+//! The configuration of a switch.
+#![tactic(auto)]
+
+mod document;
+mod fault;
+mod keys;
+mod lists;
+mod numbers;
+mod parts;
+mod plan;
+mod ports;
+mod prefixes;
+mod ranges;
+mod read;
+mod words;
+
+pub use fault::{ConfFault, Fault};
+pub use read::{OCTETS_MOST, read_plan};
+
+#[cfg(test)]
+mod tests;
