@@ -1,6 +1,6 @@
 # The switch, its demonstration and its benchmark. Each needs the Rattle toolchain (`rt` on the path) and no network.
 
-.PHONY: build demo bench check clean
+.PHONY: build demo plan bench check clean
 
 # The proved program. The first build proves each crate, 15 to 30 minutes on 4 cores; a later one takes seconds.
 build: build/savi_switch
@@ -11,6 +11,11 @@ build/%: $(wildcard crates/*/src/*.rt crates/*/specs/*.antt crates/*/proofs/*.an
 # A replay of two captures of Linux hosts, one of which attacks. The first time takes the build, a later one a second.
 demo: build
 	tools/demo
+
+# Reads a configuration, and prints its plan or what is wrong with it: make plan PLAN=FILE.
+PLAN = examples/shared-network/plan.toml
+plan: build/plan_check
+	build/plan_check $(PLAN)
 
 # The program beside a C program that does the same octet work without judging; the reader of captures beside tcpdump; the
 # pass lock beside a mutex; the stations beside a hash map. The first time takes the builds, and then about a minute.
