@@ -51,11 +51,14 @@ impl Fdb {
         })
     }
 
-    /// Learns at moment `t` (ms) that a frame from `mac` came in at port `p`: a station that is live there is live anew;
-    /// else it is now there, where the port has fewer than 256 live stations; else no live station has changed. O(log n)
-    /// for a station that is live there, and where the port has no room. Else one move of the stations of higher MAC
-    /// addresses by one place; and, where 256 stations are kept at the port of which one may have ended, some passes over
-    /// all stations that are kept, at most once in a ms.
+    /// Learns at moment `t` (ms, at most 2^62) that a frame from `mac` came in at port `p`: a station that is live there is
+    /// live anew; else it is now there, where the port has fewer than 256 live stations; else no live station has changed.
+    ///
+    /// O(log n) for a station that is live there, and at a port of 256 stations whose earliest end, by what is remembered
+    /// of it, is still to come. A station that is taken in moves those of higher MAC addresses by one place. Where 256
+    /// stations are kept at the port and that end has come, there are some passes over all stations that are kept, at most
+    /// once in a ms for a port. What is remembered isn't later than the earliest end, and may be earlier, since the station
+    /// that it comes from may have been seen again.
     pub fn learn(&mut self, mac: Mac, p: Port, t: Moment)
         requires { t ≤ 2 ^ 62 }
         ensures learned { live_at t self.new ≡ learned (station_of mac p t) (live_at t self.old) }

@@ -2,7 +2,7 @@
 
 use savi_kinds::{Mac, PORTS_MOST, Port};
 
-/// The n-th number of a stirred row (the finalizer of MurmurHash3).
+/// The n-th number of a row in no order (the finalizer of MurmurHash3).
 pub fn stirred(n: u64) -> u64 {
     let first = (n ^ (n >> 33)).wrapping_mul(0xff51_afd7_ed55_8ccd);
     let second = (first ^ (first >> 33)).wrapping_mul(0xc4ce_b9fe_1a85_ec53);

@@ -1,8 +1,9 @@
 //! Calls of `bridge_fdb`, timed beside look-ups in std's `HashMap`, or compared with those of a plain list.
 //!
 //! usage: fdb_bench time|compare. `time` prints a line for each kind of call: its name, how many were made, and the
-//! nanoseconds of the processor that they took (and a number that depends on the answers). `compare` prints how many of 100,000 calls answered alike, and it stops at
-//! the first one that didn't. With no word, or another one, it prints nothing.
+//! nanoseconds of the processor that they took (and a number that depends on the answers). `compare` prints how many of
+//! 100,000 calls answered alike, and how many there are of each kind; it stops at the first one that didn't. With no word,
+//! or another one, it prints nothing.
 #![tactic(auto)]
 
 mod compare;
@@ -10,6 +11,7 @@ mod keys;
 mod plain_list;
 mod timed;
 
+use compare::{Call, count_calls};
 use std::alloc::Global;
 use std::time::CpuClock;
 use std::{env, io};
@@ -23,6 +25,9 @@ fn main(rt: HostRuntime) -> io::Result<()> {
         "compare" => {
             let alike = compare::count_alike(rt.alloc())?;
             println!(rt; "{alike} of {} calls answer alike", compare::CALLS)?;
+            println!(rt; "{} ask for a place", count_calls(Call::Place))?;
+            println!(rt; "{} ask for a row", count_calls(Call::Row))?;
+            println!(rt; "{} learn", count_calls(Call::Learn))?;
         }
         "time" => {
             for timed in &all_timed(&rt, rt.alloc())? {

@@ -1,8 +1,13 @@
 //! The stations as a plain list, in the order in which they were seen last. Each call looks at all of them.
 
-use bridge_fdb::{AGEING_TIME_MS, STATIONS_MOST, Station};
+use bridge_fdb::Station;
 use savi_kinds::{Mac, Moment, Port};
 use std::alloc::{AllocError, Global};
+
+/// A station is live for so many ms (IEEE 802.1Q table 8-6), and a port has at most so many live ones.
+const LIFE_MS: u64 = 300_000;
+
+const STATIONS_MOST: usize = 256;
 
 #[derive(Drop)]
 pub struct PlainList {
@@ -10,7 +15,7 @@ pub struct PlainList {
 }
 
 fn end(station: &Station) -> Moment {
-    station.last.saturating_add(AGEING_TIME_MS)
+    station.last.saturating_add(LIFE_MS)
 }
 
 impl PlainList {

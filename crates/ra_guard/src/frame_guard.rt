@@ -115,7 +115,8 @@ fn message_rule(ip: &Ip, kind: u8, fragmented: bool, nd: Option<Nd>) -> Option<R
     (kind == REDIRECT).then_some(Rule::Redirect)
 }
 
-/// Whether a message of this type is a router advertisement that hosts take (RFC 4861 section 6.1.2).
+/// Whether a message of this type is a router advertisement with a source and a hop limit that hosts take
+/// (RFC 4861 section 6.1.2).
 fn is_router_advert(ip: &Ip, kind: u8) -> bool
     ensures { IsTrue result ↔ IsRouterAdvert ip.now kind }
 {

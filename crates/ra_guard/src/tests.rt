@@ -9,7 +9,7 @@ use std::test::Fail;
 /// Name, role of the port, whether a next header that isn't known is dropped, the frame, and the rule that stops it.
 type Case = (&'static str, Role, bool, &'static str, Option<Rule>);
 
-static CASES: [Case; 31] = [
+static CASES: [Case; 33] = [
     (
         "a router advertisement",
         Role::Host,
@@ -26,7 +26,7 @@ static CASES: [Case; 31] = [
     ),
     (
         "in a first fragment",
-        Role::Server,
+        Role::Host,
         true,
         "33330000000102000000002286dd6000000000182cfffe800000000000000000000000000022ff0200000000000000000000000000013a0000010000000186003506400007080000000000000000",
         Some(Rule::RouterAdvert),
@@ -63,7 +63,7 @@ static CASES: [Case; 31] = [
         "the fragment behind it",
         Role::Host,
         true,
-        "33330000000102000000002286dd6000000000102c4020010db8000100000000000000000022ff0200000000000000000000000000013c0000080000000200000000000000003a01010c00000000",
+        "33330000000102000000002286dd6000000000102c4020010db8000100000000000000000022ff0200000000000000000000000000013c000008000000020000000000000000",
         None,
     ),
     (
@@ -82,7 +82,7 @@ static CASES: [Case; 31] = [
     ),
     (
         "behind a fragment header",
-        Role::Server,
+        Role::Host,
         true,
         "3333ff00001102000000001186dd6000000000202cff00000000000000000000000000000000ff0200000000000000000001ff0000113a0000000000000187007c0500000000fe800000000000000000000000000011",
         Some(Rule::FragmentedNd),
@@ -226,6 +226,20 @@ static CASES: [Case; 31] = [
         true,
         "ffffffffffff02000000002208060001",
         None,
+    ),
+    (
+        "in a first fragment, from a server",
+        Role::Server,
+        true,
+        "33330000000102000000002286dd6000000000182cfffe800000000000000000000000000022ff0200000000000000000000000000013a0000010000000186003506400007080000000000000000",
+        Some(Rule::RouterAdvert),
+    ),
+    (
+        "behind a fragment header, from a server",
+        Role::Server,
+        true,
+        "3333ff00001102000000001186dd6000000000202cff00000000000000000000000000000000ff0200000000000000000001ff0000113a0000000000000187007c0500000000fe800000000000000000000000000011",
+        Some(Rule::FragmentedNd),
     ),
 ];
 

@@ -21,7 +21,7 @@ pub const ENTRIES_LEAST: u64 = 4_131;
 /// The greatest number of entries of a history that a plan may allow.
 pub const ENTRIES_MOST: u64 = 1_000_000;
 
-/// The octets of the shortest frame: two MAC addresses and an EtherType (IEEE 802.3).
+/// The octets of a frame's header: two MAC addresses and an EtherType (IEEE 802.3 section 3.2). No shorter frame is taken.
 pub const FRAME_OCTETS_LEAST: usize = 14;
 
 /// The octets of the longest frame without its check sequence: a header and 1,500 octets of payload, with 4 more for

@@ -44,7 +44,7 @@ pub enum Rule {
     WrongPort = 18,
     /// The address is tentative at this port.
     Unverified = 19,
-    /// The address is tentative or under a test at another port.
+    /// The address is tentative at another port, or under a test that this port has no part in.
     Contested = 20,
     /// The advertised target isn't live at this port.
     NaTarget = 21,

@@ -37,7 +37,8 @@ impl<V: Kept> TableLock<V> {
 
     /// Waits for the pass's turn, and takes the value out of the lock. It takes no memory.
     ///
-    /// The passes are served in the order in which they drew their tickets. Nothing is promised of how long that takes.
+    /// The pass is one of this lock's. By the rule the passes are served in the order in which they drew their tickets, but
+    /// no clause says so. Nothing is promised of how long that takes.
     pub fn enter<'a, R: Wait>(&'a self, rt: &R, pass: Pass) -> Held<'a, V>
         requires { IsPassOf V.fixed self.now pass }
         ensures turn { IsTurn V.fixed result }
