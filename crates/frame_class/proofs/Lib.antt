@@ -1,3 +1,4 @@
+pub mod ClassIs
 pub mod LeastOctets
 pub mod OneClass
 pub mod Layers

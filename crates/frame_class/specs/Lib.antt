@@ -1,2 +1,3 @@
 pub mod Classes
+pub mod ClassOf
 pub mod Reading

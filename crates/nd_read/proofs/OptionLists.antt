@@ -115,7 +115,7 @@ continues_all octets [] found known none =
     (whole.options, whole.are, (λ h. elim (whole.named h) [ inl e ↦ e | inr g ↦ absurd (kind-nil 1 g) ]), (λ e. whole.names (inl e)))
 continues_all octets (x ∷ rest) found known none = absurd (omega arith)
 
-alone : (x : ℕ) (others : List NdOption) → AreOptions (x ∷ []) others → ⊥
+pub alone : (x : ℕ) (others : List NdOption) → AreOptions (x ∷ []) others → ⊥
 alone x [] are = let e : suc (length {A = ℕ} []) ≡ 0 = ap length are.row in omega arith
 alone x (o ∷ os) are =
     let e : suc (length {A = ℕ} []) ≡ length (octets_of o ++ flat_map octets_of os) = ap length are.row in

@@ -1,3 +1,4 @@
 pub mod RuleOrder
+pub mod RuleOf
 pub mod HeaderRules
 pub mod Stopping

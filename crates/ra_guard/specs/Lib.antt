@@ -1,3 +1,4 @@
 pub mod Guard
+pub mod GuardOf
 pub mod Parts
 pub mod Refused
