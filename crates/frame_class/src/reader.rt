@@ -33,7 +33,8 @@ const DESTINATION_PORT_AT: usize = 2;
 /// The octets of a UDP header (RFC 768).
 const UDP_HEADER_LEN: usize = 8;
 
-/// What a frame is. Its octets, without the check sequence, are at most 1,518. O(n): the headers are gone through once, and the octets of a message of neighbor discovery also for their checksum.
+/// What a frame is. Its octets, without the check sequence, are at most 1,518. O(n): the headers are gone through once, and
+/// the octets of a message of neighbor discovery also for their checksum.
 pub fn class(frame: &[u8]) -> Class
     requires { length frame.now ≤ FRAME_OCTETS_MOST }
     ensures reading { IsClassOf frame.now result }

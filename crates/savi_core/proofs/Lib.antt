@@ -8,7 +8,6 @@ pub mod Remembering
 pub mod Stepping
 pub mod Moving
 pub mod FrameEntries
-pub mod Judged
 pub mod Pieces
 pub mod Summing
 pub mod Finding

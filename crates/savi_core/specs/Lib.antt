@@ -1,4 +1,3 @@
-pub mod Judging
 pub mod Batches
 pub mod Machines
 pub mod Steps

@@ -15,6 +15,10 @@ use Rattle.savi_kinds.specs.declared.entry.How.TheVariants as hows
 use Rattle.savi_kinds.specs.Arrivals.{Arrival, Input}
 use Rattle.savi_kinds.specs.Arrivals as arrivals
 use Rattle.v6_chain.specs.Kinds.{kind_of}
+use Rattle.nd_read.specs.Messages.{named}
+use Rattle.nd_read.specs.NdOf.{nd_of, passes as message_passes}
+use Rattle.frame_class.specs.ClassOf.{class_of}
+use Rattle.ra_guard.specs.GuardOf.{guard_of}
 use Rattle.hist_store.specs.Rows.{Row}
 use Rattle.savi_history.specs.Bases.{empty}
 use Rattle.savi_history.specs.Replay.{replayed}
@@ -64,7 +68,7 @@ abbrev pub frame : ℕ → ℕ → Act → Verdict → ℕ → List ℕ → Row
 frame by moment act verdict outs octets = record { entry = record { by = by; moment = moment; act = act; verdict = Some verdict; outs = record { 0 = outs }; cuts = record { 0 = 0 }; probes = 0; lost = 0 }; octets = octets }
 
 pub advert_dropped : judged 1 plan empty [] 1 1000 advert ≡ verdicts.Drop rules.RouterAdvert
-unfolding kind_of
+unfolding class_of nd_of named message_passes kind_of guard_of
 advert_dropped = refl
 
 pub two_captures : replayed plan empty inputs ≡
@@ -80,13 +84,13 @@ pub two_captures : replayed plan empty inputs ≡
     ∷ frame 0 1000 (acts.Frame port_one 1000 0 70) (verdicts.Drop rules.RouterAdvert) 0 advert
     ∷ other 2 0 (acts.End passes.Control hows.End)
     ∷ []
-unfolding kind_of
+unfolding class_of nd_of named message_passes kind_of guard_of
 two_captures = refl
 
 pub summed_up : summary_of (replayed plan empty inputs) ≡ record { entries = 11; frames = 3; passed = 2; dropped = 1; probes = 0; lost = 0; cut = 0 }
-unfolding kind_of lib.Count.ones
+unfolding class_of nd_of named message_passes kind_of guard_of lib.Count.ones
 summed_up = refl
 
 pub sent_at_two : sent empty 2 (replayed plan empty inputs) ≡ record { moment = 1001; octets = packet } ∷ []
-unfolding kind_of
+unfolding class_of nd_of named message_passes kind_of guard_of
 sent_at_two = refl

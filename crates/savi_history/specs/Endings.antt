@@ -1,8 +1,10 @@
 -- How the inputs of a history ended.
-use Rattle.std.specs.Prelude.{Bool, true, false, List}
+use Rattle.std.specs.Prelude.{Bool, true, false, ◌&&◌, List}
 use Rattle.std.specs.List.{list_any}
 use Rattle.savi_kinds.specs.declared.entry.Act.{Act}
 use Rattle.savi_kinds.specs.declared.entry.Act.TheVariants as acts
+use Rattle.savi_kinds.specs.declared.entry.Who.{Who}
+use Rattle.savi_kinds.specs.declared.entry.Who.TheVariants.{Ingress, Control, Ticker, Egress}
 use Rattle.savi_kinds.specs.declared.entry.How.{How}
 use Rattle.savi_kinds.specs.declared.entry.How.TheVariants as hows
 use Rattle.hist_store.specs.Rows.{Row}
@@ -16,6 +18,16 @@ is_malformed_reason (hows.Overlong at) = true
 is_malformed_reason hows.Failed = false
 is_malformed_reason hows.Unwritten = false
 is_malformed_reason (hows.Full len) = false
+
+-- a read of the input failed
+abbrev pub is_failed_reason : How → Bool
+is_failed_reason hows.End = false
+is_failed_reason hows.Quit = false
+is_failed_reason (hows.Malformed at) = false
+is_failed_reason (hows.Overlong at) = false
+is_failed_reason hows.Failed = true
+is_failed_reason hows.Unwritten = false
+is_failed_reason (hows.Full len) = false
 
 -- there was no room for the input
 abbrev pub is_full_reason : How → Bool
@@ -36,6 +48,22 @@ ends_with holds (acts.Command stamp at len) = false
 ends_with holds (acts.Drain port count) = false
 ends_with holds (acts.End who how) = holds how
 
+-- the end of an input: of the ingress pass of a port, or of control
+abbrev pub is_input : Who → Bool
+is_input (Ingress p) = true
+is_input Control = true
+is_input Ticker = false
+is_input (Egress p) = false
+
+-- the end of an input at a read that failed
+abbrev pub is_failed_end : Act → Bool
+is_failed_end (acts.Frame port stamp at len) = false
+is_failed_end (acts.Long port stamp len) = false
+is_failed_end (acts.Tick stamp) = false
+is_failed_end (acts.Command stamp at len) = false
+is_failed_end (acts.Drain port count) = false
+is_failed_end (acts.End who how) = is_input who && is_failed_reason how
+
 abbrev pub is_malformed_end : Act → Bool
 is_malformed_end act = ends_with is_malformed_reason act
 
@@ -45,6 +73,10 @@ is_full_end act = ends_with is_full_reason act
 -- an input of the history was malformed, or a line of it was too long
 abbrev pub has_malformed : List Row → Bool
 has_malformed rows = list_any (λ r. is_malformed_end r.entry.act) rows
+
+-- a read of an input of the history failed
+abbrev pub has_failed : List Row → Bool
+has_failed rows = list_any (λ r. is_failed_end r.entry.act) rows
 
 -- an input of the history ended for want of room
 abbrev pub has_full : List Row → Bool

@@ -17,24 +17,21 @@ pub record IsCut (Arrives : List ℕ → Input → Type 0) (before after : Optio
   pub refused : Arrival
   pub read : Arrives gave (record { arrivals = arrivals ++ refused ∷ []; ending = hows.End })
 
--- No input ends in another way, since a read that fails stops the replay.
+-- What the source gave up is these arrivals, in front of the read that failed: behind them no whole arrival was read.
+pub record IsBroken (Arrives : List ℕ → Input → Type 0) (before after : Option (List ℕ)) (arrivals : List Arrival) : Type 0 where
+  pub gave : List ℕ
+  pub takes : Takes before after gave
+  -- how the octets would end, had the input nothing behind them
+  pub ending : How
+  pub read : Arrives gave (record { arrivals = arrivals; ending = ending })
+
+-- The input of a capture ends in no other way.
 abbrev pub Fits : (List ℕ → Input → Type 0) → Option (List ℕ) → Option (List ℕ) → List Arrival → Option How → Type 0
 Fits Arrives before after arrivals (Some hows.End) = IsWhole Arrives before arrivals hows.End
 Fits Arrives before after arrivals (Some (hows.Malformed at)) = IsWhole Arrives before arrivals (hows.Malformed at)
+Fits Arrives before after arrivals (Some hows.Failed) = IsBroken Arrives before after arrivals
 Fits Arrives before after arrivals (Some (hows.Full len)) = IsCut Arrives before after arrivals
 Fits Arrives before after arrivals (Some hows.Quit) = ⊥
 Fits Arrives before after arrivals (Some (hows.Overlong at)) = ⊥
-Fits Arrives before after arrivals (Some hows.Failed) = ⊥
 Fits Arrives before after arrivals (Some hows.Unwritten) = ⊥
 Fits Arrives before after arrivals None = ⊥
-
--- the input has ended, and not by a read that failed
-abbrev pub EndsUnfailed : Option How → Type 0
-EndsUnfailed (Some hows.End) = Unit {0}
-EndsUnfailed (Some (hows.Malformed at)) = Unit {0}
-EndsUnfailed (Some (hows.Full len)) = Unit {0}
-EndsUnfailed (Some hows.Quit) = ⊥
-EndsUnfailed (Some (hows.Overlong at)) = ⊥
-EndsUnfailed (Some hows.Failed) = ⊥
-EndsUnfailed (Some hows.Unwritten) = ⊥
-EndsUnfailed None = ⊥

@@ -2,7 +2,6 @@ pub mod Bases
 pub mod Passes
 pub mod Moments
 pub mod Limits
-pub mod Readings
 pub mod Guard
 pub mod Judged
 pub mod Outs
@@ -16,6 +15,7 @@ pub mod Summary
 pub mod Adverts
 pub mod Outputs
 pub mod Endings
+pub mod EndLines
 pub mod PortInputs
 pub mod Fits
 pub mod Journals

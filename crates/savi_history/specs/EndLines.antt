@@ -1,0 +1,53 @@
+-- The lines on standard error for the ends of a history that an operator has to know of: each end but an ordinary one has
+-- its line, in the order of the history.
+use Rattle.std.specs.Prelude.{ℕ, List, [], ◌∷◌, ◌++◌, codes, decimal}
+use Rattle.savi_kinds.specs.declared.entry.Act.{Act}
+use Rattle.savi_kinds.specs.declared.entry.Act.TheVariants as acts
+use Rattle.savi_kinds.specs.declared.entry.Who.{Who}
+use Rattle.savi_kinds.specs.declared.entry.Who.TheVariants.{Ingress, Control, Ticker, Egress}
+use Rattle.savi_kinds.specs.declared.entry.How.{How}
+use Rattle.savi_kinds.specs.declared.entry.How.TheVariants as hows
+use Rattle.savi_kinds.specs.Ports.{number_of}
+use Rattle.hist_store.specs.Rows.{Row}
+
+-- whose end it is
+abbrev pub who_text : Who → List ℕ
+who_text (Ingress p) = codes "port " ++ decimal (number_of p)
+who_text Control = codes "control"
+who_text Ticker = codes "ticker"
+who_text (Egress p) = codes "port " ++ decimal (number_of p)
+
+-- a source or a sink failed, by whose end it is
+abbrev pub failed_text : Who → List ℕ
+failed_text (Ingress p) = codes "read failed"
+failed_text Control = codes "read failed"
+failed_text Ticker = codes "read failed"
+failed_text (Egress p) = codes "write failed"
+
+-- a line of one end: whose it is, a colon, a space and what happened
+abbrev pub end_line_of : Who → List ℕ → List ℕ
+end_line_of who what = who_text who ++ codes ": " ++ what ++ 10 ∷ []
+
+-- the line of an end; an ordinary end, and one by `quit`, have none
+abbrev pub end_line : Who → How → List ℕ
+end_line who hows.End = []
+end_line who hows.Quit = []
+end_line who (hows.Malformed at) = end_line_of who (codes "malformed at " ++ decimal at)
+end_line who (hows.Overlong at) = end_line_of who (codes "overlong line at " ++ decimal at)
+end_line who hows.Failed = end_line_of who (failed_text who)
+end_line who hows.Unwritten = end_line_of who (codes "write failed")
+end_line who (hows.Full len) = end_line_of who (codes "history full at " ++ decimal len)
+
+-- the line of an entry, if it has one
+abbrev pub entry_line : Act → List ℕ
+entry_line (acts.Frame port stamp at len) = []
+entry_line (acts.Long port stamp len) = []
+entry_line (acts.Tick stamp) = []
+entry_line (acts.Command stamp at len) = []
+entry_line (acts.Drain port count) = []
+entry_line (acts.End who how) = end_line who how
+
+-- the lines of a history, of which the newest row is the first
+abbrev pub end_lines : List Row → List ℕ
+end_lines [] = []
+end_lines (r ∷ past) = end_lines past ++ entry_line r.entry.act
