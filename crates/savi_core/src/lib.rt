@@ -13,7 +13,6 @@ mod ending;
 mod entries;
 mod event;
 mod journal;
-mod judge;
 mod machine;
 mod outs;
 mod passes;

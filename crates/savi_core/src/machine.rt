@@ -21,7 +21,8 @@ ghost use Rattle.savi_history.specs.Events as events;
 ghost use Rattle.savi_history.specs.Legal.{IsLegal};
 ghost use Rattle.savi_core.specs.Machines.{HasShortQueues, started, row_at, queue_at, number_at};
 ghost use Rattle.savi_core.specs.Counts.{open_below};
-ghost use Rattle.savi_core.specs.Steps.{event_of, MayStep, Did, Drained, entry_of};
+ghost use Rattle.frame_class.specs.Reading.{IsClassOf};
+ghost use Rattle.savi_core.specs.Steps.{event_of, IsClassed, MayStep, Did, Drained, entry_of};
 
 use crate::batch::Batch;
 use crate::buffer::Buffer;
@@ -29,13 +30,14 @@ use crate::ending::{has_full, has_malformed};
 use crate::entries::{moment_at, plain_entry, verdict_by};
 use crate::event::{Event, Stepped};
 use crate::journal::write_journal;
-use crate::judge::judge;
 use crate::outs::ports_of;
 use crate::passes::{pass_of, place_of, role_of};
 use crate::queues::{end_queue, make_queues, move_frames, queue_frame};
 use crate::summary::{Summary, sum_up};
 use egress_ring::EgressRing;
+use frame_class::Class;
 use hist_store::Hist;
+use ra_guard::guard;
 use savi_ends::{Put, Sink};
 use savi_kinds::{
     Act, ENTRIES_RESERVED, Entry, FRAME_OCTETS_MOST, How, LAST_MOMENT, Moment, PORTS_MOST, Plan,
@@ -91,10 +93,11 @@ impl Core {
     }
 
     /// Enters an event. The answer is `Full`, and nothing has changed, exactly where it is a frame and the history has
-    /// no room for another input; else it is the one entry that was made. O(ports) beside one pass over the octets of a
-    /// frame, and their copy.
+    /// no room for another input; else it is the one entry that was made. A frame is judged by its class, which the
+    /// caller has read of its octets. O(ports) beside the copy of the octets.
     pub fn step(&mut self, ev: Event<'_>) -> Stepped
-        requires { MayStep self.old (event_of ev) }
+        requires may { MayStep self.old (event_of ev) }
+        requires class { IsClassed ev }
         ensures { Did self.old (event_of ev.entry) self.new result }
     {
         match ev {
@@ -102,7 +105,8 @@ impl Core {
                 port,
                 stamp,
                 octets,
-            } => self.frame(port, stamp, octets),
+                class,
+            } => self.frame(port, stamp, octets, class),
             Event::Long { port, stamp, len } => self.long(port, stamp, len),
             Event::End { who, how } => self.end(who, how),
         }
@@ -234,8 +238,9 @@ impl Core {
     }
 
     // Enters a frame.
-    fn frame(&mut self, port: Port, stamp: u64, octets: &[u8]) -> Stepped
-        requires { MayStep self.old (events.Frame port stamp octets.now) }
+    fn frame(&mut self, port: Port, stamp: u64, octets: &[u8], class: &Class) -> Stepped
+        requires may { MayStep self.old (events.Frame port stamp octets.now) }
+        requires class { IsClassOf octets.now class.now }
         ensures { Did self.old (events.Frame port stamp octets.now) self.new result }
     {
         if !self.has_room() {
@@ -243,7 +248,7 @@ impl Core {
                 len: self.hist.len(),
             };
         }
-        let entry = self.frame_entry(port, stamp, octets);
+        let entry = self.frame_entry(port, stamp, octets, class);
         let n = self.hist.len();
         queue_frame(
             &mut self.queues,
@@ -258,12 +263,13 @@ impl Core {
     }
 
     // The entry of a frame.
-    fn frame_entry(&self, port: Port, stamp: u64, octets: &[u8]) -> Entry
-        requires { MayStep self.now (events.Frame port stamp octets.now) }
+    fn frame_entry(&self, port: Port, stamp: u64, octets: &[u8], class: &Class) -> Entry
+        requires may { MayStep self.now (events.Frame port stamp octets.now) }
+        requires class { IsClassOf octets.now class.now }
         ensures { result ≡ entry_of self.now (events.Frame port stamp octets.now) }
     {
         let role = role_of(&self.plan, port);
-        let verdict = verdict_by(judge(role, self.plan.drop_unknown, octets));
+        let verdict = verdict_by(guard(role, self.plan.drop_unknown, class));
         let outs = self.outs(port, verdict);
         Entry {
             by: pass_of(&self.plan, Who::Ingress(port)),
