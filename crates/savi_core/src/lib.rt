@@ -9,6 +9,7 @@
 
 mod batch;
 mod buffer;
+mod end_lines;
 mod ending;
 mod entries;
 mod event;
@@ -22,6 +23,7 @@ mod summary_text;
 
 pub use batch::Batch;
 pub use buffer::Buffer;
+pub use end_lines::{END_LINE_OCTETS, EndLine};
 pub use event::{Event, Stepped};
 pub use machine::Core;
 pub use summary::Summary;

@@ -7,7 +7,8 @@ ghost use Rattle.savi_ends.specs.Faults.{Rose};
 ghost use Rattle.savi_ends.specs.Octets.{behind};
 ghost use Rattle.hist_store.specs.JournalTexts.{journal_text};
 ghost use Rattle.savi_history.specs.Summary.{summary_of};
-ghost use Rattle.savi_history.specs.Endings.{has_malformed, has_full};
+ghost use Rattle.savi_history.specs.Endings.{has_malformed, has_failed, has_full};
+ghost use Rattle.savi_history.specs.EndLines.{entry_line};
 ghost use Rattle.savi_core.specs.Sums.{sum_of};
 ghost use Rattle.savi_kinds.specs.PortSets.{is_member};
 ghost use Rattle.savi_kinds.specs.ValidPlan.{IsValidPlan, IsWithin};
@@ -26,7 +27,8 @@ ghost use Rattle.savi_core.specs.Steps.{event_of, IsClassed, MayStep, Did, Drain
 
 use crate::batch::Batch;
 use crate::buffer::Buffer;
-use crate::ending::{has_full, has_malformed};
+use crate::end_lines::{EndLine, put_entry_line};
+use crate::ending::{has_failed, has_full, has_malformed};
 use crate::entries::{moment_at, plain_entry, verdict_by};
 use crate::event::{Event, Stepped};
 use crate::journal::write_journal;
@@ -220,6 +222,23 @@ impl Core {
         ensures { result ≡ has_malformed self.now.past }
     {
         has_malformed(&self.hist)
+    }
+
+    /// Whether a read of an input failed. O(n) in the entries.
+    pub fn has_failed(&self) -> bool
+        ensures { result ≡ has_failed self.now.past }
+    {
+        has_failed(&self.hist)
+    }
+
+    /// Writes the line for the entry with this number, counted from 0, in place of what the buffer held: nothing, unless
+    /// it is an end of which an operator has to know. The lines of all entries in order are `end_lines` of the history
+    /// (`proofs/EndLines.antt`). O(1).
+    pub fn end_line(&self, n: u64, into: &mut EndLine)
+        requires { n < length self.now.past }
+        ensures { IsSomeAnd (row_at self.now n) (λ row. into.new.items ≡ entry_line row.entry.act) }
+    {
+        put_entry_line(self.hist.entry(n).act, into);
     }
 
     /// Whether an input ended for want of room. O(n) in the entries.
