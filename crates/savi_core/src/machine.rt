@@ -1,11 +1,11 @@
 //! The machine.
 
-ghost use Rattle.std.specs.Prelude.{ℕ, List, ◌≡◌, ◌≤◌, ◌<◌, true, false, ◌&&◌, ◌||◌, [], length, reverse, IfOk, IsSomeAnd, Some, ◌+◌, Option};
+ghost use Rattle.std.specs.Prelude.{◌≡◌, ◌≤◌, ◌<◌, true, false, ◌&&◌, ◌||◌, [], length, reverse, IfOk, IsSomeAnd, Some, ◌+◌, Option};
 ghost use Rattle.savi_kinds.specs.Ports.{number_of};
 ghost use Rattle.savi_ends.specs.declared.sink.Put.{Put};
 ghost use Rattle.savi_ends.specs.Faults.{Rose};
 ghost use Rattle.savi_ends.specs.Octets.{behind};
-ghost use Rattle.hist_store.specs.JournalTexts.{journal_text};
+ghost use Rattle.hist_store.specs.JournalTexts.{address_text, journal_text};
 ghost use Rattle.savi_history.specs.Summary.{summary_of};
 ghost use Rattle.savi_history.specs.Endings.{has_malformed, has_failed, has_full};
 ghost use Rattle.savi_history.specs.EndLines.{entry_line};
@@ -197,13 +197,12 @@ impl Core {
         left
     }
 
-    /// Writes the journal (`docs/FORMATS.md`) of a plan without prefixes: in pieces of the buffer's size, and the last
-    /// one. O(n) in the octets of the journal.
+    /// Writes the journal (`docs/FORMATS.md`): in pieces of the buffer's size, and the last one. O(n) in the octets of the
+    /// journal.
     pub fn write_journal<K: Sink>(&self, sink: &mut K, buffer: &mut Buffer) -> Put
-        requires no_prefixes { self.now.plan.prefixes ≡ [] }
         requires empty { buffer.old.octets ≡ [] }
         requires room { 3401 ≤ buffer.old.room }
-        ensures done { result ≡ Put.Done → (address_text : ℕ → List ℕ) → K.written sink.new ≡ behind (K.written sink.old) (journal_text address_text self.now.plan (reverse self.now.past)) }
+        ensures done { result ≡ Put.Done → K.written sink.new ≡ behind (K.written sink.old) (journal_text address_text self.now.plan (reverse self.now.past)) }
         ensures later { K.faults sink.old ≤ K.faults sink.new }
         ensures cause { result ≡ Put.Failed → Rose (K.faults sink.old) (K.faults sink.new) }
     {
