@@ -1,14 +1,16 @@
 //! Frames of the wire, the rules that stop them, the worked history and the limits.
 
-ghost use Rattle.std.specs.Prelude.{◌≡◌, ◌≤◌, ◌+◌, true, false, IfOk};
+ghost use Rattle.std.specs.Prelude.{◌≡◌, ◌≤◌, ◌+◌, true, false, length, map, IfOk};
+ghost use Rattle.std.specs.List.{range_with_len};
 ghost use Rattle.savi_kinds.specs.Ports.{number_of};
-ghost use Rattle.savi_kinds.specs.ValidPlan.{IsValidPlan, IsWithin};
+ghost use Rattle.savi_kinds.specs.ValidPlan.{IsValidPlan, IsWithin, numbers_of};
 ghost use Rattle.savi_history.specs.Bases.{empty};
 ghost use Rattle.savi_history.specs.Passes.{has_port, has_pass, control_pass, AllEnded};
 ghost use Rattle.savi_history.specs.Legal.{IsOpen, MayEnd, MayEndEgress};
 
+use crate::end_lines::put_entry_line;
 use crate::passes::place_of;
-use crate::{Batch, Core, Event, Stepped};
+use crate::{Batch, Core, EndLine, Event, Stepped};
 use frame_class::class;
 use savi_kinds::{
     Act, Entry, Format, How, Mac, Plan, Port, PortPlan, PortPlans, PortSet, PrefixPlans, Role,
@@ -18,81 +20,135 @@ use std::alloc::{AllocError, Global};
 use std::process::Abort;
 use std::test::Fail;
 
-/// The frames of IEEE 802.1Q, RFC 8200, RFC 7112 and RFC 6105, each with the rule that stops it at a host's port.
-const AT_A_HOST: [(&str, &str, Option<Rule>); 15] = [
+/// Name, number of the port, the frame, and the rule that stops it.
+type Case = (&'static str, u8, &'static str, Option<Rule>);
+
+/// Frames of IEEE 802.1Q, RFC 8200, RFC 7112, RFC 6105, RFC 4861, RFC 6980 and RFC 8415 at the ports of hosts and of a server.
+static GUARDED: [Case; 21] = [
     (
         "thirteen octets",
+        2,
         "0200000000fe02000000001186",
         Some(Rule::Malformed),
     ),
     (
         "the last reserved group",
+        2,
         "0180c200000f0200000000110800",
         Some(Rule::ReservedGroup),
     ),
     (
         "the address behind the reserved groups",
+        2,
         "0180c20000100200000000110800",
         None,
     ),
     (
         "a group as source",
+        2,
         "0200000000110100000000fe0800",
         Some(Rule::SourceMac),
     ),
     (
         "a customer tag",
+        2,
         "0200000000fe02000000001181000001",
         Some(Rule::Tagged),
     ),
     (
         "a service tag",
+        2,
         "0200000000fe02000000001188a80001",
         Some(Rule::Tagged),
     ),
     (
         "a cut IPv6 header",
+        2,
         "0200000000fe02000000001186dd6000000000003b40fe800000000000000000000000000011fe8000000000000000000000000000",
         Some(Rule::BadIpv6),
     ),
     (
         "a cut chain in a first fragment",
+        2,
         "33330000000102000000002286dd6000000000102c4020010db8000100000000000000000022ff0200000000000000000000000000013c000001000000023a01010c00000000",
         Some(Rule::HiddenUpper),
     ),
     (
         "a later fragment",
+        2,
         "33330000000102000000002286dd6000000000102c4020010db8000100000000000000000022ff0200000000000000000000000000013c000008000000020000000000000000",
         None,
     ),
     (
         "an unknown next header",
+        2,
         "0200000000fe02000000001186dd600000000000fd40fe800000000000000000000000000011fe8000000000000000000000000000fe",
         Some(Rule::UnknownNextHeader),
     ),
     (
         "a router advertisement",
+        2,
         "33330000000102000000002286dd6000000000103afffe800000000000000000000000000022ff02000000000000000000000000000186003506400007080000000000000000",
         Some(Rule::RouterAdvert),
     ),
     (
         "one behind destination options",
+        2,
         "33330000000102000000002286dd6000000000183cfffe800000000000000000000000000022ff0200000000000000000000000000013a0001040000000086003506400007080000000000000000",
         Some(Rule::RouterAdvert),
     ),
     (
         "one in an atomic fragment",
+        2,
         "33330000000102000000002286dd6000000000182cfffe800000000000000000000000000022ff0200000000000000000000000000013a0000010000000186003506400007080000000000000000",
         Some(Rule::RouterAdvert),
     ),
     (
         "one with a hop limit of 64",
+        2,
         "33330000000102000000002286dd6000000000103a40fe800000000000000000000000000022ff02000000000000000000000000000186003506400007080000000000000000",
         None,
     ),
     (
         "a packet without an upper header",
+        2,
         "0200000000fe02000000001186dd6000000000003b40fe800000000000000000000000000011fe8000000000000000000000000000fe",
+        None,
+    ),
+    (
+        "an address question",
+        1,
+        "3333ff00001102000000001186dd6000000000183aff00000000000000000000000000000000ff0200000000000000000001ff00001187007c0500000000fe800000000000000000000000000011",
+        None,
+    ),
+    (
+        "one with a wrong checksum",
+        1,
+        "3333ff00001102000000001186dd6000000000183aff00000000000000000000000000000000ff0200000000000000000001ff00001187007c0500000000fe800000000000000000000000000012",
+        Some(Rule::BadNd),
+    ),
+    (
+        "one behind a fragment header",
+        1,
+        "3333ff00001102000000001186dd6000000000202cff00000000000000000000000000000000ff0200000000000000000001ff0000113a0000000000000187007c0500000000fe800000000000000000000000000011",
+        Some(Rule::FragmentedNd),
+    ),
+    (
+        "a redirect",
+        1,
+        "33330000000202000000001186dd6000000000103afffe800000000000000000000000000011ff02000000000000000000000000000289007a0c000000000101020000000011",
+        Some(Rule::Redirect),
+    ),
+    (
+        "a DHCPv6 reply of a host",
+        1,
+        "02000000001102000000002286dd6000000000701140fe800000000000000000000000000022fe8000000000000000000000000000110223022200708931070a0b0c0001000a000300010200000000110002000a00030001020000000022000300440000000100000000000000000005001820010db8000200000000000000000101ffffffffffffffff0005001820010db80002000000000000000001020000000000000000",
+        Some(Rule::DhcpServer),
+    ),
+    (
+        "one of a server",
+        5,
+        "02000000001102000000002286dd6000000000701140fe800000000000000000000000000022fe8000000000000000000000000000110223022200708931070a0b0c0001000a000300010200000000110002000a00030001020000000022000300440000000100000000000000000005001820010db8000200000000000000000101ffffffffffffffff0005001820010db80002000000000000000001020000000000000000",
         None,
     ),
 ];
@@ -106,12 +162,20 @@ fn verdict_of(stepped: Stepped) -> Option<Verdict> {
 }
 
 #[test]
-fn rules_stop_their_frames_at_a_host(rt: HostRuntime) -> Result<(), Fail> {
-    let plan = plan_of(rt.alloc(), 5000, 100_000)?;
+fn rules_stop_their_frames(rt: HostRuntime) -> Result<(), Fail> {
+    let roles = [
+        Role::Host,
+        Role::Host,
+        Role::Host,
+        Role::Trusted,
+        Role::Server,
+    ];
+    let plan = plan_of(rt.alloc(), &roles, 5000, 100_000)?;
     let mut core = Core::make(rt.alloc(), plan)?;
-    for (name, text, rule) in AT_A_HOST {
+    for (name, number, text, rule) in GUARDED {
+        assert!(rt; number >= 1 && number <= 16);
         let frame = hex::decode(rt.alloc(), text)?;
-        let stepped = enter_frame(&rt, &mut core, port_at(1), 0, frame.as_slice());
+        let stepped = enter_frame(&rt, &mut core, port_at(number), 0, frame.as_slice());
         let verdict = rule.map_or(Verdict::Pass(Scope::All), Verdict::Drop);
         assert_eq!(rt; verdict_of(stepped), Some(verdict), "{name}");
     }
@@ -147,16 +211,18 @@ fn port_at(n: u8) -> Port
     }
 }
 
-// A host at port 1 and a trusted port 2, where sources aren't validated.
-fn plan_of(alloc: Global, entries: u64, bytes: u64) -> Result<Plan, AllocError>
+// A host at port 1 and a trusted port 2.
+const TWO: [Role; 2] = [Role::Host, Role::Trusted];
+
+// A port for each role, numbered from 1 on, where sources aren't validated.
+fn plan_of(alloc: Global, roles: &[Role], entries: u64, bytes: u64) -> Result<Plan, AllocError>
+    requires roles { IsWithin 1 16 (length roles.now) }
     requires entries { IsWithin 4131 1000000 entries }
     requires bytes { IsWithin 1518 1073741824 bytes }
     ensures valid { IfOk result (λ plan. IsValidPlan plan) }
     ensures guard_only { IfOk result (λ plan. plan.savi ≡ false) }
 {
-    let mut ports = Vec::new(alloc);
-    ports.push(port_plan(alloc, port_at(1), Role::Host))?;
-    ports.push(port_plan(alloc, port_at(2), Role::Trusted))?;
+    let ports = ports_of(alloc, roles)?;
     Ok(Plan {
         mac: Mac([2, 0, 0, 0, 0, 1]),
         savi: false,
@@ -173,6 +239,17 @@ fn plan_of(alloc: Global, entries: u64, bytes: u64) -> Result<Plan, AllocError>
         ports: PortPlans::new(ports),
         prefixes: PrefixPlans::new(Vec::new(alloc)),
     })
+}
+
+fn ports_of(alloc: Global, roles: &[Role]) -> Result<Vec<PortPlan>, AllocError>
+    requires { length roles.now ≤ 16 }
+    ensures { IfOk result (λ ports. numbers_of ports.items ≡ map (λ k. k + 1) (range_with_len 0 (length roles.now))) }
+{
+    let mut ports = Vec::new(alloc);
+    for i in 0..roles.len() {
+        ports.push(port_plan(alloc, port_at(i as u8 + 1), roles[i]))?;
+    }
+    Ok(ports)
 }
 
 fn port_plan(alloc: Global, number: Port, role: Role) -> PortPlan
@@ -271,7 +348,7 @@ fn drain(rt: &impl Abort, core: &mut Core, port: Port, batch: &mut Batch) -> Ste
 #[test]
 fn two_captures_make_eleven_entries(rt: HostRuntime) -> Result<(), Fail> {
     let (one, two) = (port_at(1), port_at(2));
-    let plan = plan_of(rt.alloc(), 262_144, 67_108_864)?;
+    let plan = plan_of(rt.alloc(), &TWO, 262_144, 67_108_864)?;
     let mut core = Core::make(rt.alloc(), plan)?;
     let mut batch = Batch::make(rt.alloc())?;
     let advert = hex::decode(rt.alloc(), ADVERT)?;
@@ -406,7 +483,7 @@ fn limits_are_exact(rt: HostRuntime) -> Result<(), Fail> {
     for (entries, bytes, frames) in rows {
         assert!(rt; entries >= 4131 && entries <= 1_000_000);
         assert!(rt; bytes >= 1518 && bytes <= 1_073_741_824);
-        let plan = plan_of(rt.alloc(), entries, bytes)?;
+        let plan = plan_of(rt.alloc(), &TWO, entries, bytes)?;
         let mut core = Core::make(rt.alloc(), plan)?;
         for n in 0..frames {
             let stepped = enter_frame(&rt, &mut core, one, n, &packet);
@@ -419,5 +496,99 @@ fn limits_are_exact(rt: HostRuntime) -> Result<(), Fail> {
         let ended = enter_end(&rt, &mut core, Who::Ingress(one));
         assert!(rt; matches!(ended, Stepped::Done(_)));
     }
+    Ok(())
+}
+
+#[test]
+fn each_end_has_its_line(rt: HostRuntime) {
+    let ways = [
+        (How::End, ""),
+        (How::Quit, ""),
+        (How::Malformed(0), "control: malformed at 0\n"),
+        (How::Overlong(81), "control: overlong line at 81\n"),
+        (How::Failed, "control: read failed\n"),
+        (How::Unwritten, "control: write failed\n"),
+        (How::Full(6), "control: history full at 6\n"),
+    ];
+    for (how, want) in ways {
+        expect_end_line(&rt, Who::Control, how, want.as_bytes());
+    }
+}
+
+#[test]
+fn a_line_says_whose_end_it_is(rt: HostRuntime) {
+    let (one, last) = (port_at(1), port_at(16));
+    let malformed = How::Malformed(164);
+    let full = How::Full(u64::MAX);
+    expect_end_line(
+        &rt,
+        Who::Ingress(one),
+        malformed,
+        b"port 1: malformed at 164\n",
+    );
+    expect_end_line(
+        &rt,
+        Who::Ingress(last),
+        How::Failed,
+        b"port 16: read failed\n",
+    );
+    expect_end_line(
+        &rt,
+        Who::Egress(one),
+        How::Failed,
+        b"port 1: write failed\n",
+    );
+    expect_end_line(&rt, Who::Egress(last), How::End, b"");
+    expect_end_line(
+        &rt,
+        Who::Ticker,
+        full,
+        b"ticker: history full at 18446744073709551615\n",
+    );
+}
+
+fn expect_end_line(rt: &impl Abort, who: Who, how: How, want: &[u8]) {
+    let mut line = EndLine::new();
+    put_entry_line(Act::End { who, how }, &mut line);
+    assert_eq!(rt; line.as_slice(), want);
+}
+
+// Enters the end of control at a line that is too long.
+fn enter_overlong(rt: &impl Abort, core: &mut Core, at: u64) {
+    assert!(rt; is_open(core, Who::Control));
+    let _entered = core.step(Event::End {
+        who: Who::Control,
+        how: How::Overlong(at),
+    });
+}
+
+// Enters the end of a port's input at a read that failed.
+fn enter_failed(rt: &impl Abort, core: &mut Core, port: Port) {
+    assert!(rt; is_open(core, Who::Ingress(port)));
+    let _entered = core.step(Event::End {
+        who: Who::Ingress(port),
+        how: How::Failed,
+    });
+}
+
+fn expect_line_at(rt: &impl Abort, core: &Core, n: u64, want: &[u8]) {
+    assert!(rt; n < core.len());
+    let mut line = EndLine::new();
+    core.end_line(n, &mut line);
+    assert_eq!(rt; line.as_slice(), want);
+}
+
+#[test]
+fn bad_ends_are_told(rt: HostRuntime) -> Result<(), Fail> {
+    let plan = plan_of(rt.alloc(), &TWO, 5000, 4000)?;
+    let mut core = Core::make(rt.alloc(), plan)?;
+    enter_overlong(&rt, &mut core, 81);
+    assert!(rt; core.has_malformed());
+    assert!(rt; !core.has_failed());
+    enter_failed(&rt, &mut core, port_at(1));
+    assert!(rt; core.has_failed());
+    assert!(rt; !core.has_full());
+    expect_line_at(&rt, &core, 0, b"control: overlong line at 81\n");
+    expect_line_at(&rt, &core, 1, b"port 1: read failed\n");
     Ok(())
 }
