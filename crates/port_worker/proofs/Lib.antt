@@ -8,6 +8,7 @@ pub mod Draining
 pub mod Advancing
 pub mod Finishing
 pub mod Entered
+pub mod Joining
 pub mod Progress
 pub mod Measures
 pub mod Running
@@ -15,3 +16,4 @@ pub mod Stepping
 pub mod Starting
 pub mod Ending
 pub mod Fitting
+pub mod Closing
