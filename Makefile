@@ -8,7 +8,8 @@ build: build/savi_switch
 build/%: $(wildcard crates/*/src/*.rt crates/*/specs/*.antt crates/*/proofs/*.antt) crates.txt HANDLES
 	tools/build $*
 
-# A replay of two captures of Linux hosts, one of which attacks. The first time takes the build, a later one a second.
+# Replays of the examples: a host that attacks and its router, and a link of five ports. The first time takes the build, a later
+# one a second.
 demo: build
 	tools/demo
 
@@ -17,8 +18,8 @@ PLAN = examples/shared-network/plan.toml
 plan: build/plan_check
 	build/plan_check $(PLAN)
 
-# The program beside a C program that does the same octet work without judging; the reader of captures beside tcpdump; the
-# pass lock beside a mutex; the stations beside a hash map. The first time takes the builds, and then about a minute.
+# The program beside a C program that does the same octet work without judging, with 2 ports and with 5; the reader of captures
+# beside tcpdump; the pass lock beside a mutex; the stations beside a hash map. The first time takes the builds, and then about a minute.
 bench: build build/capture_bench build/lock_bench build/fdb_bench
 	bench/run build/savi_switch
 	bench/captures.py build/capture_bench

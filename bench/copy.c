@@ -1,8 +1,11 @@
-/* The octet work of a replay of two captures, without any judgement: it reads both captures in order of stamp, writes
- * each record to the other port's output by one write(2), and writes one line of the journal's form, with the frame in
- * hexadecimal, for each record.
+/* The octet work of a replay, without any judgement. It reads the captures 1.pcap, 2.pcap and so on in order of stamp, and
+ * writes each record to the output of each other port, 1.copy, 2.copy and so on, by one write(2) each. It writes the entries
+ * of the journal to copy.txt: a line for each record with its frame in hexadecimal, one for each output that it went to, and
+ * one for each end. Only the journal's header isn't written.
  *
- * usage: copy 1.pcap 2.pcap 1.out 2.out journal.txt
+ * It takes little-endian captures with microseconds and without fault.
+ *
+ * usage: copy PORTS
  */
 #include <fcntl.h>
 #include <stdint.h>
@@ -11,7 +14,7 @@
 #include <string.h>
 #include <unistd.h>
 
-enum { PIECE = 65536, FRAME = 1518, RECORD = 16 };
+enum { PORTS = 16, PIECE = 65536, FRAME = 1518, RECORD = 16, LINES = 8192 };
 
 struct input {
     int fd;
@@ -23,22 +26,28 @@ struct input {
     unsigned char frame[FRAME];
 };
 
-static int fill(struct input *in, unsigned char *into, size_t want)
+static struct input in[PORTS];
+static int out[PORTS], journal, ports;
+static unsigned char text[PIECE + LINES];
+static size_t pending;
+static uint64_t entries, moment;
+
+static int fill(struct input *p, unsigned char *into, size_t want)
 {
     size_t have = 0;
     while (have < want) {
-        if (in->at == in->len) {
-            ssize_t n = read(in->fd, in->piece, PIECE);
+        if (p->at == p->len) {
+            ssize_t n = read(p->fd, p->piece, PIECE);
             if (n <= 0)
                 return 0;
-            in->at = 0;
-            in->len = (size_t)n;
+            p->at = 0;
+            p->len = (size_t)n;
         }
-        size_t n = in->len - in->at;
+        size_t n = p->len - p->at;
         if (n > want - have)
             n = want - have;
-        memcpy(into + have, in->piece + in->at, n);
-        in->at += n;
+        memcpy(into + have, p->piece + p->at, n);
+        p->at += n;
         have += n;
     }
     return 1;
@@ -57,19 +66,6 @@ static void put32(unsigned char *p, uint32_t n)
     p[3] = (unsigned char)(n >> 24);
 }
 
-static void look(struct input *in)
-{
-    unsigned char head[RECORD];
-    in->known = 0;
-    if (!fill(in, head, RECORD))
-        return;
-    in->size = le32(head + 8);
-    if (in->size > FRAME || !fill(in, in->frame, in->size))
-        return;
-    in->stamp = 1000ull * le32(head) + le32(head + 4) / 1000;
-    in->known = 1;
-}
-
 static void whole(int fd, const unsigned char *p, size_t n)
 {
     if (write(fd, p, n) != (ssize_t)n) {
@@ -78,57 +74,147 @@ static void whole(int fd, const unsigned char *p, size_t n)
     }
 }
 
+static void put_text(const char *s)
+{
+    size_t n = strlen(s);
+    memcpy(text + pending, s, n);
+    pending += n;
+}
+
+/* the number in decimal, and the text behind it */
+static void put_number(uint64_t n, const char *behind)
+{
+    unsigned char digits[20];
+    size_t k = sizeof digits;
+    do {
+        digits[--k] = (unsigned char)('0' + n % 10);
+        n /= 10;
+    } while (n > 0);
+    memcpy(text + pending, digits + k, sizeof digits - k);
+    pending += sizeof digits - k;
+    put_text(behind);
+}
+
+static void begin_entry(int pass)
+{
+    put_number(entries++, " ");
+    put_number((uint64_t)pass, " ");
+    put_number(moment, " ");
+}
+
+static void put_end(int pass, const char *who, int number)
+{
+    begin_entry(pass);
+    put_text(who);
+    if (number > 0)
+        put_number((uint64_t)number, "");
+    put_text(" end\n");
+}
+
+/* the next record of a port, or the end of its input */
+static void look(int i)
+{
+    struct input *p = &in[i];
+    unsigned char head[RECORD];
+    p->known = 0;
+    if (fill(p, head, RECORD)) {
+        p->size = le32(head + 8);
+        if (p->size <= FRAME && fill(p, p->frame, p->size)) {
+            p->stamp = 1000ull * le32(head) + le32(head + 4) / 1000;
+            p->known = 1;
+        }
+    }
+    if (!p->known)
+        put_end(i, "E in", i + 1);
+}
+
+/* the port whose record has the least stamp, and of equals the first; -1 where no record is left */
+static int least(void)
+{
+    int best = -1;
+    for (int i = 0; i < ports; i++)
+        if (in[i].known && (best < 0 || in[i].stamp < in[best].stamp))
+            best = i;
+    return best;
+}
+
+static void flood(int i)
+{
+    static const char digit[] = "0123456789abcdef";
+    struct input *p = &in[i];
+    unsigned char record[RECORD + FRAME];
+    int first = 1;
+    if (p->stamp > moment)
+        moment = p->stamp;
+    begin_entry(i);
+    put_text("F ");
+    put_number((uint64_t)i + 1, " ");
+    put_number(p->stamp, " ");
+    for (uint32_t k = 0; k < p->size; k++) {
+        text[pending++] = (unsigned char)digit[p->frame[k] >> 4];
+        text[pending++] = (unsigned char)digit[p->frame[k] & 15];
+    }
+    put_text(" pass-all ");
+    for (int j = 0; j < ports; j++)
+        if (j != i) {
+            put_text(first ? "" : ",");
+            put_number((uint64_t)j + 1, "");
+            first = 0;
+        }
+    put_text(" - 0 0\n");
+    put32(record, (uint32_t)(moment / 1000));
+    put32(record + 4, (uint32_t)(1000 * (moment % 1000)));
+    put32(record + 8, p->size);
+    put32(record + 12, p->size);
+    memcpy(record + RECORD, p->frame, p->size);
+    for (int j = 0; j < ports; j++)
+        if (j != i) {
+            begin_entry(ports + 2 + j);
+            put_text("D ");
+            put_number((uint64_t)j + 1, " 1\n");
+            whole(out[j], record, RECORD + p->size);
+        }
+    if (pending >= PIECE) {
+        whole(journal, text, pending);
+        pending = 0;
+    }
+}
+
 int main(int argc, char **argv)
 {
     static const unsigned char header[24] = { 0xd4, 0xc3, 0xb2, 0xa1, 2, 0, 4, 0, 0, 0, 0, 0,
                                               0, 0, 0, 0, 0xff, 0xff, 0, 0, 1, 0, 0, 0 };
-    static const char digit[] = "0123456789abcdef";
-    static struct input in[2];
-    static unsigned char line[PIECE + 4096];
-    size_t pending = 0;
-    int out[2], journal;
-    uint64_t n = 0;
-
-    if (argc != 6) {
-        fprintf(stderr, "usage: copy 1.pcap 2.pcap 1.out 2.out journal.txt\n");
+    ports = argc == 2 ? atoi(argv[1]) : 0;
+    if (ports < 2 || ports > PORTS) {
+        fprintf(stderr, "usage: copy PORTS\n");
         return 2;
     }
-    for (int i = 0; i < 2; i++) {
+    journal = open("copy.txt", O_WRONLY | O_CREAT | O_TRUNC, 0666);
+    for (int i = 0; i < ports; i++) {
         unsigned char head[24];
-        in[i].fd = open(argv[1 + i], O_RDONLY);
-        out[i] = open(argv[3 + i], O_WRONLY | O_CREAT | O_TRUNC, 0666);
-        if (in[i].fd < 0 || out[i] < 0 || !fill(&in[i], head, 24)) {
-            perror("open");
+        char name[16];
+        snprintf(name, sizeof name, "%d.pcap", i + 1);
+        in[i].fd = open(name, O_RDONLY);
+        snprintf(name, sizeof name, "%d.copy", i + 1);
+        out[i] = open(name, O_WRONLY | O_CREAT | O_TRUNC, 0666);
+        if (journal < 0 || in[i].fd < 0 || out[i] < 0 || !fill(&in[i], head, sizeof head)) {
+            perror("copy");
             return 1;
         }
-        whole(out[i], header, 24);
-        look(&in[i]);
+        whole(out[i], header, sizeof header);
     }
-    journal = open(argv[5], O_WRONLY | O_CREAT | O_TRUNC, 0666);
-    while (in[0].known || in[1].known) {
-        int i = !in[0].known || (in[1].known && in[1].stamp < in[0].stamp);
-        struct input *p = &in[i];
-        unsigned char record[RECORD + FRAME];
-        put32(record, (uint32_t)(p->stamp / 1000));
-        put32(record + 4, (uint32_t)(1000 * (p->stamp % 1000)));
-        put32(record + 8, p->size);
-        put32(record + 12, p->size);
-        memcpy(record + RECORD, p->frame, p->size);
-        whole(out[!i], record, RECORD + p->size);
-        pending += (size_t)sprintf((char *)line + pending, "%llu %d %llu F %d %llu ", (unsigned long long)n, i,
-                                   (unsigned long long)p->stamp, i + 1, (unsigned long long)p->stamp);
-        for (uint32_t k = 0; k < p->size; k++) {
-            line[pending++] = (unsigned char)digit[p->frame[k] >> 4];
-            line[pending++] = (unsigned char)digit[p->frame[k] & 15];
-        }
-        pending += (size_t)sprintf((char *)line + pending, " pass-all %d - 0 0\n", 2 - i);
-        if (pending >= PIECE) {
-            whole(journal, line, pending);
-            pending = 0;
-        }
-        n++;
-        look(p);
+    put_end(ports, "E control", 0);
+    for (int i = 0; i < ports; i++)
+        look(i);
+    for (int i = least(); i >= 0; i = least()) {
+        flood(i);
+        look(i);
     }
-    whole(journal, line, pending);
+    put_end(ports + 1, "E ticker", 0);
+    for (int i = 0; i < ports; i++)
+        put_end(ports + 2 + i, "E out", i + 1);
+    put_text("end ");
+    put_number(entries, "\n");
+    whole(journal, text, pending);
     return 0;
 }

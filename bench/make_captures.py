@@ -1,12 +1,12 @@
 #!/usr/bin/env python3
-"""Writes two captures for the benchmark: 60,000 frames each, 54 octets long, every eighth 1,500.
+"""Writes a capture for each of some ports: 120,000 frames in all, 54 octets long, every eighth of a port 1,500.
 
-usage: make_captures.py FOLDER
+usage: make_captures.py FOLDER [PORTS]
 """
 import struct
 import sys
 
-FRAMES = 60_000
+FRAMES = 120_000
 HEADER = bytes.fromhex("d4c3b2a1020004000000000000000000ffff000001000000")
 
 
@@ -20,17 +20,17 @@ def frame(port, size):
     return ethernet + ip + addresses + bytes(payload)
 
 
-def main(folder):
-    for port in (1, 2):
+def main(folder, ports):
+    for port in range(1, ports + 1):
         short, long = frame(port, 54), frame(port, 1500)
         with open(f"{folder}/{port}.pcap", "wb") as out:
             out.write(HEADER)
-            for k in range(FRAMES):
+            for k in range(FRAMES // ports):
                 octets = long if k % 8 == 7 else short
-                stamp = 1000 + 2 * k + port
+                stamp = 1000 + ports * k + port
                 out.write(struct.pack("<IIII", stamp // 1000, 1000 * (stamp % 1000), len(octets), len(octets)))
                 out.write(octets)
 
 
 if __name__ == "__main__":
-    main(sys.argv[1])
+    main(sys.argv[1], int(sys.argv[2]) if len(sys.argv) > 2 else 2)
