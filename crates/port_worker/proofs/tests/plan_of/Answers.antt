@@ -1,0 +1,42 @@
+use Rattle.std.proofs.Common.{ℕ, zero, suc, ◌≡◌, ◌<◌, List, [], ◌∷◌, ◌++◌, map, refl, ap, ◌∙◌, arith, lit≤, lit<}
+use Rattle.std.specs.List.Sorted.{IsStrictlyIncreasing}
+use Rattle.savi_kinds.specs.declared.port.Port.{Port}
+use Rattle.savi_kinds.specs.declared.plan.PortPlan.{PortPlan}
+use Rattle.savi_kinds.specs.Ports.{number_of}
+use Rattle.port_worker.proofs.tests.plan_of.Goals as goal
+
+rising_two : (a b : ℕ) → a < b → IsStrictlyIncreasing (a ∷ b ∷ [])
+rising_two a b less zero within = less
+rising_two a b less (suc k) within = absurd (omega (arith, within))
+
+pub returns-clause-valid : goal.returns-clause-valid
+returns-clause-valid c =
+    let ports_are : c.new-3.result ≡ c.port_plan.result ∷ c.port_plan-2.result ∷ [] =
+    c.new-3.ensures ∙ c.in_ok-push-2.ensures.items ∙ ap (λ (ps : List PortPlan). ps ++ c.port_plan-2.result ∷ []) (c.in_ok-push.ensures.items ∙ ap (λ (ps : List PortPlan). ps ++ c.port_plan.result ∷ []) c.new-ports.ensures.items) in
+    let one : number_of c.port_plan.result.number ≡ number_of c.args.one = ap number_of c.port_plan.ensures in
+    let two : number_of c.port_plan-2.result.number ≡ number_of c.args.two = ap number_of c.port_plan-2.ensures in
+    let none : c.new-5.result ≡ [] = c.new-5.ensures ∙ c.new-4.ensures.items in
+    record {
+      unicast = refl;
+      per_port = (lit≤ tt, lit≤ tt);
+      depth = (lit≤ tt, lit≤ tt);
+      entries = (lit≤ tt, lit≤ tt);
+      bytes = (lit≤ tt, lit≤ tt);
+      gap = (lit≤ tt, lit≤ tt);
+      test = (lit≤ tt, lit≤ tt);
+      gap_first = lit< tt;
+      life = (300, refl, (lit≤ tt, lit≤ tt));
+      port_count = rw ports_are (lit≤ tt, lit≤ tt);
+      ports = rw ports_are (rising_two (number_of c.port_plan.result.number) (number_of c.port_plan-2.result.number) (omega (arith, one, two, c.requires)));
+      prefix_count = rw none (lit≤ tt);
+      plan_prefixes = rw none (λ k d within. absurd (omega (arith, within)));
+      prefixes = rw none (λ i j d before within. absurd (omega (arith, within)));
+    }
+
+pub returns-clause-ports : goal.returns-clause-ports
+returns-clause-ports c =
+    let ports_are : c.new-3.result ≡ c.port_plan.result ∷ c.port_plan-2.result ∷ [] =
+    c.new-3.ensures ∙ c.in_ok-push-2.ensures.items ∙ ap (λ (ps : List PortPlan). ps ++ c.port_plan-2.result ∷ []) (c.in_ok-push.ensures.items ∙ ap (λ (ps : List PortPlan). ps ++ c.port_plan.result ∷ []) c.new-ports.ensures.items) in
+    ap (λ (ps : List PortPlan). map (λ (p : PortPlan). p.number) ps) ports_are
+    ∙ ap (λ (n : Port). n ∷ c.port_plan-2.result.number ∷ []) c.port_plan.ensures
+    ∙ ap (λ (n : Port). c.args.one ∷ n ∷ []) c.port_plan-2.ensures
