@@ -1,4 +1,4 @@
-// What is wanted is written out in docs/CONFIGURATION.md, and the lines in docs/FORMATS.md.
+// What is wanted of a configuration is written out in docs/CONFIGURATION.md.
 
 ghost use Rattle.std.specs.Prelude.{◌≤◌};
 ghost use Rattle.savi_ends.specs.Places.{HandedNothing};
