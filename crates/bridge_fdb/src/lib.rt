@@ -9,9 +9,9 @@
 mod fdb;
 mod laws;
 mod number;
-mod sorted;
+mod kept;
 mod station;
-mod tally;
+mod full;
 #[cfg(test)]
 mod tests;
 
