@@ -8,11 +8,12 @@ use Rattle.bridge_fdb.specs.declared.station.Station.{Station}
 use Rattle.bridge_fdb.specs.Stations.{mac_number, is_live, live_at, is_of, is_at, end_of, count_at}
 use Rattle.bridge_fdb.specs.Learning.{is_known, with_station}
 use Rattle.bridge_fdb.specs.Limits.{IsRising}
+use Rattle.bridge_fdb.specs.Places.{StandsAt}
 use Rattle.bridge_fdb.specs.Kept.{IsTied, IsOwn, in_slot, has, without}
 use Rattle.bridge_fdb.proofs.Filters.{count_by-cons}
-use Rattle.bridge_fdb.proofs.Parts.{count_with}
+use Rattle.bridge_fdb.proofs.Parts.{count_with, of_count}
 use Rattle.bridge_fdb.proofs.Without.{live_without_ended}
-use Rattle.bridge_fdb.proofs.Slots.{slot_within}
+use Rattle.bridge_fdb.proofs.Slots.{slot_within, get_or_within}
 
 pub count_by-filter : {X : Type 0} (p q : X → Bool) (xs : List X) → count_by p (filter q xs) ≡ count_by (λ x. p x && q x) xs
 count_by-filter p q [] = refl
@@ -99,9 +100,9 @@ counted_one q (x ∷ xs) some =
 pub room_of : (stations : List (Option Station)) (slots numbers : List ℕ) (xs : List Station) → IsTied stations slots numbers xs → (port : ℕ) → count_at port xs ≤ 256
 room_of stations slots numbers xs tied port =
     let most : count_by (has (is_at port)) stations ≤ 256 =
-        count_most (has (is_at port)) stations None (256 * (port - 1)) 256
-        (λ k to inside. elsewhere k (in_slot stations k) refl (λ from below. omega (arith, from, to)))
-        (λ k from inside. elsewhere k (in_slot stations k) refl (λ low below. omega (arith, below, from))) in
+    count_most (has (is_at port)) stations None (256 * (port - 1)) 256
+    (λ k to inside. elsewhere k (in_slot stations k) refl (λ from below. omega (arith, from, to)))
+    (λ k from inside. elsewhere k (in_slot stations k) refl (λ low below. omega (arith, below, from))) in
     omega (arith, most, tied.counted (is_at port))
   where
     elsewhere : (k : ℕ) (o : Option Station) → in_slot stations k ≡ o → (256 * (port - 1) ≤ k → k < 256 * port → ⊥) → has (is_at port) o ≡ false
@@ -119,8 +120,8 @@ room_of stations slots numbers xs tied port =
 pub full_of : (stations : List (Option Station)) (slots numbers : List ℕ) (xs : List Station) (port u : ℕ) → IsTied stations slots numbers xs → 1 ≤ port → port ≤ 16 → ((k : ℕ) → 256 * (port - 1) ≤ k → k < 256 * (port - 1) + 256 → has (is_live u) (in_slot stations k) ≡ true) → 256 ≤ count_at port (live_at u xs)
 full_of stations slots numbers xs port u tied low high live =
     let least : 256 ≤ count_by (has (λ x. is_at port x && is_live u x)) stations =
-        count_least (has (λ x. is_at port x && is_live u x)) stations None (256 * (port - 1)) 256 (omega (arith, tied.size, low, high))
-        (λ k from to. here k (in_slot stations k) refl from to (live k from to)) in
+    count_least (has (λ x. is_at port x && is_live u x)) stations None (256 * (port - 1)) 256 (omega (arith, tied.size, low, high))
+    (λ k from to. here k (in_slot stations k) refl from to (live k from to)) in
     omega (arith, least, tied.counted (λ x. is_at port x && is_live u x), count_by-filter (is_at port) (is_live u) xs)
   where
     here : (k : ℕ) (o : Option Station) → in_slot stations k ≡ o → 256 * (port - 1) ≤ k → k < 256 * (port - 1) + 256 → has (is_live u) o ≡ true → has (λ x. is_at port x && is_live u x) o ≡ true
@@ -193,3 +194,16 @@ fewer_before s xs unknown room =
     let none : count_by p (filter q xs) ≡ 0 = count_by-filter p q xs ∙ any_counted (λ x. p x && q x) xs unknown in
     let here : ◌≡◌ {A = ℕ} (cond (p s) 1 0) 1 = rw (eq-eqb (number_of s.port) (number_of s.port) refl) refl in
     omega (arith, room, none, here, count_with p s xs)
+
+-- what holds of the station of a slot holds of the one that stands in the list
+pub slot_stands : (stations : List (Option Station)) (slots numbers : List ℕ) (xs : List Station) (r : Station → Bool) (slot i : ℕ) (y d : Station) → IsTied stations slots numbers xs → IsRising xs → StandsAt (mac_number y.mac) xs i → in_slot stations slot ≡ Some y → r y ≡ true → r (get_or xs i d) ≡ true
+slot_stands stations slots numbers xs r slot i y d tied rising at is kind =
+    let number : ℕ = mac_number y.mac in
+    let x : Station = get_or xs i d in
+    let both : (r y && is_of number y) ≡ true = simp (kind, eq-eqb number number refl) refl in
+    let some : 1 ≤ count_by (λ z. r z && is_of number z) xs = slot_counted stations slots numbers xs (λ z. r z && is_of number z) slot y tied is both in
+    let one : count_by r (filter (is_of number) xs) ≡ cond (r x) 1 0 = of_count r number xs i x rising at (get_or_within xs i d x at.bound) in
+    elim (cases_Bool (r x)) [
+      | inl holds ↦ holds
+      | inr fails ↦ let none : count_by r (filter (is_of number) xs) ≡ 0 = one ∙ rw fails refl in absurd (omega (arith, some, none, count_by-filter r (is_of number) xs))
+    ]

@@ -1,5 +1,5 @@
 -- Stations in slots, and the list of them in order of MAC address.
-use Rattle.std.proofs.Common.{◌≡◌, ◌≢◌, ℕ, ◌+◌, ◌^◌, ◌≤◌, ◌<◌, min, nat_lt, zero, suc, add-one, Bool, true, false, not, ◌&&◌, cond, List, [], ◌∷◌, ◌++◌, map, filter, length, get_or, take, drop, find, count_by, Option, Some, None, All, refl, sym, ◌∙◌, ap, subst, arith, inl, inr, length-append, length-set, length-take, length-drop, get_or-take, get_or-drop}
+use Rattle.std.proofs.Common.{◌≡◌, ◌≢◌, ℕ, ◌+◌, ◌-◌, ◌^◌, ◌≤◌, ◌<◌, min, nat_lt, zero, suc, add-one, Bool, true, false, not, ◌&&◌, cond, List, [], ◌∷◌, ◌++◌, map, filter, length, get_or, take, drop, find, count_by, Option, Some, None, All, refl, sym, ◌∙◌, ap, subst, arith, inl, inr, append_assoc, length-append, length-set, length-take, length-drop, get_or-take, get_or-drop}
 use Rattle.std.specs.List.{filter_map, AllWithin}
 use Rattle.std.proofs.Math.ListN.{set}
 use Rattle.std.proofs.lemmas.Bool.{cases_Bool, cases_eq, ltb-true, ltb-false}
@@ -61,7 +61,7 @@ number_in (Some x) = mac_number x.mac
 pub distinct : (stations : List (Option Station)) (slots numbers : List ℕ) (xs : List Station) (d : Station) → IsTied stations slots numbers xs → IsRising xs → (i j : ℕ) → i < length xs → j < length xs → i ≢ j → get_or slots j 0 ≢ get_or slots i 0
 distinct stations slots numbers xs d tied rising i j at other ne = λ same.
     let one : mac_number (get_or xs j d).mac ≡ mac_number (get_or xs i d).mac =
-        ap number_in (sym (slot_tells stations slots numbers xs tied j d other) ∙ ap (in_slot stations) same ∙ slot_tells stations slots numbers xs tied i d at) in
+    ap number_in (sym (slot_tells stations slots numbers xs tied j d other) ∙ ap (in_slot stations) same ∙ slot_tells stations slots numbers xs tied i d at) in
     elim (cases_Bool (nat_lt i j)) [
       | inl before ↦ let less : mac_number (get_or xs i d).mac < mac_number (get_or xs j d).mac = rising i j d (ltb-true i j before) other in omega (arith, less, one)
       | inr after ↦
@@ -144,7 +144,7 @@ IsTied-renew stations slots numbers xs i s tied rising at port number moment =
       matching =
           tied.matching ∙ sym (set-get_or (numbers_of xs) i 0)
           ∙ rw (get_or-map (λ (x : Station). mac_number x.mac) xs i s 0 at.bound, number) (sym (map-set (λ (x : Station). mac_number x.mac) xs i s));
-      own = own_set stations slot s within (record { place = rw (sym port) old.place; in_time = moment; }) tied.own;
+      own = own_set stations slot s within (record { place = rw (sym port) old.place; in_time = moment }) tied.own;
       counted = λ p. counted p slot there within;
       size = length-set stations slot (Some s) ∙ tied.size;
     }
@@ -250,3 +250,51 @@ IsTied-empty stations none size = record {
         let one : count_by (has p) (o ∷ os) ≡ 0 + count_by (has p) os = count_by-cons (has p) o os ∙ rw (All-head (λ x. x ≡ None) o os all) refl in
         let rest : count_by (has p) os ≡ 0 = no_count p os (All-tail (λ x. x ≡ None) o os all) in
         omega (arith, one, rest)
+
+-- a list in which one item was taken out and another one put in, as two moves of a part and a write make it
+moved_down_first : {X : Type 0} (x : X) (xs : List X) (at : ℕ) (v : X) → at ≤ length xs → set (take at xs ++ drop at (x ∷ xs)) at v ≡ take at xs ++ v ∷ drop at xs
+moved_down_first x xs zero v within = refl
+moved_down_first x [] (suc at) v within = absurd (omega (arith, within))
+moved_down_first x (y ∷ ys) (suc at) v within = ap (λ zs. y ∷ zs) (moved_down_first y ys at v (omega (arith, within)))
+
+pub moved_down : {X : Type 0} (xs : List X) (gone at n m : ℕ) (v : X) → gone < at → at < length xs → n ≡ at - gone → m ≡ at → set (take gone xs ++ (take n (drop (suc gone) xs) ++ drop m xs)) at v ≡ take at (take gone xs ++ drop (suc gone) xs) ++ v ∷ drop at (take gone xs ++ drop (suc gone) xs)
+moved_down [] gone at n m v before within long far = absurd (omega (arith, within))
+moved_down (x ∷ xs) gone zero n m v before within long far = absurd (omega (arith, before))
+moved_down (x ∷ xs) zero (suc at) n m v before within long far =
+    let same : n ≡ suc at = omega (arith, long) in
+    rw (same, far) (moved_down_first x xs (suc at) v (omega (arith, within)))
+moved_down (x ∷ xs) (suc gone) (suc at) n zero v before within long far = absurd (omega (arith, far))
+moved_down (x ∷ xs) (suc gone) (suc at) n (suc m) v before within long far = ap (λ zs. x ∷ zs) (moved_down xs gone at n m v (omega (arith, before)) (omega (arith, within)) (omega (arith, long)) (omega (arith, far)))
+
+pub moved_up : {X : Type 0} (xs : List X) (gone at n m : ℕ) (v : X) → at ≤ gone → gone < length xs → n ≡ gone - at → m ≡ suc gone → set (take (suc at) xs ++ (take n (drop at xs) ++ drop m xs)) at v ≡ take at (take gone xs ++ drop (suc gone) xs) ++ v ∷ drop at (take gone xs ++ drop (suc gone) xs)
+moved_up [] gone at n m v after within long far = absurd (omega (arith, within))
+moved_up (x ∷ xs) gone zero n m v after within long far =
+    let same : n ≡ gone = omega (arith, long) in
+    rw (same, far) refl
+moved_up (x ∷ xs) zero (suc at) n m v after within long far = absurd (omega (arith, after))
+moved_up (x ∷ xs) (suc gone) (suc at) n zero v after within long far = absurd (omega (arith, far))
+moved_up (x ∷ xs) (suc gone) (suc at) n (suc m) v after within long far = ap (λ zs. x ∷ zs) (moved_up xs gone at n m v (omega (arith, after)) (omega (arith, within)) (omega (arith, long)) (omega (arith, far)))
+
+pub down : {X : Type 0} (xs ys : List X) (gone at from n m : ℕ) (v : X) → gone < at → at < length xs → from ≡ suc gone → n ≡ at - gone → m ≡ at → ys ≡ (take gone xs ++ take n (drop from xs)) ++ drop m xs → set ys at v ≡ take at (take gone xs ++ drop (suc gone) xs) ++ v ∷ drop at (take gone xs ++ drop (suc gone) xs)
+down xs ys gone at from n m v before within from_is long far is =
+    ap (λ zs. set zs at v) (is ∙ append_assoc (take gone xs) (take n (drop from xs)) (drop m xs) ∙ ap (λ k. take gone xs ++ (take n (drop k xs) ++ drop m xs)) from_is) ∙ moved_down xs gone at n m v before within long far
+
+pub up : {X : Type 0} (xs ys : List X) (gone at to n m : ℕ) (v : X) → at ≤ gone → gone < length xs → to ≡ suc at → n ≡ gone - at → m ≡ suc gone → ys ≡ (take to xs ++ take n (drop at xs)) ++ drop m xs → set ys at v ≡ take at (take gone xs ++ drop (suc gone) xs) ++ v ∷ drop at (take gone xs ++ drop (suc gone) xs)
+up xs ys gone at to n m v after within to_is long far is =
+    ap (λ zs. set zs at v) (is ∙ append_assoc (take to xs) (take n (drop at xs)) (drop m xs) ∙ ap (λ k. take k xs ++ (take n (drop at xs) ++ drop m xs)) to_is) ∙ moved_up xs gone at n m v after within long far
+
+set_twice : {X : Type 0} (xs : List X) (i : ℕ) (a b : X) → set (set xs i a) i b ≡ set xs i b
+set_twice [] i a b = refl
+set_twice (x ∷ xs) zero a b = refl
+set_twice (x ∷ xs) (suc i) a b = ap (λ ys. x ∷ ys) (set_twice xs i a b)
+
+-- one is taken out, and another one put into its slot
+pub IsTied-exchange : (stations : List (Option Station)) (slots numbers : List ℕ) (xs : List Station) (gone at v : ℕ) (s : Station) → IsTied stations slots numbers xs → IsRising xs → gone < length xs → number_of (get_or xs gone s).port ≡ number_of s.port → s.last ≤ 2 ^ 62 → v ≡ mac_number s.mac → IsTied (set stations (get_or slots gone 0) (Some s)) (take at (take gone slots ++ drop (suc gone) slots) ++ get_or slots gone 0 ∷ drop at (take gone slots ++ drop (suc gone) slots)) (take at (take gone numbers ++ drop (suc gone) numbers) ++ v ∷ drop at (take gone numbers ++ drop (suc gone) numbers)) (take at (take gone xs ++ drop (suc gone) xs) ++ s ∷ drop at (take gone xs ++ drop (suc gone) xs))
+IsTied-exchange stations slots numbers xs gone at v s tied rising within port moment same =
+    let slot : ℕ = get_or slots gone 0 in
+    let there : in_slot stations slot ≡ Some (get_or xs gone s) = slot_tells stations slots numbers xs tied gone s within in
+    let inside : slot < length stations = slot_within stations slot (get_or xs gone s) there in
+    let old : IsOwn slot (get_or xs gone s) = tied.own slot (get_or xs gone s) there in
+    let left : IsTied (set stations slot None) (take gone slots ++ drop (suc gone) slots) (take gone numbers ++ drop (suc gone) numbers) (take gone xs ++ drop (suc gone) xs) = IsTied-remove stations slots numbers xs gone s tied rising within in
+    rw (← set_twice stations slot None (Some s))
+    (IsTied-insert (set stations slot None) (take gone slots ++ drop (suc gone) slots) (take gone numbers ++ drop (suc gone) numbers) (take gone xs ++ drop (suc gone) xs) at slot v s left (get_or-set_same stations slot None None inside) (omega (arith, inside, tied.size)) (record { place = rw (sym port) old.place; in_time = moment }) same)

@@ -1,7 +1,8 @@
 -- The list of stations but for the one with a MAC address.
-use Rattle.std.proofs.Common.{◌≡◌, ◌≢◌, ℕ, ◌+◌, ◌^◌, ◌≤◌, ◌<◌, suc, add-one, nat_lt, Bool, true, false, ◌&&◌, not, cond, List, [], ◌∷◌, ◌++◌, length, get_or, filter, find, take, drop, count_by, Some, None, All, refl, sym, ◌∙◌, ap, subst, append-nil, arith, inl, inr}
+use Rattle.std.proofs.Common.{◌≡◌, ◌≢◌, ◌⊎◌, ℕ, ◌+◌, ◌-◌, ◌^◌, ◌≤◌, ◌<◌, suc, add-one, nat_lt, Bool, true, false, ◌&&◌, not, cond, List, [], ◌∷◌, ◌++◌, length, get_or, filter, find, take, drop, count_by, Some, None, All, refl, sym, ◌∙◌, ap, subst, append-nil, length-append, length-drop, get_or-take, get_or-drop, arith, inl, inr}
 use Rattle.std.proofs.lemmas.Bool.{cases_Bool, cases_eq, and_parts, false≢true, ltb-true, ltb-false, le-ltb, eqb-true, eq-eqb}
-use Rattle.std.proofs.lemmas.List.{take-append-drop}
+use Rattle.std.proofs.lemmas.List.{take-append-drop, length-take-le}
+use Rattle.std.proofs.lemmas.List.Edits.{get_or-remove_below, get_or-remove_above}
 use Rattle.std.proofs.lemmas.List.Elements.{All-append, All-cons, All-filter, All-weaker, All-head, All-tail, All-from_get_or, filter_passes, filter-append}
 use Rattle.std.proofs.lemmas.List.Kept.{AllPairs-filter}
 use Rattle.std.proofs.lemmas.List.Sums.{sum_by-append}
@@ -12,7 +13,7 @@ use Rattle.bridge_fdb.specs.Limits.{IsRising, IsWithinLimits}
 use Rattle.bridge_fdb.specs.Places.{StandsAt, BelongsAt}
 use Rattle.bridge_fdb.specs.Kept.{without}
 use Rattle.bridge_fdb.proofs.Filters.{count_by-cons, filter-all}
-use Rattle.bridge_fdb.proofs.Rising.{AllPairs-append, filter-none, behind, rest_rising, is_of-other, none_below, all_above}
+use Rattle.bridge_fdb.proofs.Rising.{AllPairs-append, filter-none, behind, rest_rising, is_of-other, none_below, all_above, belongs}
 use Rattle.bridge_fdb.proofs.Parts.{count_parts, filter_turned}
 
 above_not_below : (n : ℕ) (xs : List Station) → All (λ x. is_below n x ≡ false) (filter (is_above n) xs)
@@ -127,3 +128,67 @@ live_without_ended t n xs i rising within of_it ended =
           | inl same ↦ absurd (false≢true (sym (not_live k d below same) ∙ live k d below))
           | inr other ↦ other
         ]
+
+-- where a station belongs once another one was taken out
+pub belongs_left : (n : ℕ) (xs : List Station) (gone at left : ℕ) → IsRising xs → gone < length xs → BelongsAt n xs at → (gone < at → left + 1 ≡ at) → (at ≤ gone → left ≡ at) → BelongsAt n (take gone xs ++ drop (suc gone) xs) left
+belongs_left n xs gone at left rising within belongs_at before after =
+    belongs n (take gone xs ++ drop (suc gone) xs) left (omega (arith, count, place))
+    (λ k d from to. lower k d to (cases_Bool (nat_lt k gone)))
+    (λ k d from to. higher k d from (omega (arith, to, count)) (cases_Bool (nat_lt k gone)))
+  where
+    count : length (take gone xs ++ drop (suc gone) xs) + 1 ≡ length xs
+    count = omega (arith, length-append (take gone xs) (drop (suc gone) xs), length-take-le gone xs (omega (arith, within)), length-drop (suc gone) xs, within)
+
+    place : left + 1 ≤ length xs
+    place =
+        elim (cases_Bool (nat_lt gone at)) [
+          | inl is ↦ omega (arith, before (ltb-true gone at is), belongs_at.bound)
+          | inr isnt ↦ omega (arith, after (ltb-false gone at isnt), ltb-false gone at isnt, within)
+        ]
+
+    low_at : (k : ℕ) (d : Station) → k < at → mac_number (get_or xs k d).mac < n
+    low_at k d to =
+        let all : All (λ x. is_below n x ≡ true) (take at xs) = rw belongs_at.below (filter_passes (is_below n) xs) in
+        let here : is_below n (get_or (take at xs) k d) ≡ true = all k d (omega (arith, to, length-take-le at xs belongs_at.bound)) in
+        let same : get_or (take at xs) k d ≡ get_or xs k d = get_or-take at xs k d to in
+        ltb-true (mac_number (get_or xs k d).mac) n (rw same at here)
+
+    high_at : (k : ℕ) (d : Station) → at ≤ k → k < length xs → n < mac_number (get_or xs k d).mac
+    high_at k d from to =
+        let all : All (λ x. is_above n x ≡ true) (drop at xs) = rw belongs_at.above (filter_passes (is_above n) xs) in
+        let here : is_above n (get_or (drop at xs) (k - at) d) ≡ true = all (k - at) d (omega (arith, from, to, length-drop at xs)) in
+        let index : at + (k - at) ≡ k = omega (arith, from) in
+        let same : get_or (drop at xs) (k - at) d ≡ get_or xs k d = get_or-drop at xs (k - at) d ∙ ap (λ j. get_or xs j d) index in
+        ltb-true n (mac_number (get_or xs k d).mac) (rw same at here)
+
+    lower : (k : ℕ) (d : Station) → k < left → (nat_lt k gone ≡ true) ⊎ (nat_lt k gone ≡ false) → mac_number (get_or (take gone xs ++ drop (suc gone) xs) k d).mac < n
+    lower k d to (inl is) =
+        let less : k < gone = ltb-true k gone is in
+        rw (get_or-remove_below xs gone d k less within)
+        (elim (cases_Bool (nat_lt gone at)) [
+          | inl early ↦ low_at k d (omega (arith, less, ltb-true gone at early))
+          | inr late ↦ low_at k d (omega (arith, to, after (ltb-false gone at late)))
+        ])
+    lower k d to (inr isnt) =
+        let least : gone ≤ k = ltb-false k gone isnt in
+        rw (get_or-remove_above xs gone d k least within)
+        (elim (cases_Bool (nat_lt gone at)) [
+          | inl early ↦ low_at (k + 1) d (omega (arith, to, before (ltb-true gone at early)))
+          | inr late ↦ absurd (omega (arith, to, after (ltb-false gone at late), ltb-false gone at late, least))
+        ])
+
+    higher : (k : ℕ) (d : Station) → left ≤ k → k + 1 < length xs → (nat_lt k gone ≡ true) ⊎ (nat_lt k gone ≡ false) → n < mac_number (get_or (take gone xs ++ drop (suc gone) xs) k d).mac
+    higher k d from to (inl is) =
+        let less : k < gone = ltb-true k gone is in
+        rw (get_or-remove_below xs gone d k less within)
+        (elim (cases_Bool (nat_lt gone at)) [
+          | inl early ↦ absurd (omega (arith, from, before (ltb-true gone at early), ltb-true gone at early, less))
+          | inr late ↦ high_at k d (omega (arith, from, after (ltb-false gone at late))) (omega (arith, to))
+        ])
+    higher k d from to (inr isnt) =
+        let least : gone ≤ k = ltb-false k gone isnt in
+        rw (get_or-remove_above xs gone d k least within)
+        (elim (cases_Bool (nat_lt gone at)) [
+          | inl early ↦ high_at (k + 1) d (omega (arith, from, before (ltb-true gone at early))) to
+          | inr late ↦ high_at (k + 1) d (omega (arith, from, after (ltb-false gone at late))) to
+        ])

@@ -7,7 +7,7 @@ ghost use Rattle.savi_kinds.specs.Ports.{number_of};
 ghost use Rattle.bridge_fdb.specs.Stations.{mac_number, station_of, is_of, is_live, live_at, place_of, row_of};
 ghost use Rattle.bridge_fdb.specs.Learning.{is_known, learned, with_station};
 ghost use Rattle.bridge_fdb.specs.Limits.{IsWithinLimits};
-ghost use Rattle.bridge_fdb.specs.Kept.{Keeps, IsFree, in_slot, listed, without};
+ghost use Rattle.bridge_fdb.specs.Kept.{Keeps, IsFree, IsSlotOf, in_slot, listed, without};
 ghost use Rattle.bridge_fdb.specs.Full.{Tells};
 ghost use Rattle.bridge_fdb.specs.declared.station.Station.{Station};
 
@@ -57,11 +57,11 @@ impl Fdb {
     /// Learns at moment `t` (ms, at most 2^62) that a frame from `mac` came in at port `p`: a station that is live there is
     /// live anew; else it is now there, where the port has fewer than 256 live stations; else no live station has changed.
     ///
-    /// O(log n) for a station that is live there, and at a port of 256 stations whose earliest end, by what is remembered
-    /// of it, is still to come. A station that is taken in moves those of higher MAC addresses by one place. Where 256
-    /// stations are kept at the port and that end has come, there are some passes over all stations that are kept, at most
-    /// once in a ms for a port. What is remembered isn't later than the earliest end, and may be earlier, since the station
-    /// that it comes from may have been seen again.
+    /// O(log n) for a station that is live there, and at a port of 256 stations before the moment at which, as far as is
+    /// remembered, the first of them may end. Else the port's own 256 slots at most are gone over, for an empty one or one
+    /// whose station has ended. A station that is taken in moves, by one place in the order, those of higher MAC addresses,
+    /// or those between it and the ended one whose place it takes: 10 octets of each. One that leaves another port is taken
+    /// out of the order first. No call goes over all stations in any other way.
     pub fn learn(&mut self, mac: Mac, p: Port, t: Moment)
         requires { t ≤ 2 ^ 62 }
         ensures learned { live_at t self.new ≡ learned (station_of mac p t) (live_at t self.old) }
@@ -211,28 +211,53 @@ fn put(kept: &mut Kept, full: &mut Full, slot: usize, station: Station)
     ensures full { Tells full.new (listed kept.new) }
 {
     give_up(kept, full, station.mac);
-    clear(kept, full, slot, station.last);
-    match kept.search(station.mac) {
-        Ok(_) => unreachable!(),
-        Err(at) => kept.insert(at, slot, station),
+    match kept.stations[slot] {
+        Some(ended) => exchange(kept, full, slot, ended, station),
+        None => add(kept, full, slot, station),
     }
 }
 
-// Gives up the station in a slot, if there is one, which has ended at t.
-fn clear(kept: &mut Kept, full: &mut Full, slot: usize, t: Moment)
+// Puts a station whose MAC address none has in place of one of its port that has ended.
+fn exchange(kept: &mut Kept, full: &mut Full, slot: usize, ended: Station, station: Station)
     requires kept { Keeps kept.old }
     requires limits { IsWithinLimits (listed kept.old) }
     requires full { Tells full.old (listed kept.old) }
-    requires within { slot < 4096 }
-    requires ended { (station : Station) → in_slot kept.old.stations.items slot ≡ Some station → is_live t station ≡ false }
-    ensures live { live_at t (listed kept.new) ≡ live_at t (listed kept.old) }
-    ensures empty { in_slot kept.new.stations.items slot ≡ None }
-    ensures others { (number : ℕ) → find (is_of number) (listed kept.old) ≡ None → find (is_of number) (listed kept.new) ≡ None }
+    requires moment { station.last ≤ 2 ^ 62 }
+    requires unknown { find (is_of (mac_number station.mac)) (listed kept.old) ≡ None }
+    requires there { in_slot kept.old.stations.items slot ≡ Some ended }
+    requires place { IsSlotOf (number_of station.port) slot }
+    requires ended { is_live station.last ended ≡ false }
+    ensures live { live_at station.last (listed kept.new) ≡ with_station station (live_at station.last (listed kept.old)) }
     ensures kept { Keeps kept.new }
     ensures limits { IsWithinLimits (listed kept.new) }
     ensures full { Tells full.new (listed kept.new) }
 {
-    if let Some(ended) = kept.stations[slot] {
-        give_up(kept, full, ended.mac);
+    let Ok(gone) = kept.search(ended.mac) else {
+        unreachable!()
+    };
+    let Err(at) = kept.search(station.mac) else {
+        unreachable!()
+    };
+    kept.exchange(gone, at, station);
+    full.set(station.port, 0);
+}
+
+// Puts a station whose MAC address none has into an empty slot of its port.
+fn add(kept: &mut Kept, full: &Full, slot: usize, station: Station)
+    requires kept { Keeps kept.old }
+    requires limits { IsWithinLimits (listed kept.old) }
+    requires full { Tells full.now (listed kept.old) }
+    requires moment { station.last ≤ 2 ^ 62 }
+    requires unknown { find (is_of (mac_number station.mac)) (listed kept.old) ≡ None }
+    requires empty { in_slot kept.old.stations.items slot ≡ None }
+    requires place { IsSlotOf (number_of station.port) slot }
+    ensures live { live_at station.last (listed kept.new) ≡ with_station station (live_at station.last (listed kept.old)) }
+    ensures kept { Keeps kept.new }
+    ensures limits { IsWithinLimits (listed kept.new) }
+    ensures full { Tells full.now (listed kept.new) }
+{
+    match kept.search(station.mac) {
+        Ok(_) => unreachable!(),
+        Err(at) => kept.insert(at, slot, station),
     }
 }

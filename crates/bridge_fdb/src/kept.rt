@@ -137,6 +137,25 @@ impl Kept {
         self.stations[usize::from(slot)] = None;
     }
 
+    // Gives up the station at `gone`, and puts one of its port into its slot, whose MAC address none has. O(n): it moves the
+    // stations between the two.
+    pub(crate) fn exchange(&mut self, gone: usize, at: usize, station: Station)
+        requires kept { Keeps self.old }
+        requires rising { IsRising (listed self.old) }
+        requires within { gone < length (listed self.old) }
+        requires place { BelongsAt (mac_number station.mac) (listed self.old) at }
+        requires port { number_of (slice_index_or (listed self.old) gone station).port ≡ number_of station.port }
+        requires moment { station.last ≤ 2 ^ 62 }
+        ensures listed { listed self.new ≡ with_station station (remove (listed self.old) gone) }
+        ensures kept { Keeps self.new }
+    {
+        let at = if gone < at { at - 1 } else { at };
+        let slot = self.slots[gone];
+        exchange_within(&mut self.numbers, gone, at, number(station.mac));
+        exchange_within(&mut self.slots, gone, at, slot);
+        self.stations[usize::from(slot)] = Some(station);
+    }
+
     // Puts a station whose MAC address none has into an empty slot of its port. O(n): it moves those of higher MAC
     // addresses.
     pub(crate) fn insert(&mut self, at: usize, slot: usize, station: Station)
@@ -151,6 +170,21 @@ impl Kept {
         insert_within(&mut self.slots, at, slot as u16);
         self.stations[slot] = Some(station);
     }
+}
+
+// Takes the value at one place out, and puts another one in: it stands at `at` of the list that is left.
+fn exchange_within<T: Copy>(values: &mut Vec<T>, gone: usize, at: usize, value: T)
+    requires gone { gone < length values.old.items }
+    requires place { at < length values.old.items }
+    ensures items { values.new.items ≡ take at (remove values.old.items gone) ++ value ∷ drop at (remove values.old.items gone) }
+    ensures capacity { vec_capacity values.new ≡ vec_capacity values.old }
+{
+    if gone < at {
+        values.copy_within(gone + 1..at + 1, gone);
+    } else {
+        values.copy_within(at..gone, at + 1);
+    }
+    values[at] = value;
 }
 
 // Inserts a value where there is room for it.

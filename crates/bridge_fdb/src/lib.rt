@@ -7,11 +7,11 @@
 #![tactic(auto)]
 
 mod fdb;
+mod full;
+mod kept;
 mod laws;
 mod number;
-mod kept;
 mod station;
-mod full;
 #[cfg(test)]
 mod tests;
 

@@ -1,45 +1,52 @@
-use Rattle.std.proofs.Common.{◌≡◌, ◌+◌, ◌≤◌, ℕ, List, true, false, None, All, find, refl, sym, ◌∙◌, ap, subst, arith}
-use Rattle.std.proofs.lemmas.Bool.{eq-eqb, false≢true, lt-ltb}
+use Rattle.std.proofs.Common.{◌≡◌, ◌<◌, ◌≤◌, ◌+◌, ◌*◌, ◌-◌, ◌==◌, ℕ, List, true, false, not, ◌&&◌, Option, None, Some, All, find, length, get_or, take, drop, suc, ◌++◌, count_by, refl, sym, ◌∙◌, ap, subst, arith}
+use Rattle.std.proofs.lemmas.Bool.{eq-eqb, eqb-true, false≢true, lt-ltb}
+use Rattle.savi_kinds.specs.Ports.{number_of}
 use Rattle.bridge_fdb.specs.declared.station.Station.{Station}
-use Rattle.bridge_fdb.specs.Stations.{mac_number, is_of, is_live, live_at, count_at}
+use Rattle.bridge_fdb.specs.Stations.{mac_number, is_of, is_at, is_live, live_at, count_at}
 use Rattle.bridge_fdb.specs.Learning.{with_station}
 use Rattle.bridge_fdb.specs.Places.{StandsAt, BelongsAt}
-use Rattle.bridge_fdb.specs.Kept.{listed, without}
+use Rattle.bridge_fdb.specs.Kept.{IsOwn, in_slot, listed, without}
 use Rattle.bridge_fdb.proofs.Rising.{find-none}
 use Rattle.bridge_fdb.proofs.Parts.{live_with, stands_number}
 use Rattle.bridge_fdb.proofs.Within.{IsWithinLimits-with}
-use Rattle.bridge_fdb.proofs.Without.{none_left, none_found, live_without, with_without}
-use Rattle.bridge_fdb.proofs.Counting.{room_of}
-use Rattle.bridge_fdb.proofs.Fullness.{Tells-with}
+use Rattle.bridge_fdb.proofs.Without.{none_left, none_found, live_without, with_without, remove_stands, All-without, IsWithinLimits-without}
+use Rattle.bridge_fdb.proofs.Slots.{get_or_within, slot_read, station_in}
+use Rattle.bridge_fdb.proofs.Counting.{room_of, no_slot, slot_counted, ended_one, slot_stands}
+use Rattle.bridge_fdb.proofs.Fullness.{Tells-with, Tells-without}
 use Rattle.bridge_fdb.proofs.fdb.put.Goals as goal
 
-pub clear-requires-clause-ended : goal.clear-requires-clause-ended
-clear-requires-clause-ended c = λ station is. c.requires.free.ended station (c.give_up.ensures.slots c.args.slot station is).0
+-- none is left with the station's MAC address
+gone : (n : ℕ) (xs ys : List Station) → ys ≡ without n xs → find (is_of n) ys ≡ None
+gone n xs ys is = rw is (find-none (is_of n) (without n xs) (none_left n xs))
 
-pub unreachable-requires : goal.unreachable-requires
-unreachable-requires c =
-    let number : ℕ = mac_number c.args.station.mac in
-    let at : StandsAt number (listed c.clear.new.kept) c.in-Ok.field-0 = c.in-Ok.ensures in
-    let given_up : find (is_of number) (listed c.give_up.new.kept) ≡ None = rw c.give_up.ensures.listed (find-none (is_of number) (without number (listed c.args.kept.now)) (none_left number (listed c.args.kept.now))) in
-    let none : All (λ x. is_of number x ≡ false) (listed c.clear.new.kept) = none_found (is_of number) (listed c.clear.new.kept) (c.clear.ensures.others number given_up) in
-    false≢true (sym (none c.in-Ok.field-0 c.args.station at.bound) ∙ eq-eqb _ number (stands_number number (listed c.clear.new.kept) c.in-Ok.field-0 c.args.station at))
+-- what is live once a station was put in where it was given up before
+put_in : (s : Station) (t : ℕ) (xs ys zs : List Station) → ys ≡ without (mac_number s.mac) xs → live_at t zs ≡ with_station s (live_at t ys) → live_at t zs ≡ with_station s (live_at t xs)
+put_in s t xs ys zs left live = live ∙ ap (with_station s) (ap (live_at t) left ∙ live_without t (mac_number s.mac) xs) ∙ with_without s (live_at t xs)
 
-pub returns-clause-live : goal.returns-clause-live
-returns-clause-live c =
-    let t : ℕ = c.args.station.last in
-    let number : ℕ = mac_number c.args.station.mac in
-    let live : is_live t c.args.station ≡ true = lt-ltb t (t + 300000) (omega arith) in
-    let left : live_at t (listed c.clear.new.kept) ≡ without number (live_at t (listed c.args.kept.now)) = c.clear.ensures.live ∙ ap (live_at t) c.give_up.ensures.listed ∙ live_without t number (listed c.args.kept.now) in
-    rw c.insert.ensures.listed
-    (live_with t c.args.station (listed c.clear.new.kept) live ∙ ap (with_station c.args.station) left ∙ with_without c.args.station (live_at t (listed c.args.kept.now)))
+pub exchange-requires-clause-unknown : goal.exchange-requires-clause-unknown
+exchange-requires-clause-unknown c = gone (mac_number c.args.station.mac) (listed c.args.kept.now) (listed c.give_up.new.kept) c.give_up.ensures.listed
 
-pub returns-clause-limits : goal.returns-clause-limits
-returns-clause-limits c =
-    let room : (port : ℕ) → count_at port (with_station c.args.station (listed c.clear.new.kept)) ≤ 256 =
-        λ port. subst (λ (xs : List Station). count_at port xs ≤ 256) c.insert.ensures.listed (room_of c.insert.new.self.stations.items c.insert.new.self.slots.items c.insert.new.self.numbers.items (listed c.insert.new.self) c.insert.ensures.kept.tied port) in
-    rw c.insert.ensures.listed (IsWithinLimits-with c.args.station (listed c.clear.new.kept) c.clear.ensures.limits c.requires.moment room)
+pub exchange-requires-clause-there : goal.exchange-requires-clause-there
+exchange-requires-clause-there c =
+    let inside : c.args.slot < length c.give_up.new.kept.stations.items = omega (arith, c.requires.free.place.1, c.args.station.port.high, c.give_up.ensures.kept.tied.size) in
+    slot_read c.give_up.new.kept.stations.items c.args.slot c.index.result.now inside c.index.ensures ∙ c.in-Some.is
 
-pub returns-clause-full : goal.returns-clause-full
-returns-clause-full c =
-    let at : BelongsAt (mac_number c.args.station.mac) (listed c.clear.new.kept) c.in-Err.at = c.in-Err.ensures in
-    rw c.insert.ensures.listed (Tells-with c.clear.new.full c.args.station (listed c.clear.new.kept) c.clear.ensures.full (none_found (is_of (mac_number c.args.station.mac)) (listed c.clear.new.kept) at.none))
+pub exchange-requires-clause-ended : goal.exchange-requires-clause-ended
+exchange-requires-clause-ended c =
+    let inside : c.args.slot < length c.give_up.new.kept.stations.items = omega (arith, c.requires.free.place.1, c.args.station.port.high, c.give_up.ensures.kept.tied.size) in
+    let there : in_slot c.give_up.new.kept.stations.items c.args.slot ≡ Some c.in-Some.ended = slot_read c.give_up.new.kept.stations.items c.args.slot c.index.result.now inside c.index.ensures ∙ c.in-Some.is in
+    c.requires.free.ended c.in-Some.ended (c.give_up.ensures.slots c.args.slot c.in-Some.ended there).0
+
+pub add-requires-clause-unknown : goal.add-requires-clause-unknown
+add-requires-clause-unknown c = gone (mac_number c.args.station.mac) (listed c.args.kept.now) (listed c.give_up.new.kept) c.give_up.ensures.listed
+
+pub add-requires-clause-empty : goal.add-requires-clause-empty
+add-requires-clause-empty c =
+    let inside : c.args.slot < length c.give_up.new.kept.stations.items = omega (arith, c.requires.free.place.1, c.args.station.port.high, c.give_up.ensures.kept.tied.size) in
+    slot_read c.give_up.new.kept.stations.items c.args.slot c.index.result.now inside c.index.ensures ∙ c.in-None.is
+
+pub returns-in-Some-clause-live : goal.returns-in-Some-clause-live
+returns-in-Some-clause-live c = put_in c.args.station c.args.station.last (listed c.args.kept.now) (listed c.give_up.new.kept) (listed c.exchange.new.kept) c.give_up.ensures.listed c.exchange.ensures.live
+
+pub returns-in-None-clause-live : goal.returns-in-None-clause-live
+returns-in-None-clause-live c = put_in c.args.station c.args.station.last (listed c.args.kept.now) (listed c.give_up.new.kept) (listed c.add.new.kept) c.give_up.ensures.listed c.add.ensures.live

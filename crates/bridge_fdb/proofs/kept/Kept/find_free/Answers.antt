@@ -31,7 +31,10 @@ loop-slot-preserved c =
     go k from to (inr other) = LivesUntil-earlier c.loop-slot.end c.min-end.result (in_slot c.args.self.now.stations.items k) (omega (arith, c.min-end.ensures)) (c.loop-slot.invariant.1 k from (omega (arith, to, other)))
 
 pub returns : goal.returns
-returns c = (c.loop-slot.invariant.0, λ u before.
-    let first : c.first_slot-first.result ≡ 256 * (number_of c.args.p - 1) = c.first_slot-first.ensures.value in
-    full_of c.args.self.now.stations.items c.args.self.now.slots.items c.args.self.now.numbers.items (listed c.args.self.now) (number_of c.args.p) u c.requires.kept.tied c.args.p.low c.args.p.high
-    (λ k from to. live_before c.loop-slot.end u (in_slot c.args.self.now.stations.items k) before (c.loop-slot.invariant.1 k (omega (arith, from, first)) (omega (arith, to, first, c.loop-slot-test.false)))))
+returns c = (
+  c.loop-slot.invariant.0,
+  λ u before.
+      let first : c.first_slot-first.result ≡ 256 * (number_of c.args.p - 1) = c.first_slot-first.ensures.value in
+      full_of c.args.self.now.stations.items c.args.self.now.slots.items c.args.self.now.numbers.items (listed c.args.self.now) (number_of c.args.p) u c.requires.kept.tied c.args.p.low c.args.p.high
+      (λ k from to. live_before c.loop-slot.end u (in_slot c.args.self.now.stations.items k) before (c.loop-slot.invariant.1 k (omega (arith, from, first)) (omega (arith, to, first, c.loop-slot-test.false)))),
+)
