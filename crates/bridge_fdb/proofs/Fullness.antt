@@ -1,5 +1,5 @@
 -- What is told of full ports, when the list of stations changes.
-use Rattle.std.proofs.Common.{◌≡◌, ◌≢◌, ◌⊎◌, ℕ, ◌+◌, ◌-◌, ◌≤◌, ◌<◌, ◌==◌, Bool, true, false, ◌&&◌, cond, List, [], ◌∷◌, filter, find, count_by, None, Some, All, refl, sym, ◌∙◌, ap, subst, arith, inl, inr, slice_index, get_or}
+use Rattle.std.proofs.Common.{◌≡◌, ◌≢◌, ◌⊎◌, ℕ, ◌+◌, ◌-◌, ◌≤◌, ◌<◌, ◌==◌, Bool, true, false, ◌&&◌, cond, List, filter, count_by, All, refl, sym, ◌∙◌, ap, subst, arith, inl, inr, slice_index, get_or}
 use Rattle.std.proofs.lemmas.Bool.{cases_Bool, cases_eq, lt-ltb, eqb-true, eq-eqb, ne_eqb}
 use Rattle.savi_kinds.specs.Ports.{number_of}
 use Rattle.savi_kinds.specs.declared.port.Port.{Port}

@@ -1,21 +1,19 @@
 -- Stations in slots, and the list of them in order of MAC address.
-use Rattle.std.proofs.Common.{◌≡◌, ◌≢◌, ℕ, ◌+◌, ◌-◌, ◌^◌, ◌≤◌, ◌<◌, min, nat_lt, zero, suc, add-one, Bool, true, false, not, ◌&&◌, cond, List, [], ◌∷◌, ◌++◌, map, filter, length, get_or, take, drop, find, count_by, Option, Some, None, All, refl, sym, ◌∙◌, ap, subst, arith, inl, inr, append_assoc, length-append, length-set, length-take, length-drop, get_or-take, get_or-drop}
-use Rattle.std.specs.List.{filter_map, AllWithin}
+use Rattle.std.proofs.Common.{◌≡◌, ◌≢◌, ℕ, ◌+◌, ◌-◌, ◌^◌, ◌≤◌, ◌<◌, nat_lt, zero, suc, Bool, cond, List, [], ◌∷◌, ◌++◌, map, length, get_or, take, drop, count_by, Option, Some, None, All, refl, sym, ◌∙◌, ap, subst, arith, inl, inr, append_assoc, length-set, length-take, length-drop, get_or-take, get_or-drop}
+use Rattle.std.specs.List.{filter_map}
 use Rattle.std.proofs.Math.ListN.{set}
 use Rattle.std.proofs.lemmas.Bool.{cases_Bool, cases_eq, ltb-true, ltb-false}
-use Rattle.std.proofs.lemmas.List.{map-append, take-map, drop-map, take-append-drop, length-map, get_or-map, get_or-set_same, get_or-set_other, get_or_past, set-get_or, take-set, drop-set, map-set}
+use Rattle.std.proofs.lemmas.List.{map-append, take-map, drop-map, take-append-drop, length-map, get_or-map, get_or-set_same, get_or-set_other, get_or_past, set-get_or, map-set}
 use Rattle.std.proofs.lemmas.Grind.{get_or_default_zero}
 use Rattle.std.proofs.lemmas.List.Elements.{All-head, All-tail, All-take, All-drop, All-from_get_or}
-use Rattle.std.proofs.lemmas.List.Sums.{sum_by-set, count_by-le-length, sum_by-append}
+use Rattle.std.proofs.lemmas.List.Sums.{sum_by-set, sum_by-append}
 use Rattle.savi_kinds.specs.Ports.{number_of}
 use Rattle.bridge_fdb.specs.declared.station.Station.{Station}
-use Rattle.bridge_fdb.specs.Stations.{mac_number, is_live, live_at, is_of, is_below, is_above, is_at, end_of, count_at}
-use Rattle.bridge_fdb.specs.Learning.{with_station}
+use Rattle.bridge_fdb.specs.Stations.{mac_number}
 use Rattle.bridge_fdb.specs.Limits.{IsRising}
-use Rattle.bridge_fdb.specs.Places.{StandsAt, BelongsAt}
-use Rattle.bridge_fdb.specs.Kept.{IsTied, IsOwn, IsSlotOf, in_slot, has, numbers_of, without}
+use Rattle.bridge_fdb.specs.Places.{StandsAt}
+use Rattle.bridge_fdb.specs.Kept.{IsTied, IsOwn, in_slot, has, numbers_of}
 use Rattle.bridge_fdb.proofs.Filters.{count_by-cons}
-use Rattle.bridge_fdb.proofs.Parts.{set_stands, insert_belongs, count_with, count_parts}
 
 -- the list is what the slots tell
 pub listed_is : (f : ℕ → Option Station) (slots : List ℕ) (xs : List Station) → map f slots ≡ map Some xs → filter_map f slots ≡ xs

@@ -1,18 +1,18 @@
 -- The list of stations but for the one with a MAC address.
-use Rattle.std.proofs.Common.{◌≡◌, ◌≢◌, ◌⊎◌, ℕ, ◌+◌, ◌-◌, ◌^◌, ◌≤◌, ◌<◌, suc, add-one, nat_lt, Bool, true, false, ◌&&◌, not, cond, List, [], ◌∷◌, ◌++◌, length, get_or, filter, find, take, drop, count_by, Some, None, All, refl, sym, ◌∙◌, ap, subst, append-nil, length-append, length-drop, get_or-take, get_or-drop, arith, inl, inr}
-use Rattle.std.proofs.lemmas.Bool.{cases_Bool, cases_eq, and_parts, false≢true, ltb-true, ltb-false, le-ltb, eqb-true, eq-eqb}
+use Rattle.std.proofs.Common.{◌≡◌, ◌≢◌, ◌⊎◌, ℕ, ◌+◌, ◌-◌, ◌^◌, ◌≤◌, ◌<◌, suc, add-one, nat_lt, Bool, true, false, cond, List, [], ◌∷◌, ◌++◌, length, get_or, filter, find, take, drop, count_by, Some, None, All, refl, sym, ◌∙◌, ap, append-nil, length-append, length-drop, get_or-take, get_or-drop, arith, inl, inr}
+use Rattle.std.proofs.lemmas.Bool.{cases_Bool, cases_eq, false≢true, ltb-true, ltb-false, le-ltb, eqb-true, eq-eqb}
 use Rattle.std.proofs.lemmas.List.{take-append-drop, length-take-le}
 use Rattle.std.proofs.lemmas.List.Edits.{get_or-remove_below, get_or-remove_above}
-use Rattle.std.proofs.lemmas.List.Elements.{All-append, All-cons, All-filter, All-weaker, All-head, All-tail, All-from_get_or, filter_passes, filter-append}
+use Rattle.std.proofs.lemmas.List.Elements.{All-append, All-cons, All-filter, All-weaker, All-head, All-tail, filter_passes, filter-append}
 use Rattle.std.proofs.lemmas.List.Kept.{AllPairs-filter}
 use Rattle.std.proofs.lemmas.List.Sums.{sum_by-append}
 use Rattle.bridge_fdb.specs.declared.station.Station.{Station}
-use Rattle.bridge_fdb.specs.Stations.{mac_number, is_live, live_at, is_of, is_below, is_above, is_at, count_at}
+use Rattle.bridge_fdb.specs.Stations.{mac_number, is_live, live_at, is_of, is_below, is_above, is_at}
 use Rattle.bridge_fdb.specs.Learning.{with_station}
 use Rattle.bridge_fdb.specs.Limits.{IsRising, IsWithinLimits}
 use Rattle.bridge_fdb.specs.Places.{StandsAt, BelongsAt}
 use Rattle.bridge_fdb.specs.Kept.{without}
-use Rattle.bridge_fdb.proofs.Filters.{count_by-cons, filter-all}
+use Rattle.bridge_fdb.proofs.Filters.{filter-all}
 use Rattle.bridge_fdb.proofs.Rising.{AllPairs-append, filter-none, behind, rest_rising, is_of-other, none_below, all_above, belongs}
 use Rattle.bridge_fdb.proofs.Parts.{count_parts, filter_turned}
 

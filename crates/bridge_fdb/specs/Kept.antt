@@ -1,6 +1,6 @@
 -- What is kept of stations: each in a slot of its port, and beside them their MAC addresses as numbers in order, with the
 -- slot of each.
-use Rattle.std.specs.Prelude.{ℕ, ◌≡◌, ◌+◌, ◌*◌, ◌-◌, ◌^◌, ◌≤◌, ◌<◌, Bool, false, Option, Some, None, List, ◌++◌, map, filter, length, get_or, count_by, vec_capacity}
+use Rattle.std.specs.Prelude.{ℕ, ◌≡◌, ◌*◌, ◌-◌, ◌^◌, ◌≤◌, ◌<◌, Bool, false, Option, Some, None, List, ◌++◌, map, filter, length, get_or, count_by, vec_capacity}
 use Rattle.std.specs.List.{filter_map}
 use Rattle.savi_kinds.specs.Ports.{number_of}
 use Rattle.bridge_fdb.specs.declared.station.Station.{Station}

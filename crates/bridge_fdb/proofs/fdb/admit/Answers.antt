@@ -1,4 +1,4 @@
-use Rattle.std.proofs.Common.{◌≡◌, ◌≤◌, ◌<◌, ℕ, List, sym, ◌∙◌, ap, subst, arith}
+use Rattle.std.proofs.Common.{◌≤◌, ℕ, List, sym, ◌∙◌, subst, arith}
 use Rattle.savi_kinds.specs.Ports.{number_of}
 use Rattle.bridge_fdb.specs.declared.station.Station.{Station}
 use Rattle.bridge_fdb.specs.Stations.{is_at, is_live, live_at, count_at}

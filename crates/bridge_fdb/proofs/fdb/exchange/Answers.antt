@@ -1,16 +1,15 @@
-use Rattle.std.proofs.Common.{◌≡◌, ◌<◌, ◌≤◌, ◌+◌, ◌*◌, ◌-◌, ◌==◌, ℕ, List, true, false, not, ◌&&◌, Option, None, Some, All, find, length, get_or, take, drop, suc, ◌++◌, count_by, refl, sym, ◌∙◌, ap, subst, arith}
+use Rattle.std.proofs.Common.{◌≡◌, ◌≤◌, ◌+◌, ℕ, List, true, false, not, ◌&&◌, All, get_or, count_by, refl, sym, ◌∙◌, ap, subst, arith}
 use Rattle.std.proofs.lemmas.Bool.{eq-eqb, eqb-true, false≢true, lt-ltb}
 use Rattle.savi_kinds.specs.Ports.{number_of}
 use Rattle.bridge_fdb.specs.declared.station.Station.{Station}
-use Rattle.bridge_fdb.specs.Stations.{mac_number, is_of, is_at, is_live, live_at, count_at}
+use Rattle.bridge_fdb.specs.Stations.{mac_number, is_of, is_at, is_live, count_at}
 use Rattle.bridge_fdb.specs.Learning.{with_station}
 use Rattle.bridge_fdb.specs.Places.{StandsAt, BelongsAt}
-use Rattle.bridge_fdb.specs.Kept.{IsOwn, in_slot, listed, without}
-use Rattle.bridge_fdb.proofs.Rising.{find-none}
+use Rattle.bridge_fdb.specs.Kept.{IsOwn, listed, without}
 use Rattle.bridge_fdb.proofs.Parts.{live_with, stands_number}
 use Rattle.bridge_fdb.proofs.Within.{IsWithinLimits-with}
-use Rattle.bridge_fdb.proofs.Without.{none_left, none_found, live_without, with_without, remove_stands, All-without, IsWithinLimits-without}
-use Rattle.bridge_fdb.proofs.Slots.{get_or_within, slot_read, station_in}
+use Rattle.bridge_fdb.proofs.Without.{none_found, remove_stands, All-without, IsWithinLimits-without}
+use Rattle.bridge_fdb.proofs.Slots.{get_or_within}
 use Rattle.bridge_fdb.proofs.Counting.{room_of, no_slot, slot_counted, ended_one, slot_stands}
 use Rattle.bridge_fdb.proofs.Fullness.{Tells-with, Tells-without}
 use Rattle.bridge_fdb.proofs.fdb.exchange.Goals as goal

@@ -1,5 +1,4 @@
-use Rattle.std.proofs.Common.{◌≡◌, ℕ, List, false, All, sym, ◌∙◌, ap, arith}
-use Rattle.bridge_fdb.specs.declared.station.Station.{Station}
+use Rattle.std.proofs.Common.{◌≡◌, false, All, ◌∙◌}
 use Rattle.bridge_fdb.specs.Stations.{mac_number, is_of}
 use Rattle.bridge_fdb.specs.Places.{StandsAt, BelongsAt}
 use Rattle.bridge_fdb.specs.Kept.{listed, without}

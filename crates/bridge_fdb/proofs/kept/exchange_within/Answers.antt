@@ -1,4 +1,4 @@
-use Rattle.std.proofs.Common.{◌≡◌, ◌+◌, ◌-◌, ap, ◌∙◌, arith}
+use Rattle.std.proofs.Common.{◌+◌, ◌-◌, ap, ◌∙◌, arith}
 use Rattle.bridge_fdb.proofs.Slots.{down, up}
 use Rattle.bridge_fdb.proofs.kept.exchange_within.Goals.{then-gone-at, else-gone-at}
 use Rattle.bridge_fdb.proofs.kept.exchange_within.Goals as goal

@@ -1,4 +1,4 @@
-use Rattle.std.proofs.Common.{◌≡◌, ◌≤◌, ◌^◌, List, [], sym, subst, arith}
+use Rattle.std.proofs.Common.{◌≤◌, ◌^◌, [], sym, subst, arith}
 use Rattle.std.proofs.lemmas.List.Elements.{All-nil}
 use Rattle.bridge_fdb.specs.declared.station.Station.{Station}
 use Rattle.bridge_fdb.specs.Limits.{IsWithinLimits}

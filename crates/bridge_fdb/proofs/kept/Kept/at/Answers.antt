@@ -1,7 +1,6 @@
 use Rattle.std.proofs.Common.{◌≡◌, ◌<◌, ℕ, List, [], ◌∷◌, Option, None, Some, length, get_or, sym, ◌∙◌, ap, arith}
-use Rattle.savi_kinds.specs.Ports.{number_of}
 use Rattle.bridge_fdb.specs.declared.station.Station.{Station}
-use Rattle.bridge_fdb.specs.Kept.{Keeps, IsTied, IsOwn, in_slot, has, listed, without}
+use Rattle.bridge_fdb.specs.Kept.{IsTied, in_slot, listed}
 use Rattle.bridge_fdb.proofs.Slots.{slot_at, slot_bound, slot_tells, slot_within, slot_read, station_in}
 use Rattle.bridge_fdb.proofs.kept.Kept.at.Goals as goal
 

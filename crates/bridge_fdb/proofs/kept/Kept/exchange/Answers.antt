@@ -1,10 +1,8 @@
-use Rattle.std.proofs.Common.{◌≡◌, ◌<◌, ◌≤◌, ◌+◌, ◌-◌, ℕ, List, ◌∷◌, ◌++◌, Some, length, get_or, take, drop, suc, sym, ◌∙◌, ap, arith}
+use Rattle.std.proofs.Common.{◌≡◌, ◌<◌, ◌∷◌, ◌++◌, Some, length, get_or, take, drop, suc, ◌∙◌, arith}
 use Rattle.std.proofs.Math.ListN.{set}
-use Rattle.bridge_fdb.specs.declared.station.Station.{Station}
 use Rattle.bridge_fdb.specs.Stations.{mac_number}
 use Rattle.bridge_fdb.specs.Places.{BelongsAt}
 use Rattle.bridge_fdb.specs.Kept.{IsTied, in_slot, listed}
-use Rattle.bridge_fdb.proofs.Numbers.{sorted_length}
 use Rattle.bridge_fdb.proofs.Parts.{insert_belongs}
 use Rattle.bridge_fdb.proofs.Without.{belongs_left}
 use Rattle.bridge_fdb.proofs.Slots.{slot_at, slot_bound, IsTied-exchange, listed_is}

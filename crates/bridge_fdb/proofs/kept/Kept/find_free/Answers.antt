@@ -1,7 +1,6 @@
-use Rattle.std.proofs.Common.{◌≡◌, ◌≢◌, ◌⊎◌, ◌≤◌, ◌<◌, ◌-◌, ◌*◌, ◌+◌, ℕ, None, Some, length, get_or, sym, ◌∙◌, ap, subst, inl, inr, arith}
+use Rattle.std.proofs.Common.{◌≡◌, ◌≢◌, ◌⊎◌, ◌≤◌, ◌<◌, ◌-◌, ◌*◌, ◌+◌, ℕ, Some, length, sym, ◌∙◌, inl, inr, arith}
 use Rattle.savi_kinds.specs.Ports.{number_of}
-use Rattle.bridge_fdb.specs.declared.station.Station.{Station}
-use Rattle.bridge_fdb.specs.Kept.{Keeps, IsTied, IsOwn, in_slot, has, listed, without}
+use Rattle.bridge_fdb.specs.Kept.{in_slot, listed}
 use Rattle.std.proofs.lemmas.Bool.{cases_eq, ltb-true}
 use Rattle.bridge_fdb.specs.Stations.{end_of}
 use Rattle.bridge_fdb.proofs.Counting.{LivesUntil, LivesUntil-earlier, live_before, full_of}

@@ -1,9 +1,7 @@
-use Rattle.std.proofs.Common.{◌≡◌, ◌<◌, ◌≤◌, ◌+◌, ◌*◌, ◌-◌, ℕ, List, ◌∷◌, ◌++◌, Option, None, Some, refl, length, get_or, take, drop, sym, ◌∙◌, ap, subst, length-append, arith}
-use Rattle.savi_kinds.specs.Ports.{number_of}
+use Rattle.std.proofs.Common.{◌≡◌, ◌<◌, ℕ, List, ◌∷◌, ◌++◌, Option, None, Some, refl, length, take, drop, ◌∙◌, arith}
 use Rattle.bridge_fdb.specs.declared.station.Station.{Station}
-use Rattle.bridge_fdb.specs.Kept.{Keeps, IsTied, IsOwn, in_slot, has, listed, without}
+use Rattle.bridge_fdb.specs.Kept.{IsTied, IsOwn, in_slot, listed}
 use Rattle.std.proofs.Math.ListN.{set}
-use Rattle.std.proofs.lemmas.List.{take-append-drop}
 use Rattle.bridge_fdb.specs.Stations.{mac_number}
 use Rattle.bridge_fdb.proofs.Numbers.{sorted_length}
 use Rattle.bridge_fdb.proofs.Parts.{insert_belongs}

@@ -1,10 +1,9 @@
-use Rattle.std.proofs.Common.{◌≡◌, ◌<◌, ℕ, List, [], ◌∷◌, ◌++◌, None, Some, length, get_or, take, drop, suc, sym, ◌∙◌, ap, subst, arith}
-use Rattle.savi_kinds.specs.Ports.{number_of}
+use Rattle.std.proofs.Common.{◌≡◌, ◌<◌, List, [], ◌∷◌, ◌++◌, None, length, get_or, take, drop, suc, ◌∙◌, arith}
 use Rattle.bridge_fdb.specs.declared.station.Station.{Station}
-use Rattle.bridge_fdb.specs.Kept.{Keeps, IsTied, IsOwn, in_slot, has, listed, without}
+use Rattle.bridge_fdb.specs.Kept.{IsTied, in_slot, listed}
 use Rattle.std.proofs.Math.ListN.{set}
 use Rattle.bridge_fdb.specs.Limits.{IsRising}
-use Rattle.bridge_fdb.proofs.Slots.{slot_at, slot_bound, IsTied-remove, listed_is, emptied}
+use Rattle.bridge_fdb.proofs.Slots.{slot_at, slot_bound, IsTied-remove, listed_is}
 use Rattle.bridge_fdb.proofs.kept.Kept.remove.Goals as goal
 
 pub index_mut-requires : goal.index_mut-requires

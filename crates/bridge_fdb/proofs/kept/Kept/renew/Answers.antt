@@ -1,10 +1,6 @@
-use Rattle.std.proofs.Common.{◌≡◌, ◌<◌, ℕ, List, None, Some, length, get_or, sym, ◌∙◌, ap, subst, arith}
-use Rattle.savi_kinds.specs.Ports.{number_of}
-use Rattle.bridge_fdb.specs.declared.station.Station.{Station}
-use Rattle.bridge_fdb.specs.Kept.{Keeps, IsTied, IsOwn, in_slot, has, listed, without}
+use Rattle.std.proofs.Common.{◌≡◌, ◌<◌, Some, length, get_or, ◌∙◌, arith}
+use Rattle.bridge_fdb.specs.Kept.{IsTied, in_slot, listed}
 use Rattle.std.proofs.Math.ListN.{set}
-use Rattle.std.proofs.lemmas.Bool.{eqb-true}
-use Rattle.std.proofs.lemmas.Option.{slice_get_read}
 use Rattle.bridge_fdb.specs.Stations.{mac_number}
 use Rattle.bridge_fdb.proofs.Parts.{set_stands, stands_number}
 use Rattle.bridge_fdb.proofs.Slots.{slot_at, slot_bound, IsTied-renew, listed_is}

@@ -1,4 +1,4 @@
-use Rattle.std.proofs.Common.{◌≡◌, ℕ, List, length, arith}
+use Rattle.std.proofs.Common.{◌≡◌, ℕ, List, arith}
 use Rattle.bridge_fdb.specs.Kept.{listed, numbers_of}
 use Rattle.bridge_fdb.proofs.Numbers.{IsNonDecreasing-numbers, sorted_length, stands_by_number, belongs_by_number}
 use Rattle.bridge_fdb.proofs.Within.{length-le}
