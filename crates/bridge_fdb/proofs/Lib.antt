@@ -3,5 +3,7 @@ pub mod Rising
 pub mod Numbers
 pub mod Parts
 pub mod Within
-pub mod Sorting
-pub mod Tallied
+pub mod Without
+pub mod Slots
+pub mod Counting
+pub mod Fullness

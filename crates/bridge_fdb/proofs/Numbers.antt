@@ -8,7 +8,7 @@ use Rattle.bridge_fdb.specs.declared.station.Station.{Station}
 use Rattle.bridge_fdb.specs.Stations.{mac_number}
 use Rattle.bridge_fdb.specs.Limits.{IsRising}
 use Rattle.bridge_fdb.specs.Places.{StandsAt, BelongsAt}
-use Rattle.bridge_fdb.specs.Sorted.{IsSorted, numbers_of}
+use Rattle.bridge_fdb.specs.Kept.{numbers_of}
 use Rattle.bridge_fdb.proofs.Rising.{stands, belongs_at_end, IsNonDecreasingBy-from_rising}
 
 -- the first number that isn't lower than the wanted one is among so many from low on, or it stands right behind them
@@ -31,24 +31,24 @@ IsNonDecreasing-numbers (x ∷ xs) rising i j e from to =
     let inside : j < length (x ∷ xs) = omega (arith, to, numbers_length (x ∷ xs)) in
     rw (number_at (x ∷ xs) i x e (omega (arith, from, inside)), number_at (x ∷ xs) j x e inside) (IsNonDecreasingBy-from_rising (x ∷ xs) rising i j x from inside)
 
-pub sorted_length : (xs : List Station) (ns : List ℕ) → IsSorted xs ns → length ns ≡ length xs
-sorted_length xs ns sorted = ap length sorted.matching ∙ numbers_length xs
+pub sorted_length : (xs : List Station) (ns : List ℕ) → ns ≡ numbers_of xs → length ns ≡ length xs
+sorted_length xs ns matching = ap length matching ∙ numbers_length xs
 
 -- the number at a place that is kept
-told : (xs : List Station) (ns : List ℕ) (k : ℕ) (d : Station) → IsSorted xs ns → k < length xs → get_or ns k 0 ≡ mac_number (get_or xs k d).mac
-told xs ns k d sorted inside = ap (λ ms. get_or ms k 0) sorted.matching ∙ number_at xs k d 0 inside
+told : (xs : List Station) (ns : List ℕ) (k : ℕ) (d : Station) → ns ≡ numbers_of xs → k < length xs → get_or ns k 0 ≡ mac_number (get_or xs k d).mac
+told xs ns k d matching inside = ap (λ ms. get_or ms k 0) matching ∙ number_at xs k d 0 inside
 
 -- a station whose number was found
-pub stands_by_number : (n : ℕ) (xs : List Station) (ns : List ℕ) (i : ℕ) → IsSorted xs ns → i < length ns → get_or ns i 0 ≡ n → StandsAt n xs i
-stands_by_number n xs ns i sorted within same =
-    let inside : i < length xs = omega (arith, within, sorted_length xs ns sorted) in
-    stands n xs i sorted.rising inside (λ d. sym (told xs ns i d sorted inside) ∙ same)
+pub stands_by_number : (n : ℕ) (xs : List Station) (ns : List ℕ) (i : ℕ) → IsRising xs → ns ≡ numbers_of xs → i < length ns → get_or ns i 0 ≡ n → StandsAt n xs i
+stands_by_number n xs ns i rising matching within same =
+    let inside : i < length xs = omega (arith, within, sorted_length xs ns matching) in
+    stands n xs i rising inside (λ d. sym (told xs ns i d matching inside) ∙ same)
 
 -- or its place, where it wasn't
-pub belongs_by_number : (n : ℕ) (xs : List Station) (ns : List ℕ) (i : ℕ) → IsSorted xs ns → i ≤ length ns → AllWithin (λ m. m < n) ns 0 i → AllWithin (λ m. n ≤ m) ns i (length ns) → (i < length ns → get_or ns i 0 ≢ n) → BelongsAt n xs i
-belongs_by_number n xs ns i sorted within lower others other =
-    let same_length : length ns ≡ length xs = sorted_length xs ns sorted in
-    belongs_at_end n xs i sorted.rising (omega (arith, within, same_length))
-    (λ k d from to. lt-ltb (mac_number (get_or xs k d).mac) n (omega (arith, told xs ns k d sorted (omega (arith, to, within, same_length)), lower k 0 from to)))
-    (λ k d from to. le-ltb (mac_number (get_or xs k d).mac) n (omega (arith, told xs ns k d sorted to, others k 0 from (omega (arith, to, same_length)))))
-    (λ inside d same. other (omega (arith, inside, same_length)) (told xs ns i d sorted inside ∙ same))
+pub belongs_by_number : (n : ℕ) (xs : List Station) (ns : List ℕ) (i : ℕ) → IsRising xs → ns ≡ numbers_of xs → i ≤ length ns → AllWithin (λ m. m < n) ns 0 i → AllWithin (λ m. n ≤ m) ns i (length ns) → (i < length ns → get_or ns i 0 ≢ n) → BelongsAt n xs i
+belongs_by_number n xs ns i rising matching within lower others other =
+    let same_length : length ns ≡ length xs = sorted_length xs ns matching in
+    belongs_at_end n xs i rising (omega (arith, within, same_length))
+    (λ k d from to. lt-ltb (mac_number (get_or xs k d).mac) n (omega (arith, told xs ns k d matching (omega (arith, to, within, same_length)), lower k 0 from to)))
+    (λ k d from to. le-ltb (mac_number (get_or xs k d).mac) n (omega (arith, told xs ns k d matching to, others k 0 from (omega (arith, to, same_length)))))
+    (λ inside d same. other (omega (arith, inside, same_length)) (told xs ns i d matching inside ∙ same))

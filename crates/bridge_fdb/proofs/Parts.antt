@@ -206,3 +206,27 @@ nth_passing {X} p (y ∷ ys) (suc k) i x within is passes count =
           let same : i ≡ count_by p (take k ys) = omega (arith, none, count) in
           rw (same, other) rest
     ]
+
+abbrev known_station : Station → Option Station → Station
+known_station d None = d
+known_station d (Some x) = x
+
+-- the station that stands in its place has the number
+pub stands_number : (n : ℕ) (xs : List Station) (i : ℕ) (d : Station) → StandsAt n xs i → mac_number (get_or xs i d).mac ≡ n
+stands_number n xs i d at = eqb-true (mac_number (get_or xs i d).mac) n (found_passes (is_of n) xs (get_or xs i d) (at.found ∙ slice_get_read xs (length xs) i (get_or xs i d) refl at.bound (get_or_self xs i d at.bound)))
+  where
+    get_or_same : (ys : List Station) (k : ℕ) (e f : Station) → e ≡ f → get_or ys k e ≡ get_or ys k f
+    get_or_same ys k e f same = ap (get_or ys k) same
+
+    get_or_self : (ys : List Station) (k : ℕ) (e : Station) → k < length ys → get_or ys k e ≡ get_or ys k (get_or ys k e)
+    get_or_self [] k e below = absurd (omega (arith, below))
+    get_or_self (y ∷ ys) zero e below = refl
+    get_or_self (y ∷ ys) (suc k) e below = get_or_self ys k e (omega (arith, below)) ∙ get_or_same ys k (get_or ys k e) (get_or ys k e) refl
+
+    found_passes : (p : Station → Bool) (ys : List Station) (y : Station) → find p ys ≡ Some y → p y ≡ true
+    found_passes p [] y is = let no : None ≡ Some y = is in cc
+    found_passes p (z ∷ ys) y is =
+        elim (cases_Bool (p z)) [
+          | inl here ↦ let one : Some z ≡ Some y = rw here at is in subst (λ (x : Station). p x ≡ true) (ap (known_station z) one) here
+          | inr other ↦ let rest : find p ys ≡ Some y = rw other at is in found_passes p ys y rest
+        ]

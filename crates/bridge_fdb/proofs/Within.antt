@@ -151,7 +151,7 @@ count_up_to-all (station ∷ stations) =
     all ∙ rw (le-leb n 16 high) (omega (arith, count_up_to-all stations))
 
 -- 256 stations for each of 16 ports are 4096
-length-le : (stations : List Station) → ((port : ℕ) → count_at port stations ≤ 256) → length stations ≤ 4096
+pub length-le : (stations : List Station) → ((port : ℕ) → count_at port stations ≤ 256) → length stations ≤ 4096
 length-le stations room = omega (arith, count_up_to-le 16 stations room, count_up_to-all stations)
 
 -- there are fewer where a port has fewer

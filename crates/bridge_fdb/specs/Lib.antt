@@ -2,6 +2,6 @@ pub mod Stations
 pub mod Learning
 pub mod Limits
 pub mod Laws
-pub mod Tallies
+pub mod Kept
 pub mod Places
-pub mod Sorted
+pub mod Full

@@ -1,17 +1,19 @@
 //! The filtering database.
 
-ghost use Rattle.std.specs.Prelude.{◌≡◌, ◌≤◌, ◌<◌, ◌^◌, false, [], IfOk, slice_get};
+ghost use Rattle.std.specs.Prelude.{◌≡◌, ◌≤◌, ◌<◌, ◌^◌, ℕ, Some, None, false, [], find, IfOk, slice_get};
 ghost use Rattle.std.specs.Bool.{OnTrue, OnFalse};
 ghost use Rattle.std.specs.Option.{option_map};
 ghost use Rattle.savi_kinds.specs.Ports.{number_of};
-ghost use Rattle.bridge_fdb.specs.Stations.{station_of, live_at, count_at, place_of, row_of};
+ghost use Rattle.bridge_fdb.specs.Stations.{mac_number, station_of, is_of, is_live, live_at, place_of, row_of};
 ghost use Rattle.bridge_fdb.specs.Learning.{is_known, learned, with_station};
 ghost use Rattle.bridge_fdb.specs.Limits.{IsWithinLimits};
-ghost use Rattle.bridge_fdb.specs.Tallies.{Tallies};
+ghost use Rattle.bridge_fdb.specs.Kept.{Keeps, IsFree, IsSlotOf, in_slot, listed, without};
+ghost use Rattle.bridge_fdb.specs.Full.{Tells};
+ghost use Rattle.bridge_fdb.specs.declared.station.Station.{Station};
 
-use crate::sorted::SortedStations;
-use crate::station::{STATIONS_MOST, Station};
-use crate::tally::Tally;
+use crate::full::Full;
+use crate::kept::Kept;
+use crate::station::Station;
 use savi_kinds::{Mac, Moment, Port};
 use std::alloc::{AllocError, Global};
 use std::marker::Model;
@@ -23,21 +25,22 @@ use std::marker::Model;
 /// given up when a station is learned, so that no earlier moment may be asked for afterwards.
 #[derive(Drop)]
 pub struct Fdb {
-    stations: SortedStations,
-    tally: Tally,
+    kept: Kept,
+    full: Full,
 }
 
 impl Model for Fdb {
     ghost use Rattle.std.specs.Prelude.{List};
     ghost use Rattle.bridge_fdb.specs.declared.station.Station.{Station};
     ghost use Rattle.bridge_fdb.specs.Limits.{IsWithinLimits};
-    ghost use Rattle.bridge_fdb.specs.Tallies.{Tallies};
+    ghost use Rattle.bridge_fdb.specs.Kept.{Keeps, listed};
+    ghost use Rattle.bridge_fdb.specs.Full.{Tells};
 
     ghost Value = { List Station };
 
-    ghost view = { λ f. f.stations };
+    ghost view = { λ f. listed f.kept };
 
-    ghost invariant = { λ f. IsWithinLimits f.stations × Tallies f.tally f.stations };
+    ghost invariant = { λ f. Keeps f.kept × IsWithinLimits (listed f.kept) × Tells f.full (listed f.kept) };
 }
 
 impl Fdb {
@@ -46,19 +49,19 @@ impl Fdb {
         ensures { IfOk result (λ fdb. fdb ≡ []) }
     {
         Ok(Fdb {
-            stations: SortedStations::make(alloc)?,
-            tally: Tally::empty(),
+            kept: Kept::make(alloc)?,
+            full: Full::nowhere(),
         })
     }
 
     /// Learns at moment `t` (ms, at most 2^62) that a frame from `mac` came in at port `p`: a station that is live there is
     /// live anew; else it is now there, where the port has fewer than 256 live stations; else no live station has changed.
     ///
-    /// O(log n) for a station that is live there, and at a port of 256 stations whose earliest end, by what is remembered
-    /// of it, is still to come. A station that is taken in moves those of higher MAC addresses by one place. Where 256
-    /// stations are kept at the port and that end has come, there are some passes over all stations that are kept, at most
-    /// once in a ms for a port. What is remembered isn't later than the earliest end, and may be earlier, since the station
-    /// that it comes from may have been seen again.
+    /// O(log n) for a station that is live there, and at a port of 256 stations before the moment at which, as far as is
+    /// remembered, the first of them may end. Else the port's own 256 slots at most are gone over, for an empty one or one
+    /// whose station has ended. A station that is taken in moves, by one place in the order, those of higher MAC addresses,
+    /// or those between it and the ended one whose place it takes: 10 octets of each. One that leaves another port is taken
+    /// out of the order first. No call goes over all stations in any other way.
     pub fn learn(&mut self, mac: Mac, p: Port, t: Moment)
         requires { t ≤ 2 ^ 62 }
         ensures learned { live_at t self.new ≡ learned (station_of mac p t) (live_at t self.old) }
@@ -69,8 +72,8 @@ impl Fdb {
             port: p,
             last: t,
         };
-        if !renew(&mut self.stations, &mut self.tally, station) {
-            admit(&mut self.stations, &mut self.tally, station);
+        if !renew(&mut self.kept, &mut self.full, station) {
+            admit(&mut self.kept, &mut self.full, station);
         }
     }
 
@@ -79,9 +82,9 @@ impl Fdb {
     pub fn place(&self, mac: Mac, t: Moment) -> Option<Port>
         ensures { result ≡ place_of mac (live_at t self.now) }
     {
-        match self.stations.search(mac) {
+        match self.kept.search(mac) {
             Ok(at) => {
-                let station = self.stations.at(at);
+                let station = self.kept.at(at);
                 if station.is_live(t) {
                     Some(station.port)
                 } else {
@@ -98,7 +101,7 @@ impl Fdb {
         ensures row { result ≡ option_map row_of (slice_get (live_at t self.now) i) }
         ensures limits { IsWithinLimits self.now }
     {
-        match nth_live(self.stations.as_slice(), i, t) {
+        match nth_live(&self.kept, i, t) {
             Some(station) => Some((station.mac, station.port, station.end())),
             None => None,
         }
@@ -106,14 +109,16 @@ impl Fdb {
 }
 
 // The i-th of the stations that are live at t.
-fn nth_live(stations: &[Station], i: u32, t: Moment) -> Option<Station>
-    ensures { result ≡ slice_get (live_at t stations.now) i }
+fn nth_live(kept: &Kept, i: u32, t: Moment) -> Option<Station>
+    requires { Keeps kept.now }
+    ensures { result ≡ slice_get (live_at t (listed kept.now)) i }
 {
     let mut left = i;
-    for station in stations {
+    for at in 0..kept.len() {
+        let station = kept.at(at);
         if station.is_live(t) {
             if left == 0 {
-                return Some(*station);
+                return Some(station);
             }
             left -= 1;
         }
@@ -122,22 +127,24 @@ fn nth_live(stations: &[Station], i: u32, t: Moment) -> Option<Station>
 }
 
 // Whether this station is live at its port, which is then renewed.
-fn renew(stations: &mut SortedStations, tally: &mut Tally, station: Station) -> bool
-    requires limits { IsWithinLimits stations.old }
-    requires tallies { Tallies tally.old stations.old }
+fn renew(kept: &mut Kept, full: &mut Full, station: Station) -> bool
+    requires kept { Keeps kept.old }
+    requires limits { IsWithinLimits (listed kept.old) }
+    requires full { Tells full.old (listed kept.old) }
     requires moment { station.last ≤ 2 ^ 62 }
-    ensures known { result ≡ is_known station (live_at station.last stations.old) }
-    ensures renewed { OnTrue result (stations.new ≡ with_station station stations.old) }
-    ensures unchanged { OnFalse result (stations.new ≡ stations.old) }
-    ensures limits { IsWithinLimits stations.new }
-    ensures tallies { Tallies tally.new stations.new }
+    ensures known { result ≡ is_known station (live_at station.last (listed kept.old)) }
+    ensures renewed { OnTrue result (listed kept.new ≡ with_station station (listed kept.old)) }
+    ensures unchanged { OnFalse result (listed kept.new ≡ listed kept.old) }
+    ensures kept { Keeps kept.new }
+    ensures limits { IsWithinLimits (listed kept.new) }
+    ensures full { Tells full.new (listed kept.new) }
 {
-    match stations.search(station.mac) {
+    match kept.search(station.mac) {
         Ok(at) => {
-            let old = stations.at(at);
+            let old = kept.at(at);
             if old.is_renewed_by(station) {
-                stations.replace(at, station);
-                tally.see(station.port, station.last);
+                kept.renew(at, station);
+                full.see(station.port, station.last);
                 true
             } else {
                 false
@@ -150,51 +157,107 @@ fn renew(stations: &mut SortedStations, tally: &mut Tally, station: Station) -> 
 // Learns a station that isn't live at its port: it is now there, where the port has fewer than 256 live stations. Not
 // inlined, so that `learn` itself is short enough to be.
 #[inline(never)]
-fn admit(stations: &mut SortedStations, tally: &mut Tally, station: Station)
-    requires limits { IsWithinLimits stations.old }
-    requires tallies { Tallies tally.old stations.old }
+fn admit(kept: &mut Kept, full: &mut Full, station: Station)
+    requires kept { Keeps kept.old }
+    requires limits { IsWithinLimits (listed kept.old) }
+    requires full { Tells full.old (listed kept.old) }
     requires moment { station.last ≤ 2 ^ 62 }
-    requires unknown { is_known station (live_at station.last stations.old) ≡ false }
-    ensures learned { live_at station.last stations.new ≡ learned station (live_at station.last stations.old) }
-    ensures limits { IsWithinLimits stations.new }
-    ensures tallies { Tallies tally.new stations.new }
+    requires unknown { is_known station (live_at station.last (listed kept.old)) ≡ false }
+    ensures learned { live_at station.last (listed kept.new) ≡ learned station (live_at station.last (listed kept.old)) }
+    ensures kept { Keeps kept.new }
+    ensures limits { IsWithinLimits (listed kept.new) }
+    ensures full { Tells full.new (listed kept.new) }
 {
-    if make_room(stations, tally, station.port, station.last) {
-        put(stations, tally, station);
+    if station.last < full.until(station.port) {
+        return;
+    }
+    match kept.find_free(station.port, station.last) {
+        Ok(slot) => put(kept, full, slot, station),
+        Err(end) => full.set(station.port, end),
     }
 }
 
-// Whether a port has fewer than 256 live stations; then as few are kept.
-fn make_room(stations: &mut SortedStations, tally: &mut Tally, p: Port, t: Moment) -> bool
-    requires limits { IsWithinLimits stations.old }
-    requires tallies { Tallies tally.old stations.old }
-    ensures live { live_at t stations.new ≡ live_at t stations.old }
-    ensures room { OnTrue result (count_at (number_of p) stations.new < 256) }
-    ensures full { OnFalse result (256 ≤ count_at (number_of p) (live_at t stations.old)) }
-    ensures limits { IsWithinLimits stations.new }
-    ensures tallies { Tallies tally.new stations.new }
+// Gives up the station with this MAC address, if one is kept.
+fn give_up(kept: &mut Kept, full: &mut Full, mac: Mac)
+    requires kept { Keeps kept.old }
+    requires limits { IsWithinLimits (listed kept.old) }
+    requires full { Tells full.old (listed kept.old) }
+    ensures listed { listed kept.new ≡ without (mac_number mac) (listed kept.old) }
+    ensures slots { (slot : ℕ) (station : Station) → in_slot kept.new.stations.items slot ≡ Some station → (in_slot kept.old.stations.items slot ≡ Some station) × (is_of (mac_number mac) station ≡ false) }
+    ensures kept { Keeps kept.new }
+    ensures limits { IsWithinLimits (listed kept.new) }
+    ensures full { Tells full.new (listed kept.new) }
 {
-    if tally.kept_at(p) < STATIONS_MOST as u64 {
-        return true;
+    match kept.search(mac) {
+        Ok(at) => {
+            let old = kept.at(at);
+            kept.remove(at);
+            full.set(old.port, 0);
+        }
+        Err(_) => {}
     }
-    if t < tally.first_end_at(p) {
-        return false;
-    }
-    stations.give_up(p, t);
-    tally.recount(p, stations.as_slice());
-    tally.kept_at(p) < STATIONS_MOST as u64
 }
 
-// Keeps a station in place of the one with its MAC address.
-fn put(stations: &mut SortedStations, tally: &mut Tally, station: Station)
-    requires limits { IsWithinLimits stations.old }
-    requires tallies { Tallies tally.old stations.old }
+// Puts a station into a slot of its port that has no live one.
+fn put(kept: &mut Kept, full: &mut Full, slot: usize, station: Station)
+    requires kept { Keeps kept.old }
+    requires limits { IsWithinLimits (listed kept.old) }
+    requires full { Tells full.old (listed kept.old) }
     requires moment { station.last ≤ 2 ^ 62 }
-    requires room { count_at (number_of station.port) stations.old < 256 }
-    ensures items { stations.new ≡ with_station station stations.old }
-    ensures limits { IsWithinLimits stations.new }
-    ensures tallies { Tallies tally.new stations.new }
+    requires free { IsFree kept.old.stations.items (number_of station.port) station.last slot }
+    ensures live { live_at station.last (listed kept.new) ≡ with_station station (live_at station.last (listed kept.old)) }
+    ensures kept { Keeps kept.new }
+    ensures limits { IsWithinLimits (listed kept.new) }
+    ensures full { Tells full.new (listed kept.new) }
 {
-    let replaced = stations.put(station);
-    tally.exchange(replaced, station);
+    give_up(kept, full, station.mac);
+    match kept.stations[slot] {
+        Some(ended) => exchange(kept, full, slot, ended, station),
+        None => add(kept, full, slot, station),
+    }
+}
+
+// Puts a station whose MAC address none has in place of one of its port that has ended.
+fn exchange(kept: &mut Kept, full: &mut Full, slot: usize, ended: Station, station: Station)
+    requires kept { Keeps kept.old }
+    requires limits { IsWithinLimits (listed kept.old) }
+    requires full { Tells full.old (listed kept.old) }
+    requires moment { station.last ≤ 2 ^ 62 }
+    requires unknown { find (is_of (mac_number station.mac)) (listed kept.old) ≡ None }
+    requires there { in_slot kept.old.stations.items slot ≡ Some ended }
+    requires place { IsSlotOf (number_of station.port) slot }
+    requires ended { is_live station.last ended ≡ false }
+    ensures live { live_at station.last (listed kept.new) ≡ with_station station (live_at station.last (listed kept.old)) }
+    ensures kept { Keeps kept.new }
+    ensures limits { IsWithinLimits (listed kept.new) }
+    ensures full { Tells full.new (listed kept.new) }
+{
+    let Ok(gone) = kept.search(ended.mac) else {
+        unreachable!()
+    };
+    let Err(at) = kept.search(station.mac) else {
+        unreachable!()
+    };
+    kept.exchange(gone, at, station);
+    full.set(station.port, 0);
+}
+
+// Puts a station whose MAC address none has into an empty slot of its port.
+fn add(kept: &mut Kept, full: &Full, slot: usize, station: Station)
+    requires kept { Keeps kept.old }
+    requires limits { IsWithinLimits (listed kept.old) }
+    requires full { Tells full.now (listed kept.old) }
+    requires moment { station.last ≤ 2 ^ 62 }
+    requires unknown { find (is_of (mac_number station.mac)) (listed kept.old) ≡ None }
+    requires empty { in_slot kept.old.stations.items slot ≡ None }
+    requires place { IsSlotOf (number_of station.port) slot }
+    ensures live { live_at station.last (listed kept.new) ≡ with_station station (live_at station.last (listed kept.old)) }
+    ensures kept { Keeps kept.new }
+    ensures limits { IsWithinLimits (listed kept.new) }
+    ensures full { Tells full.now (listed kept.new) }
+{
+    match kept.search(station.mac) {
+        Ok(_) => unreachable!(),
+        Err(at) => kept.insert(at, slot, station),
+    }
 }

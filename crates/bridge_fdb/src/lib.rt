@@ -7,11 +7,11 @@
 #![tactic(auto)]
 
 mod fdb;
+mod full;
+mod kept;
 mod laws;
 mod number;
-mod sorted;
 mod station;
-mod tally;
 #[cfg(test)]
 mod tests;
 

@@ -1,5 +1,8 @@
 //! MAC addresses in no order, and ports.
 
+ghost use Rattle.std.specs.Prelude.{◌≡◌, ◌+◌, ◌%◌};
+ghost use Rattle.savi_kinds.specs.Ports.{number_of};
+
 use savi_kinds::{Mac, PORTS_MOST, Port};
 
 /// The n-th number of a row in no order (the finalizer of MurmurHash3).
@@ -16,7 +19,9 @@ pub fn mac(n: u64) -> Mac {
 }
 
 /// The ports in turn.
-pub fn port(n: u64) -> Port {
+pub fn port(n: u64) -> Port
+    ensures { number_of result ≡ n % 16 + 1 }
+{
     match Port::new((n % PORTS_MOST as u64) as u8 + 1) {
         Some(port) => port,
         None => unreachable!(),

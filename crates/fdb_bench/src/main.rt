@@ -1,7 +1,8 @@
 //! Calls of `bridge_fdb`, timed beside look-ups in std's `HashMap`, or compared with those of a plain list.
 //!
 //! usage: fdb_bench time|compare. `time` prints a line for each kind of call: its name, how many were made, and the
-//! nanoseconds of the processor that they took (and a number that depends on the answers). `compare` prints how many of
+//! nanoseconds of the processor that they took (and a number that depends on the answers); and then how many of the flood's
+//! calls take a station in. `compare` prints how many of
 //! 100,000 calls answered alike, and how many there are of each kind; it stops at the first one that didn't. With no word,
 //! or another one, it prints nothing.
 #![tactic(auto)]
@@ -10,6 +11,7 @@ mod compare;
 mod keys;
 mod plain_list;
 mod timed;
+mod turns;
 
 use compare::{Call, count_calls};
 use std::alloc::Global;
@@ -39,6 +41,8 @@ fn main(rt: HostRuntime) -> io::Result<()> {
                     timed.answers
                 )?;
             }
+            let taken = timed::count_taken_in(rt.alloc())?;
+            println!(rt; "taken {taken} of {}", timed::FLOOD)?;
         }
         _ => {}
     }
@@ -52,6 +56,7 @@ fn all_timed<R: CpuClock>(rt: &R, alloc: Global) -> io::Result<Vec<Timed>> {
     times.push(timed::place(rt, alloc)?)?;
     times.push(timed::learn_known(rt, alloc)?)?;
     times.push(timed::learn_refused(rt, alloc)?)?;
+    times.push(timed::learn_new(rt, alloc)?)?;
     times.push(timed::learn_replaced(rt, alloc)?)?;
     times.push(timed::learn_flood(rt, alloc)?)?;
     Ok(times)

@@ -1,8 +1,10 @@
 //! What calls of `bridge_fdb` take, and look-ups in std's `HashMap` of as many keys.
 
+ghost use Rattle.std.specs.Prelude.{◌≤◌, IfOk};
+
 use crate::keys::{mac, port, stirred};
+use crate::turns::{Source, learn_all, place_all};
 use bridge_fdb::Fdb;
-use savi_kinds::{Mac, Port};
 use std::alloc::{AllocError, Global};
 use std::collections::HashMap;
 use std::io;
@@ -20,14 +22,17 @@ const ROUNDS: u64 = 16;
 /// When the stations were seen first (ms).
 const START: u64 = 1_000;
 
-/// All of these stations have ended so many ms later.
+/// Each station has ended so many ms later.
 const ALL_ENDED: u64 = 300_000;
 
 /// All stations are replaced so many times.
 const REPLACED: u64 = 100;
 
+/// An empty database is filled so many times.
+const FILLED: u64 = 100;
+
 /// A flood of new MAC addresses, one in a ms, lasts longer than three times the life of a station.
-const FLOOD: u64 = 1_000_000;
+pub const FLOOD: u64 = 1_000_000;
 
 /// A kind of call, how many were made, and the processor's time. The answers go into a number, since calls whose answers
 /// nothing wants need not be made.
@@ -37,13 +42,6 @@ pub struct Timed {
     pub calls: u64,
     pub took: Duration,
     pub answers: u64,
-}
-
-/// The source of a frame.
-#[derive(Clone, Copy)]
-struct Source {
-    mac: Mac,
-    port: Port,
 }
 
 /// The n-th station.
@@ -68,6 +66,17 @@ fn new_sources(alloc: Global) -> Result<Vec<Source>, AllocError> {
     let mut sources = Vec::new(alloc);
     for n in 0..ASKED {
         sources.push(nth_source(STATIONS + n))?;
+    }
+    Ok(sources)
+}
+
+/// As many new stations as there may be, others for each round.
+fn sources_of_round(alloc: Global, round: u64) -> Result<Vec<Source>, AllocError>
+    requires { round ≤ 100 }
+{
+    let mut sources = Vec::new(alloc);
+    for n in 0..STATIONS {
+        sources.push(nth_source(STATIONS * round + n))?;
     }
     Ok(sources)
 }
@@ -129,11 +138,7 @@ pub fn place<R: CpuClock>(rt: &R, alloc: Global) -> io::Result<Timed> {
     let start = rt.thread_cpu_time()?;
     let mut answers = 0u64;
     for _ in 0..ROUNDS {
-        for source in &sources {
-            if let Some(port) = fdb.place(source.mac, START) {
-                answers = answers.wrapping_add(u64::from(port.get()));
-            }
-        }
+        answers = answers.wrapping_add(place_all(&fdb, sources.as_slice(), START));
     }
     Ok(Timed {
         name: "place",
@@ -149,9 +154,7 @@ pub fn learn_known<R: CpuClock>(rt: &R, alloc: Global) -> io::Result<Timed> {
     let sources = known_sources(alloc)?;
     let start = rt.thread_cpu_time()?;
     for round in 0..ROUNDS {
-        for source in &sources {
-            fdb.learn(source.mac, source.port, START + round);
-        }
+        learn_all(&mut fdb, sources.as_slice(), START + round);
     }
     Ok(Timed {
         name: "learn_known",
@@ -167,9 +170,7 @@ pub fn learn_refused<R: CpuClock>(rt: &R, alloc: Global) -> io::Result<Timed> {
     let sources = new_sources(alloc)?;
     let start = rt.thread_cpu_time()?;
     for round in 0..ROUNDS {
-        for source in &sources {
-            fdb.learn(source.mac, source.port, START + round);
-        }
+        learn_all(&mut fdb, sources.as_slice(), START + round);
     }
     Ok(Timed {
         name: "learn_refused",
@@ -179,20 +180,43 @@ pub fn learn_refused<R: CpuClock>(rt: &R, alloc: Global) -> io::Result<Timed> {
     })
 }
 
-/// `learn` of new stations at ports whose stations have all ended, so that each takes the place of one.
+/// `learn` of new stations at ports that have room, from the first station to as many as there may be.
+pub fn learn_new<R: CpuClock>(rt: &R, alloc: Global) -> io::Result<Timed> {
+    let mut took = Duration::ZERO;
+    for round in 0..FILLED {
+        let mut fdb = Fdb::make(alloc)?;
+        let sources = sources_of_round(alloc, round)?;
+        let start = rt.thread_cpu_time()?;
+        learn_all(&mut fdb, sources.as_slice(), START);
+        took = took.saturating_add(rt.thread_cpu_time()?.saturating_sub(start));
+    }
+    Ok(Timed {
+        name: "learn_new",
+        calls: FILLED * STATIONS,
+        took,
+        answers: 0,
+    })
+}
+
+/// `learn` of new stations at full ports, one in a ms: each takes the place of the one that ends in this ms.
 pub fn learn_replaced<R: CpuClock>(rt: &R, alloc: Global) -> io::Result<Timed> {
-    let mut fdb = full(alloc)?;
-    let start = rt.thread_cpu_time()?;
-    for round in 1..=REPLACED {
+    let mut fdb = Fdb::make(alloc)?;
+    let mut took = Duration::ZERO;
+    for round in 0..=REPLACED {
+        let begin = START + ALL_ENDED * round;
+        let start = rt.thread_cpu_time()?;
         for n in 0..STATIONS {
             let source = nth_source(STATIONS * round + n);
-            fdb.learn(source.mac, source.port, START + ALL_ENDED * round);
+            fdb.learn(source.mac, source.port, begin + n);
+        }
+        if round > 0 {
+            took = took.saturating_add(rt.thread_cpu_time()?.saturating_sub(start));
         }
     }
     Ok(Timed {
         name: "learn_replaced",
         calls: REPLACED * STATIONS,
-        took: rt.thread_cpu_time()?.saturating_sub(start),
+        took,
         answers: 0,
     })
 }
@@ -211,4 +235,20 @@ pub fn learn_flood<R: CpuClock>(rt: &R, alloc: Global) -> io::Result<Timed> {
         took: rt.thread_cpu_time()?.saturating_sub(start),
         answers: 0,
     })
+}
+
+/// How many calls of the same flood take a station in: it is live afterwards.
+pub fn count_taken_in(alloc: Global) -> Result<u64, AllocError>
+    ensures { IfOk result (λ taken. taken ≤ 1000000) }
+{
+    let mut fdb = full(alloc)?;
+    let mut taken = 0;
+    for n in 0..FLOOD {
+        let source = nth_source(STATIONS + n);
+        fdb.learn(source.mac, source.port, START + n);
+        if fdb.place(source.mac, START + n) == Some(source.port) {
+            taken += 1;
+        }
+    }
+    Ok(taken)
 }

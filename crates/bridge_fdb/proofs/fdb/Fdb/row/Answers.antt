@@ -4,12 +4,13 @@ use Rattle.std.proofs.lemmas.Option.{slice_get_within, get_or_from_slice_get}
 use Rattle.std.proofs.lemmas.List.Elements.{All-filter}
 use Rattle.bridge_fdb.specs.declared.station.Station.{Station}
 use Rattle.bridge_fdb.specs.Stations.{is_live, live_at}
+use Rattle.bridge_fdb.specs.Kept.{listed}
 use Rattle.bridge_fdb.proofs.fdb.Fdb.row.Goals as goal
 
 pub end-requires : goal.end-requires
 end-requires c =
-    let live : List Station = live_at c.args.t c.self.inside.stations in
-    let told : Some c.in-Some.station ≡ slice_get live c.args.i = rw c.as_slice.ensures at c.in-Some.ensures in
-    let in_time : All (λ (station : Station). station.last ≤ 2 ^ 62) live = All-filter (is_live c.args.t) (λ (station : Station). station.last ≤ 2 ^ 62) c.self.inside.stations c.self.invariant.0.in_time in
+    let live : List Station = live_at c.args.t (listed c.self.inside.kept) in
+    let told : Some c.in-Some.station ≡ slice_get live c.args.i = c.in-Some.ensures in
+    let in_time : All (λ (station : Station). station.last ≤ 2 ^ 62) live = All-filter (is_live c.args.t) (λ (station : Station). station.last ≤ 2 ^ 62) (listed c.self.inside.kept) c.self.invariant.1.in_time in
     subst (λ (station : Station). station.last ≤ 2 ^ 62) (get_or_from_slice_get live c.args.i c.in-Some.station c.in-Some.station (sym told))
     (in_time c.args.i c.in-Some.station (slice_get_within live c.args.i c.in-Some.station (sym told)))
