@@ -13,7 +13,7 @@ use Rattle.savi_ends.specs.declared.world.Ends.{Ends}
 use Rattle.savi_ends.specs.Places.{Book, Place, OthersStay, IsReady}
 use Rattle.port_worker.specs.declared.port_ends.PortEnds.{PortEnds}
 use Rattle.port_worker.specs.Replays.{ports_held, IsUnread}
-use Rattle.switch_ports.specs.Openings.{ports_of, IsOff, IsOpened, IsNextBehind}
+use Rattle.switch_ports.specs.Openings.{ports_of, IsOff, IsOpened, IsNextBehind, IsReadAnew}
 use Rattle.switch_ports.proofs.Rising.{All-both, All-front, All-middle, off_next}
 
 -- the ports of the plans below an index are open
@@ -21,6 +21,7 @@ pub record OpensSoFar {S K C : Type 0} (IsFresh : Ends S K C → Type 0) (plans 
   pub ports : ports_held held ≡ take index (ports_of plans)
   pub opened : All (λ p. IsOpened IsFresh (old.ports (number_of p.port)) (new.ports (number_of p.port)) p.ends) held
   pub unread : All IsUnread held
+  pub readers : All IsReadAnew held
   pub others : (n : ℕ) → IsOff held n → new.ports n ≡ old.ports n
   pub later : old.faults ≤ new.faults
   pub rest : new ≡ record old { faults = new.faults; ports = new.ports }
@@ -30,6 +31,7 @@ opens_none {S} {K} {C} IsFresh plans held book none = rw none (record {
   ports = refl;
   opened = λ k d inside. absurd (omega arith);
   unread = λ k d inside. absurd (omega arith);
+  readers = λ k d inside. absurd (omega arith);
   others = λ n off. refl;
   later = omega arith;
   rest = refl;
@@ -64,11 +66,11 @@ drop_here plans i plan inside is =
 
 pub open_step : {S K C : Type 0} (IsFresh : Ends S K C → Type 0) (plans : List PortPlan) (i : ℕ) (plan : PortPlan) (held held' : List (PortEnds S K C)) (p : PortEnds S K C) (old mid new : Book S K C)
     → IsStrictlyIncreasing (numbers_of plans) → i < length plans → plan ≡ get_or plans i plan → OpensSoFar IsFresh plans i held old mid
-    → held' ≡ held ++ p ∷ [] → p.port ≡ plan.number → IsUnread p
+    → held' ≡ held ++ p ∷ [] → p.port ≡ plan.number → IsUnread p → IsReadAnew p
     → mid.faults ≤ new.faults → (new.ports (number_of plan.number)).is_out ≡ true → IfSome (mid.ports (number_of plan.number)).stands (λ t. p.ends ≡ t) → IsFresh p.ends
     → OthersStay mid.ports new.ports (number_of plan.number) → new ≡ record mid { faults = new.faults; ports = new.ports }
     → OpensSoFar IsFresh plans (i + 1) held' old new
-open_step {S} {K} {C} IsFresh plans i plan held held' p old mid new rising inside is so_far pushed port unread later out told fresh stay rest =
+open_step {S} {K} {C} IsFresh plans i plan held held' p old mid new rising inside is so_far pushed port unread anew later out told fresh stay rest =
     let n = number_of plan.number in
     let off = off_next held plans i plan rising inside is so_far.ports in
     let WasOpened : PortEnds S K C → Type 0 = λ q. IsOpened IsFresh (old.ports (number_of q.port)) (mid.ports (number_of q.port)) q.ends in
@@ -81,6 +83,7 @@ open_step {S} {K} {C} IsFresh plans i plan held held' p old mid new rising insid
       ports = ports_more held plans i plan p inside is so_far.ports port;
       opened = All-push NowOpened held p (All-both WasOpened Apart NowOpened held so_far.opened off (λ q was apart. subst (λ (x : Place (Ends S K C)). IsOpened IsFresh (old.ports (number_of q.port)) x q.ends) (sym (stay (number_of q.port) apart)) was)) opened;
       unread = All-push (λ (q : PortEnds S K C). IsUnread q) held p so_far.unread unread;
+      readers = All-push (λ (q : PortEnds S K C). IsReadAnew q) held p so_far.readers anew;
       others = λ m away. stay m (off_last held p m n here away) ∙ so_far.others m (All-front (λ (q : PortEnds S K C). number_of q.port ≢ m) held (p ∷ []) away);
       later = omega (arith, so_far.later, later);
       rest = rest ∙ ap (λ (b : Book S K C). record b { faults = new.faults; ports = new.ports }) so_far.rest;

@@ -4,6 +4,8 @@ use Rattle.savi_kinds.specs.declared.plan.PortPlan.{PortPlan}
 use Rattle.savi_kinds.specs.declared.port.Port.{Port}
 use Rattle.savi_kinds.specs.Ports.{number_of}
 use Rattle.savi_ends.specs.Places.{Place}
+use Rattle.pcap_io.specs.Kinds.{classic_kinds}
+use Rattle.pcap_io.specs.Readers.{Fresh}
 use Rattle.port_worker.specs.declared.port_ends.PortEnds.{PortEnds}
 
 -- the ports of these plans, in their order
@@ -17,6 +19,10 @@ IsOff held n = All (λ p. number_of p.port ≢ n) held
 -- no two of these ports have one number
 abbrev pub AreApart : {S K C : Type 0} → List (PortEnds S K C) → Type 0
 AreApart held = AllPairs (λ p q. number_of p.port ≢ number_of q.port) held
+
+-- the input of this port is read from its header on, of any classic kind
+abbrev pub IsReadAnew : {S K C : Type 0} → PortEnds S K C → Type 0
+IsReadAnew p = p.reader ≡ Fresh classic_kinds
 
 -- of all ports these are the first, and this port comes next
 abbrev pub IsNextBehind : Port → List Port → List Port → Type 0

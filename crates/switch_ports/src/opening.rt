@@ -7,7 +7,7 @@ ghost use Rattle.savi_kinds.specs.ValidPlan.{numbers_of};
 ghost use Rattle.savi_ends.specs.Faults.{Rose};
 ghost use Rattle.savi_ends.specs.Places.{BothFresh, IsReady};
 ghost use Rattle.port_worker.specs.Replays.{ports_held, IsUnread};
-ghost use Rattle.switch_ports.specs.Openings.{ports_of, IsOff, IsOpened, IsNextBehind};
+ghost use Rattle.switch_ports.specs.Openings.{ports_of, IsOff, IsOpened, IsNextBehind, IsReadAnew};
 
 use pcap_io::PcapReader;
 use port_worker::PortEnds;
@@ -31,6 +31,7 @@ pub fn open_all<W: World>(
     ensures failed { IfSome result (λ port. IsNextBehind port (ports_held held.new.items) (ports_of plans.now)) }
     ensures opened { All (λ p. IsOpened (BothFresh W.S.faults W.K.faults) ((W.book world.old).ports (number_of p.port)) ((W.book world.new).ports (number_of p.port)) p.ends) held.new.items }
     ensures unread { All IsUnread held.new.items }
+    ensures readers { All IsReadAnew held.new.items }
     ensures others { (n : ℕ) → IsOff held.new.items n → (W.book world.new).ports n ≡ (W.book world.old).ports n }
     ensures later { (W.book world.old).faults ≤ (W.book world.new).faults }
     ensures cause { OnSome result (Rose (W.book world.old).faults (W.book world.new).faults) }

@@ -1,4 +1,4 @@
-use Rattle.std.proofs.Common.{arith}
+use Rattle.std.proofs.Common.{◌∙◌, arith}
 use Rattle.switch_ports.proofs.Opens.{next_ready, open_step, fails_next}
 use Rattle.switch_ports.proofs.opening.open_all.Goals as goal
 
@@ -15,7 +15,7 @@ loop-plan-preserved g c = record {
   room = omega (arith, c.loop-plan.invariant.room, c.add.ensures.capacity);
   opens = open_step _ c.args.plans.now c.loop-plan.plan-index c.plan-item.result c.loop-plan.held.items _ c.new-in-Ok.result _ _ (g.W.World.book c.port.new.self)
       c.requires.rising c.loop-plan-test.true c.plan-item.is c.loop-plan.invariant.opens
-      c.add.ensures.items c.new-in-Ok.ensures.port c.new-in-Ok.ensures.unread
+      c.add.ensures.items c.new-in-Ok.ensures.port c.new-in-Ok.ensures.unread (c.new-in-Ok.ensures.reader ∙ c.new.ensures)
       c.in-Ok.ensures.opens.later c.in-Ok.ensures.opens.out (rw c.new-in-Ok.ensures.ends c.in-Ok.ensures.opens.told) (rw c.new-in-Ok.ensures.ends c.in-Ok.ensures.opens.fresh)
       c.port.ensures.others c.port.ensures.rest;
 }
