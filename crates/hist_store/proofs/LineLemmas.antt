@@ -21,17 +21,22 @@ written_more old items new lines more was added =
     added ∙ ap (λ t. t ++ lines_text more) was ∙ append_assoc old (lines_text lines) (lines_text more) ∙ sym (ap (λ t. old ++ t) (lines_text-append lines more))
 
 -- the lines of the items up to the next one
+pub written_each : {A : Type 0} (line : A → List (List ℕ)) (xs : List A) (i : ℕ) (d : A) (old items new : List ℕ) → i < length xs → items ≡ old ++ lines_text (map line (take i xs)) → new ≡ items ++ lines_text (line (get_or xs i d) ∷ []) → new ≡ old ++ lines_text (map line (take (i + 1) xs))
+written_each line xs i d old items new within was added =
+    let more : take (i + 1) xs ≡ take i xs ++ get_or xs i d ∷ [] = take_more xs i d within in
+    written_more old items new (map line (take i xs)) (line (get_or xs i d) ∷ []) was added
+    ∙ ap (λ lines. old ++ lines_text lines) (sym (map-append line (take i xs) (get_or xs i d ∷ [])) ∙ sym (ap (map line) more))
+
+-- the same where the item is known by itself
 pub written_next : {A : Type 0} (line : A → List (List ℕ)) (xs : List A) (i : ℕ) (x : A) (old items new : List ℕ) → i < length xs → x ≡ get_or xs i x → items ≡ old ++ lines_text (map line (take i xs)) → new ≡ items ++ lines_text (line x ∷ []) → new ≡ old ++ lines_text (map line (take (i + 1) xs))
 written_next line xs i x old items new within is was added =
-    let more : take (i + 1) xs ≡ take i xs ++ x ∷ [] = take_more xs i x within ∙ ap (λ y. take i xs ++ y ∷ []) (sym is) in
-    written_more old items new (map line (take i xs)) (line x ∷ []) was added
-    ∙ ap (λ lines. old ++ lines_text lines) (sym (map-append line (take i xs) (x ∷ [])) ∙ sym (ap (map line) more))
+    written_each line xs i x old items new within was (added ∙ ap (λ y. items ++ lines_text (line y ∷ [])) is)
 
--- the parts of a header, one behind another, where there is no prefix
-pub header_in_order : (words limits times ports prefixes begin : List (List (List ℕ))) (first second third fourth last : List ℕ) → prefixes ≡ [] → first ≡ lines_text words → second ≡ first ++ lines_text limits → third ≡ second ++ lines_text times → fourth ≡ third ++ lines_text ports → last ≡ fourth ++ lines_text begin → last ≡ lines_text (words ++ limits ++ times ++ ports ++ prefixes ++ begin)
-header_in_order words limits times ports prefixes begin first second third fourth last none a b c d e =
-    let before = words ++ limits ++ times ++ ports in
+-- the parts of a header, one behind another
+pub header_in_order : (words limits times ports prefixes begin : List (List (List ℕ))) (first second third fourth fifth last : List ℕ) → first ≡ lines_text words → second ≡ first ++ lines_text limits → third ≡ second ++ lines_text times → fourth ≡ third ++ lines_text ports → fifth ≡ fourth ++ lines_text prefixes → last ≡ fifth ++ lines_text begin → last ≡ lines_text (words ++ limits ++ times ++ ports ++ prefixes ++ begin)
+header_in_order words limits times ports prefixes begin first second third fourth fifth last a b c d e f =
     let two = written_more [] first second words limits a b in
     let three = written_more [] second third (words ++ limits) times two c in
     let four = written_more [] third fourth (words ++ limits ++ times) ports three d in
-    written_more [] fourth last before begin four e ∙ ap (λ lines. lines_text (lines ++ begin)) (sym (append-nil before) ∙ sym (ap (λ more. before ++ more) none))
+    let five = written_more [] fourth fifth (words ++ limits ++ times ++ ports) prefixes four e in
+    written_more [] fifth last (words ++ limits ++ times ++ ports ++ prefixes) begin five f

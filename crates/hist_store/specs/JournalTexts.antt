@@ -11,6 +11,7 @@ use Rattle.savi_kinds.specs.declared.plan.Format.{Format}
 use Rattle.savi_kinds.specs.declared.plan.Format.TheVariants.{Pcap, Stream}
 use Rattle.savi_kinds.specs.declared.address.Prefix.{Prefix}
 use Rattle.savi_kinds.specs.MacText.{mac_text}
+use Rattle.savi_kinds.specs.AddrText.{addr_text}
 use Rattle.hist_store.specs.Rows.{Row}
 use Rattle.hist_store.specs.TextOfLines.{lines_text}
 use Rattle.hist_store.specs.PortTexts.{port_text}
@@ -30,17 +31,20 @@ abbrev pub format_text : Format → List ℕ
 format_text Pcap = codes "pcap"
 format_text Stream = codes "stream"
 
--- The text of an IPv6 address (RFC 5952) is an argument of what follows: nothing here depends on which text it is.
+-- The text of an address of 128 bits that is written (RFC 5952). What follows has the text of addresses as an argument:
+-- nothing in it depends on which text it is.
+abbrev pub address_text : ℕ → List ℕ
+address_text address = addr_text (record { 0 = address })
 
 -- the address, '/', and how many bits
 abbrev pub prefix_text : (ℕ → List ℕ) → Prefix → List ℕ
-prefix_text address_text prefix = address_text prefix.net.0 ++ codes "/" ++ decimal prefix.len
+prefix_text text_of prefix = text_of prefix.net.0 ++ codes "/" ++ decimal prefix.len
 
 abbrev pub port_fields : PortPlan → List (List ℕ)
 port_fields port = codes "port" ∷ port_text port.number ∷ role_text port.role ∷ format_text port.format ∷ []
 
 abbrev pub prefix_fields : (ℕ → List ℕ) → PrefixPlan → List (List ℕ)
-prefix_fields address_text plan = codes "prefix" ∷ prefix_text address_text plan.prefix ∷ method_text plan.method ∷ []
+prefix_fields text_of plan = codes "prefix" ∷ prefix_text text_of plan.prefix ∷ method_text plan.method ∷ []
 
 -- a setting's name and its number
 abbrev pub setting : List ℕ → ℕ → List (List ℕ)
@@ -77,7 +81,7 @@ begin_line = codes "begin" ∷ []
 
 -- the settings, the ports and the prefixes, and `begin`
 abbrev pub header_lines : (ℕ → List ℕ) → Plan → List (List (List ℕ))
-header_lines address_text plan = word_lines plan ++ limit_lines plan ++ time_lines plan ++ map port_fields plan.ports ++ map (prefix_fields address_text) plan.prefixes ++ begin_line ∷ []
+header_lines text_of plan = word_lines plan ++ limit_lines plan ++ time_lines plan ++ map port_fields plan.ports ++ map (prefix_fields text_of) plan.prefixes ++ begin_line ∷ []
 
 -- the lines of the entries, the first of which has this number
 abbrev pub entry_lines : ℕ → List Row → List (List (List ℕ))
@@ -90,11 +94,11 @@ end_line count = setting (codes "end") count
 -- The texts, each line with its line feed.
 
 abbrev pub header_text : (ℕ → List ℕ) → Plan → List ℕ
-header_text address_text plan = lines_text (header_lines address_text plan)
+header_text text_of plan = lines_text (header_lines text_of plan)
 
 abbrev pub end_text : ℕ → List ℕ
 end_text count = lines_text (end_line count ∷ [])
 
 -- the journal of these rows, the oldest first
 abbrev pub journal_text : (ℕ → List ℕ) → Plan → List Row → List ℕ
-journal_text address_text plan rows = lines_text (header_lines address_text plan ++ entry_lines 0 rows ++ end_line (length rows) ∷ [])
+journal_text text_of plan rows = lines_text (header_lines text_of plan ++ entry_lines 0 rows ++ end_line (length rows) ∷ [])

@@ -1,26 +1,27 @@
-ghost use Rattle.std.specs.Prelude.{◌≡◌, ◌+◌, ◌*◌, ◌≤◌, ℕ, List, [], ◌∷◌, ◌++◌, length, map, if◌then◌else◌};
+ghost use Rattle.std.specs.Prelude.{◌≡◌, ◌+◌, ◌*◌, ◌≤◌, [], ◌∷◌, ◌++◌, length, map, if◌then◌else◌};
 ghost use Rattle.arrayvec.specs.ArrayVec.{array_vec_len};
-ghost use Rattle.hist_store.specs.TextOfLines.{lines_text};
-ghost use Rattle.hist_store.specs.JournalTexts.{end_text, format_text, header_text, limit_lines, port_fields, role_text, setting, time_lines, word_lines};
+ghost use Rattle.hist_store.specs.TextOfLines.{lines_text, space};
+ghost use Rattle.hist_store.specs.JournalTexts.{address_text, end_text, format_text, header_text, limit_lines, method_text, port_fields, prefix_fields, prefix_text, role_text, setting, time_lines, word_lines};
 
 use crate::pieces::{JournalLine, put_decimal, put_number, put_octets, put_word};
 use crate::port_fields::put_port_field;
-use savi_kinds::{Format, Plan, PortPlan, Role, put_mac};
+use savi_kinds::{Addr, Format, Method, Plan, PortPlan, PrefixPlan, Role, put_addr, put_mac};
 
 /// Writes the journal's header, in place of what the buffer held: the lines from `savi-journal 1` to `begin`,
-/// each with its line feed.
+/// each with its line feed. The addresses are written after RFC 5952.
 ///
-/// The plan has no prefix; so it doesn't matter which text an address has.
+/// With at most 16 ports and 32 prefixes, as many as a valid plan has, all lines fit.
 pub fn put_header(plan: &Plan, into: &mut JournalLine)
     requires ports { length plan.now.ports ≤ 16 }
-    requires no_prefixes { plan.now.prefixes ≡ [] }
-    ensures { (address_text : ℕ → List ℕ) → into.new.items ≡ header_text address_text plan.now }
+    requires prefixes { length plan.now.prefixes ≤ 32 }
+    ensures { into.new.items ≡ header_text address_text plan.now }
 {
     into.clear();
     put_word_lines(into, plan);
     put_limit_lines(into, plan);
     put_time_lines(into, plan);
     put_port_lines(into, plan.ports.as_slice());
+    put_prefix_lines(into, plan.prefixes.as_slice());
     put_octets(into, b"begin\n");
 }
 
@@ -93,6 +94,41 @@ fn put_port_line(into: &mut JournalLine, port: &PortPlan)
     into.push(b'\n');
 }
 
+// Appends a line for each prefix.
+fn put_prefix_lines(into: &mut JournalLine, prefixes: &[PrefixPlan])
+    requires { array_vec_len into.old + 57 * length prefixes.now ≤ 3400 }
+    ensures text { into.new.items ≡ into.old.items ++ lines_text (map (prefix_fields address_text) prefixes.now) }
+    ensures size { array_vec_len into.new ≤ array_vec_len into.old + 57 * length prefixes.now }
+{
+    for prefix in prefixes {
+        put_prefix_line(into, prefix);
+    }
+}
+
+// Appends the line of a prefix.
+fn put_prefix_line(into: &mut JournalLine, prefix: &PrefixPlan)
+    requires { array_vec_len into.old + 57 ≤ 3400 }
+    ensures text { into.new.items ≡ into.old.items ++ lines_text (prefix_fields address_text prefix.now ∷ []) }
+    ensures size { array_vec_len into.new ≤ array_vec_len into.old + 57 }
+{
+    put_octets(into, b"prefix");
+    put_prefix(into, prefix.prefix.net, prefix.prefix.len);
+    put_word(into, method_word(prefix.method));
+    into.push(b'\n');
+}
+
+// Appends a space and a prefix: an address of at most 39 octets, '/' and at most three digits.
+fn put_prefix(into: &mut JournalLine, net: Addr, len: u8)
+    requires { array_vec_len into.old + 44 ≤ 3400 }
+    ensures text { into.new.items ≡ into.old.items ++ space ∷ prefix_text address_text (record { net = net; len = len }) }
+    ensures size { array_vec_len into.new ≤ array_vec_len into.old + 44 }
+{
+    let address = put_addr(net);
+    put_word(into, address.as_str());
+    into.push(b'/');
+    put_decimal(into, u64::from(len));
+}
+
 // Appends a line of a name and a number.
 fn put_setting(into: &mut JournalLine, name: &str, value: u64)
     requires { array_vec_len into.old + length name.now + 22 ≤ 3400 }
@@ -131,6 +167,18 @@ fn role_word(role: Role) -> &'static str
         Role::Host => "host",
         Role::Server => "server",
         Role::Trusted => "trusted",
+    }
+}
+
+// The word of a method.
+fn method_word(method: Method) -> &'static str
+    ensures word { result.now ≡ method_text method }
+    ensures short { length result.now ≤ 5 }
+{
+    match method {
+        Method::Fcfs => "fcfs",
+        Method::Dhcp => "dhcp",
+        Method::Mixed => "mixed",
     }
 }
 

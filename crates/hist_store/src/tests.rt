@@ -6,8 +6,8 @@ ghost use Rattle.hist_store.specs.LineTexts.{FitsLine};
 use super::*;
 use arrayvec::ArrayVec;
 use savi_kinds::{
-    Act, Entry, Format, How, Mac, Plan, Port, PortPlan, PortPlans, PortSet, PrefixPlans, Role,
-    Rule, Scope, Text, Verdict, Who,
+    Act, Addr, Entry, Format, How, Mac, Method, Plan, Port, PortPlan, PortPlans, PortSet, Prefix,
+    PrefixPlan, PrefixPlans, Role, Rule, Scope, Text, Verdict, Who,
 };
 use std::alloc::{AllocError, Global};
 use std::process::Abort;
@@ -348,9 +348,13 @@ fn the_longest_line(rt: HostRuntime) {
     assert_eq!(rt; line.len(), 3_238);
 }
 
-// Port 1 connects a host and port 2 a router; nothing else differs from the defaults.
-fn plan_of_two_ports(alloc: Global, savi: bool) -> Result<Plan, AllocError>
-    ensures { IfOk result (λ plan. (length plan.ports ≡ 2) × (plan.prefixes ≡ [])) }
+// Port 1 connects a host and port 2 a router; but for the prefixes nothing else differs from the defaults.
+fn plan_of_two_ports(
+    alloc: Global,
+    savi: bool,
+    prefixes: Vec<PrefixPlan>,
+) -> Result<Plan, AllocError>
+    ensures { IfOk result (λ plan. (length plan.ports ≡ 2) × (plan.prefixes ≡ prefixes.items)) }
 {
     let mut ports = Vec::with_capacity(alloc, 2)?;
     push_port(&mut ports, port(1), Role::Host)?;
@@ -369,7 +373,7 @@ fn plan_of_two_ports(alloc: Global, savi: bool) -> Result<Plan, AllocError>
         control: None,
         journal: Text::new(String::new(alloc)),
         ports: PortPlans::new(ports),
-        prefixes: PrefixPlans::new(Vec::new(alloc)),
+        prefixes: PrefixPlans::new(prefixes),
     })
 }
 
@@ -401,13 +405,44 @@ fn the_header_and_the_end(rt: HostRuntime) -> Result<(), AllocError> {
     ];
     let mut text = ArrayVec::new();
     for (savi, want) in headers {
-        let plan = plan_of_two_ports(rt.alloc(), savi)?;
+        let plan = plan_of_two_ports(rt.alloc(), savi, Vec::new(rt.alloc()))?;
         put_header(&plan, &mut text);
         assert_eq!(rt; text.as_slice(), want);
     }
     put_end(6, &mut text);
     assert_eq!(rt; text.as_slice(), b"end 6\n".as_slice());
     Ok(())
+}
+
+// Each prefix has its line, in the order of the plan, behind the ports.
+#[test]
+fn the_header_names_each_prefix(rt: HostRuntime) -> Result<(), AllocError> {
+    let prefixes = Vec::from_array(
+        rt.alloc(),
+        [
+            site(0x2001_0db8_0001_0000_0000_0000_0000_0000, Method::Fcfs),
+            site(0x2001_0db8_0002_0000_0000_0000_0000_0000, Method::Dhcp),
+            site(0x2001_0db8_0003_0000_0000_0000_0000_0000, Method::Mixed),
+        ],
+    )?;
+    let plan = plan_of_two_ports(rt.alloc(), true, prefixes)?;
+    let mut text = ArrayVec::new();
+    put_header(&plan, &mut text);
+    let want: &[u8] =
+        b"savi-journal 1\nmac 02:00:00:00:00:01\nsavi on\nunknown drop\nper_port 32\ndepth 256\nentries 262144\nbytes 67108864\ngap 250\ntest 500\nbinding 300000\nport 1 host pcap\nport 2 trusted pcap\nprefix 2001:db8:1::/64 fcfs\nprefix 2001:db8:2::/64 dhcp\nprefix 2001:db8:3::/64 mixed\nbegin\n";
+    assert_eq!(rt; text.as_slice(), want);
+    Ok(())
+}
+
+// The prefix of 64 bits from this address on.
+fn site(net: u128, method: Method) -> PrefixPlan {
+    PrefixPlan {
+        prefix: Prefix {
+            net: Addr(net),
+            len: 64,
+        },
+        method,
+    }
 }
 
 #[test]

@@ -1,5 +1,17 @@
 -- The entry of a frame.
-use Rattle.std.proofs.Common.{ℕ, ◌≡◌, List, length, Some, ap, ◌∙◌}
+use Rattle.std.proofs.Common.{ℕ, ◌≡◌, ◌≤◌, Bool, List, length, Option, Some, sym, ap, ◌∙◌}
+use Rattle.std.proofs.lemmas.Bool.{cond-false, le-ltb}
+use Rattle.savi_kinds.specs.declared.plan.Role.{Role}
+use Rattle.savi_kinds.specs.declared.verdict.Rule.{Rule}
+use Rattle.savi_kinds.specs.declared.verdict.Rule.TheVariants as rules
+use Rattle.frame_class.specs.declared.classes.Class.{Class}
+use Rattle.frame_class.specs.Reading.{IsClassOf}
+use Rattle.frame_class.specs.ClassOf.{class_of}
+use Rattle.frame_class.proofs.ClassIs.{class_only}
+use Rattle.ra_guard.specs.Guard.{Applies, IsFirst}
+use Rattle.ra_guard.specs.GuardOf.{guard_of}
+use Rattle.ra_guard.proofs.RuleOf.{guard_only}
+use Rattle.savi_history.specs.Guard.{guard}
 use Rattle.savi_kinds.specs.declared.port.Port.{Port}
 use Rattle.savi_kinds.specs.declared.port.PortSet.{PortSet}
 use Rattle.savi_kinds.specs.declared.verdict.Verdict.{Verdict}
@@ -34,3 +46,10 @@ frame_entry_is m port stamp octets by moment at verdict out cut by_is moment_is 
     ∙ ap (λ n. made port stamp size n moment at v o c) by_is
     ∙ ap (λ n. made port stamp size (pass_of m.plan (Ingress port)) n at v o c) moment_is
     ∙ ap (λ n. made port stamp size (pass_of m.plan (Ingress port)) (moment_at empty m.past stamp) n v o c) at_is
+
+-- the rule that stops a frame of this class is the one for its octets
+pub guard_by_class : (role : Role) (drop_unknown : Bool) (octets : List ℕ) (class : Class) (rule : Option Rule) → length octets ≤ 1518 → IsClassOf octets class → IsFirst (Applies role drop_unknown class) rule → rule ≡ guard role drop_unknown octets
+guard_by_class role drop_unknown octets class rule short class_is first =
+    guard_only role drop_unknown class rule first
+    ∙ ap (guard_of role drop_unknown) (class_only octets class class_is)
+    ∙ sym (cond-false _ (Some rules.Malformed) (guard_of role drop_unknown (class_of octets)) (le-ltb 1518 (length octets) short))

@@ -12,3 +12,4 @@ pub mod Pieces
 pub mod Summing
 pub mod Finding
 pub mod Closed
+pub mod EndLines

@@ -3,6 +3,7 @@ use Rattle.std.specs.Prelude.{◌≡◌, ◌≢◌, ℕ, ◌<◌, ◌≤◌, min
 use Rattle.savi_kinds.specs.declared.port.Port.{Port}
 use Rattle.savi_kinds.specs.declared.entry.Who.TheVariants.{Ingress}
 use Rattle.savi_kinds.specs.declared.entry.Entry.{Entry}
+use Rattle.frame_class.specs.Reading.{IsClassOf}
 use Rattle.savi_history.specs.Bases.{empty}
 use Rattle.savi_history.specs.Limits.{has_room}
 use Rattle.savi_history.specs.Queues.{Item}
@@ -17,9 +18,15 @@ use Rattle.savi_core.specs.Machines.{Machine, with_event, queue_at}
 
 -- the event that is put to the switch
 abbrev pub event_of : Event → events.Event
-event_of (given.Frame port stamp octets) = events.Frame port stamp octets.now
+event_of (given.Frame port stamp octets class) = events.Frame port stamp octets.now
 event_of (given.Long port stamp len) = events.Long port stamp len
 event_of (given.End who how) = events.End who how
+
+-- the class that is given with a frame is that of its octets
+abbrev pub IsClassed : Event → Type 0
+IsClassed (given.Frame port stamp octets class) = IsClassOf octets.now class.now
+IsClassed (given.Long port stamp len) = Unit {0}
+IsClassed (given.End who how) = Unit {0}
 
 -- an event that may be put to the switch: its pass is open, and it has the size or the reason of its kind
 abbrev pub MayStep : Machine → events.Event → Type 0

@@ -1,10 +1,10 @@
 //! How the inputs of a history ended.
 
 ghost use Rattle.std.specs.Prelude.{◌≡◌};
-ghost use Rattle.savi_history.specs.Endings.{is_malformed_end, is_full_end, has_malformed, has_full};
+ghost use Rattle.savi_history.specs.Endings.{is_malformed_end, is_failed_end, is_full_end, has_malformed, has_failed, has_full};
 
 use hist_store::Hist;
-use savi_kinds::{Act, How};
+use savi_kinds::{Act, How, Who};
 
 /// Whether an input of the history was malformed, or a line of it was too long. O(n) in the entries.
 pub fn has_malformed(hist: &Hist) -> bool
@@ -12,6 +12,18 @@ pub fn has_malformed(hist: &Hist) -> bool
 {
     for n in 0..hist.len() {
         if is_malformed_end(hist.entry(n).act) {
+            return true;
+        }
+    }
+    false
+}
+
+/// Whether a read of an input of the history failed. O(n) in the entries.
+pub fn has_failed(hist: &Hist) -> bool
+    ensures { result ≡ has_failed hist.now.rows }
+{
+    for n in 0..hist.len() {
+        if is_failed_end(hist.entry(n).act) {
             return true;
         }
     }
@@ -36,6 +48,19 @@ fn is_malformed_end(act: Act) -> bool
 {
     match act {
         Act::End { who: _, how } => matches!(how, How::Malformed(_) | How::Overlong(_)),
+        _ => false,
+    }
+}
+
+// Whether an entry is the end of an input at a read that failed.
+fn is_failed_end(act: Act) -> bool
+    ensures { result ≡ is_failed_end act }
+{
+    match act {
+        Act::End {
+            who: Who::Ingress(_) | Who::Control,
+            how,
+        } => matches!(how, How::Failed),
         _ => false,
     }
 }

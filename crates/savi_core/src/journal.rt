@@ -1,12 +1,12 @@
 //! The journal of a history, written in large pieces.
 
-ghost use Rattle.std.specs.Prelude.{◌≡◌, ◌≤◌, ◌++◌, ◌∷◌, ℕ, [], List, length, All};
+ghost use Rattle.std.specs.Prelude.{◌≡◌, ◌≤◌, ◌++◌, ◌∷◌, [], length, All};
 ghost use Rattle.savi_kinds.specs.declared.plan.Plan.{Plan};
 ghost use Rattle.savi_ends.specs.declared.sink.Put.{Put};
 ghost use Rattle.savi_ends.specs.Faults.{Rose};
 ghost use Rattle.savi_ends.specs.Octets.{behind};
 ghost use Rattle.hist_store.specs.LineTexts.{FitsLine};
-ghost use Rattle.hist_store.specs.JournalTexts.{journal_text};
+ghost use Rattle.hist_store.specs.JournalTexts.{address_text, journal_text};
 ghost use Rattle.savi_core.specs.Buffers.{Holds};
 ghost use Rattle.savi_core.specs.Written.{with_lines};
 
@@ -15,15 +15,15 @@ use hist_store::{Hist, JOURNAL_LINE_OCTETS, JournalLine, put_end, put_header, pu
 use savi_ends::{Put, Sink};
 use savi_kinds::Plan;
 
-/// Writes the journal of a plan without prefixes and of its history, in pieces of at least 64 KiB and the last one.
+/// Writes the journal of a plan and of its history, in pieces of at least 64 KiB and the last one.
 /// O(n) in the octets of the journal.
 pub fn write_journal<K: Sink>(plan: &Plan, hist: &Hist, sink: &mut K, buffer: &mut Buffer) -> Put
     requires ports { length plan.now.ports ≤ 16 }
-    requires no_prefixes { plan.now.prefixes ≡ [] }
+    requires prefixes { length plan.now.prefixes ≤ 32 }
     requires rows { All FitsLine hist.now.rows }
     requires empty { buffer.old.octets ≡ [] }
     requires room { 3401 ≤ buffer.old.room }
-    ensures done { result ≡ Put.Done → (address_text : ℕ → List ℕ) → K.written sink.new ≡ behind (K.written sink.old) (journal_text address_text plan.now hist.now.rows) }
+    ensures done { result ≡ Put.Done → K.written sink.new ≡ behind (K.written sink.old) (journal_text address_text plan.now hist.now.rows) }
     ensures later { K.faults sink.old ≤ K.faults sink.new }
     ensures cause { result ≡ Put.Failed → Rose (K.faults sink.old) (K.faults sink.new) }
 {

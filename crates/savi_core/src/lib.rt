@@ -9,11 +9,11 @@
 
 mod batch;
 mod buffer;
+mod end_lines;
 mod ending;
 mod entries;
 mod event;
 mod journal;
-mod judge;
 mod machine;
 mod outs;
 mod passes;
@@ -23,6 +23,7 @@ mod summary_text;
 
 pub use batch::Batch;
 pub use buffer::Buffer;
+pub use end_lines::{END_LINE_OCTETS, EndLine};
 pub use event::{Event, Stepped};
 pub use machine::Core;
 pub use summary::Summary;

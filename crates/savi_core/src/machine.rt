@@ -1,13 +1,14 @@
 //! The machine.
 
-ghost use Rattle.std.specs.Prelude.{ℕ, List, ◌≡◌, ◌≤◌, ◌<◌, true, false, ◌&&◌, ◌||◌, [], length, reverse, IfOk, IsSomeAnd, Some, ◌+◌, Option};
+ghost use Rattle.std.specs.Prelude.{◌≡◌, ◌≤◌, ◌<◌, true, false, ◌&&◌, ◌||◌, [], length, reverse, IfOk, IsSomeAnd, Some, ◌+◌, Option};
 ghost use Rattle.savi_kinds.specs.Ports.{number_of};
 ghost use Rattle.savi_ends.specs.declared.sink.Put.{Put};
 ghost use Rattle.savi_ends.specs.Faults.{Rose};
 ghost use Rattle.savi_ends.specs.Octets.{behind};
-ghost use Rattle.hist_store.specs.JournalTexts.{journal_text};
+ghost use Rattle.hist_store.specs.JournalTexts.{address_text, journal_text};
 ghost use Rattle.savi_history.specs.Summary.{summary_of};
-ghost use Rattle.savi_history.specs.Endings.{has_malformed, has_full};
+ghost use Rattle.savi_history.specs.Endings.{has_malformed, has_failed, has_full};
+ghost use Rattle.savi_history.specs.EndLines.{entry_line};
 ghost use Rattle.savi_core.specs.Sums.{sum_of};
 ghost use Rattle.savi_kinds.specs.PortSets.{is_member};
 ghost use Rattle.savi_kinds.specs.ValidPlan.{IsValidPlan, IsWithin};
@@ -21,21 +22,24 @@ ghost use Rattle.savi_history.specs.Events as events;
 ghost use Rattle.savi_history.specs.Legal.{IsLegal};
 ghost use Rattle.savi_core.specs.Machines.{HasShortQueues, started, row_at, queue_at, number_at};
 ghost use Rattle.savi_core.specs.Counts.{open_below};
-ghost use Rattle.savi_core.specs.Steps.{event_of, MayStep, Did, Drained, entry_of};
+ghost use Rattle.frame_class.specs.Reading.{IsClassOf};
+ghost use Rattle.savi_core.specs.Steps.{event_of, IsClassed, MayStep, Did, Drained, entry_of};
 
 use crate::batch::Batch;
 use crate::buffer::Buffer;
-use crate::ending::{has_full, has_malformed};
+use crate::end_lines::{EndLine, put_entry_line};
+use crate::ending::{has_failed, has_full, has_malformed};
 use crate::entries::{moment_at, plain_entry, verdict_by};
 use crate::event::{Event, Stepped};
 use crate::journal::write_journal;
-use crate::judge::judge;
 use crate::outs::ports_of;
 use crate::passes::{pass_of, place_of, role_of};
 use crate::queues::{end_queue, make_queues, move_frames, queue_frame};
 use crate::summary::{Summary, sum_up};
 use egress_ring::EgressRing;
+use frame_class::Class;
 use hist_store::Hist;
+use ra_guard::guard;
 use savi_ends::{Put, Sink};
 use savi_kinds::{
     Act, ENTRIES_RESERVED, Entry, FRAME_OCTETS_MOST, How, LAST_MOMENT, Moment, PORTS_MOST, Plan,
@@ -91,10 +95,11 @@ impl Core {
     }
 
     /// Enters an event. The answer is `Full`, and nothing has changed, exactly where it is a frame and the history has
-    /// no room for another input; else it is the one entry that was made. O(ports) beside one pass over the octets of a
-    /// frame, and their copy.
+    /// no room for another input; else it is the one entry that was made. A frame is judged by its class, which the
+    /// caller has read of its octets. O(ports) beside the copy of the octets.
     pub fn step(&mut self, ev: Event<'_>) -> Stepped
-        requires { MayStep self.old (event_of ev) }
+        requires may { MayStep self.old (event_of ev) }
+        requires class { IsClassed ev }
         ensures { Did self.old (event_of ev.entry) self.new result }
     {
         match ev {
@@ -102,7 +107,8 @@ impl Core {
                 port,
                 stamp,
                 octets,
-            } => self.frame(port, stamp, octets),
+                class,
+            } => self.frame(port, stamp, octets, class),
             Event::Long { port, stamp, len } => self.long(port, stamp, len),
             Event::End { who, how } => self.end(who, how),
         }
@@ -191,13 +197,12 @@ impl Core {
         left
     }
 
-    /// Writes the journal (`docs/FORMATS.md`) of a plan without prefixes: in pieces of the buffer's size, and the last
-    /// one. O(n) in the octets of the journal.
+    /// Writes the journal (`docs/FORMATS.md`): in pieces of the buffer's size, and the last one. O(n) in the octets of the
+    /// journal.
     pub fn write_journal<K: Sink>(&self, sink: &mut K, buffer: &mut Buffer) -> Put
-        requires no_prefixes { self.now.plan.prefixes ≡ [] }
         requires empty { buffer.old.octets ≡ [] }
         requires room { 3401 ≤ buffer.old.room }
-        ensures done { result ≡ Put.Done → (address_text : ℕ → List ℕ) → K.written sink.new ≡ behind (K.written sink.old) (journal_text address_text self.now.plan (reverse self.now.past)) }
+        ensures done { result ≡ Put.Done → K.written sink.new ≡ behind (K.written sink.old) (journal_text address_text self.now.plan (reverse self.now.past)) }
         ensures later { K.faults sink.old ≤ K.faults sink.new }
         ensures cause { result ≡ Put.Failed → Rose (K.faults sink.old) (K.faults sink.new) }
     {
@@ -218,6 +223,23 @@ impl Core {
         has_malformed(&self.hist)
     }
 
+    /// Whether a read of an input failed. O(n) in the entries.
+    pub fn has_failed(&self) -> bool
+        ensures { result ≡ has_failed self.now.past }
+    {
+        has_failed(&self.hist)
+    }
+
+    /// Writes the line for the entry with this number, counted from 0, in place of what the buffer held: nothing, unless
+    /// it is an end of which an operator has to know. The lines of all entries in order are `end_lines` of the history
+    /// (`proofs/EndLines.antt`). O(1).
+    pub fn end_line(&self, n: u64, into: &mut EndLine)
+        requires { n < length self.now.past }
+        ensures { IsSomeAnd (row_at self.now n) (λ row. into.new.items ≡ entry_line row.entry.act) }
+    {
+        put_entry_line(self.hist.entry(n).act, into);
+    }
+
     /// Whether an input ended for want of room. O(n) in the entries.
     pub fn has_full(&self) -> bool
         ensures { result ≡ has_full self.now.past }
@@ -234,8 +256,9 @@ impl Core {
     }
 
     // Enters a frame.
-    fn frame(&mut self, port: Port, stamp: u64, octets: &[u8]) -> Stepped
-        requires { MayStep self.old (events.Frame port stamp octets.now) }
+    fn frame(&mut self, port: Port, stamp: u64, octets: &[u8], class: &Class) -> Stepped
+        requires may { MayStep self.old (events.Frame port stamp octets.now) }
+        requires class { IsClassOf octets.now class.now }
         ensures { Did self.old (events.Frame port stamp octets.now) self.new result }
     {
         if !self.has_room() {
@@ -243,7 +266,7 @@ impl Core {
                 len: self.hist.len(),
             };
         }
-        let entry = self.frame_entry(port, stamp, octets);
+        let entry = self.frame_entry(port, stamp, octets, class);
         let n = self.hist.len();
         queue_frame(
             &mut self.queues,
@@ -258,12 +281,13 @@ impl Core {
     }
 
     // The entry of a frame.
-    fn frame_entry(&self, port: Port, stamp: u64, octets: &[u8]) -> Entry
-        requires { MayStep self.now (events.Frame port stamp octets.now) }
+    fn frame_entry(&self, port: Port, stamp: u64, octets: &[u8], class: &Class) -> Entry
+        requires may { MayStep self.now (events.Frame port stamp octets.now) }
+        requires class { IsClassOf octets.now class.now }
         ensures { result ≡ entry_of self.now (events.Frame port stamp octets.now) }
     {
         let role = role_of(&self.plan, port);
-        let verdict = verdict_by(judge(role, self.plan.drop_unknown, octets));
+        let verdict = verdict_by(guard(role, self.plan.drop_unknown, class));
         let outs = self.outs(port, verdict);
         Entry {
             by: pass_of(&self.plan, Who::Ingress(port)),

@@ -7,9 +7,9 @@ ghost use Rattle.savi_history.specs.Bases.{empty};
 ghost use Rattle.savi_history.specs.Passes.{has_port, has_pass, control_pass, AllEnded};
 ghost use Rattle.savi_history.specs.Legal.{IsOpen, MayEnd, MayEndEgress};
 
-use crate::judge::judge;
 use crate::passes::place_of;
 use crate::{Batch, Core, Event, Stepped};
+use frame_class::class;
 use savi_kinds::{
     Act, Entry, Format, How, Mac, Plan, Port, PortPlan, PortPlans, PortSet, PrefixPlans, Role,
     Rule, Scope, Text, Verdict, Who,
@@ -97,11 +97,23 @@ const AT_A_HOST: [(&str, &str, Option<Rule>); 15] = [
     ),
 ];
 
+// The verdict of the entry that was made.
+fn verdict_of(stepped: Stepped) -> Option<Verdict> {
+    match stepped {
+        Stepped::Done(entry) => entry.verdict,
+        Stepped::Full { .. } | Stepped::Nothing => None,
+    }
+}
+
 #[test]
 fn rules_stop_their_frames_at_a_host(rt: HostRuntime) -> Result<(), Fail> {
+    let plan = plan_of(rt.alloc(), 5000, 100_000)?;
+    let mut core = Core::make(rt.alloc(), plan)?;
     for (name, text, rule) in AT_A_HOST {
         let frame = hex::decode(rt.alloc(), text)?;
-        assert_eq!(rt; judge(Role::Host, true, frame.as_slice()), rule, "{name}");
+        let stepped = enter_frame(&rt, &mut core, port_at(1), 0, frame.as_slice());
+        let verdict = rule.map_or(Verdict::Pass(Scope::All), Verdict::Drop);
+        assert_eq!(rt; verdict_of(stepped), Some(verdict), "{name}");
     }
     Ok(())
 }
@@ -234,10 +246,12 @@ fn egress_may_end(core: &Core, port: Port) -> bool
 fn enter_frame(rt: &impl Abort, core: &mut Core, port: Port, stamp: u64, octets: &[u8]) -> Stepped {
     assert!(rt; is_open(core, Who::Ingress(port)));
     assert!(rt; octets.len() <= 1518);
+    let class = class(octets);
     core.step(Event::Frame {
         port,
         stamp,
         octets,
+        class: &class,
     })
 }
 

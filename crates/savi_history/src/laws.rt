@@ -4,6 +4,7 @@ ghost use Rattle.std.specs.Prelude.{◌≡◌, ℕ, List, length, All};
 ghost use Rattle.savi_kinds.specs.Arrivals.{Input};
 ghost use Rattle.savi_kinds.specs.ValidPlan.{IsValidPlan};
 ghost use Rattle.savi_kinds.specs.declared.plan.Plan.{Plan};
+ghost use Rattle.hist_store.specs.JournalTexts.{address_text};
 ghost use Rattle.hist_store.specs.Rows.{Row};
 ghost use Rattle.savi_history.specs.Bases.{Base, empty};
 ghost use Rattle.savi_history.specs.Legal.{IsLegal, IsFinished};
@@ -29,8 +30,16 @@ pub fn replays_are_legal()
 {}
 
 /// A journal tells the history: no text is the journal of two legal histories from the start of a switch, nor of two
-/// plans that differ in more than the names of inputs and outputs. It holds for each way to write IPv6 addresses (RFC
-/// 5952) that gives no two of them the same text, and in which there is neither a space, a control character nor a '/'.
+/// plans that differ in more than the names of inputs and outputs. It holds with addresses written as they are, after
+/// RFC 5952, and for each way to write them that gives no two of them the same text, and in which there is neither a
+/// space, a control character nor a '/'.
 pub fn journals_tell_one_history()
-    ensures { (address_text : ℕ → List ℕ) → IsAddressText address_text → IsJournalOfOne address_text }
+    ensures written { IsJournalOfOne address_text }
+    ensures every { (text_of : ℕ → List ℕ) → IsAddressText text_of → IsJournalOfOne text_of }
+{}
+
+/// The text of addresses after RFC 5952 gives no two addresses of 128 bits the same text, and there is neither a space, a
+/// control character nor a '/' in it.
+pub fn written_addresses_are_told_apart()
+    ensures { IsAddressText address_text }
 {}

@@ -10,4 +10,5 @@ mod laws;
 
 pub use laws::{
     adverts_are_stopped, journals_tell_one_history, replays_are_legal, replays_end_every_pass,
+    written_addresses_are_told_apart,
 };

@@ -31,14 +31,14 @@ pub append-requires-clause-room : goal.append-requires-clause-room
 append-requires-clause-room c =
     let inside = c.self.inside in
     let event = events.Frame c.args.port c.args.stamp c.args.octets.now in
-    let may = subst (λ (m : Machine). MayCome m.plan empty m.past event) (sym c.self.view_is) (may_frame c.args.self.now c.args.port c.args.stamp c.args.octets.now c.requires (sym c.has_room.ensures ∙ c.if-not-has_room.false) c.ranges.stamp.fits) in
+    let may = subst (λ (m : Machine). MayCome m.plan empty m.past event) (sym c.self.view_is) (may_frame c.args.self.now c.args.port c.args.stamp c.args.octets.now c.requires.may (sym c.has_room.ensures ∙ c.if-not-has_room.false) c.ranges.stamp.fits) in
     omega (arith, (room_for inside.plan inside.hist.rows inside.moment inside.closed inside.queues.items c.self.invariant.0 may.0.room).0, c.self.invariant.1)
 
 pub append-requires-clause-bytes : goal.append-requires-clause-bytes
 append-requires-clause-bytes c =
     let inside = c.self.inside in
     let event = events.Frame c.args.port c.args.stamp c.args.octets.now in
-    let may = subst (λ (m : Machine). MayCome m.plan empty m.past event) (sym c.self.view_is) (may_frame c.args.self.now c.args.port c.args.stamp c.args.octets.now c.requires (sym c.has_room.ensures ∙ c.if-not-has_room.false) c.ranges.stamp.fits) in
+    let may = subst (λ (m : Machine). MayCome m.plan empty m.past event) (sym c.self.view_is) (may_frame c.args.self.now c.args.port c.args.stamp c.args.octets.now c.requires.may (sym c.has_room.ensures ∙ c.if-not-has_room.false) c.ranges.stamp.fits) in
     omega (arith, (room_for inside.plan inside.hist.rows inside.moment inside.closed inside.queues.items c.self.invariant.0 may.0.room).1, may.1, c.self.invariant.2)
 
 pub append-requires-clause-placed : goal.append-requires-clause-placed
@@ -57,7 +57,7 @@ invariant_of-self c =
     let octets = c.args.octets.now in
     let event = events.Frame c.args.port c.args.stamp octets in
     let e = c.frame_entry-entry.result in
-    let may = subst (λ (m : Machine). MayCome m.plan empty m.past event) (sym c.self.view_is) (may_frame c.args.self.now c.args.port c.args.stamp octets c.requires (sym c.has_room.ensures ∙ c.if-not-has_room.false) c.ranges.stamp.fits) in
+    let may = subst (λ (m : Machine). MayCome m.plan empty m.past event) (sym c.self.view_is) (may_frame c.args.self.now c.args.port c.args.stamp octets c.requires.may (sym c.has_room.ensures ∙ c.if-not-has_room.false) c.ranges.stamp.fits) in
     let e_is = subst (λ (m : Machine). e ≡ entry_of m event) (sym c.self.view_is) c.frame_entry-entry.ensures in
     let queues' = c.queue_frame.new.queues.items in
     let counted = subst (λ n. AreAfter (after_frame e.outs e.cuts n) (numbers_of c.as_slice.result.now) inside.queues.items queues') c.len-n.ensures c.queue_frame.ensures in

@@ -11,7 +11,7 @@ use Rattle.savi_history.specs.Guard.{guard}
 use Rattle.savi_history.specs.Judged.{verdict_by}
 use Rattle.savi_core.specs.Machines.{Machine}
 use Rattle.savi_core.proofs.Remembering.{held-reverse}
-use Rattle.savi_core.proofs.FrameEntries.{frame_entry_is}
+use Rattle.savi_core.proofs.FrameEntries.{frame_entry_is, guard_by_class}
 use Rattle.savi_core.proofs.machine.Core.frame_entry.Goals as goal
 
 pub returns : goal.returns
@@ -25,7 +25,7 @@ returns c =
     (c.pass_of.ensures ∙ ap (λ (p : Plan). pass_of p (Ingress c.args.port)) plan_is)
     (c.moment_at.ensures ∙ ap (λ n. max n (min c.args.stamp (2 ^ 62))) (c.self.invariant.0.last ∙ ap (λ (x : Machine). last_moment empty x.past) c.self.view_is))
     (c.held.ensures ∙ sym (held-reverse inside.hist.rows) ∙ ap (λ (x : Machine). held x.past) c.self.view_is)
-    (c.verdict_by-verdict.ensures ∙ ap verdict_by (c.judge.ensures ∙ ap (λ (r : Role). guard r inside.plan.drop_unknown octets) c.role_of-role.ensures
+    (c.verdict_by-verdict.ensures ∙ ap verdict_by (guard_by_class c.role_of-role.result inside.plan.drop_unknown octets c.args.class.now c.guard.result c.requires.may.1 c.requires.class c.guard.ensures.first ∙ ap (λ (r : Role). guard r inside.plan.drop_unknown octets) c.role_of-role.ensures
     ∙ ap (λ (p : Plan). guard (role_of p number) p.drop_unknown octets) plan_is))
     c.outs-outs.ensures
     c.cuts.ensures

@@ -3,7 +3,7 @@ use Rattle.std.proofs.lemmas.List.{reverse-reverse}
 use Rattle.savi_ends.specs.Octets.{behind}
 use Rattle.hist_store.specs.Rows.{Row}
 use Rattle.hist_store.specs.LineTexts.{FitsLine}
-use Rattle.hist_store.specs.JournalTexts.{journal_text}
+use Rattle.hist_store.specs.JournalTexts.{address_text, journal_text}
 use Rattle.savi_history.specs.Bases.{empty}
 use Rattle.savi_history.proofs.Lines.{fits_oldest}
 use Rattle.savi_core.specs.Machines.{Machine}
@@ -15,7 +15,7 @@ write_journal-requires-clause-rows g c =
     (fits_oldest c.self.inside.plan empty (reverse c.self.inside.hist.rows) c.self.invariant.0.legal)
 
 pub returns-clause-done : goal.returns-clause-done
-returns-clause-done g c = λ done address_text.
-    c.write_journal.ensures.done done address_text
+returns-clause-done g c = λ done.
+    c.write_journal.ensures.done done
     ∙ ap (λ (rows : List Row). behind (g.K.Sink.written c.args.sink.now) (journal_text address_text c.self.inside.plan rows)) (sym (reverse-reverse c.self.inside.hist.rows))
     ∙ ap (λ (m : Machine). behind (g.K.Sink.written c.args.sink.now) (journal_text address_text m.plan (reverse m.past))) c.self.view_is

@@ -1,0 +1,27 @@
+-- What is said of the end that was handed out holds of the one that was told.
+use Rattle.std.proofs.Common.{◌≡◌, ℕ, ◌<◌, List, Option, Some, None, IfSome, IsSomeAnd, IfOk, Result, Ok, Err, true, subst, sym}
+use Rattle.savi_kinds.specs.declared.plan.Plan.{Plan}
+use Rattle.savi_conf.specs.Answers.{IsAnswer}
+use Rattle.savi_ends.specs.Places.{Place}
+use Rattle.run_config.specs.declared.refusal.Refusal.{Refusal}
+use Rattle.run_config.specs.Configs.{OfText, IsBuilt, IsConfigured, HasFault}
+
+of_stands : {S : Type 0} (left : S → Option (List ℕ)) (stands : Option S) (source : S) (Holds : List ℕ → Type 0) → IfSome stands (λ told. source ≡ told) → IfSome (left source) Holds → IfSome stands (λ told. IfSome (left told) Holds)
+of_stands left None source Holds same given = tt
+of_stands left (Some told) source Holds same given = subst (λ s. IfSome (left s) Holds) same given
+
+pub of_told : {S : Type 0} (left : S → Option (List ℕ)) (place : Place S) (source : S) (Holds : List ℕ → Type 0) → IfSome place.stands (λ told. source ≡ told) → IfSome (left source) Holds → OfText left place Holds
+of_told left place source Holds same given = of_stands left place.stands source Holds same given
+
+pub configured : {S : Type 0} (left : S → Option (List ℕ)) (place : Place S) (source : S) (answer : Result Plan Refusal) → IfSome place.stands (λ told. source ≡ told) → IfOk answer IsBuilt → IfOk answer (λ plan. IfSome (left source) (λ text. IsAnswer text true (Ok plan))) → IfOk answer (IsConfigured left place)
+configured left place source (Ok plan) same built says = record { says = of_told left place source (λ text. IsAnswer text true (Ok plan)) same says; built = built }
+configured left place source (Err refusal) same built says = tt
+
+-- a fact of the text that follows from one of what was read of it
+pub if_text : (left : Option (List ℕ)) (Read Holds : List ℕ → Type 0) → ((text : List ℕ) → Read text → Holds text) → IfSome left Read → IfSome left Holds
+if_text None Read Holds follows read = tt
+if_text (Some text) Read Holds follows read = follows text read
+
+-- the end that is kept has a fault
+pub kept_fault : {S : Type 0} (faults : S → ℕ) (place : Place S) (source : S) → place.stands ≡ Some source → 0 < faults source → HasFault faults place
+kept_fault faults place source kept fault = subst (λ o. IsSomeAnd o (λ x. 0 < faults x)) (sym kept) fault

@@ -1,0 +1,4 @@
+pub mod Configured
+pub mod Extending
+pub mod Plans
+pub mod WordLists

@@ -1,0 +1,40 @@
+-- A plan that a configuration says is built, and what was read of a text answers for the whole.
+use Rattle.std.proofs.Common.{◌≡◌, ◌∙◌, ◌<◌, ◌≤◌, inl, inr, ℕ, Bool, true, false, List, length, ◌++◌, Option, Some, None, Result, Ok, Err, refl, sym, subst, arith, length-append, option_map}
+use Rattle.savi_kinds.specs.declared.plan.Plan.{Plan}
+use Rattle.savi_conf.specs.declared.fault.Fault.TheVariants.{NotBuilt}
+use Rattle.savi_conf.specs.declared.fault.ConfFault.{ConfFault}
+use Rattle.savi_conf.specs.declared.fault.ConfFault.TheVariants.{NoMemory, NotToml, Bad}
+use Rattle.savi_conf.specs.Answers.{IsAnswer, most_octets}
+use Rattle.savi_conf.specs.Words.{savi_word}
+use Rattle.run_config.specs.Configs.{IsBuilt, IsWholeOrLong}
+
+off_word : (b : Bool) → savi_word b ≡ savi_word false → b ≡ false
+off_word true same = cc
+off_word false same = refl
+
+none_mapped : {A B : Type 0} (f : A → B) (o : Option A) → option_map f o ≡ None → o ≡ None
+none_mapped f None same = refl
+none_mapped f (Some a) same = cc
+
+-- the fault of what isn't built never applies to a plan
+pub built : (text : List ℕ) (plan : Plan) → IsAnswer text true (Ok plan) → IsBuilt plan
+built text plan (document, is, says) = record {
+  valid = says.valid;
+  guard_only = off_word plan.savi (sym says.says.savi ∙ (says.meets NotBuilt).savi);
+  no_control = none_mapped _ plan.control (sym says.says.control ∙ (says.meets NotBuilt).control);
+}
+
+longer : (front text rest : List ℕ) → text ≡ front ++ rest → most_octets < length front → most_octets < length text
+longer front text rest whole long = rw whole (omega (arith, long, length-append front rest))
+
+pub of_long : (front text : List ℕ) (answer : Result Plan ConfFault) → most_octets < length front → most_octets < length text → IsAnswer front true answer → IsAnswer text true answer
+of_long front text (Ok plan) long whole (document, is, says) = let short : length front ≤ most_octets = is.short in absurd (omega (arith, long, short))
+of_long front text (Err NoMemory) long whole answer = tt
+of_long front text (Err NotToml) long whole answer = let short : length front ≤ most_octets = answer.short in absurd (omega (arith, long, short))
+of_long front text (Err (Bad number)) long whole (inl (is, _)) = inl (is, whole)
+of_long front text (Err (Bad number)) long whole (inr (document, is, says)) = let short : length front ≤ most_octets = is.short in absurd (omega (arith, long, short))
+
+-- what is answered of what was read is an answer of the whole
+pub of_whole : (front text : List ℕ) (answer : Result Plan ConfFault) → IsWholeOrLong front text → IsAnswer front true answer → IsAnswer text true answer
+of_whole front text answer (inl same) given = subst (λ (l : List ℕ). IsAnswer l true answer) same given
+of_whole front text answer (inr (long, (rest, whole))) given = of_long front text answer long (longer front text rest whole long) given

@@ -1,0 +1,37 @@
+use Rattle.std.proofs.Common.{◌<◌, ◌≡◌, ◌∙◌, true, Err, arith}
+use Rattle.savi_conf.specs.Answers.{IsAnswer}
+use Rattle.savi_ends.specs.Places.{IsOnlyOut}
+use Rattle.savi_ends.proofs.Ready.{opened_alone}
+use Rattle.run_config.proofs.Configured.{of_told, configured, kept_fault}
+use Rattle.run_config.proofs.reading.configure.Given as given
+use Rattle.run_config.proofs.reading.configure.Goals as goal
+
+pub keep_input-requires : goal.keep_input-requires
+keep_input-requires g c = (
+  c.args.file.now,
+  opened_alone (λ (s : g.row.W-S.Denot). g.W.S.Source.faults s ≡ 0) (g.W.World.book c.args.world.now).inputs (g.W.World.book c.input.new.self).inputs c.args.file.now c.requires c.in-Ok-input.ensures.others c.in-Ok-input.ensures.opens.out,
+)
+
+only : (g : given.Over) (c : goal.After-drop-buffer-2 g) → IsOnlyOut {X = g.row.W-S.Denot} (g.W.World.book c.input.new.self).inputs c.args.file.now
+only g c = opened_alone (λ (s : g.row.W-S.Denot). g.W.S.Source.faults s ≡ 0) (g.W.World.book c.args.world.now).inputs (g.W.World.book c.input.new.self).inputs c.args.file.now c.requires c.in-Ok-input.ensures.others c.in-Ok-input.ensures.opens.out
+
+pub returns-clause-configured : goal.returns-clause-configured
+returns-clause-configured g c =
+    configured g.W.S.Source.left ((g.W.World.book c.args.world.now).inputs c.args.file.now) c.in-Ok-input.source c.read_config-answer.result
+    c.in-Ok-input.ensures.opens.told c.read_config-answer.ensures.built c.read_config-answer.ensures.says
+
+pub returns-clause-refused : goal.returns-clause-refused
+returns-clause-refused g c = λ fault is.
+    let found = c.read_config-answer.ensures.refused fault is in
+    record {
+      answer = of_told g.W.S.Source.left ((g.W.World.book c.args.world.now).inputs c.args.file.now) c.in-Ok-input.source (λ text. IsAnswer text true (Err fault)) c.in-Ok-input.ensures.opens.told found.1;
+      cause = found.0;
+    }
+
+pub returns-clause-unread : goal.returns-clause-unread
+returns-clause-unread g c = λ is.
+    let fault : 0 < g.W.S.Source.faults c.read_config-answer.new.source = omega (arith, c.read_config-answer.ensures.unread is, c.in-Ok-input.ensures.opens.fresh) in
+    kept_fault g.W.S.Source.faults ((g.W.World.book c.keep_input.new.self).inputs c.args.file.now) c.read_config-answer.new.source (c.keep_input.ensures.kept c.args.file.now (only g c)) fault
+
+pub returns-clause-others : goal.returns-clause-others
+returns-clause-others g c = λ other differs. c.keep_input.ensures.others c.args.file.now (only g c) other differs ∙ c.in-Ok-input.ensures.others other differs

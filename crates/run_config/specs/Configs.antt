@@ -1,0 +1,37 @@
+-- What a run reads of its configuration.
+use Rattle.std.specs.Prelude.{◌≡◌, ◌≢◌, ◌<◌, ℕ, true, false, List, Option, None, IfSome, IsSomeAnd, Ok, Err, length, ◌⊎◌}
+use Rattle.savi_kinds.specs.declared.plan.Plan.{Plan}
+use Rattle.savi_kinds.specs.ValidPlan.{IsValidPlan}
+use Rattle.savi_conf.specs.declared.fault.ConfFault.{ConfFault}
+use Rattle.savi_conf.specs.declared.fault.ConfFault.TheVariants.{NoMemory}
+use Rattle.savi_conf.specs.Answers.{IsAnswer, most_octets}
+use Rattle.savi_ends.specs.Octets.{IsFront}
+use Rattle.savi_ends.specs.Places.{Place}
+
+-- a plan of what is built: valid, without source validation and without control
+pub record IsBuilt (plan : Plan) : Type 0 where
+  pub valid : IsValidPlan plan
+  pub guard_only : plan.savi ≡ false
+  pub no_control : plan.control ≡ None
+
+-- the text that stands in an input is one for which this holds, where the input tells its octets
+abbrev pub OfText : {S : Type 0} → (S → Option (List ℕ)) → Place S → (List ℕ → Type 0) → Type 0
+OfText left place Holds = IfSome place.stands (λ told. IfSome (left told) Holds)
+
+-- the configuration says this plan
+pub record IsConfigured {S : Type 0} (left : S → Option (List ℕ)) (place : Place S) (plan : Plan) : Type 0 where
+  pub says : OfText left place (λ text. IsAnswer text true (Ok plan))
+  pub built : IsBuilt plan
+
+-- the configuration is refused for this
+pub record IsRefused {S : Type 0} (left : S → Option (List ℕ)) (place : Place S) (fault : ConfFault) : Type 0 where
+  pub answer : OfText left place (λ text. IsAnswer text true (Err fault))
+  pub cause : fault ≢ NoMemory
+
+-- the end that is kept in a place has a fault; it had none when it was handed out
+abbrev pub HasFault : {X : Type 0} → (X → ℕ) → Place X → Type 0
+HasFault faults place = IsSomeAnd place.stands (λ x. 0 < faults x)
+
+-- what was read of a text: the whole of it, or a front that is longer than a configuration may be
+abbrev pub IsWholeOrLong : List ℕ → List ℕ → Type 0
+IsWholeOrLong front text = (front ≡ text) ⊎ ((most_octets < length front) × IsFront front text)

@@ -1,0 +1,3 @@
+pub mod Words
+pub mod Configs
+pub mod Lines

@@ -1,0 +1,86 @@
+//! The configuration of a run.
+
+ghost use Rattle.std.specs.Prelude.{◌≡◌, ◌≢◌, ◌≤◌, true, Ok, Err, IfOk, IfSome, IfNone, IsSome, length, take};
+ghost use Rattle.savi_conf.specs.Answers.{IsAnswer};
+ghost use Rattle.savi_ends.specs.Faults.{Rose};
+ghost use Rattle.savi_ends.specs.Places.{IsReady, OthersStay};
+ghost use Rattle.savi_conf.specs.declared.fault.ConfFault.{ConfFault};
+ghost use Rattle.run_config.specs.declared.refusal.Refusal.{Refusal};
+ghost use Rattle.run_config.specs.Configs.{HasFault, IsBuilt, IsConfigured, IsRefused, IsWholeOrLong, OfText};
+
+use crate::refusal::Refusal;
+use savi_conf::{ConfFault, OCTETS_MOST, read_plan};
+use savi_ends::{Filled, Source, World, fill};
+use savi_kinds::Plan;
+use std::alloc::Global;
+
+// Room for one octet more than a configuration may have, so that one that is too long is seen to be.
+const ROOM: usize = OCTETS_MOST + 1;
+
+/// Reads the plan that the configuration of this name says, for a replay.
+///
+/// At most one octet more than a configuration may have is read, and the input is kept in the world again. Only it and the
+/// world's count of faults change.
+///
+/// # Errors
+///
+/// `NoMemory` where an allocation failed; `CannotOpen` where the input couldn't be opened, and its place is as it was;
+/// `ReadFailed` where a read failed; `Refused` with what is wrong with the text.
+pub fn configure<W: World>(alloc: Global, file: &str, world: &mut W) -> Result<Plan, Refusal>
+    requires { (name : _) → IsReady (λ s. W.S.faults s ≡ 0) ((W.book world.old).inputs name) }
+
+    ensures configured { IfOk result (IsConfigured W.S.left ((W.book world.old).inputs file.now)) }
+    ensures refused { (fault : ConfFault) → result ≡ Err (Refusal.Refused fault) → IsRefused W.S.left ((W.book world.old).inputs file.now) fault }
+    ensures unopened { result ≡ Err Refusal.CannotOpen → Rose (W.book world.old).faults (W.book world.new).faults }
+    ensures unread { result ≡ Err Refusal.ReadFailed → HasFault W.S.faults ((W.book world.new).inputs file.now) }
+
+    ensures as_it_was { result ≡ Err Refusal.CannotOpen → (W.book world.new).inputs file.now ≡ (W.book world.old).inputs file.now }
+    ensures kept { result ≢ Err Refusal.CannotOpen → result ≢ Err Refusal.NoMemory → IsSome ((W.book world.new).inputs file.now).stands }
+    ensures later { (W.book world.old).faults ≤ (W.book world.new).faults }
+    ensures others { OthersStay (W.book world.old).inputs (W.book world.new).inputs file.now }
+    ensures rest { W.book world.new ≡ record (W.book world.old) { faults = (W.book world.new).faults; inputs = (W.book world.new).inputs } }
+{
+    let Ok(mut buffer) = vec![in alloc; 0; ROOM] else {
+        return Err(Refusal::NoMemory);
+    };
+    let Ok(mut source) = world.input(file) else {
+        return Err(Refusal::CannotOpen);
+    };
+    let answer = read_config(alloc, &mut source, &mut buffer);
+    world.keep_input(source);
+    answer
+}
+
+// Reads the plan that a source's text says, through a buffer of this room.
+fn read_config<S: Source>(alloc: Global, source: &mut S, buffer: &mut [u8]) -> Result<Plan, Refusal>
+    requires { length buffer.old ≡ 65537 }
+    ensures built { IfOk result IsBuilt }
+    ensures says { IfOk result (λ plan. IfSome (S.left source.old) (λ text. IsAnswer text true (Ok plan))) }
+    ensures refused { (fault : ConfFault) → result ≡ Err (Refusal.Refused fault) → (fault ≢ ConfFault.NoMemory) × IfSome (S.left source.old) (λ text. IsAnswer text true (Err fault)) }
+    ensures unread { result ≡ Err Refusal.ReadFailed → Rose (S.faults source.old) (S.faults source.new) }
+    ensures opened { result ≢ Err Refusal.CannotOpen }
+{
+    let Some(count) = read_text(source, buffer) else {
+        return Err(Refusal::ReadFailed);
+    };
+    match read_plan(alloc, &buffer[..count], true) {
+        Ok(plan) => Ok(plan),
+        Err(ConfFault::NoMemory) => Err(Refusal::NoMemory),
+        Err(fault) => Err(Refusal::Refused(fault)),
+    }
+}
+
+// Reads all that a source has left to the front of a buffer, or as much as fills it, and answers how many octets that are.
+// `None` is that a read failed.
+fn read_text<S: Source>(source: &mut S, buffer: &mut [u8]) -> Option<usize>
+    requires { length buffer.old ≡ 65537 }
+    ensures cause { IfNone result (Rose (S.faults source.old) (S.faults source.new)) }
+    ensures within { IfSome result (λ count. count ≤ length buffer.new) }
+    ensures text { IfSome result (λ count. IfSome (S.left source.old) (IsWholeOrLong (take count buffer.new))) }
+{
+    match fill(source, buffer) {
+        Filled::Whole => Some(buffer.len()),
+        Filled::Short(count) => Some(count),
+        Filled::Failed => None,
+    }
+}
