@@ -16,6 +16,7 @@ use Rattle.hist_store.specs.Rows.{Row}
 use Rattle.savi_history.specs.Bases.{empty}
 use Rattle.savi_history.specs.Passes.{has_ended}
 use Rattle.savi_history.specs.Events.{Drain}
+use Rattle.savi_history.specs.PortInputs.{input_end}
 use Rattle.savi_history.specs.Queues.{Item, queue, sent}
 use Rattle.savi_history.specs.Replay.{with_drain, drained}
 use Rattle.savi_history.specs.Replay as replay
@@ -68,8 +69,14 @@ pub record DrainsSoFar {S K C : Type 0} (written : K → Option (List ℕ)) (fau
   pub sinks : PairsSoFar (OnlySink faults) place old new
   pub past : drained first.plan empty (drop place first.plan.ports) now.past ≡ drained first.plan empty first.plan.ports first.past
   pub ended : (pass : ℕ) → has_ended empty pass now.past ≡ has_ended empty pass first.past
+  pub inputs : (n : ℕ) → input_end n now.past ≡ input_end n first.past
   pub few : (k : ℕ) (d : PortEnds S K C) → k < length old → length (queue empty (number_of (get_or old k d).port) now.past) ≤ 256
   pub sent_so_far : (k : ℕ) (d : PortEnds S K C) → k < length old → IsSent written first.past now.past (get_or old k d) (get_or new k d)
+
+-- a drain ends no input
+end_drain : (plan : Plan) (past : List Row) (port : Port) (count n : ℕ) (b : Bool) → input_end n (if b then past else replay.with_event plan empty past (Drain port count)) ≡ input_end n past
+end_drain plan past port count n true = refl
+end_drain plan past port count n false = refl
 
 -- the capture of more frames
 pub capture_more : (q : ℕ) (old new : List Row) (items : List Item) → sent empty q new ≡ sent empty q old ++ items → capture_of q new ≡ capture_of q old ++ records_of items
@@ -153,6 +160,7 @@ module _ {S K C : Type 0} (written : K → Option (List ℕ)) (faults : K → �
     sinks = pairs_more (OnlySink faults) place old new y so_far.sinks inside (subst (λ (p : PortEnds S K C). OnlySink faults p y) (sym old_is) only);
     past = past_step;
     ended = λ pass. ap (λ (l : List Row). has_ended empty pass l) past_is ∙ ended_drain first.plan empty now.past x.port (length (queue empty (number_of x.port) now.past)) pass ∙ so_far.ended pass;
+    inputs = λ n. ap (λ (l : List Row). input_end n l) past_is ∙ end_drain first.plan now.past x.port (length (queue empty (number_of x.port) now.past)) n (length (queue empty (number_of x.port) now.past) == 0) ∙ so_far.inputs n;
     few = λ k d inside_k.
         let q = number_of (get_or old k d).port in
         let less = fewer first.plan empty now.past x.port (length (queue empty (number_of x.port) now.past)) q in

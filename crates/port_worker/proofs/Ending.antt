@@ -1,5 +1,5 @@
 -- The state of a replay behind the last turn.
-use Rattle.std.proofs.Common.{◌≡◌, ℕ, zero, suc, ◌+◌, ◌<◌, ◌≤◌, true, List, [], ◌∷◌, ◌++◌, length, map, get_or, refl, sym, ap, ◌∙◌, subst, arith, ◌⊎◌, inl, inr, Option, None, IfSome}
+use Rattle.std.proofs.Common.{◌≡◌, ℕ, zero, suc, ◌+◌, ◌<◌, ◌≤◌, true, List, [], ◌∷◌, ◌++◌, length, map, get_or, refl, sym, ap, ◌∙◌, subst, arith, ◌⊎◌, inl, inr, Option, None}
 use Rattle.std.proofs.lemmas.Bool.{cases_lt}
 use Rattle.std.proofs.lemmas.List.{length-map, get_or-map, get_or_default, get_or_past, same_lists}
 use Rattle.std.specs.List.{All}
@@ -7,6 +7,7 @@ use Rattle.savi_kinds.specs.declared.port.Port.{Port}
 use Rattle.savi_kinds.specs.declared.plan.Plan.{Plan}
 use Rattle.savi_kinds.specs.declared.plan.PortPlan.{PortPlan}
 use Rattle.savi_kinds.specs.declared.entry.Who.TheVariants.{Ticker}
+use Rattle.savi_kinds.specs.declared.entry.How.{How}
 use Rattle.savi_kinds.specs.declared.entry.How.TheVariants as hows
 use Rattle.savi_kinds.specs.Ports.{number_of}
 use Rattle.savi_kinds.specs.Arrivals.{Input}
@@ -20,14 +21,16 @@ use Rattle.savi_history.specs.Queues.{Item, sent}
 use Rattle.savi_history.specs.Events.{End}
 use Rattle.savi_history.specs.Turns.{Turn, turns, port_turns, merged}
 use Rattle.savi_history.specs.Replay.{with_event, after_all, egress_ended, control_turns}
+use Rattle.savi_history.specs.PortInputs.{input_end}
+use Rattle.savi_history.proofs.PortInputs.{same_finished}
 use Rattle.savi_history.proofs.Ends.{AreOf}
 use Rattle.savi_history.proofs.Reaching.{Head, Done, Agrees, IsLeft, AreLeft, joined, reaches_end}
 use Rattle.port_worker.specs.declared.port_ends.Ahead.{Ahead}
 use Rattle.port_worker.specs.declared.port_ends.Ahead.TheVariants as ahead
 use Rattle.port_worker.specs.declared.port_ends.PortEnds.{PortEnds}
-use Rattle.port_worker.specs.Inputs.{IsKnown, Gives, WillCome, moment_of}
+use Rattle.port_worker.specs.Inputs.{IsKnown, moment_of}
 use Rattle.port_worker.specs.SentFrames.{records_of}
-use Rattle.port_worker.specs.Replays.{IsUnread, IsReplayed, ports_held, ports_planned}
+use Rattle.port_worker.specs.Replays.{IsInputOf, IsInputAt, IsReplayed, ports_held, ports_planned}
 use Rattle.port_worker.proofs.Planned.{count_is}
 use Rattle.port_worker.proofs.Progress.{head_of, done_at_none, Gone, ProgressBy}
 use Rattle.port_worker.proofs.Running.{Running, head_at, element}
@@ -69,6 +72,10 @@ port_turns_at (p ∷ plans) (j ∷ inputs) (suc k) d port i size inside = port_t
 all_done : (o : List (Option ℕ)) → All (λ n. n ≡ None) o → (k : ℕ) → k < length o → get_or o k None ≡ None
 all_done o none k inside = none k None inside
 
+input_later : {S K C : Type 0} (left : S → Option (List ℕ)) (past now : List Row) (old new : PortEnds S K C) (input : Input) → input_end (number_of old.port) now ≡ input_end (number_of old.port) past → IsInputAt left past old new input → IsInputAt left now old new input
+input_later left past now old new input same is =
+    subst (λ (e : Option How). IsInputOf (Comes old.reader) (left old.ends.source) (left new.ends.source) e input.arrivals input.ending) (sym same) is
+
 module _ {S K C : Type 0} (left : S → Option (List ℕ)) (written : K → Option (List ℕ)) (source_faults : S → ℕ) (sink_faults : K → ℕ) (plan : Plan) (first ports : List (PortEnds S K C)) (past : List Row)
     (planned : ports_held first ≡ ports_planned plan) (r : Running left written source_faults sink_faults plan first ports past) (known : All (λ p. IsKnown p.ahead) ports) (none : All (λ n. n ≡ None) (map moment_of ports)) where
   pub done_at : (k : ℕ) (d : PortEnds S K C) → k < length ports → (get_or ports k d).ahead ≡ ahead.Done
@@ -102,19 +109,21 @@ module _ {S K C : Type 0} (left : S → Option (List ℕ)) (written : K → Opti
   record Whole (k : ℕ) (both : Input × List Turn) : Type 0 where
     of : AreOf plan k both.1
     split : (d : PortEnds S K C) → get_or r.taken k [] ++ both.1 ≡ turns (get_or first k d).port both.0
-    came : (d : PortEnds S K C) → WillCome left (get_or first k d) both.0
+    came : (d : PortEnds S K C) → IsInputAt left past (get_or first k d) (get_or ports k d) both.0
 
   whole_at : (k : ℕ) → k < length first → (both : Input × List Turn) × Whole k both
   whole_at k inside =
       let size = r.later.size in
       let d = element first k inside in
-      let gone : Gone left plan k (get_or first k d) (get_or r.taken k []) =
-      subst (λ (a : Ahead). ProgressBy left plan k (get_or first k d) (get_or ports k d) (get_or r.taken k []) a) (done_at k d (omega arith)) (r.progress k d inside) in (
+      let gone : Gone left plan k past (get_or first k d) (get_or ports k d) (get_or r.taken k []) =
+      subst (λ (a : Ahead). ProgressBy left plan k past (get_or first k d) (get_or ports k d) (get_or r.taken k []) a) (done_at k d (omega arith)) (r.progress k d inside) in (
         (gone.input, gone.rest),
         record {
           of = gone.of;
           split = λ e. subst (λ (p : PortEnds S K C). get_or r.taken k [] ++ gone.rest ≡ turns p.port gone.input) (get_or_default first k d e inside) gone.split;
-          came = λ e. subst (λ (p : PortEnds S K C). WillCome left p gone.input) (get_or_default first k d e inside) gone.came;
+          came = λ e.
+              subst (λ (p : PortEnds S K C). IsInputAt left past p (get_or ports k e) gone.input) (get_or_default first k d e inside)
+              (subst (λ (q : PortEnds S K C). IsInputAt left past (get_or first k d) q gone.input) (get_or_default ports k d e (omega arith)) gone.came);
         },
       )
 
@@ -191,15 +200,19 @@ module _ {S K C : Type 0} (left : S → Option (List ℕ)) (written : K → Opti
       reaches_end plan empty (map head_of ports) r.taken past rests heads_done r.agree rests_left r.reaches
       ∙ ap (λ (l : List (List Turn)). after_all plan empty (merged (control_turns ∷ l)) []) turns_are
 
-  pub replayed_all : (now : List Row) → All IsUnread first → now ≡ egress_ended plan empty plan.ports (with_event plan empty past (End Ticker hows.End)) → ((q : ℕ) → sent empty q now ≡ sent empty q past) → IsReplayed left written plan now first ports
-  replayed_all now unread finished same = record {
+  end_same : (now : List Row) → now ≡ egress_ended plan empty plan.ports (with_event plan empty past (End Ticker hows.End)) → (n : ℕ) → input_end n now ≡ input_end n past
+  end_same now finished n = ap (λ (l : List Row). input_end n l) finished ∙ (same_finished plan empty past n).end_same
+
+  pub replayed_all : (now : List Row) → now ≡ egress_ended plan empty plan.ports (with_event plan empty past (End Ticker hows.End)) → ((q : ℕ) → sent empty q now ≡ sent empty q past) → IsReplayed left written plan now first ports
+  replayed_all now finished same = record {
     inputs = inputs_of;
     size = inputs_count;
     history = finished ∙ ap (λ (l : List Row). egress_ended plan empty plan.ports (with_event plan empty l (End Ticker hows.End))) past_is;
     arrived = λ k d i inside.
         let p = get_or first k d in
-        subst (λ (input : Input). IfSome (left p.ends.source) (λ octets. Comes p.reader octets input)) (sym (input_at k i inside))
-        (subst (λ (a : Ahead). IfSome (left p.ends.source) (λ octets. Gives p.reader p.buf a octets (get_or wholes.0 k both_default).0)) (unread k d inside).0 ((wholes.2 k both_default inside).came d));
+        let q = get_or ports k d in
+        subst (λ (input : Input). IsInputAt left now p q input) (sym (input_at k i inside))
+        (input_later left past now p q (get_or wholes.0 k both_default).0 (end_same now finished (number_of p.port)) ((wholes.2 k both_default inside).came d));
     wrote = λ k d inside.
         r.wrote k d inside ∙ ap (λ (l : List Item). behind (written (get_or first k d).ends.sink) (header_text ++ records_of l)) (sym (same (number_of (get_or first k d).port)));
   }

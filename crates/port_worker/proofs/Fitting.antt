@@ -1,5 +1,5 @@
 -- What the sources gave up fits the history between two turns.
-use Rattle.std.proofs.Common.{◌≡◌, ◌≢◌, ℕ, ◌+◌, ◌<◌, Bool, true, false, not, List, [], ◌∷◌, ◌++◌, length, take, get_or, refl, sym, ap, ◌∙◌, subst, arith, append_assoc, append-nil, ◌⊎◌, inl, inr, Option, Some, None, IfSome}
+use Rattle.std.proofs.Common.{◌≡◌, ◌≢◌, ℕ, ◌+◌, ◌<◌, ◌≤◌, Bool, true, false, not, List, [], ◌∷◌, ◌++◌, length, take, get_or, refl, sym, ap, ◌∙◌, subst, arith, append-nil, ◌⊎◌, inl, inr, Option, Some, None, IfSome}
 use Rattle.std.proofs.lemmas.Bool.{cases_eq}
 use Rattle.std.specs.List.{All}
 use Rattle.savi_kinds.specs.declared.port.Port.{Port}
@@ -10,7 +10,8 @@ use Rattle.savi_kinds.specs.declared.entry.How.TheVariants as hows
 use Rattle.savi_kinds.specs.Ports.{number_of}
 use Rattle.savi_kinds.specs.Arrivals.{Arrival}
 use Rattle.savi_kinds.specs.Arrivals as arrivals
-use Rattle.savi_ends.specs.Octets.{in_front, Takes}
+use Rattle.savi_ends.specs.Faults.{Rose}
+use Rattle.savi_ends.specs.Octets.{Takes}
 use Rattle.pcap_io.specs.declared.kind.HeaderKind.{HeaderKind}
 use Rattle.pcap_io.specs.Readers.{State, Running, Comes, HasRead, place_of}
 use Rattle.pcap_io.specs.Runs.{ended}
@@ -21,7 +22,7 @@ use Rattle.savi_history.specs.Events.{End}
 use Rattle.savi_history.specs.Turns.{Turn, Arrives, Ends}
 use Rattle.savi_history.specs.Replay.{with_event, entered, egress_ended}
 use Rattle.savi_history.specs.PortInputs.{arrived, input_end}
-use Rattle.savi_history.specs.Fits.{Fits, IsWhole}
+use Rattle.savi_history.specs.Fits.{Fits, IsWhole, IsBroken}
 use Rattle.savi_history.proofs.PortInputs.{HoldsSame, IsTurnOf, more_entered, full_entered, end_entered, other_entered, same_finished}
 use Rattle.port_worker.specs.declared.port_ends.Ahead.{Ahead}
 use Rattle.port_worker.specs.declared.port_ends.Ahead.TheVariants as ahead
@@ -29,8 +30,10 @@ use Rattle.port_worker.specs.declared.port_ends.PortEnds.{PortEnds}
 use Rattle.port_worker.specs.Inputs.{IsKnown, IsLooked, IsReadAs, turn_ahead, turn_of}
 use Rattle.port_worker.specs.SentFrames.{OnlySink}
 use Rattle.port_worker.specs.Steps.{IsStepped, ends_input, ahead_after}
-use Rattle.port_worker.specs.Replays.{IsUnread, IsFit}
+use Rattle.port_worker.specs.Replays.{IsUnread, IsFit, HasBroken}
 use Rattle.port_worker.specs.Pairs.{EachPair}
+use Rattle.port_worker.proofs.Joining.{front_none, takes_twice, read_twice, read_behind}
+use Rattle.port_worker.proofs.Records.{rose_later, rose_before}
 
 abbrev pub IsRunning : State → Type 0
 IsRunning state = (kind : HeaderKind) × (place : ℕ) × (state ≡ Running kind place)
@@ -42,32 +45,17 @@ FitsAhead first now gave buf before after entered_so ending (ahead.Frame stamp l
 FitsAhead first now gave buf before after entered_so ending (ahead.Long stamp len) = (ending ≡ None) × HasRead first now gave (entered_so ++ arrivals.Long stamp len ∷ []) × IsRunning now
 FitsAhead first now gave buf before after entered_so ending ahead.End = (ending ≡ None) × IsWhole (Comes first) before entered_so hows.End
 FitsAhead first now gave buf before after entered_so ending (ahead.Malformed at) = (ending ≡ None) × IsWhole (Comes first) before entered_so (hows.Malformed at)
+FitsAhead first now gave buf before after entered_so ending ahead.Failed = (ending ≡ None) × IsBroken (Comes first) before after entered_so
 FitsAhead first now gave buf before after entered_so ending ahead.Done = Fits (Comes first) before after entered_so ending
 
-pub record FitsSoFar {S K C : Type 0} (left : S → Option (List ℕ)) (past : List Row) (old new : PortEnds S K C) : Type 0 where
+pub record FitsSoFar {S K C : Type 0} (left : S → Option (List ℕ)) (source_faults : S → ℕ) (past : List Row) (old new : PortEnds S K C) : Type 0 where
   pub gave : List ℕ
   pub takes : Takes (left old.ends.source) (left new.ends.source) gave
   pub fits : FitsAhead old.reader new.reader gave new.buf (left old.ends.source) (left new.ends.source) (arrived (number_of old.port) past) (input_end (number_of old.port) past) new.ahead
-
--- octets
-
-front_none : (o : Option (List ℕ)) → in_front [] o ≡ o
-front_none None = refl
-front_none (Some octets) = refl
-
-front_twice : (one two : List ℕ) (o : Option (List ℕ)) → in_front one (in_front two o) ≡ in_front (one ++ two) o
-front_twice one two None = refl
-front_twice one two (Some octets) = ap (λ (l : List ℕ). Some l) (sym (append_assoc one two octets))
-
-takes_twice : (a b c : Option (List ℕ)) (one two : List ℕ) → Takes a b one → Takes b c two → Takes a c (one ++ two)
-takes_twice a b c one two first next = first ∙ ap (in_front one) next ∙ front_twice one two c
-
--- one read behind another
-read_twice : (first mid now : State) (one two : List ℕ) (front back : List Arrival) → HasRead first mid one front → HasRead mid now two back → HasRead first now (one ++ two) (front ++ back)
-read_twice first mid now one two front back read_one read_two rest later ending comes =
-    subst (λ (octets : List ℕ). Comes first octets (record { arrivals = (front ++ back) ++ later; ending = ending })) (sym (append_assoc one two rest))
-    (subst (λ (list : List Arrival). Comes first (one ++ (two ++ rest)) (record { arrivals = list; ending = ending })) (sym (append_assoc front back later))
-    (read_one (two ++ rest) (back ++ later) ending (read_two rest later ending comes)))
+  -- a read that failed, entered or not, was a fault of the source
+  pub later : source_faults old.ends.source ≤ source_faults new.ends.source
+  pub failed : new.ahead ≡ ahead.Failed → Rose (source_faults old.ends.source) (source_faults new.ends.source)
+  pub broken : input_end (number_of old.port) past ≡ Some hows.Failed → Rose (source_faults old.ends.source) (source_faults new.ends.source)
 
 -- the input ends behind what was read
 whole_at : (first mid : State) (one two : List ℕ) (front : List Arrival) (how : How) (a b c : Option (List ℕ)) → Takes a b one → Takes b c two → HasRead first mid one front
@@ -75,7 +63,7 @@ whole_at : (first mid : State) (one two : List ℕ) (front : List Arrival) (how 
 whole_at first mid one two front how a b None take_one take_two read_one is =
     rw (take_one, take_two) tt
 whole_at first mid one two front how a b (Some rest) take_one take_two read_one is =
-    rw (take_one, take_two) (subst (λ (list : List Arrival). Comes first (one ++ (two ++ rest)) (record { arrivals = list; ending = how })) (append-nil front) (read_one (two ++ rest) [] how is))
+    rw (take_one, take_two) (read_behind first mid one (two ++ rest) front how read_one is)
 
 -- a read of what comes next
 
@@ -93,63 +81,88 @@ read_more left past first old new one two ahead.End a_is take_one take_two none 
     (none, whole_at first.reader old.reader one two (arrived (number_of first.port) past) hows.End (left first.ends.source) (left old.ends.source) (left new.ends.source) take_one take_two read is.whole)
 read_more left past first old new one two (ahead.Malformed at) a_is take_one take_two none read is =
     (none, whole_at first.reader old.reader one two (arrived (number_of first.port) past) (hows.Malformed at) (left first.ends.source) (left old.ends.source) (left new.ends.source) take_one take_two read is.whole)
+read_more left past first old new one two ahead.Failed a_is take_one take_two none read is = (
+  none,
+  record {
+    gave = one ++ two;
+    takes = takes_twice (left first.ends.source) (left old.ends.source) (left new.ends.source) one two take_one take_two;
+    ending = is.taken.0;
+    read = read_behind first.reader old.reader one two (arrived (number_of first.port) past) is.taken.0 read is.taken.1;
+  },
+)
 read_more left past first old new one two ahead.Done a_is take_one take_two none read is = absurd is
 
-known_same : {S K C : Type 0} (left : S → Option (List ℕ)) (past : List Row) (first old new : PortEnds S K C) (a : Ahead) → old.ahead ≡ a → IsKnown a → (IsKnown old.ahead → new ≡ old) → FitsSoFar left past first old → FitsSoFar left past first new
-known_same {S} {K} {C} left past first old new a is known same so_far = subst (λ (p : PortEnds S K C). FitsSoFar left past first p) (sym (same (subst IsKnown (sym is) known))) so_far
+known_same : {S K C : Type 0} (left : S → Option (List ℕ)) (source_faults : S → ℕ) (past : List Row) (first old new : PortEnds S K C) (a : Ahead) → old.ahead ≡ a → IsKnown a → (IsKnown old.ahead → new ≡ old) → FitsSoFar left source_faults past first old → FitsSoFar left source_faults past first new
+known_same {S} {K} {C} left source_faults past first old new a is known same so_far = subst (λ (p : PortEnds S K C). FitsSoFar left source_faults past first p) (sym (same (subst IsKnown (sym is) known))) so_far
 
-look_one : {S K C : Type 0} (left : S → Option (List ℕ)) (faults : S → ℕ) (past : List Row) (first old new : PortEnds S K C) (a : Ahead) → old.ahead ≡ a → IsLooked left faults old new → IsKnown new.ahead → FitsSoFar left past first old → FitsSoFar left past first new
-look_one left faults past first old new ahead.Unread is looked known so_far =
-    let more = looked.read is known in
+look_one : {S K C : Type 0} (left : S → Option (List ℕ)) (source_faults : S → ℕ) (past : List Row) (first old new : PortEnds S K C) (a : Ahead) → old.ahead ≡ a → IsLooked left source_faults old new → FitsSoFar left source_faults past first old → FitsSoFar left source_faults past first new
+look_one left source_faults past first old new ahead.Unread is looked so_far =
+    let more = looked.read is in
     let fits : FitsAhead first.reader old.reader so_far.gave old.buf (left first.ends.source) (left old.ends.source) (arrived (number_of first.port) past) (input_end (number_of first.port) past) ahead.Unread =
     subst (λ (b : Ahead). FitsAhead first.reader old.reader so_far.gave old.buf (left first.ends.source) (left old.ends.source) (arrived (number_of first.port) past) (input_end (number_of first.port) past) b) is so_far.fits in
     record {
       gave = so_far.gave ++ more.0;
       takes = takes_twice (left first.ends.source) (left old.ends.source) (left new.ends.source) so_far.gave more.0 so_far.takes more.1;
       fits = read_more left past first old new so_far.gave more.0 new.ahead refl so_far.takes more.1 fits.0 fits.1 more.2;
+      later = omega (arith, so_far.later, looked.later);
+      failed = λ failed. rose_later (source_faults first.ends.source) (source_faults old.ends.source) (source_faults new.ends.source) so_far.later (looked.failed is failed);
+      broken = λ ended_so. rose_before (source_faults first.ends.source) (source_faults old.ends.source) (source_faults new.ends.source) (so_far.broken ended_so) looked.later;
     }
-look_one left faults past first old new (ahead.Frame stamp len) is looked known so_far = known_same left past first old new (ahead.Frame stamp len) is tt looked.same so_far
-look_one left faults past first old new (ahead.Long stamp len) is looked known so_far = known_same left past first old new (ahead.Long stamp len) is tt looked.same so_far
-look_one left faults past first old new ahead.End is looked known so_far = known_same left past first old new ahead.End is tt looked.same so_far
-look_one left faults past first old new (ahead.Malformed at) is looked known so_far = known_same left past first old new (ahead.Malformed at) is tt looked.same so_far
-look_one left faults past first old new ahead.Done is looked known so_far = known_same left past first old new ahead.Done is tt looked.same so_far
+look_one left source_faults past first old new (ahead.Frame stamp len) is looked so_far = known_same left source_faults past first old new (ahead.Frame stamp len) is tt looked.same so_far
+look_one left source_faults past first old new (ahead.Long stamp len) is looked so_far = known_same left source_faults past first old new (ahead.Long stamp len) is tt looked.same so_far
+look_one left source_faults past first old new ahead.End is looked so_far = known_same left source_faults past first old new ahead.End is tt looked.same so_far
+look_one left source_faults past first old new (ahead.Malformed at) is looked so_far = known_same left source_faults past first old new (ahead.Malformed at) is tt looked.same so_far
+look_one left source_faults past first old new ahead.Failed is looked so_far = known_same left source_faults past first old new ahead.Failed is tt looked.same so_far
+look_one left source_faults past first old new ahead.Done is looked so_far = known_same left source_faults past first old new ahead.Done is tt looked.same so_far
 
-pub fits_looked : {S K C : Type 0} (left : S → Option (List ℕ)) (faults : S → ℕ) (past : List Row) (first old new : List (PortEnds S K C)) → EachPair (FitsSoFar left past) first old → EachPair (IsLooked left faults) old new → All (λ p. IsKnown p.ahead) new → EachPair (FitsSoFar left past) first new
-fits_looked left faults past first old new so_far looked known = record {
+pub fits_looked : {S K C : Type 0} (left : S → Option (List ℕ)) (source_faults : S → ℕ) (past : List Row) (first old new : List (PortEnds S K C)) → EachPair (FitsSoFar left source_faults past) first old → EachPair (IsLooked left source_faults) old new → EachPair (FitsSoFar left source_faults past) first new
+fits_looked left source_faults past first old new so_far looked = record {
   size = looked.size ∙ so_far.size;
   each = λ k d within.
-      look_one left faults past (get_or first k d) (get_or old k d) (get_or new k d) (get_or old k d).ahead refl (looked.each k d (omega (arith, so_far.size))) (known k d (omega (arith, looked.size, so_far.size))) (so_far.each k d within);
+      look_one left source_faults past (get_or first k d) (get_or old k d) (get_or new k d) (get_or old k d).ahead refl (looked.each k d (omega (arith, so_far.size))) (so_far.each k d within);
 }
 
 -- the start
 
-start_one : {S K C : Type 0} (left : S → Option (List ℕ)) (faults : K → ℕ) (plan : Plan) (old new : PortEnds S K C) → IsUnread old → OnlySink faults old new → FitsSoFar left (with_event plan empty [] (End Control hows.End)) old new
-start_one {S} {K} {C} left faults plan old new unread only =
-    let start : FitsSoFar left (with_event plan empty [] (End Control hows.End)) old (record old { ends = record old.ends { sink = new.ends.sink } }) =
+unread_still : (a : Ahead) → a ≡ ahead.Unread → a ≡ ahead.Failed → ⊥
+unread_still a unread failed = cc
+
+none_ended : {X : Type 0} {x : X} → None ≡ Some x → ⊥
+none_ended is = cc
+
+start_one : {S K C : Type 0} (left : S → Option (List ℕ)) (source_faults : S → ℕ) (faults : K → ℕ) (plan : Plan) (old new : PortEnds S K C) → IsUnread old → OnlySink faults old new → FitsSoFar left source_faults (with_event plan empty [] (End Control hows.End)) old new
+start_one {S} {K} {C} left source_faults faults plan old new unread only =
+    let start : FitsSoFar left source_faults (with_event plan empty [] (End Control hows.End)) old (record old { ends = record old.ends { sink = new.ends.sink } }) =
     record {
       gave = [];
       takes = sym (front_none (left old.ends.source));
       fits = rw unread.0 (refl, λ rest later ending comes. comes);
+      later = omega arith;
+      failed = λ failed. absurd (unread_still old.ahead unread.0 failed);
+      broken = λ ended_so. absurd (none_ended ended_so);
     } in
-    subst (λ (p : PortEnds S K C). FitsSoFar left (with_event plan empty [] (End Control hows.End)) old p) (sym only.same) start
+    subst (λ (p : PortEnds S K C). FitsSoFar left source_faults (with_event plan empty [] (End Control hows.End)) old p) (sym only.same) start
 
-pub fits_started : {S K C : Type 0} (left : S → Option (List ℕ)) (faults : K → ℕ) (plan : Plan) (first new : List (PortEnds S K C)) → All IsUnread first → EachPair (OnlySink faults) first new → EachPair (FitsSoFar left (with_event plan empty [] (End Control hows.End))) first new
-fits_started left faults plan first new unread only = record { size = only.size; each = λ k d within. start_one left faults plan (get_or first k d) (get_or new k d) (unread k d within) (only.each k d within) }
+pub fits_started : {S K C : Type 0} (left : S → Option (List ℕ)) (source_faults : S → ℕ) (faults : K → ℕ) (plan : Plan) (first new : List (PortEnds S K C)) → All IsUnread first → EachPair (OnlySink faults) first new → EachPair (FitsSoFar left source_faults (with_event plan empty [] (End Control hows.End))) first new
+fits_started left source_faults faults plan first new unread only = record { size = only.size; each = λ k d within. start_one left source_faults faults plan (get_or first k d) (get_or new k d) (unread k d within) (only.each k d within) }
 
 -- a turn
 
 -- nothing that this port is changed but the sink, and the history holds the same of its input
-same_one : {S K C : Type 0} (left : S → Option (List ℕ)) (faults : K → ℕ) (past now : List Row) (first old new : PortEnds S K C) → IsStepped faults old new → new.ahead ≡ old.ahead → HoldsSame (number_of first.port) past now → FitsSoFar left past first old → FitsSoFar left now first new
-same_one {S} {K} {C} left faults past now first old new stepped ahead_is holds so_far =
-    let moved : FitsSoFar left now first (record old { ends = record old.ends { sink = new.ends.sink } }) =
+same_one : {S K C : Type 0} (left : S → Option (List ℕ)) (source_faults : S → ℕ) (faults : K → ℕ) (past now : List Row) (first old new : PortEnds S K C) → IsStepped faults old new → new.ahead ≡ old.ahead → HoldsSame (number_of first.port) past now → FitsSoFar left source_faults past first old → FitsSoFar left source_faults now first new
+same_one {S} {K} {C} left source_faults faults past now first old new stepped ahead_is holds so_far =
+    let moved : FitsSoFar left source_faults now first (record old { ends = record old.ends { sink = new.ends.sink } }) =
     record {
       gave = so_far.gave;
       takes = so_far.takes;
       fits = rw (holds.arrivals_same, holds.end_same) so_far.fits;
+      later = so_far.later;
+      failed = so_far.failed;
+      broken = λ ended_so. so_far.broken (sym holds.end_same ∙ ended_so);
     } in
     let same : new ≡ record old { ends = record old.ends { sink = new.ends.sink } } =
     stepped.same ∙ ap (λ (a : Ahead). record old { ends = record old.ends { sink = new.ends.sink }; ahead = a }) ahead_is in
-    subst (λ (p : PortEnds S K C). FitsSoFar left now first p) (sym same) moved
+    subst (λ (p : PortEnds S K C). FitsSoFar left source_faults now first p) (sym same) moved
 
 -- behind the turn of this port
 
@@ -217,53 +230,95 @@ entered_fits first reader gave buf before after plan past port ahead.End b turn 
     end_turn first reader gave buf before after plan past port hows.End b turn (same_turn (Ends (Ingress port) hows.End) turn is) b_is fits.1
 entered_fits first reader gave buf before after plan past port (ahead.Malformed at) b turn takes is b_is fits =
     end_turn first reader gave buf before after plan past port (hows.Malformed at) b turn (same_turn (Ends (Ingress port) (hows.Malformed at)) turn is) b_is fits.1
+entered_fits first reader gave buf before after plan past port ahead.Failed b turn takes is b_is fits =
+    end_turn first reader gave buf before after plan past port hows.Failed b turn (same_turn (Ends (Ingress port) hows.Failed) turn is) b_is fits.1
 entered_fits first reader gave buf before after plan past port ahead.Done b turn takes is b_is fits = cc
 
-here_one : {S K C : Type 0} (left : S → Option (List ℕ)) (faults : K → ℕ) (plan : Plan) (past now : List Row) (first old new : PortEnds S K C) (turn : Turn) → old.port ≡ first.port → IsStepped faults old new → turn_of old ≡ Some turn
-    → now ≡ entered plan empty turn past → new.ahead ≡ ahead_after (ends_input plan past turn) → FitsSoFar left past first old → FitsSoFar left now first new
-here_one {S} {K} {C} left faults plan past now first old new turn port_is stepped turn_is now_is ahead_is so_far =
+-- An input ends at a failed read only where that was read, or where it had ended so.
+
+arrival_broken : (R : Type 0) (plan : Plan) (past : List Row) (port : Port) (arrival : Arrival) (room : Bool) → has_room plan past ≡ room → (input_end (number_of port) past ≡ Some hows.Failed → R)
+    → input_end (number_of port) (entered plan empty (Arrives port arrival) past) ≡ Some hows.Failed → R
+arrival_broken R plan past port arrival true room was is = was (sym (more_entered plan empty past port arrival room).end_same ∙ is)
+arrival_broken R plan past port arrival false room was is =
+    let e : Some (hows.Full (length past)) ≡ Some hows.Failed = sym (full_entered plan empty past port arrival room).ended_so ∙ is in cc
+
+end_broken : (R : Type 0) (plan : Plan) (past : List Row) (port : Port) (how : How) → (how ≡ hows.Failed → R) → input_end (number_of port) (entered plan empty (Ends (Ingress port) how) past) ≡ Some hows.Failed → R
+end_broken R plan past port how failed is =
+    let e : Some how ≡ Some hows.Failed = sym (end_entered plan empty past port how).ended_so ∙ is in failed cc
+
+broken_turn : (R : Type 0) (plan : Plan) (past : List Row) (port : Port) (turn there : Turn) → there ≡ turn → (input_end (number_of port) (entered plan empty turn past) ≡ Some hows.Failed → R) → input_end (number_of port) (entered plan empty there past) ≡ Some hows.Failed → R
+broken_turn R plan past port turn there same then = subst (λ (t : Turn). input_end (number_of port) (entered plan empty t past) ≡ Some hows.Failed → R) (sym same) then
+
+entered_broken : (R : Type 0) (plan : Plan) (past : List Row) (port : Port) (buf : List ℕ) (a : Ahead) (turn : Turn) → turn_ahead port buf a ≡ Some turn → (a ≡ ahead.Failed → R) → (input_end (number_of port) past ≡ Some hows.Failed → R)
+    → input_end (number_of port) (entered plan empty turn past) ≡ Some hows.Failed → R
+entered_broken R plan past port buf ahead.Unread turn is failed was = cc
+entered_broken R plan past port buf (ahead.Frame stamp len) turn is failed was =
+    let arrival = arrivals.Frame stamp (take len buf) in
+    broken_turn R plan past port (Arrives port arrival) turn (same_turn (Arrives port arrival) turn is) (arrival_broken R plan past port arrival (has_room plan past) refl was)
+entered_broken R plan past port buf (ahead.Long stamp len) turn is failed was =
+    let arrival = arrivals.Long stamp len in
+    broken_turn R plan past port (Arrives port arrival) turn (same_turn (Arrives port arrival) turn is) (arrival_broken R plan past port arrival (has_room plan past) refl was)
+entered_broken R plan past port buf ahead.End turn is failed was =
+    broken_turn R plan past port (Ends (Ingress port) hows.End) turn (same_turn (Ends (Ingress port) hows.End) turn is) (end_broken R plan past port hows.End (λ same. cc))
+entered_broken R plan past port buf (ahead.Malformed at) turn is failed was =
+    broken_turn R plan past port (Ends (Ingress port) (hows.Malformed at)) turn (same_turn (Ends (Ingress port) (hows.Malformed at)) turn is) (end_broken R plan past port (hows.Malformed at) (λ same. cc))
+entered_broken R plan past port buf ahead.Failed turn is failed was =
+    broken_turn R plan past port (Ends (Ingress port) hows.Failed) turn (same_turn (Ends (Ingress port) hows.Failed) turn is) (end_broken R plan past port hows.Failed (λ same. failed refl))
+entered_broken R plan past port buf ahead.Done turn is failed was = cc
+
+never_failed : (b : Bool) (a : Ahead) → a ≡ ahead_after b → a ≡ ahead.Failed → ⊥
+never_failed true a is failed = cc
+never_failed false a is failed = cc
+
+here_one : {S K C : Type 0} (left : S → Option (List ℕ)) (source_faults : S → ℕ) (faults : K → ℕ) (plan : Plan) (past now : List Row) (first old new : PortEnds S K C) (turn : Turn) → old.port ≡ first.port → IsStepped faults old new → turn_of old ≡ Some turn
+    → now ≡ entered plan empty turn past → new.ahead ≡ ahead_after (ends_input plan past turn) → FitsSoFar left source_faults past first old → FitsSoFar left source_faults now first new
+here_one {S} {K} {C} left source_faults faults plan past now first old new turn port_is stepped turn_is now_is ahead_is so_far =
     let turn_first : turn_ahead first.port old.buf old.ahead ≡ Some turn = ap (λ (p : Port). turn_ahead p old.buf old.ahead) (sym port_is) ∙ turn_is in
-    let moved : FitsSoFar left (entered plan empty turn past) first (record old { ends = record old.ends { sink = new.ends.sink }; ahead = new.ahead }) =
+    let moved : FitsSoFar left source_faults (entered plan empty turn past) first (record old { ends = record old.ends { sink = new.ends.sink }; ahead = new.ahead }) =
     record {
       gave = so_far.gave;
       takes = so_far.takes;
       fits = entered_fits first.reader old.reader so_far.gave old.buf (left first.ends.source) (left old.ends.source) plan past first.port old.ahead new.ahead turn so_far.takes turn_first ahead_is so_far.fits;
+      later = so_far.later;
+      failed = λ failed. absurd (never_failed (ends_input plan past turn) new.ahead ahead_is failed);
+      broken = entered_broken (Rose (source_faults first.ends.source) (source_faults old.ends.source)) plan past first.port old.buf old.ahead turn turn_first so_far.failed so_far.broken;
     } in
-    subst (λ (l : List Row). FitsSoFar left l first new) (sym now_is) (subst (λ (p : PortEnds S K C). FitsSoFar left (entered plan empty turn past) first p) (sym stepped.same) moved)
+    subst (λ (l : List Row). FitsSoFar left source_faults l first new) (sym now_is) (subst (λ (p : PortEnds S K C). FitsSoFar left source_faults (entered plan empty turn past) first p) (sym stepped.same) moved)
 
 -- whose turn it was
-turn_port : (port : Port) (buf : List ℕ) (a : Ahead) (turn : Turn) → turn_ahead port buf a ≡ Some turn → IsTurnOf port turn
+pub turn_port : (port : Port) (buf : List ℕ) (a : Ahead) (turn : Turn) → turn_ahead port buf a ≡ Some turn → IsTurnOf port turn
 turn_port port buf ahead.Unread turn is = cc
 turn_port port buf (ahead.Frame stamp len) turn is = rw (same_turn (Arrives port (arrivals.Frame stamp (take len buf))) turn is) refl
 turn_port port buf (ahead.Long stamp len) turn is = rw (same_turn (Arrives port (arrivals.Long stamp len)) turn is) refl
 turn_port port buf ahead.End turn is = rw (same_turn (Ends (Ingress port) hows.End) turn is) refl
 turn_port port buf (ahead.Malformed at) turn is = rw (same_turn (Ends (Ingress port) (hows.Malformed at)) turn is) refl
+turn_port port buf ahead.Failed turn is = rw (same_turn (Ends (Ingress port) hows.Failed) turn is) refl
 turn_port port buf ahead.Done turn is = cc
 
-module _ {S K C : Type 0} (left : S → Option (List ℕ)) (faults : K → ℕ) (plan : Plan) (first old new : List (PortEnds S K C)) (past now : List Row) (j : ℕ) (turn : Turn)
+module _ {S K C : Type 0} (left : S → Option (List ℕ)) (source_faults : S → ℕ) (faults : K → ℕ) (plan : Plan) (first old new : List (PortEnds S K C)) (past now : List Row) (j : ℕ) (turn : Turn)
     (ports_are : (k : ℕ) (d : PortEnds S K C) → k < length first → (get_or old k d).port ≡ (get_or first k d).port)
     (differ : (k : ℕ) (d : PortEnds S K C) → k < length first → k ≢ j → number_of (get_or first j d).port ≢ number_of (get_or first k d).port)
-    (inside : j < length first) (so_far : EachPair (FitsSoFar left past) first old) (stepped : EachPair (IsStepped faults) old new)
+    (inside : j < length first) (so_far : EachPair (FitsSoFar left source_faults past) first old) (stepped : EachPair (IsStepped faults) old new)
     (others : (k : ℕ) (d : PortEnds S K C) → k ≢ j → k < length old → (get_or new k d).ahead ≡ (get_or old k d).ahead)
     (turn_is : (d : PortEnds S K C) → turn_of (get_or old j d) ≡ Some turn) (now_is : now ≡ entered plan empty turn past)
     (ahead_is : (d : PortEnds S K C) → (get_or new j d).ahead ≡ ahead_after (ends_input plan past turn)) where
-  turned_at : (k : ℕ) (d : PortEnds S K C) → k < length first → (k ≡ j) ⊎ (k ≢ j) → FitsSoFar left now (get_or first k d) (get_or new k d)
+  turned_at : (k : ℕ) (d : PortEnds S K C) → k < length first → (k ≡ j) ⊎ (k ≢ j) → FitsSoFar left source_faults now (get_or first k d) (get_or new k d)
   turned_at k d within (inl same) =
-      rw same (here_one left faults plan past now (get_or first j d) (get_or old j d) (get_or new j d) turn (ports_are j d inside) (stepped.each j d (omega (arith, so_far.size, inside))) (turn_is d) now_is (ahead_is d) (so_far.each j d inside))
+      rw same (here_one left source_faults faults plan past now (get_or first j d) (get_or old j d) (get_or new j d) turn (ports_are j d inside) (stepped.each j d (omega (arith, so_far.size, inside))) (turn_is d) now_is (ahead_is d) (so_far.each j d inside))
   turned_at k d within (inr other) =
       let whose : IsTurnOf (get_or first j d).port turn = subst (λ (p : Port). IsTurnOf p turn) (ports_are j d inside) (turn_port (get_or old j d).port (get_or old j d).buf (get_or old j d).ahead turn (turn_is d)) in
       let holds = other_entered plan empty past (get_or first j d).port turn (number_of (get_or first k d).port) whose (differ k d within other) in
-      subst (λ (l : List Row). FitsSoFar left l (get_or first k d) (get_or new k d)) (sym now_is)
-      (same_one left faults past (entered plan empty turn past) (get_or first k d) (get_or old k d) (get_or new k d) (stepped.each k d (omega (arith, so_far.size))) (others k d other (omega (arith, so_far.size))) holds (so_far.each k d within))
+      subst (λ (l : List Row). FitsSoFar left source_faults l (get_or first k d) (get_or new k d)) (sym now_is)
+      (same_one left source_faults faults past (entered plan empty turn past) (get_or first k d) (get_or old k d) (get_or new k d) (stepped.each k d (omega (arith, so_far.size))) (others k d other (omega (arith, so_far.size))) holds (so_far.each k d within))
 
-  pub fits_turned : EachPair (FitsSoFar left now) first new
+  pub fits_turned : EachPair (FitsSoFar left source_faults now) first new
   fits_turned = record { size = stepped.size ∙ so_far.size; each = λ k d within. turned_at k d within (cases_eq k j) }
 
 -- the end
 
-pub fits_finished : {S K C : Type 0} (left : S → Option (List ℕ)) (plan : Plan) (first old : List (PortEnds S K C)) (past now : List Row) → EachPair (FitsSoFar left past) first old → ((k : ℕ) (d : PortEnds S K C) → k < length old → (get_or old k d).ahead ≡ ahead.Done)
+pub fits_finished : {S K C : Type 0} (left : S → Option (List ℕ)) (source_faults : S → ℕ) (plan : Plan) (first old : List (PortEnds S K C)) (past now : List Row) → EachPair (FitsSoFar left source_faults past) first old → ((k : ℕ) (d : PortEnds S K C) → k < length old → (get_or old k d).ahead ≡ ahead.Done)
     → now ≡ egress_ended plan empty plan.ports (with_event plan empty past (End Ticker hows.End)) → EachPair (IsFit left now) first old
-fits_finished left plan first old past now so_far done now_is = record {
+fits_finished left source_faults plan first old past now so_far done now_is = record {
   size = so_far.size;
   each = λ k d within.
       let one = so_far.each k d within in
@@ -272,4 +327,14 @@ fits_finished left plan first old past now so_far done now_is = record {
       let fits : FitsAhead (get_or first k d).reader (get_or old k d).reader one.gave (get_or old k d).buf (left (get_or first k d).ends.source) (left (get_or old k d).ends.source) (arrived n past) (input_end n past) ahead.Done =
       subst (λ (a : Ahead). FitsAhead (get_or first k d).reader (get_or old k d).reader one.gave (get_or old k d).buf (left (get_or first k d).ends.source) (left (get_or old k d).ends.source) (arrived n past) (input_end n past) a) (done k d (omega (arith, so_far.size))) one.fits in
       rw (now_is, holds.arrivals_same, holds.end_same) fits;
+}
+
+-- a fault came wherever the history tells of a failed read, also where it holds no more of the inputs since
+pub broken_since : {S K C : Type 0} (left : S → Option (List ℕ)) (source_faults : S → ℕ) (first old new : List (PortEnds S K C)) (past now : List Row) → EachPair (FitsSoFar left source_faults past) first old → length new ≡ length old
+    → ((k : ℕ) (d : PortEnds S K C) → k < length old → source_faults (get_or old k d).ends.source ≤ source_faults (get_or new k d).ends.source) → ((n : ℕ) → input_end n now ≡ input_end n past) → EachPair (HasBroken source_faults now) first new
+broken_since left source_faults first old new past now so_far size later same = record {
+  size = size ∙ so_far.size;
+  each = λ k d within ended_so.
+      let one = so_far.each k d within in
+      rose_before (source_faults (get_or first k d).ends.source) (source_faults (get_or old k d).ends.source) (source_faults (get_or new k d).ends.source) (one.broken (sym (same (number_of (get_or first k d).port)) ∙ ended_so)) (later k d (omega (arith, so_far.size)));
 }

@@ -8,6 +8,7 @@ pub mod Draining
 pub mod Advancing
 pub mod Finishing
 pub mod Entered
+pub mod Joining
 pub mod Progress
 pub mod Measures
 pub mod Running

@@ -1,20 +1,8 @@
 -- One port, read ahead.
-use Rattle.std.proofs.Common.{ℕ, ◌<◌, List, length, get_or, refl, subst, arith, Option}
+use Rattle.std.proofs.Common.{ℕ, ◌<◌, List, length, get_or, subst, Option}
 use Rattle.port_worker.specs.declared.port_ends.PortEnds.{PortEnds}
-use Rattle.port_worker.specs.Inputs.{IsSound, IsKnown, IsLooked}
+use Rattle.port_worker.specs.Inputs.{IsLooked}
 use Rattle.port_worker.proofs.SoFar.{PairsSoFar, element_first}
-
-pub looked_itself : {S K C : Type 0} (left : S → Option (List ℕ)) (faults : S → ℕ) (p : PortEnds S K C) → IsSound p.reader p.ahead → IsLooked left faults p p
-looked_itself left faults p sound = record {
-  port = refl;
-  sink = refl;
-  sound = λ known. sound;
-  later = omega arith;
-  comes = λ known input is. is;
-  same = λ known. refl;
-  done = λ is. is;
-  read = λ unread known. absurd (subst IsKnown unread known);
-}
 
 pub looked_at : {S K C : Type 0} (left : S → Option (List ℕ)) (faults : S → ℕ) (place : ℕ) (old new : List (PortEnds S K C)) (d y : PortEnds S K C) (R : PortEnds S K C → PortEnds S K C → Type 0)
     → PairsSoFar R place old new → place < length new → IsLooked left faults (get_or new place d) y → IsLooked left faults (get_or old place y) y

@@ -27,6 +27,7 @@ weight (ahead.Frame stamp len) = 1
 weight (ahead.Long stamp len) = 1
 weight ahead.End = 1
 weight (ahead.Malformed at) = 1
+weight ahead.Failed = 1
 weight ahead.Done = 0
 
 -- how many inputs aren't done

@@ -1,17 +1,22 @@
 -- What was taken of the input of one port, and what may still come.
-use Rattle.std.proofs.Common.{◌≡◌, ℕ, List, [], ◌∷◌, ◌++◌, map, take, refl, sym, ap, ◌∙◌, subst, append_assoc, append-nil, ◌⊎◌, inl, inr, Option, Some, None, IfSome}
+use Rattle.std.proofs.Common.{◌≡◌, ◌≢◌, ℕ, ◌+◌, List, [], ◌∷◌, ◌++◌, map, length, take, drop, refl, sym, ap, ◌∙◌, subst, append_assoc, append-nil, ◌⊎◌, inl, inr, Option, Some, None, IfSome}
 use Rattle.std.proofs.lemmas.List.{map-append}
 use Rattle.savi_kinds.specs.declared.port.Port.{Port}
 use Rattle.savi_kinds.specs.declared.plan.Plan.{Plan}
 use Rattle.savi_kinds.specs.declared.entry.Who.TheVariants.{Ingress}
 use Rattle.savi_kinds.specs.declared.entry.How.{How}
 use Rattle.savi_kinds.specs.declared.entry.How.TheVariants as hows
+use Rattle.savi_kinds.specs.Ports.{number_of}
 use Rattle.savi_kinds.specs.Arrivals.{Arrival, Input}
 use Rattle.savi_kinds.specs.Arrivals as arrivals
-use Rattle.pcap_io.specs.Runs.{ended}
-use Rattle.pcap_io.specs.Readers.{State, Comes}
+use Rattle.savi_ends.specs.Octets.{Takes}
+use Rattle.pcap_io.specs.declared.kind.HeaderKind.{HeaderKind}
+use Rattle.pcap_io.specs.Runs.{IsRun, EndsAs, ended}
+use Rattle.pcap_io.specs.Readers.{State, Fresh, Running, Ended, Comes, HasRead}
 use Rattle.pcap_io.proofs.Existence.{some_later}
+use Rattle.hist_store.specs.Rows.{Row}
 use Rattle.savi_history.specs.Passes.{pass_of}
+use Rattle.savi_history.specs.PortInputs.{input_end}
 use Rattle.savi_history.specs.Turns.{Turn, Arrives, Ends, turns}
 use Rattle.savi_history.proofs.Ends.{AreOf}
 use Rattle.savi_history.proofs.Reaching.{Head, Unread, Known, Done}
@@ -19,7 +24,9 @@ use Rattle.savi_history.proofs.Reaching as reaching
 use Rattle.port_worker.specs.declared.port_ends.Ahead.{Ahead}
 use Rattle.port_worker.specs.declared.port_ends.Ahead.TheVariants as ahead
 use Rattle.port_worker.specs.declared.port_ends.PortEnds.{PortEnds}
-use Rattle.port_worker.specs.Inputs.{turn_ahead, turn_of, moment_ahead, with_first, Gives, WillCome, IsKnown}
+use Rattle.port_worker.specs.Inputs.{turn_ahead, moment_ahead, with_first, Gives, WillCome, IsReadable, IsSound, IsKnown, IsReadAs}
+use Rattle.port_worker.specs.Replays.{IsInputOf, IsInputAt}
+use Rattle.port_worker.proofs.Joining.{read_twice, read_behind}
 
 -- an input with more arrivals in front
 abbrev pub with_front : List Arrival → Input → Input
@@ -31,6 +38,7 @@ head_ahead port buf (ahead.Frame stamp len) = Known (Arrives port (arrivals.Fram
 head_ahead port buf (ahead.Long stamp len) = Known (Arrives port (arrivals.Long stamp len))
 head_ahead port buf ahead.End = Known (Ends (Ingress port) hows.End)
 head_ahead port buf (ahead.Malformed at) = Known (Ends (Ingress port) (hows.Malformed at))
+head_ahead port buf ahead.Failed = Known (Ends (Ingress port) hows.Failed)
 head_ahead port buf ahead.Done = Done
 
 abbrev pub head_of : {S K C : Type 0} → PortEnds S K C → Head
@@ -42,6 +50,7 @@ moment_same port buf (ahead.Frame stamp len) = refl
 moment_same port buf (ahead.Long stamp len) = refl
 moment_same port buf ahead.End = refl
 moment_same port buf (ahead.Malformed at) = refl
+moment_same port buf ahead.Failed = refl
 moment_same port buf ahead.Done = refl
 
 -- where a moment is known, so is the turn
@@ -51,6 +60,7 @@ turn_at_moment port buf (ahead.Frame stamp len) n is = (_, refl, refl)
 turn_at_moment port buf (ahead.Long stamp len) n is = (_, refl, refl)
 turn_at_moment port buf ahead.End n is = (_, refl, refl)
 turn_at_moment port buf (ahead.Malformed at) n is = (_, refl, refl)
+turn_at_moment port buf ahead.Failed n is = (_, refl, refl)
 turn_at_moment port buf ahead.Done n is = cc
 
 -- where none is, the input is done
@@ -60,6 +70,7 @@ done_at_none (ahead.Frame stamp len) known is = cc
 done_at_none (ahead.Long stamp len) known is = cc
 done_at_none ahead.End known is = cc
 done_at_none (ahead.Malformed at) known is = cc
+done_at_none ahead.Failed known is = cc
 done_at_none ahead.Done known is = refl
 
 pub read_known : (port : Port) (buf : List ℕ) (a : Ahead) → IsKnown a → reaching.IsRead (head_ahead port buf a)
@@ -68,13 +79,42 @@ read_known port buf (ahead.Frame stamp len) known = tt
 read_known port buf (ahead.Long stamp len) known = tt
 read_known port buf ahead.End known = tt
 read_known port buf (ahead.Malformed at) known = tt
+read_known port buf ahead.Failed known = tt
 read_known port buf ahead.Done known = tt
 
--- the turn is an arrival, behind which the rest comes, or the ending
+-- What was taken from a source is these arrivals and the one that is known, or these and no whole one in front of a read
+-- that failed.
+abbrev pub HasReadAhead : State → State → List ℕ → List ℕ → List Arrival → Ahead → Type 0
+HasReadAhead first now gave buf before ahead.Unread = HasRead first now gave before
+HasReadAhead first now gave buf before (ahead.Frame stamp len) = HasRead first now gave (before ++ arrivals.Frame stamp (take len buf) ∷ [])
+HasReadAhead first now gave buf before (ahead.Long stamp len) = HasRead first now gave (before ++ arrivals.Long stamp len ∷ [])
+HasReadAhead first now gave buf before ahead.End = Unit {0}
+HasReadAhead first now gave buf before (ahead.Malformed at) = Unit {0}
+HasReadAhead first now gave buf before ahead.Failed = (ending : How) × Comes first gave (record { arrivals = before; ending = ending })
+HasReadAhead first now gave buf before ahead.Done = Unit {0}
+
+-- the turn is an arrival, behind which the rest comes
+pub record AtArrival (left : Option (List ℕ)) (port : Port) (state : State) (buf : List ℕ) (a : Ahead) (t : Turn) : Type 0 where
+  pub arrival : Arrival
+  pub is_turn : t ≡ Arrives port arrival
+  pub readable : IsSound state a → IsReadable state
+  pub read : (first : State) (gave : List ℕ) (before : List Arrival) → HasReadAhead first state gave buf before a → HasRead first state gave (before ++ arrival ∷ [])
+  pub gives : (later : Input) → IfSome left (λ octets. Comes state octets later) → IfSome left (λ octets. Gives state buf a octets (with_first arrival later))
+
+-- the turn is the ending, at no failed read
+pub record AtEnding (left : Option (List ℕ)) (port : Port) (state : State) (buf : List ℕ) (a : Ahead) (t : Turn) : Type 0 where
+  pub ending : How
+  pub is_turn : t ≡ Ends (Ingress port) ending
+  pub other : ending ≢ hows.Failed
+  pub gives : IfSome left (λ octets. Gives state buf a octets (ended ending))
+
+-- the turn is the ending at a read that failed
+pub record AtFailure (port : Port) (a : Ahead) (t : Turn) : Type 0 where
+  pub is_turn : t ≡ Ends (Ingress port) hows.Failed
+  pub failed : a ≡ ahead.Failed
+
 abbrev pub AtTurn : Option (List ℕ) → Port → State → List ℕ → Ahead → Turn → Type 0
-AtTurn left port state buf a t =
-    ((arrival : Arrival) × (t ≡ Arrives port arrival) × ((later : Input) → IfSome left (λ octets. Comes state octets later) → IfSome left (λ octets. Gives state buf a octets (with_first arrival later))))
-    ⊎ ((ending : How) × (t ≡ Ends (Ingress port) ending) × IfSome left (λ octets. Gives state buf a octets (ended ending)))
+AtTurn left port state buf a t = AtArrival left port state buf a t ⊎ (AtEnding left port state buf a t ⊎ AtFailure port a t)
 
 if_more : (left : Option (List ℕ)) (P Q : List ℕ → Type 0) → ((octets : List ℕ) → P octets → Q octets) → IfSome left P → IfSome left Q
 if_more None P Q more is = tt
@@ -91,60 +131,114 @@ pub at_turn : (left : Option (List ℕ)) (port : Port) (state : State) (buf : Li
 at_turn left port state buf ahead.Unread t is = cc
 at_turn left port state buf (ahead.Frame stamp len) t is =
     let arrival = arrivals.Frame stamp (take len buf) in
-    inl (arrival, same_turn (Arrives port arrival) t is, λ later. if_more left (λ octets. Comes state octets later) (λ octets. Gives state buf (ahead.Frame stamp len) octets (with_first arrival later)) (λ octets comes. (later, refl, comes)))
+    inl (record {
+      arrival = arrival;
+      is_turn = same_turn (Arrives port arrival) t is;
+      readable = λ sound. sound.1;
+      read = λ first gave before read. read;
+      gives = λ later. if_more left (λ octets. Comes state octets later) (λ octets. Gives state buf (ahead.Frame stamp len) octets (with_first arrival later)) (λ octets comes. (later, refl, comes));
+    })
 at_turn left port state buf (ahead.Long stamp len) t is =
     let arrival = arrivals.Long stamp len in
-    inl (arrival, same_turn (Arrives port arrival) t is, λ later. if_more left (λ octets. Comes state octets later) (λ octets. Gives state buf (ahead.Long stamp len) octets (with_first arrival later)) (λ octets comes. (later, refl, comes)))
+    inl (record {
+      arrival = arrival;
+      is_turn = same_turn (Arrives port arrival) t is;
+      readable = λ sound. sound.1;
+      read = λ first gave before read. read;
+      gives = λ later. if_more left (λ octets. Comes state octets later) (λ octets. Gives state buf (ahead.Long stamp len) octets (with_first arrival later)) (λ octets comes. (later, refl, comes));
+    })
 at_turn left port state buf ahead.End t is =
-    inr (hows.End, same_turn (Ends (Ingress port) hows.End) t is, if_all left (λ octets. Gives state buf ahead.End octets (ended hows.End)) (λ octets. refl))
+    inr (inl (record {
+      ending = hows.End;
+      is_turn = same_turn (Ends (Ingress port) hows.End) t is;
+      other = λ same. cc;
+      gives = if_all left (λ octets. Gives state buf ahead.End octets (ended hows.End)) (λ octets. refl);
+    }))
 at_turn left port state buf (ahead.Malformed at) t is =
-    inr (hows.Malformed at, same_turn (Ends (Ingress port) (hows.Malformed at)) t is, if_all left (λ octets. Gives state buf (ahead.Malformed at) octets (ended (hows.Malformed at))) (λ octets. refl))
+    inr (inl (record {
+      ending = hows.Malformed at;
+      is_turn = same_turn (Ends (Ingress port) (hows.Malformed at)) t is;
+      other = λ same. cc;
+      gives = if_all left (λ octets. Gives state buf (ahead.Malformed at) octets (ended (hows.Malformed at))) (λ octets. refl);
+    }))
+at_turn left port state buf ahead.Failed t is = inr (inr (record { is_turn = same_turn (Ends (Ingress port) hows.Failed) t is; failed = refl }))
 at_turn left port state buf ahead.Done t is = cc
+
+-- one more read, behind what was read
+pub read_ahead : (first mid now : State) (one two : List ℕ) (front : List Arrival) (buf : List ℕ) (left : Option (List ℕ)) (a : Ahead) → HasRead first mid one front → IsReadAs mid now two buf left a → HasReadAhead first now (one ++ two) buf front a
+read_ahead first mid now one two front buf left ahead.Unread read is = absurd is
+read_ahead first mid now one two front buf left (ahead.Frame stamp len) read is = read_twice first mid now one two front (arrivals.Frame stamp (take len buf) ∷ []) read is.read
+read_ahead first mid now one two front buf left (ahead.Long stamp len) read is = read_twice first mid now one two front (arrivals.Long stamp len ∷ []) read is.read
+read_ahead first mid now one two front buf left ahead.End read is = tt
+read_ahead first mid now one two front buf left (ahead.Malformed at) read is = tt
+read_ahead first mid now one two front buf left ahead.Failed read is = (is.taken.0, read_behind first mid one two front is.taken.0 read is.taken.1)
+read_ahead first mid now one two front buf left ahead.Done read is = absurd is
+
+-- this input comes at first, where the source told its octets
+abbrev pub CameFirst : {S K C : Type 0} → (S → Option (List ℕ)) → PortEnds S K C → Input → Type 0
+CameFirst left old input = IfSome (left old.ends.source) (λ octets. Comes old.reader octets input)
 
 -- These arrivals were taken, and with whatever comes now behind them they come at first.
 pub record Goes {S K C : Type 0} (left : S → Option (List ℕ)) (old new : PortEnds S K C) (taken : List Turn) : Type 0 where
   pub before : List Arrival
   pub taken_is : taken ≡ map (λ a. Arrives old.port a) before
-  pub comes : (input : Input) → WillCome left new input → WillCome left old (with_front before input)
+  pub gave : List ℕ
+  pub takes : Takes (left old.ends.source) (left new.ends.source) gave
+  pub read : HasReadAhead old.reader new.reader gave new.buf before new.ahead
+  pub comes : (input : Input) → WillCome left new input → CameFirst left old (with_front before input)
 
--- What was taken, with some turns that are passed over, are the turns of an input that comes at first.
-pub record Gone {S K C : Type 0} (left : S → Option (List ℕ)) (plan : Plan) (k : ℕ) (old : PortEnds S K C) (taken : List Turn) : Type 0 where
+-- What was taken, with some turns that are passed over, are the turns of the input that the source's octets are.
+pub record Gone {S K C : Type 0} (left : S → Option (List ℕ)) (plan : Plan) (k : ℕ) (past : List Row) (old new : PortEnds S K C) (taken : List Turn) : Type 0 where
   pub input : Input
   pub rest : List Turn
   pub of : AreOf plan k rest
   pub split : taken ++ rest ≡ turns old.port input
-  pub came : WillCome left old input
+  pub came : IsInputAt left past old new input
 
-abbrev pub ProgressBy : {S K C : Type 0} → (S → Option (List ℕ)) → Plan → ℕ → PortEnds S K C → PortEnds S K C → List Turn → Ahead → Type 0
-ProgressBy left plan k old new taken ahead.Unread = Goes left old new taken
-ProgressBy left plan k old new taken (ahead.Frame stamp len) = Goes left old new taken
-ProgressBy left plan k old new taken (ahead.Long stamp len) = Goes left old new taken
-ProgressBy left plan k old new taken ahead.End = Goes left old new taken
-ProgressBy left plan k old new taken (ahead.Malformed at) = Goes left old new taken
-ProgressBy left plan k old new taken ahead.Done = Gone left plan k old taken
+abbrev pub ProgressBy : {S K C : Type 0} → (S → Option (List ℕ)) → Plan → ℕ → List Row → PortEnds S K C → PortEnds S K C → List Turn → Ahead → Type 0
+ProgressBy left plan k past old new taken ahead.Unread = Goes left old new taken
+ProgressBy left plan k past old new taken (ahead.Frame stamp len) = Goes left old new taken
+ProgressBy left plan k past old new taken (ahead.Long stamp len) = Goes left old new taken
+ProgressBy left plan k past old new taken ahead.End = Goes left old new taken
+ProgressBy left plan k past old new taken (ahead.Malformed at) = Goes left old new taken
+ProgressBy left plan k past old new taken ahead.Failed = Goes left old new taken
+ProgressBy left plan k past old new taken ahead.Done = Gone left plan k past old new taken
 
-abbrev pub Progress : {S K C : Type 0} → (S → Option (List ℕ)) → Plan → ℕ → PortEnds S K C → PortEnds S K C → List Turn → Type 0
-Progress left plan k old new taken = ProgressBy left plan k old new taken new.ahead
+abbrev pub Progress : {S K C : Type 0} → (S → Option (List ℕ)) → Plan → ℕ → List Row → PortEnds S K C → PortEnds S K C → List Turn → Type 0
+Progress left plan k past old new taken = ProgressBy left plan k past old new taken new.ahead
 
--- nothing of it hangs on the sink
+-- nothing of it hangs on the sink, nor on what the history holds of other ports
 goes_sink : {S K C : Type 0} (left : S → Option (List ℕ)) (old p : PortEnds S K C) (k : K) (taken : List Turn) → Goes left old p taken → Goes left old (record p { ends = record p.ends { sink = k } }) taken
-goes_sink left old p k taken goes = record { before = goes.before; taken_is = goes.taken_is; comes = goes.comes }
+goes_sink left old p k taken goes = record { before = goes.before; taken_is = goes.taken_is; gave = goes.gave; takes = goes.takes; read = goes.read; comes = goes.comes }
 
-pub progress_sink : {S K C : Type 0} (left : S → Option (List ℕ)) (plan : Plan) (n : ℕ) (old p : PortEnds S K C) (k : K) (taken : List Turn) (a : Ahead) → ProgressBy left plan n old p taken a → ProgressBy left plan n old (record p { ends = record p.ends { sink = k } }) taken a
-progress_sink left plan n old p k taken ahead.Unread goes = goes_sink left old p k taken goes
-progress_sink left plan n old p k taken (ahead.Frame stamp len) goes = goes_sink left old p k taken goes
-progress_sink left plan n old p k taken (ahead.Long stamp len) goes = goes_sink left old p k taken goes
-progress_sink left plan n old p k taken ahead.End goes = goes_sink left old p k taken goes
-progress_sink left plan n old p k taken (ahead.Malformed at) goes = goes_sink left old p k taken goes
-progress_sink left plan n old p k taken ahead.Done gone = gone
+gone_kept : {S K C : Type 0} (left : S → Option (List ℕ)) (plan : Plan) (n : ℕ) (past now : List Row) (old p : PortEnds S K C) (k : K) (taken : List Turn) → input_end (number_of old.port) now ≡ input_end (number_of old.port) past → Gone left plan n past old p taken
+    → Gone left plan n now old (record p { ends = record p.ends { sink = k } }) taken
+gone_kept left plan n past now old p k taken same gone = record {
+  input = gone.input;
+  rest = gone.rest;
+  of = gone.of;
+  split = gone.split;
+  came = subst (λ (e : Option How). IsInputOf (Comes old.reader) (left old.ends.source) (left p.ends.source) e gone.input.arrivals gone.input.ending) (sym same) gone.came;
+}
 
-pub goes_at : {S K C : Type 0} (left : S → Option (List ℕ)) (plan : Plan) (k : ℕ) (old new : PortEnds S K C) (taken : List Turn) (a : Ahead) (t : Turn) (port : Port) (buf : List ℕ) → turn_ahead port buf a ≡ Some t → ProgressBy left plan k old new taken a → Goes left old new taken
-goes_at left plan k old new taken ahead.Unread t port buf is p = p
-goes_at left plan k old new taken (ahead.Frame stamp len) t port buf is p = p
-goes_at left plan k old new taken (ahead.Long stamp len) t port buf is p = p
-goes_at left plan k old new taken ahead.End t port buf is p = p
-goes_at left plan k old new taken (ahead.Malformed at) t port buf is p = p
-goes_at left plan k old new taken ahead.Done t port buf is p = cc
+pub progress_kept : {S K C : Type 0} (left : S → Option (List ℕ)) (plan : Plan) (n : ℕ) (past now : List Row) (old p : PortEnds S K C) (k : K) (taken : List Turn) (a : Ahead) → input_end (number_of old.port) now ≡ input_end (number_of old.port) past
+    → ProgressBy left plan n past old p taken a → ProgressBy left plan n now old (record p { ends = record p.ends { sink = k } }) taken a
+progress_kept left plan n past now old p k taken ahead.Unread same goes = goes_sink left old p k taken goes
+progress_kept left plan n past now old p k taken (ahead.Frame stamp len) same goes = goes_sink left old p k taken goes
+progress_kept left plan n past now old p k taken (ahead.Long stamp len) same goes = goes_sink left old p k taken goes
+progress_kept left plan n past now old p k taken ahead.End same goes = goes_sink left old p k taken goes
+progress_kept left plan n past now old p k taken (ahead.Malformed at) same goes = goes_sink left old p k taken goes
+progress_kept left plan n past now old p k taken ahead.Failed same goes = goes_sink left old p k taken goes
+progress_kept left plan n past now old p k taken ahead.Done same gone = gone_kept left plan n past now old p k taken same gone
+
+pub goes_at : {S K C : Type 0} (left : S → Option (List ℕ)) (plan : Plan) (k : ℕ) (past : List Row) (old new : PortEnds S K C) (taken : List Turn) (a : Ahead) (t : Turn) (port : Port) (buf : List ℕ) → turn_ahead port buf a ≡ Some t → ProgressBy left plan k past old new taken a → Goes left old new taken
+goes_at left plan k past old new taken ahead.Unread t port buf is p = p
+goes_at left plan k past old new taken (ahead.Frame stamp len) t port buf is p = p
+goes_at left plan k past old new taken (ahead.Long stamp len) t port buf is p = p
+goes_at left plan k past old new taken ahead.End t port buf is p = p
+goes_at left plan k past old new taken (ahead.Malformed at) t port buf is p = p
+goes_at left plan k past old new taken ahead.Failed t port buf is p = p
+goes_at left plan k past old new taken ahead.Done t port buf is p = cc
 
 of_turns_from : (plan : Plan) (port : Port) (k : ℕ) (before : List Arrival) (ending : How) → pass_of plan (Ingress port) ≡ k → AreOf plan k (map (λ a. Arrives port a) before ++ Ends (Ingress port) ending ∷ [])
 of_turns_from plan port k [] ending is = (is, tt)
@@ -158,12 +252,35 @@ turns_front port before input =
     sym (append_assoc (map (λ a. Arrives port a) before) (map (λ a. Arrives port a) input.arrivals) (Ends (Ingress port) input.ending ∷ []))
     ∙ ap (λ (l : List Turn). l ++ Ends (Ingress port) input.ending ∷ []) (sym (map-append (λ a. Arrives port a) before input.arrivals))
 
-some_input : (left : Option (List ℕ)) (state : State) → (input : Input) × IfSome left (λ octets. Comes state octets input)
-some_input None state = (ended hows.End, tt)
-some_input (Some octets) state = some_later state octets
+-- what a reader gives of octets doesn't end at a failed read, unless one had failed before
 
-module _ {S K C : Type 0} (left : S → Option (List ℕ)) (plan : Plan) (k : ℕ) (old now new : PortEnds S K C) (taken : List Turn) (t : Turn)
-    (port_is : now.port ≡ old.port) (pass : pass_of plan (Ingress old.port) ≡ k) (is : turn_of now ≡ Some t) (goes : Goes left old now taken)
+run_ends : (kind : HeaderKind) (arrivals : List Arrival) (place : ℕ) (ending : How) (octets : List ℕ) → IsRun kind place arrivals ending octets → ending ≢ hows.Failed
+run_ends kind [] place ending octets run is = subst (λ (e : How). EndsAs kind place e octets) is run
+run_ends kind (a ∷ arrivals) place ending octets run is = run_ends kind arrivals (place + length run.0) ending run.1 run.5 is
+
+never_fails : (state : State) (octets : List ℕ) (input : Input) → IsReadable state → Comes state octets input → input.ending ≢ hows.Failed
+never_fails (Fresh kinds) octets input readable (inl capture) is = run_ends capture.kind input.arrivals 24 input.ending (drop 24 octets) capture.run is
+never_fails (Fresh kinds) octets input readable (inr none) is = let e : input.ending ≡ hows.Malformed 0 = ap (λ (i : Input). i.ending) none.malformed in cc
+never_fails (Running kind place) octets input readable run is = run_ends kind input.arrivals place input.ending octets run is
+never_fails (Ended ending) octets input readable comes is = readable (ap Ended (sym (ap (λ (i : Input). i.ending) comes) ∙ is))
+
+some_input : (left : Option (List ℕ)) (state : State) → IsReadable state → (input : Input) × IfSome left (λ octets. Comes state octets input) × (input.ending ≢ hows.Failed)
+some_input None state readable = (ended hows.End, tt, λ same. cc)
+some_input (Some octets) state readable = let some = some_later state octets in (some.0, some.1, never_fails state octets some.0 readable some.1)
+
+-- the whole octets of a source are the input
+whole_as : (Reads : List ℕ → Input → Type 0) (before after : Option (List ℕ)) (ended_so : Option How) (arrivals : List Arrival) (ending : How) → ending ≢ hows.Failed
+    → IfSome before (λ octets. Reads octets (record { arrivals = arrivals; ending = ending })) → IsInputOf Reads before after ended_so arrivals ending
+whole_as Reads before after ended_so arrivals hows.End other whole = whole
+whole_as Reads before after ended_so arrivals hows.Quit other whole = whole
+whole_as Reads before after ended_so arrivals (hows.Malformed at) other whole = whole
+whole_as Reads before after ended_so arrivals (hows.Overlong at) other whole = whole
+whole_as Reads before after ended_so arrivals hows.Failed other whole = absurd (other refl)
+whole_as Reads before after ended_so arrivals hows.Unwritten other whole = whole
+whole_as Reads before after ended_so arrivals (hows.Full len) other whole = whole
+
+module _ {S K C : Type 0} (left : S → Option (List ℕ)) (plan : Plan) (k : ℕ) (past : List Row) (old now new : PortEnds S K C) (taken : List Turn) (t : Turn)
+    (port_is : now.port ≡ old.port) (pass : pass_of plan (Ingress old.port) ≡ k) (goes : Goes left old now taken)
     (source : new.ends.source ≡ now.ends.source) (reader : new.reader ≡ now.reader) where
   port_here : (arrival : Arrival) → t ≡ Arrives now.port arrival → t ≡ Arrives old.port arrival
   port_here arrival t_is = t_is ∙ ap (λ (p : Port). Arrives p arrival) port_is
@@ -174,42 +291,68 @@ module _ {S K C : Type 0} (left : S → Option (List ℕ)) (plan : Plan) (k : �
       ∙ ap (λ (u : Turn). map (λ a. Arrives old.port a) goes.before ++ u ∷ []) (port_here arrival t_is)
       ∙ sym (map-append (λ a. Arrives old.port a) goes.before (arrival ∷ []))
 
+  -- the turns that were taken where the last one is the ending
+  taken_ended : (ending : How) → t ≡ Ends (Ingress now.port) ending → (taken ++ t ∷ []) ++ [] ≡ turns old.port (record { arrivals = goes.before; ending = ending })
+  taken_ended ending t_is =
+      append-nil (taken ++ t ∷ [])
+      ∙ ap (λ (l : List Turn). l ++ t ∷ []) goes.taken_is
+      ∙ ap (λ (u : Turn). map (λ a. Arrives old.port a) goes.before ++ u ∷ []) (t_is ∙ ap (λ (p : Port). Ends (Ingress p) ending) port_is)
+
+  takes_new : Takes (left old.ends.source) (left new.ends.source) goes.gave
+  takes_new = subst (λ (s : S). Takes (left old.ends.source) (left s) goes.gave) (sym source) goes.takes
+
   front_again : (arrival : Arrival) (later : Input) → with_front goes.before (with_first arrival later) ≡ with_front (goes.before ++ arrival ∷ []) later
   front_again arrival later = ap (λ (l : List Arrival). record { arrivals = l; ending = later.ending }) (sym (append_assoc goes.before (arrival ∷ []) later.arrivals))
 
   -- an arrival that was entered
-  pub goes_on_at : new.ahead ≡ ahead.Unread → (arrival : Arrival) → t ≡ Arrives now.port arrival
-      → ((later : Input) → IfSome (left now.ends.source) (λ octets. Comes now.reader octets later) → WillCome left now (with_first arrival later)) → Progress left plan k old new (taken ++ t ∷ [])
-  goes_on_at unread arrival t_is gives = rw unread (record {
-    before = goes.before ++ arrival ∷ [];
-    taken_is = taken_more arrival t_is;
-    comes = λ later will.
-        let at_new : IfSome (left new.ends.source) (λ octets. Comes new.reader octets later) = will in
-        let at_now : IfSome (left now.ends.source) (λ octets. Comes now.reader octets later) =
-        subst (λ (s : S). IfSome (left s) (λ octets. Comes now.reader octets later)) source (subst (λ (r : State). IfSome (left new.ends.source) (λ octets. Comes r octets later)) reader at_new) in
-        subst (λ (i : Input). WillCome left old i) (front_again arrival later) (goes.comes (with_first arrival later) (gives later at_now));
-  })
-
-  -- an arrival for which there was no room: what is left is passed over
-  pub stops_at : new.ahead ≡ ahead.Done → (arrival : Arrival) → t ≡ Arrives now.port arrival
-      → ((later : Input) → IfSome (left now.ends.source) (λ octets. Comes now.reader octets later) → WillCome left now (with_first arrival later)) → Progress left plan k old new (taken ++ t ∷ [])
-  stops_at done arrival t_is gives =
-      let some = some_input (left now.ends.source) now.reader in
-      rw done (record {
-        input = with_front (goes.before ++ arrival ∷ []) some.0;
-        rest = turns old.port some.0;
-        of = of_turns plan old.port k some.0 pass;
-        split = ap (λ (l : List Turn). l ++ turns old.port some.0) (taken_more arrival t_is) ∙ turns_front old.port (goes.before ++ arrival ∷ []) some.0;
-        came = subst (λ (i : Input). WillCome left old i) (front_again arrival some.0) (goes.comes (with_first arrival some.0) (gives some.0 some.1));
+  pub goes_on_at : new.ahead ≡ ahead.Unread → AtArrival (left now.ends.source) now.port now.reader now.buf now.ahead t → Progress left plan k past old new (taken ++ t ∷ [])
+  goes_on_at unread at =
+      let read_now : HasRead old.reader now.reader goes.gave (goes.before ++ at.arrival ∷ []) = at.read old.reader goes.gave goes.before goes.read in
+      let read_new : HasRead old.reader new.reader goes.gave (goes.before ++ at.arrival ∷ []) = subst (λ (r : State). HasRead old.reader r goes.gave (goes.before ++ at.arrival ∷ [])) (sym reader) read_now in
+      rw unread (record {
+        before = goes.before ++ at.arrival ∷ [];
+        taken_is = taken_more at.arrival at.is_turn;
+        gave = goes.gave;
+        takes = takes_new;
+        read = read_new;
+        comes = λ later will.
+            let at_new : IfSome (left new.ends.source) (λ octets. Comes new.reader octets later) = will in
+            let at_now : IfSome (left now.ends.source) (λ octets. Comes now.reader octets later) =
+            subst (λ (s : S). IfSome (left s) (λ octets. Comes now.reader octets later)) source (subst (λ (r : State). IfSome (left new.ends.source) (λ octets. Comes r octets later)) reader at_new) in
+            subst (λ (i : Input). CameFirst left old i) (front_again at.arrival later) (goes.comes (with_first at.arrival later) (at.gives later at_now));
       })
 
-  pub ends_at : new.ahead ≡ ahead.Done → (ending : How) → t ≡ Ends (Ingress now.port) ending → WillCome left now (ended ending) → Progress left plan k old new (taken ++ t ∷ [])
-  ends_at done ending t_is gives =
-      let t_old : t ≡ Ends (Ingress old.port) ending = t_is ∙ ap (λ (p : Port). Ends (Ingress p) ending) port_is in
+  -- an arrival for which there was no room: what is left is passed over
+  pub stops_at : new.ahead ≡ ahead.Done → IsSound now.reader now.ahead → AtArrival (left now.ends.source) now.port now.reader now.buf now.ahead t → Progress left plan k past old new (taken ++ t ∷ [])
+  stops_at done sound at =
+      let some = some_input (left now.ends.source) now.reader (at.readable sound) in
+      let before = goes.before ++ at.arrival ∷ [] in
       rw done (record {
-        input = record { arrivals = goes.before; ending = ending };
+        input = with_front before some.0;
+        rest = turns old.port some.0;
+        of = of_turns plan old.port k some.0 pass;
+        split = ap (λ (l : List Turn). l ++ turns old.port some.0) (taken_more at.arrival at.is_turn) ∙ turns_front old.port before some.0;
+        came = whole_as (Comes old.reader) (left old.ends.source) (left new.ends.source) (input_end (number_of old.port) past) (before ++ some.0.arrivals) some.0.ending some.2
+            (subst (λ (i : Input). CameFirst left old i) (front_again at.arrival some.0) (goes.comes (with_first at.arrival some.0) (at.gives some.0 some.1)));
+      })
+
+  pub ends_at : new.ahead ≡ ahead.Done → AtEnding (left now.ends.source) now.port now.reader now.buf now.ahead t → Progress left plan k past old new (taken ++ t ∷ [])
+  ends_at done at = rw done (record {
+    input = record { arrivals = goes.before; ending = at.ending };
+    rest = [];
+    of = tt;
+    split = taken_ended at.ending at.is_turn;
+    came = whole_as (Comes old.reader) (left old.ends.source) (left new.ends.source) (input_end (number_of old.port) past) goes.before at.ending at.other
+        (subst (λ (l : List Arrival). CameFirst left old (record { arrivals = l; ending = at.ending })) (append-nil goes.before) (goes.comes (ended at.ending) at.gives));
+  })
+
+  pub fails_at : new.ahead ≡ ahead.Done → input_end (number_of old.port) past ≡ Some hows.Failed → AtFailure now.port now.ahead t → Progress left plan k past old new (taken ++ t ∷ [])
+  fails_at done ended_so at =
+      let read : HasReadAhead old.reader now.reader goes.gave now.buf goes.before ahead.Failed = subst (λ (a : Ahead). HasReadAhead old.reader now.reader goes.gave now.buf goes.before a) at.failed goes.read in
+      rw done (record {
+        input = record { arrivals = goes.before; ending = hows.Failed };
         rest = [];
         of = tt;
-        split = append-nil (taken ++ t ∷ []) ∙ ap (λ (l : List Turn). l ++ t ∷ []) goes.taken_is ∙ ap (λ (u : Turn). map (λ a. Arrives old.port a) goes.before ++ u ∷ []) t_old;
-        came = subst (λ (l : List Arrival). WillCome left old (record { arrivals = l; ending = ending })) (append-nil goes.before) (goes.comes (ended ending) gives);
+        split = taken_ended hows.Failed at.is_turn;
+        came = (ended_so, record { gave = goes.gave; takes = takes_new; ending = read.0; read = read.1 });
       })

@@ -1,5 +1,5 @@
 -- The state of a replay between two turns.
-use Rattle.std.proofs.Common.{◌≡◌, ℕ, ◌<◌, ◌≤◌, true, false, List, [], ◌∷◌, length, map, get_or, refl, sym, ap, ◌∙◌, subst, arith, ◌⊎◌, inl, inr, Option}
+use Rattle.std.proofs.Common.{◌≡◌, ℕ, ◌<◌, ◌≤◌, true, false, List, [], ◌∷◌, ◌++◌, length, map, get_or, refl, sym, ap, ◌∙◌, subst, arith, ◌⊎◌, inl, inr, Option}
 use Rattle.std.proofs.lemmas.Bool.{cases_lt}
 use Rattle.std.proofs.lemmas.List.{length-map, get_or-map, get_or_past}
 use Rattle.std.specs.List.{All}
@@ -7,6 +7,7 @@ use Rattle.savi_kinds.specs.declared.port.Port.{Port}
 use Rattle.savi_kinds.specs.declared.plan.Plan.{Plan}
 use Rattle.savi_kinds.specs.Ports.{number_of}
 use Rattle.savi_ends.specs.Octets.{behind}
+use Rattle.pcap_io.specs.Readers.{HasRead}
 use Rattle.hist_store.specs.Rows.{Row}
 use Rattle.savi_history.specs.Bases.{empty}
 use Rattle.savi_history.specs.Passes.{has_ended, control_pass}
@@ -23,7 +24,8 @@ use Rattle.port_worker.specs.Inputs.{IsSound, IsKnown, IsLooked, moment_of}
 use Rattle.port_worker.specs.SentFrames.{capture_of}
 use Rattle.port_worker.specs.Replays.{IsLater}
 use Rattle.port_worker.proofs.Measures.{weight, undone, undone_same}
-use Rattle.port_worker.proofs.Progress.{head_of, head_ahead, moment_same, read_known, Goes, Progress, ProgressBy}
+use Rattle.port_worker.proofs.Joining.{takes_twice}
+use Rattle.port_worker.proofs.Progress.{head_of, head_ahead, moment_same, read_known, HasReadAhead, Goes, Progress, ProgressBy, read_ahead}
 
 pub record Running {S K C : Type 0} (left : S → Option (List ℕ)) (written : K → Option (List ℕ)) (source_faults : S → ℕ) (sink_faults : K → ℕ) (plan : Plan) (first ports : List (PortEnds S K C)) (past : List Row) : Type 0 where
   pub later : EachPair (IsLater source_faults sink_faults) first ports
@@ -32,7 +34,7 @@ pub record Running {S K C : Type 0} (left : S → Option (List ℕ)) (written : 
   pub taken_size : length taken ≡ length first
   pub reaches : Reaches plan empty (map head_of ports) taken past
   pub agree : AllAgree empty past (map head_of ports)
-  pub progress : (k : ℕ) (d : PortEnds S K C) → k < length first → Progress left plan k (get_or first k d) (get_or ports k d) (get_or taken k [])
+  pub progress : (k : ℕ) (d : PortEnds S K C) → k < length first → Progress left plan k past (get_or first k d) (get_or ports k d) (get_or taken k [])
   pub control : has_ended empty (control_pass plan) past ≡ true
   pub outputs : (pass : ℕ) → control_pass plan < pass → has_ended empty pass past ≡ false
   pub quiet : (k : ℕ) → k < length plan.ports → queue empty (number_at plan k) past ≡ []
@@ -67,6 +69,7 @@ agrees_from past k port buf (ahead.Frame stamp len) is = is.1 (λ same. cc)
 agrees_from past k port buf (ahead.Long stamp len) is = is.1 (λ same. cc)
 agrees_from past k port buf ahead.End is = is.1 (λ same. cc)
 agrees_from past k port buf (ahead.Malformed at) is = is.1 (λ same. cc)
+agrees_from past k port buf ahead.Failed is = is.1 (λ same. cc)
 agrees_from past k port buf ahead.Done is = is.0 refl
 
 pub agrees_as : (past : List Row) (k : ℕ) (port : Port) (buf : List ℕ) (a : Ahead) → Agrees empty past k (head_ahead port buf a) → IsOpenAs past k a
@@ -75,6 +78,7 @@ agrees_as past k port buf (ahead.Frame stamp len) is = (λ same. cc, λ other. i
 agrees_as past k port buf (ahead.Long stamp len) is = (λ same. cc, λ other. is)
 agrees_as past k port buf ahead.End is = (λ same. cc, λ other. is)
 agrees_as past k port buf (ahead.Malformed at) is = (λ same. cc, λ other. is)
+agrees_as past k port buf ahead.Failed is = (λ same. cc, λ other. is)
 agrees_as past k port buf ahead.Done is = (λ same. is, λ other. absurd (other refl))
 
 pub agrees_same : (past now : List Row) (k : ℕ) (h : Head) → has_ended empty k now ≡ has_ended empty k past → Agrees empty past k h → Agrees empty now k h
@@ -89,29 +93,41 @@ left_less {S} {K} {C} p q (ahead.Frame stamp len) turns is same there = subst (�
 left_less {S} {K} {C} p q (ahead.Long stamp len) turns is same there = subst (λ (b : Ahead). IsLeft (head_ahead p.port p.buf b) turns) is (subst (λ (r : PortEnds S K C). IsLeft (head_of r) turns) (same (subst IsKnown (sym is) tt)) there)
 left_less {S} {K} {C} p q ahead.End turns is same there = subst (λ (b : Ahead). IsLeft (head_ahead p.port p.buf b) turns) is (subst (λ (r : PortEnds S K C). IsLeft (head_of r) turns) (same (subst IsKnown (sym is) tt)) there)
 left_less {S} {K} {C} p q (ahead.Malformed at) turns is same there = subst (λ (b : Ahead). IsLeft (head_ahead p.port p.buf b) turns) is (subst (λ (r : PortEnds S K C). IsLeft (head_of r) turns) (same (subst IsKnown (sym is) tt)) there)
+left_less {S} {K} {C} p q ahead.Failed turns is same there = subst (λ (b : Ahead). IsLeft (head_ahead p.port p.buf b) turns) is (subst (λ (r : PortEnds S K C). IsLeft (head_of r) turns) (same (subst IsKnown (sym is) tt)) there)
 left_less p q ahead.Done turns is same there = tt
 
-goes_by : {S K C : Type 0} (left : S → Option (List ℕ)) (plan : Plan) (k : ℕ) (old new : PortEnds S K C) (taken : List Turn) (a : Ahead) → (a ≡ ahead.Done → ⊥) → Goes left old new taken → ProgressBy left plan k old new taken a
-goes_by left plan k old new taken ahead.Unread other goes = goes
-goes_by left plan k old new taken (ahead.Frame stamp len) other goes = goes
-goes_by left plan k old new taken (ahead.Long stamp len) other goes = goes
-goes_by left plan k old new taken ahead.End other goes = goes
-goes_by left plan k old new taken (ahead.Malformed at) other goes = goes
-goes_by left plan k old new taken ahead.Done other goes = absurd (other refl)
+goes_by : {S K C : Type 0} (left : S → Option (List ℕ)) (plan : Plan) (k : ℕ) (past : List Row) (old new : PortEnds S K C) (taken : List Turn) (a : Ahead) → (a ≡ ahead.Done → ⊥) → Goes left old new taken → ProgressBy left plan k past old new taken a
+goes_by left plan k past old new taken ahead.Unread other goes = goes
+goes_by left plan k past old new taken (ahead.Frame stamp len) other goes = goes
+goes_by left plan k past old new taken (ahead.Long stamp len) other goes = goes
+goes_by left plan k past old new taken ahead.End other goes = goes
+goes_by left plan k past old new taken (ahead.Malformed at) other goes = goes
+goes_by left plan k past old new taken ahead.Failed other goes = goes
+goes_by left plan k past old new taken ahead.Done other goes = absurd (other refl)
 
-progress_known : {S K C : Type 0} (left : S → Option (List ℕ)) (plan : Plan) (k : ℕ) (old p q : PortEnds S K C) (taken : List Turn) (a : Ahead) → p.ahead ≡ a → IsKnown a → (IsKnown p.ahead → q ≡ p) → Progress left plan k old p taken → Progress left plan k old q taken
-progress_known {S} {K} {C} left plan k old p q taken a is known same progress = subst (λ (r : PortEnds S K C). Progress left plan k old r taken) (sym (same (subst IsKnown (sym is) known))) progress
+progress_known : {S K C : Type 0} (left : S → Option (List ℕ)) (plan : Plan) (k : ℕ) (past : List Row) (old p q : PortEnds S K C) (taken : List Turn) (a : Ahead) → p.ahead ≡ a → IsKnown a → (IsKnown p.ahead → q ≡ p) → Progress left plan k past old p taken → Progress left plan k past old q taken
+progress_known {S} {K} {C} left plan k past old p q taken a is known same progress = subst (λ (r : PortEnds S K C). Progress left plan k past old r taken) (sym (same (subst IsKnown (sym is) known))) progress
 
-progress_look : {S K C : Type 0} (left : S → Option (List ℕ)) (source_faults : S → ℕ) (plan : Plan) (k : ℕ) (old p q : PortEnds S K C) (taken : List Turn) (a : Ahead) → p.ahead ≡ a → IsLooked left source_faults p q → IsKnown q.ahead → Progress left plan k old p taken → Progress left plan k old q taken
-progress_look left source_faults plan k old p q taken ahead.Unread is looked known progress =
-    let goes : Goes left old p taken = subst (λ (b : Ahead). ProgressBy left plan k old p taken b) is progress in
-    goes_by left plan k old q taken q.ahead (λ done. let e = looked.done done in cc)
-    (record { before = goes.before; taken_is = goes.taken_is; comes = λ input will. goes.comes input (looked.comes known input will) })
-progress_look left source_faults plan k old p q taken (ahead.Frame stamp len) is looked known progress = progress_known left plan k old p q taken (ahead.Frame stamp len) is tt looked.same progress
-progress_look left source_faults plan k old p q taken (ahead.Long stamp len) is looked known progress = progress_known left plan k old p q taken (ahead.Long stamp len) is tt looked.same progress
-progress_look left source_faults plan k old p q taken ahead.End is looked known progress = progress_known left plan k old p q taken ahead.End is tt looked.same progress
-progress_look left source_faults plan k old p q taken (ahead.Malformed at) is looked known progress = progress_known left plan k old p q taken (ahead.Malformed at) is tt looked.same progress
-progress_look left source_faults plan k old p q taken ahead.Done is looked known progress = progress_known left plan k old p q taken ahead.Done is tt looked.same progress
+progress_look : {S K C : Type 0} (left : S → Option (List ℕ)) (source_faults : S → ℕ) (plan : Plan) (k : ℕ) (past : List Row) (old p q : PortEnds S K C) (taken : List Turn) (a : Ahead) → p.ahead ≡ a → IsLooked left source_faults p q → Progress left plan k past old p taken → Progress left plan k past old q taken
+progress_look left source_faults plan k past old p q taken ahead.Unread is looked progress =
+    let goes : Goes left old p taken = subst (λ (b : Ahead). ProgressBy left plan k past old p taken b) is progress in
+    let more = looked.read is in
+    let read : HasRead old.reader p.reader goes.gave goes.before = subst (λ (b : Ahead). HasReadAhead old.reader p.reader goes.gave p.buf goes.before b) is goes.read in
+    goes_by left plan k past old q taken q.ahead (λ done. let e = looked.done done in cc)
+    (record {
+      before = goes.before;
+      taken_is = goes.taken_is;
+      gave = goes.gave ++ more.0;
+      takes = takes_twice (left old.ends.source) (left p.ends.source) (left q.ends.source) goes.gave more.0 goes.takes more.1;
+      read = read_ahead old.reader p.reader q.reader goes.gave more.0 goes.before q.buf (left q.ends.source) q.ahead read more.2;
+      comes = λ input will. goes.comes input (looked.comes input will);
+    })
+progress_look left source_faults plan k past old p q taken (ahead.Frame stamp len) is looked progress = progress_known left plan k past old p q taken (ahead.Frame stamp len) is tt looked.same progress
+progress_look left source_faults plan k past old p q taken (ahead.Long stamp len) is looked progress = progress_known left plan k past old p q taken (ahead.Long stamp len) is tt looked.same progress
+progress_look left source_faults plan k past old p q taken ahead.End is looked progress = progress_known left plan k past old p q taken ahead.End is tt looked.same progress
+progress_look left source_faults plan k past old p q taken (ahead.Malformed at) is looked progress = progress_known left plan k past old p q taken (ahead.Malformed at) is tt looked.same progress
+progress_look left source_faults plan k past old p q taken ahead.Failed is looked progress = progress_known left plan k past old p q taken ahead.Failed is tt looked.same progress
+progress_look left source_faults plan k past old p q taken ahead.Done is looked progress = progress_known left plan k past old p q taken ahead.Done is tt looked.same progress
 
 done_both : {S K C : Type 0} (left : S → Option (List ℕ)) (source_faults : S → ℕ) (p q : PortEnds S K C) → IsLooked left source_faults p q → p.ahead ≡ ahead.Done → q.ahead ≡ ahead.Done
 done_both {S} {K} {C} left source_faults p q looked is = ap (λ (r : PortEnds S K C). r.ahead) (looked.same (subst IsKnown (sym is) tt)) ∙ is
@@ -120,7 +136,7 @@ module _ {S K C : Type 0} (left : S → Option (List ℕ)) (written : K → Opti
   abbrev Runs : List (PortEnds S K C) → List Row → Type 0
   Runs ports past = Running left written source_faults sink_faults plan first ports past
 
-  module _ (ports new : List (PortEnds S K C)) (past : List Row) (r : Runs ports past) (looked : EachPair (IsLooked left source_faults) ports new) (known : All (λ p. IsKnown p.ahead) new) where
+  module _ (ports new : List (PortEnds S K C)) (past : List Row) (r : Runs ports past) (looked : EachPair (IsLooked left source_faults) ports new) where
     size_ports : length ports ≡ length first
     size_ports = r.later.size
 
@@ -156,7 +172,7 @@ module _ {S K C : Type 0} (left : S → Option (List ℕ)) (written : K → Opti
             let was = r.later.each k d inside in
             record { port = look.port ∙ was.port; source = omega (arith, look.later, was.source); sink = rw look.sink was.sink };
       };
-      sound = λ k d inside. (looked.each k d (omega (arith, size_ports))).sound (known k d (omega (arith, size_ports, looked.size)));
+      sound = λ k d inside. (looked.each k d (omega (arith, size_ports))).sound;
       taken = r.taken;
       taken_size = r.taken_size;
       reaches = λ rest there.
@@ -167,7 +183,7 @@ module _ {S K C : Type 0} (left : S → Option (List ℕ)) (written : K → Opti
           r.reaches rest (record { size = omega arith; of = there.of; each = λ k. left_at rest k there (cases_lt k (length ports)) });
       agree = agree_at;
       progress = λ k d inside. let within : k < length ports = omega (arith, size_ports) in
-          progress_look left source_faults plan k (get_or first k d) (get_or ports k d) (get_or new k d) (get_or r.taken k []) (get_or ports k d).ahead refl (looked.each k d within) (known k d (omega (arith, looked.size))) (r.progress k d inside);
+          progress_look left source_faults plan k past (get_or first k d) (get_or ports k d) (get_or new k d) (get_or r.taken k []) (get_or ports k d).ahead refl (looked.each k d within) (r.progress k d inside);
       control = r.control;
       outputs = r.outputs;
       quiet = r.quiet;
@@ -180,6 +196,7 @@ module _ {S K C : Type 0} (left : S → Option (List ℕ)) (written : K → Opti
     weight_open (ahead.Long stamp len) other = refl
     weight_open ahead.End other = refl
     weight_open (ahead.Malformed at) other = refl
+    weight_open ahead.Failed other = refl
     weight_open ahead.Done other = absurd (other refl)
 
     weight_kept : (k : ℕ) (d : PortEnds S K C) → k < length ports → (p : Ahead) → (get_or ports k d).ahead ≡ p → IsKnown p → weight (get_or new k d).ahead ≡ weight p
@@ -191,6 +208,7 @@ module _ {S K C : Type 0} (left : S → Option (List ℕ)) (written : K → Opti
     weight_look k d inside (ahead.Long stamp len) is = weight_kept k d inside (ahead.Long stamp len) is tt
     weight_look k d inside ahead.End is = weight_kept k d inside ahead.End is tt
     weight_look k d inside (ahead.Malformed at) is = weight_kept k d inside (ahead.Malformed at) is tt
+    weight_look k d inside ahead.Failed is = weight_kept k d inside ahead.Failed is tt
     weight_look k d inside ahead.Done is = weight_kept k d inside ahead.Done is tt
 
     pub look_undone : undone new ≡ undone ports

@@ -1,5 +1,5 @@
 -- The state of a replay before the first turn, and what each turn may ask of it.
-use Rattle.std.proofs.Common.{◌≡◌, ◌≢◌, ℕ, zero, suc, ◌<◌, ◌≤◌, true, false, List, [], ◌∷◌, ◌++◌, length, map, get_or, refl, sym, ap, ◌∙◌, subst, arith, Option, append-nil}
+use Rattle.std.proofs.Common.{◌≡◌, ◌≢◌, ℕ, zero, suc, ◌<◌, ◌≤◌, true, false, List, [], ◌∷◌, ◌++◌, length, map, get_or, refl, sym, ap, ◌∙◌, subst, arith, Option, IfSome, append-nil}
 use Rattle.std.proofs.lemmas.List.{length-map, get_or-map, same_lists}
 use Rattle.std.specs.List.{All}
 use Rattle.std.specs.List.Sorted.{IsStrictlyIncreasing}
@@ -26,12 +26,13 @@ use Rattle.port_worker.specs.declared.port_ends.Ahead.{Ahead}
 use Rattle.port_worker.specs.declared.port_ends.Ahead.TheVariants as ahead
 use Rattle.port_worker.specs.declared.port_ends.PortEnds.{PortEnds}
 use Rattle.port_worker.specs.Pairs.{EachPair}
-use Rattle.port_worker.specs.Inputs.{IsSound, IsReadable, IsLooked, WillCome}
+use Rattle.port_worker.specs.Inputs.{IsSound, IsReadable, IsLooked, Gives, WillCome}
 use Rattle.port_worker.specs.SentFrames.{records_of, OnlySink, IsBegun}
 use Rattle.port_worker.specs.Steps.{IsStepped}
 use Rattle.port_worker.specs.Replays.{IsUnread, IsLater, RoseAt, ports_held, ports_planned}
 use Rattle.port_worker.proofs.Planned.{count_is, number_is}
 use Rattle.port_worker.proofs.Records.{rose_later}
+use Rattle.port_worker.proofs.Joining.{front_none}
 use Rattle.port_worker.proofs.Progress.{head_of, Goes, ProgressBy}
 use Rattle.port_worker.proofs.Running.{Running, head_at, element}
 
@@ -88,6 +89,10 @@ stepped_later {S} {K} {C} source_faults sink_faults first old new later stepped 
       };
 }
 
+pub stepped_source : {S K C : Type 0} (source_faults : S → ℕ) (sink_faults : K → ℕ) (old new : List (PortEnds S K C)) → EachPair (IsStepped sink_faults) old new → (k : ℕ) (d : PortEnds S K C) → k < length old → source_faults (get_or old k d).ends.source ≤ source_faults (get_or new k d).ends.source
+stepped_source {S} {K} {C} source_faults sink_faults old new stepped k d within =
+    subst (λ (s : S). source_faults (get_or old k d).ends.source ≤ source_faults s) (sym (ap (λ (p : PortEnds S K C). p.ends.source) (stepped.each k d within).same)) (omega arith)
+
 pub rose_since : {S K C : Type 0} (faults : PortEnds S K C → ℕ) (port : Port) (first old new : List (PortEnds S K C)) → length old ≡ length first → ((k : ℕ) (d : PortEnds S K C) → k < length first → faults (get_or first k d) ≤ faults (get_or old k d))
     → RoseAt faults port old new → RoseAt faults port first new
 rose_since faults port first old new size later rose = (
@@ -116,6 +121,12 @@ module _ {S K C : Type 0} (left : S → Option (List ℕ)) (written : K → Opti
     ahead_is : (k : ℕ) (d : PortEnds S K C) → k < length first → (get_or ports k d).ahead ≡ ahead.Unread
     ahead_is k d inside = ap (λ (p : PortEnds S K C). p.ahead) (only.each k d inside).same ∙ (unread k d inside).0
 
+    source_is : (k : ℕ) (d : PortEnds S K C) → k < length first → (get_or first k d).ends.source ≡ (get_or ports k d).ends.source
+    source_is k d inside = sym (ap (λ (p : PortEnds S K C). p.ends.source) (only.each k d inside).same)
+
+    reader_is : (k : ℕ) (d : PortEnds S K C) → k < length first → (get_or first k d).reader ≡ (get_or ports k d).reader
+    reader_is k d inside = sym (ap (λ (p : PortEnds S K C). p.reader) (only.each k d inside).same)
+
     ended_none : (pass : ℕ) → pass ≢ control_pass plan → has_ended empty pass past ≡ false
     ended_none pass other = ended_other plan empty [] Control hows.End pass (λ e. other (sym e))
 
@@ -132,7 +143,12 @@ module _ {S K C : Type 0} (left : S → Option (List ℕ)) (written : K → Opti
     goes_at_first k d inside = record {
       before = [];
       taken_is = refl;
-      comes = λ input will. subst (λ (p : PortEnds S K C). WillCome left p input) (only.each k d inside).same will;
+      gave = [];
+      takes = ap left (source_is k d inside) ∙ sym (front_none (left (get_or ports k d).ends.source));
+      read = rw (ahead_is k d inside, sym (reader_is k d inside)) (λ rest later ending comes. comes);
+      comes = λ input will.
+          subst (λ (a : Ahead). IfSome (left (get_or first k d).ends.source) (λ octets. Gives (get_or first k d).reader (get_or first k d).buf a octets input)) (unread k d inside).0
+          (subst (λ (p : PortEnds S K C). WillCome left p input) (only.each k d inside).same will);
     }
 
     pub start : Running left written source_faults sink_faults plan first ports past
@@ -146,7 +162,7 @@ module _ {S K C : Type 0} (left : S → Option (List ℕ)) (written : K → Opti
           taken_size = nothing_count first;
           reaches = reaches_start plan empty (map head_of ports) (nothing_taken first) refl (λ rest size_r. let sizes = length-map ports head_of in nothing_joined first rest (omega arith));
           agree = agree_at;
-          progress = λ k d inside. rw (nothing_at first k) (subst (λ (a : Ahead). ProgressBy left plan k (get_or first k d) (get_or ports k d) [] a) (sym (ahead_is k d inside)) (goes_at_first k d inside));
+          progress = λ k d inside. rw (nothing_at first k) (subst (λ (a : Ahead). ProgressBy left plan k past (get_or first k d) (get_or ports k d) [] a) (sym (ahead_is k d inside)) (goes_at_first k d inside));
           control = ended_now plan empty [] Control hows.End;
           outputs = λ pass above. ended_none pass (λ same. absurd (omega arith));
           quiet = λ k inside. empty_end plan empty [] Control hows.End (number_at plan k) refl;

@@ -19,7 +19,9 @@ use Rattle.savi_history.specs.Passes.{has_ended, pass_of, place_of, control_pass
 use Rattle.savi_history.specs.Turns.{Turn, Ends, who_of}
 use Rattle.savi_history.specs.Picks.{IsLeast}
 use Rattle.savi_history.specs.Replay.{entered}
+use Rattle.savi_history.specs.PortInputs.{input_end}
 use Rattle.savi_history.proofs.Ends.{after_open}
+use Rattle.savi_history.proofs.PortInputs.{IsTurnOf, end_entered, other_entered}
 use Rattle.savi_history.proofs.PassNumbers.{place_at}
 use Rattle.savi_history.proofs.Reaching.{Head, Unread, Known, Done, Agrees, Reaches, reaches_take}
 use Rattle.savi_history.proofs.Reaching as reaching
@@ -32,9 +34,9 @@ use Rattle.port_worker.specs.SentFrames.{capture_of, IsSent}
 use Rattle.port_worker.specs.Steps.{IsStepped, ends_input, ahead_after}
 use Rattle.port_worker.specs.Replays.{ports_held, ports_planned}
 use Rattle.port_worker.proofs.Planned.{count_is, number_is, numbers_differ}
-use Rattle.port_worker.proofs.Fitting.{FitsSoFar, fits_turned}
+use Rattle.port_worker.proofs.Fitting.{FitsSoFar, fits_turned, turn_port}
 use Rattle.port_worker.proofs.Entered.{ended_entered_other, ended_entered_open, ended_entered_done, quiet_entered}
-use Rattle.port_worker.proofs.Progress.{head_of, head_ahead, turn_at_moment, AtTurn, at_turn, Goes, Progress, goes_at, goes_on_at, stops_at, ends_at, progress_sink}
+use Rattle.port_worker.proofs.Progress.{head_of, head_ahead, turn_at_moment, AtTurn, AtFailure, at_turn, Goes, Progress, goes_at, goes_on_at, stops_at, ends_at, fails_at, progress_kept}
 use Rattle.port_worker.proofs.Measures.{weight, undone, undone_same, undone_less, entered_longer, goes_below}
 use Rattle.port_worker.proofs.Running.{Running, head_at, element, moments_same, all_read, agrees_same}
 
@@ -50,6 +52,7 @@ readable_of plan past port state buf (ahead.Frame stamp len) t is goes sound = s
 readable_of plan past port state buf (ahead.Long stamp len) t is goes sound = sound.1
 readable_of plan past port state buf ahead.End t is goes sound = absurd (no_end plan past (Ends (Ingress port) hows.End) t is refl goes)
 readable_of plan past port state buf (ahead.Malformed at) t is goes sound = absurd (no_end plan past (Ends (Ingress port) (hows.Malformed at)) t is refl goes)
+readable_of plan past port state buf ahead.Failed t is goes sound = absurd (no_end plan past (Ends (Ingress port) hows.Failed) t is refl goes)
 readable_of plan past port state buf ahead.Done t is goes sound = cc
 
 pub known_open : {S K C : Type 0} (p : PortEnds S K C) (t : Turn) (h : Head) → h ≡ head_of p → h ≡ Known t → head_of p ≡ Known t
@@ -88,8 +91,9 @@ module _ {S K C : Type 0} (left : S → Option (List ℕ)) (written : K → Opti
   at_here = at_turn (left here.ends.source) here.port here.reader here.buf here.ahead turn turn_here.1
 
   who_from : AtTurn (left here.ends.source) here.port here.reader here.buf here.ahead turn → pass_of plan (who_of turn) ≡ j
-  who_from (inl arrives) = ap (λ (t : Turn). pass_of plan (who_of t)) arrives.1 ∙ ap (λ (p : Port). pass_of plan (Ingress p)) (port_is j d_here inside_first) ∙ pass_is j d_here inside_first
-  who_from (inr ends) = ap (λ (t : Turn). pass_of plan (who_of t)) ends.1 ∙ ap (λ (p : Port). pass_of plan (Ingress p)) (port_is j d_here inside_first) ∙ pass_is j d_here inside_first
+  who_from (inl arrives) = ap (λ (t : Turn). pass_of plan (who_of t)) arrives.is_turn ∙ ap (λ (p : Port). pass_of plan (Ingress p)) (port_is j d_here inside_first) ∙ pass_is j d_here inside_first
+  who_from (inr (inl ends)) = ap (λ (t : Turn). pass_of plan (who_of t)) ends.is_turn ∙ ap (λ (p : Port). pass_of plan (Ingress p)) (port_is j d_here inside_first) ∙ pass_is j d_here inside_first
+  who_from (inr (inr fails)) = ap (λ (t : Turn). pass_of plan (who_of t)) fails.is_turn ∙ ap (λ (p : Port). pass_of plan (Ingress p)) (port_is j d_here inside_first) ∙ pass_is j d_here inside_first
 
   pub who_is : pass_of plan (who_of turn) ≡ j
   who_is = who_from at_here
@@ -171,7 +175,7 @@ module _ {S K C : Type 0} (left : S → Option (List ℕ)) (written : K → Opti
         (subst (λ (h : Head). Agrees empty past k h) (head_at ports k d Done within) (r.agree k (omega arith))))
 
     goes_here : Goes left (get_or first j d_here) here (get_or r.taken j [])
-    goes_here = goes_at left plan j (get_or first j d_here) here (get_or r.taken j []) here.ahead turn here.port here.buf turn_here.1 (r.progress j d_here inside_first)
+    goes_here = goes_at left plan j past (get_or first j d_here) here (get_or r.taken j []) here.ahead turn here.port here.buf turn_here.1 (r.progress j d_here inside_first)
 
     source_there : there.ends.source ≡ here.ends.source
     source_there = ap (λ (p : PortEnds S K C). p.ends.source) same_there
@@ -182,22 +186,47 @@ module _ {S K C : Type 0} (left : S → Option (List ℕ)) (written : K → Opti
     ends_true : (ending : How) → turn ≡ Ends (Ingress here.port) ending → ends_input plan past turn ≡ false → ⊥
     ends_true ending is goes = let e : ends_input plan past turn ≡ true = ap (ends_input plan past) is in cc
 
+    ended_so : AtFailure here.port here.ahead turn → input_end (number_of (get_or first j d_here).port) now ≡ Some hows.Failed
+    ended_so fails =
+        let entered_end : input_end (number_of here.port) (entered plan empty turn past) ≡ Some hows.Failed =
+        ap (λ (t : Turn). input_end (number_of here.port) (entered plan empty t past)) fails.is_turn ∙ (end_entered plan empty past here.port hows.Failed).ended_so in
+        ap (λ (p : Port). input_end (number_of p) now) (sym (port_is j d_here inside_first)) ∙ ap (λ (l : List Row). input_end (number_of here.port) l) now_is ∙ entered_end
+
     progress_there : (b : Bool) → ends_input plan past turn ≡ b → there.ahead ≡ ahead_after b → AtTurn (left here.ends.source) here.port here.reader here.buf here.ahead turn
-        → Progress left plan j (get_or first j d_here) there (get_or r.taken j [] ++ turn ∷ [])
+        → Progress left plan j now (get_or first j d_here) there (get_or r.taken j [] ++ turn ∷ [])
     progress_there true ends is (inl arrives) =
-        stops_at left plan j (get_or first j d_here) here there (get_or r.taken j []) turn (port_is j d_here inside_first) (pass_is j d_here inside_first) turn_here.1 goes_here source_there reader_there is arrives.0 arrives.1 arrives.2
-    progress_there true ends is (inr ending) =
-        ends_at left plan j (get_or first j d_here) here there (get_or r.taken j []) turn (port_is j d_here inside_first) (pass_is j d_here inside_first) turn_here.1 goes_here source_there reader_there is ending.0 ending.1 ending.2
+        stops_at left plan j now (get_or first j d_here) here there (get_or r.taken j []) turn (port_is j d_here inside_first) (pass_is j d_here inside_first) goes_here source_there reader_there is (r.sound j d_here inside_first) arrives
+    progress_there true ends is (inr (inl ending)) =
+        ends_at left plan j now (get_or first j d_here) here there (get_or r.taken j []) turn (port_is j d_here inside_first) (pass_is j d_here inside_first) goes_here source_there reader_there is ending
+    progress_there true ends is (inr (inr fails)) =
+        fails_at left plan j now (get_or first j d_here) here there (get_or r.taken j []) turn (port_is j d_here inside_first) (pass_is j d_here inside_first) goes_here source_there reader_there is (ended_so fails) fails
     progress_there false ends is (inl arrives) =
-        goes_on_at left plan j (get_or first j d_here) here there (get_or r.taken j []) turn (port_is j d_here inside_first) (pass_is j d_here inside_first) turn_here.1 goes_here source_there reader_there is arrives.0 arrives.1 arrives.2
-    progress_there false ends is (inr ending) = absurd (ends_true ending.0 ending.1 ends)
+        goes_on_at left plan j now (get_or first j d_here) here there (get_or r.taken j []) turn (port_is j d_here inside_first) (pass_is j d_here inside_first) goes_here source_there reader_there is arrives
+    progress_there false ends is (inr (inl ending)) = absurd (ends_true ending.ending ending.is_turn ends)
+    progress_there false ends is (inr (inr fails)) = absurd (ends_true hows.Failed fails.is_turn ends)
 
     same_other : (k : ℕ) (d : PortEnds S K C) → k ≢ j → k < length ports → get_or new k d ≡ record (get_or ports k d) { ends = record (get_or ports k d).ends { sink = (get_or new k d).ends.sink } }
     same_other k d other within =
         (stepped.each k d within).same
         ∙ ap (λ (a : Ahead). record (get_or ports k d) { ends = record (get_or ports k d).ends { sink = (get_or new k d).ends.sink }; ahead = a }) (others k d other within)
 
-    progress_at : (k : ℕ) (d : PortEnds S K C) → k < length first → (k ≡ j) ⊎ (k ≢ j) → Progress left plan k (get_or first k d) (get_or new k d) (get_or (set r.taken j (get_or r.taken j [] ++ turn ∷ [])) k [])
+    turn_at : (d : PortEnds S K C) → turn_of (get_or ports j d) ≡ Some turn
+    turn_at d = subst (λ (p : PortEnds S K C). turn_of p ≡ Some turn) (get_or_default ports j d_here d inside) turn_here.1
+
+    numbers_apart : (k : ℕ) (d : PortEnds S K C) → k < length first → k ≢ j → number_of (get_or first j d).port ≢ number_of (get_or first k d).port
+    numbers_apart k d within other same =
+        let count = count_is first plan planned in
+        let here_within = inside_first in
+        numbers_differ plan k j rising (omega arith) (omega arith) other (sym (number_is first plan k d planned within) ∙ sym same ∙ number_is first plan j d planned inside_first)
+
+    -- the history holds the same ending of the other ports
+    end_kept : (k : ℕ) (d : PortEnds S K C) → k ≢ j → k < length first → input_end (number_of (get_or first k d).port) now ≡ input_end (number_of (get_or first k d).port) past
+    end_kept k d other within =
+        let n = number_of (get_or first k d).port in
+        let whose : IsTurnOf (get_or first j d).port turn = subst (λ (p : Port). IsTurnOf p turn) (port_is j d inside_first) (turn_port (get_or ports j d).port (get_or ports j d).buf (get_or ports j d).ahead turn (turn_at d)) in
+        ap (λ (l : List Row). input_end n l) now_is ∙ (other_entered plan empty past (get_or first j d).port turn n whose (numbers_apart k d within other)).end_same
+
+    progress_at : (k : ℕ) (d : PortEnds S K C) → k < length first → (k ≡ j) ⊎ (k ≢ j) → Progress left plan k now (get_or first k d) (get_or new k d) (get_or (set r.taken j (get_or r.taken j [] ++ turn ∷ [])) k [])
     progress_at k d within (inl same) =
         let size_t = r.taken_size in
         let size_n = size_new in
@@ -207,8 +236,8 @@ module _ {S K C : Type 0} (left : S → Option (List ℕ)) (written : K → Opti
     progress_at k d within (inr other) =
         let size_p = r.later.size in
         rw (get_or-set_other r.taken j k (get_or r.taken j [] ++ turn ∷ []) [] other)
-        (subst (λ (p : PortEnds S K C). Progress left plan k (get_or first k d) p (get_or r.taken k [])) (sym (same_other k d other (omega arith)))
-        (progress_sink left plan k (get_or first k d) (get_or ports k d) (get_or new k d).ends.sink (get_or r.taken k []) (get_or ports k d).ahead (r.progress k d within)))
+        (subst (λ (p : PortEnds S K C). Progress left plan k now (get_or first k d) p (get_or r.taken k [])) (sym (same_other k d other (omega arith)))
+        (progress_kept left plan k past now (get_or first k d) (get_or ports k d) (get_or new k d).ends.sink (get_or r.taken k []) (get_or ports k d).ahead (end_kept k d other within) (r.progress k d within)))
 
     sound_there : (b : Bool) → ends_input plan past turn ≡ b → there.ahead ≡ ahead_after b → IsSound there.reader there.ahead
     sound_there true ends is = rw is tt
@@ -265,6 +294,7 @@ module _ {S K C : Type 0} (left : S → Option (List ℕ)) (written : K → Opti
     weight_one (ahead.Long stamp len) port buf is = refl
     weight_one ahead.End port buf is = refl
     weight_one (ahead.Malformed at) port buf is = refl
+    weight_one ahead.Failed port buf is = refl
     weight_one ahead.Done port buf is = cc
 
     weight_here : weight here.ahead ≡ 1
@@ -294,18 +324,9 @@ module _ {S K C : Type 0} (left : S → Option (List ℕ)) (written : K → Opti
     pub smaller : (plan.entries - length now) + undone new < (plan.entries - length past) + undone ports
     smaller = smaller_at (ends_input plan past turn) refl there_ahead
 
-    turn_at : (d : PortEnds S K C) → turn_of (get_or ports j d) ≡ Some turn
-    turn_at d = subst (λ (p : PortEnds S K C). turn_of p ≡ Some turn) (get_or_default ports j d_here d inside) turn_here.1
-
     ahead_at : (d : PortEnds S K C) → (get_or new j d).ahead ≡ ahead_after (ends_input plan past turn)
     ahead_at d = subst (λ (o : Option Turn). IfSome o (λ t. (get_or new j d).ahead ≡ ahead_after (ends_input plan past t))) (turn_at d) (ahead_is d)
 
-    numbers_apart : (k : ℕ) (d : PortEnds S K C) → k < length first → k ≢ j → number_of (get_or first j d).port ≢ number_of (get_or first k d).port
-    numbers_apart k d within other same =
-        let count = count_is first plan planned in
-        let here_within = inside_first in
-        numbers_differ plan k j rising (omega arith) (omega arith) other (sym (number_is first plan k d planned within) ∙ sym same ∙ number_is first plan j d planned inside_first)
-
     -- the sources still fit the history
-    pub fits_step : EachPair (FitsSoFar left past) first ports → EachPair (FitsSoFar left now) first new
-    fits_step so_far = fits_turned left sink_faults plan first ports new past now j turn port_is numbers_apart inside_first so_far stepped others turn_at now_is ahead_at
+    pub fits_step : EachPair (FitsSoFar left source_faults past) first ports → EachPair (FitsSoFar left source_faults now) first new
+    fits_step so_far = fits_turned left source_faults sink_faults plan first ports new past now j turn port_is numbers_apart inside_first so_far stepped others turn_at now_is ahead_at

@@ -2,11 +2,10 @@
 use Rattle.std.specs.Prelude.{ℕ, List}
 use Rattle.port_worker.specs.declared.port_ends.PortEnds.{PortEnds}
 use Rattle.port_worker.specs.declared.turns.Stopped.{Stopped}
-use Rattle.port_worker.specs.declared.turns.Stopped.TheVariants.{Finished, ReadFault, WriteFault}
+use Rattle.port_worker.specs.declared.turns.Stopped.TheVariants.{Finished, WriteFault}
 use Rattle.port_worker.specs.Replays.{RoseAt}
 
--- where it stopped for a fault, the count of that source or sink rose
-abbrev pub IsCause : {S K C : Type 0} → (S → ℕ) → (K → ℕ) → List (PortEnds S K C) → List (PortEnds S K C) → Stopped → Type 0
-IsCause source_faults sink_faults old new Finished = Unit {0}
-IsCause source_faults sink_faults old new (ReadFault port) = RoseAt (λ p. source_faults p.ends.source) port old new
-IsCause source_faults sink_faults old new (WriteFault port) = RoseAt (λ p. sink_faults p.ends.sink) port old new
+-- where it stopped for a write that failed, the count of that sink rose
+abbrev pub IsCause : {S K C : Type 0} → (K → ℕ) → List (PortEnds S K C) → List (PortEnds S K C) → Stopped → Type 0
+IsCause sink_faults old new Finished = Unit {0}
+IsCause sink_faults old new (WriteFault port) = RoseAt (λ p. sink_faults p.ends.sink) port old new

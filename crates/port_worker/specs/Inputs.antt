@@ -6,8 +6,9 @@ use Rattle.savi_kinds.specs.declared.entry.How.TheVariants as hows
 use Rattle.savi_kinds.specs.Arrivals.{Arrival, Input}
 use Rattle.savi_kinds.specs.Arrivals as arrivals
 use Rattle.pcap_io.specs.Runs.{ended}
+use Rattle.savi_ends.specs.Faults.{Rose}
 use Rattle.savi_ends.specs.Octets.{Takes}
-use Rattle.pcap_io.specs.Readers.{State, Ended, Comes, HasReadOne, HasEnded}
+use Rattle.pcap_io.specs.Readers.{State, Ended, Comes, HasReadOne, HasEnded, HasFailed}
 use Rattle.savi_history.specs.Turns.{Turn, Arrives, Ends}
 use Rattle.port_worker.specs.declared.port_ends.Ahead.{Ahead}
 use Rattle.port_worker.specs.declared.port_ends.Ahead.TheVariants as ahead
@@ -20,6 +21,7 @@ turn_ahead port buf (ahead.Frame stamp len) = Some (Arrives port (arrivals.Frame
 turn_ahead port buf (ahead.Long stamp len) = Some (Arrives port (arrivals.Long stamp len))
 turn_ahead port buf ahead.End = Some (Ends (Ingress port) hows.End)
 turn_ahead port buf (ahead.Malformed at) = Some (Ends (Ingress port) (hows.Malformed at))
+turn_ahead port buf ahead.Failed = Some (Ends (Ingress port) hows.Failed)
 turn_ahead port buf ahead.Done = None
 
 -- the turn that was read and isn't entered yet
@@ -32,6 +34,7 @@ moment_ahead (ahead.Frame stamp len) = Some (suc stamp)
 moment_ahead (ahead.Long stamp len) = Some (suc stamp)
 moment_ahead ahead.End = Some 0
 moment_ahead (ahead.Malformed at) = Some 0
+moment_ahead ahead.Failed = Some 0
 moment_ahead ahead.Done = None
 
 -- when that turn comes: an ending at once, and an arrival by its stamp
@@ -53,6 +56,7 @@ IsSound state (ahead.Frame stamp len) = (len ≤ 1518) × IsReadable state
 IsSound state (ahead.Long stamp len) = (1518 < len) × IsReadable state
 IsSound state ahead.End = Unit {0}
 IsSound state (ahead.Malformed at) = at < 2 ^ 64
+IsSound state ahead.Failed = Unit {0}
 IsSound state ahead.Done = Unit {0}
 
 -- The next input was read, or the input has ended.
@@ -62,28 +66,33 @@ IsKnown (ahead.Frame stamp len) = Unit {0}
 IsKnown (ahead.Long stamp len) = Unit {0}
 IsKnown ahead.End = Unit {0}
 IsKnown (ahead.Malformed at) = Unit {0}
+IsKnown ahead.Failed = Unit {0}
 IsKnown ahead.Done = Unit {0}
 
--- With these octets left in the source this input comes, what was read of it in front.
+-- With these octets left in the source this input comes, what was read of it in front. Behind a read that failed none
+-- comes, whatever is left.
 abbrev pub Gives : State → List ℕ → Ahead → List ℕ → Input → Type 0
 Gives state buf ahead.Unread octets input = Comes state octets input
 Gives state buf (ahead.Frame stamp len) octets input = (later : Input) × (input ≡ with_first (arrivals.Frame stamp (take len buf)) later) × Comes state octets later
 Gives state buf (ahead.Long stamp len) octets input = (later : Input) × (input ≡ with_first (arrivals.Long stamp len) later) × Comes state octets later
 Gives state buf ahead.End octets input = input ≡ ended hows.End
 Gives state buf (ahead.Malformed at) octets input = input ≡ ended (hows.Malformed at)
+Gives state buf ahead.Failed octets input = ⊥
 Gives state buf ahead.Done octets input = Unit {0}
 
 -- This input is still to come at the port, where its source tells what is left.
 abbrev pub WillCome : {S K C : Type 0} → (S → Option (List ℕ)) → PortEnds S K C → Input → Type 0
 WillCome left p input = IfSome (left p.ends.source) (λ octets. Gives p.reader p.buf p.ahead octets input)
 
--- The octets that were taken from the source for what is known next are that arrival, or the input ends with them.
+-- The octets that were taken from the source for what is known next are that arrival, or the input ends with them, or a
+-- read failed behind them.
 abbrev pub IsReadAs : State → State → List ℕ → List ℕ → Option (List ℕ) → Ahead → Type 0
 IsReadAs old new gave buf left ahead.Unread = ⊥
 IsReadAs old new gave buf left (ahead.Frame stamp len) = HasReadOne old new gave (arrivals.Frame stamp (take len buf))
 IsReadAs old new gave buf left (ahead.Long stamp len) = HasReadOne old new gave (arrivals.Long stamp len)
 IsReadAs old new gave buf left ahead.End = HasEnded old new gave left hows.End
 IsReadAs old new gave buf left (ahead.Malformed at) = HasEnded old new gave left (hows.Malformed at)
+IsReadAs old new gave buf left ahead.Failed = HasFailed old new gave
 IsReadAs old new gave buf left ahead.Done = ⊥
 
 abbrev pub ReadsAhead : {S K C : Type 0} → (S → Option (List ℕ)) → PortEnds S K C → PortEnds S K C → Type 0
@@ -94,9 +103,11 @@ ReadsAhead left old new =
 pub record IsLooked {S K C : Type 0} (left : S → Option (List ℕ)) (faults : S → ℕ) (old new : PortEnds S K C) : Type 0 where
   pub port : new.port ≡ old.port
   pub sink : new.ends.sink ≡ old.ends.sink
-  pub sound : IsKnown new.ahead → IsSound new.reader new.ahead
+  pub known : IsKnown new.ahead
+  pub sound : IsSound new.reader new.ahead
   pub later : faults old.ends.source ≤ faults new.ends.source
-  pub comes : IsKnown new.ahead → (input : Input) → WillCome left new input → WillCome left old input
+  pub comes : (input : Input) → WillCome left new input → WillCome left old input
   pub same : IsKnown old.ahead → new ≡ old
   pub done : new.ahead ≡ ahead.Done → old.ahead ≡ ahead.Done
-  pub read : old.ahead ≡ ahead.Unread → IsKnown new.ahead → ReadsAhead left old new
+  pub read : old.ahead ≡ ahead.Unread → ReadsAhead left old new
+  pub failed : old.ahead ≡ ahead.Unread → new.ahead ≡ ahead.Failed → Rose (faults old.ends.source) (faults new.ends.source)

@@ -1,9 +1,11 @@
 -- What a replay does.
-use Rattle.std.specs.Prelude.{◌≡◌, ℕ, ◌<◌, ◌≤◌, List, map, length, slice_index_or, Option, IfSome}
+use Rattle.std.specs.Prelude.{◌≡◌, ℕ, ◌<◌, ◌≤◌, List, map, length, slice_index_or, Option, Some}
 use Rattle.savi_kinds.specs.declared.plan.Plan.{Plan}
 use Rattle.savi_kinds.specs.declared.port.Port.{Port}
 use Rattle.savi_kinds.specs.Ports.{number_of}
-use Rattle.savi_kinds.specs.Arrivals.{Input}
+use Rattle.savi_kinds.specs.declared.entry.How.{How}
+use Rattle.savi_kinds.specs.declared.entry.How.TheVariants as hows
+use Rattle.savi_kinds.specs.Arrivals.{Arrival, Input}
 use Rattle.savi_ends.specs.Octets.{behind}
 use Rattle.savi_ends.specs.Faults.{Rose}
 use Rattle.pcap_io.specs.Readers.{Comes}
@@ -11,7 +13,7 @@ use Rattle.hist_store.specs.Rows.{Row}
 use Rattle.savi_history.specs.Bases.{empty}
 use Rattle.savi_history.specs.Replay.{replayed}
 use Rattle.savi_history.specs.PortInputs.{arrived, input_end}
-use Rattle.savi_history.specs.Fits.{Fits}
+use Rattle.savi_history.specs.Fits.{Fits, IsWhole, IsBroken}
 use Rattle.port_worker.specs.declared.port_ends.Ahead.TheVariants as ahead
 use Rattle.port_worker.specs.declared.port_ends.PortEnds.{PortEnds}
 use Rattle.port_worker.specs.Inputs.{IsReadable}
@@ -40,14 +42,31 @@ pub record IsLater {S K C : Type 0} (source_faults : S → ℕ) (sink_faults : K
   pub source : source_faults old.ends.source ≤ source_faults new.ends.source
   pub sink : sink_faults old.ends.sink ≤ sink_faults new.ends.sink
 
--- The history is the one of a replay of these inputs, one for each port in its order: where a source tells its octets,
--- they are its input, read to the end or not; and each sink holds, behind what it held, the capture of what was sent.
+-- What the octets of a port's source are to its input, by how the input ends; `ended_so` is how it ended in the history.
+-- At its end or at a place at fault: they are all that the source had left, read to the end or not. At a read that failed:
+-- the history says so, and they are what the source gave up, with no whole arrival behind the input's.
+abbrev pub IsInputOf : (List ℕ → Input → Type 0) → Option (List ℕ) → Option (List ℕ) → Option How → List Arrival → How → Type 0
+IsInputOf Arrives before after ended_so arrivals hows.End = IsWhole Arrives before arrivals hows.End
+IsInputOf Arrives before after ended_so arrivals hows.Quit = IsWhole Arrives before arrivals hows.Quit
+IsInputOf Arrives before after ended_so arrivals (hows.Malformed at) = IsWhole Arrives before arrivals (hows.Malformed at)
+IsInputOf Arrives before after ended_so arrivals (hows.Overlong at) = IsWhole Arrives before arrivals (hows.Overlong at)
+IsInputOf Arrives before after ended_so arrivals hows.Failed = (ended_so ≡ Some hows.Failed) × IsBroken Arrives before after arrivals
+IsInputOf Arrives before after ended_so arrivals hows.Unwritten = IsWhole Arrives before arrivals hows.Unwritten
+IsInputOf Arrives before after ended_so arrivals (hows.Full len) = IsWhole Arrives before arrivals (hows.Full len)
+
+-- the same at a port, behind this history
+abbrev pub IsInputAt : {S K C : Type 0} → (S → Option (List ℕ)) → List Row → PortEnds S K C → PortEnds S K C → Input → Type 0
+IsInputAt left past old new input =
+    IsInputOf (Comes old.reader) (left old.ends.source) (left new.ends.source) (input_end (number_of old.port) past) input.arrivals input.ending
+
+-- The history is the one of a replay of these inputs, one for each port in its order: the octets of each source are its
+-- input; and each sink holds, behind what it held, the capture of what was sent.
 pub record IsReplayed {S K C : Type 0} (left : S → Option (List ℕ)) (written : K → Option (List ℕ)) (plan : Plan) (past : List Row) (old new : List (PortEnds S K C)) : Type 0 where
   pub inputs : List Input
   pub size : length inputs ≡ length old
   pub history : past ≡ replayed plan empty inputs
   pub arrived : (k : ℕ) (d : PortEnds S K C) (i : Input) → k < length old
-      → IfSome (left (slice_index_or old k d).ends.source) (λ octets. Comes (slice_index_or old k d).reader octets (slice_index_or inputs k i))
+      → IsInputAt left past (slice_index_or old k d) (slice_index_or new k d) (slice_index_or inputs k i)
   pub wrote : (k : ℕ) (d : PortEnds S K C) → k < length old
       → written (slice_index_or new k d).ends.sink ≡ behind (written (slice_index_or old k d).ends.sink) (capture_of (number_of (slice_index_or old k d).port) past)
 
@@ -55,3 +74,8 @@ pub record IsReplayed {S K C : Type 0} (left : S → Option (List ℕ)) (written
 abbrev pub IsFit : {S K C : Type 0} → (S → Option (List ℕ)) → List Row → PortEnds S K C → PortEnds S K C → Type 0
 IsFit left past old new =
     Fits (Comes old.reader) (left old.ends.source) (left new.ends.source) (arrived (number_of old.port) past) (input_end (number_of old.port) past)
+
+-- where the history says that a read of the port's input failed, the count of its source rose
+abbrev pub HasBroken : {S K C : Type 0} → (S → ℕ) → List Row → PortEnds S K C → PortEnds S K C → Type 0
+HasBroken source_faults past old new =
+    input_end (number_of old.port) past ≡ Some hows.Failed → Rose (source_faults old.ends.source) (source_faults new.ends.source)

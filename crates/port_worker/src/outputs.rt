@@ -11,6 +11,7 @@ ghost use Rattle.savi_ends.specs.Writes.{Extends};
 ghost use Rattle.pcap_io.specs.Captures.{header_text};
 ghost use Rattle.savi_history.specs.Bases.{empty};
 ghost use Rattle.savi_history.specs.Queues.{queue};
+ghost use Rattle.savi_history.specs.PortInputs.{input_end};
 ghost use Rattle.savi_history.specs.Legal.{IsOpen};
 ghost use Rattle.savi_history.specs.Replay.{drained};
 ghost use Rattle.port_worker.specs.Pairs.{EachPair};
@@ -50,6 +51,7 @@ pub(crate) fn drain_all<S, K: Sink, C>(
     requires open { All (λ p. IsOpen core.old.plan empty core.old.past (Egress p.port)) ports.old }
     requires few { All (λ p. length (queue empty (number_of p.port) core.old.past) ≤ 256) ports.old }
     ensures plan { core.new.plan ≡ core.old.plan }
+    ensures inputs { (n : ℕ) → input_end n core.new.past ≡ input_end n core.old.past }
     ensures drained { result ≡ None → core.new.past ≡ drained core.old.plan empty core.old.plan.ports core.old.past }
     ensures sinks { EachPair (OnlySink K.faults) ports.old ports.new }
     ensures sent { result ≡ None → EachPair (IsSent K.written core.old.past core.new.past) ports.old ports.new }

@@ -2,6 +2,7 @@
 
 ghost use Rattle.std.specs.Prelude.{◌≡◌, ◌≢◌, ◌≤◌, ◌^◌, ◌<◌, true, false, IsSome, IfSome, Option, Some, ℕ};
 
+use frame_class::class;
 use pcap_io::PcapReader;
 use savi_core::{Core, Event, Stepped};
 use savi_ends::{Clock, Ends, Sink, Source};
@@ -30,6 +31,8 @@ enum Ahead {
     End,
     // The place of what is at fault.
     Malformed { at: u64 },
+    // A read failed.
+    Failed,
     // The end of the input was entered.
     Done,
 }
@@ -79,24 +82,21 @@ impl<S, K, C> PortEnds<S, K, C> {
             Ahead::Frame { stamp, len: _ } | Ahead::Long { stamp, len: _ } => {
                 Some(u128::from(stamp) + 1)
             }
-            Ahead::End | Ahead::Malformed { at: _ } => Some(0),
+            Ahead::End | Ahead::Malformed { at: _ } | Ahead::Failed => Some(0),
         }
     }
 }
 
 impl<S: Source, K, C: Clock> PortEnds<S, K, C> {
-    ghost use Rattle.savi_ends.specs.Faults.{Rose};
-    ghost use Rattle.port_worker.specs.Inputs.{IsSound, IsKnown, IsLooked};
+    ghost use Rattle.port_worker.specs.Inputs.{IsSound, IsLooked};
 
-    // Reads what comes next, where that isn't known. The answer is false where a read failed.
-    pub(crate) fn look(&mut self) -> bool
+    // Reads what comes next, where that isn't known.
+    pub(crate) fn look(&mut self)
         requires { IsSound self.old.reader self.old.ahead }
-        ensures looked { IsLooked S.left S.faults self.old self.new }
-        ensures known { result ≡ true → IsKnown self.new.ahead }
-        ensures failed { result ≡ false → Rose (S.faults self.old.ends.source) (S.faults self.new.ends.source) }
+        ensures { IsLooked S.left S.faults self.old self.new }
     {
         let Ahead::Unread = self.ahead else {
-            return true;
+            return;
         };
         match self
             .reader
@@ -106,9 +106,8 @@ impl<S: Source, K, C: Clock> PortEnds<S, K, C> {
             Next::Long { stamp, len } => self.ahead = Ahead::Long { stamp, len },
             Next::End => self.ahead = Ahead::End,
             Next::Malformed { at } => self.ahead = Ahead::Malformed { at },
-            Next::Failed => return false,
+            Next::Failed => self.ahead = Ahead::Failed,
         }
-        true
     }
 }
 
@@ -137,10 +136,13 @@ impl<S, K, C> PortEnds<S, K, C> {
     {
         match self.ahead {
             Ahead::Frame { stamp, len } => {
+                let octets = &self.buf[..len as usize];
+                let class = class(octets);
                 let stepped = core.step(Event::Frame {
                     port: self.port,
                     stamp,
-                    octets: &self.buf[..len as usize],
+                    octets,
+                    class: &class,
                 });
                 self.settle(core, stepped)
             }
@@ -154,6 +156,7 @@ impl<S, K, C> PortEnds<S, K, C> {
             }
             Ahead::End => self.end(core, How::End),
             Ahead::Malformed { at } => self.end(core, How::Malformed(at)),
+            Ahead::Failed => self.end(core, How::Failed),
             Ahead::Unread | Ahead::Done => unreachable!(),
         }
     }

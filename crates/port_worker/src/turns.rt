@@ -9,6 +9,7 @@ ghost use Rattle.savi_kinds.specs.declared.entry.How.TheVariants as hows;
 ghost use Rattle.savi_history.specs.Bases.{empty};
 ghost use Rattle.savi_history.specs.Passes.{AllEnded, control_pass, has_ended};
 ghost use Rattle.savi_history.specs.Queues.{queue, sent};
+ghost use Rattle.savi_history.specs.PortInputs.{input_end};
 ghost use Rattle.savi_history.specs.Legal.{IsOpen, IsFinished};
 ghost use Rattle.savi_history.specs.Events.{End};
 ghost use Rattle.savi_history.specs.Replay.{entered, egress_ended, with_event};
@@ -17,7 +18,7 @@ ghost use Rattle.port_worker.specs.Pairs.{EachPair};
 ghost use Rattle.port_worker.specs.Inputs.{IsSound, turn_of};
 ghost use Rattle.port_worker.specs.SentFrames.{IsSent};
 ghost use Rattle.port_worker.specs.Steps.{IsStepped, ends_input, ahead_after};
-ghost use Rattle.port_worker.specs.Replays.{RoseAt, ports_held, ports_planned, IsUnread, IsLater, IsReplayed, IsFit};
+ghost use Rattle.port_worker.specs.Replays.{RoseAt, ports_held, ports_planned, IsUnread, IsLater, IsReplayed, IsFit, HasBroken};
 ghost use Rattle.port_worker.specs.Causes.{IsCause};
 
 use crate::choice::next_of;
@@ -33,8 +34,6 @@ use savi_kinds::{How, Port, Who};
 pub enum Stopped {
     /// All inputs have ended, and every pass has.
     Finished,
-    /// A read failed at this port.
-    ReadFault { port: Port },
     /// A write failed at this port.
     WriteFault { port: Port },
 }
@@ -47,8 +46,9 @@ pub enum Stopped {
 /// An input for whose arrival the history has no room ends for that, and what is left of it isn't read. Where all have
 /// ended the ticker ends, and then each egress.
 ///
-/// The first read or write that fails stops the replay. It returns for every input. O(ports), at most 16, for each entry
-/// beside one pass over the octets of the frames; it takes no memory.
+/// A read that fails ends the input of its port, at once, and the other inputs go on. The first write that fails stops the
+/// replay. It returns for every input. O(ports), at most 16, for each entry beside one pass over the octets of the frames;
+/// it takes no memory.
 pub fn replay<S: Source, K: Sink, C: Clock>(
     core: &mut Core,
     ports: &mut [PortEnds<S, K, C>],
@@ -63,7 +63,8 @@ pub fn replay<S: Source, K: Sink, C: Clock>(
     ensures finished { result ≡ Stopped.Finished → IsReplayed S.left K.written core.old.plan core.new.past ports.old ports.new }
     ensures fits { result ≡ Stopped.Finished → EachPair (IsFit S.left core.new.past) ports.old ports.new }
     ensures ended { result ≡ Stopped.Finished → IsFinished core.old.plan empty core.new.past }
-    ensures cause { IsCause S.faults K.faults ports.old ports.new result }
+    ensures broken { EachPair (HasBroken S.faults core.new.past) ports.old ports.new }
+    ensures cause { IsCause K.faults ports.old ports.new result }
 {
     if let Some(port) = begin_all(ports) {
         return Stopped::WriteFault { port };
@@ -73,9 +74,7 @@ pub fn replay<S: Source, K: Sink, C: Clock>(
         how: How::End,
     });
     'turns: loop {
-        if let Some(port) = look_all(ports) {
-            return Stopped::ReadFault { port };
-        }
+        look_all(ports);
         let Some(place) = next_of(ports) else {
             finish(core, ports);
             return Stopped::Finished;
@@ -109,6 +108,7 @@ fn advance<S, K: Sink, C>(
     ensures ahead { result ≡ None → (d : PortEnds S K C) → IfSome (turn_of (slice_index_or ports.old place d)) (λ turn. (slice_index_or ports.new place d).ahead ≡ ahead_after (ends_input core.old.plan core.old.past turn)) }
     ensures sent { result ≡ None → EachPair (IsSent K.written core.old.past core.new.past) ports.old ports.new }
     ensures failed { IfSome result (λ port. RoseAt (λ p. K.faults p.ends.sink) port ports.old ports.new) }
+    ensures inputs { IsSome result → (n : ℕ) → input_end n core.new.past ≡ input_end n core.old.past }
 {
     if ports[place].enter(core) {
         return drain_all(core, ports, batch);

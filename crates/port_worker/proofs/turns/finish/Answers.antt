@@ -5,8 +5,8 @@ use Rattle.savi_kinds.specs.declared.entry.Who.TheVariants.{Egress}
 use Rattle.savi_kinds.specs.declared.entry.How.TheVariants as hows
 use Rattle.port_worker.proofs.turns.finish.Goals as goal
 
-pub step-egress-requires : goal.step-egress-requires
-step-egress-requires g c =
+pub step-egress-requires-clause-may : goal.step-egress-requires-clause-may
+step-egress-requires-clause-may g c =
     let ports = c.args.ports.now in
     let plan = c.args.core.now.plan in
     let place = c.loop-place.place in

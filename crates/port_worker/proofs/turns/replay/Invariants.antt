@@ -9,7 +9,7 @@ abbrev pub invariant-turns : goal.invariant-turns
 invariant-turns g l = record {
   same_plan : l.core.plan ≡ l.fn.core.plan;
   runs : Running g.S.Source.left g.K.Sink.written g.S.Source.faults g.K.Sink.faults l.fn.core.plan l.fn.ports l.ports l.core.past;
-  fits : EachPair (FitsSoFar g.S.Source.left l.core.past) l.fn.ports l.ports;
+  fits : EachPair (FitsSoFar g.S.Source.left g.S.Source.faults l.core.past) l.fn.ports l.ports;
 }
 
 abbrev pub decreases-turns : goal.decreases-turns

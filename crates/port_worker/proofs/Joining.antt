@@ -1,0 +1,30 @@
+-- One read behind another.
+use Rattle.std.proofs.Common.{◌≡◌, ℕ, List, [], ◌++◌, refl, sym, ap, ◌∙◌, subst, append_assoc, append-nil, Option, Some, None}
+use Rattle.savi_kinds.specs.declared.entry.How.{How}
+use Rattle.savi_kinds.specs.Arrivals.{Arrival}
+use Rattle.savi_ends.specs.Octets.{in_front, Takes}
+use Rattle.pcap_io.specs.Readers.{State, Comes, HasRead}
+use Rattle.pcap_io.specs.Runs.{ended}
+
+pub front_none : (o : Option (List ℕ)) → in_front [] o ≡ o
+front_none None = refl
+front_none (Some octets) = refl
+
+front_twice : (one two : List ℕ) (o : Option (List ℕ)) → in_front one (in_front two o) ≡ in_front (one ++ two) o
+front_twice one two None = refl
+front_twice one two (Some octets) = ap (λ (l : List ℕ). Some l) (sym (append_assoc one two octets))
+
+pub takes_twice : (a b c : Option (List ℕ)) (one two : List ℕ) → Takes a b one → Takes b c two → Takes a c (one ++ two)
+takes_twice a b c one two first next = first ∙ ap (in_front one) next ∙ front_twice one two c
+
+-- the arrivals of both
+pub read_twice : (first mid now : State) (one two : List ℕ) (front back : List Arrival) → HasRead first mid one front → HasRead mid now two back → HasRead first now (one ++ two) (front ++ back)
+read_twice first mid now one two front back read_one read_two rest later ending comes =
+    subst (λ (octets : List ℕ). Comes first octets (record { arrivals = (front ++ back) ++ later; ending = ending })) (sym (append_assoc one two rest))
+    (subst (λ (list : List Arrival). Comes first (one ++ (two ++ rest)) (record { arrivals = list; ending = ending })) (sym (append_assoc front back later))
+    (read_one (two ++ rest) (back ++ later) ending (read_two rest later ending comes)))
+
+-- no whole arrival behind those that were read
+pub read_behind : (first mid : State) (one two : List ℕ) (front : List Arrival) (ending : How) → HasRead first mid one front → Comes mid two (ended ending) → Comes first (one ++ two) (record { arrivals = front; ending = ending })
+read_behind first mid one two front ending read_one comes =
+    subst (λ (list : List Arrival). Comes first (one ++ two) (record { arrivals = list; ending = ending })) (append-nil front) (read_one two [] ending comes)
