@@ -16,3 +16,4 @@ pub mod Stepping
 pub mod Starting
 pub mod Ending
 pub mod Fitting
+pub mod Closing

@@ -5,3 +5,4 @@ pub mod SentFrames
 pub mod Choices
 pub mod Replays
 pub mod Causes
+pub mod Sessions

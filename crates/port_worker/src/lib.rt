@@ -2,14 +2,17 @@
 //!
 //! Each port has a capture to be read and one to be written (the libpcap savefile format). `replay` makes the one history
 //! of all inputs, as `savi_history` defines it, and writes at each port a capture of what is sent there. Its contract
-//! says so of the octets that the sources tell and of those that the sinks hold (`specs/Replays.antt`).
+//! says so of the octets that the sources tell and of those that the sinks hold (`specs/Replays.antt`). `replay_session`
+//! takes the memory for it and makes the switch (`specs/Sessions.antt`).
 #![tactic(auto)]
 
 mod choice;
 mod looking;
 mod outputs;
 mod port_ends;
+mod session;
 mod turns;
 
 pub use port_ends::PortEnds;
+pub use session::{Closed, Ready, replay_session};
 pub use turns::{Stopped, replay};

@@ -1,0 +1,68 @@
+//! A session over the ends of the ports of a plan.
+
+ghost use Rattle.std.specs.Prelude.{◌≡◌, false, All, IfOk, IfErr};
+ghost use Rattle.savi_kinds.specs.ValidPlan.{IsValidPlan};
+ghost use Rattle.port_worker.specs.Causes.{unwritten_of};
+ghost use Rattle.port_worker.specs.Replays.{ports_held, ports_planned, IsUnread};
+ghost use Rattle.port_worker.specs.Sessions.{IsSession};
+
+use crate::port_ends::PortEnds;
+use crate::turns::{Stopped, replay};
+use savi_core::{Batch, Core};
+use savi_ends::{Clock, Sink, Source};
+use savi_kinds::{Plan, Port};
+use std::alloc::Global;
+
+/// The ends of a session, each beside its port, in the order of the plan.
+#[derive(Drop)]
+pub struct Ready<S, K, C> {
+    pub ports: Vec<PortEnds<S, K, C>>,
+}
+
+/// What a session leaves: the switch with its history, the ends, and the port at which a write failed, which stopped it.
+#[derive(Drop)]
+pub struct Closed<S, K, C> {
+    pub core: Core,
+    pub ready: Ready<S, K, C>,
+    pub unwritten: Option<Port>,
+}
+
+/// Replays the inputs of these ports at a new switch of this plan, and writes at each port what is sent there (`replay`).
+///
+/// All memory is taken before anything is read or written: where there is none the ends come back as they were.
+pub fn replay_session<S: Source, K: Sink, C: Clock>(
+    alloc: Global,
+    plan: Plan,
+    ready: Ready<S, K, C>,
+) -> Result<Closed<S, K, C>, Ready<S, K, C>>
+    requires valid { IsValidPlan plan }
+    requires guard_only { plan.savi ≡ false }
+    requires planned { ports_held ready.ports.items ≡ ports_planned plan }
+    requires unread { All IsUnread ready.ports.items }
+    ensures none { IfErr result (λ back. back ≡ ready) }
+    ensures session { IfOk result (λ closed. IsSession S.left K.written S.faults K.faults plan closed.core closed.unwritten ready.ports.items closed.ready.ports.items) }
+{
+    let mut ready = ready;
+    let Ok(mut core) = Core::make(alloc, plan) else {
+        return Err(ready);
+    };
+    let Ok(mut batch) = Batch::make(alloc) else {
+        return Err(ready);
+    };
+    let stopped = replay(&mut core, &mut ready.ports, &mut batch);
+    Ok(Closed {
+        core,
+        ready,
+        unwritten: unwritten(stopped),
+    })
+}
+
+// The port at which a write failed, if one did.
+fn unwritten(stopped: Stopped) -> Option<Port>
+    ensures { result ≡ unwritten_of stopped }
+{
+    match stopped {
+        Stopped::Finished => None,
+        Stopped::WriteFault { port } => Some(port),
+    }
+}
