@@ -1,3 +1,4 @@
+pub mod WrittenLines
 pub mod FixedPlans
 pub mod WordLists
 pub mod Played

@@ -4,6 +4,7 @@
 //! `main` makes the real one.
 #![tactic(auto)]
 
+mod end_lines;
 mod file_sink;
 mod fixed_plan;
 mod machine_clock;
