@@ -5,8 +5,8 @@
 #![tactic(auto)]
 
 mod end_lines;
+mod ends_told;
 mod file_sink;
-mod fixed_plan;
 mod machine_clock;
 mod named_spot;
 mod port_spots;
@@ -15,11 +15,10 @@ mod real_world;
 mod recording_world;
 mod session;
 mod spot;
+mod summing;
 #[cfg(test)]
 mod tests;
 mod top;
-mod two_ports;
-mod words;
 
 use real_world::RealWorld;
 use std::env;
