@@ -1,4 +1,5 @@
 pub mod WrittenLines
+pub mod PortLists
 pub mod Sessions
 pub mod Through
 pub mod Handling

@@ -1,8 +1,4 @@
-use Rattle.std.proofs.Common.{◌≡◌, ℕ, List, map, ap, arith, sym, ◌∙◌, inl, inr, refl, subst}
-use Rattle.std.specs.String.{string_bytes}
 use Rattle.savi_switch.proofs.Forms.{same_file}
-use Rattle.savi_switch.specs.Session.{IsNoPlan, IsSession, IsUnopened, IsUnread, ToldBy}
-use Rattle.savi_switch.specs.Causes.{IsElsewhereSame}
 use Rattle.savi_switch.proofs.top.perform.Goals as goal
 
 pub returns-in-Some-clause-usage : goal.returns-in-Some-clause-usage

@@ -1,7 +1,7 @@
-use Rattle.std.proofs.Common.{◌≡◌, ℕ, List, Result, Err, Option, ap, arith, sym, ◌∙◌, inl, inr, refl, subst}
+use Rattle.std.proofs.Common.{◌≡◌, Result, Err, ap, arith, sym, ◌∙◌, inl, inr, refl}
 use Rattle.savi_kinds.specs.declared.plan.Plan.{Plan}
 use Rattle.savi_ends.specs.declared.world.Std.TheVariants.{Out}
-use Rattle.savi_ends.specs.Places.{Book, Place}
+use Rattle.savi_ends.specs.Places.{Book}
 use Rattle.run_config.specs.declared.refusal.Refusal.{Refusal}
 use Rattle.savi_switch.specs.Session.{ToldBy}
 use Rattle.savi_switch.proofs.Refusing.{Refuses, refuses, unused_same}

@@ -1,12 +1,11 @@
-use Rattle.std.proofs.Common.{◌≡◌, ℕ, List, Option, ap, arith, sym, ◌∙◌, inl, inr, refl, subst}
-use Rattle.std.specs.List.Sorted.{IsStrictlyIncreasing}
+use Rattle.std.proofs.Common.{◌≡◌, ℕ, List, ap, ◌∙◌, inl, refl, subst}
 use Rattle.savi_kinds.specs.declared.plan.PortPlan.{PortPlan}
 use Rattle.savi_kinds.specs.Ports.{number_of}
 use Rattle.savi_ends.specs.declared.world.Std.{Std}
 use Rattle.savi_ends.specs.declared.world.Ends.{Ends}
 use Rattle.savi_ends.specs.Places.{Book, Place, BothFresh}
 use Rattle.port_worker.specs.Replays.{ports_held}
-use Rattle.switch_ports.specs.Openings.{ports_of, AreApart, IsNextBehind}
+use Rattle.switch_ports.specs.Openings.{ports_of, IsNextBehind}
 use Rattle.run_config.specs.Lines.{cannot_open_line, port_name, journal_word}
 use Rattle.savi_switch.specs.Session.{ToldBy}
 use Rattle.savi_switch.proofs.Ending.{Closes, closes, port_named, stays_all, unused_by}

@@ -1,4 +1,4 @@
-use Rattle.std.proofs.Common.{◌≡◌, ℕ, List, ap, sym, ◌∙◌}
+use Rattle.std.proofs.Common.{ℕ, List}
 use Rattle.savi_switch.specs.Session.{Told, ToldBy}
 use Rattle.savi_switch.proofs.Running.{Ran, ran_told, ran_open, ran_quiet, ran_untouched, ran_unused, ran_elsewhere, ran_config, ran_unopened, ran_session}
 use Rattle.savi_switch.proofs.top.run.Given as given
