@@ -18,7 +18,7 @@ use Rattle.port_worker.specs.Replays.{ports_held}
 use Rattle.switch_ports.specs.Openings.{ports_of, IsNextBehind}
 use Rattle.run_config.specs.Lines.{memory_line, port_name}
 use Rattle.savi_switch.specs.declared.session.Outcome.{Outcome}
-use Rattle.savi_switch.specs.Causes.{IsBack, IsOneOf, IsPlanName, IsUnused, quiet_statuses, session_statuses, statuses, unused_statuses}
+use Rattle.savi_switch.specs.Causes.{IsBack, IsOneOf, IsUnused, quiet_statuses, session_statuses, statuses, unused_statuses}
 use Rattle.savi_switch.specs.Session.{IsSessionOf, ToldBy, status_of}
 use Rattle.savi_switch.specs.Played.{IsPlayed}
 use Rattle.savi_switch.specs.Concluded.{IsConcluded}
@@ -108,20 +108,6 @@ closes {S} {K} {C} left written source_faults sink_faults plan Says held back si
 element : {X : Type 0} (xs : List X) (k : ℕ) → k < length xs → X
 element [] k inside = absurd (omega arith)
 element (x ∷ xs) k inside = x
-
--- the port that could not be opened is one of the plan
-pub port_named : {S K C : Type 0} (plan : Plan) (held : List (PortEnds S K C)) (port : Port) → IsNextBehind port (ports_held held) (ports_of plan.ports) → IsPlanName plan (port_name (number_of port))
-port_named {S} {K} {C} plan held port (later, all) =
-    let first = length-map held (λ (p : PortEnds S K C). p.port) in
-    let second = length-map plan.ports (λ (p : PortPlan). p.number) in
-    let third = length-map plan.ports (λ (p : PortPlan). number_of p.number) in
-    let sizes = ap length all in
-    let more = length-append (ports_held held) (port ∷ later) in
-    let inside : length held < length plan.ports = omega (arith, first, second, sizes, more) in
-    let e = element plan.ports (length held) inside in
-    let here : get_or (ports_of plan.ports) (length held) port ≡ port = ap (λ (l : List Port). get_or l (length held) port) all ∙ get_or_at (ports_held held) port later port (length held) first in
-    let is : (get_or plan.ports (length held) e).number ≡ port = sym (get_or-map (λ (p : PortPlan). p.number) plan.ports (length held) e port inside) ∙ here in
-    inr (length held, number_of port, omega (arith, inside, third), get_or-map (λ (p : PortPlan). number_of p.number) plan.ports (length held) e (number_of port) inside ∙ ap number_of is, refl)
 
 stays_by : {K : Type 0} (old new : List ℕ → Place K) (name other : List ℕ) → new name ≡ old name → OthersStay old new name → (other ≡ name) ⊎ (other ≢ name) → new other ≡ old other
 stays_by {K} old new name other here others (inl same) = subst (λ (n : List ℕ). new n ≡ old n) (sym same) here

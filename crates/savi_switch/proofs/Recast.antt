@@ -17,8 +17,8 @@ pub told_by : {K : Type 0} (faults : K → ℕ) (written : K → Option (List �
 told_by faults written Done old new line extends cause = inl extends
 told_by faults written Failed old new line extends cause = let rose = cause refl in inr (omega (arith, rose))
 
-took_at : {X : Type 0} (written : X → Option (List ℕ)) (old new : Option X) (x x' : X) (octets : List ℕ) → IfSome old (λ t. x ≡ t) → new ≡ Some x' → written x' ≡ behind (written x) octets → IfSome old (λ told. IsSomeAnd new (λ kept. written kept ≡ behind (written told) octets))
-took_at written None new x x' octets told kept took = tt
+took_at : {X : Type 0} (written : X → Option (List ℕ)) (old new : Option X) (x x' : X) (octets : List ℕ) → IfSome old (λ t. x ≡ t) → new ≡ Some x' → written x' ≡ behind (written x) octets → IsSomeAnd new (λ kept. IfSome old (λ told. written kept ≡ behind (written told) octets))
+took_at written None new x x' octets told kept took = rw kept tt
 took_at {X} written (Some t) new x x' octets told kept took = rw kept (took ∙ ap (λ (y : X). behind (written y) octets) told)
 
 -- what a sink was told is what its place was told
@@ -59,6 +59,7 @@ moved_did left written source_faults sink_faults plan Says Says' old new f f' i 
   fault = r.fault;
   broken = r.broken;
   errors = says _ r.errors;
+  journal = r.journal;
   out = same' ∙ r.out ∙ sym same;
   cause = r.cause;
 })

@@ -1,14 +1,16 @@
 -- The books of a run, before and behind each of its steps.
-use Rattle.std.proofs.Common.{◌≡◌, ◌≢◌, ℕ, ◌<◌, ◌≤◌, ◌⊎◌, inl, inr, List, Bool, true, false, refl, sym, ap, ◌∙◌, subst, arith, Option, Some, None, IfSome, IsSomeAnd}
+use Rattle.std.proofs.Common.{◌≡◌, ◌≢◌, ℕ, ◌<◌, ◌≤◌, ◌⊎◌, inl, inr, List, Bool, true, false, refl, sym, ap, ◌∙◌, subst, arith, ◌∷◌, Option, Some, None, IfSome, IsSome, IsSomeAnd}
+use Rattle.std.specs.Prelude.{All}
 use Rattle.savi_kinds.specs.declared.plan.Plan.{Plan}
+use Rattle.savi_kinds.specs.ValidPlan.{numbers_of}
 use Rattle.savi_ends.specs.declared.world.Std.{Std}
 use Rattle.savi_ends.specs.declared.world.Std.TheVariants.{Out, Err}
 use Rattle.savi_ends.specs.declared.world.Ends.{Ends}
 use Rattle.savi_ends.specs.Faults.{Rose}
 use Rattle.savi_ends.specs.Places.{Place, Book, OthersStay}
 use Rattle.run_config.specs.Configs.{HasFault, IsConfigured, IsRefused}
-use Rattle.savi_switch.specs.Causes.{IsBack, IsElsewhereSame, IsUnused, IsUntouched}
-use Rattle.savi_switch.specs.Session.{IsNoPlan, IsSession, IsSessionOf, IsUnopened, IsUnread, Told, ToldBy}
+use Rattle.savi_switch.specs.Causes.{IsBack, IsElsewhereSame, IsUnserved, IsUnused, IsUntouched}
+use Rattle.savi_switch.specs.Session.{IsNoPlan, IsPartUnopened, IsSession, IsSessionOf, IsUnopened, IsUnread, Told, ToldBy}
 use Rattle.savi_switch.proofs.Recast.{moved_session, told_at}
 
 err≢out : Err ≢ Out
@@ -65,14 +67,67 @@ ran_elsewhere {S} {K} {C} b0 b1 b2 b3 e e' file ran same = record {
 inputs_first : {S K C : Type 0} (b0 b1 b2 b3 : Book S K C) (e e' : K) (file : List ℕ) → Ran b0 b1 b2 b3 e e' → b1.inputs file ≡ b0.inputs file
 inputs_first {S} {K} {C} b0 b1 b2 b3 e e' file ran = ap (λ (b : Book S K C). b.inputs file) ran.rest1
 
-pub ran_config : {S K C : Type 0} (left : S → Option (List ℕ)) (Says Says' : List ℕ → Type 0) (b0 b1 b2 b3 : Book S K C) (e e' : K) (file : List ℕ) → Ran b0 b1 b2 b3 e e' → ((lines : List ℕ) → Says lines → Says' lines) → IsNoPlan left file Says b1 → IsNoPlan left file Says' b0
-ran_config {S} {K} {C} left Says Says' b0 b1 b2 b3 e e' file ran says (fault, refused, told) =
-    (fault, subst (λ (p : Place S). IsRefused left p fault) (inputs_first b0 b1 b2 b3 e e' file ran) refused, says _ told)
+inputs_last : {S K C : Type 0} (b0 b1 b2 b3 : Book S K C) (e e' : K) (file : List ℕ) → Ran b0 b1 b2 b3 e e' → b3.inputs file ≡ b2.inputs file
+inputs_last {S} {K} {C} b0 b1 b2 b3 e e' file ran = ap (λ (b : Book S K C). b.inputs file) ran.rest3
 
-pub ran_unopened : {S K C : Type 0} (left : S → Option (List ℕ)) (Says Says' : List ℕ → Type 0) (b0 b1 b2 b3 : Book S K C) (e e' : K) (file : List ℕ) → Ran b0 b1 b2 b3 e e' → ((lines : List ℕ) → Says lines → Says' lines) → IsUnopened left file Says b1 → IsUnopened left file Says' b0
-ran_unopened left Says Says' b0 b1 b2 b3 e e' file ran says (inl told) = inl (says _ told)
-ran_unopened {S} {K} {C} left Says Says' b0 b1 b2 b3 e e' file ran says (inr (plan, configured, (name, named, told))) =
-    inr (plan, subst (λ (p : Place S). IsConfigured left p plan) (inputs_first b0 b1 b2 b3 e e' file ran) configured, (name, named, says _ told))
+ran_kept : {S K C : Type 0} (b0 b1 b2 b3 : Book S K C) (e e' : K) (file : List ℕ) → Ran b0 b1 b2 b3 e e' → IsSome (b2.inputs file).stands → IsSome (b3.inputs file).stands
+ran_kept {S} {K} {C} b0 b1 b2 b3 e e' file ran kept = subst (λ (p : Place S). IsSome p.stands) (sym (inputs_last b0 b1 b2 b3 e e' file ran)) kept
+
+ran_ports : {S K C : Type 0} (b0 b1 b2 b3 : Book S K C) (e e' : K) → Ran b0 b1 b2 b3 e e' → (b1.ports ≡ b0.ports) × (b3.ports ≡ b2.ports)
+ran_ports {S} {K} {C} b0 b1 b2 b3 e e' ran = (ap (λ (b : Book S K C). b.ports) ran.rest1, ap (λ (b : Book S K C). b.ports) ran.rest3)
+
+ran_outputs : {S K C : Type 0} (b0 b1 b2 b3 : Book S K C) (e e' : K) → Ran b0 b1 b2 b3 e e' → (b1.outputs ≡ b0.outputs) × (b3.outputs ≡ b2.outputs)
+ran_outputs {S} {K} {C} b0 b1 b2 b3 e e' ran = (ap (λ (b : Book S K C). b.outputs) ran.rest1, ap (λ (b : Book S K C). b.outputs) ran.rest3)
+
+ran_unserved : {S K C : Type 0} (b0 b1 b2 b3 : Book S K C) (e e' : K) → Ran b0 b1 b2 b3 e e' → IsUnserved b1 b2 → IsUnserved b0 b3
+ran_unserved b0 b1 b2 b3 e e' ran unserved =
+    let ports = ran_ports b0 b1 b2 b3 e e' ran in
+    let outputs = ran_outputs b0 b1 b2 b3 e e' ran in
+    record { ports = ports.1 ∙ unserved.ports ∙ ports.0; outputs = outputs.1 ∙ unserved.outputs ∙ outputs.0 }
+
+pub ran_config : {S K C : Type 0} (left : S → Option (List ℕ)) (Says Says' : List ℕ → Type 0) (b0 b1 b2 b3 : Book S K C) (e e' : K) (file : List ℕ) → Ran b0 b1 b2 b3 e e' → ((lines : List ℕ) → Says lines → Says' lines) → IsNoPlan left file Says b1 b2 → IsNoPlan left file Says' b0 b3
+ran_config {S} {K} {C} left Says Says' b0 b1 b2 b3 e e' file ran says no_plan = record {
+  fault = no_plan.fault;
+  refused = subst (λ (p : Place S). IsRefused left p no_plan.fault) (inputs_first b0 b1 b2 b3 e e' file ran) no_plan.refused;
+  kept = ran_kept b0 b1 b2 b3 e e' file ran no_plan.kept;
+  unserved = ran_unserved b0 b1 b2 b3 e e' ran no_plan.unserved;
+  errors = says _ no_plan.errors;
+}
+
+-- a part of a plan that could not be opened, between books of the same ports and outputs
+pub moved_part : {S K C : Type 0} (plan : Plan) (Says Says' : List ℕ → Type 0) (old new old' new' : Book S K C) → old'.ports ≡ old.ports → new'.ports ≡ new.ports → old'.outputs ≡ old.outputs → new'.outputs ≡ new.outputs → ((lines : List ℕ) → Says lines → Says' lines)
+    → IsPartUnopened plan Says old new → IsPartUnopened plan Says' old' new'
+moved_part {S} {K} {C} plan Says Says' old new old' new' p p' o o' says (inl part) = inl (record {
+  before = part.before;
+  port = part.port;
+  later = part.later;
+  all = part.all;
+  kept = subst (λ (x : ℕ → Place (Ends S K C)). All (λ n. IsSome (x n).stands) part.before) (sym p') part.kept;
+  same = subst (λ (x : ℕ → Place (Ends S K C)). All (λ n. x n ≡ old'.ports n) (part.port ∷ part.later)) (sym p') (subst (λ (x : ℕ → Place (Ends S K C)). All (λ n. new.ports n ≡ x n) (part.port ∷ part.later)) (sym p) part.same);
+  outputs = o' ∙ part.outputs ∙ sym o;
+  errors = says _ part.errors;
+})
+moved_part {S} {K} {C} plan Says Says' old new old' new' p p' o o' says (inr part) = inr (record {
+  kept = subst (λ (x : ℕ → Place (Ends S K C)). All (λ n. IsSome (x n).stands) (numbers_of plan.ports)) (sym p') part.kept;
+  outputs = λ name. ap (λ (x : List ℕ → Place K). x name) o' ∙ part.outputs name ∙ sym (ap (λ (x : List ℕ → Place K). x name) o);
+  errors = says _ part.errors;
+})
+
+pub ran_unopened : {S K C : Type 0} (left : S → Option (List ℕ)) (Says Says' : List ℕ → Type 0) (b0 b1 b2 b3 : Book S K C) (e e' : K) (file : List ℕ) → Ran b0 b1 b2 b3 e e' → ((lines : List ℕ) → Says lines → Says' lines) → IsUnopened left file Says b1 b2 → IsUnopened left file Says' b0 b3
+ran_unopened left Says Says' b0 b1 b2 b3 e e' file ran says (inl unopened) = inl (record {
+  errors = says _ unopened.errors;
+  place = inputs_last b0 b1 b2 b3 e e' file ran ∙ unopened.place ∙ inputs_first b0 b1 b2 b3 e e' file ran;
+  unserved = ran_unserved b0 b1 b2 b3 e e' ran unopened.unserved;
+})
+ran_unopened {S} {K} {C} left Says Says' b0 b1 b2 b3 e e' file ran says (inr unopened) =
+    let ports = ran_ports b0 b1 b2 b3 e e' ran in
+    let outputs = ran_outputs b0 b1 b2 b3 e e' ran in
+    inr (record {
+      plan = unopened.plan;
+      configured = subst (λ (p : Place S). IsConfigured left p unopened.plan) (inputs_first b0 b1 b2 b3 e e' file ran) unopened.configured;
+      kept = ran_kept b0 b1 b2 b3 e e' file ran unopened.kept;
+      part = moved_part unopened.plan Says Says' b1 b2 b0 b3 (sym ports.0) ports.1 (sym outputs.0) outputs.1 says unopened.part;
+    })
 
 pub ran_session : {S K C : Type 0} (left : S → Option (List ℕ)) (written : K → Option (List ℕ)) (source_faults : S → ℕ) (sink_faults : K → ℕ) (Says Says' : List ℕ → Type 0) (b0 b1 b2 b3 : Book S K C) (e e' : K) (file : List ℕ) (status : ℕ) → Ran b0 b1 b2 b3 e e' → ((lines : List ℕ) → Says lines → Says' lines)
     → IsUnread source_faults file Says b1 b2 status ⊎ IsSession left written source_faults sink_faults file Says b1 b2 status → IsUnread source_faults file Says' b0 b3 status ⊎ IsSession left written source_faults sink_faults file Says' b0 b3 status
@@ -81,10 +136,12 @@ ran_session {S} {K} {C} left written source_faults sink_faults Says Says' b0 b1 
   fault = subst (λ (p : Place S). HasFault source_faults p) (sym (ap (λ (b : Book S K C). b.inputs file) ran.rest3)) unread.fault;
   errors = says _ unread.errors;
   out = ran_quiet b0 b1 b2 b3 e e' ran unread.out;
+  unserved = ran_unserved b0 b1 b2 b3 e e' ran unread.unserved;
 })
 ran_session {S} {K} {C} left written source_faults sink_faults Says Says' b0 b1 b2 b3 e e' file status ran says (inr session) = inr (record {
   plan = session.plan;
   configured = subst (λ (p : Place S). IsConfigured left p session.plan) (inputs_first b0 b1 b2 b3 e e' file ran) session.configured;
+  kept = ran_kept b0 b1 b2 b3 e e' file ran session.kept;
   session =
       subst (λ (b : Book S K C). IsSessionOf left written source_faults sink_faults session.plan Says' b0 b status) (sym ran.rest3)
       (subst (λ (b : Book S K C). IsSessionOf left written source_faults sink_faults session.plan Says' b (record b2 { std = b3.std }) status)

@@ -1,5 +1,5 @@
 -- From a session of the loop over ports to what was played.
-use Rattle.std.proofs.Common.{◌≡◌, ℕ, ◌<◌, ◌≤◌, List, Bool, true, false, map, length, get_or, refl, sym, ap, ◌∙◌, subst, arith, Option, Some, None, IfNone}
+use Rattle.std.proofs.Common.{◌≡◌, ℕ, ◌<◌, ◌≤◌, List, Bool, true, false, map, length, get_or, refl, sym, ap, ◌∙◌, subst, arith, Option, Some, None, IfNone, IfSome}
 use Rattle.std.specs.Prelude.{All, reverse}
 use Rattle.savi_kinds.specs.declared.plan.Plan.{Plan}
 use Rattle.savi_kinds.specs.declared.port.Port.{Port}
@@ -48,17 +48,19 @@ out_of {S} {K} {C} left written plan past old new anew played = record {
 ended_of : {S K C : Type 0} (left : S → Option (List ℕ)) (written : K → Option (List ℕ)) (source_faults : S → ℕ) (sink_faults : K → ℕ) (plan : Plan) (core : Machine) (unwritten : Option Port) (old new : List (PortEnds S K C)) (journal journal' : K) (journal_written : Bool)
     → All IsReadAnew old → EachPair IsSamePort old new → IsPlayedOrStopped left written sink_faults plan core.past old new unwritten
     → IfNone unwritten (JournalWas sink_faults written journal_written journal journal' (journal_text address_text plan (reverse core.past)))
+    → IfSome unwritten (λ port. journal' ≡ journal)
     → EndedBy left written sink_faults plan core.past old new journal journal' journal_written unwritten
-ended_of left written source_faults sink_faults plan core None old new journal journal' journal_written anew same played was = (out_of left written plan core.past old new anew played, was)
-ended_of left written source_faults sink_faults plan core (Some port) old new journal journal' journal_written anew same (k, inside, each) was =
+ended_of left written source_faults sink_faults plan core None old new journal journal' journal_written anew same played was unchanged = (out_of left written plan core.past old new anew played, was)
+ended_of left written source_faults sink_faults plan core (Some port) old new journal journal' journal_written anew same (k, inside, each) was unchanged =
     let size = same.size in
-    (k, omega (arith, size, inside), λ d. ((each d).0, let rose = (each d).1 in omega (arith, rose)))
+    (unchanged, k, omega (arith, size, inside), λ d. ((each d).0, let rose = (each d).1 in omega (arith, rose)))
 
 pub played_of : {S K C : Type 0} (left : S → Option (List ℕ)) (written : K → Option (List ℕ)) (source_faults : S → ℕ) (sink_faults : K → ℕ) (plan : Plan) (core : Machine) (unwritten : Option Port) (old new : List (PortEnds S K C)) (journal journal' : K) (journal_written : Bool)
     → All IsReadAnew old → IsSession left written source_faults sink_faults plan core unwritten old new → IsLegal core.plan empty core.past
     → IfNone unwritten (JournalWas sink_faults written journal_written journal journal' (journal_text address_text core.plan (reverse core.past)))
+    → IfSome unwritten (λ port. journal' ≡ journal)
     → IsPlayed left written source_faults sink_faults plan old new journal journal' core journal_written unwritten
-played_of left written source_faults sink_faults plan core unwritten old new journal journal' journal_written anew session legal was =
+played_of left written source_faults sink_faults plan core unwritten old new journal journal' journal_written anew session legal was unchanged =
     let same = same_of left written source_faults sink_faults plan core unwritten old new session in
     record {
       plan_is = session.plan_is;
@@ -71,5 +73,5 @@ played_of left written source_faults sink_faults plan core unwritten old new jou
         };
       };
       ended = ended_of left written source_faults sink_faults plan core unwritten old new journal journal' journal_written anew same session.played
-          (subst (λ (p : Plan). IfNone unwritten (JournalWas sink_faults written journal_written journal journal' (journal_text address_text p (reverse core.past)))) session.plan_is was);
+          (subst (λ (p : Plan). IfNone unwritten (JournalWas sink_faults written journal_written journal journal' (journal_text address_text p (reverse core.past)))) session.plan_is was) unchanged;
     }

@@ -1,12 +1,11 @@
 -- When each status comes.
-use Rattle.std.specs.Prelude.{◌≡◌, ◌<◌, ◌==◌, ◌≢◌, ℕ, true, List, [], ◌∷◌, IfSome, IsSome, IsSomeAnd, All, Any, ◌⊎◌}
+use Rattle.std.specs.Prelude.{◌≡◌, ◌<◌, ◌==◌, ◌≢◌, ℕ, true, List, [], ◌∷◌, IfSome, IsSome, IsSomeAnd, All}
 use Rattle.std.specs.List.{list_any}
 use Rattle.savi_kinds.specs.declared.plan.Plan.{Plan}
 use Rattle.savi_kinds.specs.ValidPlan.{numbers_of}
 use Rattle.savi_ends.specs.declared.world.Std.TheVariants.{Out, Err}
 use Rattle.savi_ends.specs.Places.{Place, Book, OthersStay}
 use Rattle.run_config.specs.Configs.{HasFault}
-use Rattle.run_config.specs.Lines.{port_name, journal_word}
 
 -- a read of the source of this port has failed
 abbrev pub HasReadFault : {S K C : Type 0} → (S → ℕ) → Book S K C → ℕ → Type 0
@@ -36,10 +35,6 @@ unused_statuses = 1 ∷ 2 ∷ 3 ∷ 7 ∷ []
 abbrev pub statuses : List ℕ
 statuses = 0 ∷ 1 ∷ 2 ∷ 3 ∷ 4 ∷ 5 ∷ 6 ∷ 7 ∷ 8 ∷ []
 
--- the name of the journal or of a port of the plan, as a line says it
-abbrev pub IsPlanName : Plan → List ℕ → Type 0
-IsPlanName plan name = (name ≡ journal_word) ⊎ Any (λ port. name ≡ port_name port) (numbers_of plan.ports)
-
 -- each port of the plan and the journal have a kept end
 pub record KeepsAll {S K C : Type 0} (plan : Plan) (book : Book S K C) : Type 0 where
   pub ports : All (λ port. IsSome (book.ports port).stands) (numbers_of plan.ports)
@@ -53,6 +48,11 @@ IsBack old new = IfSome old.stands (λ told. IsSomeAnd new.stands (λ kept. kept
 pub record IsUnused {S K C : Type 0} (old new : Book S K C) : Type 0 where
   pub ports : (port : ℕ) → IsBack (old.ports port) (new.ports port)
   pub outputs : (name : List ℕ) → IsBack (old.outputs name) (new.outputs name)
+
+-- no port and no output by name was touched
+pub record IsUnserved {S K C : Type 0} (old new : Book S K C) : Type 0 where
+  pub ports : new.ports ≡ old.ports
+  pub outputs : new.outputs ≡ old.outputs
 
 -- nothing was touched but standard error
 pub record IsUntouched {S K C : Type 0} (old new : Book S K C) : Type 0 where

@@ -59,7 +59,7 @@ abbrev pub EndedBy : {S K C : Type 0} → (S → Option (List ℕ)) → (K → O
 EndedBy left written faults plan past old new journal journal' journal_written None =
     IsPlayedOut left written plan past old new × JournalWas faults written journal_written journal journal' (journal_text address_text plan (reverse past))
 EndedBy {S} {K} {C} left written faults plan past old new journal journal' journal_written (Some port) =
-    (k : ℕ) × (k < length new) × ((d : PortEnds S K C) → (number_of (slice_index_or new k d).port ≡ number_of port) × (0 < faults (slice_index_or new k d).ends.sink))
+    (journal' ≡ journal) × (k : ℕ) × (k < length new) × ((d : PortEnds S K C) → (number_of (slice_index_or new k d).port ≡ number_of port) × (0 < faults (slice_index_or new k d).ends.sink))
 
 -- One legal history of the plan: what it is to the ends of the ports and of the journal.
 pub record IsPlayed {S K C : Type 0} (left : S → Option (List ℕ)) (written : K → Option (List ℕ)) (source_faults : S → ℕ) (sink_faults : K → ℕ) (plan : Plan) (old new : List (PortEnds S K C)) (journal journal' : K) (core : Machine) (journal_written : Bool) (unwritten : Option Port) : Type 0 where

@@ -1,5 +1,5 @@
 -- What a run has done whose session began: one history stands in all of it.
-use Rattle.std.specs.Prelude.{◌≡◌, ℕ, ◌<◌, ◌⊎◌, ◌&&◌, not, Bool, true, false, if◌then◌else◌, List, [], ◌∷◌, ◌++◌, length, slice_index, slice_index_or, reverse, Option, Some, IfSome, IsSomeAnd}
+use Rattle.std.specs.Prelude.{◌≡◌, ℕ, ◌<◌, ◌⊎◌, ◌&&◌, not, Bool, true, false, if◌then◌else◌, List, [], ◌∷◌, ◌++◌, length, slice_index, slice_index_or, reverse, Option, Some, IfSome, IsSome, IsSomeAnd, All}
 use Rattle.savi_kinds.specs.declared.plan.Plan.{Plan}
 use Rattle.savi_kinds.specs.declared.entry.How.TheVariants as hows
 use Rattle.savi_kinds.specs.Arrivals.{Input}
@@ -27,7 +27,7 @@ use Rattle.savi_conf.specs.declared.fault.ConfFault.{ConfFault}
 use Rattle.run_config.specs.Configs.{HasFault, IsConfigured, IsRefused}
 use Rattle.run_config.specs.Lines.{cannot_open_line, config_line, write_failed_line, read_failed_line, port_name, journal_word}
 use Rattle.port_worker.specs.Replays.{IsInputOf}
-use Rattle.savi_switch.specs.Causes.{IsPlanName, HasReadFault, HasWriteFault, KeepsAll, IsOffPlanSame}
+use Rattle.savi_switch.specs.Causes.{HasReadFault, HasWriteFault, IsBack, IsUnserved, KeepsAll, IsOffPlanSame}
 
 -- The status by a history, and by whether the journal and the summary were written: the first that applies of a failed
 -- read, a failed write, a malformed input and want of room.
@@ -37,7 +37,7 @@ status_of written past =
 
 -- A sink that is kept took these octets behind those that it held when it was told.
 abbrev pub Took : {X : Type 0} → (X → Option (List ℕ)) → Place X → Place X → List ℕ → Type 0
-Took written old new octets = IfSome old.stands (λ told. IsSomeAnd new.stands (λ kept. written kept ≡ behind (written told) octets))
+Took written old new octets = IsSomeAnd new.stands (λ kept. IfSome old.stands (λ told. written kept ≡ behind (written told) octets))
 
 -- it took them, or a write of it failed
 abbrev pub TookOrFailed : {X : Type 0} → (X → ℕ) → (X → Option (List ℕ)) → Bool → Place X → Place X → List ℕ → Type 0
@@ -105,7 +105,7 @@ pub record IsReplayOf {S K C : Type 0} (left : S → Option (List ℕ)) (written
   pub cause : status ≡ status_of (journal_written && summary_written) past
   pub guarded : IsGuarded plan past
 
--- The replay was stopped by a write at a port that failed: nothing was written to standard output.
+-- The replay was stopped by a write at a port that failed: nothing was written to standard output or in the journal.
 pub record IsStopped {S K C : Type 0} (source_faults : S → ℕ) (sink_faults : K → ℕ) (plan : Plan) (Says : List ℕ → Type 0) (old new : Book S K C) (status : ℕ) : Type 0 where
   pub past : List Row
   pub legal : IsLegal plan empty past
@@ -113,6 +113,7 @@ pub record IsStopped {S K C : Type 0} (source_faults : S → ℕ) (sink_faults :
   pub fault : HasWriteFault sink_faults new port
   pub broken : EachPort plan (λ k p. input_end p past ≡ Some hows.Failed → HasReadFault source_faults new p)
   pub errors : Says (end_lines past ++ write_failed_line (port_name port))
+  pub journal : IsBack (old.outputs plan.journal) (new.outputs plan.journal)
   pub out : new.std Out ≡ old.std Out
   pub cause : status ≡ (if has_failed past then 5 else 6)
 
@@ -122,24 +123,62 @@ pub record IsSessionOf {S K C : Type 0} (left : S → Option (List ℕ)) (writte
   pub elsewhere : IsOffPlanSame plan old new
   pub did : IsReplayOf left written source_faults sink_faults plan Says old new status ⊎ IsStopped source_faults sink_faults plan Says old new status
 
--- A session of the plan that the configuration says.
+-- A session of the plan that the configuration says, whose input is kept.
 pub record IsSession {S K C : Type 0} (left : S → Option (List ℕ)) (written : K → Option (List ℕ)) (source_faults : S → ℕ) (sink_faults : K → ℕ) (file : List ℕ) (Says : List ℕ → Type 0) (old new : Book S K C) (status : ℕ) : Type 0 where
   pub plan : Plan
   pub configured : IsConfigured left (old.inputs file) plan
+  pub kept : IsSome (new.inputs file).stands
   pub session : IsSessionOf left written source_faults sink_faults plan Says old new status
 
--- A read of the configuration failed, before a session.
+-- A read of the configuration failed, before anything else was opened.
 pub record IsUnread {S K C : Type 0} (source_faults : S → ℕ) (file : List ℕ) (Says : List ℕ → Type 0) (old new : Book S K C) (status : ℕ) : Type 0 where
   pub status_is : status ≡ 5
   pub fault : HasFault source_faults (new.inputs file)
   pub errors : Says (read_failed_line file)
   pub out : new.std Out ≡ old.std Out
+  pub unserved : IsUnserved old new
 
--- Something that was to be opened could not be: the configuration, or a port or the journal of the plan that it says.
-abbrev pub IsUnopened : {S K C : Type 0} → (S → Option (List ℕ)) → List ℕ → (List ℕ → Type 0) → Book S K C → Type 0
-IsUnopened left file Says old =
-    Says (cannot_open_line file) ⊎ ((plan : Plan) × IsConfigured left (old.inputs file) plan × ((name : List ℕ) × IsPlanName plan name × Says (cannot_open_line name)))
+-- The configuration could not be opened, and nothing else was touched.
+pub record IsFileUnopened {S K C : Type 0} (file : List ℕ) (Says : List ℕ → Type 0) (old new : Book S K C) : Type 0 where
+  pub errors : Says (cannot_open_line file)
+  pub place : new.inputs file ≡ old.inputs file
+  pub unserved : IsUnserved old new
 
--- a configuration that says no plan
-abbrev pub IsNoPlan : {S K C : Type 0} → (S → Option (List ℕ)) → List ℕ → (List ℕ → Type 0) → Book S K C → Type 0
-IsNoPlan left file Says old = (fault : ConfFault) × IsRefused left (old.inputs file) fault × Says (config_line fault)
+-- A port could not be opened: it and those behind it in the plan are as they were, and so is each output.
+pub record IsPortUnopened {S K C : Type 0} (plan : Plan) (Says : List ℕ → Type 0) (old new : Book S K C) : Type 0 where
+  pub before : List ℕ
+  pub port : ℕ
+  pub later : List ℕ
+  pub all : numbers_of plan.ports ≡ before ++ port ∷ later
+  pub kept : All (λ n. IsSome (new.ports n).stands) before
+  pub same : All (λ n. new.ports n ≡ old.ports n) (port ∷ later)
+  pub outputs : new.outputs ≡ old.outputs
+  pub errors : Says (cannot_open_line (port_name port))
+
+-- The journal could not be opened: the ends of each port are kept, and each output is as it was.
+pub record IsJournalUnopened {S K C : Type 0} (plan : Plan) (Says : List ℕ → Type 0) (old new : Book S K C) : Type 0 where
+  pub kept : All (λ n. IsSome (new.ports n).stands) (numbers_of plan.ports)
+  pub outputs : (name : List ℕ) → new.outputs name ≡ old.outputs name
+  pub errors : Says (cannot_open_line journal_word)
+
+abbrev pub IsPartUnopened : {S K C : Type 0} → Plan → (List ℕ → Type 0) → Book S K C → Book S K C → Type 0
+IsPartUnopened plan Says old new = IsPortUnopened plan Says old new ⊎ IsJournalUnopened plan Says old new
+
+-- A port or the journal of the plan that the configuration says could not be opened.
+pub record IsPlanUnopened {S K C : Type 0} (left : S → Option (List ℕ)) (file : List ℕ) (Says : List ℕ → Type 0) (old new : Book S K C) : Type 0 where
+  pub plan : Plan
+  pub configured : IsConfigured left (old.inputs file) plan
+  pub kept : IsSome (new.inputs file).stands
+  pub part : IsPartUnopened plan Says old new
+
+-- Something that was to be opened could not be.
+abbrev pub IsUnopened : {S K C : Type 0} → (S → Option (List ℕ)) → List ℕ → (List ℕ → Type 0) → Book S K C → Book S K C → Type 0
+IsUnopened left file Says old new = IsFileUnopened file Says old new ⊎ IsPlanUnopened left file Says old new
+
+-- The configuration, whose input is kept, says no plan, and nothing else was opened.
+pub record IsNoPlan {S K C : Type 0} (left : S → Option (List ℕ)) (file : List ℕ) (Says : List ℕ → Type 0) (old new : Book S K C) : Type 0 where
+  pub fault : ConfFault
+  pub refused : IsRefused left (old.inputs file) fault
+  pub kept : IsSome (new.inputs file).stands
+  pub unserved : IsUnserved old new
+  pub errors : Says (config_line fault)

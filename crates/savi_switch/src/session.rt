@@ -94,7 +94,8 @@ fn finish_journal<K: Sink>(
 ) -> bool
     requires empty { buffer.old.octets ≡ [] }
     requires room { 3401 ≤ buffer.old.room }
-    ensures { IfNone unwritten (JournalWas K.faults K.written result journal.old journal.new (journal_text address_text core.now.plan (reverse core.now.past))) }
+    ensures was { IfNone unwritten (JournalWas K.faults K.written result journal.old journal.new (journal_text address_text core.now.plan (reverse core.now.past))) }
+    ensures same { IfSome unwritten (λ port. journal.new ≡ journal.old) }
 {
     if unwritten.is_some() {
         return false;

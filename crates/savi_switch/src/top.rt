@@ -6,10 +6,10 @@ ghost use Rattle.savi_ends.specs.declared.world.Std.{Std};
 ghost use Rattle.savi_ends.specs.Faults.{Rose};
 ghost use Rattle.savi_ends.specs.Places.{BothFresh, HandedNothing, IsReady, OthersStay};
 ghost use Rattle.run_config.specs.Configs.{IsBuilt};
-ghost use Rattle.run_config.specs.Lines.{cannot_open_line, memory_line, usage_line};
+ghost use Rattle.run_config.specs.Lines.{memory_line, usage_line};
 ghost use Rattle.run_config.specs.Words.{IsForm, IsReplay};
-ghost use Rattle.savi_switch.specs.Causes.{IsElsewhereSame, IsOneOf, IsPlanName, IsUnused, IsUntouched, quiet_statuses, session_statuses, statuses, unused_statuses};
-ghost use Rattle.savi_switch.specs.Session.{IsNoPlan, IsSession, IsSessionOf, IsUnopened, IsUnread, Told, ToldBy};
+ghost use Rattle.savi_switch.specs.Causes.{IsElsewhereSame, IsOneOf, IsUnused, IsUntouched, quiet_statuses, session_statuses, statuses, unused_statuses};
+ghost use Rattle.savi_switch.specs.Session.{IsNoPlan, IsPartUnopened, IsSession, IsSessionOf, IsUnopened, IsUnread, Told, ToldBy};
 
 use crate::ends_told::refuse;
 use crate::session::{Played, play};
@@ -49,9 +49,9 @@ pub fn run<W: World>(alloc: Global, words: &[String], world: &mut W) -> u8
     ensures usage { (result ≡ 2) ↔ (IsForm (map string_bytes words.now) → ⊥) }
     ensures untouched { result ≡ 2 → IsUntouched (W.book world.old) (W.book world.new) × Told W.K.faults W.K.written (W.book world.old) (W.book world.new) usage_line }
     ensures memory { result ≡ 1 → Told W.K.faults W.K.written (W.book world.old) (W.book world.new) memory_line }
-    ensures config { (file : List ℕ) → IsReplay file (map string_bytes words.now) → result ≡ 3 → IsNoPlan W.S.left file (Told W.K.faults W.K.written (W.book world.old) (W.book world.new)) (W.book world.old) }
+    ensures config { (file : List ℕ) → IsReplay file (map string_bytes words.now) → result ≡ 3 → IsNoPlan W.S.left file (Told W.K.faults W.K.written (W.book world.old) (W.book world.new)) (W.book world.old) (W.book world.new) }
     ensures open { result ≡ 7 → Rose (W.book world.old).faults (W.book world.new).faults }
-    ensures unopened { (file : List ℕ) → IsReplay file (map string_bytes words.now) → result ≡ 7 → IsUnopened W.S.left file (Told W.K.faults W.K.written (W.book world.old) (W.book world.new)) (W.book world.old) }
+    ensures unopened { (file : List ℕ) → IsReplay file (map string_bytes words.now) → result ≡ 7 → IsUnopened W.S.left file (Told W.K.faults W.K.written (W.book world.old) (W.book world.new)) (W.book world.old) (W.book world.new) }
     ensures session { (file : List ℕ) → IsReplay file (map string_bytes words.now) → IsOneOf session_statuses result → IsUnread W.S.faults file (Told W.K.faults W.K.written (W.book world.old) (W.book world.new)) (W.book world.old) (W.book world.new) result ⊎ IsSession W.S.left W.K.written W.S.faults W.K.faults file (Told W.K.faults W.K.written (W.book world.old) (W.book world.new)) (W.book world.old) (W.book world.new) result }
     ensures quiet { IsOneOf quiet_statuses result → (W.book world.new).std Std.Out ≡ (W.book world.old).std Std.Out }
     ensures unused { IsOneOf unused_statuses result → IsUnused (W.book world.old) (W.book world.new) }
@@ -73,9 +73,9 @@ fn perform<W: World>(alloc: Global, words: &[String], world: &mut W, errors: &mu
     ensures usage { (result ≡ 2) ↔ (IsForm (map string_bytes words.now) → ⊥) }
     ensures untouched { result ≡ 2 → (W.book world.new ≡ W.book world.old) × ToldBy W.K.faults W.K.written errors.old errors.new usage_line }
     ensures memory { result ≡ 1 → ToldBy W.K.faults W.K.written errors.old errors.new memory_line }
-    ensures config { (file : List ℕ) → IsReplay file (map string_bytes words.now) → result ≡ 3 → IsNoPlan W.S.left file (ToldBy W.K.faults W.K.written errors.old errors.new) (W.book world.old) }
+    ensures config { (file : List ℕ) → IsReplay file (map string_bytes words.now) → result ≡ 3 → IsNoPlan W.S.left file (ToldBy W.K.faults W.K.written errors.old errors.new) (W.book world.old) (W.book world.new) }
     ensures open { result ≡ 7 → Rose (W.book world.old).faults (W.book world.new).faults }
-    ensures unopened { (file : List ℕ) → IsReplay file (map string_bytes words.now) → result ≡ 7 → IsUnopened W.S.left file (ToldBy W.K.faults W.K.written errors.old errors.new) (W.book world.old) }
+    ensures unopened { (file : List ℕ) → IsReplay file (map string_bytes words.now) → result ≡ 7 → IsUnopened W.S.left file (ToldBy W.K.faults W.K.written errors.old errors.new) (W.book world.old) (W.book world.new) }
     ensures session { (file : List ℕ) → IsReplay file (map string_bytes words.now) → IsOneOf session_statuses result → IsUnread W.S.faults file (ToldBy W.K.faults W.K.written errors.old errors.new) (W.book world.old) (W.book world.new) result ⊎ IsSession W.S.left W.K.written W.S.faults W.K.faults file (ToldBy W.K.faults W.K.written errors.old errors.new) (W.book world.old) (W.book world.new) result }
     ensures quiet { IsOneOf quiet_statuses result → (W.book world.new).std Std.Out ≡ (W.book world.old).std Std.Out }
     ensures unused { IsOneOf unused_statuses result → IsUnused (W.book world.old) (W.book world.new) }
@@ -100,9 +100,9 @@ fn replay_file<W: World>(alloc: Global, file: &str, world: &mut W, errors: &mut 
     ensures status { IsOneOf statuses result }
     ensures usage { result ≡ 2 → ⊥ }
     ensures memory { result ≡ 1 → ToldBy W.K.faults W.K.written errors.old errors.new memory_line }
-    ensures config { result ≡ 3 → IsNoPlan W.S.left file.now (ToldBy W.K.faults W.K.written errors.old errors.new) (W.book world.old) }
+    ensures config { result ≡ 3 → IsNoPlan W.S.left file.now (ToldBy W.K.faults W.K.written errors.old errors.new) (W.book world.old) (W.book world.new) }
     ensures open { result ≡ 7 → Rose (W.book world.old).faults (W.book world.new).faults }
-    ensures unopened { result ≡ 7 → IsUnopened W.S.left file.now (ToldBy W.K.faults W.K.written errors.old errors.new) (W.book world.old) }
+    ensures unopened { result ≡ 7 → IsUnopened W.S.left file.now (ToldBy W.K.faults W.K.written errors.old errors.new) (W.book world.old) (W.book world.new) }
     ensures session { IsOneOf session_statuses result → IsUnread W.S.faults file.now (ToldBy W.K.faults W.K.written errors.old errors.new) (W.book world.old) (W.book world.new) result ⊎ IsSession W.S.left W.K.written W.S.faults W.K.faults file.now (ToldBy W.K.faults W.K.written errors.old errors.new) (W.book world.old) (W.book world.new) result }
     ensures quiet { IsOneOf quiet_statuses result → (W.book world.new).std Std.Out ≡ (W.book world.old).std Std.Out }
     ensures unused { IsOneOf unused_statuses result → IsUnused (W.book world.old) (W.book world.new) }
@@ -126,7 +126,7 @@ fn replay_plan<W: World>(alloc: Global, plan: Plan, world: &mut W, errors: &mut 
     ensures config { result ≡ 3 → ⊥ }
     ensures memory { result ≡ 1 → ToldBy W.K.faults W.K.written errors.old errors.new memory_line }
     ensures open { result ≡ 7 → Rose (W.book world.old).faults (W.book world.new).faults }
-    ensures unopened { result ≡ 7 → (name : List ℕ) × IsPlanName plan name × ToldBy W.K.faults W.K.written errors.old errors.new (cannot_open_line name) }
+    ensures unopened { result ≡ 7 → IsPartUnopened plan (ToldBy W.K.faults W.K.written errors.old errors.new) (W.book world.old) (W.book world.new) }
     ensures session { IsOneOf session_statuses result → IsSessionOf W.S.left W.K.written W.S.faults W.K.faults plan (ToldBy W.K.faults W.K.written errors.old errors.new) (W.book world.old) (W.book world.new) result }
     ensures quiet { IsOneOf quiet_statuses result → (W.book world.new).std Std.Out ≡ (W.book world.old).std Std.Out }
     ensures unused { IsOneOf unused_statuses result → IsUnused (W.book world.old) (W.book world.new) }

@@ -1,4 +1,4 @@
-use Rattle.std.proofs.Common.{◌≡◌, ℕ, List, ap, ◌∙◌, inl, refl, subst}
+use Rattle.std.proofs.Common.{◌≡◌, ℕ, List, ap, ◌∙◌, inl, inr, refl, subst}
 use Rattle.savi_kinds.specs.declared.plan.PortPlan.{PortPlan}
 use Rattle.savi_kinds.specs.Ports.{number_of}
 use Rattle.savi_ends.specs.declared.world.Std.{Std}
@@ -6,9 +6,10 @@ use Rattle.savi_ends.specs.declared.world.Ends.{Ends}
 use Rattle.savi_ends.specs.Places.{Book, Place, BothFresh}
 use Rattle.port_worker.specs.Replays.{ports_held}
 use Rattle.switch_ports.specs.Openings.{ports_of, IsNextBehind}
-use Rattle.run_config.specs.Lines.{cannot_open_line, port_name, journal_word}
+use Rattle.run_config.specs.Lines.{cannot_open_line, journal_word}
 use Rattle.savi_switch.specs.Session.{ToldBy}
-use Rattle.savi_switch.proofs.Ending.{Closes, closes, port_named, stays_all, unused_by}
+use Rattle.savi_switch.proofs.Ending.{Closes, closes, stays_all, unused_by}
+use Rattle.savi_switch.proofs.Through.{journal_unopened, port_unopened}
 use Rattle.savi_switch.proofs.Handling.{apart_all, apart_back, apart_first, handled_by, handled_one, out_back, same_ports}
 use Rattle.savi_switch.proofs.Recast.{told_by}
 use Rattle.savi_switch.proofs.top.replay_plan.Given as given
@@ -24,13 +25,16 @@ keep_all-requires-clause-out g c κs within =
     out_back (BothFresh g.W.S.Source.faults g.W.K.Sink.faults) c.open_all.new.held.items c.open_all.new.held.items (g.W.World.book c.args.world.now).ports (g.W.World.book c.open_all.new.world).ports _ c.open_all.ensures.opened (same_ports _) refl
 
 pub returns-in-Some-open_all-clause-unopened : goal.returns-in-Some-open_all-clause-unopened
-returns-in-Some-open_all-clause-unopened g c = λ seven. (
-  port_name (number_of c.in-Some-open_all.port),
-  port_named c.args.plan c.open_all.new.held.items c.in-Some-open_all.port
-      (subst (λ (l : List PortPlan). IsNextBehind c.in-Some-open_all.port (ports_held c.open_all.new.held.items) (ports_of l)) c.as_slice.ensures c.in-Some-open_all.ensures.failed),
-  subst (λ (name : List ℕ). ToldBy g.W.K.Sink.faults g.W.K.Sink.written c.args.errors.now c.tell_unopened-put.new.sink (cannot_open_line name)) (c.as_str.ensures.value ∙ c.port_name.ensures)
-      (told_by g.W.K.Sink.faults g.W.K.Sink.written c.tell_unopened-put.result _ _ _ c.tell_unopened-put.ensures.extends c.tell_unopened-put.ensures.cause),
-)
+returns-in-Some-open_all-clause-unopened g c = λ seven.
+    let S = g.row.W-S.Denot in
+    let K = g.row.W-K.Denot in
+    let C = g.row.W-C.Denot in
+    inl (port_unopened c.args.plan _ c.open_all.new.held.items c.in-Some-open_all.port _ _ c.requires.built.valid.ports
+      (subst (λ (l : List PortPlan). IsNextBehind c.in-Some-open_all.port (ports_held c.open_all.new.held.items) (ports_of l)) c.as_slice.ensures c.in-Some-open_all.ensures.failed)
+      (handled_by (BothFresh g.W.S.Source.faults g.W.K.Sink.faults) _ _ _ (g.W.World.book c.open_all.new.world).ports _ (g.W.World.book c.keep_all.new.world).ports _ c.open_all.ensures.opened c.open_all.ensures.others refl (same_ports _) c.keep_all.ensures.kept c.keep_all.ensures.others refl)
+      (ap (λ (b : Book S K C). b.outputs) c.keep_all.ensures.rest ∙ ap (λ (b : Book S K C). b.outputs) c.open_all.ensures.rest)
+      (subst (λ (name : List ℕ). ToldBy g.W.K.Sink.faults g.W.K.Sink.written c.args.errors.now c.tell_unopened-put.new.sink (cannot_open_line name)) (c.as_str.ensures.value ∙ c.port_name.ensures)
+      (told_by g.W.K.Sink.faults g.W.K.Sink.written c.tell_unopened-put.result _ _ _ c.tell_unopened-put.ensures.extends c.tell_unopened-put.ensures.cause)))
 
 pub returns-in-Some-open_all-clause-unused : goal.returns-in-Some-open_all-clause-unused
 returns-in-Some-open_all-clause-unused g c = λ one_of.
@@ -53,11 +57,16 @@ keep_all-requires-in-Err-clause-out g c κs within =
     out_back (BothFresh g.W.S.Source.faults g.W.K.Sink.faults) c.open_all.new.held.items c.open_all.new.held.items (g.W.World.book c.args.world.now).ports (g.W.World.book c.open_all.new.world).ports _ c.open_all.ensures.opened (same_ports _) (ap (λ (b : Book S K C). b.ports) c.output.ensures.rest)
 
 pub returns-in-Err-clause-unopened : goal.returns-in-Err-clause-unopened
-returns-in-Err-clause-unopened g c = λ seven. (
-  journal_word,
-  inl refl,
-  told_by g.W.K.Sink.faults g.W.K.Sink.written c.tell_unopened-put-in-Err.result _ _ (cannot_open_line journal_word) c.tell_unopened-put-in-Err.ensures.extends c.tell_unopened-put-in-Err.ensures.cause,
-)
+returns-in-Err-clause-unopened g c = λ seven.
+    let S = g.row.W-S.Denot in
+    let K = g.row.W-K.Denot in
+    let C = g.row.W-C.Denot in
+    inr (journal_unopened c.args.plan _ c.open_all.new.held.items _ _ (c.open_all.ensures.all c.in_default-open_all.is ∙ ap ports_of c.as_slice.ensures)
+      (handled_by (BothFresh g.W.S.Source.faults g.W.K.Sink.faults) _ _ _ (g.W.World.book c.open_all.new.world).ports (g.W.World.book c.output.new.self).ports (g.W.World.book c.keep_all-in-Err.new.world).ports _ c.open_all.ensures.opened c.open_all.ensures.others (ap (λ (b : Book S K C). b.ports) c.output.ensures.rest) (same_ports _) c.keep_all-in-Err.ensures.kept c.keep_all-in-Err.ensures.others refl)
+      (λ name. ap (λ (b : Book S K C). b.outputs name) c.keep_all-in-Err.ensures.rest
+      ∙ stays_all (g.W.World.book c.open_all.new.world).outputs (g.W.World.book c.output.new.self).outputs c.as_str-2.result.now c.in-Err.ensures.opens.err c.in-Err.ensures.others name
+      ∙ ap (λ (b : Book S K C). b.outputs name) c.open_all.ensures.rest)
+      (told_by g.W.K.Sink.faults g.W.K.Sink.written c.tell_unopened-put-in-Err.result _ _ (cannot_open_line journal_word) c.tell_unopened-put-in-Err.ensures.extends c.tell_unopened-put-in-Err.ensures.cause))
 
 pub returns-in-Err-clause-unused : goal.returns-in-Err-clause-unused
 returns-in-Err-clause-unused g c = λ one_of.
