@@ -10,7 +10,7 @@ use Rattle.savi_ends.specs.Octets.{behind}
 use Rattle.savi_ends.specs.Writes.{Extends}
 use Rattle.savi_ends.specs.Places.{Place, Book}
 use Rattle.savi_history.specs.Summary.{summary_of, summary_text}
-use Rattle.savi_switch.specs.Session.{IsReplayOf, IsSession, IsSessionOf, IsStopped, Told, ToldBy, Took, TookOrFailed}
+use Rattle.savi_switch.specs.Session.{IsReplayOf, IsSession, IsSessionOf, IsStopped, Told, ToldBy, Took, TookOrPart}
 
 -- a line was told, or its write failed
 pub told_by : {K : Type 0} (faults : K → ℕ) (written : K → Option (List ℕ)) (put : Put) (old new : K) (line : List ℕ) → Extends put (written old) (written new) line → (put ≡ Failed → Rose (faults old) (faults new)) → ToldBy faults written old new line
@@ -26,7 +26,7 @@ pub told_at : {S K C : Type 0} (faults : K → ℕ) (written : K → Option (Lis
 told_at {S} {K} {C} faults written old new sink sink' lines told kept (inl took) = inl (took_at written (old.std Err).stands (new.std Err).stands sink sink' lines told kept took)
 told_at {S} {K} {C} faults written old new sink sink' lines told kept (inr fault) = inr (rw kept fault)
 
-moved_summary : {K : Type 0} (faults : K → ℕ) (written : K → Option (List ℕ)) (summary_written : Bool) (old new old' new' : Place K) (text : List ℕ) → old' ≡ old → new' ≡ new → TookOrFailed faults written summary_written old new text → TookOrFailed faults written summary_written old' new' text
+moved_summary : {K : Type 0} (faults : K → ℕ) (written : K → Option (List ℕ)) (summary_written : Bool) (old new old' new' : Place K) (text : List ℕ) → old' ≡ old → new' ≡ new → TookOrPart faults written summary_written old new text → TookOrPart faults written summary_written old' new' text
 moved_summary faults written summary_written old new old' new' text same same' took = rw (same, same') took
 
 moved_did : {S K C : Type 0} (left : S → Option (List ℕ)) (written : K → Option (List ℕ)) (source_faults : S → ℕ) (sink_faults : K → ℕ) (plan : Plan) (Says Says' : List ℕ → Type 0) (old new : Book S K C) (f f' : ℕ) (i i' : List ℕ → Place S) (s s' : Std → Place K) (status : ℕ)

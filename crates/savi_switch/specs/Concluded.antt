@@ -11,7 +11,7 @@ use Rattle.savi_conf.specs.declared.fault.ConfFault.{ConfFault}
 use Rattle.run_config.specs.declared.refusal.Refusal.{Refusal}
 use Rattle.run_config.specs.declared.refusal.Refusal.TheVariants as refusal
 use Rattle.run_config.specs.Lines.{cannot_open_line, config_line, memory_line, read_failed_line, write_failed_line, port_name}
-use Rattle.savi_switch.specs.Session.{TookOrFailed, journal_lines, status_of}
+use Rattle.savi_switch.specs.Session.{TookOrPart, journal_lines, status_of}
 
 -- the status of a run that has no plan
 abbrev pub refusal_status : Refusal → ℕ
@@ -30,7 +30,7 @@ refusal_line file (refusal.Refused fault) = config_line fault
 -- The summary was written or not, and standard error was told of the ends and of a journal that was not written.
 pub record IsSummed {K : Type 0} (written : K → Option (List ℕ)) (faults : K → ℕ) (Says : List ℕ → Type 0) (past : List Row) (journal_written : Bool) (old new : Place K) (status : ℕ) : Type 0 where
   pub summary_written : Bool
-  pub summary : TookOrFailed faults written summary_written old new (summary_text (summary_of past))
+  pub summary : TookOrPart faults written summary_written old new (summary_text (summary_of past))
   pub errors : Says (end_lines past ++ journal_lines journal_written)
   pub cause : status ≡ status_of (journal_written && summary_written) past
 

@@ -5,7 +5,7 @@ use Rattle.savi_kinds.specs.declared.entry.How.TheVariants as hows
 use Rattle.savi_kinds.specs.Arrivals.{Input}
 use Rattle.savi_kinds.specs.ValidPlan.{numbers_of}
 use Rattle.savi_ends.specs.declared.world.Std.TheVariants.{Out, Err}
-use Rattle.savi_ends.specs.Octets.{behind}
+use Rattle.savi_ends.specs.Octets.{behind, IsFront}
 use Rattle.savi_ends.specs.Places.{Place, Book}
 use Rattle.pcap_io.specs.Kinds.{classic_kinds}
 use Rattle.pcap_io.specs.Runs.{Arrive}
@@ -43,6 +43,12 @@ Took written old new octets = IsSomeAnd new.stands (λ kept. IfSome old.stands (
 abbrev pub TookOrFailed : {X : Type 0} → (X → ℕ) → (X → Option (List ℕ)) → Bool → Place X → Place X → List ℕ → Type 0
 TookOrFailed faults written true old new octets = Took written old new octets
 TookOrFailed faults written false old new octets = HasFault faults new
+
+-- it took them, or a front of them before a write of it failed
+abbrev pub TookOrPart : {X : Type 0} → (X → ℕ) → (X → Option (List ℕ)) → Bool → Place X → Place X → List ℕ → Type 0
+TookOrPart faults written true old new octets = Took written old new octets
+TookOrPart faults written false old new octets =
+    HasFault faults new × ((front : List ℕ) × IsFront front octets × Took written old new front)
 
 -- A sink took these lines, or a write of it failed, which changes no status.
 abbrev pub ToldBy : {K : Type 0} → (K → ℕ) → (K → Option (List ℕ)) → K → K → List ℕ → Type 0
@@ -100,7 +106,7 @@ pub record IsReplayOf {S K C : Type 0} (left : S → Option (List ℕ)) (written
   pub journal_written : Bool
   pub summary_written : Bool
   pub journal : TookOrFailed sink_faults written journal_written (old.outputs plan.journal) (new.outputs plan.journal) (journal_text address_text plan (reverse past))
-  pub summary : TookOrFailed sink_faults written summary_written (old.std Out) (new.std Out) (summary_text (summary_of past))
+  pub summary : TookOrPart sink_faults written summary_written (old.std Out) (new.std Out) (summary_text (summary_of past))
   pub errors : Says (end_lines past ++ journal_lines journal_written)
   pub cause : status ≡ status_of (journal_written && summary_written) past
   pub guarded : IsGuarded plan past

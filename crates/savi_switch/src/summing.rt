@@ -7,7 +7,7 @@ ghost use Rattle.savi_history.specs.Summary.{summary_text};
 ghost use Rattle.savi_core.specs.Sums.{sum_of};
 ghost use Rattle.run_config.specs.Lines.{memory_line};
 ghost use Rattle.savi_switch.specs.Concluded.{IsConcluded};
-ghost use Rattle.savi_switch.specs.Session.{ToldBy, TookOrFailed, status_of};
+ghost use Rattle.savi_switch.specs.Session.{ToldBy, TookOrPart, status_of};
 
 use crate::ends_told::{tell_finished, tell_unfinished};
 use crate::session::Outcome;
@@ -69,7 +69,7 @@ fn status_by(core: &Core, written: bool) -> u8
 // Writes the summary to standard output. The answer is false where the write failed.
 fn write_summary<W: World>(summary: Summary, world: &mut W) -> bool
     requires { IsReady (λ k. W.K.faults k ≡ 0) ((W.book world.old).std Std.Out) }
-    ensures took { TookOrFailed W.K.faults W.K.written result ((W.book world.old).std Std.Out) ((W.book world.new).std Std.Out) (summary_text (sum_of summary)) }
+    ensures took { TookOrPart W.K.faults W.K.written result ((W.book world.old).std Std.Out) ((W.book world.new).std Std.Out) (summary_text (sum_of summary)) }
     ensures others { OthersStay (W.book world.old).std (W.book world.new).std Std.Out }
     ensures rest { W.book world.new ≡ record (W.book world.old) { std = (W.book world.new).std } }
 {

@@ -30,11 +30,11 @@ returns-in-Some-open_all-clause-unopened g c = λ seven.
     let K = g.row.W-K.Denot in
     let C = g.row.W-C.Denot in
     inl (port_unopened c.args.plan _ c.open_all.new.held.items c.in-Some-open_all.port _ _ c.requires.built.valid.ports
-      (subst (λ (l : List PortPlan). IsNextBehind c.in-Some-open_all.port (ports_held c.open_all.new.held.items) (ports_of l)) c.as_slice.ensures c.in-Some-open_all.ensures.failed)
-      (handled_by (BothFresh g.W.S.Source.faults g.W.K.Sink.faults) _ _ _ (g.W.World.book c.open_all.new.world).ports _ (g.W.World.book c.keep_all.new.world).ports _ c.open_all.ensures.opened c.open_all.ensures.others refl (same_ports _) c.keep_all.ensures.kept c.keep_all.ensures.others refl)
-      (ap (λ (b : Book S K C). b.outputs) c.keep_all.ensures.rest ∙ ap (λ (b : Book S K C). b.outputs) c.open_all.ensures.rest)
-      (subst (λ (name : List ℕ). ToldBy g.W.K.Sink.faults g.W.K.Sink.written c.args.errors.now c.tell_unopened-put.new.sink (cannot_open_line name)) (c.as_str.ensures.value ∙ c.port_name.ensures)
-      (told_by g.W.K.Sink.faults g.W.K.Sink.written c.tell_unopened-put.result _ _ _ c.tell_unopened-put.ensures.extends c.tell_unopened-put.ensures.cause)))
+    (subst (λ (l : List PortPlan). IsNextBehind c.in-Some-open_all.port (ports_held c.open_all.new.held.items) (ports_of l)) c.as_slice.ensures c.in-Some-open_all.ensures.failed)
+    (handled_by (BothFresh g.W.S.Source.faults g.W.K.Sink.faults) _ _ _ (g.W.World.book c.open_all.new.world).ports _ (g.W.World.book c.keep_all.new.world).ports _ c.open_all.ensures.opened c.open_all.ensures.others refl (same_ports _) c.keep_all.ensures.kept c.keep_all.ensures.others refl)
+    (ap (λ (b : Book S K C). b.outputs) c.keep_all.ensures.rest ∙ ap (λ (b : Book S K C). b.outputs) c.open_all.ensures.rest)
+    (subst (λ (name : List ℕ). ToldBy g.W.K.Sink.faults g.W.K.Sink.written c.args.errors.now c.tell_unopened-put.new.sink (cannot_open_line name)) (c.as_str.ensures.value ∙ c.port_name.ensures)
+    (told_by g.W.K.Sink.faults g.W.K.Sink.written c.tell_unopened-put.result _ _ _ c.tell_unopened-put.ensures.extends c.tell_unopened-put.ensures.cause)))
 
 pub returns-in-Some-open_all-clause-unused : goal.returns-in-Some-open_all-clause-unused
 returns-in-Some-open_all-clause-unused g c = λ one_of.
@@ -62,11 +62,11 @@ returns-in-Err-clause-unopened g c = λ seven.
     let K = g.row.W-K.Denot in
     let C = g.row.W-C.Denot in
     inr (journal_unopened c.args.plan _ c.open_all.new.held.items _ _ (c.open_all.ensures.all c.in_default-open_all.is ∙ ap ports_of c.as_slice.ensures)
-      (handled_by (BothFresh g.W.S.Source.faults g.W.K.Sink.faults) _ _ _ (g.W.World.book c.open_all.new.world).ports (g.W.World.book c.output.new.self).ports (g.W.World.book c.keep_all-in-Err.new.world).ports _ c.open_all.ensures.opened c.open_all.ensures.others (ap (λ (b : Book S K C). b.ports) c.output.ensures.rest) (same_ports _) c.keep_all-in-Err.ensures.kept c.keep_all-in-Err.ensures.others refl)
-      (λ name. ap (λ (b : Book S K C). b.outputs name) c.keep_all-in-Err.ensures.rest
-      ∙ stays_all (g.W.World.book c.open_all.new.world).outputs (g.W.World.book c.output.new.self).outputs c.as_str-2.result.now c.in-Err.ensures.opens.err c.in-Err.ensures.others name
-      ∙ ap (λ (b : Book S K C). b.outputs name) c.open_all.ensures.rest)
-      (told_by g.W.K.Sink.faults g.W.K.Sink.written c.tell_unopened-put-in-Err.result _ _ (cannot_open_line journal_word) c.tell_unopened-put-in-Err.ensures.extends c.tell_unopened-put-in-Err.ensures.cause))
+    (handled_by (BothFresh g.W.S.Source.faults g.W.K.Sink.faults) _ _ _ (g.W.World.book c.open_all.new.world).ports (g.W.World.book c.output.new.self).ports (g.W.World.book c.keep_all-in-Err.new.world).ports _ c.open_all.ensures.opened c.open_all.ensures.others (ap (λ (b : Book S K C). b.ports) c.output.ensures.rest) (same_ports _) c.keep_all-in-Err.ensures.kept c.keep_all-in-Err.ensures.others refl)
+    (λ name. ap (λ (b : Book S K C). b.outputs name) c.keep_all-in-Err.ensures.rest
+    ∙ stays_all (g.W.World.book c.open_all.new.world).outputs (g.W.World.book c.output.new.self).outputs c.as_str-2.result.now c.in-Err.ensures.opens.err c.in-Err.ensures.others name
+    ∙ ap (λ (b : Book S K C). b.outputs name) c.open_all.ensures.rest)
+    (told_by g.W.K.Sink.faults g.W.K.Sink.written c.tell_unopened-put-in-Err.result _ _ (cannot_open_line journal_word) c.tell_unopened-put-in-Err.ensures.extends c.tell_unopened-put-in-Err.ensures.cause))
 
 pub returns-in-Err-clause-unused : goal.returns-in-Err-clause-unused
 returns-in-Err-clause-unused g c = λ one_of.
