@@ -1,7 +1,10 @@
 pub mod WrittenLines
-pub mod FixedPlans
-pub mod WordLists
-pub mod Played
 pub mod PortLists
-pub mod TwoPorts
-pub mod WholeRun
+pub mod Sessions
+pub mod Through
+pub mod Handling
+pub mod Recast
+pub mod Running
+pub mod Refusing
+pub mod Ending
+pub mod Forms

@@ -1,8 +1,7 @@
-pub mod Words
-pub mod FixedPlan
 pub mod Causes
 pub mod Session
 pub mod Played
+pub mod Concluded
 pub mod Spots
 pub mod NamedSpots
 pub mod PortPlaces

@@ -1,73 +1,69 @@
--- What a session over the ends of two ports and a journal has done.
-use Rattle.std.specs.Prelude.{◌≡◌, ◌<◌, ℕ, List, [], ◌∷◌, length, slice_index_or, Option, IfSome}
+-- What a session over the ends of ports and a journal has done.
+use Rattle.std.specs.Prelude.{◌≡◌, ◌<◌, ℕ, Bool, true, false, List, length, slice_index_or, reverse, Option, None, Some}
 use Rattle.savi_kinds.specs.declared.plan.Plan.{Plan}
+use Rattle.savi_kinds.specs.declared.port.Port.{Port}
+use Rattle.savi_kinds.specs.declared.entry.How.TheVariants as hows
 use Rattle.savi_kinds.specs.Arrivals.{Input}
-use Rattle.savi_ends.specs.declared.world.Ends.{Ends}
+use Rattle.savi_kinds.specs.Ports.{number_of}
 use Rattle.savi_ends.specs.Octets.{behind}
 use Rattle.pcap_io.specs.Kinds.{classic_kinds}
 use Rattle.pcap_io.specs.Runs.{Arrive}
 use Rattle.hist_store.specs.Rows.{Row}
+use Rattle.hist_store.specs.JournalTexts.{journal_text, address_text}
 use Rattle.savi_history.specs.Bases.{empty}
 use Rattle.savi_history.specs.Legal.{IsLegal, IsFinished}
 use Rattle.savi_history.specs.Replay.{replayed}
 use Rattle.savi_history.specs.PortInputs.{arrived, input_end}
 use Rattle.savi_history.specs.Fits.{Fits}
-use Rattle.savi_history.specs.Summary.{Summary, summary_of}
-use Rattle.savi_ends.specs.Faults.{Rose}
+use Rattle.savi_core.specs.Machines.{Machine}
 use Rattle.port_worker.specs.declared.port_ends.PortEnds.{PortEnds}
 use Rattle.port_worker.specs.Pairs.{EachPair}
-use Rattle.port_worker.specs.Replays.{IsReplayed, IsFit}
-use Rattle.savi_core.specs.Sums.{sum_of}
-use Rattle.savi_switch.specs.declared.session.Ended.{Ended}
-use Rattle.savi_switch.specs.declared.session.Ended.TheVariants.{NoMemory, ReadFault, WriteFault, Finished}
-use Rattle.savi_switch.specs.Session.{status_of, sent_capture, plain_journal}
+use Rattle.port_worker.specs.Replays.{IsInputOf}
+use Rattle.savi_switch.specs.Session.{sent_capture}
 
--- what a source had left is this input, where it tells its octets
-abbrev pub WasInput : Option (List ℕ) → Input → Type 0
-WasInput left input = IfSome left (λ octets. Arrive classic_kinds octets input)
+-- the port is the same
+abbrev pub IsSamePort : {S K C : Type 0} → PortEnds S K C → PortEnds S K C → Type 0
+IsSamePort old new = new.port ≡ old.port
 
--- what the source at a port gave up fits what the history holds of its input
-abbrev pub FitsEnds : {S K C : Type 0} → (S → Option (List ℕ)) → Ends S K C → Ends S K C → ℕ → List Row → Type 0
-FitsEnds left old new port past = Fits (Arrive classic_kinds) (left old.source) (left new.source) (arrived port past) (input_end port past)
+-- what the source of a port gave is this input
+abbrev pub GaveInput : {S K C : Type 0} → (S → Option (List ℕ)) → List Row → PortEnds S K C → PortEnds S K C → Input → Type 0
+GaveInput left past old new input =
+    IsInputOf (Arrive classic_kinds) (left old.ends.source) (left new.ends.source) (input_end (number_of old.port) past) input.arrivals input.ending
 
--- One history, legal and finished, is the replay of these inputs; each sink took what it sends there, and the journal
--- its text.
-pub record IsPlayed {S K C : Type 0} (left : S → Option (List ℕ)) (written : K → Option (List ℕ)) (plan : Plan) (first second first' second' : Ends S K C) (journal journal' : K) (status : ℕ) (summary : Summary) : Type 0 where
-  pub first_input : Input
-  pub second_input : Input
-  pub past : List Row
-  pub first_was : WasInput (left first.source) first_input
-  pub second_was : WasInput (left second.source) second_input
-  pub replay : past ≡ replayed plan empty (first_input ∷ second_input ∷ [])
-  pub legal : IsLegal plan empty past
+-- The port is the same, and where the history says that a read of its input failed, its source has a fault.
+pub record IsServed {S K C : Type 0} (source_faults : S → ℕ) (past : List Row) (old new : PortEnds S K C) : Type 0 where
+  pub port : new.port ≡ old.port
+  pub broken : input_end (number_of old.port) past ≡ Some hows.Failed → 0 < source_faults new.ends.source
+
+-- what a source gave up fits what the history holds, and the sink took what the history sends there
+pub record IsWritten {S K C : Type 0} (left : S → Option (List ℕ)) (written : K → Option (List ℕ)) (past : List Row) (old new : PortEnds S K C) : Type 0 where
+  pub fits : Fits (Arrive classic_kinds) (left old.ends.source) (left new.ends.source) (arrived (number_of old.port) past) (input_end (number_of old.port) past)
+  pub took : written new.ends.sink ≡ behind (written old.ends.sink) (sent_capture (number_of old.port) past)
+
+-- The history is the replay of the inputs that the sources gave, and each sink took what it sends there.
+pub record IsPlayedOut {S K C : Type 0} (left : S → Option (List ℕ)) (written : K → Option (List ℕ)) (plan : Plan) (past : List Row) (old new : List (PortEnds S K C)) : Type 0 where
+  pub inputs : List Input
+  pub size : length inputs ≡ length old
+  pub gave : (k : ℕ) (d : PortEnds S K C) (i : Input) → k < length old → GaveInput left past (slice_index_or old k d) (slice_index_or new k d) (slice_index_or inputs k i)
+  pub replay : past ≡ replayed plan empty inputs
   pub finished : IsFinished plan empty past
-  pub first_fits : FitsEnds left first first' 1 past
-  pub second_fits : FitsEnds left second second' 2 past
-  pub first_took : written first'.sink ≡ behind (written first.sink) (sent_capture 1 past)
-  pub second_took : written second'.sink ≡ behind (written second.sink) (sent_capture 2 past)
-  pub journal_took : written journal' ≡ behind (written journal) (plain_journal plan past)
-  pub cause : status ≡ status_of past
-  pub summed : summary ≡ summary_of past
+  pub each : EachPair (IsWritten left written past) old new
 
--- the same over lists of ports
-pub record IsPlayedBy {S K C : Type 0} (left : S → Option (List ℕ)) (written : K → Option (List ℕ)) (plan : Plan) (old new : List (PortEnds S K C)) (journal journal' : K) (status : ℕ) (summary : Summary) : Type 0 where
-  pub past : List Row
-  pub replay : IsReplayed left written plan past old new
-  pub fits : EachPair (IsFit left past) old new
-  pub legal : IsLegal plan empty past
-  pub finished : IsFinished plan empty past
-  pub journal_took : written journal' ≡ behind (written journal) (plain_journal plan past)
-  pub cause : status ≡ status_of past
-  pub summed : summary ≡ summary_of past
+-- the journal took its text, or a write of it failed
+abbrev pub JournalWas : {K : Type 0} → (K → ℕ) → (K → Option (List ℕ)) → Bool → K → K → List ℕ → Type 0
+JournalWas faults written true old new text = written new ≡ behind (written old) text
+JournalWas faults written false old new text = 0 < faults new
 
--- a count of one of the ports rose
-abbrev pub HasRisen : {S K C : Type 0} → (PortEnds S K C → ℕ) → List (PortEnds S K C) → List (PortEnds S K C) → Type 0
-HasRisen {S} {K} {C} faults old new =
-    (k : ℕ) × (k < length old) × ((d : PortEnds S K C) → Rose (faults (slice_index_or old k d)) (faults (slice_index_or new k d)))
+-- by whether a write failed, and at which port
+abbrev pub EndedBy : {S K C : Type 0} → (S → Option (List ℕ)) → (K → Option (List ℕ)) → (K → ℕ) → Plan → List Row → List (PortEnds S K C) → List (PortEnds S K C) → K → K → Bool → Option Port → Type 0
+EndedBy left written faults plan past old new journal journal' journal_written None =
+    IsPlayedOut left written plan past old new × JournalWas faults written journal_written journal journal' (journal_text address_text plan (reverse past))
+EndedBy {S} {K} {C} left written faults plan past old new journal journal' journal_written (Some port) =
+    (journal' ≡ journal) × (k : ℕ) × (k < length new) × ((d : PortEnds S K C) → (number_of (slice_index_or new k d).port ≡ number_of port) × (0 < faults (slice_index_or new k d).ends.sink))
 
--- what holds of a session that went to its end
-abbrev pub IfFinished : Ended → (ℕ → Summary → Type 0) → Type 0
-IfFinished NoMemory P = Unit {0}
-IfFinished ReadFault P = Unit {0}
-IfFinished WriteFault P = Unit {0}
-IfFinished (Finished status summary) P = P status (sum_of summary)
+-- One legal history of the plan: what it is to the ends of the ports and of the journal.
+pub record IsPlayed {S K C : Type 0} (left : S → Option (List ℕ)) (written : K → Option (List ℕ)) (source_faults : S → ℕ) (sink_faults : K → ℕ) (plan : Plan) (old new : List (PortEnds S K C)) (journal journal' : K) (core : Machine) (journal_written : Bool) (unwritten : Option Port) : Type 0 where
+  pub plan_is : core.plan ≡ plan
+  pub legal : IsLegal plan empty core.past
+  pub served : EachPair (IsServed source_faults core.past) old new
+  pub ended : EndedBy left written sink_faults plan core.past old new journal journal' journal_written unwritten

@@ -4,9 +4,11 @@
 //! `main` makes the real one.
 #![tactic(auto)]
 
+ghost use Rattle.std.specs.Prelude.{◌≡◌};
+
 mod end_lines;
+mod ends_told;
 mod file_sink;
-mod fixed_plan;
 mod machine_clock;
 mod named_spot;
 mod port_spots;
@@ -15,13 +17,14 @@ mod real_world;
 mod recording_world;
 mod session;
 mod spot;
+mod summing;
 #[cfg(test)]
 mod tests;
 mod top;
-mod two_ports;
-mod words;
 
+use file_sink::FileSink;
 use real_world::RealWorld;
+use run_config::{tell_memory, tell_usage};
 use std::env;
 use std::process::ExitCode;
 use top::{NO_MEMORY, USAGE, run};
@@ -35,15 +38,31 @@ fn status_of(rt: HostRuntime) -> u8 {
     let alloc = rt.alloc();
     let mut arguments = match env::args(&rt) {
         Ok(arguments) => arguments,
-        Err(_) => return USAGE,
+        Err(_) => return say_usage(rt),
     };
     let _program = arguments.next();
     let words: Vec<String> = match arguments.collect(alloc) {
         Ok(words) => words,
-        Err(_) => return NO_MEMORY,
+        Err(_) => return say_memory(rt),
     };
     match RealWorld::make(rt, alloc) {
         Ok(mut world) => run(alloc, words.as_slice(), &mut world),
-        Err(_) => NO_MEMORY,
+        Err(_) => say_memory(rt),
     }
+}
+
+// Tells standard error of words that are no form of the command line. The answer is the status.
+fn say_usage(rt: HostRuntime) -> u8
+    ensures { result ≡ 2 }
+{
+    let _put = tell_usage(&mut FileSink::err(rt.stderr()));
+    USAGE
+}
+
+// Tells standard error of want of memory. The answer is the status.
+fn say_memory(rt: HostRuntime) -> u8
+    ensures { result ≡ 1 }
+{
+    let _put = tell_memory(&mut FileSink::err(rt.stderr()));
+    NO_MEMORY
 }

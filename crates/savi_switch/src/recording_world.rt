@@ -6,6 +6,7 @@ ghost use Rattle.savi_ends.specs.MemWorlds.{book_of};
 ghost use Rattle.savi_ends.specs.Places.{OthersStay};
 
 use arrayvec::ArrayVec;
+use run_config::port_name;
 use savi_ends::{MemClock, MemEnds, MemSink, MemSource, MemWorld, OpenFailed, Std, World};
 use savi_kinds::{Format, Port, PortPlan, Role};
 
@@ -60,16 +61,12 @@ impl World for RecordingWorld {
             Format::Pcap => "pcap",
             Format::Stream => "stream",
         };
-        let number = match n.get() {
-            1 => "1",
-            2 => "2",
-            _ => "another",
-        };
+        let name = port_name(n);
         let input = plan.input.as_str();
         let output = plan.output.as_str();
         record(
             &mut self.openings,
-            &["port", number, role, format, input, output],
+            &[name.as_str(), role, format, input, output],
         );
         self.world.port(n, plan)
     }

@@ -1,89 +1,107 @@
-//! A session over the ends of two ports and a journal.
+//! A session over the ends of the ports of a plan and of a journal.
 
-ghost use Rattle.std.specs.Prelude.{◌≡◌, ◌≤◌, ◌⊎◌, ◌∷◌, [], ℕ, All};
-ghost use Rattle.savi_kinds.specs.Ports.{number_of};
-ghost use Rattle.savi_ends.specs.Faults.{Rose};
-ghost use Rattle.savi_switch.specs.FixedPlan.{IsFixedPlan};
-ghost use Rattle.savi_switch.specs.Session.{status_of};
-ghost use Rattle.savi_switch.specs.Played.{IfFinished, IsPlayedBy, HasRisen};
+ghost use Rattle.std.specs.Prelude.{◌≡◌, ◌≤◌, All, IfNone, IfSome, None, [], reverse};
 ghost use Rattle.port_worker.specs.Pairs.{EachPair};
-ghost use Rattle.port_worker.specs.Replays.{ports_held, ports_planned, IsUnread, IsLater};
+ghost use Rattle.port_worker.specs.Replays.{IsUnread, ports_held, ports_planned};
+ghost use Rattle.run_config.specs.Configs.{IsBuilt};
+ghost use Rattle.switch_ports.specs.Openings.{IsReadAnew};
+ghost use Rattle.hist_store.specs.JournalTexts.{address_text, journal_text};
+ghost use Rattle.savi_switch.specs.Played.{IsPlayed, IsSamePort, JournalWas};
 
-use port_worker::{PortEnds, Stopped, replay};
-use savi_core::{Batch, Buffer, Core, Summary};
+use port_worker::{Closed, Ready, replay_session};
+use savi_core::{Buffer, Core};
 use savi_ends::{Clock, Put, Sink, Source};
-use savi_kinds::Plan;
+use savi_kinds::{Plan, Port};
 use std::alloc::Global;
 
 /// The octets of the pieces in which the journal is written.
 const JOURNAL_PIECE_OCTETS: usize = 131_072;
 
-/// How a session ended.
-#[derive(Clone, Copy, PartialEq, Eq, Debug)]
-pub enum Ended {
-    /// There was no memory, and nothing was read or written.
-    NoMemory,
-    /// A read of a port failed.
-    ReadFault,
-    /// A write of a port or of the journal failed.
-    WriteFault,
-    /// The inputs were read, and the outputs and the journal were written.
-    Finished { status: u8, summary: Summary },
+/// The history of a session, and what was not written.
+#[derive(Drop)]
+pub struct Outcome {
+    pub core: Core,
+    /// The port at which a write failed, which stopped the session.
+    pub unwritten: Option<Port>,
+    /// Whether the journal was written.
+    pub journal_written: bool,
 }
 
-/// The status of a history.
-pub fn status_by(core: &Core) -> u8
-    ensures { result ≡ status_of core.now.past }
-{
-    if core.has_malformed() {
-        4
-    } else if core.has_full() {
-        8
-    } else {
-        0
-    }
+/// The ends, given back, and the outcome, unless there was no memory.
+pub struct Played<S, K, C> {
+    pub ready: Ready<S, K, C>,
+    pub outcome: Option<Outcome>,
 }
 
-/// Replays what the ports have, and writes the journal.
+/// Replays what the ports have, and writes the journal where no write of a port failed.
+///
+/// Without memory nothing is read or written.
 pub fn play<S: Source, K: Sink, C: Clock>(
     alloc: Global,
     plan: Plan,
-    ports: &mut [PortEnds<S, K, C>],
+    ready: Ready<S, K, C>,
     journal: &mut K,
-) -> Ended
-    requires fixed { IsFixedPlan plan }
-    requires planned { ports_held ports.old ≡ ports_planned plan }
-    requires unread { All IsUnread ports.old }
-    ensures later { EachPair (IsLater S.faults K.faults) ports.old ports.new }
-    ensures journal { K.faults journal.old ≤ K.faults journal.new }
-    ensures none { result ≡ Ended.NoMemory → (ports.new ≡ ports.old) × (journal.new ≡ journal.old) }
-    ensures read { result ≡ Ended.ReadFault → HasRisen (λ p. S.faults p.ends.source) ports.old ports.new }
-    ensures write { result ≡ Ended.WriteFault → HasRisen (λ p. K.faults p.ends.sink) ports.old ports.new ⊎ Rose (K.faults journal.old) (K.faults journal.new) }
-    ensures played { IfFinished result (IsPlayedBy S.left K.written plan ports.old ports.new journal.old journal.new) }
+) -> Played<S, K, C>
+    requires built { IsBuilt plan }
+    requires planned { ports_held ready.ports.items ≡ ports_planned plan }
+    requires unread { All IsUnread ready.ports.items }
+    requires anew { All IsReadAnew ready.ports.items }
+    ensures ports { EachPair IsSamePort ready.ports.items result.ready.ports.items }
+    ensures none { IfNone result.outcome ((result.ready.ports.items ≡ ready.ports.items) × (journal.new ≡ journal.old)) }
+    ensures played { IfSome result.outcome (λ o. IsPlayed S.left K.written S.faults K.faults plan ready.ports.items result.ready.ports.items journal.old journal.new o.core o.journal_written o.unwritten) }
 {
-    let mut core = match Core::make(alloc, plan) {
-        Ok(core) => core,
-        Err(_) => return Ended::NoMemory,
-    };
-    let mut batch = match Batch::make(alloc) {
-        Ok(batch) => batch,
-        Err(_) => return Ended::NoMemory,
-    };
     let mut buffer = match Buffer::make(alloc, JOURNAL_PIECE_OCTETS) {
         Ok(buffer) => buffer,
-        Err(_) => return Ended::NoMemory,
+        Err(_) => return unplayed(ready),
     };
-    match replay(&mut core, ports, &mut batch) {
-        Stopped::Finished => {}
-        Stopped::ReadFault { port: _ } => return Ended::ReadFault,
-        Stopped::WriteFault { port: _ } => return Ended::WriteFault,
-    }
+    let Closed {
+        core,
+        ready,
+        unwritten,
+    } = match replay_session(alloc, plan, ready) {
+        Ok(closed) => closed,
+        Err(ready) => return unplayed(ready),
+    };
     let _legal = core.len();
-    match core.write_journal(journal, &mut buffer) {
-        Put::Done => Ended::Finished {
-            status: status_by(&core),
-            summary: core.summary(),
-        },
-        Put::Failed => Ended::WriteFault,
+    let journal_written = finish_journal(&core, unwritten, journal, &mut buffer);
+    Played {
+        ready,
+        outcome: Some(Outcome {
+            core,
+            unwritten,
+            journal_written,
+        }),
+    }
+}
+
+// The ends of a session for which there was no memory.
+fn unplayed<S, K, C>(ready: Ready<S, K, C>) -> Played<S, K, C>
+    ensures ready { result.ready ≡ ready }
+    ensures outcome { result.outcome ≡ None }
+{
+    Played {
+        ready,
+        outcome: None,
+    }
+}
+
+// Writes the journal where no write of a port failed. The answer is whether it was written.
+fn finish_journal<K: Sink>(
+    core: &Core,
+    unwritten: Option<Port>,
+    journal: &mut K,
+    buffer: &mut Buffer,
+) -> bool
+    requires empty { buffer.old.octets ≡ [] }
+    requires room { 3401 ≤ buffer.old.room }
+    ensures was { IfNone unwritten (JournalWas K.faults K.written result journal.old journal.new (journal_text address_text core.now.plan (reverse core.now.past))) }
+    ensures same { IfSome unwritten (λ port. journal.new ≡ journal.old) }
+{
+    if unwritten.is_some() {
+        return false;
+    }
+    match core.write_journal(journal, buffer) {
+        Put::Done => true,
+        Put::Failed => false,
     }
 }

@@ -8,6 +8,24 @@ use savi_kinds::{Port, Text};
 use std::alloc::{AllocError, Global};
 use std::test::Fail;
 
+/// Two ports, the first a host's and the second trusted, with captures; the other numbers are the default ones.
+const PLAN: &str = "mac = \"02:00:00:00:00:01\"
+journal = \"journal.txt\"
+savi = \"off\"
+
+[[port]]
+number = 1
+role = \"host\"
+input = \"1.pcap\"
+output = \"1.out\"
+
+[[port]]
+number = 2
+role = \"trusted\"
+input = \"2.pcap\"
+output = \"2.out\"
+";
+
 /// The header of a capture, little-endian with microseconds (the libpcap savefile format).
 const HEADER: &str = "d4c3b2a1020004000000000000000000ffff000001000000";
 
@@ -76,6 +94,7 @@ const EMPTY_LINES: [&str; 7] = [
 #[derive(Clone, Copy)]
 struct Faults {
     opening: u64,
+    plan_read: u64,
     first_read: u64,
     second_write: u64,
     journal_write: u64,
@@ -84,6 +103,7 @@ struct Faults {
 
 const NO_FAULT: Faults = Faults {
     opening: 0,
+    plan_read: 0,
     first_read: 0,
     second_write: 0,
     journal_write: 0,
@@ -131,6 +151,21 @@ fn ends_of(alloc: Global, octets: Vec<u8>, read: u64, write: u64) -> Result<MemE
     })
 }
 
+// The configuration, under the name that the words say.
+fn plan_of(
+    alloc: Global,
+    text: &str,
+    read: u64,
+) -> Result<Vec<(Text, Option<MemSource>)>, AllocError> {
+    let name = Text::new(String::from_str(alloc, "plan")?);
+    let mut octets = Vec::new(alloc);
+    octets.extend_from_slice(text.as_bytes())?;
+    let source = MemSource::new(octets, 65_536, [read].to_vec(alloc)?);
+    let mut inputs = Vec::new(alloc);
+    inputs.push((name, Some(source)))?;
+    Ok(inputs)
+}
+
 // A world with these captures at the two ports, and so many octets of room for the journal.
 fn world_of(
     alloc: Global,
@@ -149,7 +184,7 @@ fn world_of(
     let mut outputs = Vec::new(alloc);
     outputs.push((name, Some(journal)))?;
     Ok(MemWorld {
-        inputs: Vec::new(alloc),
+        inputs: plan_of(alloc, PLAN, faults.plan_read)?,
         outputs,
         ports,
         control: Some(ends_of(alloc, Vec::new(alloc), 0, 0)?),
@@ -207,7 +242,7 @@ fn the_worked_captures_are_replayed(rt: HostRuntime) -> Result<(), Fail> {
 
 /// What the program asks of its world, in order.
 const OPENINGS: &str =
-    "port 1 host pcap 1.pcap 1.out \nport 2 trusted pcap 2.pcap 2.out \noutput journal.txt \nstd out \n";
+    "std err \ninput plan \nport 1 host pcap 1.pcap 1.out \nport 2 trusted pcap 2.pcap 2.out \noutput journal.txt \nstd out \n";
 
 #[test]
 fn the_files_of_the_plan_are_opened(rt: HostRuntime) -> Result<(), Fail> {
@@ -508,7 +543,7 @@ fn captures_without_a_record_make_a_journal(rt: HostRuntime) -> Result<(), Fail>
 
 #[test]
 fn each_status_has_its_cause(rt: HostRuntime) -> Result<(), Fail> {
-    let rows: [(&str, &[&str], Faults, u8); 10] = [
+    let rows: [(&str, &[&str], Faults, u8); 12] = [
         ("no words", &[], NO_FAULT, 2),
         ("one word", &["replay"], NO_FAULT, 2),
         ("three words", &["replay", "plan", "plan"], NO_FAULT, 2),
@@ -523,13 +558,31 @@ fn each_status_has_its_cause(rt: HostRuntime) -> Result<(), Fail> {
             7,
         ),
         (
-            "the last opening",
+            "the opening of a port",
             &["replay", "plan"],
             Faults {
                 opening: 3,
                 ..NO_FAULT
             },
             7,
+        ),
+        (
+            "the last opening",
+            &["replay", "plan"],
+            Faults {
+                opening: 4,
+                ..NO_FAULT
+            },
+            7,
+        ),
+        (
+            "a read of the plan",
+            &["replay", "plan"],
+            Faults {
+                plan_read: 1,
+                ..NO_FAULT
+            },
+            5,
         ),
         (
             "a read",

@@ -1,0 +1,35 @@
+-- Ports that are open, each held beside its number.
+use Rattle.std.specs.Prelude.{◌≡◌, ◌≢◌, ℕ, true, List, ◌∷◌, ◌++◌, map, All, AllPairs, IfSome}
+use Rattle.savi_kinds.specs.declared.plan.PortPlan.{PortPlan}
+use Rattle.savi_kinds.specs.declared.port.Port.{Port}
+use Rattle.savi_kinds.specs.Ports.{number_of}
+use Rattle.savi_ends.specs.Places.{Place}
+use Rattle.pcap_io.specs.Kinds.{classic_kinds}
+use Rattle.pcap_io.specs.Readers.{Fresh}
+use Rattle.port_worker.specs.declared.port_ends.PortEnds.{PortEnds}
+
+-- the ports of these plans, in their order
+abbrev pub ports_of : List PortPlan → List Port
+ports_of plans = map (λ p. p.number) plans
+
+-- none of these ports has this number
+abbrev pub IsOff : {S K C : Type 0} → List (PortEnds S K C) → ℕ → Type 0
+IsOff held n = All (λ p. number_of p.port ≢ n) held
+
+-- no two of these ports have one number
+abbrev pub AreApart : {S K C : Type 0} → List (PortEnds S K C) → Type 0
+AreApart held = AllPairs (λ p q. number_of p.port ≢ number_of q.port) held
+
+-- the input of this port is read from its header on, of any classic kind
+abbrev pub IsReadAnew : {S K C : Type 0} → PortEnds S K C → Type 0
+IsReadAnew p = p.reader ≡ Fresh classic_kinds
+
+-- of all ports these are the first, and this port comes next
+abbrev pub IsNextBehind : Port → List Port → List Port → Type 0
+IsNextBehind port first all = (later : List Port) × (all ≡ first ++ port ∷ later)
+
+-- what was told of a place is held, without a fault so far, and the place is handed out
+pub record IsOpened {X : Type 0} (IsFresh : X → Type 0) (old new : Place X) (x : X) : Type 0 where
+  pub out : new.is_out ≡ true
+  pub told : IfSome old.stands (λ told. x ≡ told)
+  pub fresh : IsFresh x

@@ -1,0 +1,23 @@
+//! The keeping of the ports that are held.
+
+ghost use Rattle.std.specs.Prelude.{◌≡◌, ℕ, All, Some, true};
+ghost use Rattle.savi_kinds.specs.Ports.{number_of};
+ghost use Rattle.switch_ports.specs.Openings.{AreApart, IsOff};
+
+use port_worker::PortEnds;
+use savi_ends::World;
+
+/// Keeps the ends of each of these ports at its own place. O(ports).
+pub fn keep_all<W: World>(mut held: Vec<PortEnds<W::S, W::K, W::C>>, world: &mut W)
+    requires apart { AreApart held.items }
+    requires out { All (λ p. ((W.book world.old).ports (number_of p.port)).is_out ≡ true) held.items }
+    ensures kept { All (λ p. ((W.book world.new).ports (number_of p.port)).stands ≡ Some p.ends) held.items }
+    ensures others { (n : ℕ) → IsOff held.items n → (W.book world.new).ports n ≡ (W.book world.old).ports n }
+    ensures rest { W.book world.new ≡ record (W.book world.old) { ports = (W.book world.new).ports } }
+{
+    while let Some(one) = held.pop() {
+        let (port, ends) = one.into_parts();
+        world.keep_port(port, ends);
+    }
+    held.destroy_empty();
+}
