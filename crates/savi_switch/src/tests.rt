@@ -1,5 +1,7 @@
 //! Runs of the whole program over a world in memory.
 
+ghost use Rattle.std.specs.Prelude.{◌≡◌, IfOk, length};
+
 use crate::recording_world::RecordingWorld;
 use crate::top::run;
 use arrayvec::ArrayVec;
@@ -156,7 +158,9 @@ fn plan_of(
     alloc: Global,
     text: &str,
     read: u64,
-) -> Result<Vec<(Text, Option<MemSource>)>, AllocError> {
+) -> Result<Vec<(Text, Option<MemSource>)>, AllocError>
+    ensures { IfOk result (λ inputs. length inputs.items ≡ 1) }
+{
     let name = Text::new(String::from_str(alloc, "plan")?);
     let mut octets = Vec::new(alloc);
     octets.extend_from_slice(text.as_bytes())?;
