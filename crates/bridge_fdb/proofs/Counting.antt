@@ -9,7 +9,7 @@ use Rattle.bridge_fdb.specs.Stations.{mac_number, is_live, live_at, is_of, is_at
 use Rattle.bridge_fdb.specs.Learning.{is_known, with_station}
 use Rattle.bridge_fdb.specs.Limits.{IsRising}
 use Rattle.bridge_fdb.specs.Places.{StandsAt}
-use Rattle.bridge_fdb.specs.Kept.{IsTied, IsOwn, in_slot, has, without}
+use Rattle.bridge_fdb.specs.Kept.{IsTied, IsOwn, LivesUntil, in_slot, has, without}
 use Rattle.bridge_fdb.proofs.Filters.{count_by-cons}
 use Rattle.bridge_fdb.proofs.Parts.{count_with, of_count}
 use Rattle.bridge_fdb.proofs.Without.{live_without_ended}
@@ -144,11 +144,6 @@ slot_counted stations slots numbers xs p slot y tied is kind =
     let here : has p (in_slot stations slot) ≡ true = ap (has p) is ∙ kind in
     let least : 1 ≤ count_by (has p) stations = count_least (has p) stations None slot 1 (omega (arith, slot_within stations slot y is)) (λ k from to. let same : k ≡ slot = omega (arith, from, to) in rw same here) in
     omega (arith, least, tied.counted p)
-
--- a slot has a station that ends no earlier than at some moment
-abbrev pub LivesUntil : ℕ → Option Station → Type 0
-LivesUntil end None = ⊥
-LivesUntil end (Some y) = end ≤ end_of y
 
 pub LivesUntil-earlier : (a b : ℕ) (o : Option Station) → b ≤ a → LivesUntil a o → LivesUntil b o
 LivesUntil-earlier a b None earlier lives = lives

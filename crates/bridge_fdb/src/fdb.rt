@@ -58,10 +58,11 @@ impl Fdb {
     /// live anew; else it is now there, where the port has fewer than 256 live stations; else no live station has changed.
     ///
     /// O(log n) for a station that is live there, and at a port of 256 stations before the moment at which, as far as is
-    /// remembered, the first of them may end. Else the port's own 256 slots at most are gone over, for an empty one or one
-    /// whose station has ended. A station that is taken in moves, by one place in the order, those of higher MAC addresses,
-    /// or those between it and the ended one whose place it takes: 10 octets of each. One that leaves another port is taken
-    /// out of the order first. No call goes over all stations in any other way.
+    /// remembered, the first of them may end. Else the port's own 256 slots at most are gone over, from behind the one that
+    /// was found last and round, for an empty one or one whose station has ended. A station that is taken in moves, by one
+    /// place in the order, those of higher MAC addresses, or those between it and the ended one whose place it takes: 10
+    /// octets of each. One that leaves another port is taken out of the order first. No call goes over all stations in any
+    /// other way.
     pub fn learn(&mut self, mac: Mac, p: Port, t: Moment)
         requires { t ≤ 2 ^ 62 }
         ensures learned { live_at t self.new ≡ learned (station_of mac p t) (live_at t self.old) }
@@ -171,8 +172,11 @@ fn admit(kept: &mut Kept, full: &mut Full, station: Station)
     if station.last < full.until(station.port) {
         return;
     }
-    match kept.find_free(station.port, station.last) {
-        Ok(slot) => put(kept, full, slot, station),
+    match kept.find_free(station.port, full.begin(station.port), station.last) {
+        Ok(slot) => {
+            put(kept, full, slot, station);
+            full.begin_behind(station.port, slot);
+        }
         Err(end) => full.set(station.port, end),
     }
 }

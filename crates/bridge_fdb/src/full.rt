@@ -1,16 +1,19 @@
-//! Which ports are full, so that it is told without a look at their stations.
+//! What is remembered of ports: until when they are full, so that it is told without a look at their stations, and where the
+//! next search for a free slot begins.
 
 ghost use Rattle.std.specs.Prelude.{◌≡◌, ◌<◌, ◌≤◌, ◌+◌, ◌-◌, ◌^◌, ◌==◌, ℕ, [], min, slice_index, if◌then◌else◌};
 ghost use Rattle.savi_kinds.specs.Ports.{number_of};
 ghost use Rattle.bridge_fdb.specs.Full.{Tells};
 
-use crate::station::AGEING_TIME_MS;
+use crate::station::{AGEING_TIME_MS, STATIONS_MOST};
 use savi_kinds::{Moment, PORTS_MOST, Port};
 
-// A moment before which a port has 256 live stations: port n at n - 1.
+// A moment before which a port has 256 live stations, and at which of its 256 slots the next search for a free one begins:
+// port n at n - 1.
 #[derive(Drop)]
 pub(crate) struct Full {
     pub(crate) until: [u64; PORTS_MOST],
+    pub(crate) begin: [u8; PORTS_MOST],
 }
 
 // The place of a port.
@@ -28,7 +31,20 @@ impl Full {
     {
         Full {
             until: [0; PORTS_MOST],
+            begin: [0; PORTS_MOST],
         }
+    }
+
+    // At which of the port's slots the next search for a free one begins.
+    pub(crate) fn begin(&self, p: Port) -> u8 {
+        self.begin[index(p)]
+    }
+
+    // The next search begins behind this slot of the port, and behind its last one at its first one.
+    pub(crate) fn begin_behind(&mut self, p: Port, slot: usize)
+        ensures { self.new.until ≡ self.old.until }
+    {
+        self.begin[index(p)] = ((slot % STATIONS_MOST) as u8).wrapping_add(1);
     }
 
     pub(crate) fn until(&self, p: Port) -> Moment

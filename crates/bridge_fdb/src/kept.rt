@@ -7,7 +7,7 @@ ghost use Rattle.bridge_fdb.specs.Stations.{mac_number, live_at, count_at};
 ghost use Rattle.bridge_fdb.specs.Learning.{with_station};
 ghost use Rattle.bridge_fdb.specs.Limits.{IsRising};
 ghost use Rattle.bridge_fdb.specs.Places.{IsPlaceOf, StandsAt, BelongsAt};
-ghost use Rattle.bridge_fdb.specs.Kept.{Keeps, IsFree, IsOwn, in_slot, listed};
+ghost use Rattle.bridge_fdb.specs.Kept.{Keeps, IsFree, IsOwn, LivesUntil, in_slot, listed};
 ghost use Rattle.bridge_fdb.specs.declared.station.Station.{Station};
 
 use crate::number::{count_lower, number};
@@ -103,15 +103,34 @@ impl Kept {
     }
 
     // A slot of a port that has no station that is live at t. Where there is none, the moment until which all of its 256
-    // stations are live. It goes over the port's own slots, 256.
-    pub(crate) fn find_free(&self, p: Port, t: Moment) -> Result<usize, Moment>
+    // stations are live. It goes over the port's own slots from this one on and round, 256 at most.
+    pub(crate) fn find_free(&self, p: Port, from: u8, t: Moment) -> Result<usize, Moment>
         requires kept { Keeps self.now }
         requires moment { t ≤ 2 ^ 62 }
         ensures { MatchResult result (IsFree self.now.stations.items (number_of p) t) (λ end. (t < end) × ((u : ℕ) → u < end → 256 ≤ count_at (number_of p) (live_at u (listed self.now)))) }
     {
         let first = first_slot(p);
+        let middle = first + usize::from(from);
+        match self.find_free_within(p, middle, first + STATIONS_MOST, t) {
+            Ok(slot) => Ok(slot),
+            Err(later) => match self.find_free_within(p, first, middle, t) {
+                Ok(slot) => Ok(slot),
+                Err(earlier) => Err(earlier.min(later)),
+            },
+        }
+    }
+
+    // A slot of a port between two that has no station that is live at t. Where there is none, the moment until which all of
+    // their stations are live. It goes over these slots.
+    fn find_free_within(&self, p: Port, from: usize, to: usize, t: Moment) -> Result<usize, Moment>
+        requires kept { Keeps self.now }
+        requires moment { t ≤ 2 ^ 62 }
+        requires first { 256 * (number_of p - 1) ≤ from }
+        requires last { to ≤ 256 * number_of p }
+        ensures { MatchResult result (IsFree self.now.stations.items (number_of p) t) (λ end. (t < end) × ((slot : ℕ) → from ≤ slot → slot < to → LivesUntil end (in_slot self.now.stations.items slot))) }
+    {
         let mut end = Moment::MAX;
-        for slot in first..first + STATIONS_MOST {
+        for slot in from..to {
             let Some(station) = self.stations[slot] else {
                 return Ok(slot);
             };

@@ -1,39 +1,18 @@
-use Rattle.std.proofs.Common.{◌≡◌, ◌≢◌, ◌⊎◌, ◌≤◌, ◌<◌, ◌-◌, ◌*◌, ◌+◌, ℕ, Some, length, sym, ◌∙◌, inl, inr, arith}
+use Rattle.std.proofs.Common.{◌⊎◌, ◌≤◌, ◌<◌, ◌+◌, ◌-◌, ◌*◌, ℕ, inl, inr, arith}
+use Rattle.std.proofs.lemmas.Bool.{cases_lt}
 use Rattle.savi_kinds.specs.Ports.{number_of}
-use Rattle.bridge_fdb.specs.Kept.{in_slot, listed}
-use Rattle.std.proofs.lemmas.Bool.{cases_eq, ltb-true}
-use Rattle.bridge_fdb.specs.Stations.{end_of}
-use Rattle.bridge_fdb.proofs.Counting.{LivesUntil, LivesUntil-earlier, live_before, full_of}
-use Rattle.bridge_fdb.proofs.Slots.{slot_read}
+use Rattle.bridge_fdb.specs.Kept.{LivesUntil, in_slot, listed}
+use Rattle.bridge_fdb.proofs.Counting.{LivesUntil-earlier, live_before, full_of}
 use Rattle.bridge_fdb.proofs.kept.Kept.find_free.Goals as goal
 
-pub loop-slot-init : goal.loop-slot-init
-loop-slot-init c = (omega (arith, c.requires.moment), λ k from to. absurd (omega (arith, from, to)))
-
--- what the slot has
-pub end-requires : goal.end-requires
-end-requires c =
-    let inside : c.loop-slot.slot < length c.args.self.now.stations.items = omega (arith, c.loop-slot-test.true, c.first_slot-first.ensures.bound, c.requires.kept.tied.size) in
-    let there : in_slot c.args.self.now.stations.items c.loop-slot.slot ≡ Some c.in-Some.station = slot_read c.args.self.now.stations.items c.loop-slot.slot c.index.result.now inside c.index.ensures ∙ c.in-Some.is in
-    (c.requires.kept.tied.own c.loop-slot.slot c.in-Some.station there).in_time
-
-pub loop-slot-preserved : goal.loop-slot-preserved
-loop-slot-preserved c =
-    let live : c.args.t < end_of c.in-Some.station = ltb-true c.args.t (end_of c.in-Some.station) (sym c.is_live.ensures ∙ c.if-not-is_live.false) in
-    (omega (arith, c.loop-slot.invariant.0, live, c.min-end.ensures, c.end.ensures), λ k from to. go k from to (cases_eq k c.loop-slot.slot))
-  where
-    go : (k : ℕ) → c.first_slot-first.result ≤ k → k < c.loop-slot.slot + 1 → (k ≡ c.loop-slot.slot) ⊎ (k ≢ c.loop-slot.slot) → LivesUntil c.min-end.result (in_slot c.args.self.now.stations.items k)
-    go k from to (inl same) =
-        let inside : c.loop-slot.slot < length c.args.self.now.stations.items = omega (arith, c.loop-slot-test.true, c.first_slot-first.ensures.bound, c.requires.kept.tied.size) in
-        let there : in_slot c.args.self.now.stations.items c.loop-slot.slot ≡ Some c.in-Some.station = slot_read c.args.self.now.stations.items c.loop-slot.slot c.index.result.now inside c.index.ensures ∙ c.in-Some.is in
-        rw (same, there) (omega (arith, c.min-end.ensures, c.end.ensures))
-    go k from to (inr other) = LivesUntil-earlier c.loop-slot.end c.min-end.result (in_slot c.args.self.now.stations.items k) (omega (arith, c.min-end.ensures)) (c.loop-slot.invariant.1 k from (omega (arith, to, other)))
-
-pub returns : goal.returns
-returns c = (
-  c.loop-slot.invariant.0,
+pub returns-in-Err-find_free_within : goal.returns-in-Err-find_free_within
+returns-in-Err-find_free_within c = (
+  omega (arith, c.in-Err.ensures.0, c.in-Err-find_free_within.ensures.0, c.min.ensures),
   λ u before.
-      let first : c.first_slot-first.result ≡ 256 * (number_of c.args.p - 1) = c.first_slot-first.ensures.value in
       full_of c.args.self.now.stations.items c.args.self.now.slots.items c.args.self.now.numbers.items (listed c.args.self.now) (number_of c.args.p) u c.requires.kept.tied c.args.p.low c.args.p.high
-      (λ k from to. live_before c.loop-slot.end u (in_slot c.args.self.now.stations.items k) before (c.loop-slot.invariant.1 k (omega (arith, from, first)) (omega (arith, to, first, c.loop-slot-test.false)))),
+      (λ k from to. live_before c.min.result u (in_slot c.args.self.now.stations.items k) before (go k from to (cases_lt k (c.first_slot-first.result + c.from.result)))),
 )
+  where
+    go : (k : ℕ) → 256 * (number_of c.args.p - 1) ≤ k → k < 256 * (number_of c.args.p - 1) + 256 → (k < c.first_slot-first.result + c.from.result) ⊎ (c.first_slot-first.result + c.from.result ≤ k) → LivesUntil c.min.result (in_slot c.args.self.now.stations.items k)
+    go k from to (inl below) = LivesUntil-earlier c.in-Err-find_free_within.earlier c.min.result (in_slot c.args.self.now.stations.items k) (omega (arith, c.min.ensures)) (c.in-Err-find_free_within.ensures.1 k (omega (arith, from, c.first_slot-first.ensures.value)) below)
+    go k from to (inr above) = LivesUntil-earlier c.in-Err.later c.min.result (in_slot c.args.self.now.stations.items k) (omega (arith, c.min.ensures)) (c.in-Err.ensures.1 k above (omega (arith, to, c.first_slot-first.ensures.value)))

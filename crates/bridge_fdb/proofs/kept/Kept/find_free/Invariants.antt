@@ -1,7 +1,0 @@
-use Rattle.std.proofs.Common.{ℕ, ◌≤◌, ◌<◌}
-use Rattle.bridge_fdb.specs.Kept.{in_slot}
-use Rattle.bridge_fdb.proofs.Counting.{LivesUntil}
-use Rattle.bridge_fdb.proofs.kept.Kept.find_free.Given as goal
-
-abbrev pub invariant-loop-slot : goal.invariant-loop-slot
-invariant-loop-slot l = (l.t < l.end) × ((k : ℕ) → l.first ≤ k → k < l.slot → LivesUntil l.end (in_slot l.self.stations.items k))
