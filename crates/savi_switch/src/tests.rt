@@ -170,25 +170,30 @@ fn plan_of(
     Ok(inputs)
 }
 
-// A world with these captures at the two ports, and so many octets of room for the journal.
-fn world_of(
+// A world with this configuration, the first of these captures at port 1 and the next at port 2, and so on, and so many
+// octets of room for the journal.
+fn world_with(
     alloc: Global,
-    first: Vec<u8>,
-    second: Vec<u8>,
+    plan: &str,
+    captures: Vec<Vec<u8>>,
     room: usize,
     faults: Faults,
 ) -> Result<MemWorld, Fail> {
-    let one = Port::new(1).ok_or("no port")?;
-    let two = Port::new(2).ok_or("no port")?;
     let mut ports = Vec::new(alloc);
-    ports.push((one, Some(ends_of(alloc, first, faults.first_read, 0)?)))?;
-    ports.push((two, Some(ends_of(alloc, second, 0, faults.second_write)?)))?;
+    let mut number = 0_u8;
+    for capture in captures {
+        number = number % 16 + 1;
+        let read = if number == 1 { faults.first_read } else { 0 };
+        let write = if number == 2 { faults.second_write } else { 0 };
+        let port = Port::new(number).ok_or("no port")?;
+        ports.push((port, Some(ends_of(alloc, capture, read, write)?)))?;
+    }
     let name = Text::new(String::from_str(alloc, "journal.txt")?);
     let journal = MemSink::make(alloc, room, [faults.journal_write].to_vec(alloc)?)?;
     let mut outputs = Vec::new(alloc);
     outputs.push((name, Some(journal)))?;
     Ok(MemWorld {
-        inputs: plan_of(alloc, PLAN, faults.plan_read)?,
+        inputs: plan_of(alloc, plan, faults.plan_read)?,
         outputs,
         ports,
         control: Some(ends_of(alloc, Vec::new(alloc), 0, 0)?),
@@ -199,6 +204,20 @@ fn world_of(
         opened: 0,
         faulty: 0,
     })
+}
+
+// A world with these captures at the two ports of the plan, and so many octets of room for the journal.
+fn world_of(
+    alloc: Global,
+    first: Vec<u8>,
+    second: Vec<u8>,
+    room: usize,
+    faults: Faults,
+) -> Result<MemWorld, Fail> {
+    let mut captures = Vec::new(alloc);
+    captures.push(first)?;
+    captures.push(second)?;
+    world_with(alloc, PLAN, captures, room, faults)
 }
 
 fn journal_of(world: &MemWorld) -> &[u8] {
@@ -217,6 +236,13 @@ fn output_of(world: &MemWorld, place: usize) -> &[u8] {
 
 fn summary_of(world: &MemWorld) -> &[u8] {
     match &world.out {
+        Some(sink) => sink.written(),
+        None => &[],
+    }
+}
+
+fn errors_of(world: &MemWorld) -> &[u8] {
+    match &world.err {
         Some(sink) => sink.written(),
         None => &[],
     }
@@ -545,57 +571,79 @@ fn captures_without_a_record_make_a_journal(rt: HostRuntime) -> Result<(), Fail>
     Ok(())
 }
 
+/// The usage line.
+const USAGE_LINE: &str =
+    "usage: savi_switch replay FILE, serve FILE, check FILE, gen SEED FRAMES\n";
+
 #[test]
-fn each_status_has_its_cause(rt: HostRuntime) -> Result<(), Fail> {
-    let rows: [(&str, &[&str], Faults, u8); 12] = [
-        ("no words", &[], NO_FAULT, 2),
-        ("one word", &["replay"], NO_FAULT, 2),
-        ("three words", &["replay", "plan", "plan"], NO_FAULT, 2),
-        ("another form", &["serve", "plan"], NO_FAULT, 2),
+fn each_status_has_its_cause_and_its_line(rt: HostRuntime) -> Result<(), Fail> {
+    let rows: [(&str, &[&str], Faults, u8, &str); 13] = [
+        ("no words", &[], NO_FAULT, 2, USAGE_LINE),
+        ("one word", &["replay"], NO_FAULT, 2, USAGE_LINE),
         (
-            "the first opening",
+            "three words",
+            &["replay", "plan", "plan"],
+            NO_FAULT,
+            2,
+            USAGE_LINE,
+        ),
+        ("another form", &["serve", "plan"], NO_FAULT, 2, USAGE_LINE),
+        (
+            "the opening of the configuration",
             &["replay", "plan"],
             Faults {
                 opening: 1,
                 ..NO_FAULT
             },
             7,
+            "cannot open plan\n",
         ),
         (
-            "the opening of a port",
+            "another configuration",
+            &["replay", "other.toml"],
+            NO_FAULT,
+            7,
+            "cannot open other.toml\n",
+        ),
+        (
+            "the opening of the first port",
+            &["replay", "plan"],
+            Faults {
+                opening: 2,
+                ..NO_FAULT
+            },
+            7,
+            "cannot open port 1\n",
+        ),
+        (
+            "the opening of the second port",
             &["replay", "plan"],
             Faults {
                 opening: 3,
                 ..NO_FAULT
             },
             7,
+            "cannot open port 2\n",
         ),
         (
-            "the last opening",
+            "the opening of the journal",
             &["replay", "plan"],
             Faults {
                 opening: 4,
                 ..NO_FAULT
             },
             7,
+            "cannot open journal\n",
         ),
         (
-            "a read of the plan",
+            "a read of the configuration",
             &["replay", "plan"],
             Faults {
                 plan_read: 1,
                 ..NO_FAULT
             },
             5,
-        ),
-        (
-            "a read",
-            &["replay", "plan"],
-            Faults {
-                first_read: 1,
-                ..NO_FAULT
-            },
-            5,
+            "plan: read failed\n",
         ),
         (
             "a write",
@@ -605,6 +653,7 @@ fn each_status_has_its_cause(rt: HostRuntime) -> Result<(), Fail> {
                 ..NO_FAULT
             },
             6,
+            "port 2: write failed\n",
         ),
         (
             "the journal",
@@ -614,6 +663,7 @@ fn each_status_has_its_cause(rt: HostRuntime) -> Result<(), Fail> {
                 ..NO_FAULT
             },
             6,
+            "journal: write failed\n",
         ),
         (
             "the summary",
@@ -623,17 +673,208 @@ fn each_status_has_its_cause(rt: HostRuntime) -> Result<(), Fail> {
                 ..NO_FAULT
             },
             6,
+            "",
         ),
     ];
     let alloc = rt.alloc();
-    for (name, texts, faults, status) in rows {
+    for (name, texts, faults, status, line) in rows {
         let first = octets_of(alloc, &[HEADER, AT_1000, ADVERT, AT_1001, PACKET])?;
         let second = octets_of(alloc, &[HEADER, AT_1002, ADVERT])?;
         let mut world = world_of(alloc, first, second, 8_192, faults)?;
         assert!(rt; world.is_fresh());
         let words = words_of(alloc, texts)?;
         assert_eq!(rt; run(alloc, words.as_slice(), &mut world), status, "{name}");
+        assert_eq!(rt; errors_of(&world), line.as_bytes(), "{name}");
     }
+    Ok(())
+}
+
+#[test]
+fn a_configuration_that_says_no_plan_is_refused(rt: HostRuntime) -> Result<(), Fail> {
+    let rows = [
+        ("port = ", "config is not TOML\n"),
+        ("mac = \"02:00:00:00:00:01\"\n", "config fault 4\n"),
+        (
+            "mac = \"03:00:00:00:00:01\"\njournal = \"j\"\n[[port]]\nnumber = 1\nrole = \"host\"\ninput = \"a\"\noutput = \"b\"\n",
+            "config fault 5\n",
+        ),
+        (
+            "mac = \"02:00:00:00:00:01\"\njournal = \"j\"\n[[port]]\nnumber = 1\nrole = \"host\"\ninput = \"a\"\noutput = \"b\"\n",
+            "config fault 21\n",
+        ),
+    ];
+    let alloc = rt.alloc();
+    for (text, line) in rows {
+        let mut world = world_with(alloc, text, Vec::new(alloc), 8_192, NO_FAULT)?;
+        assert!(rt; world.is_fresh());
+        let words = words_of(alloc, &["replay", "plan"])?;
+        assert_eq!(rt; run(alloc, words.as_slice(), &mut world), 3, "{text}");
+        assert_eq!(rt; errors_of(&world), line.as_bytes(), "{text}");
+        assert!(rt; summary_of(&world).is_empty());
+    }
+    Ok(())
+}
+
+/// Each read of the first port's source: its number, what the second port is sent, and the summary.
+const FIRST_READS: [(u64, &[&str], &str); 3] = [
+    (
+        1,
+        &[HEADER],
+        "entries 8 frames 1 passed 1 dropped 0 probes 0 lost 0 cut 0\n",
+    ),
+    (
+        4,
+        &[HEADER],
+        "entries 9 frames 2 passed 1 dropped 1 probes 0 lost 0 cut 0\n",
+    ),
+    (
+        6,
+        &[HEADER, AT_1001, PACKET],
+        "entries 11 frames 3 passed 2 dropped 1 probes 0 lost 0 cut 0\n",
+    ),
+];
+
+#[test]
+fn a_failed_read_ends_its_own_input(rt: HostRuntime) -> Result<(), Fail> {
+    let alloc = rt.alloc();
+    for (read, sent, summary) in FIRST_READS {
+        let first = octets_of(alloc, &[HEADER, AT_1000, ADVERT, AT_1001, PACKET])?;
+        let second = octets_of(alloc, &[HEADER, AT_1002, ADVERT])?;
+        let faults = Faults {
+            first_read: read,
+            ..NO_FAULT
+        };
+        let mut world = world_of(alloc, first, second, 8_192, faults)?;
+        assert!(rt; world.is_fresh());
+        let words = words_of(alloc, &["replay", "plan"])?;
+        assert_eq!(rt; run(alloc, words.as_slice(), &mut world), 5, "read {read}");
+        assert_eq!(rt; errors_of(&world), b"port 1: read failed\n".as_slice());
+        let at_one = octets_of(alloc, &[HEADER, AT_1002, ADVERT])?;
+        assert_eq!(rt; output_of(&world, 0), at_one.as_slice(), "read {read}");
+        let at_two = octets_of(alloc, sent)?;
+        assert_eq!(rt; output_of(&world, 1), at_two.as_slice(), "read {read}");
+        assert_eq!(rt; summary_of(&world), summary.as_bytes(), "read {read}");
+    }
+    Ok(())
+}
+
+/// The first port is trusted, and the history has room for six entries before it is full.
+const SHORT_PLAN: &str = "mac = \"02:00:00:00:00:01\"
+journal = \"journal.txt\"
+savi = \"off\"
+entries = 4135
+
+[[port]]
+number = 1
+role = \"trusted\"
+input = \"1.pcap\"
+output = \"1.out\"
+
+[[port]]
+number = 2
+role = \"host\"
+input = \"2.pcap\"
+output = \"2.out\"
+
+[[port]]
+number = 3
+role = \"host\"
+input = \"3.pcap\"
+output = \"3.out\"
+";
+
+#[test]
+fn a_short_history_is_full(rt: HostRuntime) -> Result<(), Fail> {
+    let alloc = rt.alloc();
+    let mut captures = Vec::new(alloc);
+    captures.push(octets_of(
+        alloc,
+        &[HEADER, AT_1000, ADVERT, AT_1000, ADVERT, AT_1002, ADVERT],
+    )?)?;
+    captures.push(octets_of(alloc, &[HEADER])?)?;
+    captures.push(octets_of(alloc, &[HEADER])?)?;
+    let mut world = world_with(alloc, SHORT_PLAN, captures, 8_192, NO_FAULT)?;
+    assert!(rt; world.is_fresh());
+    let words = words_of(alloc, &["replay", "plan"])?;
+    assert_eq!(rt; run(alloc, words.as_slice(), &mut world), 8);
+    assert_eq!(rt;
+        errors_of(&world),
+        b"port 1: history full at 6\n".as_slice()
+    );
+    assert_eq!(rt;
+        summary_of(&world),
+        b"entries 11 frames 1 passed 1 dropped 0 probes 0 lost 0 cut 0\n".as_slice()
+    );
+    Ok(())
+}
+
+#[test]
+fn a_malformed_input_ends_alone(rt: HostRuntime) -> Result<(), Fail> {
+    let alloc = rt.alloc();
+    let first = octets_of(
+        alloc,
+        &[
+            HEADER,
+            AT_5000,
+            PACKET,
+            AT_4000,
+            PACKET,
+            "00000000000000000000",
+        ],
+    )?;
+    let second = octets_of(alloc, &[HEADER])?;
+    let mut world = world_of(alloc, first, second, 8_192, NO_FAULT)?;
+    assert!(rt; world.is_fresh());
+    let words = words_of(alloc, &["replay", "plan"])?;
+    assert_eq!(rt; run(alloc, words.as_slice(), &mut world), 4);
+    assert_eq!(rt; errors_of(&world), b"port 1: malformed at 164\n".as_slice());
+    // The second frame has a falling stamp, and the moment of the first.
+    let sent = octets_of(alloc, &[HEADER, AT_5000, PACKET, AT_5000, PACKET])?;
+    assert_eq!(rt; output_of(&world, 1), sent.as_slice());
+    Ok(())
+}
+
+/// In front of 54 octets at 5,000 ms, and at 4,000 ms.
+const AT_5000: &str = "05000000000000003600000036000000";
+
+const AT_4000: &str = "04000000000000003600000036000000";
+
+// The configuration of a switch with sixteen ports, each a host's.
+fn sixteen_ports(alloc: Global) -> Result<String, Fail> {
+    let mut text = String::from_str(
+        alloc,
+        "mac = \"02:00:00:00:00:01\"\njournal = \"journal.txt\"\nsavi = \"off\"\n",
+    )?;
+    for n in 1..17_u8 {
+        let port = format!(in alloc;
+            "[[port]]\nnumber = {n}\nrole = \"host\"\ninput = \"{n}.pcap\"\noutput = \"{n}.out\"\n"
+        )?;
+        text.push_str(port.as_str())?;
+    }
+    Ok(text)
+}
+
+#[test]
+fn sixteen_ports_flood(rt: HostRuntime) -> Result<(), Fail> {
+    let alloc = rt.alloc();
+    let plan = sixteen_ports(alloc)?;
+    let mut captures = Vec::new(alloc);
+    for _ in 0..16 {
+        captures.push(octets_of(alloc, &[HEADER, AT_1001, PACKET])?)?;
+    }
+    let mut world = world_with(alloc, plan.as_str(), captures, 65_536, NO_FAULT)?;
+    assert!(rt; world.is_fresh());
+    let words = words_of(alloc, &["replay", "plan"])?;
+    assert_eq!(rt; run(alloc, words.as_slice(), &mut world), 0);
+    assert!(rt; errors_of(&world).is_empty());
+    for place in 0..16 {
+        assert_eq!(rt; output_of(&world, place).len(), 24 + 15 * 70);
+    }
+    // 16 frames, 15 drains for each, and 34 ends.
+    assert_eq!(rt;
+        summary_of(&world),
+        b"entries 290 frames 16 passed 16 dropped 0 probes 0 lost 0 cut 0\n".as_slice()
+    );
     Ok(())
 }
 
