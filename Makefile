@@ -26,7 +26,7 @@ bench: build build/capture_bench build/lock_bench build/fdb_bench
 	bench/lock build/lock_bench
 	bench/stations build/fdb_bench
 
-# The merge gate: 40 to 60 minutes from nothing on 4 cores, seconds where its proofs are kept.
+# The merge gate: 40 to 60 minutes from nothing on 4 cores.
 check:
 	rt ci
 
