@@ -49,10 +49,17 @@ not_quiet false true true h e = let t : false ≡ true = e in cc
 not_quiet false true false true e = let t : false ≡ true = e in cc
 not_quiet false true false false e = let t : false ≡ true = e in cc
 
--- the status of what was concluded
-status_is : {K : Type 0} (written : K → Option (List ℕ)) (faults : K → ℕ) (Says : List ℕ → Type 0) (past : List Row) (journal_written : Bool) (unwritten : Option Port) (old new : Place K) (status : ℕ) → IsConcluded written faults Says past journal_written unwritten old new status → (w : Bool) × (status ≡ status_of w past)
-status_is written faults Says past journal_written None old new status concluded = (journal_written && concluded.summary_written, concluded.cause)
-status_is written faults Says past journal_written (Some port) old new status concluded = (false, concluded.cause)
+-- the status of what was concluded is one of those of a session
+concluded_is : {K : Type 0} (written : K → Option (List ℕ)) (faults : K → ℕ) (Says : List ℕ → Type 0) (past : List Row) (journal_written : Bool) (unwritten : Option Port) (old new : Place K) (status : ℕ) → IsConcluded written faults Says past journal_written unwritten old new status → IsOneOf statuses status × (IsOneOf quiet_statuses status → ⊥)
+concluded_is written faults Says past journal_written None old new status concluded =
+    let w = journal_written && concluded.summary_written in (
+      subst (λ (n : ℕ). IsOneOf statuses n) (sym concluded.cause) (is_status (has_failed past) w (has_malformed past) (has_full past)),
+      λ one_of. not_quiet (has_failed past) w (has_malformed past) (has_full past) (subst (λ (n : ℕ). IsOneOf quiet_statuses n) concluded.cause one_of),
+    )
+concluded_is written faults Says past journal_written (Some port) old new status concluded = (
+  subst (λ (n : ℕ). IsOneOf statuses n) (sym concluded.cause) refl,
+  λ one_of. let t : false ≡ true = subst (λ (n : ℕ). IsOneOf quiet_statuses n) concluded.cause one_of in cc,
+)
 
 closes_none : {S K C : Type 0} (left : S → Option (List ℕ)) (written : K → Option (List ℕ)) (source_faults : S → ℕ) (sink_faults : K → ℕ) (plan : Plan) (Says : List ℕ → Type 0) (held back : List (PortEnds S K C)) (sink sink' : K) (old new : Book S K C) (status : ℕ)
     → Handled held back old.ports new.ports → HandledOne plan.journal sink sink' old.outputs new.outputs → back ≡ held → sink' ≡ sink → status ≡ 1 → Says memory_line → new.std Out ≡ old.std Out
@@ -78,11 +85,11 @@ closes_some : {S K C : Type 0} (left : S → Option (List ℕ)) (written : K →
     → Closes left written source_faults sink_faults plan Says old new status
 closes_some {S} {K} {C} left written source_faults sink_faults plan Says held back sink sink' core journal_written unwritten old new status ports handled journal played concluded =
     let past = core.past in
-    let is = status_is written sink_faults Says past journal_written unwritten (old.std Out) (new.std Out) status concluded in
-    let never : IsOneOf quiet_statuses status → ⊥ = λ one_of. not_quiet (has_failed past) is.0 (has_malformed past) (has_full past) (subst (λ (n : ℕ). IsOneOf quiet_statuses n) is.1 one_of) in
+    let is = concluded_is written sink_faults Says past journal_written unwritten (old.std Out) (new.std Out) status concluded in
+    let never : IsOneOf quiet_statuses status → ⊥ = is.1 in
     let never_is : (n : ℕ) → IsOneOf quiet_statuses n → status ≡ n → ⊥ = λ n quiet e. never (subst (λ (m : ℕ). IsOneOf quiet_statuses m) (sym e) quiet) in
     record {
-      one_of = subst (λ (n : ℕ). IsOneOf statuses n) (sym is.1) (is_status (has_failed past) is.0 (has_malformed past) (has_full past));
+      one_of = is.0;
       usage = never_is 2 refl;
       config = never_is 3 refl;
       opening = never_is 7 refl;

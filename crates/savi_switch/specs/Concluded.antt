@@ -38,7 +38,7 @@ pub record IsSummed {K : Type 0} (written : K → Option (List ℕ)) (faults : K
 pub record IsBroken {K : Type 0} (Says : List ℕ → Type 0) (past : List Row) (port : ℕ) (old new : Place K) (status : ℕ) : Type 0 where
   pub errors : Says (end_lines past ++ write_failed_line (port_name port))
   pub out : new ≡ old
-  pub cause : status ≡ (if has_failed past then 5 else 6)
+  pub cause : status ≡ 6
 
 -- by the port at which a write failed, if one did
 abbrev pub IsConcluded : {K : Type 0} → (K → Option (List ℕ)) → (K → ℕ) → (List ℕ → Type 0) → List Row → Bool → Option Port → Place K → Place K → ℕ → Type 0

@@ -121,7 +121,7 @@ pub record IsStopped {S K C : Type 0} (source_faults : S → ℕ) (sink_faults :
   pub errors : Says (end_lines past ++ write_failed_line (port_name port))
   pub journal : IsBack (old.outputs plan.journal) (new.outputs plan.journal)
   pub out : new.std Out ≡ old.std Out
-  pub cause : status ≡ (if has_failed past then 5 else 6)
+  pub cause : status ≡ 6
 
 -- A session of this plan: its ends are kept, no other port or output was touched, and it went to its end or was stopped.
 pub record IsSessionOf {S K C : Type 0} (left : S → Option (List ℕ)) (written : K → Option (List ℕ)) (source_faults : S → ℕ) (sink_faults : K → ℕ) (plan : Plan) (Says : List ℕ → Type 0) (old new : Book S K C) (status : ℕ) : Type 0 where

@@ -39,7 +39,7 @@ pub fn conclude<W: World>(outcome: Option<Outcome>, world: &mut W, errors: &mut 
     match unwritten {
         Some(port) => {
             tell_unfinished(&core, port_name(port).as_str(), errors);
-            status_by(&core, false)
+            WRITE_FAULT
         }
         None => {
             let summary_written = write_summary(core.summary(), world);

@@ -716,23 +716,21 @@ fn a_configuration_that_says_no_plan_is_refused(rt: HostRuntime) -> Result<(), F
 }
 
 /// Each read of the first port's source: its number, what the second port is sent, and the summary.
-const FIRST_READS: [(u64, &[&str], &str); 3] = [
-    (
-        1,
-        &[HEADER],
-        "entries 8 frames 1 passed 1 dropped 0 probes 0 lost 0 cut 0\n",
-    ),
-    (
-        4,
-        &[HEADER],
-        "entries 9 frames 2 passed 1 dropped 1 probes 0 lost 0 cut 0\n",
-    ),
-    (
-        6,
-        &[HEADER, AT_1001, PACKET],
-        "entries 11 frames 3 passed 2 dropped 1 probes 0 lost 0 cut 0\n",
-    ),
+const FIRST_READS: [(u64, &[&str], &str); 6] = [
+    (1, &[HEADER], NONE_READ),
+    (2, &[HEADER], NONE_READ),
+    (3, &[HEADER], NONE_READ),
+    (4, &[HEADER], ONE_READ),
+    (5, &[HEADER], ONE_READ),
+    (6, &[HEADER, AT_1001, PACKET], BOTH_READ),
 ];
+
+/// The summaries where the read of the first, of the second, and behind both frames of the first port failed.
+const NONE_READ: &str = "entries 8 frames 1 passed 1 dropped 0 probes 0 lost 0 cut 0\n";
+
+const ONE_READ: &str = "entries 9 frames 2 passed 1 dropped 1 probes 0 lost 0 cut 0\n";
+
+const BOTH_READ: &str = "entries 11 frames 3 passed 2 dropped 1 probes 0 lost 0 cut 0\n";
 
 #[test]
 fn a_failed_read_ends_its_own_input(rt: HostRuntime) -> Result<(), Fail> {
