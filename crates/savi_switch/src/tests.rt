@@ -363,7 +363,7 @@ fn each_classic_header_is_read(rt: HostRuntime) -> Result<(), Fail> {
 
 /// A frame with an IPv6 packet (RFC 8200) or without one: its name, whether it comes in at the second port, its first
 /// octets, to how many octets zeros fill it up, and whether it passes.
-const FRAMES: [(&str, bool, &[&str], usize, bool); 15] = [
+const FRAMES: [(&str, bool, &[&str], usize, bool); 18] = [
     (
         "no next header",
         false,
@@ -495,6 +495,27 @@ const FRAMES: [(&str, bool, &[&str], usize, bool); 15] = [
     (
         "1,519 octets",
         false,
+        &["0200000000fe0200000000110800"],
+        1519,
+        false,
+    ),
+    (
+        "13 octets at a trusted port",
+        true,
+        &["0200000000fe02000000001108"],
+        13,
+        false,
+    ),
+    (
+        "1,518 octets at a trusted port",
+        true,
+        &["0200000000fe0200000000110800"],
+        1518,
+        true,
+    ),
+    (
+        "1,519 octets at a trusted port",
+        true,
         &["0200000000fe0200000000110800"],
         1519,
         false,
