@@ -1,7 +1,8 @@
--- One more row behind those of a store.
-use Rattle.std.proofs.Common.{ℕ, ◌≡◌, ◌+◌, ◌≤◌, List, [], ◌∷◌, ◌++◌, length, map, take, drop, All, refl, sym, ap, ◌∙◌, arith, zero-add, add_assoc, length-append, length-drop}
-use Rattle.std.proofs.lemmas.List.{map-append, drop-append-le, take-append-le, drop_at, take_all}
-use Rattle.std.proofs.lemmas.List.Elements.{All-append, All-cons, All-head, All-nil, All-tail}
+-- One more row behind those of a store, and the octets of its rows.
+use Rattle.std.proofs.Common.{ℕ, zero, suc, ◌≡◌, ◌+◌, ◌≤◌, List, [], ◌∷◌, ◌++◌, length, map, take, drop, slice_index_or, All, refl, sym, ap, ◌∙◌, arith, zero-add, add_assoc, length-append, length-drop}
+use Rattle.std.proofs.lemmas.List.{map-append, drop-append-le, take-append-le, drop_at, take_all, get_or-drop}
+use Rattle.std.proofs.lemmas.List.Elements.{All-append, All-cons, All-head, All-map, All-nil, All-tail}
+use Rattle.hex.specs.Hex.{IsBytes}
 use Rattle.savi_kinds.specs.declared.entry.Entry.{Entry}
 use Rattle.savi_kinds.specs.declared.entry.Act.{Act}
 use Rattle.savi_kinds.specs.declared.entry.Act.TheVariants.{Frame, Long, Tick, Command, Drain, End}
@@ -75,3 +76,16 @@ IsStore-push s m es e store placed =
       within = All-append (IsWithin (s ++ m)) es (e ∷ []) (within_more s m es store.within) (All-cons (IsWithin (s ++ m)) e [] (within_placed s m e.act placed) (All-nil (IsWithin (s ++ m))));
       size = omega (arith, size, store.size, length-append s m);
     }
+
+bytes_dropped : (n : ℕ) (xs : List ℕ) → IsBytes xs → IsBytes (drop n xs)
+bytes_dropped n xs bytes i = rw (get_or-drop n xs i 0) (bytes (n + i))
+
+bytes_taken : (n : ℕ) (xs : List ℕ) → IsBytes xs → IsBytes (take n xs)
+bytes_taken zero xs bytes i = omega arith
+bytes_taken (suc n) [] bytes i = bytes i
+bytes_taken (suc n) (x ∷ xs) bytes zero = bytes 0
+bytes_taken (suc n) (x ∷ xs) bytes (suc i) = bytes_taken n xs (λ k. bytes (suc k)) i
+
+-- what a store of octets keeps of each row is octets
+pub rows_bytes : (s : List ℕ) (es : List Entry) → IsBytes s → All (λ row. IsBytes row.octets) (map (row_of s) es)
+rows_bytes s es bytes = All-map (λ (row : Row). IsBytes row.octets) (row_of s) es (λ k d within. let e = slice_index_or es k d in bytes_taken (kept_of e.act) (drop (at_of e.act) s) (bytes_dropped (at_of e.act) s bytes))

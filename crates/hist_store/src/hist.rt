@@ -1,4 +1,5 @@
-ghost use Rattle.std.specs.Prelude.{◌≡◌, ◌+◌, ◌<◌, ◌≤◌, [], ◌∷◌, ◌++◌, length, slice_get, IfOk, IsSomeAnd, vec_capacity, vec_len};
+ghost use Rattle.std.specs.Prelude.{◌≡◌, ◌+◌, ◌<◌, ◌≤◌, [], ◌∷◌, ◌++◌, length, slice_get, IfOk, IsSomeAnd, vec_capacity, vec_len, All};
+ghost use Rattle.hex.specs.Hex.{IsBytes};
 ghost use Rattle.hist_store.specs.Rows.{held, IsPlaced, with_row};
 
 use savi_kinds::{Act, Entry};
@@ -52,10 +53,12 @@ impl Hist {
         add_entry(&mut self.entries, e);
     }
 
-    /// How many entries there are. O(1).
+    /// How many entries there are. What is kept of each is octets, none above 255. O(1).
     pub fn len(&self) -> u64
-        ensures { result ≡ length self.now.rows }
+        ensures len { result ≡ length self.now.rows }
+        ensures octets { All (λ row. IsBytes row.octets) self.now.rows }
     {
+        know_octets(self.octets.as_slice());
         self.entries.len() as u64
     }
 
@@ -111,3 +114,8 @@ fn add_octets(store: &mut Vec<u8>, octets: &[u8])
         Err(_) => unreachable!(),
     }
 }
+
+// Does nothing: states for a proof what the type of a store says.
+fn know_octets(store: &[u8])
+    ensures { IsBytes store.now }
+{}

@@ -20,16 +20,17 @@ use Rattle.port_worker.specs.declared.port_ends.Ahead.{Ahead}
 use Rattle.port_worker.specs.declared.port_ends.Ahead.TheVariants as ahead
 use Rattle.port_worker.specs.declared.port_ends.PortEnds.{PortEnds}
 use Rattle.port_worker.specs.Pairs.{EachPair}
-use Rattle.port_worker.specs.SentFrames.{records_of, OnlySink, IsSent}
+use Rattle.port_worker.specs.SentFrames.{records_of, TookMore, OnlySink, IsSent}
 use Rattle.port_worker.specs.Steps.{Enters, IsStepped, ends_input, ahead_after}
 use Rattle.port_worker.specs.Replays.{ports_held, RoseAt}
+use Rattle.port_worker.proofs.Draining.{only_itself}
 
 -- the turn that is there
 pub the_turn : (o : Option Turn) → IsSome o → (turn : Turn) × (o ≡ Some turn)
 the_turn None is = cc
 the_turn (Some turn) is = (turn, refl)
 
-module _ {S K C : Type 0} (faults : K → ℕ) (old : List (PortEnds S K C)) (place : ℕ) (x y : PortEnds S K C) (inside : place < length old) (is : (d : PortEnds S K C) → get_or old place d ≡ x) (rest : y ≡ record x { ahead = y.ahead }) where
+module _ {S K C : Type 0} (written : K → Option (List ℕ)) (faults : K → ℕ) (old : List (PortEnds S K C)) (place : ℕ) (x y : PortEnds S K C) (inside : place < length old) (is : (d : PortEnds S K C) → get_or old place d ≡ x) (rest : y ≡ record x { ahead = y.ahead }) where
   port_same : y.port ≡ x.port
   port_same = ap (λ (p : PortEnds S K C). p.port) rest
 
@@ -50,27 +51,28 @@ module _ {S K C : Type 0} (faults : K → ℕ) (old : List (PortEnds S K C)) (pl
   pub sink_kept : (k : ℕ) (d : PortEnds S K C) → (get_or (set old place y) k d).ends.sink ≡ (get_or old k d).ends.sink
   sink_kept k d = kept_at (λ p. p.ends.sink) (ap (λ (p : PortEnds S K C). p.ends.sink) rest) k d (cases_eq k place)
 
-  stepped_one : (p z : PortEnds S K C) (a : PortEnds S K C) → a ≡ record p { ahead = a.ahead } → OnlySink faults a z → IsStepped faults p z
+  stepped_one : (p z : PortEnds S K C) (a : PortEnds S K C) → a ≡ record p { ahead = a.ahead } → OnlySink written faults a z → IsStepped written faults p z
   stepped_one p z a a_is only = record {
     same =
         let ahead_is : a.ahead ≡ z.ahead = sym (ap (λ (q : PortEnds S K C). q.ahead) only.same) in
         only.same ∙ ap (λ (q : PortEnds S K C). record q { ends = record q.ends { sink = z.ends.sink } }) a_is
         ∙ ap (λ (h : Ahead). record p { ends = record p.ends { sink = z.ends.sink }; ahead = h }) ahead_is;
     later = subst (λ (k : K). faults k ≤ faults z.ends.sink) (ap (λ (q : PortEnds S K C). q.ends.sink) a_is) only.later;
+    took = subst (λ (k : K). TookMore (written k) (written z.ends.sink)) (ap (λ (q : PortEnds S K C). q.ends.sink) a_is) only.took;
   }
 
   mid_at : (k : ℕ) (d : PortEnds S K C) → (k ≡ place) ⊎ (k ≢ place) → get_or (set old place y) k d ≡ record (get_or old k d) { ahead = (get_or (set old place y) k d).ahead }
   mid_at k d (inl here) = rw (here, get_or-set_same old place y d inside, is d) rest
   mid_at k d (inr other) = rw (get_or-set_other old place k y d other) refl
 
-  pub stepped_then : (new : List (PortEnds S K C)) → EachPair (OnlySink faults) (set old place y) new → EachPair (IsStepped faults) old new
+  pub stepped_then : (new : List (PortEnds S K C)) → EachPair (OnlySink written faults) (set old place y) new → EachPair (IsStepped written faults) old new
   stepped_then new sinks = record {
     size = sinks.size ∙ length-set old place y;
     each = λ k d within. stepped_one (get_or old k d) (get_or new k d) (get_or (set old place y) k d) (mid_at k d (cases_eq k place)) (sinks.each k d (omega (arith, length-set old place y)));
   }
 
-  pub stepped_only : EachPair (IsStepped faults) old (set old place y)
-  stepped_only = stepped_then (set old place y) (record { size = refl; each = λ k d within. record { same = refl; later = omega arith } })
+  pub stepped_only : EachPair (IsStepped written faults) old (set old place y)
+  stepped_only = stepped_then (set old place y) (record { size = refl; each = λ k d within. only_itself written faults (get_or (set old place y) k d) })
 
   pub rose_then : (port : Port) (new : List (PortEnds S K C)) → RoseAt (λ p. faults p.ends.sink) port (set old place y) new → RoseAt (λ p. faults p.ends.sink) port old new
   rose_then port new rose = (
@@ -80,8 +82,8 @@ module _ {S K C : Type 0} (faults : K → ℕ) (old : List (PortEnds S K C)) (pl
         ((rose.2 d).0, subst (λ (k : K). Rose (faults k) (faults (get_or new rose.0 d).ends.sink)) (sink_kept rose.0 d) (rose.2 d).1),
   )
 
-  pub sent_then : (written : K → Option (List ℕ)) (before mid now : List Row) (new : List (PortEnds S K C)) → ((q : ℕ) → sent empty q mid ≡ sent empty q before) → EachPair (IsSent written mid now) (set old place y) new → EachPair (IsSent written before now) old new
-  sent_then written before mid now new same each = record {
+  pub sent_then : (before mid now : List Row) (new : List (PortEnds S K C)) → ((q : ℕ) → sent empty q mid ≡ sent empty q before) → EachPair (IsSent written mid now) (set old place y) new → EachPair (IsSent written before now) old new
+  sent_then before mid now new same each = record {
     size = each.size ∙ length-set old place y;
     each = λ k d within front was.
         let q = number_of (get_or old k d).port in
@@ -93,8 +95,8 @@ module _ {S K C : Type 0} (faults : K → ℕ) (old : List (PortEnds S K C)) (pl
         ∙ ap (λ (n : ℕ). behind front (header_text ++ records_of (sent empty n now))) q_is;
   }
 
-  pub sent_only : (written : K → Option (List ℕ)) (before now : List Row) → ((q : ℕ) → sent empty q now ≡ sent empty q before) → EachPair (IsSent written before now) old (set old place y)
-  sent_only written before now same = sent_then written before now now (set old place y) same (record { size = refl; each = λ k d within front was. was })
+  pub sent_only : (before now : List Row) → ((q : ℕ) → sent empty q now ≡ sent empty q before) → EachPair (IsSent written before now) old (set old place y)
+  sent_only before now same = sent_then before now now (set old place y) same (record { size = refl; each = λ k d within front was. was })
 
 -- an arrival that was entered
 pub record IsEntered (plan : Plan) (old new : List Row) : Type 0 where

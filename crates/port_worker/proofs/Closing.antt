@@ -1,5 +1,5 @@
 -- What a session has done, by how its replay stopped.
-use Rattle.std.proofs.Common.{◌≡◌, ℕ, List, ◌++◌, length, take, drop, refl, sym, ap, ◌∙◌, subst, arith, append-nil, Option, Some, None}
+use Rattle.std.proofs.Common.{◌≡◌, ℕ, List, ◌++◌, length, take, drop, refl, sym, ap, ◌∙◌, subst, arith, append-nil, Option}
 use Rattle.std.proofs.lemmas.List.{take_all, drop_all}
 use Rattle.savi_kinds.specs.declared.plan.Plan.{Plan}
 use Rattle.savi_kinds.specs.declared.port.Port.{Port}
@@ -12,7 +12,7 @@ use Rattle.port_worker.specs.declared.turns.Stopped.TheVariants.{Finished, Write
 use Rattle.port_worker.specs.Pairs.{EachPair}
 use Rattle.port_worker.specs.Causes.{IsCause, unwritten_of}
 use Rattle.port_worker.specs.Replays.{IsLater, IsReplayed, IsFit, HasBroken}
-use Rattle.port_worker.specs.Sessions.{IsPlayed, IsPlayedOrStopped, IsSession}
+use Rattle.port_worker.specs.Sessions.{IsPlayedOrStopped, IsSession}
 
 -- a vector whose elements were all written holds them
 pub all_written : {X : Type 0} (n : ℕ) (old new : List X) → length new ≡ length old → n ≡ length old → take n (new ++ drop (length new) old) ≡ new
@@ -34,7 +34,7 @@ module _ {S K C : Type 0} (left : S → Option (List ℕ)) (written : K → Opti
   }
   played (WriteFault port) replayed fits finished cause = cause
 
-  pub session_of : (stopped : Stopped) (unwritten : Option Port) → unwritten ≡ unwritten_of stopped → EachPair (IsLater source_faults sink_faults) old new → EachPair (HasBroken source_faults core.past) old new
+  pub session_of : (stopped : Stopped) (unwritten : Option Port) → unwritten ≡ unwritten_of stopped → EachPair (IsLater left written source_faults sink_faults) old new → EachPair (HasBroken source_faults core.past) old new
       → (stopped ≡ Finished → IsReplayed left written start.plan core.past old new) → (stopped ≡ Finished → EachPair (IsFit left core.past) old new) → (stopped ≡ Finished → IsFinished start.plan empty core.past)
       → IsCause sink_faults old new stopped → IsSession left written source_faults sink_faults plan core unwritten old new
   session_of stopped unwritten is later broken replayed fits finished cause = record {

@@ -29,11 +29,12 @@ use Rattle.port_worker.specs.declared.port_ends.PortEnds.{PortEnds}
 use Rattle.port_worker.specs.SentFrames.{records_of, capture_of, OnlySink, IsSent}
 use Rattle.port_worker.specs.Replays.{ports_held, ports_planned}
 use Rattle.port_worker.proofs.SoFar.{PairsSoFar, pairs_more}
+use Rattle.port_worker.proofs.Later.{took_none}
 use Rattle.port_worker.proofs.Records.{records_of-append}
 use Rattle.port_worker.proofs.Planned.{count_is, number_is, numbers_differ, held_at}
 
-pub only_itself : {S K C : Type 0} (faults : K → ℕ) (p : PortEnds S K C) → OnlySink faults p p
-only_itself faults p = record { same = refl; later = omega arith }
+pub only_itself : {S K C : Type 0} (written : K → Option (List ℕ)) (faults : K → ℕ) (p : PortEnds S K C) → OnlySink written faults p p
+only_itself written faults p = record { same = refl; later = omega arith; took = took_none (written p.ends.sink) }
 
 -- what one drain of all that waits did
 pub record DrainsOnce (old : Machine) (port : Port) (new : Machine) (batch : List Item) : Type 0 where
@@ -66,7 +67,7 @@ drains_once old port new batch stepped.Nothing few did =
 -- the queues of the ports below a place are drained and what they held is written
 pub record DrainsSoFar {S K C : Type 0} (written : K → Option (List ℕ)) (faults : K → ℕ) (place : ℕ) (first now : Machine) (old new : List (PortEnds S K C)) : Type 0 where
   pub plan : now.plan ≡ first.plan
-  pub sinks : PairsSoFar (OnlySink faults) place old new
+  pub sinks : PairsSoFar (OnlySink written faults) place old new
   pub past : drained first.plan empty (drop place first.plan.ports) now.past ≡ drained first.plan empty first.plan.ports first.past
   pub ended : (pass : ℕ) → has_ended empty pass now.past ≡ has_ended empty pass first.past
   pub inputs : (n : ℕ) → input_end n now.past ≡ input_end n first.past
@@ -94,7 +95,7 @@ written_more front before now q old new items was wrote more =
 
 module _ {S K C : Type 0} (written : K → Option (List ℕ)) (faults : K → ℕ) (place : ℕ) (first now next : Machine) (old new : List (PortEnds S K C)) (x y : PortEnds S K C) (batch : List Item)
     (planned : ports_held old ≡ ports_planned first.plan) (rising : IsStrictlyIncreasing (numbers_of first.plan.ports)) (so_far : DrainsSoFar written faults place first now old new) (inside : place < length new)
-    (is : get_or new place y ≡ x) (once : DrainsOnce now x.port next batch) (only : OnlySink faults x y) (wrote : written y.ends.sink ≡ behind (written x.ends.sink) (records_of batch)) where
+    (is : get_or new place y ≡ x) (once : DrainsOnce now x.port next batch) (only : OnlySink written faults x y) (wrote : written y.ends.sink ≡ behind (written x.ends.sink) (records_of batch)) where
   inside_old : place < length old
   inside_old = let size = so_far.sinks.size in omega arith
 
@@ -157,7 +158,7 @@ module _ {S K C : Type 0} (written : K → Option (List ℕ)) (faults : K → �
   pub drain_step : DrainsSoFar written faults (place + 1) first next old (set new place y)
   drain_step = record {
     plan = once.plan ∙ so_far.plan;
-    sinks = pairs_more (OnlySink faults) place old new y so_far.sinks inside (subst (λ (p : PortEnds S K C). OnlySink faults p y) (sym old_is) only);
+    sinks = pairs_more (OnlySink written faults) place old new y so_far.sinks inside (subst (λ (p : PortEnds S K C). OnlySink written faults p y) (sym old_is) only);
     past = past_step;
     ended = λ pass. ap (λ (l : List Row). has_ended empty pass l) past_is ∙ ended_drain first.plan empty now.past x.port (length (queue empty (number_of x.port) now.past)) pass ∙ so_far.ended pass;
     inputs = λ n. ap (λ (l : List Row). input_end n l) past_is ∙ end_drain first.plan now.past x.port (length (queue empty (number_of x.port) now.past)) n (length (queue empty (number_of x.port) now.past) == 0) ∙ so_far.inputs n;

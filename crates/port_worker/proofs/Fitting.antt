@@ -12,8 +12,7 @@ use Rattle.savi_kinds.specs.Arrivals.{Arrival}
 use Rattle.savi_kinds.specs.Arrivals as arrivals
 use Rattle.savi_ends.specs.Faults.{Rose}
 use Rattle.savi_ends.specs.Octets.{Takes}
-use Rattle.pcap_io.specs.declared.kind.HeaderKind.{HeaderKind}
-use Rattle.pcap_io.specs.Readers.{State, Running, Comes, HasRead, place_of}
+use Rattle.pcap_io.specs.Readers.{State, Comes, HasRead, place_of}
 use Rattle.pcap_io.specs.Runs.{ended}
 use Rattle.hist_store.specs.Rows.{Row}
 use Rattle.savi_history.specs.Bases.{empty}
@@ -32,11 +31,8 @@ use Rattle.port_worker.specs.SentFrames.{OnlySink}
 use Rattle.port_worker.specs.Steps.{IsStepped, ends_input, ahead_after}
 use Rattle.port_worker.specs.Replays.{IsUnread, IsFit, HasBroken}
 use Rattle.port_worker.specs.Pairs.{EachPair}
-use Rattle.port_worker.proofs.Joining.{front_none, takes_twice, read_twice, read_behind}
+use Rattle.port_worker.proofs.Joining.{IsRunning, front_none, takes_twice, read_twice, read_behind}
 use Rattle.port_worker.proofs.Records.{rose_later, rose_before}
-
-abbrev pub IsRunning : State → Type 0
-IsRunning state = (kind : HeaderKind) × (place : ℕ) × (state ≡ Running kind place)
 
 -- what was taken from the source so far is what was entered and what is known, and so much of the input has ended
 abbrev pub FitsAhead : State → State → List ℕ → List ℕ → Option (List ℕ) → Option (List ℕ) → List Arrival → Option How → Ahead → Type 0
@@ -130,8 +126,8 @@ unread_still a unread failed = cc
 none_ended : {X : Type 0} {x : X} → None ≡ Some x → ⊥
 none_ended is = cc
 
-start_one : {S K C : Type 0} (left : S → Option (List ℕ)) (source_faults : S → ℕ) (faults : K → ℕ) (plan : Plan) (old new : PortEnds S K C) → IsUnread old → OnlySink faults old new → FitsSoFar left source_faults (with_event plan empty [] (End Control hows.End)) old new
-start_one {S} {K} {C} left source_faults faults plan old new unread only =
+start_one : {S K C : Type 0} (left : S → Option (List ℕ)) (written : K → Option (List ℕ)) (source_faults : S → ℕ) (faults : K → ℕ) (plan : Plan) (old new : PortEnds S K C) → IsUnread old → OnlySink written faults old new → FitsSoFar left source_faults (with_event plan empty [] (End Control hows.End)) old new
+start_one {S} {K} {C} left written source_faults faults plan old new unread only =
     let start : FitsSoFar left source_faults (with_event plan empty [] (End Control hows.End)) old (record old { ends = record old.ends { sink = new.ends.sink } }) =
     record {
       gave = [];
@@ -143,14 +139,14 @@ start_one {S} {K} {C} left source_faults faults plan old new unread only =
     } in
     subst (λ (p : PortEnds S K C). FitsSoFar left source_faults (with_event plan empty [] (End Control hows.End)) old p) (sym only.same) start
 
-pub fits_started : {S K C : Type 0} (left : S → Option (List ℕ)) (source_faults : S → ℕ) (faults : K → ℕ) (plan : Plan) (first new : List (PortEnds S K C)) → All IsUnread first → EachPair (OnlySink faults) first new → EachPair (FitsSoFar left source_faults (with_event plan empty [] (End Control hows.End))) first new
-fits_started left source_faults faults plan first new unread only = record { size = only.size; each = λ k d within. start_one left source_faults faults plan (get_or first k d) (get_or new k d) (unread k d within) (only.each k d within) }
+pub fits_started : {S K C : Type 0} (left : S → Option (List ℕ)) (written : K → Option (List ℕ)) (source_faults : S → ℕ) (faults : K → ℕ) (plan : Plan) (first new : List (PortEnds S K C)) → All IsUnread first → EachPair (OnlySink written faults) first new → EachPair (FitsSoFar left source_faults (with_event plan empty [] (End Control hows.End))) first new
+fits_started left written source_faults faults plan first new unread only = record { size = only.size; each = λ k d within. start_one left written source_faults faults plan (get_or first k d) (get_or new k d) (unread k d within) (only.each k d within) }
 
 -- a turn
 
 -- nothing that this port is changed but the sink, and the history holds the same of its input
-same_one : {S K C : Type 0} (left : S → Option (List ℕ)) (source_faults : S → ℕ) (faults : K → ℕ) (past now : List Row) (first old new : PortEnds S K C) → IsStepped faults old new → new.ahead ≡ old.ahead → HoldsSame (number_of first.port) past now → FitsSoFar left source_faults past first old → FitsSoFar left source_faults now first new
-same_one {S} {K} {C} left source_faults faults past now first old new stepped ahead_is holds so_far =
+same_one : {S K C : Type 0} (left : S → Option (List ℕ)) (written : K → Option (List ℕ)) (source_faults : S → ℕ) (faults : K → ℕ) (past now : List Row) (first old new : PortEnds S K C) → IsStepped written faults old new → new.ahead ≡ old.ahead → HoldsSame (number_of first.port) past now → FitsSoFar left source_faults past first old → FitsSoFar left source_faults now first new
+same_one {S} {K} {C} left written source_faults faults past now first old new stepped ahead_is holds so_far =
     let moved : FitsSoFar left source_faults now first (record old { ends = record old.ends { sink = new.ends.sink } }) =
     record {
       gave = so_far.gave;
@@ -270,9 +266,9 @@ never_failed : (b : Bool) (a : Ahead) → a ≡ ahead_after b → a ≡ ahead.Fa
 never_failed true a is failed = cc
 never_failed false a is failed = cc
 
-here_one : {S K C : Type 0} (left : S → Option (List ℕ)) (source_faults : S → ℕ) (faults : K → ℕ) (plan : Plan) (past now : List Row) (first old new : PortEnds S K C) (turn : Turn) → old.port ≡ first.port → IsStepped faults old new → turn_of old ≡ Some turn
+here_one : {S K C : Type 0} (left : S → Option (List ℕ)) (written : K → Option (List ℕ)) (source_faults : S → ℕ) (faults : K → ℕ) (plan : Plan) (past now : List Row) (first old new : PortEnds S K C) (turn : Turn) → old.port ≡ first.port → IsStepped written faults old new → turn_of old ≡ Some turn
     → now ≡ entered plan empty turn past → new.ahead ≡ ahead_after (ends_input plan past turn) → FitsSoFar left source_faults past first old → FitsSoFar left source_faults now first new
-here_one {S} {K} {C} left source_faults faults plan past now first old new turn port_is stepped turn_is now_is ahead_is so_far =
+here_one {S} {K} {C} left written source_faults faults plan past now first old new turn port_is stepped turn_is now_is ahead_is so_far =
     let turn_first : turn_ahead first.port old.buf old.ahead ≡ Some turn = ap (λ (p : Port). turn_ahead p old.buf old.ahead) (sym port_is) ∙ turn_is in
     let moved : FitsSoFar left source_faults (entered plan empty turn past) first (record old { ends = record old.ends { sink = new.ends.sink }; ahead = new.ahead }) =
     record {
@@ -295,21 +291,21 @@ turn_port port buf (ahead.Malformed at) turn is = rw (same_turn (Ends (Ingress p
 turn_port port buf ahead.Failed turn is = rw (same_turn (Ends (Ingress port) hows.Failed) turn is) refl
 turn_port port buf ahead.Done turn is = cc
 
-module _ {S K C : Type 0} (left : S → Option (List ℕ)) (source_faults : S → ℕ) (faults : K → ℕ) (plan : Plan) (first old new : List (PortEnds S K C)) (past now : List Row) (j : ℕ) (turn : Turn)
+module _ {S K C : Type 0} (left : S → Option (List ℕ)) (written : K → Option (List ℕ)) (source_faults : S → ℕ) (faults : K → ℕ) (plan : Plan) (first old new : List (PortEnds S K C)) (past now : List Row) (j : ℕ) (turn : Turn)
     (ports_are : (k : ℕ) (d : PortEnds S K C) → k < length first → (get_or old k d).port ≡ (get_or first k d).port)
     (differ : (k : ℕ) (d : PortEnds S K C) → k < length first → k ≢ j → number_of (get_or first j d).port ≢ number_of (get_or first k d).port)
-    (inside : j < length first) (so_far : EachPair (FitsSoFar left source_faults past) first old) (stepped : EachPair (IsStepped faults) old new)
+    (inside : j < length first) (so_far : EachPair (FitsSoFar left source_faults past) first old) (stepped : EachPair (IsStepped written faults) old new)
     (others : (k : ℕ) (d : PortEnds S K C) → k ≢ j → k < length old → (get_or new k d).ahead ≡ (get_or old k d).ahead)
     (turn_is : (d : PortEnds S K C) → turn_of (get_or old j d) ≡ Some turn) (now_is : now ≡ entered plan empty turn past)
     (ahead_is : (d : PortEnds S K C) → (get_or new j d).ahead ≡ ahead_after (ends_input plan past turn)) where
   turned_at : (k : ℕ) (d : PortEnds S K C) → k < length first → (k ≡ j) ⊎ (k ≢ j) → FitsSoFar left source_faults now (get_or first k d) (get_or new k d)
   turned_at k d within (inl same) =
-      rw same (here_one left source_faults faults plan past now (get_or first j d) (get_or old j d) (get_or new j d) turn (ports_are j d inside) (stepped.each j d (omega (arith, so_far.size, inside))) (turn_is d) now_is (ahead_is d) (so_far.each j d inside))
+      rw same (here_one left written source_faults faults plan past now (get_or first j d) (get_or old j d) (get_or new j d) turn (ports_are j d inside) (stepped.each j d (omega (arith, so_far.size, inside))) (turn_is d) now_is (ahead_is d) (so_far.each j d inside))
   turned_at k d within (inr other) =
       let whose : IsTurnOf (get_or first j d).port turn = subst (λ (p : Port). IsTurnOf p turn) (ports_are j d inside) (turn_port (get_or old j d).port (get_or old j d).buf (get_or old j d).ahead turn (turn_is d)) in
       let holds = other_entered plan empty past (get_or first j d).port turn (number_of (get_or first k d).port) whose (differ k d within other) in
       subst (λ (l : List Row). FitsSoFar left source_faults l (get_or first k d) (get_or new k d)) (sym now_is)
-      (same_one left source_faults faults past (entered plan empty turn past) (get_or first k d) (get_or old k d) (get_or new k d) (stepped.each k d (omega (arith, so_far.size))) (others k d other (omega (arith, so_far.size))) holds (so_far.each k d within))
+      (same_one left written source_faults faults past (entered plan empty turn past) (get_or first k d) (get_or old k d) (get_or new k d) (stepped.each k d (omega (arith, so_far.size))) (others k d other (omega (arith, so_far.size))) holds (so_far.each k d within))
 
   pub fits_turned : EachPair (FitsSoFar left source_faults now) first new
   fits_turned = record { size = stepped.size ∙ so_far.size; each = λ k d within. turned_at k d within (cases_eq k j) }

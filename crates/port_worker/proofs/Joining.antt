@@ -3,8 +3,13 @@ use Rattle.std.proofs.Common.{◌≡◌, ℕ, List, [], ◌++◌, refl, sym, ap,
 use Rattle.savi_kinds.specs.declared.entry.How.{How}
 use Rattle.savi_kinds.specs.Arrivals.{Arrival}
 use Rattle.savi_ends.specs.Octets.{in_front, Takes}
-use Rattle.pcap_io.specs.Readers.{State, Comes, HasRead}
+use Rattle.pcap_io.specs.declared.kind.HeaderKind.{HeaderKind}
+use Rattle.pcap_io.specs.Readers.{State, Running, Comes, HasRead}
 use Rattle.pcap_io.specs.Runs.{ended}
+
+-- the reader stands at a record
+abbrev pub IsRunning : State → Type 0
+IsRunning state = (kind : HeaderKind) × (place : ℕ) × (state ≡ Running kind place)
 
 pub front_none : (o : Option (List ℕ)) → in_front [] o ≡ o
 front_none None = refl

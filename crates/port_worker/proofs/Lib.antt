@@ -9,6 +9,7 @@ pub mod Advancing
 pub mod Finishing
 pub mod Entered
 pub mod Joining
+pub mod Later
 pub mod Progress
 pub mod Measures
 pub mod Running

@@ -1,5 +1,5 @@
 -- What was taken of the input of one port, and what may still come.
-use Rattle.std.proofs.Common.{◌≡◌, ◌≢◌, ℕ, ◌+◌, List, [], ◌∷◌, ◌++◌, map, length, take, drop, refl, sym, ap, ◌∙◌, subst, append_assoc, append-nil, ◌⊎◌, inl, inr, Option, Some, None, IfSome}
+use Rattle.std.proofs.Common.{◌≡◌, ℕ, ◌+◌, List, [], ◌∷◌, ◌++◌, map, length, take, refl, sym, ap, ◌∙◌, subst, append_assoc, append-nil, ◌⊎◌, inl, inr, Option, Some, None, IfSome}
 use Rattle.std.proofs.lemmas.List.{map-append}
 use Rattle.savi_kinds.specs.declared.port.Port.{Port}
 use Rattle.savi_kinds.specs.declared.plan.Plan.{Plan}
@@ -12,7 +12,7 @@ use Rattle.savi_kinds.specs.Arrivals as arrivals
 use Rattle.savi_ends.specs.Octets.{Takes}
 use Rattle.pcap_io.specs.declared.kind.HeaderKind.{HeaderKind}
 use Rattle.pcap_io.specs.Runs.{IsRun, EndsAs, ended}
-use Rattle.pcap_io.specs.Readers.{State, Fresh, Running, Ended, Comes, HasRead}
+use Rattle.pcap_io.specs.Readers.{State, Comes, HasRead, place_of}
 use Rattle.pcap_io.proofs.Existence.{some_later}
 use Rattle.hist_store.specs.Rows.{Row}
 use Rattle.savi_history.specs.Passes.{pass_of}
@@ -24,9 +24,9 @@ use Rattle.savi_history.proofs.Reaching as reaching
 use Rattle.port_worker.specs.declared.port_ends.Ahead.{Ahead}
 use Rattle.port_worker.specs.declared.port_ends.Ahead.TheVariants as ahead
 use Rattle.port_worker.specs.declared.port_ends.PortEnds.{PortEnds}
-use Rattle.port_worker.specs.Inputs.{turn_ahead, moment_ahead, with_first, Gives, WillCome, IsReadable, IsSound, IsKnown, IsReadAs}
+use Rattle.port_worker.specs.Inputs.{turn_ahead, moment_ahead, with_first, Gives, WillCome, IsKnown, IsReadAs}
 use Rattle.port_worker.specs.Replays.{IsInputOf, IsInputAt}
-use Rattle.port_worker.proofs.Joining.{read_twice, read_behind}
+use Rattle.port_worker.proofs.Joining.{IsRunning, read_twice, read_behind}
 
 -- an input with more arrivals in front
 abbrev pub with_front : List Arrival → Input → Input
@@ -82,12 +82,22 @@ read_known port buf (ahead.Malformed at) known = tt
 read_known port buf ahead.Failed known = tt
 read_known port buf ahead.Done known = tt
 
+-- the octets of a whole capture end so
+abbrev IsWholeEnd : How → Type 0
+IsWholeEnd hows.End = Unit {0}
+IsWholeEnd (hows.Malformed at) = Unit {0}
+IsWholeEnd hows.Failed = ⊥
+IsWholeEnd hows.Quit = ⊥
+IsWholeEnd (hows.Overlong at) = ⊥
+IsWholeEnd hows.Unwritten = ⊥
+IsWholeEnd (hows.Full len) = ⊥
+
 -- What was taken from a source is these arrivals and the one that is known, or these and no whole one in front of a read
 -- that failed.
 abbrev pub HasReadAhead : State → State → List ℕ → List ℕ → List Arrival → Ahead → Type 0
 HasReadAhead first now gave buf before ahead.Unread = HasRead first now gave before
-HasReadAhead first now gave buf before (ahead.Frame stamp len) = HasRead first now gave (before ++ arrivals.Frame stamp (take len buf) ∷ [])
-HasReadAhead first now gave buf before (ahead.Long stamp len) = HasRead first now gave (before ++ arrivals.Long stamp len ∷ [])
+HasReadAhead first now gave buf before (ahead.Frame stamp len) = HasRead first now gave (before ++ arrivals.Frame stamp (take len buf) ∷ []) × IsRunning now
+HasReadAhead first now gave buf before (ahead.Long stamp len) = HasRead first now gave (before ++ arrivals.Long stamp len ∷ []) × IsRunning now
 HasReadAhead first now gave buf before ahead.End = Unit {0}
 HasReadAhead first now gave buf before (ahead.Malformed at) = Unit {0}
 HasReadAhead first now gave buf before ahead.Failed = (ending : How) × Comes first gave (record { arrivals = before; ending = ending })
@@ -97,15 +107,14 @@ HasReadAhead first now gave buf before ahead.Done = Unit {0}
 pub record AtArrival (left : Option (List ℕ)) (port : Port) (state : State) (buf : List ℕ) (a : Ahead) (t : Turn) : Type 0 where
   pub arrival : Arrival
   pub is_turn : t ≡ Arrives port arrival
-  pub readable : IsSound state a → IsReadable state
-  pub read : (first : State) (gave : List ℕ) (before : List Arrival) → HasReadAhead first state gave buf before a → HasRead first state gave (before ++ arrival ∷ [])
+  pub read : (first : State) (gave : List ℕ) (before : List Arrival) → HasReadAhead first state gave buf before a → HasRead first state gave (before ++ arrival ∷ []) × IsRunning state
   pub gives : (later : Input) → IfSome left (λ octets. Comes state octets later) → IfSome left (λ octets. Gives state buf a octets (with_first arrival later))
 
--- the turn is the ending, at no failed read
+-- the turn is the ending of a whole capture
 pub record AtEnding (left : Option (List ℕ)) (port : Port) (state : State) (buf : List ℕ) (a : Ahead) (t : Turn) : Type 0 where
   pub ending : How
   pub is_turn : t ≡ Ends (Ingress port) ending
-  pub other : ending ≢ hows.Failed
+  pub whole : IsWholeEnd ending
   pub gives : IfSome left (λ octets. Gives state buf a octets (ended ending))
 
 -- the turn is the ending at a read that failed
@@ -134,7 +143,6 @@ at_turn left port state buf (ahead.Frame stamp len) t is =
     inl (record {
       arrival = arrival;
       is_turn = same_turn (Arrives port arrival) t is;
-      readable = λ sound. sound.1;
       read = λ first gave before read. read;
       gives = λ later. if_more left (λ octets. Comes state octets later) (λ octets. Gives state buf (ahead.Frame stamp len) octets (with_first arrival later)) (λ octets comes. (later, refl, comes));
     })
@@ -143,7 +151,6 @@ at_turn left port state buf (ahead.Long stamp len) t is =
     inl (record {
       arrival = arrival;
       is_turn = same_turn (Arrives port arrival) t is;
-      readable = λ sound. sound.1;
       read = λ first gave before read. read;
       gives = λ later. if_more left (λ octets. Comes state octets later) (λ octets. Gives state buf (ahead.Long stamp len) octets (with_first arrival later)) (λ octets comes. (later, refl, comes));
     })
@@ -151,14 +158,14 @@ at_turn left port state buf ahead.End t is =
     inr (inl (record {
       ending = hows.End;
       is_turn = same_turn (Ends (Ingress port) hows.End) t is;
-      other = λ same. cc;
+      whole = tt;
       gives = if_all left (λ octets. Gives state buf ahead.End octets (ended hows.End)) (λ octets. refl);
     }))
 at_turn left port state buf (ahead.Malformed at) t is =
     inr (inl (record {
       ending = hows.Malformed at;
       is_turn = same_turn (Ends (Ingress port) (hows.Malformed at)) t is;
-      other = λ same. cc;
+      whole = tt;
       gives = if_all left (λ octets. Gives state buf (ahead.Malformed at) octets (ended (hows.Malformed at))) (λ octets. refl);
     }))
 at_turn left port state buf ahead.Failed t is = inr (inr (record { is_turn = same_turn (Ends (Ingress port) hows.Failed) t is; failed = refl }))
@@ -167,8 +174,8 @@ at_turn left port state buf ahead.Done t is = cc
 -- one more read, behind what was read
 pub read_ahead : (first mid now : State) (one two : List ℕ) (front : List Arrival) (buf : List ℕ) (left : Option (List ℕ)) (a : Ahead) → HasRead first mid one front → IsReadAs mid now two buf left a → HasReadAhead first now (one ++ two) buf front a
 read_ahead first mid now one two front buf left ahead.Unread read is = absurd is
-read_ahead first mid now one two front buf left (ahead.Frame stamp len) read is = read_twice first mid now one two front (arrivals.Frame stamp (take len buf) ∷ []) read is.read
-read_ahead first mid now one two front buf left (ahead.Long stamp len) read is = read_twice first mid now one two front (arrivals.Long stamp len ∷ []) read is.read
+read_ahead first mid now one two front buf left (ahead.Frame stamp len) read is = (read_twice first mid now one two front (arrivals.Frame stamp (take len buf) ∷ []) read is.read, (is.running.0, place_of mid + length two, is.running.1))
+read_ahead first mid now one two front buf left (ahead.Long stamp len) read is = (read_twice first mid now one two front (arrivals.Long stamp len ∷ []) read is.read, (is.running.0, place_of mid + length two, is.running.1))
 read_ahead first mid now one two front buf left ahead.End read is = tt
 read_ahead first mid now one two front buf left (ahead.Malformed at) read is = tt
 read_ahead first mid now one two front buf left ahead.Failed read is = (is.taken.0, read_behind first mid one two front is.taken.0 read is.taken.1)
@@ -252,32 +259,37 @@ turns_front port before input =
     sym (append_assoc (map (λ a. Arrives port a) before) (map (λ a. Arrives port a) input.arrivals) (Ends (Ingress port) input.ending ∷ []))
     ∙ ap (λ (l : List Turn). l ++ Ends (Ingress port) input.ending ∷ []) (sym (map-append (λ a. Arrives port a) before input.arrivals))
 
--- what a reader gives of octets doesn't end at a failed read, unless one had failed before
+-- how the octets of a whole capture end
 
-run_ends : (kind : HeaderKind) (arrivals : List Arrival) (place : ℕ) (ending : How) (octets : List ℕ) → IsRun kind place arrivals ending octets → ending ≢ hows.Failed
-run_ends kind [] place ending octets run is = subst (λ (e : How). EndsAs kind place e octets) is run
-run_ends kind (a ∷ arrivals) place ending octets run is = run_ends kind arrivals (place + length run.0) ending run.1 run.5 is
+run_end : (kind : HeaderKind) (place : ℕ) (ending : How) (octets : List ℕ) → EndsAs kind place ending octets → IsWholeEnd ending
+run_end kind place hows.End octets ends = tt
+run_end kind place (hows.Malformed at) octets ends = tt
+run_end kind place hows.Quit octets ends = ends
+run_end kind place (hows.Overlong at) octets ends = ends
+run_end kind place hows.Failed octets ends = ends
+run_end kind place hows.Unwritten octets ends = ends
+run_end kind place (hows.Full len) octets ends = ends
 
-never_fails : (state : State) (octets : List ℕ) (input : Input) → IsReadable state → Comes state octets input → input.ending ≢ hows.Failed
-never_fails (Fresh kinds) octets input readable (inl capture) is = run_ends capture.kind input.arrivals 24 input.ending (drop 24 octets) capture.run is
-never_fails (Fresh kinds) octets input readable (inr none) is = let e : input.ending ≡ hows.Malformed 0 = ap (λ (i : Input). i.ending) none.malformed in cc
-never_fails (Running kind place) octets input readable run is = run_ends kind input.arrivals place input.ending octets run is
-never_fails (Ended ending) octets input readable comes is = readable (ap Ended (sym (ap (λ (i : Input). i.ending) comes) ∙ is))
+run_ends : (kind : HeaderKind) (arrivals : List Arrival) (place : ℕ) (ending : How) (octets : List ℕ) → IsRun kind place arrivals ending octets → IsWholeEnd ending
+run_ends kind [] place ending octets run = run_end kind place ending octets run
+run_ends kind (a ∷ arrivals) place ending octets run = run_ends kind arrivals (place + length run.0) ending run.1 run.5
 
-some_input : (left : Option (List ℕ)) (state : State) → IsReadable state → (input : Input) × IfSome left (λ octets. Comes state octets input) × (input.ending ≢ hows.Failed)
-some_input None state readable = (ended hows.End, tt, λ same. cc)
-some_input (Some octets) state readable = let some = some_later state octets in (some.0, some.1, never_fails state octets some.0 readable some.1)
+some_input : (left : Option (List ℕ)) (state : State) → IsRunning state → (input : Input) × IfSome left (λ octets. Comes state octets input) × IsWholeEnd input.ending
+some_input None state running = (ended hows.End, tt, tt)
+some_input (Some octets) state running =
+    let some = some_later state octets in
+    (some.0, some.1, run_ends running.0 some.0.arrivals running.1 some.0.ending octets (subst (λ (s : State). Comes s octets some.0) running.2 some.1))
 
 -- the whole octets of a source are the input
-whole_as : (Reads : List ℕ → Input → Type 0) (before after : Option (List ℕ)) (ended_so : Option How) (arrivals : List Arrival) (ending : How) → ending ≢ hows.Failed
+whole_as : (Reads : List ℕ → Input → Type 0) (before after : Option (List ℕ)) (ended_so : Option How) (arrivals : List Arrival) (ending : How) → IsWholeEnd ending
     → IfSome before (λ octets. Reads octets (record { arrivals = arrivals; ending = ending })) → IsInputOf Reads before after ended_so arrivals ending
-whole_as Reads before after ended_so arrivals hows.End other whole = whole
-whole_as Reads before after ended_so arrivals hows.Quit other whole = whole
-whole_as Reads before after ended_so arrivals (hows.Malformed at) other whole = whole
-whole_as Reads before after ended_so arrivals (hows.Overlong at) other whole = whole
-whole_as Reads before after ended_so arrivals hows.Failed other whole = absurd (other refl)
-whole_as Reads before after ended_so arrivals hows.Unwritten other whole = whole
-whole_as Reads before after ended_so arrivals (hows.Full len) other whole = whole
+whole_as Reads before after ended_so arrivals hows.End ends whole = whole
+whole_as Reads before after ended_so arrivals (hows.Malformed at) ends whole = whole
+whole_as Reads before after ended_so arrivals hows.Failed ends whole = absurd ends
+whole_as Reads before after ended_so arrivals hows.Quit ends whole = ends
+whole_as Reads before after ended_so arrivals (hows.Overlong at) ends whole = ends
+whole_as Reads before after ended_so arrivals hows.Unwritten ends whole = ends
+whole_as Reads before after ended_so arrivals (hows.Full len) ends whole = ends
 
 module _ {S K C : Type 0} (left : S → Option (List ℕ)) (plan : Plan) (k : ℕ) (past : List Row) (old now new : PortEnds S K C) (taken : List Turn) (t : Turn)
     (port_is : now.port ≡ old.port) (pass : pass_of plan (Ingress old.port) ≡ k) (goes : Goes left old now taken)
@@ -307,7 +319,7 @@ module _ {S K C : Type 0} (left : S → Option (List ℕ)) (plan : Plan) (k : �
   -- an arrival that was entered
   pub goes_on_at : new.ahead ≡ ahead.Unread → AtArrival (left now.ends.source) now.port now.reader now.buf now.ahead t → Progress left plan k past old new (taken ++ t ∷ [])
   goes_on_at unread at =
-      let read_now : HasRead old.reader now.reader goes.gave (goes.before ++ at.arrival ∷ []) = at.read old.reader goes.gave goes.before goes.read in
+      let read_now : HasRead old.reader now.reader goes.gave (goes.before ++ at.arrival ∷ []) = (at.read old.reader goes.gave goes.before goes.read).0 in
       let read_new : HasRead old.reader new.reader goes.gave (goes.before ++ at.arrival ∷ []) = subst (λ (r : State). HasRead old.reader r goes.gave (goes.before ++ at.arrival ∷ [])) (sym reader) read_now in
       rw unread (record {
         before = goes.before ++ at.arrival ∷ [];
@@ -323,9 +335,9 @@ module _ {S K C : Type 0} (left : S → Option (List ℕ)) (plan : Plan) (k : �
       })
 
   -- an arrival for which there was no room: what is left is passed over
-  pub stops_at : new.ahead ≡ ahead.Done → IsSound now.reader now.ahead → AtArrival (left now.ends.source) now.port now.reader now.buf now.ahead t → Progress left plan k past old new (taken ++ t ∷ [])
-  stops_at done sound at =
-      let some = some_input (left now.ends.source) now.reader (at.readable sound) in
+  pub stops_at : new.ahead ≡ ahead.Done → AtArrival (left now.ends.source) now.port now.reader now.buf now.ahead t → Progress left plan k past old new (taken ++ t ∷ [])
+  stops_at done at =
+      let some = some_input (left now.ends.source) now.reader (at.read old.reader goes.gave goes.before goes.read).1 in
       let before = goes.before ++ at.arrival ∷ [] in
       rw done (record {
         input = with_front before some.0;
@@ -342,7 +354,7 @@ module _ {S K C : Type 0} (left : S → Option (List ℕ)) (plan : Plan) (k : �
     rest = [];
     of = tt;
     split = taken_ended at.ending at.is_turn;
-    came = whole_as (Comes old.reader) (left old.ends.source) (left new.ends.source) (input_end (number_of old.port) past) goes.before at.ending at.other
+    came = whole_as (Comes old.reader) (left old.ends.source) (left new.ends.source) (input_end (number_of old.port) past) goes.before at.ending at.whole
         (subst (λ (l : List Arrival). CameFirst left old (record { arrivals = l; ending = at.ending })) (append-nil goes.before) (goes.comes (ended at.ending) at.gives));
   })
 

@@ -25,10 +25,11 @@ use Rattle.port_worker.specs.SentFrames.{capture_of}
 use Rattle.port_worker.specs.Replays.{IsLater}
 use Rattle.port_worker.proofs.Measures.{weight, undone, undone_same}
 use Rattle.port_worker.proofs.Joining.{takes_twice}
+use Rattle.port_worker.proofs.Later.{looked_later}
 use Rattle.port_worker.proofs.Progress.{head_of, head_ahead, moment_same, read_known, HasReadAhead, Goes, Progress, ProgressBy, read_ahead}
 
 pub record Running {S K C : Type 0} (left : S → Option (List ℕ)) (written : K → Option (List ℕ)) (source_faults : S → ℕ) (sink_faults : K → ℕ) (plan : Plan) (first ports : List (PortEnds S K C)) (past : List Row) : Type 0 where
-  pub later : EachPair (IsLater source_faults sink_faults) first ports
+  pub later : EachPair (IsLater left written source_faults sink_faults) first ports
   pub sound : (k : ℕ) (d : PortEnds S K C) → k < length first → IsSound (get_or ports k d).reader (get_or ports k d).ahead
   pub taken : List (List Turn)
   pub taken_size : length taken ≡ length first
@@ -165,13 +166,7 @@ module _ {S K C : Type 0} (left : S → Option (List ℕ)) (written : K → Opti
 
     pub look_step : Runs new past
     look_step = record {
-      later = record {
-        size = looked.size ∙ r.later.size;
-        each = λ k d inside.
-            let look = looked.each k d (omega (arith, size_ports)) in
-            let was = r.later.each k d inside in
-            record { port = look.port ∙ was.port; source = omega (arith, look.later, was.source); sink = rw look.sink was.sink };
-      };
+      later = looked_later left written source_faults sink_faults first ports new r.later looked;
       sound = λ k d inside. (looked.each k d (omega (arith, size_ports))).sound;
       taken = r.taken;
       taken_size = r.taken_size;

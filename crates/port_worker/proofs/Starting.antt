@@ -26,13 +26,14 @@ use Rattle.port_worker.specs.declared.port_ends.Ahead.{Ahead}
 use Rattle.port_worker.specs.declared.port_ends.Ahead.TheVariants as ahead
 use Rattle.port_worker.specs.declared.port_ends.PortEnds.{PortEnds}
 use Rattle.port_worker.specs.Pairs.{EachPair}
-use Rattle.port_worker.specs.Inputs.{IsSound, IsReadable, IsLooked, Gives, WillCome}
+use Rattle.port_worker.specs.Inputs.{IsSound, IsReadable, Gives, WillCome}
 use Rattle.port_worker.specs.SentFrames.{records_of, OnlySink, IsBegun}
 use Rattle.port_worker.specs.Steps.{IsStepped}
 use Rattle.port_worker.specs.Replays.{IsUnread, IsLater, RoseAt, ports_held, ports_planned}
 use Rattle.port_worker.proofs.Planned.{count_is, number_is}
 use Rattle.port_worker.proofs.Records.{rose_later}
 use Rattle.port_worker.proofs.Joining.{front_none}
+use Rattle.port_worker.proofs.Later.{begun_later}
 use Rattle.port_worker.proofs.Progress.{head_of, Goes, ProgressBy}
 use Rattle.port_worker.proofs.Running.{Running, head_at, element}
 
@@ -56,41 +57,8 @@ nothing_joined [] (r ∷ rest) size = absurd (omega arith)
 nothing_joined (x ∷ xs) [] size = absurd (omega arith)
 nothing_joined (x ∷ xs) (r ∷ rest) size = ap (λ (l : List (List Turn)). r ∷ l) (nothing_joined xs rest (omega arith))
 
-only_later : {S K C : Type 0} (source_faults : S → ℕ) (sink_faults : K → ℕ) (p q : PortEnds S K C) → OnlySink sink_faults p q → IsLater source_faults sink_faults p q
-only_later {S} {K} {C} source_faults sink_faults p q only = record {
-  port = ap (λ (r : PortEnds S K C). r.port) only.same;
-  source = subst (λ (s : S). source_faults p.ends.source ≤ source_faults s) (sym (ap (λ (r : PortEnds S K C). r.ends.source) only.same)) (omega arith);
-  sink = only.later;
-}
-
-pub begun_later : {S K C : Type 0} (source_faults : S → ℕ) (sink_faults : K → ℕ) (old new : List (PortEnds S K C)) → EachPair (OnlySink sink_faults) old new → EachPair (IsLater source_faults sink_faults) old new
-begun_later source_faults sink_faults old new begun = record { size = begun.size; each = λ k d inside. only_later source_faults sink_faults (get_or old k d) (get_or new k d) (begun.each k d inside) }
-
--- later faults
-pub looked_later : {S K C : Type 0} (left : S → Option (List ℕ)) (source_faults : S → ℕ) (sink_faults : K → ℕ) (first old new : List (PortEnds S K C)) → EachPair (IsLater source_faults sink_faults) first old → EachPair (IsLooked left source_faults) old new → EachPair (IsLater source_faults sink_faults) first new
-looked_later left source_faults sink_faults first old new later looked = record {
-  size = looked.size ∙ later.size;
-  each = λ k d inside.
-      let look = looked.each k d (omega (arith, later.size)) in
-      let was = later.each k d inside in
-      record { port = look.port ∙ was.port; source = omega (arith, look.later, was.source); sink = rw look.sink was.sink };
-}
-
-pub stepped_later : {S K C : Type 0} (source_faults : S → ℕ) (sink_faults : K → ℕ) (first old new : List (PortEnds S K C)) → EachPair (IsLater source_faults sink_faults) first old → EachPair (IsStepped sink_faults) old new → EachPair (IsLater source_faults sink_faults) first new
-stepped_later {S} {K} {C} source_faults sink_faults first old new later stepped = record {
-  size = stepped.size ∙ later.size;
-  each = λ k d inside.
-      let one = stepped.each k d (omega (arith, later.size)) in
-      let was = later.each k d inside in
-      record {
-        port = ap (λ (p : PortEnds S K C). p.port) one.same ∙ was.port;
-        source = subst (λ (s : S). source_faults (get_or first k d).ends.source ≤ source_faults s) (sym (ap (λ (p : PortEnds S K C). p.ends.source) one.same)) was.source;
-        sink = omega (arith, one.later, was.sink);
-      };
-}
-
-pub stepped_source : {S K C : Type 0} (source_faults : S → ℕ) (sink_faults : K → ℕ) (old new : List (PortEnds S K C)) → EachPair (IsStepped sink_faults) old new → (k : ℕ) (d : PortEnds S K C) → k < length old → source_faults (get_or old k d).ends.source ≤ source_faults (get_or new k d).ends.source
-stepped_source {S} {K} {C} source_faults sink_faults old new stepped k d within =
+pub stepped_source : {S K C : Type 0} (written : K → Option (List ℕ)) (source_faults : S → ℕ) (sink_faults : K → ℕ) (old new : List (PortEnds S K C)) → EachPair (IsStepped written sink_faults) old new → (k : ℕ) (d : PortEnds S K C) → k < length old → source_faults (get_or old k d).ends.source ≤ source_faults (get_or new k d).ends.source
+stepped_source {S} {K} {C} written source_faults sink_faults old new stepped k d within =
     subst (λ (s : S). source_faults (get_or old k d).ends.source ≤ source_faults s) (sym (ap (λ (p : PortEnds S K C). p.ends.source) (stepped.each k d within).same)) (omega arith)
 
 pub rose_since : {S K C : Type 0} (faults : PortEnds S K C → ℕ) (port : Port) (first old new : List (PortEnds S K C)) → length old ≡ length first → ((k : ℕ) (d : PortEnds S K C) → k < length first → faults (get_or first k d) ≤ faults (get_or old k d))
@@ -102,8 +70,8 @@ rose_since faults port first old new size later rose = (
       ((rose.2 d).0, rose_later (faults (get_or first rose.0 d)) (faults (get_or old rose.0 d)) (faults (get_or new rose.0 d)) (later rose.0 d (omega (arith, rose.1))) (rose.2 d).1),
 )
 
-pub held_same : {S K C : Type 0} (source_faults : S → ℕ) (sink_faults : K → ℕ) (first ports : List (PortEnds S K C)) → EachPair (IsLater source_faults sink_faults) first ports → ports_held ports ≡ ports_held first
-held_same {S} {K} {C} source_faults sink_faults first ports later =
+pub held_same : {S K C : Type 0} (left : S → Option (List ℕ)) (written : K → Option (List ℕ)) (source_faults : S → ℕ) (sink_faults : K → ℕ) (first ports : List (PortEnds S K C)) → EachPair (IsLater left written source_faults sink_faults) first ports → ports_held ports ≡ ports_held first
+held_same {S} {K} {C} left written source_faults sink_faults first ports later =
     let size = later.size in
     let size_f = length-map first (λ p. p.port) in
     let size_p = length-map ports (λ p. p.port) in
@@ -114,7 +82,7 @@ held_same {S} {K} {C} source_faults sink_faults first ports later =
 
 module _ {S K C : Type 0} (left : S → Option (List ℕ)) (written : K → Option (List ℕ)) (source_faults : S → ℕ) (sink_faults : K → ℕ) (plan : Plan) (first ports : List (PortEnds S K C))
     (planned : ports_held first ≡ ports_planned plan) (rising : IsStrictlyIncreasing (numbers_of plan.ports)) where
-  module _ (unread : All IsUnread first) (only : EachPair (OnlySink sink_faults) first ports) (begun : EachPair (IsBegun written) first ports) where
+  module _ (unread : All IsUnread first) (only : EachPair (OnlySink written sink_faults) first ports) (begun : EachPair (IsBegun written) first ports) where
     abbrev past : List Row
     past = with_event plan empty [] (End Control hows.End)
 
@@ -156,7 +124,7 @@ module _ {S K C : Type 0} (left : S → Option (List ℕ)) (written : K → Opti
         let size = only.size in
         let count = count_is first plan planned in
         record {
-          later = begun_later source_faults sink_faults first ports only;
+          later = begun_later left written source_faults sink_faults first ports only;
           sound = λ k d inside. rw (ahead_is k d inside) (subst (λ (p : PortEnds S K C). IsReadable p.reader) (sym (only.each k d inside).same) (unread k d inside).1);
           taken = nothing_taken first;
           taken_size = nothing_count first;
@@ -173,7 +141,7 @@ module _ {S K C : Type 0} (left : S → Option (List ℕ)) (written : K → Opti
 
   module _ (past : List Row) (r : Running left written source_faults sink_faults plan first ports past) where
     pub planned_now : ports_held ports ≡ ports_planned plan
-    planned_now = held_same source_faults sink_faults first ports r.later ∙ planned
+    planned_now = held_same left written source_faults sink_faults first ports r.later ∙ planned
 
     number_now : (k : ℕ) (d : PortEnds S K C) → k < length ports → number_of (get_or ports k d).port ≡ number_at plan k
     number_now k d inside = number_is ports plan k d planned_now inside

@@ -38,6 +38,7 @@ use Rattle.port_worker.proofs.Fitting.{FitsSoFar, fits_turned, turn_port}
 use Rattle.port_worker.proofs.Entered.{ended_entered_other, ended_entered_open, ended_entered_done, quiet_entered}
 use Rattle.port_worker.proofs.Progress.{head_of, head_ahead, turn_at_moment, AtTurn, AtFailure, at_turn, Goes, Progress, goes_at, goes_on_at, stops_at, ends_at, fails_at, progress_kept}
 use Rattle.port_worker.proofs.Measures.{weight, undone, undone_same, undone_less, entered_longer, goes_below}
+use Rattle.port_worker.proofs.Later.{stepped_later}
 use Rattle.port_worker.proofs.Running.{Running, head_at, element, moments_same, all_read, agrees_same}
 
 some_same : (u t : Turn) → Some u ≡ Some t → u ≡ t
@@ -110,7 +111,7 @@ module _ {S K C : Type 0} (left : S → Option (List ℕ)) (written : K → Opti
   pub running_turn : has_ended empty (pass_of plan (who_of turn)) past ≡ false
   running_turn = ap (λ (n : ℕ). has_ended empty n past) who_is ∙ running_j
 
-  module _ (stepped : EachPair (IsStepped sink_faults) ports new) (others : (k : ℕ) (d : PortEnds S K C) → k ≢ j → k < length ports → (get_or new k d).ahead ≡ (get_or ports k d).ahead)
+  module _ (stepped : EachPair (IsStepped written sink_faults) ports new) (others : (k : ℕ) (d : PortEnds S K C) → k ≢ j → k < length ports → (get_or new k d).ahead ≡ (get_or ports k d).ahead)
       (entered_is : (d : PortEnds S K C) → IfSome (turn_of (get_or ports j d)) (λ t. now ≡ entered plan empty t past))
       (ahead_is : (d : PortEnds S K C) → IfSome (turn_of (get_or ports j d)) (λ t. (get_or new j d).ahead ≡ ahead_after (ends_input plan past t)))
       (sent_is : EachPair (IsSent written past now) ports new) where
@@ -195,7 +196,7 @@ module _ {S K C : Type 0} (left : S → Option (List ℕ)) (written : K → Opti
     progress_there : (b : Bool) → ends_input plan past turn ≡ b → there.ahead ≡ ahead_after b → AtTurn (left here.ends.source) here.port here.reader here.buf here.ahead turn
         → Progress left plan j now (get_or first j d_here) there (get_or r.taken j [] ++ turn ∷ [])
     progress_there true ends is (inl arrives) =
-        stops_at left plan j now (get_or first j d_here) here there (get_or r.taken j []) turn (port_is j d_here inside_first) (pass_is j d_here inside_first) goes_here source_there reader_there is (r.sound j d_here inside_first) arrives
+        stops_at left plan j now (get_or first j d_here) here there (get_or r.taken j []) turn (port_is j d_here inside_first) (pass_is j d_here inside_first) goes_here source_there reader_there is arrives
     progress_there true ends is (inr (inl ending)) =
         ends_at left plan j now (get_or first j d_here) here there (get_or r.taken j []) turn (port_is j d_here inside_first) (pass_is j d_here inside_first) goes_here source_there reader_there is ending
     progress_there true ends is (inr (inr fails)) =
@@ -261,17 +262,7 @@ module _ {S K C : Type 0} (left : S → Option (List ℕ)) (written : K → Opti
         let within_j = inside_first in
         let who = who_is in
         record {
-          later = record {
-            size = size_n ∙ size_p;
-            each = λ k d within.
-                let one = stepped.each k d (omega arith) in
-                let was = r.later.each k d within in
-                record {
-                  port = ap (λ (p : PortEnds S K C). p.port) one.same ∙ was.port;
-                  source = subst (λ (s : S). source_faults (get_or first k d).ends.source ≤ source_faults s) (sym (ap (λ (p : PortEnds S K C). p.ends.source) one.same)) was.source;
-                  sink = omega (arith, one.later, was.sink);
-                };
-          };
+          later = stepped_later left written source_faults sink_faults first ports new r.later stepped;
           sound = λ k d within. sound_at k d within (cases_eq k j);
           taken = set r.taken j (get_or r.taken j [] ++ turn ∷ []);
           taken_size = length-set r.taken j (get_or r.taken j [] ++ turn ∷ []) ∙ r.taken_size;
@@ -329,4 +320,4 @@ module _ {S K C : Type 0} (left : S → Option (List ℕ)) (written : K → Opti
 
     -- the sources still fit the history
     pub fits_step : EachPair (FitsSoFar left source_faults past) first ports → EachPair (FitsSoFar left source_faults now) first new
-    fits_step so_far = fits_turned left source_faults sink_faults plan first ports new past now j turn port_is numbers_apart inside_first so_far stepped others turn_at now_is ahead_at
+    fits_step so_far = fits_turned left written source_faults sink_faults plan first ports new past now j turn port_is numbers_apart inside_first so_far stepped others turn_at now_is ahead_at

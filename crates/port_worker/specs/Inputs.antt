@@ -99,13 +99,16 @@ abbrev pub ReadsAhead : {S K C : Type 0} → (S → Option (List ℕ)) → PortE
 ReadsAhead left old new =
     (gave : List ℕ) × Takes (left old.ends.source) (left new.ends.source) gave × IsReadAs old.reader new.reader gave new.buf (left new.ends.source) new.ahead
 
--- One port before and after a read of what comes next: what comes now comes before.
+-- One port before and after a read of what comes next: what comes now comes before, the source gave up octets from its
+-- front, and the clock wasn't read.
 pub record IsLooked {S K C : Type 0} (left : S → Option (List ℕ)) (faults : S → ℕ) (old new : PortEnds S K C) : Type 0 where
   pub port : new.port ≡ old.port
   pub sink : new.ends.sink ≡ old.ends.sink
+  pub clock : new.ends.clock ≡ old.ends.clock
   pub known : IsKnown new.ahead
   pub sound : IsSound new.reader new.ahead
   pub later : faults old.ends.source ≤ faults new.ends.source
+  pub gave : (octets : List ℕ) × Takes (left old.ends.source) (left new.ends.source) octets
   pub comes : (input : Input) → WillCome left new input → WillCome left old input
   pub same : IsKnown old.ahead → new ≡ old
   pub done : new.ahead ≡ ahead.Done → old.ahead ≡ ahead.Done

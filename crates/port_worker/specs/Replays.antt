@@ -6,7 +6,7 @@ use Rattle.savi_kinds.specs.Ports.{number_of}
 use Rattle.savi_kinds.specs.declared.entry.How.{How}
 use Rattle.savi_kinds.specs.declared.entry.How.TheVariants as hows
 use Rattle.savi_kinds.specs.Arrivals.{Arrival, Input}
-use Rattle.savi_ends.specs.Octets.{behind}
+use Rattle.savi_ends.specs.Octets.{behind, Takes}
 use Rattle.savi_ends.specs.Faults.{Rose}
 use Rattle.pcap_io.specs.Readers.{Comes}
 use Rattle.hist_store.specs.Rows.{Row}
@@ -17,7 +17,7 @@ use Rattle.savi_history.specs.Fits.{Fits, IsWhole, IsBroken}
 use Rattle.port_worker.specs.declared.port_ends.Ahead.TheVariants as ahead
 use Rattle.port_worker.specs.declared.port_ends.PortEnds.{PortEnds}
 use Rattle.port_worker.specs.Inputs.{IsReadable}
-use Rattle.port_worker.specs.SentFrames.{capture_of}
+use Rattle.port_worker.specs.SentFrames.{TookMore, capture_of}
 
 -- the ports of these ends
 abbrev pub ports_held : {S K C : Type 0} → List (PortEnds S K C) → List Port
@@ -36,23 +36,28 @@ abbrev pub RoseAt : {S K C : Type 0} → (PortEnds S K C → ℕ) → Port → L
 RoseAt {S} {K} {C} faults port old new =
     (k : ℕ) × (k < length old) × ((d : PortEnds S K C) → (number_of (slice_index_or new k d).port ≡ number_of port) × Rose (faults (slice_index_or old k d)) (faults (slice_index_or new k d)))
 
--- no count of faults fell, and the port is the same
-pub record IsLater {S K C : Type 0} (source_faults : S → ℕ) (sink_faults : K → ℕ) (old new : PortEnds S K C) : Type 0 where
+-- The ends of a port, before and after, as far as they tell: its source gave up octets from its front, its sink took octets
+-- behind what it held, its clock wasn't read, and no count of faults fell.
+pub record IsLater {S K C : Type 0} (left : S → Option (List ℕ)) (written : K → Option (List ℕ)) (source_faults : S → ℕ) (sink_faults : K → ℕ) (old new : PortEnds S K C) : Type 0 where
   pub port : new.port ≡ old.port
   pub source : source_faults old.ends.source ≤ source_faults new.ends.source
   pub sink : sink_faults old.ends.sink ≤ sink_faults new.ends.sink
+  pub clock : new.ends.clock ≡ old.ends.clock
+  pub gave : (octets : List ℕ) × Takes (left old.ends.source) (left new.ends.source) octets
+  pub took : TookMore (written old.ends.sink) (written new.ends.sink)
 
 -- What the octets of a port's source are to its input, by how the input ends; `ended_so` is how it ended in the history.
 -- At its end or at a place at fault: they are all that the source had left, read to the end or not. At a read that failed:
--- the history says so, and they are what the source gave up, with no whole arrival behind the input's.
+-- the history says so, and they are what the source gave up, with no whole arrival behind the input's. The input of a
+-- capture ends in no other way.
 abbrev pub IsInputOf : (List ℕ → Input → Type 0) → Option (List ℕ) → Option (List ℕ) → Option How → List Arrival → How → Type 0
 IsInputOf Arrives before after ended_so arrivals hows.End = IsWhole Arrives before arrivals hows.End
-IsInputOf Arrives before after ended_so arrivals hows.Quit = IsWhole Arrives before arrivals hows.Quit
 IsInputOf Arrives before after ended_so arrivals (hows.Malformed at) = IsWhole Arrives before arrivals (hows.Malformed at)
-IsInputOf Arrives before after ended_so arrivals (hows.Overlong at) = IsWhole Arrives before arrivals (hows.Overlong at)
 IsInputOf Arrives before after ended_so arrivals hows.Failed = (ended_so ≡ Some hows.Failed) × IsBroken Arrives before after arrivals
-IsInputOf Arrives before after ended_so arrivals hows.Unwritten = IsWhole Arrives before arrivals hows.Unwritten
-IsInputOf Arrives before after ended_so arrivals (hows.Full len) = IsWhole Arrives before arrivals (hows.Full len)
+IsInputOf Arrives before after ended_so arrivals hows.Quit = ⊥
+IsInputOf Arrives before after ended_so arrivals (hows.Overlong at) = ⊥
+IsInputOf Arrives before after ended_so arrivals hows.Unwritten = ⊥
+IsInputOf Arrives before after ended_so arrivals (hows.Full len) = ⊥
 
 -- the same at a port, behind this history
 abbrev pub IsInputAt : {S K C : Type 0} → (S → Option (List ℕ)) → List Row → PortEnds S K C → PortEnds S K C → Input → Type 0

@@ -24,10 +24,15 @@ capture_of number past = capture_text (map sent_of (sent empty number past))
 abbrev pub HasWritten : {S K C : Type 0} → (K → Option (List ℕ)) → Option (List ℕ) → List Row → PortEnds S K C → Type 0
 HasWritten written front past p = written p.ends.sink ≡ behind front (capture_of (number_of p.port) past)
 
--- only the sink of the port changed, and its faults didn't fall
-pub record OnlySink {S K C : Type 0} (faults : K → ℕ) (old new : PortEnds S K C) : Type 0 where
+-- a sink took octets behind what it held, perhaps none
+abbrev pub TookMore : Option (List ℕ) → Option (List ℕ) → Type 0
+TookMore before after = (octets : List ℕ) × (after ≡ behind before octets)
+
+-- only the sink of the port changed: it took octets behind what it held, and its faults didn't fall
+pub record OnlySink {S K C : Type 0} (written : K → Option (List ℕ)) (faults : K → ℕ) (old new : PortEnds S K C) : Type 0 where
   pub same : new ≡ record old { ends = record old.ends { sink = new.ends.sink } }
   pub later : faults old.ends.sink ≤ faults new.ends.sink
+  pub took : TookMore (written old.ends.sink) (written new.ends.sink)
 
 -- The capture of the port was begun.
 abbrev pub IsBegun : {S K C : Type 0} → (K → Option (List ℕ)) → PortEnds S K C → PortEnds S K C → Type 0

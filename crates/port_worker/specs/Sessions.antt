@@ -24,6 +24,6 @@ IsPlayedOrStopped left written sink_faults plan past old new (Some port) = RoseA
 -- What holds of the core of a session and of its ends, before and after, by the port at which a write failed.
 pub record IsSession {S K C : Type 0} (left : S → Option (List ℕ)) (written : K → Option (List ℕ)) (source_faults : S → ℕ) (sink_faults : K → ℕ) (plan : Plan) (core : Machine) (unwritten : Option Port) (old new : List (PortEnds S K C)) : Type 0 where
   pub plan_is : core.plan ≡ plan
-  pub later : EachPair (IsLater source_faults sink_faults) old new
+  pub later : EachPair (IsLater left written source_faults sink_faults) old new
   pub broken : EachPair (HasBroken source_faults core.past) old new
   pub played : IsPlayedOrStopped left written sink_faults plan core.past old new unwritten

@@ -1,5 +1,5 @@
 -- What the turn of a port does to the history, before the queues are drained.
-use Rattle.std.specs.Prelude.{◌≡◌, ◌≤◌, ℕ, Bool, true, false, not, List}
+use Rattle.std.specs.Prelude.{◌≡◌, ◌≤◌, ℕ, Bool, true, false, not, List, Option}
 use Rattle.savi_kinds.specs.declared.port.Port.{Port}
 use Rattle.savi_kinds.specs.declared.plan.Plan.{Plan}
 use Rattle.savi_kinds.specs.declared.entry.Who.TheVariants.{Ingress}
@@ -13,6 +13,7 @@ use Rattle.savi_history.specs.Legal.{IsOpen, IsFull}
 use Rattle.port_worker.specs.declared.port_ends.Ahead.{Ahead}
 use Rattle.port_worker.specs.declared.port_ends.Ahead.TheVariants as ahead
 use Rattle.port_worker.specs.declared.port_ends.PortEnds.{PortEnds}
+use Rattle.port_worker.specs.SentFrames.{TookMore}
 use Rattle.savi_core.specs.Machines.{Machine}
 use Rattle.savi_core.specs.declared.event.Stepped.{Stepped}
 use Rattle.savi_core.specs.declared.event.Stepped.TheVariants as stepped
@@ -47,10 +48,12 @@ IfDone stepped.Nothing P = Unit {0}
 abbrev pub IsFullAt : Machine → Port → Stepped → Type 0
 IsFullAt m port answer = IfFull answer (λ len. IsOpen m.plan empty m.past (Ingress port) × IsFull m.plan m.past len)
 
--- one port before and after a step: only its sink and what is known of its input have changed
-pub record IsStepped {S K C : Type 0} (faults : K → ℕ) (old new : PortEnds S K C) : Type 0 where
+-- One port before and after a step: only its sink, which took octets behind what it held, and what is known of its input
+-- have changed.
+pub record IsStepped {S K C : Type 0} (written : K → Option (List ℕ)) (faults : K → ℕ) (old new : PortEnds S K C) : Type 0 where
   pub same : new ≡ record old { ends = record old.ends { sink = new.ends.sink }; ahead = new.ahead }
   pub later : faults old.ends.sink ≤ faults new.ends.sink
+  pub took : TookMore (written old.ends.sink) (written new.ends.sink)
 
 -- what is known of the input behind a turn
 abbrev pub ahead_after : Bool → Ahead

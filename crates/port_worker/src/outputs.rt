@@ -15,7 +15,7 @@ ghost use Rattle.savi_history.specs.PortInputs.{input_end};
 ghost use Rattle.savi_history.specs.Legal.{IsOpen};
 ghost use Rattle.savi_history.specs.Replay.{drained};
 ghost use Rattle.port_worker.specs.Pairs.{EachPair};
-ghost use Rattle.port_worker.specs.SentFrames.{records_of, OnlySink, IsBegun, IsSent};
+ghost use Rattle.port_worker.specs.SentFrames.{records_of, TookMore, OnlySink, IsBegun, IsSent};
 ghost use Rattle.port_worker.specs.Replays.{RoseAt, ports_held, ports_planned};
 
 use crate::port_ends::PortEnds;
@@ -26,7 +26,7 @@ use savi_kinds::{DEPTH_MOST, Port};
 
 /// Begins the capture of each port, in order. The answer is the port at which a write failed.
 pub(crate) fn begin_all<S, K: Sink, C>(ports: &mut [PortEnds<S, K, C>]) -> Option<Port>
-    ensures begun { EachPair (OnlySink K.faults) ports.old ports.new }
+    ensures begun { EachPair (OnlySink K.written K.faults) ports.old ports.new }
     ensures done { result ≡ None → EachPair (IsBegun K.written) ports.old ports.new }
     ensures failed { IfSome result (λ port. RoseAt (λ p. K.faults p.ends.sink) port ports.old ports.new) }
 {
@@ -53,7 +53,7 @@ pub(crate) fn drain_all<S, K: Sink, C>(
     ensures plan { core.new.plan ≡ core.old.plan }
     ensures inputs { (n : ℕ) → input_end n core.new.past ≡ input_end n core.old.past }
     ensures drained { result ≡ None → core.new.past ≡ drained core.old.plan empty core.old.plan.ports core.old.past }
-    ensures sinks { EachPair (OnlySink K.faults) ports.old ports.new }
+    ensures sinks { EachPair (OnlySink K.written K.faults) ports.old ports.new }
     ensures sent { result ≡ None → EachPair (IsSent K.written core.old.past core.new.past) ports.old ports.new }
     ensures failed { IfSome result (λ port. RoseAt (λ p. K.faults p.ends.sink) port ports.old ports.new) }
 {
@@ -70,7 +70,7 @@ pub(crate) fn drain_all<S, K: Sink, C>(
 impl<S, K: Sink, C> PortEnds<S, K, C> {
     // Begins the capture that is written.
     fn begin(&mut self) -> Put
-        ensures only { OnlySink K.faults self.old self.new }
+        ensures only { OnlySink K.written K.faults self.old self.new }
         ensures done { result ≡ Put.Done → IsBegun K.written self.old self.new }
         ensures cause { result ≡ Put.Failed → Rose (K.faults self.old.ends.sink) (K.faults self.new.ends.sink) }
     {
@@ -79,7 +79,7 @@ impl<S, K: Sink, C> PortEnds<S, K, C> {
 
     // Writes the frames of a batch, one after the other, each in one write of the sink.
     fn write(&mut self, batch: &Batch) -> Put
-        ensures only { OnlySink K.faults self.old self.new }
+        ensures only { OnlySink K.written K.faults self.old self.new }
         ensures done { result ≡ Put.Done → K.written self.new.ends.sink ≡ behind (K.written self.old.ends.sink) (records_of batch.now) }
         ensures cause { result ≡ Put.Failed → Rose (K.faults self.old.ends.sink) (K.faults self.new.ends.sink) }
     {
@@ -90,6 +90,7 @@ impl<S, K: Sink, C> PortEnds<S, K, C> {
 // Writes the frames of a batch, one after the other, each in one write of the sink.
 fn write_batch<K: Sink>(sink: &mut K, batch: &Batch) -> Put
     ensures done { result ≡ Put.Done → K.written sink.new ≡ behind (K.written sink.old) (records_of batch.now) }
+    ensures took { TookMore (K.written sink.old) (K.written sink.new) }
     ensures later { K.faults sink.old ≤ K.faults sink.new }
     ensures cause { result ≡ Put.Failed → Rose (K.faults sink.old) (K.faults sink.new) }
 {

@@ -47,8 +47,8 @@ pub enum Stopped {
 /// ended the ticker ends, and then each egress.
 ///
 /// A read that fails ends the input of its port, at once, and the other inputs go on. The first write that fails stops the
-/// replay. It returns for every input. O(ports), at most 16, for each entry beside one pass over the octets of the frames;
-/// it takes no memory.
+/// replay. However it stops, each end is still at its port, and no clock was read. It returns for every input.
+/// O(ports), at most 16, for each entry beside one pass over the octets of the frames; it takes no memory.
 pub fn replay<S: Source, K: Sink, C: Clock>(
     core: &mut Core,
     ports: &mut [PortEnds<S, K, C>],
@@ -59,7 +59,7 @@ pub fn replay<S: Source, K: Sink, C: Clock>(
     requires planned { ports_held ports.old ≡ ports_planned core.old.plan }
     requires unread { All IsUnread ports.old }
     ensures plan { core.new.plan ≡ core.old.plan }
-    ensures later { EachPair (IsLater S.faults K.faults) ports.old ports.new }
+    ensures later { EachPair (IsLater S.left K.written S.faults K.faults) ports.old ports.new }
     ensures finished { result ≡ Stopped.Finished → IsReplayed S.left K.written core.old.plan core.new.past ports.old ports.new }
     ensures fits { result ≡ Stopped.Finished → EachPair (IsFit S.left core.new.past) ports.old ports.new }
     ensures ended { result ≡ Stopped.Finished → IsFinished core.old.plan empty core.new.past }
@@ -102,7 +102,7 @@ fn advance<S, K: Sink, C>(
     requires outputs { All (λ p. IsOpen core.old.plan empty core.old.past (Egress p.port)) ports.old }
     requires quiet { All (λ p. queue empty (number_of p.port) core.old.past ≡ []) ports.old }
     ensures plan { core.new.plan ≡ core.old.plan }
-    ensures stepped { EachPair (IsStepped K.faults) ports.old ports.new }
+    ensures stepped { EachPair (IsStepped K.written K.faults) ports.old ports.new }
     ensures others { result ≡ None → (k : ℕ) → (d : PortEnds S K C) → k ≢ place → k < length ports.old → (slice_index_or ports.new k d).ahead ≡ (slice_index_or ports.old k d).ahead }
     ensures entered { result ≡ None → (d : PortEnds S K C) → IfSome (turn_of (slice_index_or ports.old place d)) (λ turn. core.new.past ≡ entered core.old.plan empty turn core.old.past) }
     ensures ahead { result ≡ None → (d : PortEnds S K C) → IfSome (turn_of (slice_index_or ports.old place d)) (λ turn. (slice_index_or ports.new place d).ahead ≡ ahead_after (ends_input core.old.plan core.old.past turn)) }

@@ -4,7 +4,7 @@ use Rattle.savi_kinds.specs.declared.plan.Plan.{Plan}
 use Rattle.savi_conf.specs.Answers.{IsAnswer}
 use Rattle.savi_ends.specs.Places.{Place}
 use Rattle.run_config.specs.declared.refusal.Refusal.{Refusal}
-use Rattle.run_config.specs.Configs.{OfText, IsBuilt, IsConfigured, HasFault}
+use Rattle.run_config.specs.Configs.{OfText, IsBuilt, IsConfigured, HasFault, TakesFew, IsReadFrom}
 
 of_stands : {S : Type 0} (left : S → Option (List ℕ)) (stands : Option S) (source : S) (Holds : List ℕ → Type 0) → IfSome stands (λ told. source ≡ told) → IfSome (left source) Holds → IfSome stands (λ told. IfSome (left told) Holds)
 of_stands left None source Holds same given = tt
@@ -25,3 +25,12 @@ if_text (Some text) Read Holds follows read = follows text read
 -- the end that is kept has a fault
 pub kept_fault : {S : Type 0} (faults : S → ℕ) (place : Place S) (source : S) → place.stands ≡ Some source → 0 < faults source → HasFault faults place
 kept_fault faults place source kept fault = subst (λ o. IsSomeAnd o (λ x. 0 < faults x)) (sym kept) fault
+
+taken_from : {S : Type 0} (left : S → Option (List ℕ)) (stands : Option S) (source kept : S) → IfSome stands (λ told. source ≡ told) → TakesFew (left source) (left kept) → IfSome stands (λ told. TakesFew (left told) (left kept))
+taken_from left None source kept same takes = tt
+taken_from left (Some told) source kept same takes = subst (λ s. TakesFew (left s) (left kept)) same takes
+
+-- the end that was handed out is kept again behind what was read of it
+pub read_from : {S : Type 0} (left : S → Option (List ℕ)) (old new : Place S) (source kept : S) → IfSome old.stands (λ told. source ≡ told) → new.stands ≡ Some kept → TakesFew (left source) (left kept) → IsReadFrom left old new
+read_from left old new source kept same is takes =
+    subst (λ o. IsSomeAnd o (λ k. IfSome old.stands (λ told. TakesFew (left told) (left k)))) (sym is) (taken_from left old.stands source kept same takes)

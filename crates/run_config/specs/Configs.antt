@@ -1,11 +1,11 @@
 -- What a run reads of its configuration.
-use Rattle.std.specs.Prelude.{◌≡◌, ◌≢◌, ◌<◌, ℕ, true, false, List, Option, None, IfSome, IsSomeAnd, Ok, Err, length, ◌⊎◌}
+use Rattle.std.specs.Prelude.{◌≡◌, ◌≢◌, ◌+◌, ◌<◌, ◌≤◌, ℕ, true, false, List, Option, None, IfSome, IsSomeAnd, Ok, Err, length, ◌⊎◌}
 use Rattle.savi_kinds.specs.declared.plan.Plan.{Plan}
 use Rattle.savi_kinds.specs.ValidPlan.{IsValidPlan}
 use Rattle.savi_conf.specs.declared.fault.ConfFault.{ConfFault}
 use Rattle.savi_conf.specs.declared.fault.ConfFault.TheVariants.{NoMemory}
 use Rattle.savi_conf.specs.Answers.{IsAnswer, most_octets}
-use Rattle.savi_ends.specs.Octets.{IsFront}
+use Rattle.savi_ends.specs.Octets.{IsFront, Takes}
 use Rattle.savi_ends.specs.Places.{Place}
 
 -- a plan of what is built: valid, without source validation and without control
@@ -35,3 +35,11 @@ HasFault faults place = IsSomeAnd place.stands (λ x. 0 < faults x)
 -- what was read of a text: the whole of it, or a front that is longer than a configuration may be
 abbrev pub IsWholeOrLong : List ℕ → List ℕ → Type 0
 IsWholeOrLong front text = (front ≡ text) ⊎ ((most_octets < length front) × IsFront front text)
+
+-- these octets were taken from a source's front: at most one more than a configuration may have
+abbrev pub TakesFew : Option (List ℕ) → Option (List ℕ) → Type 0
+TakesFew before after = (octets : List ℕ) × (length octets ≤ most_octets + 1) × Takes before after octets
+
+-- the input that was told is kept, and of its front at most one octet more was read than a configuration may have
+abbrev pub IsReadFrom : {S : Type 0} → (S → Option (List ℕ)) → Place S → Place S → Type 0
+IsReadFrom left old new = IsSomeAnd new.stands (λ kept. IfSome old.stands (λ told. TakesFew (left told) (left kept)))

@@ -1,12 +1,12 @@
 //! The configuration of a run.
 
-ghost use Rattle.std.specs.Prelude.{◌≡◌, ◌≢◌, ◌≤◌, true, Ok, Err, IfOk, IfSome, IfNone, IsSome, length, take};
+ghost use Rattle.std.specs.Prelude.{◌≡◌, ◌≢◌, ◌≤◌, ◌⊎◌, true, Ok, Err, IfOk, IfSome, IfNone, length, take};
 ghost use Rattle.savi_conf.specs.Answers.{IsAnswer};
 ghost use Rattle.savi_ends.specs.Faults.{Rose};
 ghost use Rattle.savi_ends.specs.Places.{IsReady, OthersStay};
 ghost use Rattle.savi_conf.specs.declared.fault.ConfFault.{ConfFault};
 ghost use Rattle.run_config.specs.declared.refusal.Refusal.{Refusal};
-ghost use Rattle.run_config.specs.Configs.{HasFault, IsBuilt, IsConfigured, IsRefused, IsWholeOrLong, OfText};
+ghost use Rattle.run_config.specs.Configs.{HasFault, IsBuilt, IsConfigured, IsReadFrom, IsRefused, IsWholeOrLong, TakesFew};
 
 use crate::refusal::Refusal;
 use savi_conf::{ConfFault, OCTETS_MOST, read_plan};
@@ -24,8 +24,9 @@ const ROOM: usize = OCTETS_MOST + 1;
 ///
 /// # Errors
 ///
-/// `NoMemory` where an allocation failed; `CannotOpen` where the input couldn't be opened, and its place is as it was;
-/// `ReadFailed` where a read failed; `Refused` with what is wrong with the text.
+/// `NoMemory` where an allocation failed, before the input was opened or after it was read; `CannotOpen` where the input
+/// couldn't be opened, and its place is as it was; `ReadFailed` where a read failed; `Refused` with what is wrong with the
+/// text.
 pub fn configure<W: World>(alloc: Global, file: &str, world: &mut W) -> Result<Plan, Refusal>
     requires { (name : _) → IsReady (λ s. W.S.faults s ≡ 0) ((W.book world.old).inputs name) }
 
@@ -35,7 +36,8 @@ pub fn configure<W: World>(alloc: Global, file: &str, world: &mut W) -> Result<P
     ensures unread { result ≡ Err Refusal.ReadFailed → HasFault W.S.faults ((W.book world.new).inputs file.now) }
 
     ensures as_it_was { result ≡ Err Refusal.CannotOpen → (W.book world.new).inputs file.now ≡ (W.book world.old).inputs file.now }
-    ensures kept { result ≢ Err Refusal.CannotOpen → result ≢ Err Refusal.NoMemory → IsSome ((W.book world.new).inputs file.now).stands }
+    ensures kept { result ≢ Err Refusal.CannotOpen → result ≢ Err Refusal.NoMemory → IsReadFrom W.S.left ((W.book world.old).inputs file.now) ((W.book world.new).inputs file.now) }
+    ensures memory { result ≡ Err Refusal.NoMemory → ((W.book world.new).inputs file.now ≡ (W.book world.old).inputs file.now) ⊎ IsReadFrom W.S.left ((W.book world.old).inputs file.now) ((W.book world.new).inputs file.now) }
     ensures later { (W.book world.old).faults ≤ (W.book world.new).faults }
     ensures others { OthersStay (W.book world.old).inputs (W.book world.new).inputs file.now }
     ensures rest { W.book world.new ≡ record (W.book world.old) { faults = (W.book world.new).faults; inputs = (W.book world.new).inputs } }
@@ -59,6 +61,7 @@ fn read_config<S: Source>(alloc: Global, source: &mut S, buffer: &mut [u8]) -> R
     ensures refused { (fault : ConfFault) → result ≡ Err (Refusal.Refused fault) → (fault ≢ ConfFault.NoMemory) × IfSome (S.left source.old) (λ text. IsAnswer text true (Err fault)) }
     ensures unread { result ≡ Err Refusal.ReadFailed → Rose (S.faults source.old) (S.faults source.new) }
     ensures opened { result ≢ Err Refusal.CannotOpen }
+    ensures takes { TakesFew (S.left source.old) (S.left source.new) }
 {
     let Some(count) = read_text(source, buffer) else {
         return Err(Refusal::ReadFailed);
@@ -77,6 +80,7 @@ fn read_text<S: Source>(source: &mut S, buffer: &mut [u8]) -> Option<usize>
     ensures cause { IfNone result (Rose (S.faults source.old) (S.faults source.new)) }
     ensures within { IfSome result (λ count. count ≤ length buffer.new) }
     ensures text { IfSome result (λ count. IfSome (S.left source.old) (IsWholeOrLong (take count buffer.new))) }
+    ensures takes { TakesFew (S.left source.old) (S.left source.new) }
 {
     match fill(source, buffer) {
         Filled::Whole => Some(buffer.len()),

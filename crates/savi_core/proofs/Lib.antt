@@ -9,6 +9,7 @@ pub mod Stepping
 pub mod Moving
 pub mod FrameEntries
 pub mod Pieces
+pub mod Fronts
 pub mod Summing
 pub mod Finding
 pub mod Closed

@@ -1,7 +1,7 @@
 -- One piece behind another.
-use Rattle.std.proofs.Common.{◌≡◌, ℕ, ◌+◌, zero, suc, List, [], ◌∷◌, ◌++◌, length, take, refl, arith, ap, sym, ◌∙◌, Option, Some, None, unwrap_or, IsSomeAnd, slice_get}
+use Rattle.std.proofs.Common.{◌≡◌, ℕ, ◌+◌, zero, suc, List, [], ◌∷◌, ◌++◌, length, take, refl, arith, ap, sym, subst, ◌∙◌, Option, Some, None, unwrap_or, IsSomeAnd, slice_get}
 use Rattle.std.proofs.lemmas.List.{append_assoc, append-nil, take_all}
-use Rattle.savi_ends.specs.Octets.{behind}
+use Rattle.savi_ends.specs.Octets.{behind, IsFront}
 use Rattle.savi_ends.proofs.Octets.{behind_again}
 use Rattle.savi_kinds.specs.declared.entry.Entry.{Entry}
 use Rattle.hist_store.specs.Rows.{Row}
@@ -69,28 +69,32 @@ lines_text-append (x ∷ xs) ys =
     ap (λ (t : List ℕ). joined x ++ line_feed ∷ t) (lines_text-append xs ys) ∙ sym (append_assoc (joined x) (line_feed ∷ lines_text xs) (lines_text ys))
 
 -- header, lines and end are the whole text
-pub all_written : (first : List (List (List ℕ))) (rows : List Row) (last : List (List ℕ)) (a b c d e : Option (List ℕ)) (w0 w1 w2 w3 header end : List ℕ)
-    → w0 ≡ []
-    → header ≡ lines_text first
-    → Holds a b w1 (w0 ++ header)
-    → Holds b c w2 (with_lines w1 rows (length rows))
-    → end ≡ lines_text (last ∷ [])
-    → Holds c d w3 (w2 ++ end)
-    → e ≡ behind d w3
-    → e ≡ behind a (lines_text (first ++ entry_lines 0 rows ++ last ∷ []))
-all_written first rows last a b c d e w0 w1 w2 w3 header end none header_is one two end_is three flushed =
-    let lines : List ℕ = lines_text (entry_lines 0 rows) in
-    let all_lines : lines_text (entry_lines 0 (take (length rows) rows)) ≡ lines = ap (λ (r : List Row). lines_text (entry_lines 0 r)) (take_all (length rows) rows (omega arith)) in
-    let both : Holds a c w2 ((w0 ++ header) ++ lines_text (entry_lines 0 (take (length rows) rows))) = holds-more a b c w1 w2 (w0 ++ header) (lines_text (entry_lines 0 (take (length rows) rows))) one two in
-    let whole : Holds a d w3 (((w0 ++ header) ++ lines_text (entry_lines 0 (take (length rows) rows))) ++ end) = holds-more a c d w2 w3 _ end both three in
-    let start : w0 ++ header ≡ lines_text first = ap (λ (t : List ℕ). t ++ header) none ∙ header_is in
-    let text : lines_text (first ++ entry_lines 0 rows ++ last ∷ []) ≡ ((w0 ++ header) ++ lines_text (entry_lines 0 (take (length rows) rows))) ++ end =
+whole_text : (first : List (List (List ℕ))) (rows : List Row) (last : List (List ℕ)) (header end : List ℕ) → header ≡ lines_text first → end ≡ lines_text (last ∷ []) → lines_text (first ++ entry_lines 0 rows ++ last ∷ []) ≡ with_lines header rows (length rows) ++ end
+whole_text first rows last header end header_is end_is =
+    let all_lines : lines_text (entry_lines 0 (take (length rows) rows)) ≡ lines_text (entry_lines 0 rows) = ap (λ (r : List Row). lines_text (entry_lines 0 r)) (take_all (length rows) rows (omega arith)) in
     lines_text-append (first ++ entry_lines 0 rows) (last ∷ [])
     ∙ ap (λ (t : List ℕ). t ++ lines_text (last ∷ [])) (lines_text-append first (entry_lines 0 rows))
     ∙ ap (λ (t : List ℕ). (lines_text first ++ t) ++ lines_text (last ∷ [])) (sym all_lines)
-    ∙ ap (λ (t : List ℕ). (t ++ lines_text (entry_lines 0 (take (length rows) rows))) ++ lines_text (last ∷ [])) (sym start)
-    ∙ ap (λ (t : List ℕ). ((w0 ++ header) ++ lines_text (entry_lines 0 (take (length rows) rows))) ++ t) (sym end_is) in
-    flushed
-    ∙ ap (λ (o : Option (List ℕ)). behind o w3) whole.sink
-    ∙ behind_again a whole.took w3
-    ∙ ap (behind a) (whole.all ∙ sym text)
+    ∙ ap (λ (t : List ℕ). with_lines t rows (length rows) ++ lines_text (last ∷ [])) (sym header_is)
+    ∙ ap (λ (t : List ℕ). with_lines header rows (length rows) ++ t) (sym end_is)
+
+-- What a journal's writing put so far: the header, which began with nothing waiting; then the lines; then the end.
+
+pub header_held : (a b : Option (List ℕ)) (w0 w1 header : List ℕ) → w0 ≡ [] → Holds a b w1 (w0 ++ header) → Holds a b w1 header
+header_held a b w0 w1 header none one = subst (λ (t : List ℕ). Holds a b w1 (t ++ header)) none one
+
+pub lines_held : (rows : List Row) (a b c : Option (List ℕ)) (w1 w2 header : List ℕ) → Holds a b w1 header → Holds b c w2 (with_lines w1 rows (length rows)) → Holds a c w2 (with_lines header rows (length rows))
+lines_held rows a b c w1 w2 header one two = holds-more a b c w1 w2 header (lines_text (entry_lines 0 (take (length rows) rows))) one two
+
+pub journal_held : (first : List (List (List ℕ))) (rows : List Row) (last : List (List ℕ)) (a c d : Option (List ℕ)) (w2 w3 header end : List ℕ)
+    → header ≡ lines_text first
+    → end ≡ lines_text (last ∷ [])
+    → Holds a c w2 (with_lines header rows (length rows))
+    → Holds c d w3 (w2 ++ end)
+    → Holds a d w3 (lines_text (first ++ entry_lines 0 rows ++ last ∷ []))
+journal_held first rows last a c d w2 w3 header end header_is end_is two three =
+    subst (λ (t : List ℕ). Holds a d w3 t) (sym (whole_text first rows last header end header_is end_is)) (holds-more a c d w2 w3 (with_lines header rows (length rows)) end two three)
+
+-- header and lines are a front of the whole text
+pub lines_in_front : (first : List (List (List ℕ))) (rows : List Row) (last : List (List ℕ)) (header : List ℕ) → header ≡ lines_text first → IsFront (with_lines header rows (length rows)) (lines_text (first ++ entry_lines 0 rows ++ last ∷ []))
+lines_in_front first rows last header header_is = (lines_text (last ∷ []), whole_text first rows last header (lines_text (last ∷ [])) header_is refl)

@@ -26,7 +26,7 @@ impl Buffer {
     ghost use Rattle.std.specs.Prelude.{◌≡◌, ◌≤◌, ◌+◌, ◌++◌, [], length, IfOk};
     ghost use Rattle.savi_ends.specs.declared.sink.Put.{Put};
     ghost use Rattle.savi_ends.specs.Faults.{Rose};
-    ghost use Rattle.savi_ends.specs.Octets.{behind};
+    ghost use Rattle.savi_ends.specs.Writes.{Extends};
     ghost use Rattle.savi_core.specs.Buffers.{Waiting, Holds};
 
     /// A buffer with room for so many octets, in which nothing waits. `Err` is want of memory.
@@ -37,11 +37,13 @@ impl Buffer {
         Ok(Buffer { octets, room })
     }
 
-    /// Adds a piece. Where there is no room for it, what waits is written first, in one piece. O(n) in the octets.
+    /// Adds a piece. Where there is no room for it, what waits is written first, in one piece. `Failed` is the failure
+    /// of that write, and a front of what waited was written. O(n) in the octets.
     pub fn put<K: Sink>(&mut self, sink: &mut K, piece: &[u8]) -> Put
         requires { length piece.now ≤ self.old.room }
         ensures room { self.new.room ≡ self.old.room }
         ensures done { result ≡ Put.Done → Holds (K.written sink.old) (K.written sink.new) self.new.octets (self.old.octets ++ piece.now) }
+        ensures part { result ≡ Put.Failed → Extends Put.Failed (K.written sink.old) (K.written sink.new) self.old.octets }
         ensures later { K.faults sink.old ≤ K.faults sink.new }
         ensures cause { result ≡ Put.Failed → Rose (K.faults sink.old) (K.faults sink.new) }
     {
@@ -55,10 +57,11 @@ impl Buffer {
         Put::Done
     }
 
-    /// Writes what waits, in one piece.
+    /// Writes what waits, in one piece. Then nothing waits, also where the write failed.
     pub fn flush<K: Sink>(&mut self, sink: &mut K) -> Put
         ensures room { self.new.room ≡ self.old.room }
-        ensures done { result ≡ Put.Done → (self.new.octets ≡ []) × (K.written sink.new ≡ behind (K.written sink.old) self.old.octets) }
+        ensures emptied { self.new.octets ≡ [] }
+        ensures extends { Extends result (K.written sink.old) (K.written sink.new) self.old.octets }
         ensures later { K.faults sink.old ≤ K.faults sink.new }
         ensures cause { result ≡ Put.Failed → Rose (K.faults sink.old) (K.faults sink.new) }
     {

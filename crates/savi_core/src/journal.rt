@@ -2,28 +2,31 @@
 
 ghost use Rattle.std.specs.Prelude.{◌≡◌, ◌≤◌, ◌++◌, ◌∷◌, [], length, All};
 ghost use Rattle.savi_kinds.specs.declared.plan.Plan.{Plan};
+ghost use Rattle.savi_kinds.specs.Prefixes.{first_of};
+ghost use Rattle.savi_kinds.specs.ValidPlan.{nets_of};
 ghost use Rattle.savi_ends.specs.declared.sink.Put.{Put};
 ghost use Rattle.savi_ends.specs.Faults.{Rose};
-ghost use Rattle.savi_ends.specs.Octets.{behind};
+ghost use Rattle.savi_ends.specs.Writes.{Extends};
 ghost use Rattle.hist_store.specs.LineTexts.{FitsLine};
 ghost use Rattle.hist_store.specs.JournalTexts.{address_text, journal_text};
+ghost use Rattle.savi_history.specs.Journals.{IsAddress};
 ghost use Rattle.savi_core.specs.Buffers.{Holds};
 ghost use Rattle.savi_core.specs.Written.{with_lines};
 
 use crate::buffer::Buffer;
 use hist_store::{Hist, JOURNAL_LINE_OCTETS, JournalLine, put_end, put_header, put_line};
 use savi_ends::{Put, Sink};
-use savi_kinds::Plan;
+use savi_kinds::{Plan, PrefixPlan};
 
-/// Writes the journal of a plan and of its history, in pieces of at least 64 KiB and the last one.
-/// O(n) in the octets of the journal.
+/// Writes the journal of a plan and of its history, in pieces of at least 64 KiB and the last one. Where a write fails,
+/// a front of the journal was written. O(n) in the octets of the journal.
 pub fn write_journal<K: Sink>(plan: &Plan, hist: &Hist, sink: &mut K, buffer: &mut Buffer) -> Put
     requires ports { length plan.now.ports ≤ 16 }
     requires prefixes { length plan.now.prefixes ≤ 32 }
     requires rows { All FitsLine hist.now.rows }
     requires empty { buffer.old.octets ≡ [] }
     requires room { 3401 ≤ buffer.old.room }
-    ensures done { result ≡ Put.Done → K.written sink.new ≡ behind (K.written sink.old) (journal_text address_text plan.now hist.now.rows) }
+    ensures extends { Extends result (K.written sink.old) (K.written sink.new) (journal_text address_text plan.now hist.now.rows) }
     ensures later { K.faults sink.old ≤ K.faults sink.new }
     ensures cause { result ≡ Put.Failed → Rose (K.faults sink.old) (K.faults sink.new) }
 {
@@ -56,6 +59,7 @@ fn write_lines<K: Sink>(
     requires room { 3401 ≤ buffer.old.room }
     ensures room { buffer.new.room ≡ buffer.old.room }
     ensures done { result ≡ Put.Done → Holds (K.written sink.old) (K.written sink.new) buffer.new.octets (with_lines buffer.old.octets hist.now.rows (length hist.now.rows)) }
+    ensures part { result ≡ Put.Failed → Extends Put.Failed (K.written sink.old) (K.written sink.new) (with_lines buffer.old.octets hist.now.rows (length hist.now.rows)) }
     ensures later { K.faults sink.old ≤ K.faults sink.new }
     ensures cause { result ≡ Put.Failed → Rose (K.faults sink.old) (K.faults sink.new) }
 {
@@ -76,6 +80,7 @@ fn write_line<K: Sink>(sink: &mut K, buffer: &mut Buffer, line: &[u8]) -> Put
     requires room { 3401 ≤ buffer.old.room }
     ensures room { buffer.new.room ≡ buffer.old.room }
     ensures done { result ≡ Put.Done → Holds (K.written sink.old) (K.written sink.new) buffer.new.octets (buffer.old.octets ++ (line.now ++ 10 ∷ [])) }
+    ensures part { result ≡ Put.Failed → Extends Put.Failed (K.written sink.old) (K.written sink.new) (buffer.old.octets ++ (line.now ++ 10 ∷ [])) }
     ensures later { K.faults sink.old ≤ K.faults sink.new }
     ensures cause { result ≡ Put.Failed → Rose (K.faults sink.old) (K.faults sink.new) }
 {
@@ -84,3 +89,17 @@ fn write_line<K: Sink>(sink: &mut K, buffer: &mut Buffer, line: &[u8]) -> Put
         Put::Failed => Put::Failed,
     }
 }
+
+/// Does nothing: states for a proof what the type of the addresses of prefixes says. O(prefixes), at most 32.
+pub fn know_addresses(prefixes: &[PrefixPlan])
+    ensures { All (λ net. IsAddress (first_of net)) (nets_of prefixes.now) }
+{
+    for plan in prefixes {
+        know_address(plan.prefix.net.0);
+    }
+}
+
+// Does nothing: states for a proof what the type of an address says.
+fn know_address(address: u128)
+    ensures { IsAddress address }
+{}

@@ -4,7 +4,7 @@ ghost use Rattle.std.specs.Prelude.{◌≡◌, ◌≤◌, ◌<◌, true, false, 
 ghost use Rattle.savi_kinds.specs.Ports.{number_of};
 ghost use Rattle.savi_ends.specs.declared.sink.Put.{Put};
 ghost use Rattle.savi_ends.specs.Faults.{Rose};
-ghost use Rattle.savi_ends.specs.Octets.{behind};
+ghost use Rattle.savi_ends.specs.Writes.{Extends};
 ghost use Rattle.hist_store.specs.JournalTexts.{address_text, journal_text};
 ghost use Rattle.savi_history.specs.Summary.{summary_of};
 ghost use Rattle.savi_history.specs.Endings.{has_malformed, has_failed, has_full};
@@ -20,6 +20,7 @@ ghost use Rattle.savi_history.specs.Outs.{outs};
 ghost use Rattle.savi_history.specs.Events.{the_vlan};
 ghost use Rattle.savi_history.specs.Events as events;
 ghost use Rattle.savi_history.specs.Legal.{IsLegal};
+ghost use Rattle.savi_history.specs.Journals.{IsJournalOf};
 ghost use Rattle.savi_core.specs.Machines.{HasShortQueues, started, row_at, queue_at, number_at};
 ghost use Rattle.savi_core.specs.Counts.{open_below};
 ghost use Rattle.frame_class.specs.Reading.{IsClassOf};
@@ -31,7 +32,7 @@ use crate::end_lines::{EndLine, put_entry_line};
 use crate::ending::{has_failed, has_full, has_malformed};
 use crate::entries::{moment_at, plain_entry, verdict_by};
 use crate::event::{Event, Stepped};
-use crate::journal::write_journal;
+use crate::journal::{know_addresses, write_journal};
 use crate::outs::ports_of;
 use crate::passes::{pass_of, place_of, role_of};
 use crate::queues::{end_queue, make_queues, move_frames, queue_frame};
@@ -197,15 +198,20 @@ impl Core {
         left
     }
 
-    /// Writes the journal (`docs/FORMATS.md`): in pieces of the buffer's size, and the last one. O(n) in the octets of the
-    /// journal.
+    /// Writes the journal (`docs/FORMATS.md`): in pieces of the buffer's size, and the last one. Where a write fails, a
+    /// front of the journal was written. The journal tells this plan, but for its names, and this history, and no other
+    /// (`savi_history::journals_tell_one_history`). O(n) in the octets of the journal.
     pub fn write_journal<K: Sink>(&self, sink: &mut K, buffer: &mut Buffer) -> Put
         requires empty { buffer.old.octets ≡ [] }
         requires room { 3401 ≤ buffer.old.room }
-        ensures done { result ≡ Put.Done → K.written sink.new ≡ behind (K.written sink.old) (journal_text address_text self.now.plan (reverse self.now.past)) }
+        ensures extends { Extends result (K.written sink.old) (K.written sink.new) (journal_text address_text self.now.plan (reverse self.now.past)) }
+        ensures tells { IsJournalOf address_text self.now.plan self.now.past (journal_text address_text self.now.plan (reverse self.now.past)) }
         ensures later { K.faults sink.old ≤ K.faults sink.new }
         ensures cause { result ≡ Put.Failed → Rose (K.faults sink.old) (K.faults sink.new) }
     {
+        // The two calls state what the law on journals asks of addresses and octets.
+        know_addresses(self.plan.prefixes.as_slice());
+        let _entries = self.hist.len();
         write_journal(&self.plan, &self.hist, sink, buffer)
     }
 

@@ -1,5 +1,5 @@
 -- The text of addresses that is written tells them apart, and has no octet that parts the fields of a line.
-use Rattle.std.proofs.Common.{◌≡◌, ◌≢◌, ℕ, ◌<◌, inl, inr, List, ap, sym, subst, arith, All}
+use Rattle.std.proofs.Common.{◌≡◌, ◌≢◌, ℕ, ◌<◌, inl, inr, List, ap, sym, subst, arith}
 use Rattle.std.proofs.lemmas.List.Elements.{All-weaker}
 use Rattle.savi_kinds.specs.declared.address.Addr.{Addr}
 use Rattle.savi_kinds.specs.AddrText.{IsAddrText, IsAddrChar}

@@ -19,3 +19,4 @@ pub mod AddressTexts
 pub mod Finished
 pub mod Legality
 pub mod PortInputs
+pub mod Failing

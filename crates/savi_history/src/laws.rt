@@ -1,8 +1,9 @@
 //! The laws on whole histories. Each function does nothing: its contract is the law.
 
-ghost use Rattle.std.specs.Prelude.{◌≡◌, ℕ, List, length, All};
+ghost use Rattle.std.specs.Prelude.{◌≡◌, ◌<◌, ℕ, true, List, length, slice_index, Some, All};
 ghost use Rattle.savi_kinds.specs.Arrivals.{Input};
-ghost use Rattle.savi_kinds.specs.ValidPlan.{IsValidPlan};
+ghost use Rattle.savi_kinds.specs.ValidPlan.{IsValidPlan, numbers_of};
+ghost use Rattle.savi_kinds.specs.declared.entry.How.TheVariants as hows;
 ghost use Rattle.savi_kinds.specs.declared.plan.Plan.{Plan};
 ghost use Rattle.hist_store.specs.JournalTexts.{address_text};
 ghost use Rattle.hist_store.specs.Rows.{Row};
@@ -11,6 +12,8 @@ ghost use Rattle.savi_history.specs.Legal.{IsLegal, IsFinished};
 ghost use Rattle.savi_history.specs.Readable.{IsInput};
 ghost use Rattle.savi_history.specs.Replay.{replayed};
 ghost use Rattle.savi_history.specs.Adverts.{IsGuarded};
+ghost use Rattle.savi_history.specs.Endings.{has_failed};
+ghost use Rattle.savi_history.specs.PortInputs.{input_end};
 ghost use Rattle.savi_history.specs.Journals.{IsAddressText, IsJournalOfOne};
 
 /// In a legal history no router advertisement that the header chain shows, and no first fragment whose chain is cut,
@@ -27,6 +30,11 @@ pub fn replays_end_every_pass()
 /// The history of a replay of what readers may give, one input for each port of the plan, is legal.
 pub fn replays_are_legal()
     ensures { (plan : Plan) (inputs : List Input) → IsValidPlan plan → length inputs ≡ length plan.ports → All IsInput inputs → IsLegal plan empty (replayed plan empty inputs) }
+{}
+
+/// A read that failed in a replay is one of the input of a port of the plan, and the history says so of that port.
+pub fn failed_reads_are_of_ports()
+    ensures { (plan : Plan) (base : Base) (inputs : List Input) → has_failed (replayed plan base inputs) ≡ true → (k : ℕ) × (k < length plan.ports) × (input_end (slice_index (numbers_of plan.ports) k) (replayed plan base inputs) ≡ Some hows.Failed) }
 {}
 
 /// A journal tells the history: no text is the journal of two legal histories from the start of a switch, nor of two

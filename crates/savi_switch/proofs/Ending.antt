@@ -1,28 +1,22 @@
 -- How a run with a plan ends, by whether its session had memory.
-use Rattle.std.proofs.Common.{◌≡◌, ◌≢◌, ℕ, ◌<◌, ◌≤◌, ◌+◌, ◌&&◌, not, if◌then◌else◌, ◌⊎◌, inl, inr, List, [], ◌∷◌, ◌++◌, Bool, true, false, length, map, get_or, refl, sym, ap, ◌∙◌, subst, arith, Option, Some, None, IfNone, IfSome}
-use Rattle.std.proofs.lemmas.List.{get_or-map, get_or_at, length-map, length-append, map-append}
-use Rattle.std.specs.Prelude.{Any}
+use Rattle.std.proofs.Common.{◌≡◌, ◌≢◌, ℕ, ◌<◌, ◌&&◌, not, if◌then◌else◌, ◌⊎◌, inl, inr, List, [], ◌∷◌, Bool, true, false, length, get_or, refl, sym, ap, ◌∙◌, subst, arith, Option, Some, None, IfNone, IfSome}
 use Rattle.savi_kinds.specs.declared.plan.Plan.{Plan}
-use Rattle.savi_kinds.specs.declared.plan.PortPlan.{PortPlan}
 use Rattle.savi_kinds.specs.declared.port.Port.{Port}
-use Rattle.savi_kinds.specs.Ports.{number_of}
-use Rattle.savi_kinds.specs.ValidPlan.{numbers_of}
-use Rattle.savi_ends.specs.declared.world.Std.TheVariants.{Out, Err}
-use Rattle.savi_ends.specs.declared.world.Ends.{Ends}
+use Rattle.savi_ends.specs.declared.world.Std.TheVariants.{Out}
 use Rattle.savi_ends.specs.Places.{Place, Book, OthersStay}
 use Rattle.hist_store.specs.Rows.{Row}
 use Rattle.savi_history.specs.Endings.{has_failed, has_malformed, has_full}
 use Rattle.savi_core.specs.Machines.{Machine}
 use Rattle.port_worker.specs.declared.port_ends.PortEnds.{PortEnds}
 use Rattle.port_worker.specs.Replays.{ports_held}
-use Rattle.switch_ports.specs.Openings.{ports_of, IsNextBehind}
-use Rattle.run_config.specs.Lines.{memory_line, port_name}
+use Rattle.switch_ports.specs.Openings.{ports_of}
+use Rattle.run_config.specs.Lines.{memory_line}
 use Rattle.savi_switch.specs.declared.session.Outcome.{Outcome}
-use Rattle.savi_switch.specs.Causes.{IsBack, IsOneOf, IsUnused, quiet_statuses, session_statuses, statuses, unused_statuses}
-use Rattle.savi_switch.specs.Session.{IsSessionOf, ToldBy, status_of}
+use Rattle.savi_switch.specs.Causes.{IsBack, IsOffPlanSame, IsOneOf, IsUnused, KeepsAll, quiet_statuses, session_statuses, statuses, unused_statuses}
+use Rattle.savi_switch.specs.Session.{IsSessionOf}
 use Rattle.savi_switch.specs.Played.{IsPlayed}
 use Rattle.savi_switch.specs.Concluded.{IsConcluded}
-use Rattle.savi_switch.proofs.Through.{Handled, HandledOne, session_of, ports_back, output_back, cases_name, back_from}
+use Rattle.savi_switch.proofs.Through.{Handled, HandledOne, session_of, ports_back, output_back, cases_name, back_from, keeps_all_of, off_plan, unused_ends, unused_sink}
 
 -- what the clauses say where all was opened
 pub record Closes {S K C : Type 0} (left : S → Option (List ℕ)) (written : K → Option (List ℕ)) (source_faults : S → ℕ) (sink_faults : K → ℕ) (plan : Plan) (Says : List ℕ → Type 0) (old new : Book S K C) (status : ℕ) : Type 0 where
@@ -31,6 +25,7 @@ pub record Closes {S K C : Type 0} (left : S → Option (List ℕ)) (written : K
   pub config : status ≢ 3
   pub opening : status ≢ 7
   pub memory : status ≡ 1 → Says memory_line
+  pub unplayed : status ≡ 1 → KeepsAll left written plan old new × IsOffPlanSame plan old new
   pub session : IsOneOf session_statuses status → IsSessionOf left written source_faults sink_faults plan Says old new status
   pub quiet : IsOneOf quiet_statuses status → new.std Out ≡ old.std Out
   pub unused : IsOneOf unused_statuses status → IsUnused old new
@@ -62,9 +57,9 @@ concluded_is written faults Says past journal_written (Some port) old new status
 )
 
 closes_none : {S K C : Type 0} (left : S → Option (List ℕ)) (written : K → Option (List ℕ)) (source_faults : S → ℕ) (sink_faults : K → ℕ) (plan : Plan) (Says : List ℕ → Type 0) (held back : List (PortEnds S K C)) (sink sink' : K) (old new : Book S K C) (status : ℕ)
-    → Handled held back old.ports new.ports → HandledOne plan.journal sink sink' old.outputs new.outputs → back ≡ held → sink' ≡ sink → status ≡ 1 → Says memory_line → new.std Out ≡ old.std Out
+    → ports_held held ≡ ports_of plan.ports → Handled held back old.ports new.ports → HandledOne plan.journal sink sink' old.outputs new.outputs → back ≡ held → sink' ≡ sink → status ≡ 1 → Says memory_line → new.std Out ≡ old.std Out
     → Closes left written source_faults sink_faults plan Says old new status
-closes_none {S} {K} {C} left written source_faults sink_faults plan Says held back sink sink' old new status handled journal same same' one told quiet =
+closes_none {S} {K} {C} left written source_faults sink_faults plan Says held back sink sink' old new status ports handled journal same same' one told quiet =
     let handled' : Handled held held old.ports new.ports = subst (λ (l : List (PortEnds S K C)). Handled held l old.ports new.ports) same handled in
     let journal' : HandledOne plan.journal sink sink old.outputs new.outputs = subst (λ (k : K). HandledOne plan.journal sink k old.outputs new.outputs) same' journal in
     record {
@@ -73,6 +68,7 @@ closes_none {S} {K} {C} left written source_faults sink_faults plan Says held ba
       config = λ three. absurd (omega (arith, one, three));
       opening = λ seven. absurd (omega (arith, one, seven));
       memory = λ e. told;
+      unplayed = λ e. (keeps_all_of left written plan held held sink sink old new ports handled' journal' (λ k d inside. unused_ends left written (get_or held k d).ends) (unused_sink written sink), off_plan plan held held sink sink old new ports handled' journal');
       session = λ is_one. absurd (let t : false ≡ true = subst (λ (n : ℕ). IsOneOf session_statuses n) one is_one in cc);
       quiet = λ one_of. quiet;
       unused = λ one_of. record { ports = ports_back held old.ports new.ports handled'; outputs = output_back plan.journal sink old.outputs new.outputs journal' };
@@ -94,6 +90,7 @@ closes_some {S} {K} {C} left written source_faults sink_faults plan Says held ba
       config = never_is 3 refl;
       opening = never_is 7 refl;
       memory = λ one. absurd (never_is 1 refl one);
+      unplayed = λ one. absurd (never_is 1 refl one);
       session = λ one_of. session_of left written source_faults sink_faults plan Says held back sink sink' core journal_written unwritten old new status ports handled journal played concluded;
       quiet = λ one_of. absurd (never one_of);
       unused = λ one_of. absurd (never one_of);
@@ -106,7 +103,7 @@ pub closes : {S K C : Type 0} (left : S → Option (List ℕ)) (written : K → 
     → IfNone outcome ((status ≡ 1) × (Says memory_line × (new ≡ mid))) → IfSome outcome (λ o. IsConcluded written sink_faults Says o.core.past o.journal_written o.unwritten (mid.std Out) (new.std Out) status)
     → Closes left written source_faults sink_faults plan Says old new status
 closes {S} {K} {C} left written source_faults sink_faults plan Says held back sink sink' None old mid new status ports handled journal same none played unserved concluded =
-    closes_none left written source_faults sink_faults plan Says held back sink sink' old new status handled journal none.0 none.1 unserved.0 unserved.1.0
+    closes_none left written source_faults sink_faults plan Says held back sink sink' old new status ports handled journal none.0 none.1 unserved.0 unserved.1.0
     (ap (λ (b : Book S K C). b.std Out) unserved.1.1 ∙ ap (λ (p : _ → Place K). p Out) same)
 closes {S} {K} {C} left written source_faults sink_faults plan Says held back sink sink' (Some o) old mid new status ports handled journal same none played unserved concluded =
     closes_some left written source_faults sink_faults plan Says held back sink sink' o.core o.journal_written o.unwritten old new status ports handled journal played

@@ -5,6 +5,7 @@ pub mod Through
 pub mod Handling
 pub mod Recast
 pub mod Running
+pub mod Faulting
 pub mod Refusing
 pub mod Ending
 pub mod Forms

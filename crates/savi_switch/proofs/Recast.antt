@@ -1,5 +1,5 @@
 -- What was done between two books was done between two others that differ only where it doesn't look.
-use Rattle.std.proofs.Common.{◌≡◌, ℕ, ◌<◌, ◌⊎◌, inl, inr, List, Bool, true, false, refl, sym, ap, ◌∙◌, subst, arith, Option, Some, None, IfSome, IsSomeAnd}
+use Rattle.std.proofs.Common.{◌≡◌, ℕ, ◌⊎◌, inl, inr, List, Bool, refl, sym, ap, ◌∙◌, arith, Option, Some, None, IfSome, IsSomeAnd}
 use Rattle.savi_kinds.specs.declared.plan.Plan.{Plan}
 use Rattle.savi_ends.specs.declared.world.Std.{Std}
 use Rattle.savi_ends.specs.declared.world.Std.TheVariants.{Out, Err}
@@ -10,7 +10,7 @@ use Rattle.savi_ends.specs.Octets.{behind}
 use Rattle.savi_ends.specs.Writes.{Extends}
 use Rattle.savi_ends.specs.Places.{Place, Book}
 use Rattle.savi_history.specs.Summary.{summary_of, summary_text}
-use Rattle.savi_switch.specs.Session.{IsReplayOf, IsSession, IsSessionOf, IsStopped, Told, ToldBy, Took, TookOrPart}
+use Rattle.savi_switch.specs.Session.{IsReplayOf, IsSessionOf, IsStopped, Told, ToldBy, TookOrPart}
 
 -- a line was told, or its write failed
 pub told_by : {K : Type 0} (faults : K → ℕ) (written : K → Option (List ℕ)) (put : Put) (old new : K) (line : List ℕ) → Extends put (written old) (written new) line → (put ≡ Failed → Rose (faults old) (faults new)) → ToldBy faults written old new line
@@ -47,6 +47,8 @@ moved_did left written source_faults sink_faults plan Says Says' old new f f' i 
   journal_written = r.journal_written;
   summary_written = r.summary_written;
   journal = r.journal;
+  tells = r.tells;
+  alone = r.alone;
   summary = moved_summary sink_faults written r.summary_written (old.std Out) (new.std Out) (s Out) (s' Out) (summary_text (summary_of r.past)) same same' r.summary;
   errors = says _ r.errors;
   cause = r.cause;

@@ -1,5 +1,5 @@
 -- From the ends that were opened and the ends that were kept to what stands when a run is over.
-use Rattle.std.proofs.Common.{◌≡◌, ◌≢◌, ℕ, ◌+◌, ◌<◌, ◌≤◌, length-append, ◌⊎◌, inl, inr, zero, suc, List, [], ◌∷◌, ◌++◌, Bool, true, false, length, map, get_or, refl, sym, ap, ◌∙◌, subst, arith, Option, Some, None, IfSome, IsSome, IsSomeAnd}
+use Rattle.std.proofs.Common.{◌≡◌, ◌≢◌, ℕ, ◌+◌, ◌<◌, length-append, ◌⊎◌, inl, inr, suc, List, [], ◌∷◌, ◌++◌, Bool, true, false, length, map, get_or, refl, sym, ap, ◌∙◌, subst, arith, Option, Some, None, IfSome, IsSome, IsSomeAnd, append-nil}
 use Rattle.std.proofs.lemmas.List.{get_or-map, get_or_default, get_or-append-add, get_or_append_left, length-map, map-append}
 use Rattle.std.proofs.lemmas.List.Kept.{AllPairs-from_increasing}
 use Rattle.std.specs.List.Sorted.{IsStrictlyIncreasing}
@@ -16,9 +16,9 @@ use Rattle.savi_kinds.specs.declared.port.Port.{Port}
 use Rattle.savi_kinds.specs.declared.entry.How.TheVariants as hows
 use Rattle.savi_kinds.specs.Ports.{number_of}
 use Rattle.savi_kinds.specs.ValidPlan.{numbers_of}
-use Rattle.savi_ends.specs.declared.world.Std.TheVariants.{Out, Err}
+use Rattle.savi_ends.specs.declared.world.Std.TheVariants.{Out}
 use Rattle.savi_ends.specs.declared.world.Ends.{Ends}
-use Rattle.savi_ends.specs.Octets.{behind}
+use Rattle.savi_ends.specs.Octets.{behind, in_front}
 use Rattle.savi_ends.specs.Places.{Place, Book, OthersStay}
 use Rattle.hist_store.specs.Rows.{Row}
 use Rattle.hist_store.specs.JournalTexts.{journal_text, address_text}
@@ -26,15 +26,17 @@ use Rattle.savi_history.specs.Bases.{empty}
 use Rattle.savi_history.specs.PortInputs.{arrived, input_end}
 use Rattle.savi_history.specs.Fits.{Fits}
 use Rattle.savi_history.proofs.Guarded.{guarded}
+use Rattle.savi_history.proofs.AddressTexts.{written-IsAddressText}
+use Rattle.savi_history.proofs.OneHistory.{journal_tells}
 use Rattle.savi_core.specs.Machines.{Machine}
 use Rattle.port_worker.specs.declared.port_ends.PortEnds.{PortEnds}
 use Rattle.port_worker.specs.Replays.{ports_held, IsInputOf}
+use Rattle.port_worker.specs.SentFrames.{TookMore}
 use Rattle.switch_ports.specs.Openings.{ports_of, IsNextBehind, IsOff}
-use Rattle.run_config.specs.Configs.{HasFault}
 use Rattle.run_config.specs.Lines.{cannot_open_line, journal_word, port_name}
-use Rattle.savi_switch.specs.Causes.{IsBack, IsUnused, KeepsAll, IsOffPlanSame, HasReadFault, HasWriteFault}
-use Rattle.savi_switch.specs.Session.{EachPort, FitsPort, GaveAt, IsJournalUnopened, IsPortUnopened, IsReplayOf, IsSessionOf, IsStopped, Took, TookOrFailed, TookSent, sent_capture}
-use Rattle.savi_switch.specs.Played.{EndedBy, GaveInput, IsPlayed, IsPlayedOut, IsServed, IsWritten, JournalWas}
+use Rattle.savi_switch.specs.Causes.{IsBack, IsUsed, Keeps, KeepsAll, IsOffPlanSame, HasReadFault, HasWriteFault}
+use Rattle.savi_switch.specs.Session.{EachPort, FitsPort, GaveAt, IsJournalUnopened, IsPortUnopened, IsReplayOf, IsSessionOf, IsStopped, TookOrPart, TookSent, sent_capture}
+use Rattle.savi_switch.specs.Played.{IsPlayed, IsPlayedOut, IsServed, JournalWas}
 use Rattle.savi_switch.specs.Concluded.{IsBroken, IsConcluded, IsSummed}
 
 -- The ends that were told of some ports were opened and are kept by now, each at its own place; those of other ports stay.
@@ -150,15 +152,31 @@ other_back {K} name sink old new other handled (inr apart) = subst (λ (x : Plac
 pub output_back : {K : Type 0} (name : List ℕ) (sink : K) (old new : List ℕ → Place K) → HandledOne name sink sink old new → (other : List ℕ) → IsBack (old other) (new other)
 output_back name sink old new handled other = other_back name sink old new other handled (cases_name other name)
 
-pub keeps_all_of : {S K C : Type 0} (plan : Plan) (held back : List (PortEnds S K C)) (sink sink' : K) (old new : Book S K C) → ports_held held ≡ ports_of plan.ports → Handled held back old.ports new.ports → HandledOne plan.journal sink sink' old.outputs new.outputs → KeepsAll plan new
-keeps_all_of {S} {K} {C} plan held back sink sink' old new ports handled journal = record {
+-- ends of which nothing was used
+front_nothing : (o : Option (List ℕ)) → o ≡ in_front [] o
+front_nothing None = refl
+front_nothing (Some octets) = refl
+
+behind_nothing : (o : Option (List ℕ)) → o ≡ behind o []
+behind_nothing None = refl
+behind_nothing (Some octets) = ap (λ (l : List ℕ). Some l) (sym (append-nil octets))
+
+pub unused_ends : {S K C : Type 0} (left : S → Option (List ℕ)) (written : K → Option (List ℕ)) (ends : Ends S K C) → IsUsed left written ends ends
+unused_ends left written ends = record { gave = ([], front_nothing (left ends.source)); took = ([], behind_nothing (written ends.sink)); clock = refl }
+
+pub unused_sink : {K : Type 0} (written : K → Option (List ℕ)) (sink : K) → TookMore (written sink) (written sink)
+unused_sink written sink = ([], behind_nothing (written sink))
+
+pub keeps_all_of : {S K C : Type 0} (left : S → Option (List ℕ)) (written : K → Option (List ℕ)) (plan : Plan) (held back : List (PortEnds S K C)) (sink sink' : K) (old new : Book S K C) → ports_held held ≡ ports_of plan.ports → Handled held back old.ports new.ports → HandledOne plan.journal sink sink' old.outputs new.outputs
+    → ((k : ℕ) (d : PortEnds S K C) → k < length held → IsUsed left written (get_or held k d).ends (get_or back k d).ends) → TookMore (written sink) (written sink') → KeepsAll left written plan old new
+keeps_all_of {S} {K} {C} left written plan held back sink sink' old new ports handled journal used took = record {
   ports = λ k d inside.
       let sizes = length-map plan.ports (λ (p : PortPlan). number_of p.number) in
       let size = size_of held plan.ports ports in
       let e = element held k (omega (arith, sizes, size, inside)) in
-      subst (λ (n : ℕ). IsSome (new.ports n).stands) (sym (get_or_default (numbers_of plan.ports) k d 0 inside ∙ number_at held plan.ports k e ports (omega (arith, sizes, size, inside))))
-      (is_some_of _ _ (kept_at held back old.ports new.ports k e handled (omega (arith, sizes, size, inside))));
-  journal = is_some_of _ _ journal.kept;
+      subst (λ (n : ℕ). Keeps (IsUsed left written) (old.ports n) (new.ports n)) (sym (get_or_default (numbers_of plan.ports) k d 0 inside ∙ number_at held plan.ports k e ports (omega (arith, sizes, size, inside))))
+      (kept_at_port (λ n. IsUsed left written) held back old.ports new.ports k e handled (omega (arith, sizes, size, inside)) (used k e (omega (arith, sizes, size, inside))));
+  journal = kept_told (λ told kept. TookMore (written told) (written kept)) _ _ sink sink' journal.told journal.kept took;
 }
 
 pub off_plan : {S K C : Type 0} (plan : Plan) (held back : List (PortEnds S K C)) (sink sink' : K) (old new : Book S K C) → ports_held held ≡ ports_of plan.ports → Handled held back old.ports new.ports → HandledOne plan.journal sink sink' old.outputs new.outputs → IsOffPlanSame plan old new
@@ -170,13 +188,18 @@ off_plan {S} {K} {C} plan held back sink sink' old new ports handled journal = r
   outputs = journal.others;
 }
 
-journal_was : {K : Type 0} (faults : K → ℕ) (written : K → Option (List ℕ)) (journal_written : Bool) (name : List ℕ) (sink sink' : K) (old new : List ℕ → Place K) (text : List ℕ) → HandledOne name sink sink' old new → JournalWas faults written journal_written sink sink' text → TookOrFailed faults written journal_written (old name) (new name) text
+journal_was : {K : Type 0} (faults : K → ℕ) (written : K → Option (List ℕ)) (journal_written : Bool) (name : List ℕ) (sink sink' : K) (old new : List ℕ → Place K) (text : List ℕ) → HandledOne name sink sink' old new → JournalWas faults written journal_written sink sink' text → TookOrPart faults written journal_written (old name) (new name) text
 journal_was faults written true name sink sink' old new text handled was = kept_told (λ told kept. written kept ≡ behind (written told) text) _ _ sink sink' handled.told handled.kept was
-journal_was faults written false name sink sink' old new text handled was = some_and (λ x. 0 < faults x) _ sink' handled.kept was
+journal_was faults written false name sink sink' old new text handled (fault, part) =
+    (some_and (λ x. 0 < faults x) _ sink' handled.kept fault, (part.0, part.1, kept_told (λ told kept. written kept ≡ behind (written told) part.0) _ _ sink sink' handled.told handled.kept part.2))
 
-broken_at : {S K C : Type 0} (source_faults : S → ℕ) (plan : Plan) (past : List Row) (held back : List (PortEnds S K C)) (old new : Book S K C) → ports_held held ≡ ports_of plan.ports → Handled held back old.ports new.ports
-    → ((k : ℕ) (d : PortEnds S K C) → k < length held → IsServed source_faults past (get_or held k d) (get_or back k d)) → EachPort plan (λ k n. input_end n past ≡ Some hows.Failed → HasReadFault source_faults new n)
-broken_at {S} {K} {C} source_faults plan past held back old new ports handled served =
+journal_took : {K : Type 0} (faults : K → ℕ) (written : K → Option (List ℕ)) (journal_written : Bool) (sink sink' : K) (text : List ℕ) → JournalWas faults written journal_written sink sink' text → TookMore (written sink) (written sink')
+journal_took faults written true sink sink' text was = (text, was)
+journal_took faults written false sink sink' text (fault, part) = (part.0, part.2)
+
+broken_at : {S K C : Type 0} (left : S → Option (List ℕ)) (written : K → Option (List ℕ)) (source_faults : S → ℕ) (plan : Plan) (past : List Row) (held back : List (PortEnds S K C)) (old new : Book S K C) → ports_held held ≡ ports_of plan.ports → Handled held back old.ports new.ports
+    → ((k : ℕ) (d : PortEnds S K C) → k < length held → IsServed left written source_faults past (get_or held k d) (get_or back k d)) → EachPort plan (λ k n. input_end n past ≡ Some hows.Failed → HasReadFault source_faults new n)
+broken_at {S} {K} {C} left written source_faults plan past held back old new ports handled served =
     each_port (λ k n. input_end n past ≡ Some hows.Failed → HasReadFault source_faults new n) plan held ports (λ k d inside failed.
     some_and (λ (e : Ends S K C). 0 < source_faults e.source) _ _ (kept_at held back old.ports new.ports k d handled inside) ((served k d inside).broken failed))
 
@@ -201,12 +224,14 @@ replay_of {S} {K} {C} left written source_faults sink_faults plan Says held back
       fits = each_port (λ k n. FitsPort left old new n past) plan held ports (λ k d inside.
           at_port (λ n told kept. Fits (Arrive classic_kinds) (left told.source) (left kept.source) (arrived n past) (input_end n past))
           held back old.ports new.ports k d handled inside (out.each.each k d inside).fits);
-      broken = broken_at source_faults plan past held back old new ports handled played.served.each;
+      broken = broken_at left written source_faults plan past held back old new ports handled played.served.each;
       took = each_port (λ k n. TookSent written old new n past) plan held ports (λ k d inside.
           kept_at_port (λ n told kept. written kept.sink ≡ behind (written told.sink) (sent_capture n past)) held back old.ports new.ports k d handled inside (out.each.each k d inside).took);
       journal_written = journal_written;
       summary_written = summed.summary_written;
       journal = journal_was sink_faults written journal_written plan.journal sink sink' old.outputs new.outputs (journal_text address_text plan (reverse past)) journal played.ended.1;
+      tells = played.ended.2;
+      alone = λ plan' past' other. journal_tells address_text written-IsAddressText plan plan' past past' _ played.ended.2 other;
       summary = summed.summary;
       errors = summed.errors;
       cause = summed.cause;
@@ -228,7 +253,7 @@ stopped_at {S} {K} {C} left written source_faults sink_faults plan Says held bac
       legal = played.legal;
       port = number_of port;
       fault = subst (λ (n : ℕ). HasWriteFault sink_faults new n) here.0 (some_and (λ (e : Ends S K C). 0 < sink_faults e.sink) _ _ (handled.kept k d played.ended.2) here.1);
-      broken = broken_at source_faults plan core.past held back old new ports handled played.served.each;
+      broken = broken_at left written source_faults plan core.past held back old new ports handled played.served.each;
       errors = broken.errors;
       journal = output_back plan.journal sink old.outputs new.outputs journal' plan.journal;
       out = broken.out;
@@ -242,12 +267,14 @@ pub session_of : {S K C : Type 0} (left : S → Option (List ℕ)) (written : K 
     → IsConcluded written sink_faults Says core.past journal_written unwritten (old.std Out) (new.std Out) status
     → IsSessionOf left written source_faults sink_faults plan Says old new status
 session_of {S} {K} {C} left written source_faults sink_faults plan Says held back sink sink' core journal_written None old new status ports handled journal played concluded = record {
-  kept = keeps_all_of plan held back sink sink' old new ports handled journal;
+  kept = keeps_all_of left written plan held back sink sink' old new ports handled journal (λ k d inside. (played.served.each k d inside).used)
+      (journal_took sink_faults written journal_written sink sink' (journal_text address_text plan (reverse core.past)) played.ended.1);
   elsewhere = off_plan plan held back sink sink' old new ports handled journal;
   did = inl (replay_of left written source_faults sink_faults plan Says held back sink sink' core journal_written old new status ports handled journal played concluded);
 }
 session_of {S} {K} {C} left written source_faults sink_faults plan Says held back sink sink' core journal_written (Some port) old new status ports handled journal played concluded = record {
-  kept = keeps_all_of plan held back sink sink' old new ports handled journal;
+  kept = keeps_all_of left written plan held back sink sink' old new ports handled journal (λ k d inside. (played.served.each k d inside).used)
+      (subst (λ (x : K). TookMore (written sink) (written x)) (sym played.ended.0) (unused_sink written sink));
   elsewhere = off_plan plan held back sink sink' old new ports handled journal;
   did = inr (stopped_at left written source_faults sink_faults plan Says held back sink sink' core journal_written port old new status ports handled journal played concluded);
 }
@@ -285,6 +312,15 @@ later_same {S} {K} {C} held back old new numbers rest rising all handled = λ j 
     let below = AllPairs-from_increasing numbers rising k (length before + j) d (omega (arith, size, within)) (omega (arith, sizes, inside)) in
     omega (arith, here, there, below, same))
 
+-- a port off the plan is none of those that were opened
+off_held : {S K C : Type 0} (held : List (PortEnds S K C)) (numbers rest : List ℕ) (n : ℕ) → numbers ≡ map number_of (ports_held held) ++ rest → All (λ m. m ≢ n) numbers → IsOff held n
+off_held {S} {K} {C} held numbers rest n all away = λ k d inside same.
+    let before = map number_of (ports_held held) in
+    let size = held_size held in
+    let sizes = ap length all ∙ length-append before rest in
+    let there = ap (λ (l : List ℕ). get_or l k 0) all ∙ get_or_append_left before rest 0 k (omega (arith, size, inside)) ∙ held_number held k 0 d inside in
+    away k 0 (omega (arith, size, sizes, inside)) (there ∙ same)
+
 -- an opening of a port failed, and what was open is kept
 pub port_unopened : {S K C : Type 0} (plan : Plan) (Says : List ℕ → Type 0) (held : List (PortEnds S K C)) (port : Port) (old new : Book S K C) → IsStrictlyIncreasing (numbers_of plan.ports) → IsNextBehind port (ports_held held) (ports_of plan.ports)
     → Handled held held old.ports new.ports → new.outputs ≡ old.outputs → Says (cannot_open_line (port_name (number_of port))) → IsPortUnopened plan Says old new
@@ -298,6 +334,10 @@ port_unopened {S} {K} {C} plan Says held port old new rising (later, all) handle
       kept = held_kept held held old.ports new.ports handled;
       same = later_same held held old.ports new.ports (numbers_of plan.ports) (number_of port ∷ map number_of later) rising whole handled;
       outputs = outputs;
+      elsewhere = record {
+        ports = λ n away. handled.others n (off_held held (numbers_of plan.ports) (number_of port ∷ map number_of later) n whole away);
+        outputs = λ other apart. ap (λ (o : List ℕ → Place K). o other) outputs;
+      };
       errors = told;
     }
 
@@ -307,5 +347,9 @@ pub journal_unopened : {S K C : Type 0} (plan : Plan) (Says : List ℕ → Type 
 journal_unopened {S} {K} {C} plan Says held old new ports handled outputs told = record {
   kept = subst (λ (l : List ℕ). All (λ n. IsSome (new.ports n).stands) l) (sym (numbers_are plan.ports ∙ ap (map number_of) (sym ports))) (held_kept held held old.ports new.ports handled);
   outputs = outputs;
+  elsewhere = record {
+    ports = λ n away. handled.others n (off_held held (numbers_of plan.ports) [] n (numbers_are plan.ports ∙ ap (map number_of) (sym ports) ∙ sym (append-nil (map number_of (ports_held held)))) away);
+    outputs = λ other apart. outputs other;
+  };
   errors = told;
 }

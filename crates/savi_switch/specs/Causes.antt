@@ -1,11 +1,14 @@
 -- When each status comes.
-use Rattle.std.specs.Prelude.{◌≡◌, ◌<◌, ◌==◌, ◌≢◌, ℕ, true, List, [], ◌∷◌, IfSome, IsSome, IsSomeAnd, All}
+use Rattle.std.specs.Prelude.{◌≡◌, ◌==◌, ◌≢◌, ◌⊎◌, ℕ, true, List, [], ◌∷◌, Option, IfSome, IsSomeAnd, All}
 use Rattle.std.specs.List.{list_any}
 use Rattle.savi_kinds.specs.declared.plan.Plan.{Plan}
 use Rattle.savi_kinds.specs.ValidPlan.{numbers_of}
-use Rattle.savi_ends.specs.declared.world.Std.TheVariants.{Out, Err}
+use Rattle.savi_ends.specs.declared.world.Std.TheVariants.{Out}
+use Rattle.savi_ends.specs.declared.world.Ends.{Ends}
+use Rattle.savi_ends.specs.Octets.{Takes}
 use Rattle.savi_ends.specs.Places.{Place, Book, OthersStay}
 use Rattle.run_config.specs.Configs.{HasFault}
+use Rattle.port_worker.specs.SentFrames.{TookMore}
 
 -- a read of the source of this port has failed
 abbrev pub HasReadFault : {S K C : Type 0} → (S → ℕ) → Book S K C → ℕ → Type 0
@@ -14,6 +17,15 @@ HasReadFault faults book port = HasFault (λ ends. faults ends.source) (book.por
 -- a write of the sink of this port has failed
 abbrev pub HasWriteFault : {S K C : Type 0} → (K → ℕ) → Book S K C → ℕ → Type 0
 HasWriteFault faults book port = HasFault (λ ends. faults ends.sink) (book.ports port)
+
+-- a read has failed: of the configuration, or of the source of a port
+abbrev pub HasSomeReadFault : {S K C : Type 0} → (S → ℕ) → List ℕ → Book S K C → Type 0
+HasSomeReadFault faults file book = HasFault faults (book.inputs file) ⊎ ((port : ℕ) × HasReadFault faults book port)
+
+-- a write has failed: of the sink of a port, of an output by name, or of standard output
+abbrev pub HasSomeWriteFault : {S K C : Type 0} → (K → ℕ) → Book S K C → Type 0
+HasSomeWriteFault faults book =
+    ((port : ℕ) × HasWriteFault faults book port) ⊎ (((name : List ℕ) × HasFault faults (book.outputs name)) ⊎ HasFault faults (book.std Out))
 
 -- the number is one of these
 abbrev pub IsOneOf : List ℕ → ℕ → Type 0
@@ -35,10 +47,21 @@ unused_statuses = 1 ∷ 2 ∷ 3 ∷ 7 ∷ []
 abbrev pub statuses : List ℕ
 statuses = 0 ∷ 1 ∷ 2 ∷ 3 ∷ 4 ∷ 5 ∷ 6 ∷ 7 ∷ 8 ∷ []
 
--- each port of the plan and the journal have a kept end
-pub record KeepsAll {S K C : Type 0} (plan : Plan) (book : Book S K C) : Type 0 where
-  pub ports : All (λ port. IsSome (book.ports port).stands) (numbers_of plan.ports)
-  pub journal : IsSome (book.outputs plan.journal).stands
+-- The ends of a port as they were and as they are: the source gave up octets from its front, the sink took octets behind
+-- what it held, and the clock wasn't read.
+pub record IsUsed {S K C : Type 0} (left : S → Option (List ℕ)) (written : K → Option (List ℕ)) (told kept : Ends S K C) : Type 0 where
+  pub gave : (octets : List ℕ) × Takes (left told.source) (left kept.source) octets
+  pub took : TookMore (written told.sink) (written kept.sink)
+  pub clock : kept.clock ≡ told.clock
+
+-- an end is kept in a place, and this holds of it and of the one that was told there
+abbrev pub Keeps : {X : Type 0} → (X → X → Type 0) → Place X → Place X → Type 0
+Keeps Holds old new = IsSomeAnd new.stands (λ kept. IfSome old.stands (λ told. Holds told kept))
+
+-- The ends of each port of the plan are kept, read and written in their own place, and so is the journal's sink.
+pub record KeepsAll {S K C : Type 0} (left : S → Option (List ℕ)) (written : K → Option (List ℕ)) (plan : Plan) (old new : Book S K C) : Type 0 where
+  pub ports : All (λ port. Keeps (IsUsed left written) (old.ports port) (new.ports port)) (numbers_of plan.ports)
+  pub journal : Keeps (λ told kept. TookMore (written told) (written kept)) (old.outputs plan.journal) (new.outputs plan.journal)
 
 -- the end that is told in this place is kept there as it was
 abbrev pub IsBack : {X : Type 0} → Place X → Place X → Type 0

@@ -1,13 +1,11 @@
 -- What the end of a run writes, and its status.
-use Rattle.std.specs.Prelude.{◌≡◌, ℕ, ◌&&◌, Bool, if◌then◌else◌, List, ◌++◌, Option, None, Some}
+use Rattle.std.specs.Prelude.{◌≡◌, ℕ, ◌&&◌, Bool, List, ◌++◌, Option, None, Some}
 use Rattle.savi_kinds.specs.declared.port.Port.{Port}
 use Rattle.savi_kinds.specs.Ports.{number_of}
 use Rattle.savi_ends.specs.Places.{Place}
 use Rattle.hist_store.specs.Rows.{Row}
-use Rattle.savi_history.specs.Endings.{has_failed}
 use Rattle.savi_history.specs.EndLines.{end_lines}
 use Rattle.savi_history.specs.Summary.{summary_of, summary_text}
-use Rattle.savi_conf.specs.declared.fault.ConfFault.{ConfFault}
 use Rattle.run_config.specs.declared.refusal.Refusal.{Refusal}
 use Rattle.run_config.specs.declared.refusal.Refusal.TheVariants as refusal
 use Rattle.run_config.specs.Lines.{cannot_open_line, config_line, memory_line, read_failed_line, write_failed_line, port_name}

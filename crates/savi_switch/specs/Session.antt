@@ -22,9 +22,10 @@ use Rattle.savi_history.specs.Fits.{Fits}
 use Rattle.savi_history.specs.Endings.{has_failed, has_malformed, has_full}
 use Rattle.savi_history.specs.EndLines.{end_lines}
 use Rattle.savi_history.specs.Adverts.{IsGuarded}
+use Rattle.savi_history.specs.Journals.{IsJournalOf, IsSame}
 use Rattle.savi_history.specs.Summary.{summary_of, summary_text}
 use Rattle.savi_conf.specs.declared.fault.ConfFault.{ConfFault}
-use Rattle.run_config.specs.Configs.{HasFault, IsConfigured, IsRefused}
+use Rattle.run_config.specs.Configs.{HasFault, IsConfigured, IsReadFrom, IsRefused}
 use Rattle.run_config.specs.Lines.{cannot_open_line, config_line, write_failed_line, read_failed_line, port_name, journal_word}
 use Rattle.port_worker.specs.Replays.{IsInputOf}
 use Rattle.savi_switch.specs.Causes.{HasReadFault, HasWriteFault, IsBack, IsUnserved, KeepsAll, IsOffPlanSame}
@@ -38,11 +39,6 @@ status_of written past =
 -- A sink that is kept took these octets behind those that it held when it was told.
 abbrev pub Took : {X : Type 0} → (X → Option (List ℕ)) → Place X → Place X → List ℕ → Type 0
 Took written old new octets = IsSomeAnd new.stands (λ kept. IfSome old.stands (λ told. written kept ≡ behind (written told) octets))
-
--- it took them, or a write of it failed
-abbrev pub TookOrFailed : {X : Type 0} → (X → ℕ) → (X → Option (List ℕ)) → Bool → Place X → Place X → List ℕ → Type 0
-TookOrFailed faults written true old new octets = Took written old new octets
-TookOrFailed faults written false old new octets = HasFault faults new
 
 -- it took them, or a front of them before a write of it failed
 abbrev pub TookOrPart : {X : Type 0} → (X → ℕ) → (X → Option (List ℕ)) → Bool → Place X → Place X → List ℕ → Type 0
@@ -89,8 +85,9 @@ journal_lines false = write_failed_line journal_word
 
 -- A replay with this plan: one history, legal and finished, is the replay of what the sources of the plan's ports gave,
 -- and fits that, port by port; an input ended by a failed read only where its own source has a fault; each port's sink
--- took what the history sends there, the journal its text, standard output its summary and standard error its bad ends;
--- and no advertisement and no hidden fragment passed a host's port. `Says` is what standard error was told.
+-- took what the history sends there; the journal took its text, which is that of no other legal history, and standard output
+-- its summary, or a front of it where a write failed; standard error was told its bad ends, in what `Says`; the status is
+-- that of the history; and no advertisement and no hidden fragment passed the port of a host or a server.
 pub record IsReplayOf {S K C : Type 0} (left : S → Option (List ℕ)) (written : K → Option (List ℕ)) (source_faults : S → ℕ) (sink_faults : K → ℕ) (plan : Plan) (Says : List ℕ → Type 0) (old new : Book S K C) (status : ℕ) : Type 0 where
   pub inputs : List Input
   pub past : List Row
@@ -105,7 +102,9 @@ pub record IsReplayOf {S K C : Type 0} (left : S → Option (List ℕ)) (written
   -- whether the journal was written, and the summary
   pub journal_written : Bool
   pub summary_written : Bool
-  pub journal : TookOrFailed sink_faults written journal_written (old.outputs plan.journal) (new.outputs plan.journal) (journal_text address_text plan (reverse past))
+  pub journal : TookOrPart sink_faults written journal_written (old.outputs plan.journal) (new.outputs plan.journal) (journal_text address_text plan (reverse past))
+  pub tells : IsJournalOf address_text plan past (journal_text address_text plan (reverse past))
+  pub alone : (plan' : Plan) (past' : List Row) → IsJournalOf address_text plan' past' (journal_text address_text plan (reverse past)) → IsSame plan past plan' past'
   pub summary : TookOrPart sink_faults written summary_written (old.std Out) (new.std Out) (summary_text (summary_of past))
   pub errors : Says (end_lines past ++ journal_lines journal_written)
   pub cause : status ≡ status_of (journal_written && summary_written) past
@@ -123,23 +122,25 @@ pub record IsStopped {S K C : Type 0} (source_faults : S → ℕ) (sink_faults :
   pub out : new.std Out ≡ old.std Out
   pub cause : status ≡ 6
 
--- A session of this plan: its ends are kept, no other port or output was touched, and it went to its end or was stopped.
+-- A session of this plan: its ends are kept, each in its own place, no other port or output was touched, and it went to its
+-- end or was stopped.
 pub record IsSessionOf {S K C : Type 0} (left : S → Option (List ℕ)) (written : K → Option (List ℕ)) (source_faults : S → ℕ) (sink_faults : K → ℕ) (plan : Plan) (Says : List ℕ → Type 0) (old new : Book S K C) (status : ℕ) : Type 0 where
-  pub kept : KeepsAll plan new
+  pub kept : KeepsAll left written plan old new
   pub elsewhere : IsOffPlanSame plan old new
   pub did : IsReplayOf left written source_faults sink_faults plan Says old new status ⊎ IsStopped source_faults sink_faults plan Says old new status
 
--- A session of the plan that the configuration says, whose input is kept.
+-- A session of the plan that the configuration says. The configuration's input is kept, and a front of it was read.
 pub record IsSession {S K C : Type 0} (left : S → Option (List ℕ)) (written : K → Option (List ℕ)) (source_faults : S → ℕ) (sink_faults : K → ℕ) (file : List ℕ) (Says : List ℕ → Type 0) (old new : Book S K C) (status : ℕ) : Type 0 where
   pub plan : Plan
   pub configured : IsConfigured left (old.inputs file) plan
-  pub kept : IsSome (new.inputs file).stands
+  pub input : IsReadFrom left (old.inputs file) (new.inputs file)
   pub session : IsSessionOf left written source_faults sink_faults plan Says old new status
 
 -- A read of the configuration failed, before anything else was opened.
-pub record IsUnread {S K C : Type 0} (source_faults : S → ℕ) (file : List ℕ) (Says : List ℕ → Type 0) (old new : Book S K C) (status : ℕ) : Type 0 where
+pub record IsUnread {S K C : Type 0} (left : S → Option (List ℕ)) (source_faults : S → ℕ) (file : List ℕ) (Says : List ℕ → Type 0) (old new : Book S K C) (status : ℕ) : Type 0 where
   pub status_is : status ≡ 5
   pub fault : HasFault source_faults (new.inputs file)
+  pub input : IsReadFrom left (old.inputs file) (new.inputs file)
   pub errors : Says (read_failed_line file)
   pub out : new.std Out ≡ old.std Out
   pub unserved : IsUnserved old new
@@ -159,12 +160,14 @@ pub record IsPortUnopened {S K C : Type 0} (plan : Plan) (Says : List ℕ → Ty
   pub kept : All (λ n. IsSome (new.ports n).stands) before
   pub same : All (λ n. new.ports n ≡ old.ports n) (port ∷ later)
   pub outputs : new.outputs ≡ old.outputs
+  pub elsewhere : IsOffPlanSame plan old new
   pub errors : Says (cannot_open_line (port_name port))
 
 -- The journal could not be opened: the ends of each port are kept, and each output is as it was.
 pub record IsJournalUnopened {S K C : Type 0} (plan : Plan) (Says : List ℕ → Type 0) (old new : Book S K C) : Type 0 where
   pub kept : All (λ n. IsSome (new.ports n).stands) (numbers_of plan.ports)
   pub outputs : (name : List ℕ) → new.outputs name ≡ old.outputs name
+  pub elsewhere : IsOffPlanSame plan old new
   pub errors : Says (cannot_open_line journal_word)
 
 abbrev pub IsPartUnopened : {S K C : Type 0} → Plan → (List ℕ → Type 0) → Book S K C → Book S K C → Type 0
@@ -174,7 +177,7 @@ IsPartUnopened plan Says old new = IsPortUnopened plan Says old new ⊎ IsJourna
 pub record IsPlanUnopened {S K C : Type 0} (left : S → Option (List ℕ)) (file : List ℕ) (Says : List ℕ → Type 0) (old new : Book S K C) : Type 0 where
   pub plan : Plan
   pub configured : IsConfigured left (old.inputs file) plan
-  pub kept : IsSome (new.inputs file).stands
+  pub input : IsReadFrom left (old.inputs file) (new.inputs file)
   pub part : IsPartUnopened plan Says old new
 
 -- Something that was to be opened could not be.
@@ -185,6 +188,12 @@ IsUnopened left file Says old new = IsFileUnopened file Says old new ⊎ IsPlanU
 pub record IsNoPlan {S K C : Type 0} (left : S → Option (List ℕ)) (file : List ℕ) (Says : List ℕ → Type 0) (old new : Book S K C) : Type 0 where
   pub fault : ConfFault
   pub refused : IsRefused left (old.inputs file) fault
-  pub kept : IsSome (new.inputs file).stands
+  pub input : IsReadFrom left (old.inputs file) (new.inputs file)
   pub unserved : IsUnserved old new
   pub errors : Says (config_line fault)
+
+-- There was no memory. The input of the configuration is as it was, or kept, and a front of it was read. Either no port and
+-- no output was touched, or the ends of all ports of the plan and the journal are kept, and no others were touched.
+pub record IsUnplayed {S K C : Type 0} (left : S → Option (List ℕ)) (written : K → Option (List ℕ)) (file : List ℕ) (old new : Book S K C) : Type 0 where
+  pub input : (new.inputs file ≡ old.inputs file) ⊎ IsReadFrom left (old.inputs file) (new.inputs file)
+  pub ends : IsUnserved old new ⊎ ((plan : Plan) × IsConfigured left (old.inputs file) plan × KeepsAll left written plan old new × IsOffPlanSame plan old new)

@@ -6,6 +6,7 @@ ghost use Rattle.port_worker.specs.Replays.{IsUnread, ports_held, ports_planned}
 ghost use Rattle.run_config.specs.Configs.{IsBuilt};
 ghost use Rattle.switch_ports.specs.Openings.{IsReadAnew};
 ghost use Rattle.hist_store.specs.JournalTexts.{address_text, journal_text};
+ghost use Rattle.savi_history.specs.Journals.{IsJournalOf};
 ghost use Rattle.savi_switch.specs.Played.{IsPlayed, IsSamePort, JournalWas};
 
 use port_worker::{Closed, Ready, replay_session};
@@ -95,6 +96,7 @@ fn finish_journal<K: Sink>(
     requires empty { buffer.old.octets ≡ [] }
     requires room { 3401 ≤ buffer.old.room }
     ensures was { IfNone unwritten (JournalWas K.faults K.written result journal.old journal.new (journal_text address_text core.now.plan (reverse core.now.past))) }
+    ensures tells { IfNone unwritten (IsJournalOf address_text core.now.plan core.now.past (journal_text address_text core.now.plan (reverse core.now.past))) }
     ensures same { IfSome unwritten (λ port. journal.new ≡ journal.old) }
 {
     if unwritten.is_some() {

@@ -4,7 +4,7 @@ use Rattle.savi_kinds.specs.Ports.{number_of}
 use Rattle.savi_ends.specs.Faults.{Rose}
 use Rattle.port_worker.specs.declared.port_ends.PortEnds.{PortEnds}
 use Rattle.port_worker.specs.SentFrames.{OnlySink, IsBegun}
-use Rattle.port_worker.proofs.SoFar.{pairs_more, pairs_stop, element_first}
+use Rattle.port_worker.proofs.SoFar.{pairs_more, pairs_so_far, pairs_stop, element_first}
 use Rattle.port_worker.proofs.Draining.{only_itself}
 use Rattle.port_worker.proofs.outputs.begin_all.Goals as goal
 
@@ -12,22 +12,22 @@ pub returns-in-Failed-clause-begun : goal.returns-in-Failed-clause-begun
 returns-in-Failed-clause-begun g c =
     let P = PortEnds g.row.S.Denot g.row.K.Denot g.row.C.Denot in
     let so_far = c.loop-place.invariant in
-    let R : P → P → Type 0 = λ old new. OnlySink g.K.Sink.faults old new × IsBegun g.K.Sink.written old new in
-    let Q : P → P → Type 0 = λ old new. OnlySink g.K.Sink.faults old new in
+    let R : P → P → Type 0 = λ old new. OnlySink g.K.Sink.written g.K.Sink.faults old new × IsBegun g.K.Sink.written old new in
+    let Q : P → P → Type 0 = λ old new. OnlySink g.K.Sink.written g.K.Sink.faults old new in
     let old = c.args.ports.now in
     let new = c.loop-place.ports in
     let place = c.loop-place.place in
     let inside : place < length new = omega arith in
     let y = c.begin.new.self in
     pairs_stop R Q place old new y so_far (λ a b r. r.0) inside
-    (subst (λ (p : P). OnlySink g.K.Sink.faults p y) (element_first R place old new c.index-ports-place.result y so_far inside) c.begin.ensures.only)
-    (λ k d within. only_itself g.K.Sink.faults (get_or old k d))
+    (subst (λ (p : P). OnlySink g.K.Sink.written g.K.Sink.faults p y) (element_first R place old new c.index-ports-place.result y so_far inside) c.begin.ensures.only)
+    (λ k d within. only_itself g.K.Sink.written g.K.Sink.faults (get_or old k d))
 
 pub returns-in-Failed-clause-failed : goal.returns-in-Failed-clause-failed
 returns-in-Failed-clause-failed g c =
     let P = PortEnds g.row.S.Denot g.row.K.Denot g.row.C.Denot in
     let so_far = c.loop-place.invariant in
-    let R : P → P → Type 0 = λ old new. OnlySink g.K.Sink.faults old new × IsBegun g.K.Sink.written old new in
+    let R : P → P → Type 0 = λ old new. OnlySink g.K.Sink.written g.K.Sink.faults old new × IsBegun g.K.Sink.written old new in
     let old = c.args.ports.now in
     let new = c.loop-place.ports in
     let place = c.loop-place.place in
@@ -42,11 +42,19 @@ returns-in-Failed-clause-failed g c =
       ),
     )
 
+pub returns-clause-begun : goal.returns-clause-begun
+returns-clause-begun g c =
+    let P = PortEnds g.row.S.Denot g.row.K.Denot g.row.C.Denot in
+    let R : P → P → Type 0 = λ old new. OnlySink g.K.Sink.written g.K.Sink.faults old new × IsBegun g.K.Sink.written old new in
+    let Q : P → P → Type 0 = λ old new. OnlySink g.K.Sink.written g.K.Sink.faults old new in
+    let old = c.args.ports.now in
+    pairs_so_far R Q c.loop-place.place old c.loop-place.ports c.loop-place.invariant (λ a b r. r.0) (λ k d within. only_itself g.K.Sink.written g.K.Sink.faults (get_or old k d))
+
 pub loop-place-preserved : goal.loop-place-preserved
 loop-place-preserved g c =
     let P = PortEnds g.row.S.Denot g.row.K.Denot g.row.C.Denot in
     let so_far = c.loop-place.invariant in
-    let R : P → P → Type 0 = λ old new. OnlySink g.K.Sink.faults old new × IsBegun g.K.Sink.written old new in
+    let R : P → P → Type 0 = λ old new. OnlySink g.K.Sink.written g.K.Sink.faults old new × IsBegun g.K.Sink.written old new in
     let old = c.args.ports.now in
     let new = c.loop-place.ports in
     let place = c.loop-place.place in

@@ -15,21 +15,21 @@ pub returns-in-Failed-clause-sinks : goal.returns-in-Failed-clause-sinks
 returns-in-Failed-clause-sinks g c =
     let P = PortEnds g.row.S.Denot g.row.K.Denot g.row.C.Denot in
     let sinks = c.loop-place.invariant.sinks in
-    let R : P → P → Type 0 = λ old new. OnlySink g.K.Sink.faults old new in
+    let R : P → P → Type 0 = λ old new. OnlySink g.K.Sink.written g.K.Sink.faults old new in
     let old = c.args.ports.now in
     let new = c.loop-place.ports in
     let place = c.loop-place.place in
     let inside : place < length new = omega arith in
     let y = c.write.new.self in
     pairs_stop R R place old new y sinks (λ a b r. r) inside
-    (subst (λ (p : P). OnlySink g.K.Sink.faults p y) (element_first R place old new c.index-ports-place-in-loop-place.result y sinks inside) c.write.ensures.only)
-    (λ k d within. only_itself g.K.Sink.faults (get_or old k d))
+    (subst (λ (p : P). OnlySink g.K.Sink.written g.K.Sink.faults p y) (element_first R place old new c.index-ports-place-in-loop-place.result y sinks inside) c.write.ensures.only)
+    (λ k d within. only_itself g.K.Sink.written g.K.Sink.faults (get_or old k d))
 
 pub returns-in-Failed-clause-failed : goal.returns-in-Failed-clause-failed
 returns-in-Failed-clause-failed g c =
     let P = PortEnds g.row.S.Denot g.row.K.Denot g.row.C.Denot in
     let sinks = c.loop-place.invariant.sinks in
-    let R : P → P → Type 0 = λ old new. OnlySink g.K.Sink.faults old new in
+    let R : P → P → Type 0 = λ old new. OnlySink g.K.Sink.written g.K.Sink.faults old new in
     let old = c.args.ports.now in
     let new = c.loop-place.ports in
     let place = c.loop-place.place in
@@ -48,7 +48,7 @@ pub loop-place-preserved : goal.loop-place-preserved
 loop-place-preserved g c =
     let P = PortEnds g.row.S.Denot g.row.K.Denot g.row.C.Denot in
     let so_far = c.loop-place.invariant in
-    let R : P → P → Type 0 = λ old new. OnlySink g.K.Sink.faults old new in
+    let R : P → P → Type 0 = λ old new. OnlySink g.K.Sink.written g.K.Sink.faults old new in
     let old = c.args.ports.now in
     let new = c.loop-place.ports in
     let place = c.loop-place.place in
@@ -63,5 +63,5 @@ loop-place-preserved g c =
     let once = drains_once now x.port next c.drain-stepped.new.into c.drain-stepped.result few c.drain-stepped.ensures in
     drain_step g.K.Sink.written g.K.Sink.faults place c.args.core.now now next old new x y c.drain-stepped.new.into
     c.requires.ports c.requires.rising so_far inside (get_or_default new place _ _ inside) once
-    (subst (λ (p : P). OnlySink g.K.Sink.faults p y) same c.write.ensures.only)
+    (subst (λ (p : P). OnlySink g.K.Sink.written g.K.Sink.faults p y) same c.write.ensures.only)
     (c.in-Done.ensures.done refl ∙ ap (λ (p : P). behind (g.K.Sink.written p.ends.sink) (records_of c.drain-stepped.new.into)) same)

@@ -16,7 +16,7 @@ drain_all-requires-clause-ports g c =
     let old = c.args.ports.now in
     let place = c.args.place in
     let x = get_or old place c.index-ports-place.result in
-    held_set g.K.Sink.faults old place x c.enter.new.self c.requires.inside (λ d. get_or_default old place _ _ c.requires.inside) c.enter.ensures.rest
+    held_set g.K.Sink.written g.K.Sink.faults old place x c.enter.new.self c.requires.inside (λ d. get_or_default old place _ _ c.requires.inside) c.enter.ensures.rest
     ∙ c.requires.planned ∙ ap ports_planned (sym c.enter.ensures.plan)
 
 pub drain_all-requires-clause-open : goal.drain_all-requires-clause-open
@@ -26,7 +26,7 @@ drain_all-requires-clause-open g c k d within =
     let x = get_or old place c.index-ports-place.result in
     let entered = entered_is c.args.core.now.plan x.port (turn_of x) c.args.core.now.past c.enter.new.core.past c.enter.result c.if-enter.true (c.requires.known c.index-ports-place.result) c.enter.ensures.entered in
     open_then c.args.core.now.plan c.enter.new.core.plan c.args.core.now.past c.enter.new.core.past _ _
-    c.enter.ensures.plan entered.ended_same (sym (port_kept g.K.Sink.faults old place x c.enter.new.self c.requires.inside (λ e. get_or_default old place _ _ c.requires.inside) c.enter.ensures.rest k d))
+    c.enter.ensures.plan entered.ended_same (sym (port_kept g.K.Sink.written g.K.Sink.faults old place x c.enter.new.self c.requires.inside (λ e. get_or_default old place _ _ c.requires.inside) c.enter.ensures.rest k d))
     (c.requires.outputs k d (omega (arith, length-set old place c.enter.new.self)))
 
 pub drain_all-requires-clause-few : goal.drain_all-requires-clause-few
@@ -36,7 +36,7 @@ drain_all-requires-clause-few g c k d within =
     let x = get_or old place c.index-ports-place.result in
     let entered = entered_is c.args.core.now.plan x.port (turn_of x) c.args.core.now.past c.enter.new.core.past c.enter.result c.if-enter.true (c.requires.known c.index-ports-place.result) c.enter.ensures.entered in
     subst (λ (p : Port). length (queue empty (number_of p) c.enter.new.core.past) ≤ 256)
-    (sym (port_kept g.K.Sink.faults old place x c.enter.new.self c.requires.inside (λ e. get_or_default old place _ _ c.requires.inside) c.enter.ensures.rest k d))
+    (sym (port_kept g.K.Sink.written g.K.Sink.faults old place x c.enter.new.self c.requires.inside (λ e. get_or_default old place _ _ c.requires.inside) c.enter.ensures.rest k d))
     (entered.few (number_of (get_or old k d).port) (c.requires.quiet k d (omega (arith, length-set old place c.enter.new.self))))
 
 pub returns-then-enter-clause-stepped : goal.returns-then-enter-clause-stepped
@@ -44,7 +44,7 @@ returns-then-enter-clause-stepped g c =
     let old = c.args.ports.now in
     let place = c.args.place in
     let x = get_or old place c.index-ports-place.result in
-    stepped_then g.K.Sink.faults old place x c.enter.new.self c.requires.inside (λ d. get_or_default old place _ _ c.requires.inside) c.enter.ensures.rest c.drain_all.new.ports c.drain_all.ensures.sinks
+    stepped_then g.K.Sink.written g.K.Sink.faults old place x c.enter.new.self c.requires.inside (λ d. get_or_default old place _ _ c.requires.inside) c.enter.ensures.rest c.drain_all.new.ports c.drain_all.ensures.sinks
 
 pub returns-then-enter-clause-ahead : goal.returns-then-enter-clause-ahead
 returns-then-enter-clause-ahead g c none d =
@@ -64,8 +64,8 @@ returns-then-enter-clause-sent g c none =
     let place = c.args.place in
     let x = get_or old place c.index-ports-place.result in
     let entered = entered_is c.args.core.now.plan x.port (turn_of x) c.args.core.now.past c.enter.new.core.past c.enter.result c.if-enter.true (c.requires.known c.index-ports-place.result) c.enter.ensures.entered in
-    sent_then g.K.Sink.faults old place x c.enter.new.self c.requires.inside (λ d. get_or_default old place _ _ c.requires.inside) c.enter.ensures.rest
-    g.K.Sink.written c.args.core.now.past c.enter.new.core.past c.drain_all.new.core.past c.drain_all.new.ports entered.sent_same (c.drain_all.ensures.sent none)
+    sent_then g.K.Sink.written g.K.Sink.faults old place x c.enter.new.self c.requires.inside (λ d. get_or_default old place _ _ c.requires.inside) c.enter.ensures.rest
+    c.args.core.now.past c.enter.new.core.past c.drain_all.new.core.past c.drain_all.new.ports entered.sent_same (c.drain_all.ensures.sent none)
 
 pub returns-then-enter-clause-failed : goal.returns-then-enter-clause-failed
 returns-then-enter-clause-failed g c =
@@ -73,7 +73,7 @@ returns-then-enter-clause-failed g c =
     let place = c.args.place in
     let x = get_or old place c.index-ports-place.result in
     if_some_rose g.K.Sink.faults c.drain_all.result old (set old place c.enter.new.self) c.drain_all.new.ports
-    (λ port rose. rose_then g.K.Sink.faults old place x c.enter.new.self c.requires.inside (λ d. get_or_default old place _ _ c.requires.inside) c.enter.ensures.rest port c.drain_all.new.ports rose)
+    (λ port rose. rose_then g.K.Sink.written g.K.Sink.faults old place x c.enter.new.self c.requires.inside (λ d. get_or_default old place _ _ c.requires.inside) c.enter.ensures.rest port c.drain_all.new.ports rose)
     c.drain_all.ensures.failed
 
 pub returns-clause-stepped : goal.returns-clause-stepped
@@ -81,7 +81,7 @@ returns-clause-stepped g c =
     let old = c.args.ports.now in
     let place = c.args.place in
     let x = get_or old place c.index-ports-place.result in
-    stepped_only g.K.Sink.faults old place x c.enter.new.self c.requires.inside (λ d. get_or_default old place _ _ c.requires.inside) c.enter.ensures.rest
+    stepped_only g.K.Sink.written g.K.Sink.faults old place x c.enter.new.self c.requires.inside (λ d. get_or_default old place _ _ c.requires.inside) c.enter.ensures.rest
 
 pub returns-clause-ahead : goal.returns-clause-ahead
 returns-clause-ahead g c none d =
@@ -99,5 +99,5 @@ returns-clause-sent g c none =
     let old = c.args.ports.now in
     let place = c.args.place in
     let x = get_or old place c.index-ports-place.result in
-    sent_only g.K.Sink.faults old place x c.enter.new.self c.requires.inside (λ d. get_or_default old place _ _ c.requires.inside) c.enter.ensures.rest
-    g.K.Sink.written c.args.core.now.past c.enter.new.core.past (sent_ended c.args.core.now.plan x.port (turn_of x) c.args.core.now.past c.enter.new.core.past c.enter.result c.if-enter.false (c.requires.known c.index-ports-place.result) c.enter.ensures.entered)
+    sent_only g.K.Sink.written g.K.Sink.faults old place x c.enter.new.self c.requires.inside (λ d. get_or_default old place _ _ c.requires.inside) c.enter.ensures.rest
+    c.args.core.now.past c.enter.new.core.past (sent_ended c.args.core.now.plan x.port (turn_of x) c.args.core.now.past c.enter.new.core.past c.enter.result c.if-enter.false (c.requires.known c.index-ports-place.result) c.enter.ensures.entered)

@@ -6,7 +6,7 @@ use Rattle.hist_store.specs.Rows.{Row}
 use Rattle.savi_history.specs.Bases.{empty}
 use Rattle.savi_history.specs.Passes.{AllEnded, control_pass}
 use Rattle.savi_history.specs.Events.{End}
-use Rattle.savi_history.specs.Legal.{IsOpen}
+use Rattle.savi_history.specs.Legal.{IsOpen, IsFinished}
 use Rattle.savi_history.specs.Picks.{IsPick}
 use Rattle.savi_history.specs.Replay.{with_event, egress_ended, entered}
 use Rattle.savi_history.specs.PortInputs.{input_end}
@@ -20,7 +20,8 @@ use Rattle.port_worker.specs.Replays.{ports_planned}
 use Rattle.port_worker.proofs.Measures.{undone}
 use Rattle.port_worker.proofs.Running.{Running, look_step, look_undone}
 use Rattle.port_worker.proofs.Stepping.{turn_step, fits_step, smaller, turn_known, running_j, inside}
-use Rattle.port_worker.proofs.Starting.{start, looked_later, stepped_later, stepped_source, rose_since, planned_now, sound_now, outputs_now, quiet_now, input_open}
+use Rattle.port_worker.proofs.Later.{begun_later, looked_later, stepped_later}
+use Rattle.port_worker.proofs.Starting.{start, stepped_source, rose_since, planned_now, sound_now, outputs_now, quiet_now, input_open}
 use Rattle.port_worker.proofs.Ending.{inputs_ended, replayed_all, done_at}
 use Rattle.port_worker.proofs.Fitting.{FitsSoFar, fits_started, fits_looked, fits_finished, broken_since}
 use Rattle.port_worker.proofs.Finishing.{did_end}
@@ -44,7 +45,7 @@ turns-init g c =
       runs = subst (λ (l : List Row). Running g.S.Source.left g.K.Sink.written g.S.Source.faults g.K.Sink.faults plan first ports l) (sym past_is)
           (start g.S.Source.left g.K.Sink.written g.S.Source.faults g.K.Sink.faults plan first ports c.requires.planned c.requires.valid.ports c.requires.unread c.begin_all.ensures.begun (c.begin_all.ensures.done none));
       fits = subst (λ (l : List Row). EachPair (FitsSoFar g.S.Source.left g.S.Source.faults l) first ports) (sym past_is)
-          (fits_started g.S.Source.left g.S.Source.faults g.K.Sink.faults plan first ports c.requires.unread c.begin_all.ensures.begun);
+          (fits_started g.S.Source.left g.K.Sink.written g.S.Source.faults g.K.Sink.faults plan first ports c.requires.unread c.begin_all.ensures.begun);
     }
 
 pub finish-requires-clause-planned : goal.finish-requires-clause-planned
@@ -75,9 +76,12 @@ finish-requires-clause-quiet g c =
     let runs = look_step g.S.Source.left g.K.Sink.written g.S.Source.faults g.K.Sink.faults plan first c.turns.ports c.look_all.new.ports c.turns.core.past c.turns.invariant.runs c.look_all.ensures.looked in
     quiet_now g.S.Source.left g.K.Sink.written g.S.Source.faults g.K.Sink.faults plan first c.look_all.new.ports c.requires.planned c.requires.valid.ports c.turns.core.past runs
 
+pub returns-in-Some-clause-later : goal.returns-in-Some-clause-later
+returns-in-Some-clause-later g c = begun_later g.S.Source.left g.K.Sink.written g.S.Source.faults g.K.Sink.faults c.args.ports.now c.begin_all.new.ports c.begin_all.ensures.begun
+
 pub returns-in_default-next_of-clause-later : goal.returns-in_default-next_of-clause-later
 returns-in_default-next_of-clause-later g c =
-    looked_later g.S.Source.left g.S.Source.faults g.K.Sink.faults c.args.ports.now c.turns.ports c.look_all.new.ports c.turns.invariant.runs.later c.look_all.ensures.looked
+    looked_later g.S.Source.left g.K.Sink.written g.S.Source.faults g.K.Sink.faults c.args.ports.now c.turns.ports c.look_all.new.ports c.turns.invariant.runs.later c.look_all.ensures.looked
 
 pub returns-in_default-next_of-clause-finished : goal.returns-in_default-next_of-clause-finished
 returns-in_default-next_of-clause-finished g c answer =
@@ -105,6 +109,9 @@ returns-in_default-next_of-clause-fits g c answer =
     (fits_looked g.S.Source.left g.S.Source.faults past first c.turns.ports ports c.turns.invariant.fits c.look_all.ensures.looked)
     (done_at g.S.Source.left g.K.Sink.written g.S.Source.faults g.K.Sink.faults plan first ports past c.requires.planned runs known none)
     (subst (λ (p : Plan). c.finish.new.core.past ≡ egress_ended p empty p.ports (with_event p empty past (End Ticker hows.End))) c.turns.invariant.same_plan c.finish.ensures.past)
+
+pub returns-in_default-next_of-clause-ended : goal.returns-in_default-next_of-clause-ended
+returns-in_default-next_of-clause-ended g c answer = subst (λ (p : Plan). IsFinished p empty c.finish.new.core.past) c.turns.invariant.same_plan c.finish.ensures.finished
 
 pub advance-requires-clause-planned : goal.advance-requires-clause-planned
 advance-requires-clause-planned g c =
@@ -168,14 +175,14 @@ advance-requires-clause-quiet g c =
 
 pub returns-in-Some-advance-clause-later : goal.returns-in-Some-advance-clause-later
 returns-in-Some-advance-clause-later g c =
-    stepped_later g.S.Source.faults g.K.Sink.faults c.args.ports.now c.look_all.new.ports c.advance.new.ports
-    (looked_later g.S.Source.left g.S.Source.faults g.K.Sink.faults c.args.ports.now c.turns.ports c.look_all.new.ports c.turns.invariant.runs.later c.look_all.ensures.looked)
+    stepped_later g.S.Source.left g.K.Sink.written g.S.Source.faults g.K.Sink.faults c.args.ports.now c.look_all.new.ports c.advance.new.ports
+    (looked_later g.S.Source.left g.K.Sink.written g.S.Source.faults g.K.Sink.faults c.args.ports.now c.turns.ports c.look_all.new.ports c.turns.invariant.runs.later c.look_all.ensures.looked)
     c.advance.ensures.stepped
 
 pub returns-in-Some-advance-clause-cause : goal.returns-in-Some-advance-clause-cause
 returns-in-Some-advance-clause-cause g c =
     let P = PortEnds g.row.S.Denot g.row.K.Denot g.row.C.Denot in
-    let later = looked_later g.S.Source.left g.S.Source.faults g.K.Sink.faults c.args.ports.now c.turns.ports c.look_all.new.ports c.turns.invariant.runs.later c.look_all.ensures.looked in
+    let later = looked_later g.S.Source.left g.K.Sink.written g.S.Source.faults g.K.Sink.faults c.args.ports.now c.turns.ports c.look_all.new.ports c.turns.invariant.runs.later c.look_all.ensures.looked in
     rose_since (λ (p : P). g.K.Sink.faults p.ends.sink) c.in-Some-advance.port c.args.ports.now c.look_all.new.ports c.advance.new.ports later.size (λ k d within. (later.each k d within).sink) c.in-Some-advance.ensures.failed
 
 pub turns-smaller : goal.turns-smaller
@@ -246,5 +253,5 @@ returns-in-Some-advance-clause-broken g c =
     let past = c.turns.core.past in
     broken_since g.S.Source.left g.S.Source.faults first ports c.advance.new.ports past c.advance.new.core.past
     (fits_looked g.S.Source.left g.S.Source.faults past first c.turns.ports ports c.turns.invariant.fits c.look_all.ensures.looked)
-    c.advance.ensures.stepped.size (λ k d within. stepped_source g.S.Source.faults g.K.Sink.faults ports c.advance.new.ports c.advance.ensures.stepped k d within)
+    c.advance.ensures.stepped.size (λ k d within. stepped_source g.K.Sink.written g.S.Source.faults g.K.Sink.faults ports c.advance.new.ports c.advance.ensures.stepped k d within)
     (c.advance.ensures.inputs (subst (λ (o : Option _). IsSome o) (sym c.in-Some-advance.is) refl))

@@ -1,8 +1,9 @@
-use Rattle.std.proofs.Common.{◌<◌, ◌≡◌, ◌∙◌, true, Err, arith}
+use Rattle.std.proofs.Common.{◌<◌, ◌≡◌, ◌∙◌, true, Err, arith, inr}
 use Rattle.savi_conf.specs.Answers.{IsAnswer}
 use Rattle.savi_ends.specs.Places.{IsOnlyOut}
+use Rattle.run_config.specs.Configs.{IsReadFrom}
 use Rattle.savi_ends.proofs.Ready.{opened_alone}
-use Rattle.run_config.proofs.Configured.{of_told, configured, kept_fault}
+use Rattle.run_config.proofs.Configured.{of_told, configured, kept_fault, read_from}
 use Rattle.run_config.proofs.reading.configure.Given as given
 use Rattle.run_config.proofs.reading.configure.Goals as goal
 
@@ -35,3 +36,14 @@ returns-clause-unread g c = λ is.
 
 pub returns-clause-others : goal.returns-clause-others
 returns-clause-others g c = λ other differs. c.keep_input.ensures.others c.args.file.now (only g c) other differs ∙ c.in-Ok-input.ensures.others other differs
+
+read_back : (g : given.Over) (c : goal.After-drop-buffer-2 g) → IsReadFrom {S = g.row.W-S.Denot} g.W.S.Source.left ((g.W.World.book c.args.world.now).inputs c.args.file.now) ((g.W.World.book c.keep_input.new.self).inputs c.args.file.now)
+read_back g c =
+    read_from g.W.S.Source.left ((g.W.World.book c.args.world.now).inputs c.args.file.now) ((g.W.World.book c.keep_input.new.self).inputs c.args.file.now) c.in-Ok-input.source c.read_config-answer.new.source
+    c.in-Ok-input.ensures.opens.told (c.keep_input.ensures.kept c.args.file.now (only g c)) c.read_config-answer.ensures.takes
+
+pub returns-clause-kept : goal.returns-clause-kept
+returns-clause-kept g c = λ opened memory. read_back g c
+
+pub returns-clause-memory : goal.returns-clause-memory
+returns-clause-memory g c = λ is. inr (read_back g c)

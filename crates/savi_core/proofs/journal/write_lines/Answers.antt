@@ -1,8 +1,11 @@
-use Rattle.std.proofs.Common.{◌≡◌, arith, ◌∙◌, refl, ap, subst, ◌++◌, ◌∷◌, [], List, ℕ}
+use Rattle.std.proofs.Common.{◌≡◌, arith, ◌∙◌, refl, ap, subst, ◌++◌, ◌∷◌, [], List, ℕ, ◌+◌, length}
 use Rattle.hist_store.specs.LineTexts.{line_text}
 use Rattle.hist_store.specs.Rows.{Row}
+use Rattle.savi_ends.specs.declared.sink.Put.TheVariants as put
+use Rattle.savi_ends.specs.Writes.{Extends}
 use Rattle.savi_core.specs.Buffers.{Holds}
 use Rattle.savi_core.specs.Written.{with_lines}
+use Rattle.savi_core.proofs.Fronts.{part-held, part-longer, with_lines-front}
 use Rattle.savi_core.proofs.Pieces.{holds-more, with_lines-push, row_here}
 use Rattle.savi_core.proofs.journal.write_lines.Goals as goal
 
@@ -22,3 +25,20 @@ loop-n-preserved g c =
           (ap (λ (l : List ℕ). text ++ (l ++ 10 ∷ [])) line ∙ with_lines-push c.args.buffer.now.octets c.args.hist.now.rows n row (row_here _ c.entry-entry.result c.octets.result.now c.entry-entry.ensures c.octets.ensures))
           more;
     }
+
+pub returns-in-Failed-clause-part : goal.returns-in-Failed-clause-part
+returns-in-Failed-clause-part g c = λ failed.
+    let n : ℕ = c.loop-n.n in
+    let rows : List Row = c.args.hist.now.rows in
+    let row : Row = record { entry = c.entry-entry.result; octets = c.octets.result.now } in
+    let text : List ℕ = with_lines c.args.buffer.now.octets rows n in
+    let line : c.as_slice.result.now ≡ line_text n row = c.as_slice.ensures.value ∙ c.put_line.ensures in
+    let before = g.K.Sink.written c.args.sink.now in
+    let after = g.K.Sink.written c.write_line.new.sink in
+    let part = part-held before (g.K.Sink.written c.loop-n.sink) after c.loop-n.buffer.octets text (c.as_slice.result.now ++ 10 ∷ []) c.loop-n.invariant.holds (c.write_line.ensures.part c.in-Failed.is) in
+    part-longer before after (with_lines c.args.buffer.now.octets rows (n + 1)) (with_lines c.args.buffer.now.octets rows (length rows))
+    (with_lines-front c.args.buffer.now.octets rows (n + 1))
+    (subst
+    (λ (t : List ℕ). Extends put.Failed before after t)
+    (ap (λ (l : List ℕ). text ++ (l ++ 10 ∷ [])) line ∙ with_lines-push c.args.buffer.now.octets rows n row (row_here _ c.entry-entry.result c.octets.result.now c.entry-entry.ensures c.octets.ensures))
+    part)

@@ -7,6 +7,9 @@ returns-in-Some-clause-usage g c = (λ two. absurd (c.replay_file.ensures.usage 
 pub returns-in-Some-clause-untouched : goal.returns-in-Some-clause-untouched
 returns-in-Some-clause-untouched g c = λ two. absurd (c.replay_file.ensures.usage two)
 
+pub returns-in-Some-clause-unplayed : goal.returns-in-Some-clause-unplayed
+returns-in-Some-clause-unplayed g c = λ file form one. rw (same_file _ file _ form c.in-Some.ensures.some) (c.replay_file.ensures.unplayed one)
+
 pub returns-in-Some-clause-config : goal.returns-in-Some-clause-config
 returns-in-Some-clause-config g c = λ file form three. rw (same_file _ file _ form c.in-Some.ensures.some) (c.replay_file.ensures.config three)
 

@@ -1,6 +1,5 @@
 use Rattle.std.proofs.Common.{◌≡◌, ℕ, List, ap, ◌∙◌, inl, inr, refl, subst}
 use Rattle.savi_kinds.specs.declared.plan.PortPlan.{PortPlan}
-use Rattle.savi_kinds.specs.Ports.{number_of}
 use Rattle.savi_ends.specs.declared.world.Std.{Std}
 use Rattle.savi_ends.specs.declared.world.Ends.{Ends}
 use Rattle.savi_ends.specs.Places.{Book, Place, BothFresh}
@@ -133,6 +132,9 @@ returns-clause-unopened g c = λ seven. absurd ((final g c).opening seven)
 
 pub returns-clause-memory : goal.returns-clause-memory
 returns-clause-memory g c = (final g c).memory
+
+pub returns-clause-unplayed : goal.returns-clause-unplayed
+returns-clause-unplayed g c = λ one. inr ((final g c).unplayed one)
 
 pub returns-clause-session : goal.returns-clause-session
 returns-clause-session g c = (final g c).session

@@ -1,6 +1,8 @@
-use Rattle.std.proofs.Common.{ℕ, List}
+use Rattle.std.proofs.Common.{ℕ, List, refl, sym, subst}
+use Rattle.savi_switch.specs.Causes.{IsOneOf, session_statuses}
 use Rattle.savi_switch.specs.Session.{Told, ToldBy}
-use Rattle.savi_switch.proofs.Running.{Ran, ran_told, ran_open, ran_quiet, ran_untouched, ran_unused, ran_elsewhere, ran_config, ran_unopened, ran_session}
+use Rattle.savi_switch.proofs.Running.{Ran, ran_told, ran_open, ran_quiet, ran_untouched, ran_unused, ran_elsewhere, ran_config, ran_unopened, ran_session, ran_unplayed}
+use Rattle.savi_switch.proofs.Faulting.{read_fault_of, write_fault_of}
 use Rattle.savi_switch.proofs.top.run.Given as given
 use Rattle.savi_switch.proofs.top.run.Goals as goal
 
@@ -24,6 +26,9 @@ returns-clause-untouched g c = λ two. (ran_untouched _ _ _ _ _ _ (ran g c) (c.p
 pub returns-clause-memory : goal.returns-clause-memory
 returns-clause-memory g c = λ one. says g c _ (c.perform-status.ensures.memory one)
 
+pub returns-clause-unplayed : goal.returns-clause-unplayed
+returns-clause-unplayed g c = λ file form one. ran_unplayed g.W.S.Source.left g.W.K.Sink.written _ _ _ _ _ _ file (ran g c) (c.perform-status.ensures.unplayed file form one)
+
 pub returns-clause-config : goal.returns-clause-config
 returns-clause-config g c = λ file form three. ran_config g.W.S.Source.left _ _ _ _ _ _ _ _ file (ran g c) (says g c) (c.perform-status.ensures.config file form three)
 
@@ -35,6 +40,18 @@ returns-clause-unopened g c = λ file form seven. ran_unopened g.W.S.Source.left
 
 pub returns-clause-session : goal.returns-clause-session
 returns-clause-session g c = λ file form one_of. ran_session g.W.S.Source.left g.W.K.Sink.written g.W.S.Source.faults g.W.K.Sink.faults _ _ _ _ _ _ _ _ file _ (ran g c) (says g c) (c.perform-status.ensures.session file form one_of)
+
+pub returns-clause-read : goal.returns-clause-read
+returns-clause-read g c = λ file form five.
+    read_fault_of g.W.S.Source.left g.W.K.Sink.written g.W.S.Source.faults g.W.K.Sink.faults _ _ _ file c.perform-status.result five
+    (ran_session g.W.S.Source.left g.W.K.Sink.written g.W.S.Source.faults g.W.K.Sink.faults _ _ _ _ _ _ _ _ file _ (ran g c) (says g c)
+    (c.perform-status.ensures.session file form (subst (λ (n : ℕ). IsOneOf session_statuses n) (sym five) refl)))
+
+pub returns-clause-write : goal.returns-clause-write
+returns-clause-write g c = λ file form six.
+    write_fault_of g.W.S.Source.left g.W.K.Sink.written g.W.S.Source.faults g.W.K.Sink.faults _ _ _ file c.perform-status.result six
+    (ran_session g.W.S.Source.left g.W.K.Sink.written g.W.S.Source.faults g.W.K.Sink.faults _ _ _ _ _ _ _ _ file _ (ran g c) (says g c)
+    (c.perform-status.ensures.session file form (subst (λ (n : ℕ). IsOneOf session_statuses n) (sym six) refl)))
 
 pub returns-clause-quiet : goal.returns-clause-quiet
 returns-clause-quiet g c = λ one_of. ran_quiet _ _ _ _ _ _ (ran g c) (c.perform-status.ensures.quiet one_of)

@@ -60,7 +60,7 @@ invariant_of-self c =
     let may = subst (λ (m : Machine). MayCome m.plan empty m.past event) (sym c.self.view_is) (may_frame c.args.self.now c.args.port c.args.stamp octets c.requires.may (sym c.has_room.ensures ∙ c.if-not-has_room.false) c.ranges.stamp.fits) in
     let e_is = subst (λ (m : Machine). e ≡ entry_of m event) (sym c.self.view_is) c.frame_entry-entry.ensures in
     let queues' = c.queue_frame.new.queues.items in
-    let counted = subst (λ n. AreAfter (after_frame e.outs e.cuts n) (numbers_of c.as_slice.result.now) inside.queues.items queues') c.len-n.ensures c.queue_frame.ensures in
+    let counted = subst (λ n. AreAfter (after_frame e.outs e.cuts n) (numbers_of c.as_slice.result.now) inside.queues.items queues') c.len-n.ensures.len c.queue_frame.ensures in
     let after = subst (λ (ps : List PortPlan). AreAfter (after_frame e.outs e.cuts (length rows)) (numbers_of ps) inside.queues.items queues') c.as_slice.ensures counted in
     rw c.append.ensures (
       remembers_frame inside.plan rows inside.moment inside.closed inside.queues.items c.self.invariant.0 c.args.port c.args.stamp octets e queues' may e_is after,

@@ -10,7 +10,7 @@ pub returns-then-len-self : goal.returns-then-len-self
 returns-then-len-self c =
     let inside = c.self.inside in
     let rows = inside.hist.rows in
-    let few : length (reverse rows) + 4130 < inside.plan.entries = omega (arith, length-reverse rows, c.len.ensures, c.if-len-self.true) in
+    let few : length (reverse rows) + 4130 < inside.plan.entries = omega (arith, length-reverse rows, c.len.ensures.len, c.if-len-self.true) in
     rw (← c.self.view_is) (
     ap (λ n. nat_le (n + 1518) inside.plan.bytes) (c.held.ensures ∙ sym (held-reverse rows))
     ∙ sym (ap (λ b. b && nat_le (held (reverse rows) + 1518) inside.plan.bytes) (lt-ltb (length (reverse rows) + 4130) inside.plan.entries few)))
