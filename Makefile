@@ -5,30 +5,33 @@
 # The proved program. The first build proves each crate, 15 to 30 minutes on 4 cores; a later one takes seconds.
 build: build/savi_switch
 
-build/%: $(wildcard crates/*/src/*.rt crates/*/specs/*.antt crates/*/proofs/*.antt) crates.txt HANDLES
+# What `rt` makes of a crate, in its out/, isn't a source.
+SOURCES := $(shell find crates -name out -prune -o '(' -name '*.rt' -o -name '*.antt' ')' -print)
+build/%: $(SOURCES) crates.txt HANDLES
 	tools/build $*
 
-# Replays of the examples: a host that attacks and its router, and a link of five ports. The first time takes the build, a later
-# one a second.
+# Replays of the examples: a host that attacks and its router, and a link of five ports. The first time takes the build, a
+# later one a second.
 demo: build
 	tools/demo
 
 # Reads a configuration, and prints its plan or what is wrong with it: make plan PLAN=FILE.
 PLAN = examples/shared-network/plan.toml
 plan: build/plan_check
-	build/plan_check $(PLAN)
+	build/plan_check "$(PLAN)"
 
-# The program beside a C program that does the same octet work without judging, with 2 ports and with 5; the reader of captures
-# beside tcpdump; the pass lock beside a mutex; the stations beside a hash map. The first time takes the builds, and then about a minute.
+# The program beside a C program that does the same octet work without judging, with 2 ports and with 5; the reader of
+# captures beside tcpdump; the pass lock beside a mutex; the stations beside a hash map. The first time takes the builds, and
+# then about two minutes.
 bench: build build/capture_bench build/lock_bench build/fdb_bench
 	bench/run build/savi_switch
 	bench/captures.py build/capture_bench
 	bench/lock build/lock_bench
 	bench/stations build/fdb_bench
 
-# The merge gate: 40 to 60 minutes from nothing on 4 cores.
+# The merge gate: `rt ci`, and then the examples. From nothing it takes 40 to 60 minutes on 4 cores.
 check:
-	rt ci
+	.ci/run
 
 clean:
 	rm -rf build
