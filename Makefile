@@ -29,7 +29,7 @@ bench: build build/capture_bench build/lock_bench build/fdb_bench
 	bench/lock build/lock_bench
 	bench/stations build/fdb_bench
 
-# The merge gate: `rt ci`, and then the examples. From nothing it takes 40 to 60 minutes on 4 cores.
+# The merge gate: `rt ci`, and then the examples. From nothing it takes about an hour on 4 cores.
 check:
 	.ci/run
 
