@@ -15,11 +15,11 @@ use Rattle.savi_kinds.specs.Arrivals as arrivals
 use Rattle.hist_store.specs.Rows.{Row}
 use Rattle.savi_history.specs.Bases.{Base}
 use Rattle.savi_history.specs.Limits.{has_room}
-use Rattle.savi_history.specs.Passes.{pass_of, place_of, has_ended}
+use Rattle.savi_history.specs.Passes.{pass_of, place_of, egress_pass, has_ended}
 use Rattle.savi_history.specs.Queues.{queue}
 use Rattle.savi_history.specs.Events.{Drain, End}
 use Rattle.savi_history.specs.Turns.{Turn, Arrives, Ends, who_of, turn_at, turns, port_turns, enter, merge, merged}
-use Rattle.savi_history.specs.Replay.{event_of, with_event, with_drain, drained, entered, after, after_all, egress_ended, control_turns, replayed}
+use Rattle.savi_history.specs.Replay.{Stops, is_stopped, pieces_by, event_of, with_event, with_failure, begun, with_drain, drained, entered, after, after_all, with_end, egress_ended, control_turns, replayed}
 use Rattle.savi_history.specs.PortInputs.{input_end}
 use Rattle.savi_history.specs.Endings.{has_failed, is_failed_reason}
 use Rattle.savi_history.proofs.Ends.{Later, later_event}
@@ -64,7 +64,7 @@ failed_how hows.Failed is = refl
 failed_how hows.Unwritten is = cc
 failed_how (hows.Full len) is = cc
 
-module _ (plan : Plan) (base : Base) where
+module _ (plan : Plan) (base : Base) (stops : Stops) where
   -- what changes neither
   record Keeps (past now : List Row) : Type 0 where
     failed_same : has_failed now ≡ has_failed past
@@ -88,16 +88,31 @@ module _ (plan : Plan) (base : Base) where
     later = λ pass is. second.later pass (first.later pass is);
   }
 
-  keeps_drain : (past : List Row) (port : Port) (count : ℕ) (b : Bool) → Keeps past (if b then past else with_event plan base past (Drain port count))
-  keeps_drain past port count true = record { failed_same = refl; ends_same = λ n. refl; later = λ pass is. is }
-  keeps_drain past port count false = record { failed_same = refl; ends_same = λ n. refl; later = λ pass is. is }
+  keeps_failure_at : (past : List Row) (port : Port) (b : Bool) → Keeps past (if b then with_event plan base past (End (passes.Egress port) hows.Failed) else past)
+  keeps_failure_at past port true = record { failed_same = refl; ends_same = λ n. refl; later = later_event plan base past (End (passes.Egress port) hows.Failed) }
+  keeps_failure_at past port false = record { failed_same = refl; ends_same = λ n. refl; later = λ pass is. is }
 
-  keeps_drained : (ports : List PortPlan) (past : List Row) → Keeps past (drained plan base ports past)
+  keeps_failure : (past : List Row) (port : Port) → Keeps past (with_failure plan base stops port past)
+  keeps_failure past port = keeps_failure_at past port (is_stopped (stops (number_of port)) (pieces_by base (number_of port) past))
+
+  keeps_begun : (ports : List PortPlan) (past : List Row) → Keeps past (begun plan base stops ports past)
+  keeps_begun [] past = record { failed_same = refl; ends_same = λ n. refl; later = λ pass is. is }
+  keeps_begun (q ∷ qs) past =
+      let mid = with_failure plan base stops q.number past in
+      keeps_then past mid (begun plan base stops qs mid) (keeps_failure past q.number) (keeps_begun qs mid)
+
+  keeps_drain : (past : List Row) (port : Port) (count : ℕ) (b : Bool) → Keeps past (if b then past else with_failure plan base stops port (with_event plan base past (Drain port count)))
+  keeps_drain past port count true = record { failed_same = refl; ends_same = λ n. refl; later = λ pass is. is }
+  keeps_drain past port count false =
+      let mid = with_event plan base past (Drain port count) in
+      keeps_then past mid (with_failure plan base stops port mid) (record { failed_same = refl; ends_same = λ n. refl; later = λ pass is. is }) (keeps_failure mid port)
+
+  keeps_drained : (ports : List PortPlan) (past : List Row) → Keeps past (drained plan base stops ports past)
   keeps_drained [] past = record { failed_same = refl; ends_same = λ n. refl; later = λ pass is. is }
   keeps_drained (q ∷ qs) past =
       let count = length (queue base (number_of q.number) past) in
-      let mid = with_drain plan base q.number count past in
-      keeps_then past mid (drained plan base qs mid) (keeps_drain past q.number count (count == 0)) (keeps_drained qs mid)
+      let mid = with_drain plan base stops q.number count past in
+      keeps_then past mid (drained plan base stops qs mid) (keeps_drain past q.number count (count == 0)) (keeps_drained qs mid)
 
   module _ (past : List Row) (tells : Tells plan base past) (port : Port) (how : How) (running : has_ended base (pass_of plan (passes.Ingress port)) past ≡ false) where
     abbrev now : List Row
@@ -126,10 +141,10 @@ module _ (plan : Plan) (base : Base) where
     }
 
   tells_arrival : (past : List Row) (port : Port) (arrival : Arrival) (b : Bool) → Tells plan base past → has_ended base (pass_of plan (passes.Ingress port)) past ≡ false
-      → Tells plan base (if b then drained plan base plan.ports (with_event plan base past (event_of port arrival)) else with_event plan base past (End (passes.Ingress port) (hows.Full (length past))))
+      → Tells plan base (if b then drained plan base stops plan.ports (with_event plan base past (event_of port arrival)) else with_event plan base past (End (passes.Ingress port) (hows.Full (length past))))
   tells_arrival past port arrival true tells running =
       let mid = with_event plan base past (event_of port arrival) in
-      tells_kept past (drained plan base plan.ports mid) (keeps_then past mid (drained plan base plan.ports mid) (keeps_arrival past port arrival) (keeps_drained plan.ports mid)) tells
+      tells_kept past (drained plan base stops plan.ports mid) (keeps_then past mid (drained plan base stops plan.ports mid) (keeps_arrival past port arrival) (keeps_drained plan.ports mid)) tells
   tells_arrival past port arrival false tells running = tells_ended past tells port (hows.Full (length past)) running (λ is. cc)
 
   -- the ends of the other passes
@@ -140,18 +155,19 @@ module _ (plan : Plan) (base : Base) where
   keeps_ticker : (past : List Row) → Keeps past (with_event plan base past (End passes.Ticker hows.End))
   keeps_ticker past = record { failed_same = refl; ends_same = λ n. refl; later = later_event plan base past (End passes.Ticker hows.End) }
 
-  keeps_egress : (past : List Row) (port : Port) → Keeps past (with_event plan base past (End (passes.Egress port) hows.End))
-  keeps_egress past port = record { failed_same = refl; ends_same = λ n. refl; later = later_event plan base past (End (passes.Egress port) hows.End) }
+  keeps_end : (past : List Row) (port : Port) (b : Bool) → Keeps past (if b then past else with_event plan base past (End (passes.Egress port) hows.End))
+  keeps_end past port true = record { failed_same = refl; ends_same = λ n. refl; later = λ pass is. is }
+  keeps_end past port false = record { failed_same = refl; ends_same = λ n. refl; later = later_event plan base past (End (passes.Egress port) hows.End) }
 
   keeps_egresses : (ports : List PortPlan) (past : List Row) → Keeps past (egress_ended plan base ports past)
   keeps_egresses [] past = record { failed_same = refl; ends_same = λ n. refl; later = λ pass is. is }
   keeps_egresses (q ∷ qs) past =
-      let mid = with_event plan base past (End (passes.Egress q.number) hows.End) in
-      keeps_then past mid (egress_ended plan base qs mid) (keeps_egress past q.number) (keeps_egresses qs mid)
+      let mid = with_end plan base q.number past in
+      keeps_then past mid (egress_ended plan base qs mid) (keeps_end past q.number (has_ended base (egress_pass plan (number_of q.number)) past)) (keeps_egresses qs mid)
 
   -- the turns of a replay
 
-  tells_entered : (turn : Turn) (past : List Row) → Tells plan base past → IsOurs plan turn → has_ended base (pass_of plan (who_of turn)) past ≡ false → Tells plan base (entered plan base turn past)
+  tells_entered : (turn : Turn) (past : List Row) → Tells plan base past → IsOurs plan turn → has_ended base (pass_of plan (who_of turn)) past ≡ false → Tells plan base (entered plan base stops turn past)
   tells_entered (Arrives port arrival) past tells ours running = tells_arrival past port arrival (has_room plan past) tells running
   tells_entered (Ends (passes.Ingress port) how) past tells ours running = tells_ended past tells port how running (λ is. ours)
   tells_entered (Ends passes.Control how) past tells ours running =
@@ -160,13 +176,13 @@ module _ (plan : Plan) (base : Base) where
   tells_entered (Ends passes.Ticker how) past tells ours running = absurd ours
   tells_entered (Ends (passes.Egress port) how) past tells ours running = absurd ours
 
-  tells_after : (turn : Turn) (past : List Row) (b : Bool) → has_ended base (pass_of plan (who_of turn)) past ≡ b → Tells plan base past → IsOurs plan turn → Tells plan base (if b then past else entered plan base turn past)
+  tells_after : (turn : Turn) (past : List Row) (b : Bool) → has_ended base (pass_of plan (who_of turn)) past ≡ b → Tells plan base past → IsOurs plan turn → Tells plan base (if b then past else entered plan base stops turn past)
   tells_after turn past true is tells ours = tells
   tells_after turn past false is tells ours = tells_entered turn past tells ours is
 
-  tells_all : (ts : List Turn) (past : List Row) → AreOurs plan ts → Tells plan base past → Tells plan base (after_all plan base ts past)
+  tells_all : (ts : List Turn) (past : List Row) → AreOurs plan ts → Tells plan base past → Tells plan base (after_all plan base stops ts past)
   tells_all [] past ours tells = tells
-  tells_all (t ∷ ts) past ours tells = tells_all ts (after plan base t past) ours.1 (tells_after t past (has_ended base (pass_of plan (who_of t)) past) refl tells ours.0)
+  tells_all (t ∷ ts) past ours tells = tells_all ts (after plan base stops t past) ours.1 (tells_after t past (has_ended base (pass_of plan (who_of t)) past) refl tells ours.0)
 
   module _ (x : Turn) (rest : List Turn → List Turn) (ours : IsOurs plan x) (behind : (ys : List Turn) → AreOurs plan ys → AreOurs plan (rest ys)) where
     enter_at : (b : Bool) (y : Turn) (ys : List Turn) → AreOurs plan (y ∷ ys) → AreOurs plan (enter x rest ys) → AreOurs plan (if b then y ∷ enter x rest ys else x ∷ rest (y ∷ ys))
@@ -192,19 +208,20 @@ module _ (plan : Plan) (base : Base) where
       turns_merge (turns p.number i) (merged (port_turns ports inputs)) (turns_of p.number i.arrivals i.ending (at 0 (omega arith)))
       (turns_ports ports inputs (λ k inside. at (suc k) (omega arith)))
 
-  tells_replayed : (inputs : List Input) → Tells plan base (replayed plan base inputs)
+  tells_replayed : (inputs : List Input) → Tells plan base (replayed plan base inputs stops)
   tells_replayed inputs =
-      let before : List Row = after_all plan base (merged (control_turns ∷ port_turns plan.ports inputs)) [] in
+      let started : List Row = begun plan base stops plan.ports [] in
+      let before : List Row = after_all plan base stops (merged (control_turns ∷ port_turns plan.ports inputs)) started in
       let ours : AreOurs plan (merged (control_turns ∷ port_turns plan.ports inputs)) =
       turns_merge control_turns (merged (port_turns plan.ports inputs)) (refl, tt) (turns_ports plan.ports inputs (λ k inside. record { place = k; inside = inside; number = refl })) in
       let start : Tells plan base [] = record { failed = λ is. cc; ended = λ n is. cc } in
       let ticked = with_event plan base before (End passes.Ticker hows.End) in
       tells_kept before (egress_ended plan base plan.ports ticked)
       (keeps_then before ticked (egress_ended plan base plan.ports ticked) (keeps_ticker before) (keeps_egresses plan.ports ticked))
-      (tells_all (merged (control_turns ∷ port_turns plan.ports inputs)) [] ours start)
+      (tells_all (merged (control_turns ∷ port_turns plan.ports inputs)) started ours (tells_kept [] started (keeps_begun plan.ports []) start))
 
-pub failed_at_port : (plan : Plan) (base : Base) (inputs : List Input) → has_failed (replayed plan base inputs) ≡ true → (k : ℕ) × (k < length plan.ports) × (input_end (get_or (numbers_of plan.ports) k 0) (replayed plan base inputs) ≡ Some hows.Failed)
-failed_at_port plan base inputs is =
-    let found = (tells_replayed plan base inputs).failed is in
+pub failed_at_port : (plan : Plan) (base : Base) (inputs : List Input) (stops : Stops) → has_failed (replayed plan base inputs stops) ≡ true → (k : ℕ) × (k < length plan.ports) × (input_end (get_or (numbers_of plan.ports) k 0) (replayed plan base inputs stops) ≡ Some hows.Failed)
+failed_at_port plan base inputs stops is =
+    let found = (tells_replayed plan base stops inputs).failed is in
     let at = found.1 in
-    (at.place, at.inside, subst (λ (n : ℕ). input_end n (replayed plan base inputs) ≡ Some hows.Failed) at.number found.2)
+    (at.place, at.inside, subst (λ (n : ℕ). input_end n (replayed plan base inputs stops) ≡ Some hows.Failed) at.number found.2)

@@ -6,6 +6,9 @@ pub mod Order
 pub mod Reaching
 pub mod Guarded
 pub mod PassNumbers
+pub mod PortPlaces
+pub mod PortMembers
+pub mod Closed
 pub mod Waiting
 pub mod Lines
 pub mod Words

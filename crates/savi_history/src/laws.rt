@@ -10,7 +10,7 @@ ghost use Rattle.hist_store.specs.Rows.{Row};
 ghost use Rattle.savi_history.specs.Bases.{Base, empty};
 ghost use Rattle.savi_history.specs.Legal.{IsLegal, IsFinished};
 ghost use Rattle.savi_history.specs.Readable.{IsInput};
-ghost use Rattle.savi_history.specs.Replay.{replayed};
+ghost use Rattle.savi_history.specs.Replay.{Stops, replayed};
 ghost use Rattle.savi_history.specs.Adverts.{IsGuarded};
 ghost use Rattle.savi_history.specs.Endings.{has_failed};
 ghost use Rattle.savi_history.specs.PortInputs.{input_end};
@@ -22,19 +22,19 @@ pub fn adverts_are_stopped()
     ensures { (plan : Plan) (base : Base) (past : List Row) → IsLegal plan base past → IsGuarded plan past }
 {}
 
-/// In the history of a replay of one input for each port of the plan, every pass has ended.
+/// In the history of a replay of one input for each port of the plan, every pass has ended, whichever writes failed.
 pub fn replays_end_every_pass()
-    ensures { (plan : Plan) (base : Base) (inputs : List Input) → IsValidPlan plan → length inputs ≡ length plan.ports → IsFinished plan base (replayed plan base inputs) }
+    ensures { (plan : Plan) (base : Base) (inputs : List Input) (stops : Stops) → IsValidPlan plan → length inputs ≡ length plan.ports → IsFinished plan base (replayed plan base inputs stops) }
 {}
 
-/// The history of a replay of what readers may give, one input for each port of the plan, is legal.
+/// The history of a replay of what readers may give, one input for each port of the plan, is legal, whichever writes failed.
 pub fn replays_are_legal()
-    ensures { (plan : Plan) (inputs : List Input) → IsValidPlan plan → length inputs ≡ length plan.ports → All IsInput inputs → IsLegal plan empty (replayed plan empty inputs) }
+    ensures { (plan : Plan) (inputs : List Input) (stops : Stops) → IsValidPlan plan → length inputs ≡ length plan.ports → All IsInput inputs → IsLegal plan empty (replayed plan empty inputs stops) }
 {}
 
 /// A read that failed in a replay is one of the input of a port of the plan, and the history says so of that port.
 pub fn failed_reads_are_of_ports()
-    ensures { (plan : Plan) (base : Base) (inputs : List Input) → has_failed (replayed plan base inputs) ≡ true → (k : ℕ) × (k < length plan.ports) × (input_end (slice_index (numbers_of plan.ports) k) (replayed plan base inputs) ≡ Some hows.Failed) }
+    ensures { (plan : Plan) (base : Base) (inputs : List Input) (stops : Stops) → has_failed (replayed plan base inputs stops) ≡ true → (k : ℕ) × (k < length plan.ports) × (input_end (slice_index (numbers_of plan.ports) k) (replayed plan base inputs stops) ≡ Some hows.Failed) }
 {}
 
 /// A journal tells the history: no text is the journal of two legal histories from the start of a switch, nor of two

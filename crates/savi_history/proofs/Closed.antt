@@ -19,8 +19,8 @@ use Rattle.savi_history.specs.Queues.{Item, queue, item_of, is_queued, is_closed
 use Rattle.savi_history.specs.Events as events
 use Rattle.savi_history.specs.Events.{row_of}
 use Rattle.savi_history.specs.Legal.{MayCome, MayEnd, IsLegal}
-use Rattle.savi_core.proofs.Places.{placed, place_within, length-numbers}
-use Rattle.savi_core.proofs.Sets.{member_chosen}
+use Rattle.savi_history.proofs.PortPlaces.{placed, place_within, length-numbers}
+use Rattle.savi_history.proofs.PortMembers.{member_chosen}
 
 abbrev no_items : List Item
 no_items = []
