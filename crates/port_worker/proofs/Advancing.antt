@@ -1,34 +1,35 @@
 -- A step of one port.
-use Rattle.std.proofs.Common.{◌≡◌, ◌≢◌, ℕ, ◌<◌, ◌≤◌, not, Bool, true, false, List, [], ◌++◌, length, get_or, set, refl, sym, ap, ◌∙◌, subst, arith, ◌⊎◌, inl, inr, Option, Some, None, IfSome, IsSome}
+use Rattle.std.proofs.Common.{◌≡◌, ◌≢◌, ℕ, ◌<◌, ◌≤◌, not, Bool, true, false, List, [], length, get_or, set, refl, sym, ap, ◌∙◌, subst, arith, ◌⊎◌, inl, inr, Option, Some, None, IfSome, IsSome}
 use Rattle.std.proofs.lemmas.Bool.{cases_eq}
-use Rattle.std.proofs.lemmas.List.{length-set, get_or-set_same, get_or-set_other, map-set, set-get_or, get_or-map}
+use Rattle.std.proofs.lemmas.List.{length-set, get_or-set_same, get_or-set_other, get_or_default, map-set, set-get_or, get_or-map}
 use Rattle.savi_kinds.specs.declared.port.Port.{Port}
 use Rattle.savi_kinds.specs.declared.plan.Plan.{Plan}
 use Rattle.savi_kinds.specs.Ports.{number_of}
-use Rattle.savi_kinds.specs.declared.entry.Who.TheVariants.{Egress, Ingress}
-use Rattle.savi_ends.specs.Octets.{behind}
-use Rattle.savi_ends.specs.Faults.{Rose}
-use Rattle.pcap_io.specs.Captures.{header_text}
+use Rattle.savi_kinds.specs.ValidPlan.{numbers_of}
+use Rattle.savi_kinds.specs.Arrivals.{Arrival}
+use Rattle.savi_kinds.specs.declared.entry.Who.TheVariants.{Ingress}
 use Rattle.hist_store.specs.Rows.{Row}
 use Rattle.savi_history.specs.Bases.{empty}
-use Rattle.savi_history.specs.Passes.{has_ended, pass_of}
-use Rattle.savi_history.specs.Queues.{Item, queue, sent}
-use Rattle.savi_history.specs.Legal.{IsOpen}
-use Rattle.savi_history.specs.Turns.{Turn}
-use Rattle.savi_history.proofs.Waiting.{ended_arrival, one_waits, sent_arrival, sent_end}
+use Rattle.savi_history.specs.Limits.{has_room}
+use Rattle.savi_history.specs.Passes.{has_ended, has_port, pass_of, egress_pass, ticker_pass}
+use Rattle.savi_history.specs.Queues.{queue}
+use Rattle.savi_history.specs.Turns.{Turn, Arrives}
+use Rattle.savi_history.specs.Replay.{Stops, pieces_by, event_of, with_event, drained, entered}
+use Rattle.savi_history.proofs.PassNumbers.{number_at, known_at}
+use Rattle.savi_history.proofs.PortPlaces.{length-numbers, place_within}
+use Rattle.savi_history.proofs.Waiting.{ended_arrival, one_waits}
 use Rattle.port_worker.specs.declared.port_ends.Ahead.{Ahead}
 use Rattle.port_worker.specs.declared.port_ends.Ahead.TheVariants as ahead
 use Rattle.port_worker.specs.declared.port_ends.PortEnds.{PortEnds}
 use Rattle.port_worker.specs.Pairs.{EachPair}
-use Rattle.port_worker.specs.SentFrames.{records_of, TookMore, OnlySink, IsSent}
+use Rattle.port_worker.specs.SentFrames.{TookMore, OnlySink}
+use Rattle.port_worker.specs.Drains.{IsDrainable}
+use Rattle.port_worker.specs.Outputs.{IsOutput, AreOutputs, Allows, AreAllowed, OutputsGoOn}
 use Rattle.port_worker.specs.Steps.{Enters, IsStepped, ends_input, ahead_after}
-use Rattle.port_worker.specs.Replays.{ports_held, RoseAt}
+use Rattle.port_worker.specs.Replays.{ports_held, ports_planned}
+use Rattle.port_worker.proofs.Planned.{count_is, number_is}
+use Rattle.port_worker.proofs.KeptOutputs.{KeepsOutput, keeps_pieces, keeps_arrival, keeps_ingress, output_kept, closed_arrival}
 use Rattle.port_worker.proofs.Draining.{only_itself}
-
--- the turn that is there
-pub the_turn : (o : Option Turn) → IsSome o → (turn : Turn) × (o ≡ Some turn)
-the_turn None is = cc
-the_turn (Some turn) is = (turn, refl)
 
 module _ {S K C : Type 0} (written : K → Option (List ℕ)) (faults : K → ℕ) (old : List (PortEnds S K C)) (place : ℕ) (x y : PortEnds S K C) (inside : place < length old) (is : (d : PortEnds S K C) → get_or old place d ≡ x) (rest : y ≡ record x { ahead = y.ahead }) where
   port_same : y.port ≡ x.port
@@ -74,50 +75,63 @@ module _ {S K C : Type 0} (written : K → Option (List ℕ)) (faults : K → �
   pub stepped_only : EachPair (IsStepped written faults) old (set old place y)
   stepped_only = stepped_then (set old place y) (record { size = refl; each = λ k d within. only_itself written faults (get_or (set old place y) k d) })
 
-  pub rose_then : (port : Port) (new : List (PortEnds S K C)) → RoseAt (λ p. faults p.ends.sink) port (set old place y) new → RoseAt (λ p. faults p.ends.sink) port old new
-  rose_then port new rose = (
-    rose.0,
-    omega (arith, rose.1, length-set old place y),
-    λ d.
-        ((rose.2 d).0, subst (λ (k : K). Rose (faults k) (faults (get_or new rose.0 d).ends.sink)) (sink_kept rose.0 d) (rose.2 d).1),
-  )
+  -- what the entry of a turn leaves of the outputs
+  module _ (plan : Plan) (past mid : List Row) (planned : ports_held old ≡ ports_planned plan) (keeps : (k : ℕ) → k < length plan.ports → KeepsOutput plan (number_at plan k) past mid) where
+    pub outputs_kept : (first : List (PortEnds S K C)) (known : Stops) → AreOutputs written faults plan known past first old → AreOutputs written faults plan known mid first (set old place y)
+    outputs_kept first known was = record {
+      size = length-set old place y ∙ was.size;
+      each = λ k d within.
+          let one = was.each k d within in
+          let size = was.size in
+          let count = count_is old plan planned in
+          let n = number_of (get_or first k d).port in
+          let n_is : n ≡ number_at plan k = ap number_of (sym one.port) ∙ number_is old plan k d planned (omega (arith, within)) in
+          let here : KeepsOutput plan n past mid = subst (λ (m : ℕ). KeepsOutput plan m past mid) (sym n_is) (keeps k (omega (arith, within))) in
+          let sink_is = sink_kept k d in
+          record {
+            port = port_kept k d ∙ one.port;
+            later = subst (λ (s : K). faults (get_or first k d).ends.sink ≤ faults s) (sym sink_is) one.later;
+            output = subst (λ (s : K). IsOutput written faults plan mid n (get_or first k d).ends.sink s (known n)) (sym sink_is)
+                (output_kept written faults plan n past mid (get_or first k d).ends.sink (get_or old k d).ends.sink (known n) here one.output);
+          };
+    }
 
-  pub sent_then : (before mid now : List Row) (new : List (PortEnds S K C)) → ((q : ℕ) → sent empty q mid ≡ sent empty q before) → EachPair (IsSent written mid now) (set old place y) new → EachPair (IsSent written before now) old new
-  sent_then before mid now new same each = record {
-    size = each.size ∙ length-set old place y;
-    each = λ k d within front was.
-        let q = number_of (get_or old k d).port in
-        let q_is : number_of (get_or (set old place y) k d).port ≡ q = ap number_of (port_kept k d) in
-        let was_mid : written (get_or (set old place y) k d).ends.sink ≡ behind front (header_text ++ records_of (sent empty (number_of (get_or (set old place y) k d).port) mid)) =
-        ap written (sink_kept k d) ∙ was ∙ ap (λ (l : List Item). behind front (header_text ++ records_of l)) (sym (same q))
-        ∙ ap (λ (n : ℕ). behind front (header_text ++ records_of (sent empty n mid))) (sym q_is) in
-        each.each k d (omega (arith, length-set old place y)) front was_mid
-        ∙ ap (λ (n : ℕ). behind front (header_text ++ records_of (sent empty n now))) q_is;
-  }
+    pub allowed_kept : (known stops : Stops) → AreAllowed plan known stops mid → AreAllowed plan known stops past
+    allowed_kept known stops allowed k d within =
+        let size = length-numbers plan.ports in
+        subst (λ (n : ℕ). Allows (known n) (stops n) (pieces_by empty n past)) (get_or_default (numbers_of plan.ports) k 0 d within)
+        (subst (λ (c : ℕ). Allows (known (number_at plan k)) (stops (number_at plan k)) c) (keeps_pieces plan (number_at plan k) past mid (keeps k (omega (arith, within)))) (allowed k 0 within))
 
-  pub sent_only : (before now : List Row) → ((q : ℕ) → sent empty q now ≡ sent empty q before) → EachPair (IsSent written before now) old (set old place y)
-  sent_only before now same = sent_then before now now (set old place y) same (record { size = refl; each = λ k d within front was. was })
+    -- an entry behind which nothing is drained
+    pub goes_on_only : (made : Stops → List Row) → ((stops : Stops) → mid ≡ made stops) → OutputsGoOn written faults plan past mid old (set old place y) made
+    goes_on_only made made_so first known was = (known, outputs_kept first known was, record { before = λ stops allowed. allowed_kept known stops allowed; made_so = λ stops allowed. made_so stops })
 
--- an arrival that was entered
-pub record IsEntered (plan : Plan) (old new : List Row) : Type 0 where
-  pub port : Port
-  pub turn : Turn
-  pub sent_same : (q : ℕ) → sent empty q new ≡ sent empty q old
-  pub ended_same : (pass : ℕ) → has_ended empty pass new ≡ has_ended empty pass old
-  pub few : (q : ℕ) → queue empty q old ≡ [] → length (queue empty q new) ≤ 256
+    -- an entry and the drains behind it
+    pub goes_on_then : (now : List Row) (new : List (PortEnds S K C)) (made then : Stops → List Row) → OutputsGoOn written faults plan mid now (set old place y) new then → ((stops : Stops) → then stops ≡ made stops) → OutputsGoOn written faults plan past now old new made
+    goes_on_then now new made then goes same first known was =
+        let later = goes first known (outputs_kept first known was) in
+        (later.0, later.1, record { before = λ stops allowed. allowed_kept known stops (later.2.before stops allowed); made_so = λ stops allowed. later.2.made_so stops allowed ∙ same stops })
 
-entered_from : (plan : Plan) (port : Port) (turn : Turn) (old new : List Row) → Enters plan port turn old true new → IsEntered plan old new
-entered_from plan port turn old new e = record {
-  port = port;
-  turn = turn;
-  sent_same = λ q. ap (λ (l : List Row). sent empty q l) e.3 ∙ sent_arrival plan empty old port e.0 q;
-  ended_same = λ pass. ap (λ (l : List Row). has_ended empty pass l) e.3 ∙ ended_arrival plan empty old port e.0 pass;
-  few = λ q none. let one = one_waits plan empty old port e.0 q none in rw e.3 (omega arith);
-}
+-- behind an arrival that was entered each queue may be drained
+drainable_behind : (plan : Plan) (past : List Row) (port here : Port) (arrival : Arrival) (k : ℕ) → k < length plan.ports → number_of here ≡ number_at plan k → queue empty (number_of here) past ≡ [] → IsDrainable plan (with_event plan empty past (event_of port arrival)) here
+drainable_behind plan past port here arrival k within number quiet =
+    let one = one_waits plan empty past port arrival (number_of here) quiet in
+    let n_quiet : queue empty (number_at plan k) past ≡ [] = ap (λ (n : ℕ). queue empty n past) (sym number) ∙ quiet in
+    record {
+      known = ap (has_port plan) number ∙ known_at plan k within;
+      few = omega (arith, one);
+      quiet = λ ended.
+          let ended_k : has_ended empty (egress_pass plan (number_at plan k)) past ≡ true =
+          sym (ended_arrival plan empty past port arrival (egress_pass plan (number_at plan k))) ∙ ap (λ (n : ℕ). has_ended empty (egress_pass plan n) (with_event plan empty past (event_of port arrival))) (sym number) ∙ ended in
+          ap (λ (n : ℕ). queue empty n (with_event plan empty past (event_of port arrival))) number ∙ closed_arrival plan past port arrival k within ended_k ∙ n_quiet;
+    }
 
-pub entered_is : (plan : Plan) (port : Port) (o : Option Turn) (old new : List Row) (result : Bool) → result ≡ true → IsSome o → IfSome o (λ turn. Enters plan port turn old result new) → IsEntered plan old new
-entered_is plan port None old new result answer is enters = cc
-entered_is plan port (Some turn) old new result answer is enters = entered_from plan port turn old new (subst (λ (b : Bool). Enters plan port turn old b new) answer enters)
+pub drainable_then : (plan plan' : Plan) (port here here' : Port) (o : Option Turn) (past mid : List Row) (result : Bool) (k : ℕ) → plan' ≡ plan → here' ≡ here → result ≡ true → IsSome o → IfSome o (λ turn. Enters plan port turn past result mid)
+    → k < length plan.ports → number_of here ≡ number_at plan k → queue empty (number_of here) past ≡ [] → IsDrainable plan' mid here'
+drainable_then plan plan' port here here' None past mid result k plan_is here_is answer some enters within number quiet = cc
+drainable_then plan plan' port here here' (Some turn) past mid result k plan_is here_is answer some enters within number quiet =
+    let e : Enters plan port turn past true mid = subst (λ (b : Bool). Enters plan port turn past b mid) answer enters in
+    subst (λ (p : Plan). IsDrainable p mid here') (sym plan_is) (subst (λ (p : Port). IsDrainable plan mid p) (sym here_is) (subst (λ (l : List Row). IsDrainable plan l here) (sym e.3) (drainable_behind plan past port here e.0 k within number quiet)))
 
 pub ahead_arrived : (plan : Plan) (port : Port) (o : Option Turn) (old new : List Row) (result : Bool) (a : Ahead) → result ≡ true → IfSome o (λ turn. Enters plan port turn old result new) → a ≡ ahead.Unread → IfSome o (λ turn. a ≡ ahead_after (ends_input plan old turn))
 ahead_arrived plan port None old new result a answer enters is = tt
@@ -132,19 +146,34 @@ ahead_ended plan port (Some turn) old new result a answer enters is =
     let e : Enters plan port turn old false new = subst (λ (b : Bool). Enters plan port turn old b new) answer enters in
     is ∙ ap ahead_after (sym e.3)
 
-pub sent_ended : (plan : Plan) (port : Port) (o : Option Turn) (old new : List Row) (result : Bool) → result ≡ false → IsSome o → IfSome o (λ turn. Enters plan port turn old result new) → (q : ℕ) → sent empty q new ≡ sent empty q old
-sent_ended plan port None old new result answer is enters q = cc
-sent_ended plan port (Some turn) old new result answer is enters q =
-    let e : Enters plan port turn old false new = subst (λ (b : Bool). Enters plan port turn old b new) answer enters in
-    ap (λ (l : List Row). sent empty q l) e.1 ∙ sent_end plan empty old (Ingress port) e.0 q
+-- the outputs behind an arrival and its drains, and behind an ending
 
--- an egress that is open stays so
-pub open_then : (plan plan' : Plan) (old new : List Row) (port port' : Port) → plan' ≡ plan → ((pass : ℕ) → has_ended empty pass new ≡ has_ended empty pass old) → port ≡ port' → IsOpen plan empty old (Egress port) → IsOpen plan' empty new (Egress port')
-open_then plan plan' old new port port' plan_is same port_is is_open =
-    let there : IsOpen plan empty new (Egress port) = record { known = is_open.known; running = same (pass_of plan (Egress port)) ∙ is_open.running } in
-    subst (λ (p : Plan). IsOpen p empty new (Egress port')) (sym plan_is) (subst (λ (p : Port). IsOpen plan empty new (Egress p)) port_is there)
+module _ {S K C : Type 0} (written : K → Option (List ℕ)) (faults : K → ℕ) (old : List (PortEnds S K C)) (place : ℕ) (x y : PortEnds S K C) (inside : place < length old) (is : (d : PortEnds S K C) → get_or old place d ≡ x) (rest : y ≡ record x { ahead = y.ahead }) (plan : Plan) (planned : ports_held old ≡ ports_planned plan)
+    (past mid : List Row) (port : Port) where
+  pub outputs_arrived : (o : Option Turn) (plan' : Plan) (now : List Row) (new : List (PortEnds S K C)) (result : Bool) → result ≡ true → plan' ≡ plan → IfSome o (λ turn. Enters plan port turn past result mid)
+      → OutputsGoOn written faults plan' mid now (set old place y) new (λ stops. drained plan' empty stops plan'.ports mid) → IfSome o (λ turn. OutputsGoOn written faults plan past now old new (λ stops. entered plan empty stops turn past))
+  outputs_arrived None plan' now new result answer plan_is enters goes = tt
+  outputs_arrived (Some turn) plan' now new result answer plan_is enters goes =
+      let e : Enters plan port turn past true mid = subst (λ (b : Bool). Enters plan port turn past b mid) answer enters in
+      let goes_plan : OutputsGoOn written faults plan mid now (set old place y) new (λ stops. drained plan empty stops plan.ports mid) =
+      subst (λ (p : Plan). OutputsGoOn written faults p mid now (set old place y) new (λ stops. drained p empty stops p.ports mid)) plan_is goes in
+      goes_on_then written faults old place x y inside is rest plan past mid planned
+      (λ k within. subst (λ (l : List Row). KeepsOutput plan (number_at plan k) past l) (sym e.3) (keeps_arrival plan past port e.0 k within))
+      now new (λ stops. entered plan empty stops turn past) (λ stops. drained plan empty stops plan.ports mid) goes_plan (λ stops. made_arrival stops turn e.0 e.1 e.2 e.3)
+    where
+      made_arrival : (stops : Stops) (turn : Turn) (arrival : Arrival) → turn ≡ Arrives port arrival → has_room plan past ≡ true → mid ≡ with_event plan empty past (event_of port arrival) → drained plan empty stops plan.ports mid ≡ entered plan empty stops turn past
+      made_arrival stops turn arrival turn_is room mid_is =
+          ap (drained plan empty stops plan.ports) mid_is
+          ∙ rw (turn_is, room) refl
 
-pub if_some_rose : {S K C : Type 0} (faults : K → ℕ) (o : Option Port) (old mid new : List (PortEnds S K C)) → ((port : Port) → RoseAt (λ p. faults p.ends.sink) port mid new → RoseAt (λ p. faults p.ends.sink) port old new)
-    → IfSome o (λ port. RoseAt (λ p. faults p.ends.sink) port mid new) → IfSome o (λ port. RoseAt (λ p. faults p.ends.sink) port old new)
-if_some_rose faults None old mid new then rose = tt
-if_some_rose faults (Some port) old mid new then rose = then port rose
+  pub outputs_ended : (o : Option Turn) (result : Bool) → result ≡ false → pass_of plan (Ingress port) ≤ ticker_pass plan → IfSome o (λ turn. Enters plan port turn past result mid) → IfSome o (λ turn. OutputsGoOn written faults plan past mid old (set old place y) (λ stops. entered plan empty stops turn past))
+  outputs_ended None result answer low enters = tt
+  outputs_ended (Some turn) result answer low enters =
+      let e : Enters plan port turn past false mid = subst (λ (b : Bool). Enters plan port turn past b mid) answer enters in
+      goes_on_only written faults old place x y inside is rest plan past mid planned
+      (λ k within. subst (λ (l : List Row). KeepsOutput plan (number_at plan k) past l) (sym e.1) (keeps_ingress plan past port e.0 (number_at plan k) low))
+      (λ stops. entered plan empty stops turn past) e.2
+
+-- the ingress pass of a port of the plan comes before the ticker
+pub ingress_low : (plan : Plan) (port : Port) → has_port plan (number_of port) ≡ true → pass_of plan (Ingress port) ≤ ticker_pass plan
+ingress_low plan port known = let within = place_within plan (number_of port) known in omega (arith, within)

@@ -1,171 +1,298 @@
 -- The queues, drained one after the other.
-use Rattle.std.proofs.Common.{◌≡◌, ◌≢◌, ℕ, suc, ◌+◌, ◌<◌, ◌≤◌, ◌==◌, Bool, true, false, List, ◌++◌, length, take, drop, get_or, set, refl, sym, ap, ◌∙◌, subst, arith, append_assoc, ◌⊎◌, inl, inr, Option, if◌then◌else◌, add-one}
-use Rattle.std.proofs.lemmas.Bool.{cases_eq}
+use Rattle.std.proofs.Common.{◌≡◌, ◌≢◌, ℕ, suc, ◌+◌, ◌<◌, ◌≤◌, ◌==◌, Bool, true, false, List, [], length, drop, get_or, set, refl, sym, ap, ◌∙◌, subst, arith, ◌⊎◌, inl, inr, Option, if◌then◌else◌, add-one}
+use Rattle.std.proofs.lemmas.Bool.{cases_eq, cases_lt}
 use Rattle.std.proofs.lemmas.Bool.Decides.{nat_tests}
-use Rattle.std.proofs.lemmas.List.{get_or-set_same, get_or-set_other, get_or_default, take_all, nil_from_length}
+use Rattle.std.proofs.lemmas.List.{length-set, get_or-set_same, get_or-set_other, get_or_default, drop_all}
+use Rattle.std.specs.List.{All}
 use Rattle.std.specs.List.Sorted.{IsStrictlyIncreasing}
 use Rattle.savi_kinds.specs.declared.port.Port.{Port}
 use Rattle.savi_kinds.specs.declared.plan.Plan.{Plan}
 use Rattle.savi_kinds.specs.declared.plan.PortPlan.{PortPlan}
 use Rattle.savi_kinds.specs.Ports.{number_of}
 use Rattle.savi_kinds.specs.ValidPlan.{numbers_of}
-use Rattle.savi_ends.specs.Octets.{behind}
-use Rattle.savi_ends.proofs.Octets.{behind_again}
-use Rattle.pcap_io.specs.Captures.{header_text}
 use Rattle.hist_store.specs.Rows.{Row}
 use Rattle.savi_history.specs.Bases.{empty}
-use Rattle.savi_history.specs.Passes.{has_ended}
-use Rattle.savi_history.specs.Events.{Drain}
-use Rattle.savi_history.specs.PortInputs.{input_end}
-use Rattle.savi_history.specs.Queues.{Item, queue, sent}
-use Rattle.savi_history.specs.Replay.{with_drain, drained}
-use Rattle.savi_history.specs.Replay as replay
-use Rattle.savi_history.proofs.Waiting.{ended_drain, sent_whole, sent_other, fewer}
-use Rattle.savi_core.specs.Machines.{Machine, queue_at}
-use Rattle.savi_core.specs.Steps.{Drained, count_of}
-use Rattle.savi_core.specs.declared.event.Stepped.{Stepped}
-use Rattle.savi_core.specs.declared.event.Stepped.TheVariants as stepped
+use Rattle.savi_history.specs.Passes.{has_ended, egress_pass, place_of}
+use Rattle.savi_history.specs.Queues.{queue}
+use Rattle.savi_history.specs.Replay.{Stops, is_stopped, pieces_by, with_drain, drained}
+use Rattle.savi_history.proofs.PassNumbers.{number_at, place_at}
+use Rattle.savi_history.proofs.PortPlaces.{length-numbers}
+use Rattle.savi_history.proofs.Ends.{Later}
+use Rattle.savi_core.specs.Machines.{Machine}
 use Rattle.port_worker.specs.declared.port_ends.PortEnds.{PortEnds}
-use Rattle.port_worker.specs.SentFrames.{records_of, capture_of, OnlySink, IsSent}
+use Rattle.port_worker.specs.SentFrames.{OnlySink}
+use Rattle.port_worker.specs.Drains.{waiting_at, IsDrainable, IsDrained}
+use Rattle.port_worker.specs.Outputs.{IsOutput, IsOutputOf, AreOutputs, Allows, AreAllowed, OutputsGoOn}
 use Rattle.port_worker.specs.Replays.{ports_held, ports_planned}
-use Rattle.port_worker.proofs.SoFar.{PairsSoFar, pairs_more}
+use Rattle.port_worker.proofs.SoFar.{PairsSoFar, pairs_none, pairs_more}
 use Rattle.port_worker.proofs.Later.{took_none}
-use Rattle.port_worker.proofs.Records.{records_of-append}
 use Rattle.port_worker.proofs.Planned.{count_is, number_is, numbers_differ, held_at}
+use Rattle.port_worker.proofs.KeptOutputs.{KeepsOutput, keeps_pieces, output_kept}
+use Rattle.port_worker.proofs.PortSteps.{PortStep, DrainStep, PortLeaves, drain_step, leaves_drained, emptied, drained_nothing}
 
 pub only_itself : {S K C : Type 0} (written : K → Option (List ℕ)) (faults : K → ℕ) (p : PortEnds S K C) → OnlySink written faults p p
 only_itself written faults p = record { same = refl; later = omega arith; took = took_none (written p.ends.sink) }
 
--- what one drain of all that waits did
-pub record DrainsOnce (old : Machine) (port : Port) (new : Machine) (batch : List Item) : Type 0 where
-  pub plan : new.plan ≡ old.plan
-  pub past : new.past ≡ with_drain old.plan empty port (length (queue_at old port)) old.past
-  pub batch_is : batch ≡ queue_at old port
+-- what is known, with what is known now of one port
+abbrev pub with_known : Stops → ℕ → Option ℕ → Stops
+with_known known q later = λ n. if n == q then later else known n
 
-some_count_at : (old : Machine) (port : Port) (n : ℕ) (b : Bool) → (n == 0) ≡ b → n ≢ 0 → replay.with_event old.plan empty old.past (Drain port n) ≡ (if b then old.past else replay.with_event old.plan empty old.past (Drain port n))
-some_count_at old port n true is some = absurd (some (grind (arith, nat_tests)))
-some_count_at old port n false is some = refl
+known_here : (known : Stops) (q n : ℕ) (later : Option ℕ) → n ≡ q → with_known known q later n ≡ later
+known_here known q n later same = let is : (n == q) ≡ true = grind (arith, nat_tests) in rw is refl
 
-pub drains_once : (old : Machine) (port : Port) (new : Machine) (batch : List Item) (answer : Stepped) → length (queue_at old port) ≤ 256 → Drained old port 256 new batch answer → DrainsOnce old port new batch
-drains_once old port new batch (stepped.Done entry) few did =
-    let n = length (queue_at old port) in
-    let count : count_of old port 256 ≡ n = omega arith in
-    record {
-      plan = ap (λ (m : Machine). m.plan) did.2;
-      past = ap (λ (m : Machine). m.past) did.2 ∙ ap (λ (c : ℕ). replay.with_event old.plan empty old.past (Drain port c)) count ∙ some_count_at old port n (n == 0) refl (λ none. did.0 (nil_from_length (queue_at old port) none));
-      batch_is = did.1 ∙ ap (λ (c : ℕ). take c (queue_at old port)) count ∙ take_all n (queue_at old port) (omega arith);
-    }
-drains_once old port new batch (stepped.Full len) few did = absurd did
-drains_once old port new batch stepped.Nothing few did =
-    let none : length (queue_at old port) ≡ 0 = ap (λ (l : List Item). length l) did.0 in
-    record {
-      plan = ap (λ (m : Machine). m.plan) did.2;
-      past = ap (λ (m : Machine). m.past) did.2 ∙ rw none refl;
-      batch_is = did.1 ∙ sym did.0;
-    }
+known_there : (known : Stops) (q n : ℕ) (later : Option ℕ) → n ≢ q → with_known known q later n ≡ known n
+known_there known q n later other = let is : (n == q) ≡ false = grind (arith, nat_tests) in rw is refl
+
+pub egress_apart : (plan : Plan) (j k : ℕ) → IsStrictlyIncreasing (numbers_of plan.ports) → j < length plan.ports → k < length plan.ports → j ≢ k → egress_pass plan (number_at plan j) ≢ egress_pass plan (number_at plan k)
+egress_apart plan j k rising inside_j inside_k other same =
+    let one = place_at plan j rising inside_j in
+    let two = place_at plan k rising inside_k in
+    omega arith
+
+-- one port's part of a step, among all outputs
+
+module _ {S K C : Type 0} (written : K → Option (List ℕ)) (faults : K → ℕ) (plan : Plan) (known : Stops) (past now : List Row) (first x y : PortEnds S K C) (made : Stops → List Row) (same_port : x.port ≡ first.port) (no_less : faults first.ends.sink ≤ faults x.ends.sink)
+    (only : OnlySink written faults x y) (leaves : PortLeaves plan x.port past now) (step : PortStep written faults plan x.port now first.ends.sink y.ends.sink made) where
+  abbrev pub later : Stops
+  later = with_known known (number_of x.port) step.later
+
+  -- the output of this port
+  pub output_here : IsOutputOf written faults plan later now first y
+  output_here = record {
+    port = ap (λ (p : PortEnds S K C). p.port) only.same ∙ same_port;
+    later = omega (arith, no_less, only.later);
+    output =
+        subst (λ (p : Port). IsOutput written faults plan now (number_of p) first.ends.sink y.ends.sink (later (number_of p))) same_port
+        (subst (λ (o : Option ℕ). IsOutput written faults plan now (number_of x.port) first.ends.sink y.ends.sink o) (sym (known_here known (number_of x.port) (number_of x.port) step.later refl)) step.output);
+  }
+
+  -- the output of another one
+  pub output_there : (other now_there : PortEnds S K C) → number_of x.port ≢ number_of other.port → egress_pass plan (number_of x.port) ≢ egress_pass plan (number_of other.port)
+      → IsOutputOf written faults plan known past other now_there → IsOutputOf written faults plan later now other now_there
+  output_there other now_there apart passes was =
+      let n = number_of other.port in
+      record {
+        port = was.port;
+        later = was.later;
+        output =
+            subst (λ (o : Option ℕ). IsOutput written faults plan now n other.ends.sink now_there.ends.sink o) (sym (known_there known (number_of x.port) n step.later (λ same. apart (sym same))))
+            (output_kept written faults plan n past now other.ends.sink now_there.ends.sink (known n) (leaves.keeps n apart passes) was.output);
+      }
+
+  -- what is allowed behind the step was allowed before it, and the step made it
+  pub allowed_here : (stop : Option ℕ) → Allows (later (number_of x.port)) stop (pieces_by empty (number_of x.port) now) → Allows step.later stop (pieces_by empty (number_of x.port) now)
+  allowed_here stop = subst (λ (o : Option ℕ). Allows o stop (pieces_by empty (number_of x.port) now)) (known_here known (number_of x.port) (number_of x.port) step.later refl)
+
+  pub made_here : (stops : Stops) → Allows (later (number_of x.port)) (stops (number_of x.port)) (pieces_by empty (number_of x.port) now) → now ≡ made stops
+  made_here stops allowed = step.made_so stops (allowed_here (stops (number_of x.port)) allowed)
+
+  pub allowed_there : (n : ℕ) (stop : Option ℕ) → number_of x.port ≢ n → egress_pass plan (number_of x.port) ≢ egress_pass plan n → Allows (later n) stop (pieces_by empty n now) → Allows (known n) stop (pieces_by empty n past)
+  allowed_there n stop apart passes allowed =
+      subst (λ (c : ℕ). Allows (known n) stop c) (keeps_pieces plan n past now (leaves.keeps n apart passes))
+      (subst (λ (o : Option ℕ). Allows o stop (pieces_by empty n now)) (known_there known (number_of x.port) n step.later (λ same. apart (sym same))) allowed)
+
+-- what the ports below a place made of the outputs, from what was known before
+pub record DrainedSoFar {S K C : Type 0} (written : K → Option (List ℕ)) (faults : K → ℕ) (plan : Plan) (place : ℕ) (known : Stops) (past now : List Row) (first new : List (PortEnds S K C)) : Type 0 where
+  pub later : Stops
+  pub outputs : AreOutputs written faults plan later now first new
+  pub before : (stops : Stops) → AreAllowed plan later stops now → AreAllowed plan known stops past
+  pub made_so : (stops : Stops) → AreAllowed plan later stops now → drained plan empty stops (drop place plan.ports) now ≡ drained plan empty stops plan.ports past
 
 -- the queues of the ports below a place are drained and what they held is written
 pub record DrainsSoFar {S K C : Type 0} (written : K → Option (List ℕ)) (faults : K → ℕ) (place : ℕ) (first now : Machine) (old new : List (PortEnds S K C)) : Type 0 where
   pub plan : now.plan ≡ first.plan
   pub sinks : PairsSoFar (OnlySink written faults) place old new
-  pub past : drained first.plan empty (drop place first.plan.ports) now.past ≡ drained first.plan empty first.plan.ports first.past
-  pub ended : (pass : ℕ) → has_ended empty pass now.past ≡ has_ended empty pass first.past
-  pub inputs : (n : ℕ) → input_end n now.past ≡ input_end n first.past
-  pub few : (k : ℕ) (d : PortEnds S K C) → k < length old → length (queue empty (number_of (get_or old k d).port) now.past) ≤ 256
-  pub sent_so_far : (k : ℕ) (d : PortEnds S K C) → k < length old → IsSent written first.past now.past (get_or old k d) (get_or new k d)
+  pub later : Later empty first.past now.past
+  pub drainable : (k : ℕ) (d : PortEnds S K C) → k < length old → IsDrainable first.plan now.past (get_or old k d).port
+  pub alone : (k : ℕ) (d : PortEnds S K C) → k < length old → has_ended empty (egress_pass first.plan (number_of (get_or old k d).port)) first.past ≡ true → get_or new k d ≡ get_or old k d
+  pub outputs : (start : List (PortEnds S K C)) (known : Stops) → AreOutputs written faults first.plan known first.past start old → DrainedSoFar written faults first.plan place known first.past now.past start new
 
--- a drain ends no input
-end_drain : (plan : Plan) (past : List Row) (port : Port) (count n : ℕ) (b : Bool) → input_end n (if b then past else replay.with_event plan empty past (Drain port count)) ≡ input_end n past
-end_drain plan past port count n true = refl
-end_drain plan past port count n false = refl
+pub drains_none : {S K C : Type 0} (written : K → Option (List ℕ)) (faults : K → ℕ) (first : Machine) (old : List (PortEnds S K C)) → All (λ p. IsDrainable first.plan first.past p.port) old → DrainsSoFar written faults 0 first first old old
+drains_none written faults first old drainable = record {
+  plan = refl;
+  sinks = pairs_none (OnlySink written faults) old;
+  later = λ pass ended. ended;
+  drainable = drainable;
+  alone = λ k d within ended. refl;
+  outputs = λ start known was. record { later = known; outputs = was; before = λ stops allowed. allowed; made_so = λ stops allowed. refl };
+}
 
--- the capture of more frames
-pub capture_more : (q : ℕ) (old new : List Row) (items : List Item) → sent empty q new ≡ sent empty q old ++ items → capture_of q new ≡ capture_of q old ++ records_of items
-capture_more q old new items more =
-    ap (λ (l : List Item). header_text ++ records_of l) more
-    ∙ ap (λ (l : List ℕ). header_text ++ l) (records_of-append (sent empty q old) items)
-    ∙ sym (append_assoc header_text (records_of (sent empty q old)) (records_of items))
-
-pub written_more : (front before now : Option (List ℕ)) (q : ℕ) (old new : List Row) (items : List Item) → before ≡ behind front (capture_of q old) → now ≡ behind before (records_of items) → sent empty q new ≡ sent empty q old ++ items → now ≡ behind front (capture_of q new)
-written_more front before now q old new items was wrote more =
-    wrote
-    ∙ ap (λ (o : Option (List ℕ)). behind o (records_of items)) was
-    ∙ behind_again front (capture_of q old) (records_of items)
-    ∙ ap (behind front) (sym (capture_more q old new items more))
-
-module _ {S K C : Type 0} (written : K → Option (List ℕ)) (faults : K → ℕ) (place : ℕ) (first now next : Machine) (old new : List (PortEnds S K C)) (x y : PortEnds S K C) (batch : List Item)
+module _ {S K C : Type 0} (written : K → Option (List ℕ)) (faults : K → ℕ) (place : ℕ) (first now next : Machine) (old new : List (PortEnds S K C)) (x y : PortEnds S K C)
     (planned : ports_held old ≡ ports_planned first.plan) (rising : IsStrictlyIncreasing (numbers_of first.plan.ports)) (so_far : DrainsSoFar written faults place first now old new) (inside : place < length new)
-    (is : get_or new place y ≡ x) (once : DrainsOnce now x.port next batch) (only : OnlySink written faults x y) (wrote : written y.ends.sink ≡ behind (written x.ends.sink) (records_of batch)) where
+    (is : get_or new place y ≡ x) (plan_is : next.plan ≡ now.plan) (only : OnlySink written faults x y) (drained_now : IsDrained written faults now.plan now.past next.past x y) where
   inside_old : place < length old
   inside_old = let size = so_far.sinks.size in omega arith
 
   old_is : get_or old place y ≡ x
   old_is = sym (so_far.sinks.still place y (omega arith)) ∙ is
 
-  past_is : next.past ≡ with_drain first.plan empty x.port (length (queue empty (number_of x.port) now.past)) now.past
-  past_is = once.past ∙ ap (λ (plan : Plan). with_drain plan empty x.port (length (queue empty (number_of x.port) now.past)) now.past) so_far.plan
+  drained_one : IsDrained written faults first.plan now.past next.past x y
+  drained_one = subst (λ (p : Plan). IsDrained written faults p now.past next.past x y) so_far.plan drained_now
 
-  number_here : number_of x.port ≡ number_of (get_or old place y).port
-  number_here = ap (λ (p : PortEnds S K C). number_of p.port) (sym old_is)
+  leaves : PortLeaves first.plan x.port now.past next.past
+  leaves = leaves_drained written faults first.plan now.past next.past x y drained_one
 
-  past_step : drained first.plan empty (drop (place + 1) first.plan.ports) next.past ≡ drained first.plan empty first.plan.ports first.past
-  past_step =
-      let q = held_at old first.plan place y planned inside_old in
-      let port_is : q.0.number ≡ x.port = q.2 ∙ ap (λ (p : PortEnds S K C). p.port) old_is in
-      let one : drained first.plan empty (drop place first.plan.ports) now.past ≡ drained first.plan empty (drop (suc place) first.plan.ports) next.past =
-      ap (λ (l : List PortPlan). drained first.plan empty l now.past) q.1
-      ∙ ap (λ (p : Port). drained first.plan empty (drop (suc place) first.plan.ports) (with_drain first.plan empty p (length (queue empty (number_of p) now.past)) now.past)) port_is
-      ∙ ap (drained first.plan empty (drop (suc place) first.plan.ports)) (sym past_is) in
-      rw add-one (sym one ∙ so_far.past)
+  number_old : (k : ℕ) (d : PortEnds S K C) → k < length old → number_of (get_or old k d).port ≡ number_at first.plan k
+  number_old k d within = number_is old first.plan k d planned within
 
-  apart : (k : ℕ) (d : PortEnds S K C) → k < length old → k ≢ place → number_of x.port ≢ number_of (get_or old k d).port
-  apart k d inside_k other same =
+  number_here : number_of x.port ≡ number_at first.plan place
+  number_here = ap (λ (p : PortEnds S K C). number_of p.port) (sym old_is) ∙ number_old place y inside_old
+
+  apart : (k : ℕ) → k < length old → k ≢ place → number_of x.port ≢ number_at first.plan k
+  apart k within other same =
       let count = count_is old first.plan planned in
-      numbers_differ first.plan k place rising (omega arith) (let size = inside_old in omega arith) other
-      (sym (number_is old first.plan k d planned inside_k) ∙ sym same ∙ number_here ∙ number_is old first.plan place y planned inside_old)
+      let here = inside_old in
+      numbers_differ first.plan k place rising (omega arith) (omega arith) other (sym same ∙ number_here)
 
-  at_place : (d : PortEnds S K C) → IsSent written first.past next.past (get_or old place d) (get_or (set new place y) place d)
-  at_place d front was =
-      let old_d : get_or old place d ≡ x = get_or_default old place d y inside_old ∙ old_is in
-      let new_d : get_or new place d ≡ x = get_or_default new place d y inside ∙ is in
-      let set_d : get_or (set new place y) place d ≡ y = get_or-set_same new place y d inside in
-      let q = number_of x.port in
-      let q_is : number_of (get_or old place d).port ≡ q = ap (λ (p : PortEnds S K C). number_of p.port) old_d in
-      let before : written x.ends.sink ≡ behind front (capture_of q now.past) =
-      ap (λ (p : PortEnds S K C). written p.ends.sink) (sym new_d)
-      ∙ so_far.sent_so_far place d inside_old front was
-      ∙ ap (λ (n : ℕ). behind front (capture_of n now.past)) q_is in
-      let more : sent empty q next.past ≡ sent empty q now.past ++ batch =
-      ap (λ (l : List Row). sent empty q l) past_is
-      ∙ sent_whole first.plan empty now.past x.port
-      ∙ ap (λ (l : List Item). sent empty q now.past ++ l) (sym once.batch_is) in
-      ap (λ (p : PortEnds S K C). written p.ends.sink) set_d
-      ∙ written_more front (written x.ends.sink) (written y.ends.sink) q now.past next.past batch before wrote more
-      ∙ ap (λ (n : ℕ). behind front (capture_of n next.past)) (sym q_is)
+  passes_apart : (k : ℕ) → k < length old → k ≢ place → egress_pass first.plan (number_of x.port) ≢ egress_pass first.plan (number_at first.plan k)
+  passes_apart k within other same =
+      let count = count_is old first.plan planned in
+      let here = inside_old in
+      egress_apart first.plan place k rising (omega arith) (omega arith) (λ e. other (sym e)) (ap (egress_pass first.plan) (sym number_here) ∙ same)
 
-  sent_at : (k : ℕ) (d : PortEnds S K C) → k < length old → (k ≡ place) ⊎ (k ≢ place) → IsSent written first.past next.past (get_or old k d) (get_or (set new place y) k d)
-  sent_at k d inside_k (inr other) front was =
-      let same_sink : get_or (set new place y) k d ≡ get_or new k d = get_or-set_other new place k y d other in
-      let q = number_of (get_or old k d).port in
-      let stays : sent empty q next.past ≡ sent empty q now.past =
-      ap (λ (l : List Row). sent empty q l) past_is ∙ sent_other first.plan empty now.past x.port (length (queue empty (number_of x.port) now.past)) q (apart k d inside_k other) in
-      ap (λ (p : PortEnds S K C). written p.ends.sink) same_sink
-      ∙ so_far.sent_so_far k d inside_k front was
-      ∙ ap (λ (l : List Item). behind front (header_text ++ records_of l)) (sym stays)
-  sent_at k d inside_k (inl same) front was =
-      subst (λ (n : ℕ). IsSent written first.past next.past (get_or old n d) (get_or (set new place y) n d)) (sym same) (at_place d) front was
+  -- what may be drained next
 
-  pub drain_step : DrainsSoFar written faults (place + 1) first next old (set new place y)
-  drain_step = record {
-    plan = once.plan ∙ so_far.plan;
+  drainable_here : (p : Port) → x.port ≡ p → IsDrainable first.plan now.past p → IsDrainable first.plan next.past p
+  drainable_here p same was =
+      let none : waiting_at p next.past ≡ [] = subst (λ (r : Port). waiting_at r next.past ≡ []) same (emptied written faults first.plan now.past next.past x y drained_one) in
+      record { known = was.known; few = rw none (omega arith); quiet = λ ended. none }
+
+  drainable_there : (p : Port) → number_of x.port ≢ number_of p → egress_pass first.plan (number_of x.port) ≢ egress_pass first.plan (number_of p) → IsDrainable first.plan now.past p → IsDrainable first.plan next.past p
+  drainable_there p other passes was =
+      let keeps = leaves.keeps (number_of p) other passes in
+      let same : waiting_at p next.past ≡ waiting_at p now.past = leaves.queues (number_of p) other in
+      record { known = was.known; few = rw same was.few; quiet = λ ended. same ∙ was.quiet (sym keeps.ended_same ∙ ended) }
+
+  drainable_at : (k : ℕ) (d : PortEnds S K C) → k < length old → (k ≡ place) ⊎ (k ≢ place) → IsDrainable first.plan next.past (get_or old k d).port
+  drainable_at k d within (inl same) =
+      let here : x.port ≡ (get_or old k d).port = ap (λ (p : PortEnds S K C). p.port) (sym old_is ∙ get_or_default old place y d inside_old ∙ ap (λ (n : ℕ). get_or old n d) (sym same)) in
+      drainable_here (get_or old k d).port here (so_far.drainable k d within)
+  drainable_at k d within (inr other) =
+      drainable_there (get_or old k d).port (λ e. apart k within other (e ∙ number_old k d within)) (λ e. passes_apart k within other (e ∙ ap (egress_pass first.plan) (number_old k d within))) (so_far.drainable k d within)
+
+  -- an output that had ended is left alone
+
+  alone_at : (k : ℕ) (d : PortEnds S K C) → k < length old → (k ≡ place) ⊎ (k ≢ place) → has_ended empty (egress_pass first.plan (number_of (get_or old k d).port)) first.past ≡ true → get_or (set new place y) k d ≡ get_or old k d
+  alone_at k d within (inl same) ended =
+      let here : get_or old k d ≡ x = ap (λ (n : ℕ). get_or old n d) same ∙ get_or_default old place d y inside_old ∙ old_is in
+      let ended_now : has_ended empty (egress_pass first.plan (number_of (get_or old k d).port)) now.past ≡ true = so_far.later (egress_pass first.plan (number_of (get_or old k d).port)) ended in
+      let none : waiting_at x.port now.past ≡ [] = subst (λ (p : PortEnds S K C). waiting_at p.port now.past ≡ []) here ((so_far.drainable k d within).quiet ended_now) in
+      ap (λ (n : ℕ). get_or (set new place y) n d) same ∙ get_or-set_same new place y d inside ∙ drained_nothing written faults first.plan now.past next.past x y drained_one none ∙ sym here
+  alone_at k d within (inr other) ended = get_or-set_other new place k y d other ∙ so_far.alone k d within ended
+
+  module _ (start : List (PortEnds S K C)) (known : Stops) (before : DrainedSoFar written faults first.plan place known first.past now.past start new) where
+    abbrev made : Stops → List Row
+    made stops = with_drain first.plan empty stops x.port (length (waiting_at x.port now.past)) now.past
+
+    inside_start : place < length start
+    inside_start = let size = before.outputs.size in omega arith
+
+    o : PortEnds S K C
+    o = get_or start place y
+
+    was : IsOutputOf written faults first.plan before.later now.past o x
+    unfolding o
+    was = subst (λ (p : PortEnds S K C). IsOutputOf written faults first.plan before.later now.past (get_or start place y) p) is (before.outputs.each place y inside_start)
+
+    drain : DrainStep written faults first.plan x.port (before.later (number_of x.port)) now.past next.past o.ends.sink y.ends.sink made
+    drain =
+        drain_step written faults first.plan now.past next.past o.ends.sink x y (before.later (number_of x.port)) was.later
+        (subst (λ (p : Port). IsOutput written faults first.plan now.past (number_of p) o.ends.sink x.ends.sink (before.later (number_of p))) (sym was.port) was.output) drained_one
+
+    abbrev step : PortStep written faults first.plan x.port next.past o.ends.sink y.ends.sink made
+    step = drain.step
+
+    abbrev known_now : Stops
+    known_now = later written faults first.plan before.later now.past next.past o x y made was.port was.later only leaves step
+
+    port_new : (k : ℕ) (d : PortEnds S K C) → (k < place) ⊎ (place ≤ k) → (get_or new k d).port ≡ (get_or old k d).port
+    port_new k d (inl below) = ap (λ (p : PortEnds S K C). p.port) (so_far.sinks.done k d below).same
+    port_new k d (inr above) = ap (λ (p : PortEnds S K C). p.port) (so_far.sinks.still k d above)
+
+    number_start : (k : ℕ) (d : PortEnds S K C) → k < length start → number_of (get_or start k d).port ≡ number_at first.plan k
+    number_start k d within =
+        let size = before.outputs.size in
+        let size_old = so_far.sinks.size in
+        ap number_of (sym (before.outputs.each k d within).port ∙ port_new k d (cases_lt k place)) ∙ number_old k d (omega arith)
+
+    within_old : (k : ℕ) → k < length start → k < length old
+    within_old k within = let size = before.outputs.size in let size_old = so_far.sinks.size in omega arith
+
+    output_at : (k : ℕ) (d : PortEnds S K C) → k < length start → (k ≡ place) ⊎ (k ≢ place) → IsOutputOf written faults first.plan known_now next.past (get_or start k d) (get_or (set new place y) k d)
+    unfolding o
+    output_at k d within (inl same) =
+        let first_is : get_or start k d ≡ o = ap (λ (n : ℕ). get_or start n d) same ∙ get_or_default start place d y inside_start in
+        let now_is : get_or (set new place y) k d ≡ y = ap (λ (n : ℕ). get_or (set new place y) n d) same ∙ get_or-set_same new place y d inside in
+        rw (first_is, now_is) (output_here written faults first.plan before.later now.past next.past o x y made was.port was.later only leaves step)
+    output_at k d within (inr other) =
+        rw (get_or-set_other new place k y d other)
+        (output_there written faults first.plan before.later now.past next.past o x y made was.port was.later only leaves step (get_or start k d) (get_or new k d)
+        (λ e. apart k (within_old k within) other (e ∙ number_start k d within)) (λ e. passes_apart k (within_old k within) other (e ∙ ap (egress_pass first.plan) (number_start k d within))) (before.outputs.each k d within))
+
+    allowed_at : (stops : Stops) (k : ℕ) → k < length old → (k ≡ place) ⊎ (k ≢ place) → Allows (known_now (number_at first.plan k)) (stops (number_at first.plan k)) (pieces_by empty (number_at first.plan k) next.past)
+        → Allows (before.later (number_at first.plan k)) (stops (number_at first.plan k)) (pieces_by empty (number_at first.plan k) now.past)
+    allowed_at stops k within (inl same) allowed =
+        let here : number_of x.port ≡ number_at first.plan k = number_here ∙ ap (number_at first.plan) (sym same) in
+        subst (λ (n : ℕ). Allows (before.later n) (stops n) (pieces_by empty n now.past)) here
+        (drain.before (stops (number_of x.port))
+        (allowed_here written faults first.plan before.later now.past next.past o x y made was.port was.later only leaves step (stops (number_of x.port))
+        (subst (λ (n : ℕ). Allows (known_now n) (stops n) (pieces_by empty n next.past)) (sym here) allowed)))
+    allowed_at stops k within (inr other) allowed =
+        allowed_there written faults first.plan before.later now.past next.past o x y made was.port was.later only leaves step (number_at first.plan k) (stops (number_at first.plan k)) (apart k within other) (passes_apart k within other) allowed
+
+    allowed_before : (stops : Stops) → AreAllowed first.plan known_now stops next.past → AreAllowed first.plan before.later stops now.past
+    allowed_before stops allowed k d within =
+        let count = count_is old first.plan planned in
+        let size = length-numbers first.plan.ports in
+        subst (λ (n : ℕ). Allows (before.later n) (stops n) (pieces_by empty n now.past)) (get_or_default (numbers_of first.plan.ports) k 0 d within)
+        (allowed_at stops k (omega arith) (cases_eq k place) (allowed k 0 within))
+
+    next_is : (stops : Stops) → AreAllowed first.plan known_now stops next.past → next.past ≡ made stops
+    next_is stops allowed =
+        let count = count_is old first.plan planned in
+        let size = length-numbers first.plan.ports in
+        let here = inside_old in
+        made_here written faults first.plan before.later now.past next.past o x y made was.port was.later only leaves step stops
+        (subst (λ (n : ℕ). Allows (known_now n) (stops n) (pieces_by empty n next.past)) (sym number_here) (allowed place 0 (omega arith)))
+
+    rest_is : (stops : Stops) → AreAllowed first.plan known_now stops next.past → drained first.plan empty stops (drop (place + 1) first.plan.ports) next.past ≡ drained first.plan empty stops (drop place first.plan.ports) now.past
+    rest_is stops allowed =
+        let q = held_at old first.plan place y planned inside_old in
+        let port_is : q.0.number ≡ x.port = q.2 ∙ ap (λ (p : PortEnds S K C). p.port) old_is in
+        let one : drained first.plan empty stops (drop place first.plan.ports) now.past ≡ drained first.plan empty stops (drop (suc place) first.plan.ports) next.past =
+        ap (λ (l : List PortPlan). drained first.plan empty stops l now.past) q.1
+        ∙ ap (λ (p : Port). drained first.plan empty stops (drop (suc place) first.plan.ports) (with_drain first.plan empty stops p (length (waiting_at p now.past)) now.past)) port_is
+        ∙ ap (drained first.plan empty stops (drop (suc place) first.plan.ports)) (sym (next_is stops allowed)) in
+        rw add-one (sym one)
+
+    pub drained_more : DrainedSoFar written faults first.plan (place + 1) known first.past next.past start (set new place y)
+    drained_more = record {
+      later = known_now;
+      outputs = record { size = length-set new place y ∙ before.outputs.size; each = λ k d within. output_at k d within (cases_eq k place) };
+      before = λ stops allowed. before.before stops (allowed_before stops allowed);
+      made_so = λ stops allowed. rest_is stops allowed ∙ before.made_so stops (allowed_before stops allowed);
+    }
+
+  pub drains_more : DrainsSoFar written faults (place + 1) first next old (set new place y)
+  drains_more = record {
+    plan = plan_is ∙ so_far.plan;
     sinks = pairs_more (OnlySink written faults) place old new y so_far.sinks inside (subst (λ (p : PortEnds S K C). OnlySink written faults p y) (sym old_is) only);
-    past = past_step;
-    ended = λ pass. ap (λ (l : List Row). has_ended empty pass l) past_is ∙ ended_drain first.plan empty now.past x.port (length (queue empty (number_of x.port) now.past)) pass ∙ so_far.ended pass;
-    inputs = λ n. ap (λ (l : List Row). input_end n l) past_is ∙ end_drain first.plan now.past x.port (length (queue empty (number_of x.port) now.past)) n (length (queue empty (number_of x.port) now.past) == 0) ∙ so_far.inputs n;
-    few = λ k d inside_k.
-        let q = number_of (get_or old k d).port in
-        let less = fewer first.plan empty now.past x.port (length (queue empty (number_of x.port) now.past)) q in
-        let was = so_far.few k d inside_k in
-        rw past_is (omega arith);
-    sent_so_far = λ k d inside_k. sent_at k d inside_k (cases_eq k place);
+    later = λ pass ended. leaves.later pass (so_far.later pass ended);
+    drainable = λ k d within. drainable_at k d within (cases_eq k place);
+    alone = λ k d within. alone_at k d within (cases_eq k place);
+    outputs = λ start known was. drained_more start known (so_far.outputs start known was);
   }
+
+-- behind the last port
+pub drains_all : {S K C : Type 0} (written : K → Option (List ℕ)) (faults : K → ℕ) (place : ℕ) (first now : Machine) (old new : List (PortEnds S K C)) → place ≡ length first.plan.ports → DrainsSoFar written faults place first now old new
+    → OutputsGoOn written faults first.plan first.past now.past old new (λ stops. drained first.plan empty stops first.plan.ports first.past)
+drains_all written faults place first now old new all so_far start known was =
+    let done = so_far.outputs start known was in
+    let none : drop place first.plan.ports ≡ [] = drop_all place first.plan.ports (omega arith) in (
+      done.later,
+      done.outputs,
+      record {
+        before = done.before;
+        made_so = λ stops allowed. ap (λ (l : List PortPlan). drained first.plan empty stops l now.past) (sym none) ∙ done.made_so stops allowed;
+      },
+    )

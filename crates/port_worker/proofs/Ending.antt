@@ -11,16 +11,13 @@ use Rattle.savi_kinds.specs.declared.entry.How.{How}
 use Rattle.savi_kinds.specs.declared.entry.How.TheVariants as hows
 use Rattle.savi_kinds.specs.Ports.{number_of}
 use Rattle.savi_kinds.specs.Arrivals.{Input}
-use Rattle.savi_ends.specs.Octets.{behind}
-use Rattle.pcap_io.specs.Captures.{header_text}
 use Rattle.pcap_io.specs.Readers.{Comes}
 use Rattle.hist_store.specs.Rows.{Row}
 use Rattle.savi_history.specs.Bases.{empty}
 use Rattle.savi_history.specs.Passes.{AllEnded, has_ended, control_pass}
-use Rattle.savi_history.specs.Queues.{Item, sent}
 use Rattle.savi_history.specs.Events.{End}
 use Rattle.savi_history.specs.Turns.{Turn, turns, port_turns, merged}
-use Rattle.savi_history.specs.Replay.{with_event, after_all, egress_ended, control_turns}
+use Rattle.savi_history.specs.Replay.{begun, with_event, after_all, egress_ended, control_turns}
 use Rattle.savi_history.specs.PortInputs.{input_end}
 use Rattle.savi_history.proofs.PortInputs.{same_finished}
 use Rattle.savi_history.proofs.Ends.{AreOf}
@@ -29,8 +26,11 @@ use Rattle.port_worker.specs.declared.port_ends.Ahead.{Ahead}
 use Rattle.port_worker.specs.declared.port_ends.Ahead.TheVariants as ahead
 use Rattle.port_worker.specs.declared.port_ends.PortEnds.{PortEnds}
 use Rattle.port_worker.specs.Inputs.{IsKnown, moment_of}
-use Rattle.port_worker.specs.SentFrames.{records_of}
-use Rattle.port_worker.specs.Replays.{IsInputOf, IsInputAt, IsReplayed, ports_held, ports_planned}
+use Rattle.port_worker.specs.Pairs.{EachPair}
+use Rattle.port_worker.specs.Outputs.{IsOutput, IsOutputEnded}
+use Rattle.port_worker.specs.Replays.{IsInputOf, IsInputAt, IsReplayed, IsOutputFit, HasBrokenOut, ports_held, ports_planned}
+use Rattle.port_worker.proofs.Allowed.{allowed_itself}
+use Rattle.port_worker.proofs.EndedOutputs.{took_of, fit_of, broken_of}
 use Rattle.port_worker.proofs.Planned.{count_is}
 use Rattle.port_worker.proofs.Progress.{head_of, done_at_none, Gone, ProgressBy}
 use Rattle.port_worker.proofs.Running.{Running, head_at, element}
@@ -195,24 +195,51 @@ module _ {S K C : Type 0} (left : S → Option (List ℕ)) (written : K → Opti
       ∙ ap (λ (p : Port). turns p (get_or inputs_of k both_default.0)) (sym (port_at k e within))
       ∙ sym (port_turns_at plan.ports inputs_of k d e.port both_default.0 (omega arith) (omega arith)))
 
-  past_is : past ≡ after_all plan empty (merged (control_turns ∷ port_turns plan.ports inputs_of)) []
+  past_is : past ≡ after_all plan empty r.known (merged (control_turns ∷ port_turns plan.ports inputs_of)) (begun plan empty r.known plan.ports [])
   past_is =
-      reaches_end plan empty (map head_of ports) r.taken past rests heads_done r.agree rests_left r.reaches
-      ∙ ap (λ (l : List (List Turn)). after_all plan empty (merged (control_turns ∷ l)) []) turns_are
+      let begins = begun plan empty r.known plan.ports [] in
+      reaches_end plan empty r.known begins (map head_of ports) r.taken past rests heads_done r.agree rests_left (r.reaches r.known (allowed_itself plan r.known past))
+      ∙ ap (λ (l : List (List Turn)). after_all plan empty r.known (merged (control_turns ∷ l)) begins) turns_are
 
   end_same : (now : List Row) → now ≡ egress_ended plan empty plan.ports (with_event plan empty past (End Ticker hows.End)) → (n : ℕ) → input_end n now ≡ input_end n past
   end_same now finished n = ap (λ (l : List Row). input_end n l) finished ∙ (same_finished plan empty past n).end_same
 
-  pub replayed_all : (now : List Row) → now ≡ egress_ended plan empty plan.ports (with_event plan empty past (End Ticker hows.End)) → ((q : ℕ) → sent empty q now ≡ sent empty q past) → IsReplayed left written plan now first ports
-  replayed_all now finished same = record {
-    inputs = inputs_of;
-    size = inputs_count;
-    history = finished ∙ ap (λ (l : List Row). egress_ended plan empty plan.ports (with_event plan empty l (End Ticker hows.End))) past_is;
-    arrived = λ k d i inside.
-        let p = get_or first k d in
-        let q = get_or ports k d in
-        subst (λ (input : Input). IsInputAt left now p q input) (sym (input_at k i inside))
-        (input_later left past now p q (get_or wholes.0 k both_default).0 (end_same now finished (number_of p.port)) ((wholes.2 k both_default inside).came d));
-    wrote = λ k d inside.
-        r.wrote k d inside ∙ ap (λ (l : List Item). behind (written (get_or first k d).ends.sink) (header_text ++ records_of l)) (sym (same (number_of (get_or first k d).port)));
-  }
+  module _ (now : List Row) (finished : now ≡ egress_ended plan empty plan.ports (with_event plan empty past (End Ticker hows.End))) (outputs : All (λ p. IsOutputEnded plan past now (number_of p.port)) ports) where
+    -- the output of a port, and what the end left of it
+    output_at : (k : ℕ) (d : PortEnds S K C) → k < length first → IsOutput written sink_faults plan past (number_of (get_or first k d).port) (get_or first k d).ends.sink (get_or ports k d).ends.sink (r.known (number_of (get_or first k d).port))
+    output_at k d inside = (r.outputs.each k d inside).output
+
+    ended_output : (k : ℕ) (d : PortEnds S K C) → k < length first → IsOutputEnded plan past now (number_of (get_or first k d).port)
+    ended_output k d inside = subst (λ (p : Port). IsOutputEnded plan past now (number_of p)) (r.outputs.each k d inside).port (outputs k d (omega (arith, r.outputs.size, inside)))
+
+    pub replayed_all : IsReplayed left written plan now first ports
+    replayed_all = record {
+      inputs = inputs_of;
+      size = inputs_count;
+      stops = r.known;
+      history = finished ∙ ap (λ (l : List Row). egress_ended plan empty plan.ports (with_event plan empty l (End Ticker hows.End))) past_is;
+      arrived = λ k d i inside.
+          let p = get_or first k d in
+          let q = get_or ports k d in
+          subst (λ (input : Input). IsInputAt left now p q input) (sym (input_at k i inside))
+          (input_later left past now p q (get_or wholes.0 k both_default).0 (end_same now finished (number_of p.port)) ((wholes.2 k both_default inside).came d));
+      wrote = λ k d inside.
+          let n = number_of (get_or first k d).port in
+          took_of written sink_faults plan past now n (get_or first k d).ends.sink (get_or ports k d).ends.sink (r.known n) (output_at k d inside) (ended_output k d inside);
+    }
+
+    pub fits_out : EachPair (IsOutputFit written now) first ports
+    fits_out = record {
+      size = r.outputs.size;
+      each = λ k d inside.
+          let n = number_of (get_or first k d).port in
+          fit_of written sink_faults plan past now n (get_or first k d).ends.sink (get_or ports k d).ends.sink (r.known n) (output_at k d inside) (ended_output k d inside);
+    }
+
+    pub broken_out : EachPair (HasBrokenOut sink_faults now) first ports
+    broken_out = record {
+      size = r.outputs.size;
+      each = λ k d inside.
+          let n = number_of (get_or first k d).port in
+          broken_of written sink_faults plan past now n (get_or first k d).ends.sink (get_or ports k d).ends.sink (r.known n) (output_at k d inside) (ended_output k d inside);
+    }

@@ -35,7 +35,7 @@ module _ (old mid new : Machine) (port : Port) (arrival : Arrival) where
       let past_is : new.past ≡ replay.with_event old.plan empty old.past (End (Ingress port) (hows.Full len)) =
       ap (λ (m : Machine). m.past) (made ∙ ap (λ (m : Machine). with_event m (End (Ingress port) (hows.Full len))) mid_is) in
       subst (λ (b : Bool). Enters old.plan port (Arrives port arrival) old.past b new.past) (sym answer)
-      (hows.Full len, past_is, rw (no_room old port arrival has) (past_is ∙ ap (λ (n : ℕ). replay.with_event old.plan empty old.past (End (Ingress port) (hows.Full n))) len_is), rw (no_room old port arrival has) refl)
+      (hows.Full len, past_is, λ stops. rw (no_room old port arrival has) (past_is ∙ ap (λ (n : ℕ). replay.with_event old.plan empty old.past (End (Ingress port) (hows.Full n))) len_is), rw (no_room old port arrival has) refl)
 
   pub entered_arrival : (R Q : Type 0) (result : Bool) (answer : Stepped) → Did old (replay.event_of port arrival) mid answer
       → IfFull answer (λ len. (result ≡ false) × (new ≡ with_event mid (End (Ingress port) (hows.Full len))) × R)

@@ -1,5 +1,5 @@
 -- The ends of the ticker and of each egress.
-use Rattle.std.proofs.Common.{◌≡◌, ◌≢◌, ℕ, suc, ◌+◌, ◌<◌, ◌≤◌, true, false, List, [], ◌∷◌, length, drop, sym, ap, ◌∙◌, subst, arith, ◌⊎◌, inl, inr, add-one}
+use Rattle.std.proofs.Common.{◌≡◌, ◌≢◌, ℕ, suc, ◌+◌, ◌<◌, ◌≤◌, Bool, true, false, if◌then◌else◌, List, [], ◌∷◌, length, drop, refl, sym, ap, ◌∙◌, subst, arith, ◌⊎◌, inl, inr, add-one}
 use Rattle.std.proofs.lemmas.Bool.{cases_eq}
 use Rattle.std.specs.List.Sorted.{IsStrictlyIncreasing}
 use Rattle.savi_kinds.specs.declared.port.Port.{Port}
@@ -13,18 +13,20 @@ use Rattle.savi_kinds.specs.Ports.{number_of}
 use Rattle.savi_kinds.specs.ValidPlan.{numbers_of}
 use Rattle.hist_store.specs.Rows.{Row}
 use Rattle.savi_history.specs.Bases.{empty}
-use Rattle.savi_history.specs.Passes.{AllEnded, control_pass, ticker_pass, egress_pass, has_ended, has_port, place_of}
-use Rattle.savi_history.specs.Queues.{queue, sent}
+use Rattle.savi_history.specs.Passes.{AllEnded, control_pass, ticker_pass, egress_pass, has_ended, has_port, has_pass, place_of}
+use Rattle.savi_history.specs.Queues.{queue}
 use Rattle.savi_history.specs.Events.{End}
-use Rattle.savi_history.specs.Legal.{IsOpen, IsFinished, MayEnd}
+use Rattle.savi_history.specs.Legal.{IsFinished}
 use Rattle.savi_history.specs.Replay as replay
-use Rattle.savi_history.specs.Replay.{egress_ended}
+use Rattle.savi_history.specs.Replay.{with_end, egress_ended}
 use Rattle.savi_history.proofs.Ends.{later_event}
 use Rattle.savi_history.proofs.Waiting.{ended_now, ended_other, empty_end, sent_end}
 use Rattle.savi_history.proofs.PassNumbers.{number_at, place_at, known_at}
 use Rattle.savi_core.specs.Machines.{Machine, with_event}
-use Rattle.savi_core.specs.Steps.{Did, MayStep}
-use Rattle.savi_history.specs.Events as events
+use Rattle.savi_core.specs.Steps.{Did}
+use Rattle.port_worker.specs.Outputs.{IsOutputEnded}
+use Rattle.port_worker.proofs.Planned.{numbers_differ}
+use Rattle.port_worker.proofs.KeptOutputs.{KeepsOutput, keeps_then, keeps_ticker, keeps_egress, end_here}
 use Rattle.savi_core.specs.declared.event.Stepped.{Stepped}
 use Rattle.savi_core.specs.declared.event.Stepped.TheVariants as stepped
 
@@ -38,36 +40,35 @@ pub record FinishesSoFar (plan : Plan) (place : ℕ) (first now : Machine) : Typ
   pub plan_is : now.plan ≡ plan
   pub past : egress_ended plan empty (drop place plan.ports) now.past ≡ egress_ended plan empty plan.ports (replay.with_event plan empty first.past (End Ticker hows.End))
   pub ended : AllEnded empty (ticker_pass plan + 1 + place) now.past
-  pub still : (k : ℕ) → place ≤ k → k < length plan.ports → has_ended empty (egress_pass plan (number_at plan k)) now.past ≡ false
   pub quiet : (q : ℕ) → queue empty q first.past ≡ [] → queue empty q now.past ≡ []
-  pub sent_same : (q : ℕ) → sent empty q now.past ≡ sent empty q first.past
+  pub outputs : (k : ℕ) → k < place → IsOutputEnded plan first.past now.past (number_at plan k)
+  pub keeps : (k : ℕ) → place ≤ k → k < length plan.ports → KeepsOutput plan (number_at plan k) first.past now.past
 
 ended_at : (plan : Plan) (past : List Row) (pass : ℕ) → AllEnded empty (control_pass plan + 1) past → pass < ticker_pass plan + 1 → (pass ≡ ticker_pass plan) ⊎ (pass ≢ ticker_pass plan) → has_ended empty pass (replay.with_event plan empty past (End Ticker hows.End)) ≡ true
 ended_at plan past pass inputs below (inl same) = subst (λ (n : ℕ). has_ended empty n (replay.with_event plan empty past (End Ticker hows.End)) ≡ true) (sym same) (ended_now plan empty past Ticker hows.End)
 ended_at plan past pass inputs below (inr other) = later_event plan empty past (End Ticker hows.End) pass (inputs pass (omega arith))
 
-pub finish_start : (first now : Machine) → AllEnded empty (control_pass first.plan + 1) first.past → ((pass : ℕ) → control_pass first.plan < pass → has_ended empty pass first.past ≡ false)
-    → now ≡ with_event first (End Ticker hows.End) → FinishesSoFar first.plan 0 first now
-finish_start first now inputs outputs made =
+pub finish_start : (first now : Machine) → AllEnded empty (control_pass first.plan + 1) first.past → now ≡ with_event first (End Ticker hows.End) → FinishesSoFar first.plan 0 first now
+finish_start first now inputs made =
     let past_is : now.past ≡ replay.with_event first.plan empty first.past (End Ticker hows.End) = ap (λ (m : Machine). m.past) made in
     record {
       plan_is = ap (λ (m : Machine). m.plan) made;
       past = ap (λ (l : List Row). egress_ended first.plan empty first.plan.ports l) past_is;
       ended = λ pass below. rw past_is (ended_at first.plan first.past pass inputs (omega (arith, below)) (cases_eq pass (ticker_pass first.plan)));
-      still = λ k above inside. rw past_is (ended_other first.plan empty first.past Ticker hows.End (egress_pass first.plan (number_at first.plan k)) (λ same. absurd (omega arith)) ∙ outputs (egress_pass first.plan (number_at first.plan k)) (omega arith));
       quiet = λ q none. rw past_is (empty_end first.plan empty first.past Ticker hows.End q none);
-      sent_same = λ q. ap (λ (l : List Row). sent empty q l) past_is ∙ sent_end first.plan empty first.past Ticker hows.End q;
+      outputs = λ k below. absurd (omega (arith, below));
+      keeps = λ k above inside. subst (λ (l : List Row). KeepsOutput first.plan (number_at first.plan k) first.past l) (sym past_is) (keeps_ticker first.plan first.past hows.End (number_at first.plan k));
     }
 
 module _ (plan : Plan) (place : ℕ) (first now : Machine) (port : Port) (rising : IsStrictlyIncreasing (numbers_of plan.ports)) (inside : place < length plan.ports) (number_is : number_of port ≡ number_at plan place) (so_far : FinishesSoFar plan place first now) where
-  running : has_ended empty (egress_pass plan (number_of port)) now.past ≡ false
-  running = ap (λ (n : ℕ). has_ended empty (egress_pass plan n) now.past) number_is ∙ so_far.still place (omega arith) inside
-
   known : has_port plan (number_of port) ≡ true
   known = ap (has_port plan) number_is ∙ known_at plan place inside
 
   ended_before : AllEnded empty (ticker_pass plan + 1) now.past
   ended_before = λ pass below. so_far.ended pass (omega (arith, below))
+
+  keeps_here : KeepsOutput plan (number_of port) first.past now.past
+  keeps_here = subst (λ (n : ℕ). KeepsOutput plan n first.past now.past) (sym number_is) (so_far.keeps place (omega arith) inside)
 
   pass_is : egress_pass plan (number_of port) ≡ ticker_pass plan + 1 + place
   pass_is =
@@ -78,40 +79,120 @@ module _ (plan : Plan) (place : ℕ) (first now : Machine) (port : Port) (rising
   below_it : (pass : ℕ) → pass < ticker_pass plan + 1 + (place + 1) → pass ≢ egress_pass plan (number_of port) → pass < ticker_pass plan + 1 + place
   below_it pass below other = elim (cases_eq pass (ticker_pass plan + 1 + place)) [ inl same ↦ absurd (other (same ∙ sym pass_is)) | inr apart_from ↦ omega (arith, below, apart_from) ]
 
-  -- the passes that have ended, with that of this port
-  ended_then : (next : Machine) (pass : ℕ) → next.past ≡ replay.with_event plan empty now.past (End (Egress port) hows.End) → pass < ticker_pass plan + 1 + (place + 1) → (pass ≡ egress_pass plan (number_of port)) ⊎ (pass ≢ egress_pass plan (number_of port)) → has_ended empty pass next.past ≡ true
-  ended_then next pass past_is below (inl same) = rw past_is (subst (λ (n : ℕ). has_ended empty n (replay.with_event plan empty now.past (End (Egress port) hows.End)) ≡ true) (sym same) (ended_now plan empty now.past (Egress port) hows.End))
-  ended_then next pass past_is below (inr other) = rw past_is (later_event plan empty now.past (End (Egress port) hows.End) pass (so_far.ended pass (below_it pass below other)))
+  pub known_here : has_pass now.plan (Egress port) ≡ true
+  known_here = ap (λ (p : Plan). has_port p (number_of port)) so_far.plan_is ∙ known
 
-  pub egress_may : queue empty (number_of port) first.past ≡ [] → MayStep now (events.End (Egress port) hows.End)
-  egress_may none =
-      subst (λ (p : Plan). IsOpen p empty now.past (Egress port) × MayEnd p empty now.past (Egress port) hows.End) (sym so_far.plan_is)
-      (record { known = known; running = running }, (ended_before, so_far.quiet (number_of port) none))
+  pub last_now : AllEnded empty (ticker_pass now.plan + 1) now.past
+  last_now = subst (λ (p : Plan). AllEnded empty (ticker_pass p + 1) now.past) (sym so_far.plan_is) ended_before
 
-  apart : (k : ℕ) → place + 1 ≤ k → k < length plan.ports → egress_pass plan (number_of port) ≢ egress_pass plan (number_at plan k)
-  apart k above below same =
+  apart : (k : ℕ) → k ≢ place → k < length plan.ports → egress_pass plan (number_of port) ≢ egress_pass plan (number_at plan k)
+  apart k other below same =
       let here = place_at plan place rising inside in
       let there = place_at plan k rising below in
       let same_here : egress_pass plan (number_at plan place) ≡ egress_pass plan (number_at plan k) = ap (egress_pass plan) (sym number_is) ∙ same in
-      omega arith
+      other (omega arith)
 
-  pub finish_step : (next : Machine) (q : PortPlan) → drop place plan.ports ≡ q ∷ drop (suc place) plan.ports → q.number ≡ port → next ≡ with_event now (End (Egress port) hows.End) → FinishesSoFar plan (place + 1) first next
-  finish_step next q split port_is made =
-      let past_is : next.past ≡ replay.with_event plan empty now.past (End (Egress port) hows.End) =
-      ap (λ (m : Machine). m.past) made ∙ ap (λ (p : Plan). replay.with_event p empty now.past (End (Egress port) hows.End)) so_far.plan_is in
-      let one : egress_ended plan empty (drop place plan.ports) now.past ≡ egress_ended plan empty (drop (suc place) plan.ports) next.past =
+  numbers_apart : (k : ℕ) → k ≢ place → k < length plan.ports → number_of port ≢ number_at plan k
+  numbers_apart k other below same = numbers_differ plan k place rising below inside other (sym same ∙ number_is)
+
+  -- the next history is this one, or that with the end of this egress
+  rest_by : (past : List Row) (q : PortPlan) → drop place plan.ports ≡ q ∷ drop (suc place) plan.ports → q.number ≡ port → with_end plan empty port now.past ≡ past → egress_ended plan empty (drop (place + 1) plan.ports) past ≡ egress_ended plan empty plan.ports (replay.with_event plan empty first.past (End Ticker hows.End))
+  rest_by past q split port_is is =
+      let one : egress_ended plan empty (drop place plan.ports) now.past ≡ egress_ended plan empty (drop (suc place) plan.ports) past =
       ap (λ (l : List PortPlan). egress_ended plan empty l now.past) split
-      ∙ ap (λ (p : Port). egress_ended plan empty (drop (suc place) plan.ports) (replay.with_event plan empty now.past (End (Egress p) hows.End))) port_is
-      ∙ ap (λ (l : List Row). egress_ended plan empty (drop (suc place) plan.ports) l) (sym past_is) in
-      record {
-        plan_is = ap (λ (m : Machine). m.plan) made ∙ so_far.plan_is;
-        past = rw add-one (sym one ∙ so_far.past);
-        ended = λ pass below. ended_then next pass past_is below (cases_eq pass (egress_pass plan (number_of port)));
-        still = λ k above below. rw past_is (ended_other plan empty now.past (Egress port) hows.End (egress_pass plan (number_at plan k)) (apart k above below) ∙ so_far.still k (omega arith) below);
-        quiet = λ n none. rw past_is (empty_end plan empty now.past (Egress port) hows.End n (so_far.quiet n none));
-        sent_same = λ n. ap (λ (l : List Row). sent empty n l) past_is ∙ sent_end plan empty now.past (Egress port) hows.End n ∙ so_far.sent_same n;
-      }
+      ∙ ap (λ (p : Port). egress_ended plan empty (drop (suc place) plan.ports) (with_end plan empty p now.past)) port_is
+      ∙ ap (λ (l : List Row). egress_ended plan empty (drop (suc place) plan.ports) l) is in
+      rw add-one (sym one ∙ so_far.past)
+
+  -- where the egress had ended
+  module _ (over : has_ended empty (egress_pass plan (number_of port)) now.past ≡ true) where
+    still_ended : (pass : ℕ) → pass < ticker_pass plan + 1 + (place + 1) → (pass ≡ egress_pass plan (number_of port)) ⊎ (pass ≢ egress_pass plan (number_of port)) → has_ended empty pass now.past ≡ true
+    still_ended pass below (inl same) = ap (λ (n : ℕ). has_ended empty n now.past) same ∙ over
+    still_ended pass below (inr other) = so_far.ended pass (below_it pass below other)
+
+    output_over : IsOutputEnded plan first.past now.past (number_of port)
+    output_over = record {
+      sent_same = keeps_here.sent_same;
+      sure_same = keeps_here.sure_same;
+      ended = λ running. let e : false ≡ true = sym running ∙ sym keeps_here.ended_same ∙ over in cc;
+      still = λ ended. keeps_here.end_same;
+    }
+
+    outputs_over : (k : ℕ) → k < place + 1 → (k ≡ place) ⊎ (k ≢ place) → IsOutputEnded plan first.past now.past (number_at plan k)
+    outputs_over k below (inl same) = subst (λ (n : ℕ). IsOutputEnded plan first.past now.past n) (number_is ∙ ap (number_at plan) (sym same)) output_over
+    outputs_over k below (inr other) = so_far.outputs k (omega (arith, below, other))
+
+    finish_over : (q : PortPlan) → drop place plan.ports ≡ q ∷ drop (suc place) plan.ports → q.number ≡ port → FinishesSoFar plan (place + 1) first (record { plan = plan; past = now.past })
+    finish_over q split port_is = record {
+      plan_is = refl;
+      past = rest_by now.past q split port_is (rw over refl);
+      ended = λ pass below. still_ended pass below (cases_eq pass (egress_pass plan (number_of port)));
+      quiet = so_far.quiet;
+      outputs = λ k below. outputs_over k below (cases_eq k place);
+      keeps = λ k above below. so_far.keeps k (omega (arith, above)) below;
+    }
+
+  -- where the egress ends now
+  module _ (running : has_ended empty (egress_pass plan (number_of port)) now.past ≡ false) where
+    abbrev ended_row : List Row
+    ended_row = replay.with_event plan empty now.past (End (Egress port) hows.End)
+
+    ended_then : (pass : ℕ) → pass < ticker_pass plan + 1 + (place + 1) → (pass ≡ egress_pass plan (number_of port)) ⊎ (pass ≢ egress_pass plan (number_of port)) → has_ended empty pass ended_row ≡ true
+    ended_then pass below (inl same) = subst (λ (n : ℕ). has_ended empty n ended_row ≡ true) (sym same) (ended_now plan empty now.past (Egress port) hows.End)
+    ended_then pass below (inr other) = later_event plan empty now.past (End (Egress port) hows.End) pass (so_far.ended pass (below_it pass below other))
+
+    keeps_next : (k : ℕ) → k ≢ place → k < length plan.ports → KeepsOutput plan (number_at plan k) now.past ended_row
+    keeps_next k other below = keeps_egress plan now.past port hows.End (number_at plan k) (numbers_apart k other below) (apart k other below)
+
+    output_now : IsOutputEnded plan first.past ended_row (number_of port)
+    output_now = record {
+      sent_same = sent_end plan empty now.past (Egress port) hows.End (number_of port) ∙ keeps_here.sent_same;
+      sure_same = keeps_here.sure_same;
+      ended = λ open_first. end_here plan now.past port hows.End;
+      still = λ ended. let e : true ≡ false = sym ended ∙ sym keeps_here.ended_same ∙ running in cc;
+    }
+
+    output_later : (k : ℕ) → k ≢ place → k < length plan.ports → IsOutputEnded plan first.past now.past (number_at plan k) → IsOutputEnded plan first.past ended_row (number_at plan k)
+    output_later k other below was =
+        let keeps = keeps_next k other below in
+        record {
+          sent_same = keeps.sent_same ∙ was.sent_same;
+          sure_same = keeps.sure_same ∙ was.sure_same;
+          ended = λ open_first. keeps.end_same ∙ was.ended open_first;
+          still = λ ended. keeps.end_same ∙ was.still ended;
+        }
+
+    outputs_now : (k : ℕ) → k < place + 1 → (k ≡ place) ⊎ (k ≢ place) → IsOutputEnded plan first.past ended_row (number_at plan k)
+    outputs_now k below (inl same) = subst (λ (n : ℕ). IsOutputEnded plan first.past ended_row n) (number_is ∙ ap (number_at plan) (sym same)) output_now
+    outputs_now k below (inr other) = output_later k other (omega (arith, below, inside)) (so_far.outputs k (omega (arith, below, other)))
+
+    finish_step : (q : PortPlan) → drop place plan.ports ≡ q ∷ drop (suc place) plan.ports → q.number ≡ port → FinishesSoFar plan (place + 1) first (record { plan = plan; past = ended_row })
+    finish_step q split port_is = record {
+      plan_is = refl;
+      past = rest_by ended_row q split port_is (rw running refl);
+      ended = λ pass below. ended_then pass below (cases_eq pass (egress_pass plan (number_of port)));
+      quiet = λ n none. empty_end plan empty now.past (Egress port) hows.End n (so_far.quiet n none);
+      outputs = λ k below. outputs_now k below (cases_eq k place);
+      keeps = λ k above below. keeps_then plan (number_at plan k) first.past now.past ended_row (so_far.keeps k (omega (arith, above)) below) (keeps_next k (λ same. absurd (omega (arith, above, same))) below);
+    }
+
+  finish_by : (b : Bool) → has_ended empty (egress_pass plan (number_of port)) now.past ≡ b → (q : PortPlan) → drop place plan.ports ≡ q ∷ drop (suc place) plan.ports → q.number ≡ port
+      → FinishesSoFar plan (place + 1) first (record { plan = plan; past = if b then now.past else replay.with_event plan empty now.past (End (Egress port) hows.End) })
+  finish_by true is q split port_is = finish_over is q split port_is
+  finish_by false is q split port_is = finish_step is q split port_is
+
+  pub finish_more : (next : Machine) → next.plan ≡ now.plan → next.past ≡ with_end now.plan empty port now.past → (q : PortPlan) → drop place plan.ports ≡ q ∷ drop (suc place) plan.ports → q.number ≡ port → FinishesSoFar plan (place + 1) first next
+  finish_more next plan_same past_is q split port_is =
+      let made : next.past ≡ with_end plan empty port now.past = past_is ∙ ap (λ (p : Plan). with_end p empty port now.past) so_far.plan_is in
+      let next_is : next ≡ record { plan = plan; past = with_end plan empty port now.past } =
+      ap (λ (p : Plan). record { plan = p; past = next.past }) (plan_same ∙ so_far.plan_is) ∙ ap (λ (l : List Row). record { plan = plan; past = l }) made in
+      subst (λ (m : Machine). FinishesSoFar plan (place + 1) first m) (sym next_is)
+      (finish_by (has_ended empty (egress_pass plan (number_of port)) now.past) refl q split port_is)
 
 -- when each egress has ended, all passes have
 pub all_finished : (plan : Plan) (place : ℕ) (first now : Machine) → place ≡ length plan.ports → FinishesSoFar plan place first now → IsFinished plan empty now.past
 all_finished plan place first now all so_far = λ pass below. so_far.ended pass (omega (arith, below, all))
+
+-- every output has ended, or had failed
+pub outputs_ended : (plan : Plan) (place : ℕ) (first now : Machine) (k : ℕ) → place ≡ length plan.ports → FinishesSoFar plan place first now → k < length plan.ports → IsOutputEnded plan first.past now.past (number_at plan k)
+outputs_ended plan place first now k all so_far within = so_far.outputs k (omega arith)

@@ -4,7 +4,7 @@ use Rattle.std.proofs.lemmas.Bool.{cases_eq}
 use Rattle.std.specs.List.{All}
 use Rattle.savi_kinds.specs.declared.port.Port.{Port}
 use Rattle.savi_kinds.specs.declared.plan.Plan.{Plan}
-use Rattle.savi_kinds.specs.declared.entry.Who.TheVariants.{Ingress, Control, Ticker}
+use Rattle.savi_kinds.specs.declared.entry.Who.TheVariants.{Ingress, Ticker}
 use Rattle.savi_kinds.specs.declared.entry.How.{How}
 use Rattle.savi_kinds.specs.declared.entry.How.TheVariants as hows
 use Rattle.savi_kinds.specs.Ports.{number_of}
@@ -19,7 +19,7 @@ use Rattle.savi_history.specs.Bases.{empty}
 use Rattle.savi_history.specs.Limits.{has_room}
 use Rattle.savi_history.specs.Events.{End}
 use Rattle.savi_history.specs.Turns.{Turn, Arrives, Ends}
-use Rattle.savi_history.specs.Replay.{with_event, entered, egress_ended}
+use Rattle.savi_history.specs.Replay.{Stops, with_event, entered, egress_ended}
 use Rattle.savi_history.specs.PortInputs.{arrived, input_end}
 use Rattle.savi_history.specs.Fits.{Fits, IsWhole, IsBroken}
 use Rattle.savi_history.proofs.PortInputs.{HoldsSame, IsTurnOf, more_entered, full_entered, end_entered, other_entered, same_finished}
@@ -32,7 +32,7 @@ use Rattle.port_worker.specs.Steps.{IsStepped, ends_input, ahead_after}
 use Rattle.port_worker.specs.Replays.{IsUnread, IsFit, HasBroken}
 use Rattle.port_worker.specs.Pairs.{EachPair}
 use Rattle.port_worker.proofs.Joining.{IsRunning, front_none, takes_twice, read_twice, read_behind}
-use Rattle.port_worker.proofs.Records.{rose_later, rose_before}
+use Rattle.port_worker.proofs.FaultCounts.{rose_later, rose_before}
 
 -- what was taken from the source so far is what was entered and what is known, and so much of the input has ended
 abbrev pub FitsAhead : State → State → List ℕ → List ℕ → Option (List ℕ) → Option (List ℕ) → List Arrival → Option How → Ahead → Type 0
@@ -126,21 +126,24 @@ unread_still a unread failed = cc
 none_ended : {X : Type 0} {x : X} → None ≡ Some x → ⊥
 none_ended is = cc
 
-start_one : {S K C : Type 0} (left : S → Option (List ℕ)) (written : K → Option (List ℕ)) (source_faults : S → ℕ) (faults : K → ℕ) (plan : Plan) (old new : PortEnds S K C) → IsUnread old → OnlySink written faults old new → FitsSoFar left source_faults (with_event plan empty [] (End Control hows.End)) old new
-start_one {S} {K} {C} left written source_faults faults plan old new unread only =
-    let start : FitsSoFar left source_faults (with_event plan empty [] (End Control hows.End)) old (record old { ends = record old.ends { sink = new.ends.sink } }) =
+start_one : {S K C : Type 0} (left : S → Option (List ℕ)) (written : K → Option (List ℕ)) (source_faults : S → ℕ) (faults : K → ℕ) (past : List Row) (old new : PortEnds S K C) → HoldsSame (number_of old.port) [] past → IsUnread old → OnlySink written faults old new → FitsSoFar left source_faults past old new
+start_one {S} {K} {C} left written source_faults faults past old new holds unread only =
+    let start : FitsSoFar left source_faults past old (record old { ends = record old.ends { sink = new.ends.sink } }) =
     record {
       gave = [];
       takes = sym (front_none (left old.ends.source));
-      fits = rw unread.0 (refl, λ rest later ending comes. comes);
+      fits = rw (unread.0, holds.arrivals_same, holds.end_same) (refl, λ rest later ending comes. comes);
       later = omega arith;
       failed = λ failed. absurd (unread_still old.ahead unread.0 failed);
-      broken = λ ended_so. absurd (none_ended ended_so);
+      broken = λ ended_so. absurd (none_ended (sym holds.end_same ∙ ended_so));
     } in
-    subst (λ (p : PortEnds S K C). FitsSoFar left source_faults (with_event plan empty [] (End Control hows.End)) old p) (sym only.same) start
+    subst (λ (p : PortEnds S K C). FitsSoFar left source_faults past old p) (sym only.same) start
 
-pub fits_started : {S K C : Type 0} (left : S → Option (List ℕ)) (written : K → Option (List ℕ)) (source_faults : S → ℕ) (faults : K → ℕ) (plan : Plan) (first new : List (PortEnds S K C)) → All IsUnread first → EachPair (OnlySink written faults) first new → EachPair (FitsSoFar left source_faults (with_event plan empty [] (End Control hows.End))) first new
-fits_started left written source_faults faults plan first new unread only = record { size = only.size; each = λ k d within. start_one left written source_faults faults plan (get_or first k d) (get_or new k d) (unread k d within) (only.each k d within) }
+pub fits_started : {S K C : Type 0} (left : S → Option (List ℕ)) (written : K → Option (List ℕ)) (source_faults : S → ℕ) (faults : K → ℕ) (past : List Row) (first new : List (PortEnds S K C)) → ((n : ℕ) → HoldsSame n [] past) → All IsUnread first → EachPair (OnlySink written faults) first new → EachPair (FitsSoFar left source_faults past) first new
+fits_started left written source_faults faults past first new holds unread only = record {
+  size = only.size;
+  each = λ k d within. start_one left written source_faults faults past (get_or first k d) (get_or new k d) (holds (number_of (get_or first k d).port)) (unread k d within) (only.each k d within);
+}
 
 -- a turn
 
@@ -174,112 +177,112 @@ read_alone first reader gave front read running =
     subst (λ (octets : List ℕ). Comes first octets (record { arrivals = front; ending = hows.End })) (append-nil gave)
     (subst (λ (list : List Arrival). Comes first (gave ++ []) (record { arrivals = list; ending = hows.End })) (append-nil front) (read [] [] hows.End (nothing_more reader running)))
 
-arrival_fits : (first reader : State) (gave buf : List ℕ) (before after : Option (List ℕ)) (plan : Plan) (past : List Row) (port : Port) (arrival : Arrival) (room : Bool) → Takes before after gave → has_room plan past ≡ room
+arrival_fits : (first reader : State) (gave buf : List ℕ) (before after : Option (List ℕ)) (plan : Plan) (stops : Stops) (past : List Row) (port : Port) (arrival : Arrival) (room : Bool) → Takes before after gave → has_room plan past ≡ room
     → input_end (number_of port) past ≡ None → HasRead first reader gave (arrived (number_of port) past ++ arrival ∷ []) → IsRunning reader
-    → FitsAhead first reader gave buf before after (arrived (number_of port) (entered plan empty (Arrives port arrival) past)) (input_end (number_of port) (entered plan empty (Arrives port arrival) past)) (ahead_after (not room))
-arrival_fits first reader gave buf before after plan past port arrival true takes room_is none read running =
-    let more = more_entered plan empty past port arrival room_is in
+    → FitsAhead first reader gave buf before after (arrived (number_of port) (entered plan empty stops (Arrives port arrival) past)) (input_end (number_of port) (entered plan empty stops (Arrives port arrival) past)) (ahead_after (not room))
+arrival_fits first reader gave buf before after plan stops past port arrival true takes room_is none read running =
+    let more = more_entered plan empty stops past port arrival room_is in
     (more.end_same ∙ none, subst (λ (list : List Arrival). HasRead first reader gave list) (sym more.arrivals_more) read)
-arrival_fits first reader gave buf before after plan past port arrival false takes room_is none read running =
-    let full = full_entered plan empty past port arrival room_is in
-    subst (λ (e : Option How). Fits (Comes first) before after (arrived (number_of port) (entered plan empty (Arrives port arrival) past)) e) (sym full.ended_so) (record {
+arrival_fits first reader gave buf before after plan stops past port arrival false takes room_is none read running =
+    let full = full_entered plan empty stops past port arrival room_is in
+    subst (λ (e : Option How). Fits (Comes first) before after (arrived (number_of port) (entered plan empty stops (Arrives port arrival) past)) e) (sym full.ended_so) (record {
       gave = gave;
       takes = takes;
       refused = arrival;
       read = subst (λ (list : List Arrival). Comes first gave (record { arrivals = list ++ arrival ∷ []; ending = hows.End })) (sym full.arrivals_same) (read_alone first reader gave (arrived (number_of port) past ++ arrival ∷ []) read running);
     })
 
-arrival_turn : (first reader : State) (gave buf : List ℕ) (before after : Option (List ℕ)) (plan : Plan) (past : List Row) (port : Port) (arrival : Arrival) (b : Ahead) (turn : Turn) → Takes before after gave → turn ≡ Arrives port arrival
+arrival_turn : (first reader : State) (gave buf : List ℕ) (before after : Option (List ℕ)) (plan : Plan) (stops : Stops) (past : List Row) (port : Port) (arrival : Arrival) (b : Ahead) (turn : Turn) → Takes before after gave → turn ≡ Arrives port arrival
     → b ≡ ahead_after (ends_input plan past turn) → input_end (number_of port) past ≡ None → HasRead first reader gave (arrived (number_of port) past ++ arrival ∷ []) → IsRunning reader
-    → FitsAhead first reader gave buf before after (arrived (number_of port) (entered plan empty turn past)) (input_end (number_of port) (entered plan empty turn past)) b
-arrival_turn first reader gave buf before after plan past port arrival b turn takes turn_is b_is none read running =
+    → FitsAhead first reader gave buf before after (arrived (number_of port) (entered plan empty stops turn past)) (input_end (number_of port) (entered plan empty stops turn past)) b
+arrival_turn first reader gave buf before after plan stops past port arrival b turn takes turn_is b_is none read running =
     let b_now : b ≡ ahead_after (not (has_room plan past)) = b_is ∙ ap (λ (t : Turn). ahead_after (ends_input plan past t)) turn_is in
-    subst (λ (t : Turn). FitsAhead first reader gave buf before after (arrived (number_of port) (entered plan empty t past)) (input_end (number_of port) (entered plan empty t past)) b) (sym turn_is)
-    (subst (λ (c : Ahead). FitsAhead first reader gave buf before after (arrived (number_of port) (entered plan empty (Arrives port arrival) past)) (input_end (number_of port) (entered plan empty (Arrives port arrival) past)) c) (sym b_now)
-    (arrival_fits first reader gave buf before after plan past port arrival (has_room plan past) takes refl none read running))
+    subst (λ (t : Turn). FitsAhead first reader gave buf before after (arrived (number_of port) (entered plan empty stops t past)) (input_end (number_of port) (entered plan empty stops t past)) b) (sym turn_is)
+    (subst (λ (c : Ahead). FitsAhead first reader gave buf before after (arrived (number_of port) (entered plan empty stops (Arrives port arrival) past)) (input_end (number_of port) (entered plan empty stops (Arrives port arrival) past)) c) (sym b_now)
+    (arrival_fits first reader gave buf before after plan stops past port arrival (has_room plan past) takes refl none read running))
 
-end_turn : (first reader : State) (gave buf : List ℕ) (before after : Option (List ℕ)) (plan : Plan) (past : List Row) (port : Port) (how : How) (b : Ahead) (turn : Turn) → turn ≡ Ends (Ingress port) how
+end_turn : (first reader : State) (gave buf : List ℕ) (before after : Option (List ℕ)) (plan : Plan) (stops : Stops) (past : List Row) (port : Port) (how : How) (b : Ahead) (turn : Turn) → turn ≡ Ends (Ingress port) how
     → b ≡ ahead_after (ends_input plan past turn) → Fits (Comes first) before after (arrived (number_of port) past) (Some how)
-    → FitsAhead first reader gave buf before after (arrived (number_of port) (entered plan empty turn past)) (input_end (number_of port) (entered plan empty turn past)) b
-end_turn first reader gave buf before after plan past port how b turn turn_is b_is fits =
+    → FitsAhead first reader gave buf before after (arrived (number_of port) (entered plan empty stops turn past)) (input_end (number_of port) (entered plan empty stops turn past)) b
+end_turn first reader gave buf before after plan stops past port how b turn turn_is b_is fits =
     let held = end_entered plan empty past port how in
     let b_now : b ≡ ahead.Done = b_is ∙ ap (λ (t : Turn). ahead_after (ends_input plan past t)) turn_is in
     let now = with_event plan empty past (End (Ingress port) how) in
     let at_end : Fits (Comes first) before after (arrived (number_of port) now) (input_end (number_of port) now) =
     subst (λ (e : Option How). Fits (Comes first) before after (arrived (number_of port) now) e) (sym held.ended_so)
     (subst (λ (list : List Arrival). Fits (Comes first) before after list (Some how)) (sym held.arrivals_same) fits) in
-    subst (λ (t : Turn). FitsAhead first reader gave buf before after (arrived (number_of port) (entered plan empty t past)) (input_end (number_of port) (entered plan empty t past)) b) (sym turn_is)
+    subst (λ (t : Turn). FitsAhead first reader gave buf before after (arrived (number_of port) (entered plan empty stops t past)) (input_end (number_of port) (entered plan empty stops t past)) b) (sym turn_is)
     (subst (λ (c : Ahead). FitsAhead first reader gave buf before after (arrived (number_of port) now) (input_end (number_of port) now) c) (sym b_now) at_end)
 
-entered_fits : (first reader : State) (gave buf : List ℕ) (before after : Option (List ℕ)) (plan : Plan) (past : List Row) (port : Port) (a b : Ahead) (turn : Turn) → Takes before after gave → turn_ahead port buf a ≡ Some turn
+entered_fits : (first reader : State) (gave buf : List ℕ) (before after : Option (List ℕ)) (plan : Plan) (stops : Stops) (past : List Row) (port : Port) (a b : Ahead) (turn : Turn) → Takes before after gave → turn_ahead port buf a ≡ Some turn
     → b ≡ ahead_after (ends_input plan past turn)
     → FitsAhead first reader gave buf before after (arrived (number_of port) past) (input_end (number_of port) past) a
-    → FitsAhead first reader gave buf before after (arrived (number_of port) (entered plan empty turn past)) (input_end (number_of port) (entered plan empty turn past)) b
-entered_fits first reader gave buf before after plan past port ahead.Unread b turn takes is b_is fits = cc
-entered_fits first reader gave buf before after plan past port (ahead.Frame stamp len) b turn takes is b_is fits =
+    → FitsAhead first reader gave buf before after (arrived (number_of port) (entered plan empty stops turn past)) (input_end (number_of port) (entered plan empty stops turn past)) b
+entered_fits first reader gave buf before after plan stops past port ahead.Unread b turn takes is b_is fits = cc
+entered_fits first reader gave buf before after plan stops past port (ahead.Frame stamp len) b turn takes is b_is fits =
     let arrival = arrivals.Frame stamp (take len buf) in
-    arrival_turn first reader gave buf before after plan past port arrival b turn takes (same_turn (Arrives port arrival) turn is) b_is fits.0 fits.1 fits.2
-entered_fits first reader gave buf before after plan past port (ahead.Long stamp len) b turn takes is b_is fits =
+    arrival_turn first reader gave buf before after plan stops past port arrival b turn takes (same_turn (Arrives port arrival) turn is) b_is fits.0 fits.1 fits.2
+entered_fits first reader gave buf before after plan stops past port (ahead.Long stamp len) b turn takes is b_is fits =
     let arrival = arrivals.Long stamp len in
-    arrival_turn first reader gave buf before after plan past port arrival b turn takes (same_turn (Arrives port arrival) turn is) b_is fits.0 fits.1 fits.2
-entered_fits first reader gave buf before after plan past port ahead.End b turn takes is b_is fits =
-    end_turn first reader gave buf before after plan past port hows.End b turn (same_turn (Ends (Ingress port) hows.End) turn is) b_is fits.1
-entered_fits first reader gave buf before after plan past port (ahead.Malformed at) b turn takes is b_is fits =
-    end_turn first reader gave buf before after plan past port (hows.Malformed at) b turn (same_turn (Ends (Ingress port) (hows.Malformed at)) turn is) b_is fits.1
-entered_fits first reader gave buf before after plan past port ahead.Failed b turn takes is b_is fits =
-    end_turn first reader gave buf before after plan past port hows.Failed b turn (same_turn (Ends (Ingress port) hows.Failed) turn is) b_is fits.1
-entered_fits first reader gave buf before after plan past port ahead.Done b turn takes is b_is fits = cc
+    arrival_turn first reader gave buf before after plan stops past port arrival b turn takes (same_turn (Arrives port arrival) turn is) b_is fits.0 fits.1 fits.2
+entered_fits first reader gave buf before after plan stops past port ahead.End b turn takes is b_is fits =
+    end_turn first reader gave buf before after plan stops past port hows.End b turn (same_turn (Ends (Ingress port) hows.End) turn is) b_is fits.1
+entered_fits first reader gave buf before after plan stops past port (ahead.Malformed at) b turn takes is b_is fits =
+    end_turn first reader gave buf before after plan stops past port (hows.Malformed at) b turn (same_turn (Ends (Ingress port) (hows.Malformed at)) turn is) b_is fits.1
+entered_fits first reader gave buf before after plan stops past port ahead.Failed b turn takes is b_is fits =
+    end_turn first reader gave buf before after plan stops past port hows.Failed b turn (same_turn (Ends (Ingress port) hows.Failed) turn is) b_is fits.1
+entered_fits first reader gave buf before after plan stops past port ahead.Done b turn takes is b_is fits = cc
 
 -- An input ends at a failed read only where that was read, or where it had ended so.
 
-arrival_broken : (R : Type 0) (plan : Plan) (past : List Row) (port : Port) (arrival : Arrival) (room : Bool) → has_room plan past ≡ room → (input_end (number_of port) past ≡ Some hows.Failed → R)
-    → input_end (number_of port) (entered plan empty (Arrives port arrival) past) ≡ Some hows.Failed → R
-arrival_broken R plan past port arrival true room was is = was (sym (more_entered plan empty past port arrival room).end_same ∙ is)
-arrival_broken R plan past port arrival false room was is =
-    let e : Some (hows.Full (length past)) ≡ Some hows.Failed = sym (full_entered plan empty past port arrival room).ended_so ∙ is in cc
+arrival_broken : (R : Type 0) (plan : Plan) (stops : Stops) (past : List Row) (port : Port) (arrival : Arrival) (room : Bool) → has_room plan past ≡ room → (input_end (number_of port) past ≡ Some hows.Failed → R)
+    → input_end (number_of port) (entered plan empty stops (Arrives port arrival) past) ≡ Some hows.Failed → R
+arrival_broken R plan stops past port arrival true room was is = was (sym (more_entered plan empty stops past port arrival room).end_same ∙ is)
+arrival_broken R plan stops past port arrival false room was is =
+    let e : Some (hows.Full (length past)) ≡ Some hows.Failed = sym (full_entered plan empty stops past port arrival room).ended_so ∙ is in cc
 
-end_broken : (R : Type 0) (plan : Plan) (past : List Row) (port : Port) (how : How) → (how ≡ hows.Failed → R) → input_end (number_of port) (entered plan empty (Ends (Ingress port) how) past) ≡ Some hows.Failed → R
-end_broken R plan past port how failed is =
+end_broken : (R : Type 0) (plan : Plan) (stops : Stops) (past : List Row) (port : Port) (how : How) → (how ≡ hows.Failed → R) → input_end (number_of port) (entered plan empty stops (Ends (Ingress port) how) past) ≡ Some hows.Failed → R
+end_broken R plan stops past port how failed is =
     let e : Some how ≡ Some hows.Failed = sym (end_entered plan empty past port how).ended_so ∙ is in failed cc
 
-broken_turn : (R : Type 0) (plan : Plan) (past : List Row) (port : Port) (turn there : Turn) → there ≡ turn → (input_end (number_of port) (entered plan empty turn past) ≡ Some hows.Failed → R) → input_end (number_of port) (entered plan empty there past) ≡ Some hows.Failed → R
-broken_turn R plan past port turn there same then = subst (λ (t : Turn). input_end (number_of port) (entered plan empty t past) ≡ Some hows.Failed → R) (sym same) then
+broken_turn : (R : Type 0) (plan : Plan) (stops : Stops) (past : List Row) (port : Port) (turn there : Turn) → there ≡ turn → (input_end (number_of port) (entered plan empty stops turn past) ≡ Some hows.Failed → R) → input_end (number_of port) (entered plan empty stops there past) ≡ Some hows.Failed → R
+broken_turn R plan stops past port turn there same then = subst (λ (t : Turn). input_end (number_of port) (entered plan empty stops t past) ≡ Some hows.Failed → R) (sym same) then
 
-entered_broken : (R : Type 0) (plan : Plan) (past : List Row) (port : Port) (buf : List ℕ) (a : Ahead) (turn : Turn) → turn_ahead port buf a ≡ Some turn → (a ≡ ahead.Failed → R) → (input_end (number_of port) past ≡ Some hows.Failed → R)
-    → input_end (number_of port) (entered plan empty turn past) ≡ Some hows.Failed → R
-entered_broken R plan past port buf ahead.Unread turn is failed was = cc
-entered_broken R plan past port buf (ahead.Frame stamp len) turn is failed was =
+entered_broken : (R : Type 0) (plan : Plan) (stops : Stops) (past : List Row) (port : Port) (buf : List ℕ) (a : Ahead) (turn : Turn) → turn_ahead port buf a ≡ Some turn → (a ≡ ahead.Failed → R) → (input_end (number_of port) past ≡ Some hows.Failed → R)
+    → input_end (number_of port) (entered plan empty stops turn past) ≡ Some hows.Failed → R
+entered_broken R plan stops past port buf ahead.Unread turn is failed was = cc
+entered_broken R plan stops past port buf (ahead.Frame stamp len) turn is failed was =
     let arrival = arrivals.Frame stamp (take len buf) in
-    broken_turn R plan past port (Arrives port arrival) turn (same_turn (Arrives port arrival) turn is) (arrival_broken R plan past port arrival (has_room plan past) refl was)
-entered_broken R plan past port buf (ahead.Long stamp len) turn is failed was =
+    broken_turn R plan stops past port (Arrives port arrival) turn (same_turn (Arrives port arrival) turn is) (arrival_broken R plan stops past port arrival (has_room plan past) refl was)
+entered_broken R plan stops past port buf (ahead.Long stamp len) turn is failed was =
     let arrival = arrivals.Long stamp len in
-    broken_turn R plan past port (Arrives port arrival) turn (same_turn (Arrives port arrival) turn is) (arrival_broken R plan past port arrival (has_room plan past) refl was)
-entered_broken R plan past port buf ahead.End turn is failed was =
-    broken_turn R plan past port (Ends (Ingress port) hows.End) turn (same_turn (Ends (Ingress port) hows.End) turn is) (end_broken R plan past port hows.End (λ same. cc))
-entered_broken R plan past port buf (ahead.Malformed at) turn is failed was =
-    broken_turn R plan past port (Ends (Ingress port) (hows.Malformed at)) turn (same_turn (Ends (Ingress port) (hows.Malformed at)) turn is) (end_broken R plan past port (hows.Malformed at) (λ same. cc))
-entered_broken R plan past port buf ahead.Failed turn is failed was =
-    broken_turn R plan past port (Ends (Ingress port) hows.Failed) turn (same_turn (Ends (Ingress port) hows.Failed) turn is) (end_broken R plan past port hows.Failed (λ same. failed refl))
-entered_broken R plan past port buf ahead.Done turn is failed was = cc
+    broken_turn R plan stops past port (Arrives port arrival) turn (same_turn (Arrives port arrival) turn is) (arrival_broken R plan stops past port arrival (has_room plan past) refl was)
+entered_broken R plan stops past port buf ahead.End turn is failed was =
+    broken_turn R plan stops past port (Ends (Ingress port) hows.End) turn (same_turn (Ends (Ingress port) hows.End) turn is) (end_broken R plan stops past port hows.End (λ same. cc))
+entered_broken R plan stops past port buf (ahead.Malformed at) turn is failed was =
+    broken_turn R plan stops past port (Ends (Ingress port) (hows.Malformed at)) turn (same_turn (Ends (Ingress port) (hows.Malformed at)) turn is) (end_broken R plan stops past port (hows.Malformed at) (λ same. cc))
+entered_broken R plan stops past port buf ahead.Failed turn is failed was =
+    broken_turn R plan stops past port (Ends (Ingress port) hows.Failed) turn (same_turn (Ends (Ingress port) hows.Failed) turn is) (end_broken R plan stops past port hows.Failed (λ same. failed refl))
+entered_broken R plan stops past port buf ahead.Done turn is failed was = cc
 
 never_failed : (b : Bool) (a : Ahead) → a ≡ ahead_after b → a ≡ ahead.Failed → ⊥
 never_failed true a is failed = cc
 never_failed false a is failed = cc
 
-here_one : {S K C : Type 0} (left : S → Option (List ℕ)) (written : K → Option (List ℕ)) (source_faults : S → ℕ) (faults : K → ℕ) (plan : Plan) (past now : List Row) (first old new : PortEnds S K C) (turn : Turn) → old.port ≡ first.port → IsStepped written faults old new → turn_of old ≡ Some turn
-    → now ≡ entered plan empty turn past → new.ahead ≡ ahead_after (ends_input plan past turn) → FitsSoFar left source_faults past first old → FitsSoFar left source_faults now first new
-here_one {S} {K} {C} left written source_faults faults plan past now first old new turn port_is stepped turn_is now_is ahead_is so_far =
+here_one : {S K C : Type 0} (left : S → Option (List ℕ)) (written : K → Option (List ℕ)) (source_faults : S → ℕ) (faults : K → ℕ) (plan : Plan) (stops : Stops) (past now : List Row) (first old new : PortEnds S K C) (turn : Turn) → old.port ≡ first.port → IsStepped written faults old new → turn_of old ≡ Some turn
+    → now ≡ entered plan empty stops turn past → new.ahead ≡ ahead_after (ends_input plan past turn) → FitsSoFar left source_faults past first old → FitsSoFar left source_faults now first new
+here_one {S} {K} {C} left written source_faults faults plan stops past now first old new turn port_is stepped turn_is now_is ahead_is so_far =
     let turn_first : turn_ahead first.port old.buf old.ahead ≡ Some turn = ap (λ (p : Port). turn_ahead p old.buf old.ahead) (sym port_is) ∙ turn_is in
-    let moved : FitsSoFar left source_faults (entered plan empty turn past) first (record old { ends = record old.ends { sink = new.ends.sink }; ahead = new.ahead }) =
+    let moved : FitsSoFar left source_faults (entered plan empty stops turn past) first (record old { ends = record old.ends { sink = new.ends.sink }; ahead = new.ahead }) =
     record {
       gave = so_far.gave;
       takes = so_far.takes;
-      fits = entered_fits first.reader old.reader so_far.gave old.buf (left first.ends.source) (left old.ends.source) plan past first.port old.ahead new.ahead turn so_far.takes turn_first ahead_is so_far.fits;
+      fits = entered_fits first.reader old.reader so_far.gave old.buf (left first.ends.source) (left old.ends.source) plan stops past first.port old.ahead new.ahead turn so_far.takes turn_first ahead_is so_far.fits;
       later = so_far.later;
       failed = λ failed. absurd (never_failed (ends_input plan past turn) new.ahead ahead_is failed);
-      broken = entered_broken (Rose (source_faults first.ends.source) (source_faults old.ends.source)) plan past first.port old.buf old.ahead turn turn_first so_far.failed so_far.broken;
+      broken = entered_broken (Rose (source_faults first.ends.source) (source_faults old.ends.source)) plan stops past first.port old.buf old.ahead turn turn_first so_far.failed so_far.broken;
     } in
-    subst (λ (l : List Row). FitsSoFar left source_faults l first new) (sym now_is) (subst (λ (p : PortEnds S K C). FitsSoFar left source_faults (entered plan empty turn past) first p) (sym stepped.same) moved)
+    subst (λ (l : List Row). FitsSoFar left source_faults l first new) (sym now_is) (subst (λ (p : PortEnds S K C). FitsSoFar left source_faults (entered plan empty stops turn past) first p) (sym stepped.same) moved)
 
 -- whose turn it was
 pub turn_port : (port : Port) (buf : List ℕ) (a : Ahead) (turn : Turn) → turn_ahead port buf a ≡ Some turn → IsTurnOf port turn
@@ -291,21 +294,21 @@ turn_port port buf (ahead.Malformed at) turn is = rw (same_turn (Ends (Ingress p
 turn_port port buf ahead.Failed turn is = rw (same_turn (Ends (Ingress port) hows.Failed) turn is) refl
 turn_port port buf ahead.Done turn is = cc
 
-module _ {S K C : Type 0} (left : S → Option (List ℕ)) (written : K → Option (List ℕ)) (source_faults : S → ℕ) (faults : K → ℕ) (plan : Plan) (first old new : List (PortEnds S K C)) (past now : List Row) (j : ℕ) (turn : Turn)
+module _ {S K C : Type 0} (left : S → Option (List ℕ)) (written : K → Option (List ℕ)) (source_faults : S → ℕ) (faults : K → ℕ) (plan : Plan) (stops : Stops) (first old new : List (PortEnds S K C)) (past now : List Row) (j : ℕ) (turn : Turn)
     (ports_are : (k : ℕ) (d : PortEnds S K C) → k < length first → (get_or old k d).port ≡ (get_or first k d).port)
     (differ : (k : ℕ) (d : PortEnds S K C) → k < length first → k ≢ j → number_of (get_or first j d).port ≢ number_of (get_or first k d).port)
     (inside : j < length first) (so_far : EachPair (FitsSoFar left source_faults past) first old) (stepped : EachPair (IsStepped written faults) old new)
     (others : (k : ℕ) (d : PortEnds S K C) → k ≢ j → k < length old → (get_or new k d).ahead ≡ (get_or old k d).ahead)
-    (turn_is : (d : PortEnds S K C) → turn_of (get_or old j d) ≡ Some turn) (now_is : now ≡ entered plan empty turn past)
+    (turn_is : (d : PortEnds S K C) → turn_of (get_or old j d) ≡ Some turn) (now_is : now ≡ entered plan empty stops turn past)
     (ahead_is : (d : PortEnds S K C) → (get_or new j d).ahead ≡ ahead_after (ends_input plan past turn)) where
   turned_at : (k : ℕ) (d : PortEnds S K C) → k < length first → (k ≡ j) ⊎ (k ≢ j) → FitsSoFar left source_faults now (get_or first k d) (get_or new k d)
   turned_at k d within (inl same) =
-      rw same (here_one left written source_faults faults plan past now (get_or first j d) (get_or old j d) (get_or new j d) turn (ports_are j d inside) (stepped.each j d (omega (arith, so_far.size, inside))) (turn_is d) now_is (ahead_is d) (so_far.each j d inside))
+      rw same (here_one left written source_faults faults plan stops past now (get_or first j d) (get_or old j d) (get_or new j d) turn (ports_are j d inside) (stepped.each j d (omega (arith, so_far.size, inside))) (turn_is d) now_is (ahead_is d) (so_far.each j d inside))
   turned_at k d within (inr other) =
       let whose : IsTurnOf (get_or first j d).port turn = subst (λ (p : Port). IsTurnOf p turn) (ports_are j d inside) (turn_port (get_or old j d).port (get_or old j d).buf (get_or old j d).ahead turn (turn_is d)) in
-      let holds = other_entered plan empty past (get_or first j d).port turn (number_of (get_or first k d).port) whose (differ k d within other) in
+      let holds = other_entered plan empty stops past (get_or first j d).port turn (number_of (get_or first k d).port) whose (differ k d within other) in
       subst (λ (l : List Row). FitsSoFar left source_faults l (get_or first k d) (get_or new k d)) (sym now_is)
-      (same_one left written source_faults faults past (entered plan empty turn past) (get_or first k d) (get_or old k d) (get_or new k d) (stepped.each k d (omega (arith, so_far.size))) (others k d other (omega (arith, so_far.size))) holds (so_far.each k d within))
+      (same_one left written source_faults faults past (entered plan empty stops turn past) (get_or first k d) (get_or old k d) (get_or new k d) (stepped.each k d (omega (arith, so_far.size))) (others k d other (omega (arith, so_far.size))) holds (so_far.each k d within))
 
   pub fits_turned : EachPair (FitsSoFar left source_faults now) first new
   fits_turned = record { size = stepped.size ∙ so_far.size; each = λ k d within. turned_at k d within (cases_eq k j) }

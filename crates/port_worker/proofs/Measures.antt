@@ -5,7 +5,7 @@ use Rattle.std.proofs.lemmas.Bool.Decides.{nat_tests}
 use Rattle.savi_kinds.specs.declared.port.Port.{Port}
 use Rattle.savi_kinds.specs.declared.plan.Plan.{Plan}
 use Rattle.savi_kinds.specs.declared.plan.PortPlan.{PortPlan}
-use Rattle.savi_kinds.specs.declared.entry.Who.TheVariants.{Ingress}
+use Rattle.savi_kinds.specs.declared.entry.Who.TheVariants.{Ingress, Egress}
 use Rattle.savi_kinds.specs.declared.entry.How.TheVariants as hows
 use Rattle.savi_kinds.specs.Ports.{number_of}
 use Rattle.savi_kinds.specs.Arrivals.{Arrival}
@@ -15,7 +15,7 @@ use Rattle.savi_history.specs.Limits.{has_room}
 use Rattle.savi_history.specs.Queues.{queue}
 use Rattle.savi_history.specs.Events.{Drain, End}
 use Rattle.savi_history.specs.Turns.{Turn, Arrives, Ends}
-use Rattle.savi_history.specs.Replay.{event_of, with_event, with_drain, drained, entered}
+use Rattle.savi_history.specs.Replay.{Stops, is_stopped, pieces_by, event_of, with_event, with_failure, with_drain, drained, entered}
 use Rattle.port_worker.specs.declared.port_ends.Ahead.{Ahead}
 use Rattle.port_worker.specs.declared.port_ends.Ahead.TheVariants as ahead
 use Rattle.port_worker.specs.declared.port_ends.PortEnds.{PortEnds}
@@ -56,25 +56,31 @@ undone_less (p ∷ old) (q ∷ new) (suc j) e size inside same was now =
     let later : undone new + 1 ≡ undone old = undone_less old new j e (omega arith) (omega arith) (λ k d other within. same (suc k) d (λ e_is. other (omega arith)) (omega arith)) was now in
     omega arith
 
-drain_longer : (plan : Plan) (port : Port) (count : ℕ) (past : List Row) (b : Bool) → length past ≤ length (if b then past else with_event plan empty past (Drain port count))
-drain_longer plan port count past true = omega arith
-drain_longer plan port count past false = omega arith
+failure_longer : (plan : Plan) (past : List Row) (port : Port) (b : Bool) → length past ≤ length (if b then with_event plan empty past (End (Egress port) hows.Failed) else past)
+failure_longer plan past port true = omega arith
+failure_longer plan past port false = omega arith
 
-drained_longer : (plan : Plan) (ports : List PortPlan) (past : List Row) → length past ≤ length (drained plan empty ports past)
-drained_longer plan [] past = omega arith
-drained_longer plan (q ∷ qs) past =
+drain_longer : (plan : Plan) (stops : Stops) (port : Port) (count : ℕ) (past : List Row) (b : Bool) → length past ≤ length (if b then past else with_failure plan empty stops port (with_event plan empty past (Drain port count)))
+drain_longer plan stops port count past true = omega arith
+drain_longer plan stops port count past false =
+    let mid = with_event plan empty past (Drain port count) in
+    let more = failure_longer plan mid port (is_stopped (stops (number_of port)) (pieces_by empty (number_of port) mid)) in omega arith
+
+drained_longer : (plan : Plan) (stops : Stops) (ports : List PortPlan) (past : List Row) → length past ≤ length (drained plan empty stops ports past)
+drained_longer plan stops [] past = omega arith
+drained_longer plan stops (q ∷ qs) past =
     let count = length (queue empty (number_of q.number) past) in
-    let one = drain_longer plan q.number count past (count == 0) in
-    let more = drained_longer plan qs (with_drain plan empty q.number count past) in
+    let one = drain_longer plan stops q.number count past (count == 0) in
+    let more = drained_longer plan stops qs (with_drain plan empty stops q.number count past) in
     omega arith
 
-longer_at : (plan : Plan) (past : List Row) (port : Port) (a : Arrival) (b : Bool) → length past + 1 ≤ length (if b then drained plan empty plan.ports (with_event plan empty past (event_of port a)) else with_event plan empty past (End (Ingress port) (hows.Full (length past))))
-longer_at plan past port a true = let more = drained_longer plan plan.ports (with_event plan empty past (event_of port a)) in omega arith
-longer_at plan past port a false = omega arith
+longer_at : (plan : Plan) (stops : Stops) (past : List Row) (port : Port) (a : Arrival) (b : Bool) → length past + 1 ≤ length (if b then drained plan empty stops plan.ports (with_event plan empty past (event_of port a)) else with_event plan empty past (End (Ingress port) (hows.Full (length past))))
+longer_at plan stops past port a true = let more = drained_longer plan stops plan.ports (with_event plan empty past (event_of port a)) in omega arith
+longer_at plan stops past port a false = omega arith
 
-pub entered_longer : (plan : Plan) (past : List Row) (t : Turn) → length past + 1 ≤ length (entered plan empty t past)
-entered_longer plan past (Arrives port a) = longer_at plan past port a (has_room plan past)
-entered_longer plan past (Ends who how) = omega arith
+pub entered_longer : (plan : Plan) (stops : Stops) (past : List Row) (t : Turn) → length past + 1 ≤ length (entered plan empty stops t past)
+entered_longer plan stops past (Arrives port a) = longer_at plan stops past port a (has_room plan past)
+entered_longer plan stops past (Ends who how) = omega arith
 
 not_false : (b : Bool) → not b ≡ false → b ≡ true
 not_false true is = refl

@@ -6,13 +6,13 @@ use Rattle.std.specs.List.{All}
 use Rattle.savi_kinds.specs.declared.port.Port.{Port}
 use Rattle.savi_kinds.specs.declared.plan.Plan.{Plan}
 use Rattle.savi_kinds.specs.Ports.{number_of}
-use Rattle.savi_ends.specs.Octets.{behind}
 use Rattle.pcap_io.specs.Readers.{HasRead}
 use Rattle.hist_store.specs.Rows.{Row}
 use Rattle.savi_history.specs.Bases.{empty}
-use Rattle.savi_history.specs.Passes.{has_ended, control_pass}
+use Rattle.savi_history.specs.Passes.{has_ended, control_pass, ticker_pass}
 use Rattle.savi_history.specs.Queues.{queue}
 use Rattle.savi_history.specs.Turns.{Turn, turns}
+use Rattle.savi_history.specs.Replay.{Stops, begun}
 use Rattle.savi_history.proofs.PassNumbers.{number_at}
 use Rattle.savi_history.proofs.Reaching.{Head, Unread, Known, Done, IsLeft, AreLeft, AllRead, AllAgree, Agrees, Reaches, joined, reaches_start, reaches_take}
 use Rattle.savi_history.proofs.Reaching as reaching
@@ -21,7 +21,7 @@ use Rattle.port_worker.specs.declared.port_ends.Ahead.TheVariants as ahead
 use Rattle.port_worker.specs.declared.port_ends.PortEnds.{PortEnds}
 use Rattle.port_worker.specs.Pairs.{EachPair}
 use Rattle.port_worker.specs.Inputs.{IsSound, IsKnown, IsLooked, moment_of}
-use Rattle.port_worker.specs.SentFrames.{capture_of}
+use Rattle.port_worker.specs.Outputs.{IsOutput, AreOutputs, AreAllowed}
 use Rattle.port_worker.specs.Replays.{IsLater}
 use Rattle.port_worker.proofs.Measures.{weight, undone, undone_same}
 use Rattle.port_worker.proofs.Joining.{takes_twice}
@@ -33,13 +33,14 @@ pub record Running {S K C : Type 0} (left : S → Option (List ℕ)) (written : 
   pub sound : (k : ℕ) (d : PortEnds S K C) → k < length first → IsSound (get_or ports k d).reader (get_or ports k d).ahead
   pub taken : List (List Turn)
   pub taken_size : length taken ≡ length first
-  pub reaches : Reaches plan empty (map head_of ports) taken past
+  pub known : Stops
+  pub reaches : (stops : Stops) → AreAllowed plan known stops past → Reaches plan empty stops (begun plan empty stops plan.ports []) (map head_of ports) taken past
   pub agree : AllAgree empty past (map head_of ports)
   pub progress : (k : ℕ) (d : PortEnds S K C) → k < length first → Progress left plan k past (get_or first k d) (get_or ports k d) (get_or taken k [])
   pub control : has_ended empty (control_pass plan) past ≡ true
-  pub outputs : (pass : ℕ) → control_pass plan < pass → has_ended empty pass past ≡ false
+  pub ticker : has_ended empty (ticker_pass plan) past ≡ false
   pub quiet : (k : ℕ) → k < length plan.ports → queue empty (number_at plan k) past ≡ []
-  pub wrote : (k : ℕ) (d : PortEnds S K C) → k < length first → written (get_or ports k d).ends.sink ≡ behind (written (get_or first k d).ends.sink) (capture_of (number_of (get_or first k d).port) past)
+  pub outputs : AreOutputs written sink_faults plan known past first ports
 
 -- the head of the port at a place
 pub head_at : {S K C : Type 0} (ports : List (PortEnds S K C)) (k : ℕ) (d : PortEnds S K C) (h : Head) → k < length ports → get_or (map head_of ports) k h ≡ head_of (get_or ports k d)
@@ -133,6 +134,22 @@ progress_look left source_faults plan k past old p q taken ahead.Done is looked 
 done_both : {S K C : Type 0} (left : S → Option (List ℕ)) (source_faults : S → ℕ) (p q : PortEnds S K C) → IsLooked left source_faults p q → p.ahead ≡ ahead.Done → q.ahead ≡ ahead.Done
 done_both {S} {K} {C} left source_faults p q looked is = ap (λ (r : PortEnds S K C). r.ahead) (looked.same (subst IsKnown (sym is) tt)) ∙ is
 
+-- to read ahead changes no output
+outputs_looked : {S K C : Type 0} (written : K → Option (List ℕ)) (sink_faults : K → ℕ) (left : S → Option (List ℕ)) (source_faults : S → ℕ) (plan : Plan) (known : Stops) (past : List Row) (first ports new : List (PortEnds S K C)) → AreOutputs written sink_faults plan known past first ports → EachPair (IsLooked left source_faults) ports new
+    → AreOutputs written sink_faults plan known past first new
+outputs_looked {S} {K} {C} written sink_faults left source_faults plan known past first ports new outputs looked = record {
+  size = looked.size ∙ outputs.size;
+  each = λ k d inside.
+      let was = outputs.each k d inside in
+      let look = looked.each k d (omega (arith, outputs.size, inside)) in
+      let n = number_of (get_or first k d).port in
+      record {
+        port = look.port ∙ was.port;
+        later = subst (λ (s : K). sink_faults (get_or first k d).ends.sink ≤ sink_faults s) (sym look.sink) was.later;
+        output = subst (λ (s : K). IsOutput written sink_faults plan past n (get_or first k d).ends.sink s (known n)) (sym look.sink) was.output;
+      };
+}
+
 module _ {S K C : Type 0} (left : S → Option (List ℕ)) (written : K → Option (List ℕ)) (source_faults : S → ℕ) (sink_faults : K → ℕ) (plan : Plan) (first : List (PortEnds S K C)) where
   abbrev Runs : List (PortEnds S K C) → List Row → Type 0
   Runs ports past = Running left written source_faults sink_faults plan first ports past
@@ -170,19 +187,20 @@ module _ {S K C : Type 0} (left : S → Option (List ℕ)) (written : K → Opti
       sound = λ k d inside. (looked.each k d (omega (arith, size_ports))).sound;
       taken = r.taken;
       taken_size = r.taken_size;
-      reaches = λ rest there.
+      known = r.known;
+      reaches = λ stops allowed rest there.
           let sizes = length-map ports head_of in
           let sizes_new = length-map new head_of in
           let size = looked.size in
           let there_size = there.size in
-          r.reaches rest (record { size = omega arith; of = there.of; each = λ k. left_at rest k there (cases_lt k (length ports)) });
+          r.reaches stops allowed rest (record { size = omega arith; of = there.of; each = λ k. left_at rest k there (cases_lt k (length ports)) });
       agree = agree_at;
       progress = λ k d inside. let within : k < length ports = omega (arith, size_ports) in
           progress_look left source_faults plan k past (get_or first k d) (get_or ports k d) (get_or new k d) (get_or r.taken k []) (get_or ports k d).ahead refl (looked.each k d within) (r.progress k d inside);
       control = r.control;
-      outputs = r.outputs;
+      ticker = r.ticker;
       quiet = r.quiet;
-      wrote = λ k d inside. rw (looked.each k d (omega (arith, size_ports))).sink (r.wrote k d inside);
+      outputs = outputs_looked written sink_faults left source_faults plan r.known past first ports new r.outputs looked;
     }
 
     weight_open : (a : Ahead) → (a ≡ ahead.Done → ⊥) → weight a ≡ 1

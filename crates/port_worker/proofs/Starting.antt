@@ -5,33 +5,33 @@ use Rattle.std.specs.List.{All}
 use Rattle.std.specs.List.Sorted.{IsStrictlyIncreasing}
 use Rattle.savi_kinds.specs.declared.port.Port.{Port}
 use Rattle.savi_kinds.specs.declared.plan.Plan.{Plan}
-use Rattle.savi_kinds.specs.declared.entry.Who.TheVariants.{Ingress, Egress, Control}
+use Rattle.savi_kinds.specs.declared.entry.Who.TheVariants.{Ingress, Control}
 use Rattle.savi_kinds.specs.declared.entry.How.TheVariants as hows
 use Rattle.savi_kinds.specs.Ports.{number_of}
 use Rattle.savi_kinds.specs.ValidPlan.{numbers_of}
-use Rattle.savi_ends.specs.Octets.{behind}
-use Rattle.pcap_io.specs.Captures.{header_text}
 use Rattle.hist_store.specs.Rows.{Row}
 use Rattle.savi_history.specs.Bases.{empty}
-use Rattle.savi_history.specs.Passes.{has_ended, has_port, pass_of, place_of, control_pass}
-use Rattle.savi_history.specs.Queues.{Item, queue}
+use Rattle.savi_history.specs.Passes.{has_ended, has_port, pass_of, place_of, control_pass, ticker_pass}
+use Rattle.savi_history.specs.Queues.{queue}
 use Rattle.savi_history.specs.Legal.{IsOpen}
 use Rattle.savi_history.specs.Events.{End}
 use Rattle.savi_history.specs.Turns.{Turn}
-use Rattle.savi_history.specs.Replay.{with_event}
+use Rattle.savi_history.specs.Replay.{Stops, begun, with_event}
 use Rattle.savi_history.proofs.PassNumbers.{number_at, place_at, known_at}
-use Rattle.savi_history.proofs.Waiting.{ended_now, ended_other, empty_end, sent_end}
-use Rattle.savi_history.proofs.Reaching.{Done, Agrees, joined, reaches_start}
+use Rattle.savi_history.proofs.Waiting.{ended_now, ended_other, ended_begun, empty_end, empty_begun}
+use Rattle.savi_history.proofs.PortInputs.{HoldsSame, same_begun, same_control}
+use Rattle.savi_history.proofs.Reaching.{Done, Agrees, Reaches, joined, reaches_start}
 use Rattle.port_worker.specs.declared.port_ends.Ahead.{Ahead}
 use Rattle.port_worker.specs.declared.port_ends.Ahead.TheVariants as ahead
 use Rattle.port_worker.specs.declared.port_ends.PortEnds.{PortEnds}
 use Rattle.port_worker.specs.Pairs.{EachPair}
 use Rattle.port_worker.specs.Inputs.{IsSound, IsReadable, Gives, WillCome}
-use Rattle.port_worker.specs.SentFrames.{records_of, OnlySink, IsBegun}
-use Rattle.port_worker.specs.Steps.{IsStepped}
-use Rattle.port_worker.specs.Replays.{IsUnread, IsLater, RoseAt, ports_held, ports_planned}
+use Rattle.port_worker.specs.SentFrames.{OnlySink}
+use Rattle.port_worker.specs.Outputs.{AreOutputs, Allows, AreAllowed}
+use Rattle.port_worker.specs.Replays.{IsUnread, IsLater, ports_held, ports_planned}
+use Rattle.port_worker.proofs.Allowed.{allowed_itself}
+use Rattle.port_worker.proofs.KeptOutputs.{KeepsOutput, keeps_control, keeps_pieces, output_kept}
 use Rattle.port_worker.proofs.Planned.{count_is, number_is}
-use Rattle.port_worker.proofs.Records.{rose_later}
 use Rattle.port_worker.proofs.Joining.{front_none}
 use Rattle.port_worker.proofs.Later.{begun_later}
 use Rattle.port_worker.proofs.Progress.{head_of, Goes, ProgressBy}
@@ -57,19 +57,6 @@ nothing_joined [] (r ∷ rest) size = absurd (omega arith)
 nothing_joined (x ∷ xs) [] size = absurd (omega arith)
 nothing_joined (x ∷ xs) (r ∷ rest) size = ap (λ (l : List (List Turn)). r ∷ l) (nothing_joined xs rest (omega arith))
 
-pub stepped_source : {S K C : Type 0} (written : K → Option (List ℕ)) (source_faults : S → ℕ) (sink_faults : K → ℕ) (old new : List (PortEnds S K C)) → EachPair (IsStepped written sink_faults) old new → (k : ℕ) (d : PortEnds S K C) → k < length old → source_faults (get_or old k d).ends.source ≤ source_faults (get_or new k d).ends.source
-stepped_source {S} {K} {C} written source_faults sink_faults old new stepped k d within =
-    subst (λ (s : S). source_faults (get_or old k d).ends.source ≤ source_faults s) (sym (ap (λ (p : PortEnds S K C). p.ends.source) (stepped.each k d within).same)) (omega arith)
-
-pub rose_since : {S K C : Type 0} (faults : PortEnds S K C → ℕ) (port : Port) (first old new : List (PortEnds S K C)) → length old ≡ length first → ((k : ℕ) (d : PortEnds S K C) → k < length first → faults (get_or first k d) ≤ faults (get_or old k d))
-    → RoseAt faults port old new → RoseAt faults port first new
-rose_since faults port first old new size later rose = (
-  rose.0,
-  omega (arith, rose.1),
-  λ d.
-      ((rose.2 d).0, rose_later (faults (get_or first rose.0 d)) (faults (get_or old rose.0 d)) (faults (get_or new rose.0 d)) (later rose.0 d (omega (arith, rose.1))) (rose.2 d).1),
-)
-
 pub held_same : {S K C : Type 0} (left : S → Option (List ℕ)) (written : K → Option (List ℕ)) (source_faults : S → ℕ) (sink_faults : K → ℕ) (first ports : List (PortEnds S K C)) → EachPair (IsLater left written source_faults sink_faults) first ports → ports_held ports ≡ ports_held first
 held_same {S} {K} {C} left written source_faults sink_faults first ports later =
     let size = later.size in
@@ -82,9 +69,20 @@ held_same {S} {K} {C} left written source_faults sink_faults first ports later =
 
 module _ {S K C : Type 0} (left : S → Option (List ℕ)) (written : K → Option (List ℕ)) (source_faults : S → ℕ) (sink_faults : K → ℕ) (plan : Plan) (first ports : List (PortEnds S K C))
     (planned : ports_held first ≡ ports_planned plan) (rising : IsStrictlyIncreasing (numbers_of plan.ports)) where
-  module _ (unread : All IsUnread first) (only : EachPair (OnlySink written sink_faults) first ports) (begun : EachPair (IsBegun written) first ports) where
+  module _ (before : List Row) (known : Stops) (unread : All IsUnread first) (only : EachPair (OnlySink written sink_faults) first ports) (outputs : AreOutputs written sink_faults plan known before first ports)
+      (begun_is : (stops : Stops) → AreAllowed plan known stops before → before ≡ begun plan empty stops plan.ports []) where
     abbrev past : List Row
-    past = with_event plan empty [] (End Control hows.End)
+    past = with_event plan empty before (End Control hows.End)
+
+    before_is : before ≡ begun plan empty known plan.ports []
+    before_is = begun_is known (allowed_itself plan known before)
+
+    -- nothing came in yet
+    pub holds : (n : ℕ) → HoldsSame n [] past
+    holds n =
+        let begins : HoldsSame n [] before = subst (λ (l : List Row). HoldsSame n [] l) (sym before_is) (same_begun plan empty known plan.ports [] n) in
+        let last = same_control plan empty before hows.End n in
+        record { arrivals_same = last.arrivals_same ∙ begins.arrivals_same; end_same = last.end_same ∙ begins.end_same }
 
     ahead_is : (k : ℕ) (d : PortEnds S K C) → k < length first → (get_or ports k d).ahead ≡ ahead.Unread
     ahead_is k d inside = ap (λ (p : PortEnds S K C). p.ahead) (only.each k d inside).same ∙ (unread k d inside).0
@@ -95,8 +93,15 @@ module _ {S K C : Type 0} (left : S → Option (List ℕ)) (written : K → Opti
     reader_is : (k : ℕ) (d : PortEnds S K C) → k < length first → (get_or first k d).reader ≡ (get_or ports k d).reader
     reader_is k d inside = sym (ap (λ (p : PortEnds S K C). p.reader) (only.each k d inside).same)
 
-    ended_none : (pass : ℕ) → pass ≢ control_pass plan → has_ended empty pass past ≡ false
-    ended_none pass other = ended_other plan empty [] Control hows.End pass (λ e. other (sym e))
+    ended_before : (pass : ℕ) → pass ≤ ticker_pass plan → has_ended empty pass before ≡ false
+    ended_before pass low = ap (λ (l : List Row). has_ended empty pass l) before_is ∙ ended_begun plan empty known plan.ports [] pass low
+
+    -- control may end
+    pub control_open : (plan' : Plan) → plan' ≡ plan → IsOpen plan' empty before Control
+    control_open plan' same = subst (λ (p : Plan). IsOpen p empty before Control) (sym same) (record { known = refl; running = ended_before (control_pass plan) (omega arith) })
+
+    ended_none : (pass : ℕ) → pass ≤ ticker_pass plan → pass ≢ control_pass plan → has_ended empty pass past ≡ false
+    ended_none pass low other = ended_other plan empty before Control hows.End pass (λ e. other (sym e)) ∙ ended_before pass low
 
     agree_at : (k : ℕ) → k < length (map head_of ports) → Agrees empty past k (get_or (map head_of ports) k Done)
     agree_at k inside =
@@ -105,7 +110,7 @@ module _ {S K C : Type 0} (left : S → Option (List ℕ)) (written : K → Opti
         let count = count_is first plan planned in
         let within : k < length first = omega arith in
         let d = element first k within in
-        rw (head_at ports k d Done (omega arith), ahead_is k d within) (ended_none k (λ same. absurd (omega arith)))
+        rw (head_at ports k d Done (omega arith), ahead_is k d within) (ended_none k (omega arith) (λ same. absurd (omega arith)))
 
     goes_at_first : (k : ℕ) (d : PortEnds S K C) → k < length first → Goes left (get_or first k d) (get_or ports k d) []
     goes_at_first k d inside = record {
@@ -119,25 +124,48 @@ module _ {S K C : Type 0} (left : S → Option (List ℕ)) (written : K → Opti
           (subst (λ (p : PortEnds S K C). WillCome left p input) (only.each k d inside).same will);
     }
 
-    pub start : Running left written source_faults sink_faults plan first ports past
-    start =
+    keeps : (n : ℕ) → KeepsOutput plan n before past
+    keeps n = keeps_control plan before hows.End n
+
+    allowed_before : (stops : Stops) → AreAllowed plan known stops past → AreAllowed plan known stops before
+    allowed_before stops allowed k d within =
+        let n = get_or (numbers_of plan.ports) k d in
+        subst (λ (c : ℕ). Allows (known n) (stops n) c) (keeps_pieces plan n before past (keeps n)) (allowed k d within)
+
+    reaches_past : (stops : Stops) → AreAllowed plan known stops past → Reaches plan empty stops (begun plan empty stops plan.ports []) (map head_of ports) (nothing_taken first) past
+    reaches_past stops allowed =
         let size = only.size in
-        let count = count_is first plan planned in
-        record {
-          later = begun_later left written source_faults sink_faults first ports only;
-          sound = λ k d inside. rw (ahead_is k d inside) (subst (λ (p : PortEnds S K C). IsReadable p.reader) (sym (only.each k d inside).same) (unread k d inside).1);
-          taken = nothing_taken first;
-          taken_size = nothing_count first;
-          reaches = reaches_start plan empty (map head_of ports) (nothing_taken first) refl (λ rest size_r. let sizes = length-map ports head_of in nothing_joined first rest (omega arith));
-          agree = agree_at;
-          progress = λ k d inside. rw (nothing_at first k) (subst (λ (a : Ahead). ProgressBy left plan k past (get_or first k d) (get_or ports k d) [] a) (sym (ahead_is k d inside)) (goes_at_first k d inside));
-          control = ended_now plan empty [] Control hows.End;
-          outputs = λ pass above. ended_none pass (λ same. absurd (omega arith));
-          quiet = λ k inside. empty_end plan empty [] Control hows.End (number_at plan k) refl;
-          wrote = λ k d inside.
-              begun.each k d inside
-              ∙ ap (behind (written (get_or first k d).ends.sink)) (sym (ap (λ (l : List Item). header_text ++ records_of l) (sent_end plan empty [] Control hows.End (number_of (get_or first k d).port)) ∙ append-nil header_text));
-        }
+        let sizes = length-map ports head_of in
+        let begins = begun plan empty stops plan.ports [] in
+        let same : before ≡ begins = begun_is stops (allowed_before stops allowed) in
+        subst (λ (l : List Row). Reaches plan empty stops begins (map head_of ports) (nothing_taken first) (with_event plan empty l (End Control hows.End))) (sym same)
+        (reaches_start plan empty stops begins (map head_of ports) (nothing_taken first) (ended_begun plan empty stops plan.ports [] (control_pass plan) (omega arith)) (λ rest size_r. nothing_joined first rest (omega arith)))
+
+    pub start : Running left written source_faults sink_faults plan first ports past
+    start = record {
+      later = begun_later left written source_faults sink_faults first ports only;
+      sound = λ k d inside. rw (ahead_is k d inside) (subst (λ (p : PortEnds S K C). IsReadable p.reader) (sym (only.each k d inside).same) (unread k d inside).1);
+      taken = nothing_taken first;
+      taken_size = nothing_count first;
+      known = known;
+      reaches = reaches_past;
+      agree = agree_at;
+      progress = λ k d inside. rw (nothing_at first k) (subst (λ (a : Ahead). ProgressBy left plan k past (get_or first k d) (get_or ports k d) [] a) (sym (ahead_is k d inside)) (goes_at_first k d inside));
+      control = ended_now plan empty before Control hows.End;
+      ticker = ended_none (ticker_pass plan) (omega arith) (λ same. absurd (omega arith));
+      quiet = λ k inside. empty_end plan empty before Control hows.End (number_at plan k) (ap (λ (l : List Row). queue empty (number_at plan k) l) before_is ∙ empty_begun plan empty known plan.ports [] (number_at plan k) refl);
+      outputs = record {
+        size = outputs.size;
+        each = λ k d inside.
+            let was = outputs.each k d inside in
+            let n = number_of (get_or first k d).port in
+            record {
+              port = was.port;
+              later = was.later;
+              output = output_kept written sink_faults plan n before past (get_or first k d).ends.sink (get_or ports k d).ends.sink (known n) (keeps n) was.output;
+            };
+      };
+    }
 
   module _ (past : List Row) (r : Running left written source_faults sink_faults plan first ports past) where
     pub planned_now : ports_held ports ≡ ports_planned plan
@@ -151,9 +179,6 @@ module _ {S K C : Type 0} (left : S → Option (List ℕ)) (written : K → Opti
 
     pub sound_now : All (λ p. IsSound p.reader p.ahead) ports
     sound_now k d inside = let size = r.later.size in r.sound k d (omega arith)
-
-    pub outputs_now : All (λ p. IsOpen plan empty past (Egress p.port)) ports
-    outputs_now k d inside = record { known = known_now k d inside; running = r.outputs (pass_of plan (Egress (get_or ports k d).port)) (omega arith) }
 
     pub quiet_now : All (λ p. queue empty (number_of p.port) past ≡ []) ports
     quiet_now k d inside =

@@ -11,14 +11,13 @@ use Rattle.savi_kinds.specs.declared.entry.How.{How}
 use Rattle.savi_kinds.specs.declared.entry.How.TheVariants as hows
 use Rattle.savi_kinds.specs.Ports.{number_of}
 use Rattle.savi_kinds.specs.ValidPlan.{numbers_of}
-use Rattle.savi_ends.specs.Octets.{behind}
 use Rattle.pcap_io.specs.Readers.{State}
 use Rattle.hist_store.specs.Rows.{Row}
 use Rattle.savi_history.specs.Bases.{empty}
-use Rattle.savi_history.specs.Passes.{has_ended, pass_of, place_of, control_pass}
+use Rattle.savi_history.specs.Passes.{has_ended, pass_of, place_of, control_pass, ticker_pass}
 use Rattle.savi_history.specs.Turns.{Turn, Ends, who_of}
 use Rattle.savi_history.specs.Picks.{IsLeast}
-use Rattle.savi_history.specs.Replay.{entered}
+use Rattle.savi_history.specs.Replay.{Stops, begun, entered}
 use Rattle.savi_history.specs.PortInputs.{input_end}
 use Rattle.savi_history.proofs.Ends.{after_open}
 use Rattle.savi_history.proofs.PortInputs.{IsTurnOf, end_entered, other_entered}
@@ -30,9 +29,10 @@ use Rattle.port_worker.specs.declared.port_ends.Ahead.TheVariants as ahead
 use Rattle.port_worker.specs.declared.port_ends.PortEnds.{PortEnds}
 use Rattle.port_worker.specs.Pairs.{EachPair}
 use Rattle.port_worker.specs.Inputs.{IsSound, IsReadable, IsKnown, turn_of, turn_ahead, moment_of}
-use Rattle.port_worker.specs.SentFrames.{capture_of, IsSent}
+use Rattle.port_worker.specs.Outputs.{AreOutputs, AreAllowed, Follows, OutputsGoOn}
 use Rattle.port_worker.specs.Steps.{IsStepped, ends_input, ahead_after}
 use Rattle.port_worker.specs.Replays.{ports_held, ports_planned}
+use Rattle.port_worker.proofs.Allowed.{allowed_itself}
 use Rattle.port_worker.proofs.Planned.{count_is, number_is, numbers_differ}
 use Rattle.port_worker.proofs.Fitting.{FitsSoFar, fits_turned, turn_port}
 use Rattle.port_worker.proofs.Entered.{ended_entered_other, ended_entered_open, ended_entered_done, quiet_entered}
@@ -112,11 +112,20 @@ module _ {S K C : Type 0} (left : S → Option (List ℕ)) (written : K → Opti
   running_turn = ap (λ (n : ℕ). has_ended empty n past) who_is ∙ running_j
 
   module _ (stepped : EachPair (IsStepped written sink_faults) ports new) (others : (k : ℕ) (d : PortEnds S K C) → k ≢ j → k < length ports → (get_or new k d).ahead ≡ (get_or ports k d).ahead)
-      (entered_is : (d : PortEnds S K C) → IfSome (turn_of (get_or ports j d)) (λ t. now ≡ entered plan empty t past))
-      (ahead_is : (d : PortEnds S K C) → IfSome (turn_of (get_or ports j d)) (λ t. (get_or new j d).ahead ≡ ahead_after (ends_input plan past t)))
-      (sent_is : EachPair (IsSent written past now) ports new) where
-    pub now_is : now ≡ entered plan empty turn past
-    now_is = subst (λ (o : Option Turn). IfSome o (λ t. now ≡ entered plan empty t past)) turn_here.1 (entered_is d_here)
+      (goes : (d : PortEnds S K C) → IfSome (turn_of (get_or ports j d)) (λ t. OutputsGoOn written sink_faults plan past now ports new (λ stops. entered plan empty stops t past)))
+      (ahead_is : (d : PortEnds S K C) → IfSome (turn_of (get_or ports j d)) (λ t. (get_or new j d).ahead ≡ ahead_after (ends_input plan past t))) where
+    goes_now : OutputsGoOn written sink_faults plan past now ports new (λ stops. entered plan empty stops turn past)
+    goes_now = subst (λ (o : Option Turn). IfSome o (λ t. OutputsGoOn written sink_faults plan past now ports new (λ stops. entered plan empty stops t past))) turn_here.1 (goes d_here)
+
+    -- what is known of the outputs behind the turn
+    pub gone : (later : Stops) × AreOutputs written sink_faults plan later now first new × Follows plan r.known later past now (λ stops. entered plan empty stops turn past)
+    gone = goes_now first r.known r.outputs
+
+    abbrev pub later : Stops
+    later = gone.0
+
+    pub now_is : now ≡ entered plan empty later turn past
+    now_is = gone.2.made_so later (allowed_itself plan later now)
 
     there_ahead : (get_or new j d_here).ahead ≡ ahead_after (ends_input plan past turn)
     there_ahead = subst (λ (o : Option Turn). IfSome o (λ t. (get_or new j d_here).ahead ≡ ahead_after (ends_input plan past t))) turn_here.1 (ahead_is d_here)
@@ -152,16 +161,20 @@ module _ {S K C : Type 0} (left : S → Option (List ℕ)) (written : K → Opti
         let size_set = length-set (map head_of ports) j (head_of there) in
         ext_get_or Done (map head_of new) (set (map head_of ports) j (head_of there)) (omega arith) (λ k within. heads_at k (omega arith) (cases_eq k j))
 
-    reaches_new : Reaches plan empty (map head_of new) (set r.taken j (get_or r.taken j [] ++ turn ∷ [])) now
-    reaches_new =
+    reaches_new : (stops : Stops) → AreAllowed plan later stops now → Reaches plan empty stops (begun plan empty stops plan.ports []) (map head_of new) (set r.taken j (get_or r.taken j [] ++ turn ∷ [])) now
+    reaches_new stops allowed =
+        let begins = begun plan empty stops plan.ports [] in
         let least_heads : IsLeast (map reaching.moment_of (map head_of ports)) j = rw (moments_same ports) least in
-        let step = reaches_take plan empty (map head_of ports) r.taken past j turn (head_of there) head_here who_is (all_read ports known) r.agree least_heads r.reaches in
-        subst (λ (hs : List Head). Reaches plan empty hs (set r.taken j (get_or r.taken j [] ++ turn ∷ [])) now) (sym heads_new)
-        (subst (λ (l : List Row). Reaches plan empty (set (map head_of ports) j (head_of there)) (set r.taken j (get_or r.taken j [] ++ turn ∷ [])) l) (after_open plan empty turn past running_turn ∙ sym now_is) step)
+        let step = reaches_take plan empty stops begins (map head_of ports) r.taken past j turn (head_of there) head_here who_is (all_read ports known) r.agree least_heads (r.reaches stops (gone.2.before stops allowed)) in
+        subst (λ (hs : List Head). Reaches plan empty stops begins hs (set r.taken j (get_or r.taken j [] ++ turn ∷ [])) now) (sym heads_new)
+        (subst (λ (l : List Row). Reaches plan empty stops begins (set (map head_of ports) j (head_of there)) (set r.taken j (get_or r.taken j [] ++ turn ∷ [])) l) (after_open plan empty stops turn past running_turn ∙ sym (gone.2.made_so stops allowed)) step)
+
+    low_at : (k : ℕ) → k < length ports → k ≤ ticker_pass plan
+    low_at k within = let size = r.later.size in let count = count_is first plan planned in omega arith
 
     agree_there : (b : Bool) → ends_input plan past turn ≡ b → there.ahead ≡ ahead_after b → Agrees empty now j (head_ahead there.port there.buf there.ahead)
-    agree_there true ends is = rw is (ap (λ (l : List Row). has_ended empty j l) now_is ∙ ap (λ (n : ℕ). has_ended empty n (entered plan empty turn past)) (sym who_is) ∙ ended_entered_done plan past turn ends)
-    agree_there false ends is = rw is (ap (λ (l : List Row). has_ended empty j l) now_is ∙ ended_entered_open plan past turn j ends ∙ running_j)
+    agree_there true ends is = rw is (ap (λ (l : List Row). has_ended empty j l) now_is ∙ ap (λ (n : ℕ). has_ended empty n (entered plan empty later turn past)) (sym who_is) ∙ ended_entered_done plan later past turn ends)
+    agree_there false ends is = rw is (ap (λ (l : List Row). has_ended empty j l) now_is ∙ ended_entered_open plan later past turn j (low_at j inside) ends ∙ running_j)
 
     agree_at : (k : ℕ) → k < length ports → (k ≡ j) ⊎ (k ≢ j) → Agrees empty now k (get_or (map head_of new) k Done)
     agree_at k within (inl same) =
@@ -172,7 +185,7 @@ module _ {S K C : Type 0} (left : S → Option (List ℕ)) (written : K → Opti
         let size_n = size_new in
         let size = length-map ports head_of in
         rw (head_at new k d Done (omega arith), head_kept k d other within)
-        (agrees_same past now k (head_of (get_or ports k d)) (ap (λ (l : List Row). has_ended empty k l) now_is ∙ ended_entered_other plan past turn k (λ e. other (sym e ∙ who_is)))
+        (agrees_same past now k (head_of (get_or ports k d)) (ap (λ (l : List Row). has_ended empty k l) now_is ∙ ended_entered_other plan later past turn k (low_at k within) (λ e. other (sym e ∙ who_is)))
         (subst (λ (h : Head). Agrees empty past k h) (head_at ports k d Done within) (r.agree k (omega arith))))
 
     goes_here : Goes left (get_or first j d_here) here (get_or r.taken j [])
@@ -189,8 +202,8 @@ module _ {S K C : Type 0} (left : S → Option (List ℕ)) (written : K → Opti
 
     ended_so : AtFailure here.port here.ahead turn → input_end (number_of (get_or first j d_here).port) now ≡ Some hows.Failed
     ended_so fails =
-        let entered_end : input_end (number_of here.port) (entered plan empty turn past) ≡ Some hows.Failed =
-        ap (λ (t : Turn). input_end (number_of here.port) (entered plan empty t past)) fails.is_turn ∙ (end_entered plan empty past here.port hows.Failed).ended_so in
+        let entered_end : input_end (number_of here.port) (entered plan empty later turn past) ≡ Some hows.Failed =
+        ap (λ (t : Turn). input_end (number_of here.port) (entered plan empty later t past)) fails.is_turn ∙ (end_entered plan empty past here.port hows.Failed).ended_so in
         ap (λ (p : Port). input_end (number_of p) now) (sym (port_is j d_here inside_first)) ∙ ap (λ (l : List Row). input_end (number_of here.port) l) now_is ∙ entered_end
 
     progress_there : (b : Bool) → ends_input plan past turn ≡ b → there.ahead ≡ ahead_after b → AtTurn (left here.ends.source) here.port here.reader here.buf here.ahead turn
@@ -225,7 +238,7 @@ module _ {S K C : Type 0} (left : S → Option (List ℕ)) (written : K → Opti
     end_kept k d other within =
         let n = number_of (get_or first k d).port in
         let whose : IsTurnOf (get_or first j d).port turn = subst (λ (p : Port). IsTurnOf p turn) (port_is j d inside_first) (turn_port (get_or ports j d).port (get_or ports j d).buf (get_or ports j d).ahead turn (turn_at d)) in
-        ap (λ (l : List Row). input_end n l) now_is ∙ (other_entered plan empty past (get_or first j d).port turn n whose (numbers_apart k d within other)).end_same
+        ap (λ (l : List Row). input_end n l) now_is ∙ (other_entered plan empty later past (get_or first j d).port turn n whose (numbers_apart k d within other)).end_same
 
     progress_at : (k : ℕ) (d : PortEnds S K C) → k < length first → (k ≡ j) ⊎ (k ≢ j) → Progress left plan k now (get_or first k d) (get_or new k d) (get_or (set r.taken j (get_or r.taken j [] ++ turn ∷ [])) k [])
     progress_at k d within (inl same) =
@@ -266,17 +279,14 @@ module _ {S K C : Type 0} (left : S → Option (List ℕ)) (written : K → Opti
           sound = λ k d within. sound_at k d within (cases_eq k j);
           taken = set r.taken j (get_or r.taken j [] ++ turn ∷ []);
           taken_size = length-set r.taken j (get_or r.taken j [] ++ turn ∷ []) ∙ r.taken_size;
+          known = later;
           reaches = reaches_new;
           agree = λ k within. let sizes = length-map new head_of in agree_at k (omega arith) (cases_eq k j);
           progress = λ k d within. progress_at k d within (cases_eq k j);
-          control = rw now_is (ended_entered_other plan past turn (control_pass plan) (λ e. absurd (omega arith)) ∙ r.control);
-          outputs = λ pass above. rw now_is (ended_entered_other plan past turn pass (λ e. absurd (omega arith)) ∙ r.outputs pass above);
-          quiet = λ k within. rw now_is (quiet_entered plan past turn k within (r.quiet k within));
-          wrote = λ k d within.
-              let port = port_is k d within in
-              let front = written (get_or first k d).ends.sink in
-              sent_is.each k d (omega arith) front (r.wrote k d within ∙ ap (λ (p : Port). behind front (capture_of (number_of p) past)) (sym port))
-              ∙ ap (λ (p : Port). behind front (capture_of (number_of p) now)) port;
+          control = rw now_is (ended_entered_other plan later past turn (control_pass plan) (omega arith) (λ e. absurd (omega arith)) ∙ r.control);
+          ticker = rw now_is (ended_entered_other plan later past turn (ticker_pass plan) (omega arith) (λ e. absurd (omega arith)) ∙ r.ticker);
+          quiet = λ k within. rw now_is (quiet_entered plan later past turn k within (r.quiet k within));
+          outputs = gone.1;
         }
 
     weight_one : (a : Ahead) (port : Port) (buf : List ℕ) → turn_ahead port buf a ≡ Some turn → weight a ≡ 1
@@ -303,11 +313,11 @@ module _ {S K C : Type 0} (left : S → Option (List ℕ)) (written : K → Opti
 
     smaller_at : (b : Bool) → ends_input plan past turn ≡ b → there.ahead ≡ ahead_after b → (plan.entries - length now) + undone new < (plan.entries - length past) + undone ports
     smaller_at true ends is =
-        let longer : length past + 1 ≤ length now = rw now_is (entered_longer plan past turn) in
+        let longer : length past + 1 ≤ length now = rw now_is (entered_longer plan later past turn) in
         let less : undone new + 1 ≡ undone ports = undone_less ports new j d_here size_new inside weight_other weight_here (ap weight is) in
         omega arith
     smaller_at false ends is =
-        let longer : length past + 1 ≤ length now = rw now_is (entered_longer plan past turn) in
+        let longer : length past + 1 ≤ length now = rw now_is (entered_longer plan later past turn) in
         let below = goes_below plan past turn ends in
         let same : undone new ≡ undone ports = undone_same ports new size_new (λ k d within. weight_at k d is within (cases_eq k j)) in
         omega arith
@@ -320,4 +330,4 @@ module _ {S K C : Type 0} (left : S → Option (List ℕ)) (written : K → Opti
 
     -- the sources still fit the history
     pub fits_step : EachPair (FitsSoFar left source_faults past) first ports → EachPair (FitsSoFar left source_faults now) first new
-    fits_step so_far = fits_turned left written source_faults sink_faults plan first ports new past now j turn port_is numbers_apart inside_first so_far stepped others turn_at now_is ahead_at
+    fits_step so_far = fits_turned left written source_faults sink_faults plan later first ports new past now j turn port_is numbers_apart inside_first so_far stepped others turn_at now_is ahead_at

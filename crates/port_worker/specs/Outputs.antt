@@ -1,5 +1,5 @@
 -- The outputs of a replay while it goes on: what each sink took, and what is known so far of where a write failed.
-use Rattle.std.specs.Prelude.{◌≡◌, ℕ, true, false, List, [], All, Option, Some, None}
+use Rattle.std.specs.Prelude.{◌≡◌, ℕ, ◌≤◌, true, false, List, [], All, Option, Some, None}
 use Rattle.savi_kinds.specs.declared.plan.Plan.{Plan}
 use Rattle.savi_kinds.specs.declared.entry.How.TheVariants as hows
 use Rattle.savi_kinds.specs.Ports.{number_of}
@@ -14,29 +14,34 @@ use Rattle.savi_history.specs.PortOutputs.{output_end, pieces, text_before_last_
 use Rattle.port_worker.specs.declared.port_ends.PortEnds.{PortEnds}
 use Rattle.port_worker.specs.Pairs.{EachPair}
 
--- An output that goes on: its sink took all that was sent.
-pub record GoesOn {S K C : Type 0} (written : K → Option (List ℕ)) (plan : Plan) (past : List Row) (old new : PortEnds S K C) : Type 0 where
-  pub running : has_ended empty (egress_pass plan (number_of old.port)) past ≡ false
-  pub none : output_end (number_of old.port) past ≡ None
-  pub took : TookPieces (written old.ends.sink) (written new.ends.sink) (pieces (sent empty (number_of old.port) past)) None
+-- An output that goes on: its sink took all that was sent at the port.
+pub record GoesOn {K : Type 0} (written : K → Option (List ℕ)) (plan : Plan) (past : List Row) (port : ℕ) (old new : K) : Type 0 where
+  pub running : has_ended empty (egress_pass plan port) past ≡ false
+  pub none : output_end port past ≡ None
+  pub took : TookPieces (written old) (written new) (pieces (sent empty port past)) None
 
 -- An output at which a write failed behind so many whole pieces: its egress has ended for that, and nothing waits there.
-pub record HasFailed {S K C : Type 0} (written : K → Option (List ℕ)) (faults : K → ℕ) (plan : Plan) (past : List Row) (old new : PortEnds S K C) (whole : ℕ) : Type 0 where
-  pub ended : has_ended empty (egress_pass plan (number_of old.port)) past ≡ true
-  pub failed : output_end (number_of old.port) past ≡ Some hows.Failed
-  pub quiet : queue empty (number_of old.port) past ≡ []
-  pub took : TookPieces (written old.ends.sink) (written new.ends.sink) (pieces (sent empty (number_of old.port) past)) (Some whole)
-  pub fits : FitsOutputAt empty (written old.ends.sink) (written new.ends.sink) (number_of old.port) past
-  pub rose : Rose (faults old.ends.sink) (faults new.ends.sink)
+pub record HasFailed {K : Type 0} (written : K → Option (List ℕ)) (faults : K → ℕ) (plan : Plan) (past : List Row) (port : ℕ) (old new : K) (whole : ℕ) : Type 0 where
+  pub ended : has_ended empty (egress_pass plan port) past ≡ true
+  pub failed : output_end port past ≡ Some hows.Failed
+  pub quiet : queue empty port past ≡ []
+  pub took : TookPieces (written old) (written new) (pieces (sent empty port past)) (Some whole)
+  pub fits : FitsOutputAt empty (written old) (written new) port past
+  pub rose : Rose (faults old) (faults new)
 
 -- an output by what is known of where a write failed there
-abbrev pub IsOutput : {S K C : Type 0} → (K → Option (List ℕ)) → (K → ℕ) → Plan → List Row → PortEnds S K C → PortEnds S K C → Option ℕ → Type 0
-IsOutput written faults plan past old new None = GoesOn written plan past old new
-IsOutput written faults plan past old new (Some whole) = HasFailed written faults plan past old new whole
+abbrev pub IsOutput : {K : Type 0} → (K → Option (List ℕ)) → (K → ℕ) → Plan → List Row → ℕ → K → K → Option ℕ → Type 0
+IsOutput written faults plan past port old new None = GoesOn written plan past port old new
+IsOutput written faults plan past port old new (Some whole) = HasFailed written faults plan past port old new whole
+
+pub record IsOutputOf {S K C : Type 0} (written : K → Option (List ℕ)) (faults : K → ℕ) (plan : Plan) (known : Stops) (past : List Row) (old new : PortEnds S K C) : Type 0 where
+  pub port : new.port ≡ old.port
+  pub later : faults old.ends.sink ≤ faults new.ends.sink
+  pub output : IsOutput written faults plan past (number_of old.port) old.ends.sink new.ends.sink (known (number_of old.port))
 
 -- all outputs, by what is known of each
 abbrev pub AreOutputs : {S K C : Type 0} → (K → Option (List ℕ)) → (K → ℕ) → Plan → Stops → List Row → List (PortEnds S K C) → List (PortEnds S K C) → Type 0
-AreOutputs written faults plan known past old new = EachPair (λ o n. IsOutput written faults plan past o n (known (number_of o.port))) old new
+AreOutputs written faults plan known past old new = EachPair (IsOutputOf written faults plan known past) old new
 
 -- What a write may turn out to have failed at, by what is known of an output that has so many pieces: where none of these
 -- failed, it is none or a later one.
@@ -48,7 +53,7 @@ Allows (Some whole) stop count = stop ≡ Some whole
 abbrev pub AreAllowed : Plan → Stops → Stops → List Row → Type 0
 AreAllowed plan known stops past = All (λ q. Allows (known q) (stops q) (pieces_by empty q past)) (numbers_of plan.ports)
 
--- More is known behind a step, and what that allows the step has made.
+-- More is known behind a step, and the step has made what that allows.
 pub record Follows (plan : Plan) (known later : Stops) (past now : List Row) (made : Stops → List Row) : Type 0 where
   pub before : (stops : Stops) → AreAllowed plan later stops now → AreAllowed plan known stops past
   pub made_so : (stops : Stops) → AreAllowed plan later stops now → now ≡ made stops

@@ -1,17 +1,17 @@
 //! The loop.
 
-ghost use Rattle.std.specs.Prelude.{◌≡◌, ◌≢◌, ◌<◌, ◌≤◌, ◌+◌, ℕ, List, [], false, length, slice_index_or, All, IsSome, IfSome, Option};
+ghost use Rattle.std.specs.Prelude.{◌≡◌, ◌≢◌, ◌<◌, ◌≤◌, ◌+◌, ℕ, List, [], true, false, length, slice_index_or, All, IsSome, IfSome, Option};
 ghost use Rattle.std.specs.List.Sorted.{IsStrictlyIncreasing};
 ghost use Rattle.savi_kinds.specs.Ports.{number_of};
 ghost use Rattle.savi_kinds.specs.ValidPlan.{numbers_of, IsValidPlan};
-ghost use Rattle.savi_kinds.specs.declared.entry.Who.TheVariants.{Ingress, Ticker};
+ghost use Rattle.savi_kinds.specs.declared.entry.Who.TheVariants.{Ingress, Egress, Ticker};
 ghost use Rattle.savi_kinds.specs.declared.entry.How.TheVariants as hows;
 ghost use Rattle.savi_history.specs.Bases.{empty};
-ghost use Rattle.savi_history.specs.Passes.{AllEnded, control_pass, ticker_pass, has_ended};
+ghost use Rattle.savi_history.specs.Passes.{AllEnded, control_pass, ticker_pass, has_ended, has_pass};
 ghost use Rattle.savi_history.specs.Queues.{queue};
 ghost use Rattle.savi_history.specs.Legal.{IsOpen, IsFinished};
 ghost use Rattle.savi_history.specs.Events.{End};
-ghost use Rattle.savi_history.specs.Replay.{entered, egress_ended, with_event};
+ghost use Rattle.savi_history.specs.Replay.{entered, with_end, egress_ended, with_event};
 ghost use Rattle.port_worker.specs.declared.port_ends.PortEnds.{PortEnds};
 ghost use Rattle.port_worker.specs.Pairs.{EachPair};
 ghost use Rattle.port_worker.specs.Inputs.{IsSound, turn_of};
@@ -26,7 +26,7 @@ use crate::outputs::{begin_all, drain_all};
 use crate::port_ends::PortEnds;
 use savi_core::{Batch, Core, Event};
 use savi_ends::{Clock, Sink, Source};
-use savi_kinds::{How, Who};
+use savi_kinds::{How, Port, Who};
 
 /// Makes the one history of a replay of the inputs of these ports, and writes at each port what is sent there.
 ///
@@ -112,12 +112,23 @@ fn finish<S, K, C>(core: &mut Core, ports: &[PortEnds<S, K, C>])
         how: How::End,
     });
     for place in 0..ports.len() {
-        let who = Who::Egress(ports[place].port);
-        if !core.ended(who) {
-            let _egress = core.step(Event::End {
-                who,
-                how: How::End,
-            });
-        }
+        end_egress(core, ports[place].port);
+    }
+}
+
+// Ends the egress of a port, where it hasn't ended.
+fn end_egress(core: &mut Core, port: Port)
+    requires known { has_pass core.old.plan (Egress port) ≡ true }
+    requires last { AllEnded empty (ticker_pass core.old.plan + 1) core.old.past }
+    requires quiet { queue empty (number_of port) core.old.past ≡ [] }
+    ensures plan { core.new.plan ≡ core.old.plan }
+    ensures past { core.new.past ≡ with_end core.old.plan empty port core.old.past }
+{
+    let who = Who::Egress(port);
+    if !core.ended(who) {
+        let _egress = core.step(Event::End {
+            who,
+            how: How::End,
+        });
     }
 }
