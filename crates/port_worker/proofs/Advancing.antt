@@ -133,19 +133,6 @@ drainable_then plan plan' port here here' (Some turn) past mid result k plan_is 
     let e : Enters plan port turn past true mid = subst (λ (b : Bool). Enters plan port turn past b mid) answer enters in
     subst (λ (p : Plan). IsDrainable p mid here') (sym plan_is) (subst (λ (p : Port). IsDrainable plan mid p) (sym here_is) (subst (λ (l : List Row). IsDrainable plan l here) (sym e.3) (drainable_behind plan past port here e.0 k within number quiet)))
 
-pub ahead_arrived : (plan : Plan) (port : Port) (o : Option Turn) (old new : List Row) (result : Bool) (a : Ahead) → result ≡ true → IfSome o (λ turn. Enters plan port turn old result new) → a ≡ ahead.Unread → IfSome o (λ turn. a ≡ ahead_after (ends_input plan old turn))
-ahead_arrived plan port None old new result a answer enters is = tt
-ahead_arrived plan port (Some turn) old new result a answer enters is =
-    let e : Enters plan port turn old true new = subst (λ (b : Bool). Enters plan port turn old b new) answer enters in
-    let room : ends_input plan old turn ≡ false = ap (ends_input plan old) e.1 ∙ ap not e.2 in
-    is ∙ ap ahead_after (sym room)
-
-pub ahead_ended : (plan : Plan) (port : Port) (o : Option Turn) (old new : List Row) (result : Bool) (a : Ahead) → result ≡ false → IfSome o (λ turn. Enters plan port turn old result new) → a ≡ ahead.Done → IfSome o (λ turn. a ≡ ahead_after (ends_input plan old turn))
-ahead_ended plan port None old new result a answer enters is = tt
-ahead_ended plan port (Some turn) old new result a answer enters is =
-    let e : Enters plan port turn old false new = subst (λ (b : Bool). Enters plan port turn old b new) answer enters in
-    is ∙ ap ahead_after (sym e.3)
-
 -- the outputs behind an arrival and its drains, and behind an ending
 
 module _ {S K C : Type 0} (written : K → Option (List ℕ)) (faults : K → ℕ) (old : List (PortEnds S K C)) (place : ℕ) (x y : PortEnds S K C) (inside : place < length old) (is : (d : PortEnds S K C) → get_or old place d ≡ x) (rest : y ≡ record x { ahead = y.ahead }) (plan : Plan) (planned : ports_held old ≡ ports_planned plan)

@@ -8,7 +8,7 @@ use Rattle.port_worker.specs.declared.port_ends.Ahead.TheVariants as ahead
 use Rattle.port_worker.specs.Inputs.{turn_of}
 use Rattle.port_worker.specs.Replays.{ports_planned}
 use Rattle.port_worker.proofs.Planned.{count_is, number_is}
-use Rattle.port_worker.proofs.Advancing.{held_set, port_kept, stepped_then, stepped_only, drainable_then, ahead_arrived, ahead_ended, outputs_arrived, outputs_ended, ingress_low}
+use Rattle.port_worker.proofs.Advancing.{held_set, port_kept, stepped_then, stepped_only, drainable_then, outputs_arrived, outputs_ended, ingress_low}
 use Rattle.port_worker.proofs.turns.advance.Goals as goal
 
 pub drain_all-requires-clause-ports : goal.drain_all-requires-clause-ports
