@@ -22,4 +22,5 @@ pub mod AddressTexts
 pub mod Finished
 pub mod Legality
 pub mod PortInputs
+pub mod Replaying
 pub mod Failing
