@@ -124,7 +124,7 @@ module _ (plan : Plan) (base : Base) (stops : Stops) where
   tells_end past passes.Control how is running tells =
       let now = with_event plan base past (End passes.Control hows.End) in
       rw is (tells_kept past now (record { failed_same = refl; ends_same = λ n. refl; later = later_event plan base past (End passes.Control hows.End) }) tells)
-  tells_end past passes.Ticker how is running tells = rw is (tells_ticker past tells)
+  tells_end past passes.Ticker how is running tells = absurd is
   tells_end past (passes.Egress port) how is running tells = absurd is
 
   keeps_close : (past : List Row) (port : Port) (b : Bool) → Keeps past (if b then past else with_event plan base past (End (passes.Egress port) hows.End))

@@ -24,3 +24,4 @@ pub mod Legality
 pub mod PortInputs
 pub mod Replaying
 pub mod Failing
+pub mod FailedWrites

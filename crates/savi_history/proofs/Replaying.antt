@@ -26,11 +26,11 @@ pub record IsAt (plan : Plan) (n : ℕ) : Type 0 where
   pub inside : place < length plan.ports
   pub number : n ≡ number_at plan place
 
--- the end of an input of a replay or of its ticker
+-- the end of an input of a replay
 abbrev pub EndsInput : Plan → Who → How → Type 0
 EndsInput plan (passes.Ingress port) how = IsAt plan (number_of port)
 EndsInput plan passes.Control how = how ≡ hows.End
-EndsInput plan passes.Ticker how = how ≡ hows.End
+EndsInput plan passes.Ticker how = ⊥
 EndsInput plan (passes.Egress port) how = ⊥
 
 -- a turn of a port of the plan, or control's end
@@ -71,8 +71,9 @@ module _ (plan : Plan) where
       turns_merge (turns p.number i) (merged (port_turns ports inputs)) (turns_of p.number i.arrivals i.ending (at 0 (omega arith)))
       (turns_ports ports inputs (λ k inside. at (suc k) (omega arith)))
 
-  all_at : AllAt plan plan.ports
-  all_at k inside = record { place = k; inside = inside; number = refl }
+  -- each port of a plan is at its place
+  pub at_place : (k : ℕ) → k < length plan.ports → IsAt plan (number_at plan k)
+  at_place k inside = record { place = k; inside = inside; number = refl }
 
 -- A property of histories that each step of a replay keeps.
 pub record IsKept (plan : Plan) (base : Base) (stops : Stops) (Has : List Row → Type 0) : Type 1 where
@@ -91,7 +92,7 @@ module _ (plan : Plan) (base : Base) (stops : Stops) (Has : List Row → Type 0)
 
   has_arrival : (past : List Row) (port : Port) (a : Arrival) (b : Bool) → IsAt plan (number_of port) → has_ended base (pass_of plan (passes.Ingress port)) past ≡ false → Has past
       → Has (if b then drained plan base stops plan.ports (with_event plan base past (event_of port a)) else with_event plan base past (End (passes.Ingress port) (hows.Full (length past))))
-  has_arrival past port a true at running has = has_drained plan.ports (with_event plan base past (event_of port a)) (all_at plan) (kept.arrives past port a has)
+  has_arrival past port a true at running has = has_drained plan.ports (with_event plan base past (event_of port a)) (at_place plan) (kept.arrives past port a has)
   has_arrival past port a false at running has = kept.ends past (passes.Ingress port) (hows.Full (length past)) at running has
 
   has_entered : (turn : Turn) (past : List Row) → IsOurs plan turn → has_ended base (pass_of plan (who_of turn)) past ≡ false → Has past → Has (entered plan base stops turn past)
@@ -116,5 +117,5 @@ module _ (plan : Plan) (base : Base) (stops : Stops) (Has : List Row → Type 0)
       let started : List Row = begun plan base stops plan.ports [] in
       let all : List Turn = merged (control_turns ∷ port_turns plan.ports inputs) in
       let before : List Row = after_all plan base stops all started in
-      has_closed plan.ports (with_event plan base before (End passes.Ticker hows.End)) (all_at plan)
-      (kept.ticks before (has_all all started (turns_merge plan control_turns (merged (port_turns plan.ports inputs)) (refl, tt) (turns_ports plan plan.ports inputs (all_at plan))) has))
+      has_closed plan.ports (with_event plan base before (End passes.Ticker hows.End)) (at_place plan)
+      (kept.ticks before (has_all all started (turns_merge plan control_turns (merged (port_turns plan.ports inputs)) (refl, tt) (turns_ports plan plan.ports inputs (at_place plan))) has))

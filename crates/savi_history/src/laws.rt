@@ -12,8 +12,9 @@ ghost use Rattle.savi_history.specs.Legal.{IsLegal, IsFinished};
 ghost use Rattle.savi_history.specs.Readable.{IsInput};
 ghost use Rattle.savi_history.specs.Replay.{Stops, replayed};
 ghost use Rattle.savi_history.specs.Adverts.{IsGuarded};
-ghost use Rattle.savi_history.specs.Endings.{has_failed};
+ghost use Rattle.savi_history.specs.Endings.{has_failed, has_failed_write};
 ghost use Rattle.savi_history.specs.PortInputs.{input_end};
+ghost use Rattle.savi_history.specs.PortOutputs.{output_end};
 ghost use Rattle.savi_history.specs.Journals.{IsAddressText, IsJournalOfOne};
 
 /// In a legal history no router advertisement that the header chain shows, and no first fragment whose chain is cut,
@@ -35,6 +36,13 @@ pub fn replays_are_legal()
 /// A read that failed in a replay is one of the input of a port of the plan, and the history says so of that port.
 pub fn failed_reads_are_of_ports()
     ensures { (plan : Plan) (base : Base) (inputs : List Input) (stops : Stops) → has_failed (replayed plan base inputs stops) ≡ true → (k : ℕ) × (k < length plan.ports) × (input_end (slice_index (numbers_of plan.ports) k) (replayed plan base inputs stops) ≡ Some hows.Failed) }
+{}
+
+/// A write that failed in a replay is one of the output of a port of the plan, and the history says so of that port. Of
+/// every history that says so of some port, a write failed.
+pub fn failed_writes_are_of_ports()
+    ensures of_port { (plan : Plan) (base : Base) (inputs : List Input) (stops : Stops) → has_failed_write (replayed plan base inputs stops) ≡ true → (k : ℕ) × (k < length plan.ports) × (output_end (slice_index (numbers_of plan.ports) k) (replayed plan base inputs stops) ≡ Some hows.Failed) }
+    ensures told { (port : ℕ) (past : List Row) → output_end port past ≡ Some hows.Failed → has_failed_write past ≡ true }
 {}
 
 /// A journal tells the history: no text is the journal of two legal histories from the start of a switch, nor of two
