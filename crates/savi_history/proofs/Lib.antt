@@ -25,3 +25,6 @@ pub mod PortInputs
 pub mod Replaying
 pub mod Failing
 pub mod FailedWrites
+pub mod EndedOutputs
+pub mod TakenPieces
+pub mod FittingOutputs
