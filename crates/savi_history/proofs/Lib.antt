@@ -22,4 +22,9 @@ pub mod AddressTexts
 pub mod Finished
 pub mod Legality
 pub mod PortInputs
+pub mod Replaying
 pub mod Failing
+pub mod FailedWrites
+pub mod EndedOutputs
+pub mod TakenPieces
+pub mod FittingOutputs
