@@ -4,9 +4,11 @@
 //! The status is 0 where each text says a plan, and else 3.
 #![tactic(auto)]
 
+mod meanings;
 mod words;
 
-use savi_conf::read_plan;
+use meanings::fault_meaning;
+use savi_conf::{ConfFault, read_plan};
 use savi_kinds::{Plan, put_addr, put_mac};
 use std::process::ExitCode;
 use std::{env, fs, io};
@@ -23,11 +25,20 @@ fn main(rt: HostRuntime) -> io::Result<ExitCode> {
             Ok(plan) => print_plan(&rt, name.as_str(), &plan)?,
             Err(fault) => {
                 println!(rt; "{name}: {fault}")?;
+                print_meaning(&rt, fault)?;
                 status = REFUSED;
             }
         }
     }
     Ok(ExitCode::from(status))
+}
+
+// What a fault means that has a number.
+fn print_meaning(rt: &impl Print, fault: ConfFault) -> io::Result<()> {
+    if let ConfFault::Bad(number) = fault {
+        println!(rt; "{}", fault_meaning(number))?;
+    }
+    Ok(())
 }
 
 // A line for each part of the plan.
