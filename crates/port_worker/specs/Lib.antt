@@ -2,7 +2,8 @@ pub mod Pairs
 pub mod Inputs
 pub mod Steps
 pub mod SentFrames
+pub mod Drains
+pub mod Outputs
 pub mod Choices
 pub mod Replays
-pub mod Causes
 pub mod Sessions

@@ -6,18 +6,20 @@ use Rattle.savi_kinds.specs.Ports.{number_of}
 use Rattle.savi_kinds.specs.declared.entry.How.{How}
 use Rattle.savi_kinds.specs.declared.entry.How.TheVariants as hows
 use Rattle.savi_kinds.specs.Arrivals.{Arrival, Input}
-use Rattle.savi_ends.specs.Octets.{behind, Takes}
+use Rattle.savi_ends.specs.Octets.{Takes}
 use Rattle.savi_ends.specs.Faults.{Rose}
 use Rattle.pcap_io.specs.Readers.{Comes}
 use Rattle.hist_store.specs.Rows.{Row}
 use Rattle.savi_history.specs.Bases.{empty}
-use Rattle.savi_history.specs.Replay.{replayed}
+use Rattle.savi_history.specs.Queues.{sent}
+use Rattle.savi_history.specs.Replay.{Stops, replayed}
 use Rattle.savi_history.specs.PortInputs.{arrived, input_end}
+use Rattle.savi_history.specs.PortOutputs.{output_end, pieces, TookPieces, FitsOutputAt}
 use Rattle.savi_history.specs.Fits.{Fits, IsWhole, IsBroken}
 use Rattle.port_worker.specs.declared.port_ends.Ahead.TheVariants as ahead
 use Rattle.port_worker.specs.declared.port_ends.PortEnds.{PortEnds}
 use Rattle.port_worker.specs.Inputs.{IsReadable}
-use Rattle.port_worker.specs.SentFrames.{TookMore, capture_of}
+use Rattle.port_worker.specs.SentFrames.{TookMore}
 
 -- the ports of these ends
 abbrev pub ports_held : {S K C : Type 0} → List (PortEnds S K C) → List Port
@@ -30,11 +32,6 @@ ports_planned plan = map (λ p. p.number) plan.ports
 -- nothing was read yet
 abbrev pub IsUnread : {S K C : Type 0} → PortEnds S K C → Type 0
 IsUnread p = (p.ahead ≡ ahead.Unread) × IsReadable p.reader
-
--- the port with this number had a fault more
-abbrev pub RoseAt : {S K C : Type 0} → (PortEnds S K C → ℕ) → Port → List (PortEnds S K C) → List (PortEnds S K C) → Type 0
-RoseAt {S} {K} {C} faults port old new =
-    (k : ℕ) × (k < length old) × ((d : PortEnds S K C) → (number_of (slice_index_or new k d).port ≡ number_of port) × Rose (faults (slice_index_or old k d)) (faults (slice_index_or new k d)))
 
 -- The ends of a port, before and after, as far as they tell: its source gave up octets from its front, its sink took octets
 -- behind what it held, its clock wasn't read, and no count of faults fell.
@@ -64,16 +61,22 @@ abbrev pub IsInputAt : {S K C : Type 0} → (S → Option (List ℕ)) → List R
 IsInputAt left past old new input =
     IsInputOf (Comes old.reader) (left old.ends.source) (left new.ends.source) (input_end (number_of old.port) past) input.arrivals input.ending
 
--- The history is the one of a replay of these inputs, one for each port in its order: the octets of each source are its
--- input; and each sink holds, behind what it held, the capture of what was sent.
+-- The sink of a port took the pieces of its output, as these stops say.
+abbrev pub IsOutputAt : {S K C : Type 0} → (K → Option (List ℕ)) → List Row → Stops → PortEnds S K C → PortEnds S K C → Type 0
+IsOutputAt written past stops old new =
+    TookPieces (written old.ends.sink) (written new.ends.sink) (pieces (sent empty (number_of old.port) past)) (stops (number_of old.port))
+
+-- The history is the one of a replay of these inputs, one for each port in its order, whose sinks fail so: the octets of each
+-- source are its input; and each sink took what is sent there as a capture, or the front of it that its stop says.
 pub record IsReplayed {S K C : Type 0} (left : S → Option (List ℕ)) (written : K → Option (List ℕ)) (plan : Plan) (past : List Row) (old new : List (PortEnds S K C)) : Type 0 where
   pub inputs : List Input
   pub size : length inputs ≡ length old
-  pub history : past ≡ replayed plan empty inputs
+  pub stops : Stops
+  pub history : past ≡ replayed plan empty inputs stops
   pub arrived : (k : ℕ) (d : PortEnds S K C) (i : Input) → k < length old
       → IsInputAt left past (slice_index_or old k d) (slice_index_or new k d) (slice_index_or inputs k i)
   pub wrote : (k : ℕ) (d : PortEnds S K C) → k < length old
-      → written (slice_index_or new k d).ends.sink ≡ behind (written (slice_index_or old k d).ends.sink) (capture_of (number_of (slice_index_or old k d).port) past)
+      → IsOutputAt written past stops (slice_index_or old k d) (slice_index_or new k d)
 
 -- what the source of a port gave up fits what the history holds of its input
 abbrev pub IsFit : {S K C : Type 0} → (S → Option (List ℕ)) → List Row → PortEnds S K C → PortEnds S K C → Type 0
@@ -84,3 +87,12 @@ IsFit left past old new =
 abbrev pub HasBroken : {S K C : Type 0} → (S → ℕ) → List Row → PortEnds S K C → PortEnds S K C → Type 0
 HasBroken source_faults past old new =
     input_end (number_of old.port) past ≡ Some hows.Failed → Rose (source_faults old.ends.source) (source_faults new.ends.source)
+
+-- what the sink of a port took fits what the history sends there
+abbrev pub IsOutputFit : {S K C : Type 0} → (K → Option (List ℕ)) → List Row → PortEnds S K C → PortEnds S K C → Type 0
+IsOutputFit written past old new = FitsOutputAt empty (written old.ends.sink) (written new.ends.sink) (number_of old.port) past
+
+-- where the history says that a write at the port failed, the count of its sink rose
+abbrev pub HasBrokenOut : {S K C : Type 0} → (K → ℕ) → List Row → PortEnds S K C → PortEnds S K C → Type 0
+HasBrokenOut sink_faults past old new =
+    output_end (number_of old.port) past ≡ Some hows.Failed → Rose (sink_faults old.ends.sink) (sink_faults new.ends.sink)

@@ -18,7 +18,7 @@ use Rattle.savi_core.specs.Machines.{Machine}
 use Rattle.savi_core.specs.declared.event.Stepped.{Stepped}
 use Rattle.savi_core.specs.declared.event.Stepped.TheVariants as stepped
 use Rattle.savi_history.specs.Turns.{Turn, Arrives, Ends}
-use Rattle.savi_history.specs.Replay.{event_of, with_event, entered}
+use Rattle.savi_history.specs.Replay.{Stops, event_of, with_event, entered}
 
 -- whether the input of a turn ends with it: an ending, or an arrival for which there is no room
 abbrev pub ends_input : Plan → List Row → Turn → Bool
@@ -30,7 +30,7 @@ abbrev pub Enters : Plan → Port → Turn → List Row → Bool → List Row �
 Enters plan port turn old true new =
     (arrival : Arrival) × (turn ≡ Arrives port arrival) × (has_room plan old ≡ true) × (new ≡ with_event plan empty old (event_of port arrival))
 Enters plan port turn old false new =
-    (how : How) × (new ≡ with_event plan empty old (End (Ingress port) how)) × (new ≡ entered plan empty turn old) × (ends_input plan old turn ≡ true)
+    (how : How) × (new ≡ with_event plan empty old (End (Ingress port) how)) × ((stops : Stops) → new ≡ entered plan empty stops turn old) × (ends_input plan old turn ≡ true)
 
 -- what holds of an answer that says that there was no room
 abbrev pub IfFull : Stepped → (ℕ → Type 0) → Type 0

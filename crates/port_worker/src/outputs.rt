@@ -1,77 +1,115 @@
 //! What goes out at each port.
 
-ghost use Rattle.std.specs.Prelude.{◌≡◌, ◌<◌, ◌≤◌, ℕ, List, length, map, slice_index, slice_index_or, All, None, IfSome, Option};
+ghost use Rattle.std.specs.Prelude.{◌≡◌, ◌≢◌, ◌<◌, ◌≤◌, ◌∷◌, [], true, false, List, length, map, slice_index, slice_index_or, All, None, Option};
 ghost use Rattle.std.specs.List.Sorted.{IsStrictlyIncreasing};
 ghost use Rattle.savi_kinds.specs.Ports.{number_of};
 ghost use Rattle.savi_kinds.specs.ValidPlan.{numbers_of};
 ghost use Rattle.savi_kinds.specs.declared.entry.Who.TheVariants.{Egress};
+ghost use Rattle.savi_kinds.specs.declared.entry.How.TheVariants as hows;
 ghost use Rattle.savi_ends.specs.Faults.{Rose};
 ghost use Rattle.savi_ends.specs.Octets.{behind};
 ghost use Rattle.savi_ends.specs.Writes.{Extends};
 ghost use Rattle.pcap_io.specs.Captures.{header_text};
 ghost use Rattle.savi_history.specs.Bases.{empty};
-ghost use Rattle.savi_history.specs.Queues.{queue};
-ghost use Rattle.savi_history.specs.PortInputs.{input_end};
+ghost use Rattle.savi_history.specs.Passes.{has_ended, has_port, egress_pass};
 ghost use Rattle.savi_history.specs.Legal.{IsOpen};
-ghost use Rattle.savi_history.specs.Replay.{drained};
+ghost use Rattle.savi_history.specs.Events.{End};
+ghost use Rattle.savi_history.specs.PortOutputs.{TookPieces};
+ghost use Rattle.savi_history.specs.Replay.{Stops, begun, drained};
+ghost use Rattle.savi_core.specs.Machines.{with_event};
 ghost use Rattle.port_worker.specs.Pairs.{EachPair};
-ghost use Rattle.port_worker.specs.SentFrames.{records_of, TookMore, OnlySink, IsBegun, IsSent};
-ghost use Rattle.port_worker.specs.Replays.{RoseAt, ports_held, ports_planned};
+ghost use Rattle.port_worker.specs.SentFrames.{records, TookAs, TookMore, OnlySink};
+ghost use Rattle.port_worker.specs.Drains.{IsBegun, IsDrained, IsDrainable};
+ghost use Rattle.port_worker.specs.Outputs.{AreOutputs, AreAllowed, OutputsGoOn};
+ghost use Rattle.port_worker.specs.Replays.{ports_held, ports_planned};
 
 use crate::port_ends::PortEnds;
 use pcap_io::{begin, put};
-use savi_core::{Batch, Core};
+use savi_core::{Batch, Core, Event};
 use savi_ends::{Put, Sink};
-use savi_kinds::{DEPTH_MOST, Port};
+use savi_kinds::{DEPTH_MOST, How, Port, Who};
 
-/// Begins the capture of each port, in order. The answer is the port at which a write failed.
-pub(crate) fn begin_all<S, K: Sink, C>(ports: &mut [PortEnds<S, K, C>]) -> Option<Port>
-    ensures begun { EachPair (OnlySink K.written K.faults) ports.old ports.new }
-    ensures done { result ≡ None → EachPair (IsBegun K.written) ports.old ports.new }
-    ensures failed { IfSome result (λ port. RoseAt (λ p. K.faults p.ends.sink) port ports.old ports.new) }
+/// Begins the capture of each port, in order. Where a write fails the egress of that port ends for it, and the others go
+/// on.
+pub(crate) fn begin_all<S, K: Sink, C>(core: &mut Core, ports: &mut [PortEnds<S, K, C>])
+    requires start { core.old.past ≡ [] }
+    requires ports { ports_held ports.old ≡ ports_planned core.old.plan }
+    requires rising { IsStrictlyIncreasing (numbers_of core.old.plan.ports) }
+    ensures plan { core.new.plan ≡ core.old.plan }
+    ensures sinks { EachPair (OnlySink K.written K.faults) ports.old ports.new }
+    ensures begun { (known : Stops) × AreOutputs K.written K.faults core.old.plan known core.new.past ports.old ports.new
+        × ((stops : Stops) → AreAllowed core.old.plan known stops core.new.past → core.new.past ≡ begun core.old.plan empty stops core.old.plan.ports []) }
 {
     for place in 0..ports.len() {
-        match ports[place].begin() {
-            Put::Done => {}
-            Put::Failed => return Some(ports[place].port),
-        }
+        begin_port(core, &mut ports[place]);
     }
-    None
 }
 
-/// Drains the queue of each port whole, in order, and writes what was taken. The answer is the port at which a write
-/// failed.
+/// Drains the queue of each port whole, in order, and writes what was taken. Where a write fails the egress of that port
+/// ends for it, and the others go on.
 pub(crate) fn drain_all<S, K: Sink, C>(
     core: &mut Core,
     ports: &mut [PortEnds<S, K, C>],
     batch: &mut Batch,
-) -> Option<Port>
+)
     requires ports { ports_held ports.old ≡ ports_planned core.old.plan }
     requires rising { IsStrictlyIncreasing (numbers_of core.old.plan.ports) }
-    requires open { All (λ p. IsOpen core.old.plan empty core.old.past (Egress p.port)) ports.old }
-    requires few { All (λ p. length (queue empty (number_of p.port) core.old.past) ≤ 256) ports.old }
+    requires drainable { All (λ p. IsDrainable core.old.plan core.old.past p.port) ports.old }
     ensures plan { core.new.plan ≡ core.old.plan }
-    ensures inputs { (n : ℕ) → input_end n core.new.past ≡ input_end n core.old.past }
-    ensures drained { result ≡ None → core.new.past ≡ drained core.old.plan empty core.old.plan.ports core.old.past }
     ensures sinks { EachPair (OnlySink K.written K.faults) ports.old ports.new }
-    ensures sent { result ≡ None → EachPair (IsSent K.written core.old.past core.new.past) ports.old ports.new }
-    ensures failed { IfSome result (λ port. RoseAt (λ p. K.faults p.ends.sink) port ports.old ports.new) }
+    ensures outputs { OutputsGoOn K.written K.faults core.old.plan core.old.past core.new.past ports.old ports.new
+        (λ stops. drained core.old.plan empty stops core.old.plan.ports core.old.past) }
+    // A sink at which a write failed is left alone from then on.
+    ensures failed { EachPair (λ o n. has_ended empty (egress_pass core.old.plan (number_of o.port)) core.old.past ≡ true → n ≡ o) ports.old ports.new }
 {
     for place in 0..ports.len() {
-        let _stepped = core.drain(ports[place].port, DEPTH_MOST, batch);
-        match ports[place].write(batch) {
-            Put::Done => {}
-            Put::Failed => return Some(ports[place].port),
-        }
+        drain_port(core, &mut ports[place], batch);
     }
-    None
+}
+
+// Begins the capture of a port, or ends its egress where the write fails.
+fn begin_port<S, K: Sink, C>(core: &mut Core, port: &mut PortEnds<S, K, C>)
+    requires open { IsOpen core.old.plan empty core.old.past (Egress port.old.port) }
+    ensures plan { core.new.plan ≡ core.old.plan }
+    ensures sink { OnlySink K.written K.faults port.old port.new }
+    ensures begun { IsBegun K.written K.faults core.old.plan core.old.past core.new.past port.old port.new }
+{
+    match port.begin() {
+        Put::Done => {}
+        Put::Failed => end_failed(core, port.port),
+    }
+}
+
+// Drains the queue of a port whole and writes what was taken, or ends its egress where a write fails.
+fn drain_port<S, K: Sink, C>(core: &mut Core, port: &mut PortEnds<S, K, C>, batch: &mut Batch)
+    requires drainable { IsDrainable core.old.plan core.old.past port.old.port }
+    ensures plan { core.new.plan ≡ core.old.plan }
+    ensures sink { OnlySink K.written K.faults port.old port.new }
+    ensures drained { IsDrained K.written K.faults core.old.plan core.old.past core.new.past port.old port.new }
+{
+    let _stepped = core.drain(port.port, DEPTH_MOST, batch);
+    match port.write(batch) {
+        Put::Done => {}
+        Put::Failed => end_failed(core, port.port),
+    }
+}
+
+// Ends the egress of a port at which a write failed.
+fn end_failed(core: &mut Core, port: Port)
+    requires open { IsOpen core.old.plan empty core.old.past (Egress port) }
+    ensures { core.new ≡ with_event core.old (End (Egress port) hows.Failed) }
+{
+    let _entry = core.step(Event::End {
+        who: Who::Egress(port),
+        how: How::Failed,
+    });
 }
 
 impl<S, K: Sink, C> PortEnds<S, K, C> {
     // Begins the capture that is written.
     fn begin(&mut self) -> Put
         ensures only { OnlySink K.written K.faults self.old self.new }
-        ensures done { result ≡ Put.Done → IsBegun K.written self.old self.new }
+        ensures took { TookAs result (K.written self.old.ends.sink) (K.written self.new.ends.sink) (header_text ∷ []) }
         ensures cause { result ≡ Put.Failed → Rose (K.faults self.old.ends.sink) (K.faults self.new.ends.sink) }
     {
         begin(&mut self.ends.sink)
@@ -80,7 +118,8 @@ impl<S, K: Sink, C> PortEnds<S, K, C> {
     // Writes the frames of a batch, one after the other, each in one write of the sink.
     fn write(&mut self, batch: &Batch) -> Put
         ensures only { OnlySink K.written K.faults self.old self.new }
-        ensures done { result ≡ Put.Done → K.written self.new.ends.sink ≡ behind (K.written self.old.ends.sink) (records_of batch.now) }
+        ensures took { TookAs result (K.written self.old.ends.sink) (K.written self.new.ends.sink) (records batch.now) }
+        ensures none { batch.now ≡ [] → self.new ≡ self.old }
         ensures cause { result ≡ Put.Failed → Rose (K.faults self.old.ends.sink) (K.faults self.new.ends.sink) }
     {
         write_batch(&mut self.ends.sink, batch)
@@ -89,8 +128,8 @@ impl<S, K: Sink, C> PortEnds<S, K, C> {
 
 // Writes the frames of a batch, one after the other, each in one write of the sink.
 fn write_batch<K: Sink>(sink: &mut K, batch: &Batch) -> Put
-    ensures done { result ≡ Put.Done → K.written sink.new ≡ behind (K.written sink.old) (records_of batch.now) }
-    ensures took { TookMore (K.written sink.old) (K.written sink.new) }
+    ensures took { TookAs result (K.written sink.old) (K.written sink.new) (records batch.now) }
+    ensures none { batch.now ≡ [] → sink.new ≡ sink.old }
     ensures later { K.faults sink.old ≤ K.faults sink.new }
     ensures cause { result ≡ Put.Failed → Rose (K.faults sink.old) (K.faults sink.new) }
 {

@@ -2,15 +2,14 @@
 
 ghost use Rattle.std.specs.Prelude.{◌≡◌, false, All, IfOk, IfErr};
 ghost use Rattle.savi_kinds.specs.ValidPlan.{IsValidPlan};
-ghost use Rattle.port_worker.specs.Causes.{unwritten_of};
 ghost use Rattle.port_worker.specs.Replays.{ports_held, ports_planned, IsUnread};
 ghost use Rattle.port_worker.specs.Sessions.{IsSession};
 
 use crate::port_ends::PortEnds;
-use crate::turns::{Stopped, replay};
+use crate::turns::replay;
 use savi_core::{Batch, Core};
 use savi_ends::{Clock, Sink, Source};
-use savi_kinds::{Plan, Port};
+use savi_kinds::Plan;
 use std::alloc::Global;
 
 /// The ends of a session, each beside its port, in the order of the plan.
@@ -19,12 +18,11 @@ pub struct Ready<S, K, C> {
     pub ports: Vec<PortEnds<S, K, C>>,
 }
 
-/// What a session leaves: the switch with its history, the ends, and the port at which a write failed, which stopped it.
+/// What a session leaves: the switch with its history, and the ends.
 #[derive(Drop)]
 pub struct Closed<S, K, C> {
     pub core: Core,
     pub ready: Ready<S, K, C>,
-    pub unwritten: Option<Port>,
 }
 
 /// Replays the inputs of these ports at a new switch of this plan, and writes at each port what is sent there (`replay`).
@@ -40,7 +38,7 @@ pub fn replay_session<S: Source, K: Sink, C: Clock>(
     requires planned { ports_held ready.ports.items ≡ ports_planned plan }
     requires unread { All IsUnread ready.ports.items }
     ensures none { IfErr result (λ back. back ≡ ready) }
-    ensures session { IfOk result (λ closed. IsSession S.left K.written S.faults K.faults plan closed.core closed.unwritten ready.ports.items closed.ready.ports.items) }
+    ensures session { IfOk result (λ closed. IsSession S.left K.written S.faults K.faults plan closed.core ready.ports.items closed.ready.ports.items) }
 {
     let mut ready = ready;
     let Ok(mut core) = Core::make(alloc, plan) else {
@@ -49,20 +47,6 @@ pub fn replay_session<S: Source, K: Sink, C: Clock>(
     let Ok(mut batch) = Batch::make(alloc) else {
         return Err(ready);
     };
-    let stopped = replay(&mut core, &mut ready.ports, &mut batch);
-    Ok(Closed {
-        core,
-        ready,
-        unwritten: unwritten(stopped),
-    })
-}
-
-// The port at which a write failed, if one did.
-fn unwritten(stopped: Stopped) -> Option<Port>
-    ensures { result ≡ unwritten_of stopped }
-{
-    match stopped {
-        Stopped::Finished => None,
-        Stopped::WriteFault { port } => Some(port),
-    }
+    replay(&mut core, &mut ready.ports, &mut batch);
+    Ok(Closed { core, ready })
 }

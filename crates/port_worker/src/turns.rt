@@ -1,25 +1,24 @@
 //! The loop.
 
-ghost use Rattle.std.specs.Prelude.{◌≡◌, ◌≢◌, ◌<◌, ◌≤◌, ◌+◌, ℕ, List, [], false, length, slice_index_or, All, None, IsSome, IfSome, Option};
+ghost use Rattle.std.specs.Prelude.{◌≡◌, ◌≢◌, ◌<◌, ◌≤◌, ◌+◌, ℕ, List, [], false, length, slice_index_or, All, IsSome, IfSome, Option};
 ghost use Rattle.std.specs.List.Sorted.{IsStrictlyIncreasing};
 ghost use Rattle.savi_kinds.specs.Ports.{number_of};
 ghost use Rattle.savi_kinds.specs.ValidPlan.{numbers_of, IsValidPlan};
-ghost use Rattle.savi_kinds.specs.declared.entry.Who.TheVariants.{Ingress, Egress, Ticker};
+ghost use Rattle.savi_kinds.specs.declared.entry.Who.TheVariants.{Ingress, Ticker};
 ghost use Rattle.savi_kinds.specs.declared.entry.How.TheVariants as hows;
 ghost use Rattle.savi_history.specs.Bases.{empty};
-ghost use Rattle.savi_history.specs.Passes.{AllEnded, control_pass, has_ended};
-ghost use Rattle.savi_history.specs.Queues.{queue, sent};
-ghost use Rattle.savi_history.specs.PortInputs.{input_end};
+ghost use Rattle.savi_history.specs.Passes.{AllEnded, control_pass, ticker_pass, has_ended};
+ghost use Rattle.savi_history.specs.Queues.{queue};
 ghost use Rattle.savi_history.specs.Legal.{IsOpen, IsFinished};
 ghost use Rattle.savi_history.specs.Events.{End};
 ghost use Rattle.savi_history.specs.Replay.{entered, egress_ended, with_event};
 ghost use Rattle.port_worker.specs.declared.port_ends.PortEnds.{PortEnds};
 ghost use Rattle.port_worker.specs.Pairs.{EachPair};
 ghost use Rattle.port_worker.specs.Inputs.{IsSound, turn_of};
-ghost use Rattle.port_worker.specs.SentFrames.{IsSent};
 ghost use Rattle.port_worker.specs.Steps.{IsStepped, ends_input, ahead_after};
-ghost use Rattle.port_worker.specs.Replays.{RoseAt, ports_held, ports_planned, IsUnread, IsLater, IsReplayed, IsFit, HasBroken};
-ghost use Rattle.port_worker.specs.Causes.{IsCause};
+ghost use Rattle.port_worker.specs.Outputs.{OutputsGoOn, IsOutputEnded};
+ghost use Rattle.port_worker.specs.Replays.{ports_held, ports_planned, IsUnread, IsLater, HasBroken};
+ghost use Rattle.port_worker.specs.Sessions.{IsPlayed};
 
 use crate::choice::next_of;
 use crate::looking::look_all;
@@ -27,16 +26,7 @@ use crate::outputs::{begin_all, drain_all};
 use crate::port_ends::PortEnds;
 use savi_core::{Batch, Core, Event};
 use savi_ends::{Clock, Sink, Source};
-use savi_kinds::{How, Port, Who};
-
-/// How a replay stopped.
-#[derive(Clone, Copy, PartialEq, Eq, Debug)]
-pub enum Stopped {
-    /// All inputs have ended, and every pass has.
-    Finished,
-    /// A write failed at this port.
-    WriteFault { port: Port },
-}
+use savi_kinds::{How, Who};
 
 /// Makes the one history of a replay of the inputs of these ports, and writes at each port what is sent there.
 ///
@@ -46,29 +36,25 @@ pub enum Stopped {
 /// An input for whose arrival the history has no room ends for that, and what is left of it isn't read. Where all have
 /// ended the ticker ends, and then each egress.
 ///
-/// A read that fails ends the input of its port, at once, and the other inputs go on. The first write that fails stops the
-/// replay. However it stops, each end is still at its port, and no clock was read. It returns for every input.
+/// A read that fails ends the input of its port, at once, and the other inputs go on. A write that fails ends the egress
+/// of its port, at once: what waits there is given up, later frames are cut there, nothing more is written to that sink,
+/// and the other ports go on. Each end is still at its port, and no clock was read. It returns for every input.
 /// O(ports), at most 16, for each entry beside one pass over the octets of the frames; it takes no memory.
 pub fn replay<S: Source, K: Sink, C: Clock>(
     core: &mut Core,
     ports: &mut [PortEnds<S, K, C>],
     batch: &mut Batch,
-) -> Stopped
+)
     requires valid { IsValidPlan core.old.plan }
     requires start { core.old.past ≡ [] }
     requires planned { ports_held ports.old ≡ ports_planned core.old.plan }
     requires unread { All IsUnread ports.old }
     ensures plan { core.new.plan ≡ core.old.plan }
     ensures later { EachPair (IsLater S.left K.written S.faults K.faults) ports.old ports.new }
-    ensures finished { result ≡ Stopped.Finished → IsReplayed S.left K.written core.old.plan core.new.past ports.old ports.new }
-    ensures fits { result ≡ Stopped.Finished → EachPair (IsFit S.left core.new.past) ports.old ports.new }
-    ensures ended { result ≡ Stopped.Finished → IsFinished core.old.plan empty core.new.past }
     ensures broken { EachPair (HasBroken S.faults core.new.past) ports.old ports.new }
-    ensures cause { IsCause K.faults ports.old ports.new result }
+    ensures played { IsPlayed S.left K.written K.faults core.old.plan core.new.past ports.old ports.new }
 {
-    if let Some(port) = begin_all(ports) {
-        return Stopped::WriteFault { port };
-    }
+    begin_all(core, ports);
     let _control = core.step(Event::End {
         who: Who::Control,
         how: How::End,
@@ -77,55 +63,48 @@ pub fn replay<S: Source, K: Sink, C: Clock>(
         look_all(ports);
         let Some(place) = next_of(ports) else {
             finish(core, ports);
-            return Stopped::Finished;
+            return;
         };
-        if let Some(port) = advance(core, ports, place, batch) {
-            return Stopped::WriteFault { port };
-        }
+        advance(core, ports, place, batch);
     }
 }
 
-// Enters the turn of the port at this place, and drains the queues behind an arrival. The answer is the port at which a
-// write failed.
+// Enters the turn of the port at this place, and drains the queues behind an arrival.
 fn advance<S, K: Sink, C>(
     core: &mut Core,
     ports: &mut [PortEnds<S, K, C>],
     place: usize,
     batch: &mut Batch,
-) -> Option<Port>
+)
     requires inside { place < length ports.old }
     requires planned { ports_held ports.old ≡ ports_planned core.old.plan }
     requires rising { IsStrictlyIncreasing (numbers_of core.old.plan.ports) }
     requires sound { All (λ p. IsSound p.reader p.ahead) ports.old }
     requires known { (d : PortEnds S K C) → IsSome (turn_of (slice_index_or ports.old place d)) }
     requires open { (d : PortEnds S K C) → IsOpen core.old.plan empty core.old.past (Ingress (slice_index_or ports.old place d).port) }
-    requires outputs { All (λ p. IsOpen core.old.plan empty core.old.past (Egress p.port)) ports.old }
     requires quiet { All (λ p. queue empty (number_of p.port) core.old.past ≡ []) ports.old }
     ensures plan { core.new.plan ≡ core.old.plan }
     ensures stepped { EachPair (IsStepped K.written K.faults) ports.old ports.new }
-    ensures others { result ≡ None → (k : ℕ) → (d : PortEnds S K C) → k ≢ place → k < length ports.old → (slice_index_or ports.new k d).ahead ≡ (slice_index_or ports.old k d).ahead }
-    ensures entered { result ≡ None → (d : PortEnds S K C) → IfSome (turn_of (slice_index_or ports.old place d)) (λ turn. core.new.past ≡ entered core.old.plan empty turn core.old.past) }
-    ensures ahead { result ≡ None → (d : PortEnds S K C) → IfSome (turn_of (slice_index_or ports.old place d)) (λ turn. (slice_index_or ports.new place d).ahead ≡ ahead_after (ends_input core.old.plan core.old.past turn)) }
-    ensures sent { result ≡ None → EachPair (IsSent K.written core.old.past core.new.past) ports.old ports.new }
-    ensures failed { IfSome result (λ port. RoseAt (λ p. K.faults p.ends.sink) port ports.old ports.new) }
-    ensures inputs { IsSome result → (n : ℕ) → input_end n core.new.past ≡ input_end n core.old.past }
+    ensures others { (k : ℕ) → (d : PortEnds S K C) → k ≢ place → k < length ports.old → (slice_index_or ports.new k d).ahead ≡ (slice_index_or ports.old k d).ahead }
+    ensures ahead { (d : PortEnds S K C) → IfSome (turn_of (slice_index_or ports.old place d)) (λ turn. (slice_index_or ports.new place d).ahead ≡ ahead_after (ends_input core.old.plan core.old.past turn)) }
+    ensures outputs { (d : PortEnds S K C) → IfSome (turn_of (slice_index_or ports.old place d)) (λ turn.
+        OutputsGoOn K.written K.faults core.old.plan core.old.past core.new.past ports.old ports.new (λ stops. entered core.old.plan empty stops turn core.old.past)) }
 {
     if ports[place].enter(core) {
-        return drain_all(core, ports, batch);
+        drain_all(core, ports, batch);
     }
-    None
 }
 
-// Ends the ticker, and then the egress of each port in order.
+// Ends the ticker, and then each egress that hasn't ended, in the order of the ports.
 fn finish<S, K, C>(core: &mut Core, ports: &[PortEnds<S, K, C>])
     requires planned { ports_held ports.now ≡ ports_planned core.old.plan }
     requires rising { IsStrictlyIncreasing (numbers_of core.old.plan.ports) }
     requires inputs { AllEnded empty (control_pass core.old.plan + 1) core.old.past }
-    requires outputs { (pass : ℕ) → control_pass core.old.plan < pass → has_ended empty pass core.old.past ≡ false }
+    requires ticker { has_ended empty (ticker_pass core.old.plan) core.old.past ≡ false }
     requires quiet { All (λ p. queue empty (number_of p.port) core.old.past ≡ []) ports.now }
     ensures plan { core.new.plan ≡ core.old.plan }
     ensures past { core.new.past ≡ egress_ended core.old.plan empty core.old.plan.ports (with_event core.old.plan empty core.old.past (End Ticker hows.End)) }
-    ensures sent { (q : ℕ) → sent empty q core.new.past ≡ sent empty q core.old.past }
+    ensures outputs { All (λ p. IsOutputEnded core.old.plan core.old.past core.new.past (number_of p.port)) ports.now }
     ensures finished { IsFinished core.old.plan empty core.new.past }
 {
     let _ticker = core.step(Event::End {
@@ -133,9 +112,12 @@ fn finish<S, K, C>(core: &mut Core, ports: &[PortEnds<S, K, C>])
         how: How::End,
     });
     for place in 0..ports.len() {
-        let _egress = core.step(Event::End {
-            who: Who::Egress(ports[place].port),
-            how: How::End,
-        });
+        let who = Who::Egress(ports[place].port);
+        if !core.ended(who) {
+            let _egress = core.step(Event::End {
+                who,
+                how: How::End,
+            });
+        }
     }
 }

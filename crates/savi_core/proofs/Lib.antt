@@ -12,5 +12,4 @@ pub mod Pieces
 pub mod Fronts
 pub mod Summing
 pub mod Finding
-pub mod Closed
 pub mod EndLines

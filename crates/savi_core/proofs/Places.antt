@@ -14,6 +14,7 @@ use Rattle.savi_kinds.specs.declared.entry.Who.TheVariants.{Ingress, Control, Ti
 use Rattle.savi_kinds.specs.Ports.{number_of}
 use Rattle.savi_kinds.specs.ValidPlan.{numbers_of, IsValidPlan}
 use Rattle.savi_history.specs.Passes.{has_port, has_pass, pass_of, place_among, place_of, role_among, egress_pass, pass_count}
+pub use Rattle.savi_history.proofs.PortPlaces.{IsPlace, placed_among, placed, length-numbers, place_within}
 use Rattle.savi_core.specs.Machines.{number_at}
 
 -- from a place on the list is its element and what follows
@@ -38,35 +39,6 @@ module _ (ports : List PortPlan) (i number : ℕ) (p : PortPlan) (within : i < l
 
   pub role_more : number_of p.number ≢ number → role_among (drop i ports) number ≡ role_among (drop (i + 1) ports) number
   role_more other = at_item (λ ps. role_among ps number) ports i p within is ∙ cond-false _ _ _ (ne_eqb (number_of p.number) number other)
-
--- a number that is among these has its place there
-pub record IsPlace (ns : List ℕ) (number place : ℕ) : Type 0 where
-  pub within : place < length ns
-  pub number_is : get_or ns place 0 ≡ number
-
-place_next : (n : ℕ) (ns : List ℕ) (number place : ℕ) → IsPlace ns number place → IsPlace (n ∷ ns) number (suc place)
-place_next n ns number place was = record { within = omega (arith, was.within); number_is = was.number_is }
-
-pub placed_among : (ns : List ℕ) (number : ℕ) → list_any (λ n. n == number) ns ≡ true → IsPlace ns number (place_among ns number)
-placed_among [] number any = cc
-placed_among (n ∷ ns) number any =
-    elim (cases_eq n number) [
-      | inl same ↦ subst (λ (k : ℕ). IsPlace (n ∷ ns) number k) (sym (cond-true _ 0 (suc (place_among ns number)) (eq-eqb n number same))) (record { within = omega arith; number_is = same })
-      | inr other ↦
-          let later : list_any (λ m. m == number) ns ≡ true = ap (λ b. b || list_any (λ m. m == number) ns) (sym (ne_eqb n number other)) ∙ any in
-          subst (λ (k : ℕ). IsPlace (n ∷ ns) number k) (sym (cond-false _ 0 (suc (place_among ns number)) (ne_eqb n number other)))
-          (place_next n ns number (place_among ns number) (placed_among ns number later))
-    ]
-
-pub placed : (plan : Plan) (number : ℕ) → has_port plan number ≡ true → IsPlace (numbers_of plan.ports) number (place_of plan number)
-placed plan number known = placed_among (numbers_of plan.ports) number known
-
-pub length-numbers : (ports : List PortPlan) → length (numbers_of ports) ≡ length ports
-length-numbers ports = length-map ports (λ p. number_of p.number)
-
--- the place of a port of a plan
-pub place_within : (plan : Plan) (number : ℕ) → has_port plan number ≡ true → place_of plan number < length plan.ports
-place_within plan number known = omega (arith, (placed plan number known).within, length-numbers plan.ports)
 
 -- rising numbers differ
 pub apart : (ns : List ℕ) (j k : ℕ) → IsStrictlyIncreasing ns → j < length ns → k < length ns → j ≢ k → get_or ns j 0 ≢ get_or ns k 0

@@ -10,6 +10,7 @@ use Rattle.savi_kinds.specs.Ports.{number_of}
 use Rattle.savi_kinds.specs.PortSets.{is_member, with_member, set_of, no_ports}
 use Rattle.savi_kinds.specs.ValidPlan.{numbers_of}
 use Rattle.savi_kinds.proofs.Members.{is_member-with}
+pub use Rattle.savi_history.proofs.PortMembers.{least, member_chosen}
 use Rattle.savi_core.proofs.Places.{at_item}
 
 -- all members of both
@@ -68,28 +69,3 @@ numbers_filter test (p ∷ ports) =
 -- a test on numbers chooses the same ports as one on plans of ports
 pub chosen_numbers : (test : ℕ → Bool) (ports : List PortPlan) → chosen (λ p. test (number_of p.number)) ports ≡ set_of (filter test (numbers_of ports))
 chosen_numbers test ports = ap set_of (numbers_filter test ports)
-
--- the number of a port is at least 1
-pub least : (ports : List PortPlan) (k : ℕ) → k < length ports → 1 ≤ get_or (numbers_of ports) k 0
-least [] k within = absurd (omega arith)
-least (p ∷ ports) zero within = p.number.low
-least (p ∷ ports) (suc k) within = least ports k (omega (arith, within))
-
--- a port that passes the test is a member
-pub member_chosen : (test : ℕ → Bool) (ports : List PortPlan) (k : ℕ) → k < length ports → test (get_or (numbers_of ports) k 0) ≡ true → is_member (set_of (filter test (numbers_of ports))) (get_or (numbers_of ports) k 0) ≡ true
-member_chosen test [] k within passes = absurd (omega arith)
-member_chosen test (p ∷ ports) zero within passes =
-    ap (λ ns. is_member (set_of ns) (number_of p.number)) (cond-true (test (number_of p.number)) (number_of p.number ∷ filter test (numbers_of ports)) (filter test (numbers_of ports)) passes)
-    ∙ is_member-with (set_of (filter test (numbers_of ports))) (number_of p.number) (number_of p.number) p.number.low p.number.low
-    ∙ or_left (number_of p.number == number_of p.number) (is_member (set_of (filter test (numbers_of ports))) (number_of p.number)) (eq-eqb (number_of p.number) (number_of p.number) refl)
-member_chosen test (p ∷ ports) (suc k) within passes =
-    let here = number_of p.number in
-    let rest = filter test (numbers_of ports) in
-    let later : is_member (set_of rest) (get_or (numbers_of ports) k 0) ≡ true = member_chosen test ports k (omega (arith, within)) passes in
-    elim (cases_Bool (test here)) [
-      | inl taken ↦
-          ap (λ ns. is_member (set_of ns) (get_or (numbers_of ports) k 0)) (cond-true (test here) (here ∷ rest) rest taken)
-          ∙ is_member-with (set_of rest) here (get_or (numbers_of ports) k 0) p.number.low (least ports k (omega (arith, within)))
-          ∙ or_right (get_or (numbers_of ports) k 0 == here) (is_member (set_of rest) (get_or (numbers_of ports) k 0)) later
-      | inr left ↦ ap (λ ns. is_member (set_of ns) (get_or (numbers_of ports) k 0)) (cond-false (test here) (here ∷ rest) rest left) ∙ later
-    ]

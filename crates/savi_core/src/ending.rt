@@ -1,7 +1,7 @@
-//! How the inputs of a history ended.
+//! How the inputs and the outputs of a history ended.
 
 ghost use Rattle.std.specs.Prelude.{◌≡◌};
-ghost use Rattle.savi_history.specs.Endings.{is_malformed_end, is_failed_end, is_full_end, has_malformed, has_failed, has_full};
+ghost use Rattle.savi_history.specs.Endings.{is_malformed_end, is_failed_end, is_failed_write, is_full_end, has_malformed, has_failed, has_failed_write, has_full};
 
 use hist_store::Hist;
 use savi_kinds::{Act, How, Who};
@@ -24,6 +24,18 @@ pub fn has_failed(hist: &Hist) -> bool
 {
     for n in 0..hist.len() {
         if is_failed_end(hist.entry(n).act) {
+            return true;
+        }
+    }
+    false
+}
+
+/// Whether a write of an output of the history failed, or of an answer to control. O(n) in the entries.
+pub fn has_failed_write(hist: &Hist) -> bool
+    ensures { result ≡ has_failed_write hist.now.rows }
+{
+    for n in 0..hist.len() {
+        if is_failed_write(hist.entry(n).act) {
             return true;
         }
     }
@@ -61,6 +73,23 @@ fn is_failed_end(act: Act) -> bool
             who: Who::Ingress(_) | Who::Control,
             how,
         } => matches!(how, How::Failed),
+        _ => false,
+    }
+}
+
+// Whether an entry is the end of an output, or of control, at a write that failed.
+fn is_failed_write(act: Act) -> bool
+    ensures { result ≡ is_failed_write act }
+{
+    match act {
+        Act::End {
+            who: Who::Egress(_),
+            how,
+        } => matches!(how, How::Failed),
+        Act::End {
+            who: Who::Control,
+            how,
+        } => matches!(how, How::Unwritten),
         _ => false,
     }
 }

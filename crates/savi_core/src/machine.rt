@@ -7,7 +7,7 @@ ghost use Rattle.savi_ends.specs.Faults.{Rose};
 ghost use Rattle.savi_ends.specs.Writes.{Extends};
 ghost use Rattle.hist_store.specs.JournalTexts.{address_text, journal_text};
 ghost use Rattle.savi_history.specs.Summary.{summary_of};
-ghost use Rattle.savi_history.specs.Endings.{has_malformed, has_failed, has_full};
+ghost use Rattle.savi_history.specs.Endings.{has_malformed, has_failed, has_failed_write, has_full};
 ghost use Rattle.savi_history.specs.EndLines.{entry_line};
 ghost use Rattle.savi_core.specs.Sums.{sum_of};
 ghost use Rattle.savi_kinds.specs.PortSets.{is_member};
@@ -29,7 +29,7 @@ ghost use Rattle.savi_core.specs.Steps.{event_of, IsClassed, MayStep, Did, Drain
 use crate::batch::Batch;
 use crate::buffer::Buffer;
 use crate::end_lines::{EndLine, put_entry_line};
-use crate::ending::{has_failed, has_full, has_malformed};
+use crate::ending::{has_failed, has_failed_write, has_full, has_malformed};
 use crate::entries::{moment_at, plain_entry, verdict_by};
 use crate::event::{Event, Stepped};
 use crate::journal::{know_addresses, write_journal};
@@ -234,6 +234,13 @@ impl Core {
         ensures { result ≡ has_failed self.now.past }
     {
         has_failed(&self.hist)
+    }
+
+    /// Whether a write of an output failed, or of an answer to control. O(n) in the entries.
+    pub fn has_failed_write(&self) -> bool
+        ensures { result ≡ has_failed_write self.now.past }
+    {
+        has_failed_write(&self.hist)
     }
 
     /// Writes the line for the entry with this number, counted from 0, in place of what the buffer held: nothing, unless

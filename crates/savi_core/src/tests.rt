@@ -572,6 +572,15 @@ fn enter_failed(rt: &impl Abort, core: &mut Core, port: Port) {
     });
 }
 
+// Enters the end of a port's output at a write that failed.
+fn enter_failed_write(rt: &impl Abort, core: &mut Core, port: Port) {
+    assert!(rt; is_open(core, Who::Egress(port)));
+    let _entered = core.step(Event::End {
+        who: Who::Egress(port),
+        how: How::Failed,
+    });
+}
+
 fn expect_line_at(rt: &impl Abort, core: &Core, n: u64, want: &[u8]) {
     assert!(rt; n < core.len());
     let mut line = EndLine::new();
@@ -588,8 +597,12 @@ fn bad_ends_are_told(rt: HostRuntime) -> Result<(), Fail> {
     assert!(rt; !core.has_failed());
     enter_failed(&rt, &mut core, port_at(1));
     assert!(rt; core.has_failed());
+    assert!(rt; !core.has_failed_write());
+    enter_failed_write(&rt, &mut core, port_at(2));
+    assert!(rt; core.has_failed_write());
     assert!(rt; !core.has_full());
     expect_line_at(&rt, &core, 0, b"control: overlong line at 81\n");
     expect_line_at(&rt, &core, 1, b"port 1: read failed\n");
+    expect_line_at(&rt, &core, 2, b"port 2: write failed\n");
     Ok(())
 }

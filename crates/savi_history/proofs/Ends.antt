@@ -15,7 +15,7 @@ use Rattle.savi_history.specs.Passes.{pass_of, has_ended}
 use Rattle.savi_history.specs.Queues.{queue}
 use Rattle.savi_history.specs.Events.{Event, Drain, End}
 use Rattle.savi_history.specs.Turns.{Turn, Arrives, Ends, who_of, merged}
-use Rattle.savi_history.specs.Replay.{event_of, with_event, with_drain, drained, entered, after, after_all}
+use Rattle.savi_history.specs.Replay.{Stops, is_stopped, pieces_by, event_of, with_event, with_failure, begun, with_drain, drained, entered, after, after_all}
 use Rattle.savi_history.proofs.Filtering.{AllAre, AreWhole, filter_merged}
 
 -- what had ended after the first history has ended after the second
@@ -29,37 +29,49 @@ or_right false b is = is
 pub later_event : (plan : Plan) (base : Base) (past : List Row) (event : Event) → Later base past (with_event plan base past event)
 later_event plan base past event pass is = or_right _ (has_ended base pass past) is
 
-later_drain : (plan : Plan) (base : Base) (port : Port) (b : Bool) (count : ℕ) (past : List Row) → Later base past (if b then past else with_event plan base past (Drain port count))
-later_drain plan base port true count past pass is = is
-later_drain plan base port false count past pass is = is
+later_failure_at : (plan : Plan) (base : Base) (port : Port) (past : List Row) (b : Bool) → Later base past (if b then with_event plan base past (End (passes.Egress port) hows.Failed) else past)
+later_failure_at plan base port past true pass is = later_event plan base past (End (passes.Egress port) hows.Failed) pass is
+later_failure_at plan base port past false pass is = is
 
-pub later_drained : (plan : Plan) (base : Base) (ports : List PortPlan) (past : List Row) → Later base past (drained plan base ports past)
-later_drained plan base [] past pass is = is
-later_drained plan base (q ∷ qs) past pass is =
+pub later_failure : (plan : Plan) (base : Base) (stops : Stops) (port : Port) (past : List Row) → Later base past (with_failure plan base stops port past)
+later_failure plan base stops port past = later_failure_at plan base port past (is_stopped (stops (number_of port)) (pieces_by base (number_of port) past))
+
+pub later_begun : (plan : Plan) (base : Base) (stops : Stops) (ports : List PortPlan) (past : List Row) → Later base past (begun plan base stops ports past)
+later_begun plan base stops [] past pass is = is
+later_begun plan base stops (q ∷ qs) past pass is =
+    later_begun plan base stops qs (with_failure plan base stops q.number past) pass (later_failure plan base stops q.number past pass is)
+
+later_drain : (plan : Plan) (base : Base) (stops : Stops) (port : Port) (b : Bool) (count : ℕ) (past : List Row) → Later base past (if b then past else with_failure plan base stops port (with_event plan base past (Drain port count)))
+later_drain plan base stops port true count past pass is = is
+later_drain plan base stops port false count past pass is = later_failure plan base stops port (with_event plan base past (Drain port count)) pass is
+
+pub later_drained : (plan : Plan) (base : Base) (stops : Stops) (ports : List PortPlan) (past : List Row) → Later base past (drained plan base stops ports past)
+later_drained plan base stops [] past pass is = is
+later_drained plan base stops (q ∷ qs) past pass is =
     let count = length (queue base (number_of q.number) past) in
-    later_drained plan base qs (with_drain plan base q.number count past) pass (later_drain plan base q.number (count == 0) count past pass is)
+    later_drained plan base stops qs (with_drain plan base stops q.number count past) pass (later_drain plan base stops q.number (count == 0) count past pass is)
 
-later_arrival : (plan : Plan) (base : Base) (port : Port) (arrival : Arrival) (past : List Row) (b : Bool)
-    → Later base past (if b then drained plan base plan.ports (with_event plan base past (event_of port arrival)) else with_event plan base past (End (passes.Ingress port) (hows.Full (length past))))
-later_arrival plan base port arrival past true pass is = later_drained plan base plan.ports _ pass (later_event plan base past (event_of port arrival) pass is)
-later_arrival plan base port arrival past false pass is = later_event plan base past (End (passes.Ingress port) (hows.Full (length past))) pass is
+later_arrival : (plan : Plan) (base : Base) (stops : Stops) (port : Port) (arrival : Arrival) (past : List Row) (b : Bool)
+    → Later base past (if b then drained plan base stops plan.ports (with_event plan base past (event_of port arrival)) else with_event plan base past (End (passes.Ingress port) (hows.Full (length past))))
+later_arrival plan base stops port arrival past true pass is = later_drained plan base stops plan.ports _ pass (later_event plan base past (event_of port arrival) pass is)
+later_arrival plan base stops port arrival past false pass is = later_event plan base past (End (passes.Ingress port) (hows.Full (length past))) pass is
 
-later_entered : (plan : Plan) (base : Base) (turn : Turn) (past : List Row) → Later base past (entered plan base turn past)
-later_entered plan base (Arrives port arrival) past = later_arrival plan base port arrival past (has_room plan past)
-later_entered plan base (Ends who how) past = later_event plan base past (End who how)
+later_entered : (plan : Plan) (base : Base) (stops : Stops) (turn : Turn) (past : List Row) → Later base past (entered plan base stops turn past)
+later_entered plan base stops (Arrives port arrival) past = later_arrival plan base stops port arrival past (has_room plan past)
+later_entered plan base stops (Ends who how) past = later_event plan base past (End who how)
 
-later_after_at : (plan : Plan) (base : Base) (turn : Turn) (past : List Row) (b : Bool) → Later base past (if b then past else entered plan base turn past)
-later_after_at plan base turn past true pass is = is
-later_after_at plan base turn past false pass is = later_entered plan base turn past pass is
+later_after_at : (plan : Plan) (base : Base) (stops : Stops) (turn : Turn) (past : List Row) (b : Bool) → Later base past (if b then past else entered plan base stops turn past)
+later_after_at plan base stops turn past true pass is = is
+later_after_at plan base stops turn past false pass is = later_entered plan base stops turn past pass is
 
-pub later_after : (plan : Plan) (base : Base) (turn : Turn) (past : List Row) → Later base past (after plan base turn past)
-later_after plan base turn past = later_after_at plan base turn past (has_ended base (pass_of plan (who_of turn)) past)
+pub later_after : (plan : Plan) (base : Base) (stops : Stops) (turn : Turn) (past : List Row) → Later base past (after plan base stops turn past)
+later_after plan base stops turn past = later_after_at plan base stops turn past (has_ended base (pass_of plan (who_of turn)) past)
 
-pub after_ended : (plan : Plan) (base : Base) (turn : Turn) (past : List Row) → has_ended base (pass_of plan (who_of turn)) past ≡ true → after plan base turn past ≡ past
-after_ended plan base turn past is = rw is refl
+pub after_ended : (plan : Plan) (base : Base) (stops : Stops) (turn : Turn) (past : List Row) → has_ended base (pass_of plan (who_of turn)) past ≡ true → after plan base stops turn past ≡ past
+after_ended plan base stops turn past is = rw is refl
 
-pub after_open : (plan : Plan) (base : Base) (turn : Turn) (past : List Row) → has_ended base (pass_of plan (who_of turn)) past ≡ false → after plan base turn past ≡ entered plan base turn past
-after_open plan base turn past is = rw is refl
+pub after_open : (plan : Plan) (base : Base) (stops : Stops) (turn : Turn) (past : List Row) → has_ended base (pass_of plan (who_of turn)) past ≡ false → after plan base stops turn past ≡ entered plan base stops turn past
+after_open plan base stops turn past is = rw is refl
 
 -- the pass of a turn hasn't ended
 abbrev pub is_open : Plan → Base → List Row → Turn → Bool
@@ -92,23 +104,23 @@ are_whole plan base past (input ∷ inputs) single =
     let first : (pass : ℕ) × AreOf plan pass input = single 0 in
     (whole_at (is_open plan base past) input (not (has_ended base first.0 past)) (all_are plan base past first.0 input first.1), are_whole plan base past inputs (λ k. single (suc k)))
 
-passed_at : (plan : Plan) (base : Base) (before : List Row) (turn : Turn) (turns : List Turn) (past : List Row) (b : Bool) → has_ended base (pass_of plan (who_of turn)) before ≡ b → Later base before past
-    → ((now : List Row) → Later base before now → after_all plan base turns now ≡ after_all plan base (filter (is_open plan base before) turns) now)
-    → after_all plan base (turn ∷ turns) past ≡ after_all plan base (filter (is_open plan base before) (turn ∷ turns)) past
-passed_at plan base before turn turns past true is later step =
-    ap (after_all plan base turns) (after_ended plan base turn past (later _ is)) ∙ step past later ∙ rw is refl
-passed_at plan base before turn turns past false is later step =
-    step (after plan base turn past) (λ pass ended. later_after plan base turn past pass (later pass ended)) ∙ rw is refl
+passed_at : (plan : Plan) (base : Base) (stops : Stops) (before : List Row) (turn : Turn) (turns : List Turn) (past : List Row) (b : Bool) → has_ended base (pass_of plan (who_of turn)) before ≡ b → Later base before past
+    → ((now : List Row) → Later base before now → after_all plan base stops turns now ≡ after_all plan base stops (filter (is_open plan base before) turns) now)
+    → after_all plan base stops (turn ∷ turns) past ≡ after_all plan base stops (filter (is_open plan base before) (turn ∷ turns)) past
+passed_at plan base stops before turn turns past true is later step =
+    ap (after_all plan base stops turns) (after_ended plan base stops turn past (later _ is)) ∙ step past later ∙ rw is refl
+passed_at plan base stops before turn turns past false is later step =
+    step (after plan base stops turn past) (λ pass ended. later_after plan base stops turn past pass (later pass ended)) ∙ rw is refl
 
 -- turns of passes that ended before are passed over
-pub passed_over : (plan : Plan) (base : Base) (before : List Row) (turns : List Turn) (past : List Row) → Later base before past → after_all plan base turns past ≡ after_all plan base (filter (is_open plan base before) turns) past
-passed_over plan base before [] past later = refl
-passed_over plan base before (turn ∷ turns) past later =
-    passed_at plan base before turn turns past (has_ended base (pass_of plan (who_of turn)) before) refl later (λ now is. passed_over plan base before turns now is)
+pub passed_over : (plan : Plan) (base : Base) (stops : Stops) (before : List Row) (turns : List Turn) (past : List Row) → Later base before past → after_all plan base stops turns past ≡ after_all plan base stops (filter (is_open plan base before) turns) past
+passed_over plan base stops before [] past later = refl
+passed_over plan base stops before (turn ∷ turns) past later =
+    passed_at plan base stops before turn turns past (has_ended base (pass_of plan (who_of turn)) before) refl later (λ now is. passed_over plan base stops before turns now is)
 
 -- What an input still holds behind its end changes nothing.
-pub stopped : (plan : Plan) (base : Base) (past : List Row) (inputs : List (List Turn)) → AreSingle plan inputs
-    → after_all plan base (merged inputs) past ≡ after_all plan base (merged (still_open plan base past inputs)) past
-stopped plan base past inputs single =
-    passed_over plan base past (merged inputs) past (λ pass is. is)
-    ∙ ap (λ (l : List Turn). after_all plan base l past) (filter_merged (is_open plan base past) inputs (are_whole plan base past inputs single))
+pub stopped : (plan : Plan) (base : Base) (stops : Stops) (past : List Row) (inputs : List (List Turn)) → AreSingle plan inputs
+    → after_all plan base stops (merged inputs) past ≡ after_all plan base stops (merged (still_open plan base past inputs)) past
+stopped plan base stops past inputs single =
+    passed_over plan base stops past (merged inputs) past (λ pass is. is)
+    ∙ ap (λ (l : List Turn). after_all plan base stops l past) (filter_merged (is_open plan base past) inputs (are_whole plan base past inputs single))

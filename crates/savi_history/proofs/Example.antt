@@ -1,5 +1,5 @@
--- The worked history of two captures, computed.
-use Rattle.std.proofs.Common.{ℕ, ◌≡◌, List, [], ◌∷◌, refl, lit≤, true, false, Some, None}
+-- The worked history of two captures, computed; also where a write fails.
+use Rattle.std.proofs.Common.{ℕ, ◌≡◌, List, [], ◌∷◌, refl, lit≤, true, false, Some, None, ◌==◌, if◌then◌else◌}
 use Rattle.savi_kinds.specs.declared.port.Port.{Port}
 use Rattle.savi_kinds.specs.declared.plan.Plan.{Plan}
 use Rattle.savi_kinds.specs.declared.plan.Role.TheVariants as roles
@@ -21,7 +21,7 @@ use Rattle.frame_class.specs.ClassOf.{class_of}
 use Rattle.ra_guard.specs.GuardOf.{guard_of}
 use Rattle.hist_store.specs.Rows.{Row}
 use Rattle.savi_history.specs.Bases.{empty}
-use Rattle.savi_history.specs.Replay.{replayed}
+use Rattle.savi_history.specs.Replay.{Stops, replayed}
 use Rattle.savi_history.specs.Summary.{summary_of}
 use Rattle.savi_history.specs.Judged.{judged}
 use Rattle.savi_history.specs.Queues.{sent}
@@ -67,11 +67,15 @@ other by moment act = record { entry = record { by = by; moment = moment; act = 
 abbrev pub frame : ℕ → ℕ → Act → Verdict → ℕ → List ℕ → Row
 frame by moment act verdict outs octets = record { entry = record { by = by; moment = moment; act = act; verdict = Some verdict; outs = record { 0 = outs }; cuts = record { 0 = 0 }; probes = 0; lost = 0 }; octets = octets }
 
+-- every write is taken
+abbrev pub no_failure : Stops
+no_failure port = None
+
 pub advert_dropped : judged 1 plan empty [] 1 1000 advert ≡ verdicts.Drop rules.RouterAdvert
 unfolding class_of nd_of named message_passes kind_of guard_of
 advert_dropped = refl
 
-pub two_captures : replayed plan empty inputs ≡
+pub two_captures : replayed plan empty inputs no_failure ≡
     other 5 1002 (acts.End (passes.Egress port_two) hows.End)
     ∷ other 4 1002 (acts.End (passes.Egress port_one) hows.End)
     ∷ other 3 1002 (acts.End passes.Ticker hows.End)
@@ -87,10 +91,30 @@ pub two_captures : replayed plan empty inputs ≡
 unfolding class_of nd_of named message_passes kind_of guard_of
 two_captures = refl
 
-pub summed_up : summary_of (replayed plan empty inputs) ≡ record { entries = 11; frames = 3; passed = 2; dropped = 1; probes = 0; lost = 0; cut = 0 }
+pub summed_up : summary_of (replayed plan empty inputs no_failure) ≡ record { entries = 11; frames = 3; passed = 2; dropped = 1; probes = 0; lost = 0; cut = 0 }
 unfolding class_of nd_of named message_passes kind_of guard_of lib.Count.ones
 summed_up = refl
 
-pub sent_at_two : sent empty 2 (replayed plan empty inputs) ≡ record { moment = 1001; octets = packet } ∷ []
+pub sent_at_two : sent empty 2 (replayed plan empty inputs no_failure) ≡ record { moment = 1001; octets = packet } ∷ []
 unfolding class_of nd_of named message_passes kind_of guard_of
 sent_at_two = refl
+
+-- the record of the packet isn't written, and the header is
+abbrev pub second_fails : Stops
+second_fails port = if port == 2 then Some 1 else None
+
+pub an_output_fails : replayed plan empty inputs second_fails ≡
+    other 4 1002 (acts.End (passes.Egress port_one) hows.End)
+    ∷ other 3 1002 (acts.End passes.Ticker hows.End)
+    ∷ other 1 1002 (acts.End (passes.Ingress port_two) hows.End)
+    ∷ other 4 1002 (acts.Drain port_one 1)
+    ∷ frame 1 1002 (acts.Frame port_two 1002 124 70) (verdicts.Pass scopes.All) 1 advert
+    ∷ other 0 1001 (acts.End (passes.Ingress port_one) hows.End)
+    ∷ other 5 1001 (acts.End (passes.Egress port_two) hows.Failed)
+    ∷ other 5 1001 (acts.Drain port_two 1)
+    ∷ frame 0 1001 (acts.Frame port_one 1001 70 54) (verdicts.Pass scopes.All) 2 packet
+    ∷ frame 0 1000 (acts.Frame port_one 1000 0 70) (verdicts.Drop rules.RouterAdvert) 0 advert
+    ∷ other 2 0 (acts.End passes.Control hows.End)
+    ∷ []
+unfolding class_of nd_of named message_passes kind_of guard_of
+an_output_fails = refl

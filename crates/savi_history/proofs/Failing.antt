@@ -5,6 +5,7 @@ use Rattle.std.proofs.lemmas.Bool.{cases_eq}
 use Rattle.savi_kinds.specs.declared.port.Port.{Port}
 use Rattle.savi_kinds.specs.declared.plan.Plan.{Plan}
 use Rattle.savi_kinds.specs.declared.plan.PortPlan.{PortPlan}
+use Rattle.savi_kinds.specs.declared.entry.Who.{Who}
 use Rattle.savi_kinds.specs.declared.entry.Who.TheVariants as passes
 use Rattle.savi_kinds.specs.declared.entry.How.{How}
 use Rattle.savi_kinds.specs.declared.entry.How.TheVariants as hows
@@ -15,34 +16,16 @@ use Rattle.savi_kinds.specs.Arrivals as arrivals
 use Rattle.hist_store.specs.Rows.{Row}
 use Rattle.savi_history.specs.Bases.{Base}
 use Rattle.savi_history.specs.Limits.{has_room}
-use Rattle.savi_history.specs.Passes.{pass_of, place_of, has_ended}
+use Rattle.savi_history.specs.Passes.{pass_of, place_of, egress_pass, has_ended}
 use Rattle.savi_history.specs.Queues.{queue}
 use Rattle.savi_history.specs.Events.{Drain, End}
 use Rattle.savi_history.specs.Turns.{Turn, Arrives, Ends, who_of, turn_at, turns, port_turns, enter, merge, merged}
-use Rattle.savi_history.specs.Replay.{event_of, with_event, with_drain, drained, entered, after, after_all, egress_ended, control_turns, replayed}
+use Rattle.savi_history.specs.Replay.{Stops, is_stopped, pieces_by, event_of, with_event, with_failure, begun, with_drain, drained, entered, after, after_all, with_end, egress_ended, control_turns, replayed}
 use Rattle.savi_history.specs.PortInputs.{input_end}
 use Rattle.savi_history.specs.Endings.{has_failed, is_failed_reason}
 use Rattle.savi_history.proofs.Ends.{Later, later_event}
-use Rattle.savi_history.proofs.PassNumbers.{number_at}
+use Rattle.savi_history.proofs.Replaying.{IsAt, EndsInput, IsKept, replay_has}
 use Rattle.savi_history.proofs.Waiting.{ended_now}
-
--- the port at a place of the plan has this number
-record IsAt (plan : Plan) (n : ℕ) : Type 0 where
-  place : ℕ
-  inside : place < length plan.ports
-  number : n ≡ number_at plan place
-
--- a turn of a port of the plan, or control's end
-abbrev IsOurs : Plan → Turn → Type 0
-IsOurs plan (Arrives port arrival) = Unit {0}
-IsOurs plan (Ends (passes.Ingress port) how) = IsAt plan (number_of port)
-IsOurs plan (Ends passes.Control how) = how ≡ hows.End
-IsOurs plan (Ends passes.Ticker how) = ⊥
-IsOurs plan (Ends (passes.Egress port) how) = ⊥
-
-abbrev AreOurs : Plan → List Turn → Type 0
-AreOurs plan [] = Unit {0}
-AreOurs plan (x ∷ xs) = IsOurs plan x × AreOurs plan xs
 
 -- a failed input is that of a port, and the pass of an input that has ended has
 record Tells (plan : Plan) (base : Base) (past : List Row) : Type 0 where
@@ -64,7 +47,7 @@ failed_how hows.Failed is = refl
 failed_how hows.Unwritten is = cc
 failed_how (hows.Full len) is = cc
 
-module _ (plan : Plan) (base : Base) where
+module _ (plan : Plan) (base : Base) (stops : Stops) where
   -- what changes neither
   record Keeps (past now : List Row) : Type 0 where
     failed_same : has_failed now ≡ has_failed past
@@ -88,16 +71,24 @@ module _ (plan : Plan) (base : Base) where
     later = λ pass is. second.later pass (first.later pass is);
   }
 
-  keeps_drain : (past : List Row) (port : Port) (count : ℕ) (b : Bool) → Keeps past (if b then past else with_event plan base past (Drain port count))
-  keeps_drain past port count true = record { failed_same = refl; ends_same = λ n. refl; later = λ pass is. is }
-  keeps_drain past port count false = record { failed_same = refl; ends_same = λ n. refl; later = λ pass is. is }
+  keeps_failure_at : (past : List Row) (port : Port) (b : Bool) → Keeps past (if b then with_event plan base past (End (passes.Egress port) hows.Failed) else past)
+  keeps_failure_at past port true = record { failed_same = refl; ends_same = λ n. refl; later = later_event plan base past (End (passes.Egress port) hows.Failed) }
+  keeps_failure_at past port false = record { failed_same = refl; ends_same = λ n. refl; later = λ pass is. is }
 
-  keeps_drained : (ports : List PortPlan) (past : List Row) → Keeps past (drained plan base ports past)
-  keeps_drained [] past = record { failed_same = refl; ends_same = λ n. refl; later = λ pass is. is }
-  keeps_drained (q ∷ qs) past =
-      let count = length (queue base (number_of q.number) past) in
-      let mid = with_drain plan base q.number count past in
-      keeps_then past mid (drained plan base qs mid) (keeps_drain past q.number count (count == 0)) (keeps_drained qs mid)
+  keeps_failure : (past : List Row) (port : Port) → Keeps past (with_failure plan base stops port past)
+  keeps_failure past port = keeps_failure_at past port (is_stopped (stops (number_of port)) (pieces_by base (number_of port) past))
+
+  keeps_begun : (ports : List PortPlan) (past : List Row) → Keeps past (begun plan base stops ports past)
+  keeps_begun [] past = record { failed_same = refl; ends_same = λ n. refl; later = λ pass is. is }
+  keeps_begun (q ∷ qs) past =
+      let mid = with_failure plan base stops q.number past in
+      keeps_then past mid (begun plan base stops qs mid) (keeps_failure past q.number) (keeps_begun qs mid)
+
+  keeps_drain : (past : List Row) (port : Port) (count : ℕ) (b : Bool) → Keeps past (if b then past else with_failure plan base stops port (with_event plan base past (Drain port count)))
+  keeps_drain past port count true = record { failed_same = refl; ends_same = λ n. refl; later = λ pass is. is }
+  keeps_drain past port count false =
+      let mid = with_event plan base past (Drain port count) in
+      keeps_then past mid (with_failure plan base stops port mid) (record { failed_same = refl; ends_same = λ n. refl; later = λ pass is. is }) (keeps_failure mid port)
 
   module _ (past : List Row) (tells : Tells plan base past) (port : Port) (how : How) (running : has_ended base (pass_of plan (passes.Ingress port)) past ≡ false) where
     abbrev now : List Row
@@ -125,86 +116,39 @@ module _ (plan : Plan) (base : Base) where
       ended = λ n. ended_behind n (cases_eq (number_of port) n);
     }
 
-  tells_arrival : (past : List Row) (port : Port) (arrival : Arrival) (b : Bool) → Tells plan base past → has_ended base (pass_of plan (passes.Ingress port)) past ≡ false
-      → Tells plan base (if b then drained plan base plan.ports (with_event plan base past (event_of port arrival)) else with_event plan base past (End (passes.Ingress port) (hows.Full (length past))))
-  tells_arrival past port arrival true tells running =
-      let mid = with_event plan base past (event_of port arrival) in
-      tells_kept past (drained plan base plan.ports mid) (keeps_then past mid (drained plan base plan.ports mid) (keeps_arrival past port arrival) (keeps_drained plan.ports mid)) tells
-  tells_arrival past port arrival false tells running = tells_ended past tells port (hows.Full (length past)) running (λ is. cc)
+  tells_ticker : (past : List Row) → Tells plan base past → Tells plan base (with_event plan base past (End passes.Ticker hows.End))
+  tells_ticker past tells = tells_kept past (with_event plan base past (End passes.Ticker hows.End)) (record { failed_same = refl; ends_same = λ n. refl; later = later_event plan base past (End passes.Ticker hows.End) }) tells
 
-  -- the ends of the other passes
-
-  keeps_control : (past : List Row) → Keeps past (with_event plan base past (End passes.Control hows.End))
-  keeps_control past = record { failed_same = refl; ends_same = λ n. refl; later = later_event plan base past (End passes.Control hows.End) }
-
-  keeps_ticker : (past : List Row) → Keeps past (with_event plan base past (End passes.Ticker hows.End))
-  keeps_ticker past = record { failed_same = refl; ends_same = λ n. refl; later = later_event plan base past (End passes.Ticker hows.End) }
-
-  keeps_egress : (past : List Row) (port : Port) → Keeps past (with_event plan base past (End (passes.Egress port) hows.End))
-  keeps_egress past port = record { failed_same = refl; ends_same = λ n. refl; later = later_event plan base past (End (passes.Egress port) hows.End) }
-
-  keeps_egresses : (ports : List PortPlan) (past : List Row) → Keeps past (egress_ended plan base ports past)
-  keeps_egresses [] past = record { failed_same = refl; ends_same = λ n. refl; later = λ pass is. is }
-  keeps_egresses (q ∷ qs) past =
-      let mid = with_event plan base past (End (passes.Egress q.number) hows.End) in
-      keeps_then past mid (egress_ended plan base qs mid) (keeps_egress past q.number) (keeps_egresses qs mid)
-
-  -- the turns of a replay
-
-  tells_entered : (turn : Turn) (past : List Row) → Tells plan base past → IsOurs plan turn → has_ended base (pass_of plan (who_of turn)) past ≡ false → Tells plan base (entered plan base turn past)
-  tells_entered (Arrives port arrival) past tells ours running = tells_arrival past port arrival (has_room plan past) tells running
-  tells_entered (Ends (passes.Ingress port) how) past tells ours running = tells_ended past tells port how running (λ is. ours)
-  tells_entered (Ends passes.Control how) past tells ours running =
+  tells_end : (past : List Row) (who : Who) (how : How) → EndsInput plan who how → has_ended base (pass_of plan who) past ≡ false → Tells plan base past → Tells plan base (with_event plan base past (End who how))
+  tells_end past (passes.Ingress port) how is running tells = tells_ended past tells port how running (λ reason. is)
+  tells_end past passes.Control how is running tells =
       let now = with_event plan base past (End passes.Control hows.End) in
-      rw ours (tells_kept past now (keeps_control past) tells)
-  tells_entered (Ends passes.Ticker how) past tells ours running = absurd ours
-  tells_entered (Ends (passes.Egress port) how) past tells ours running = absurd ours
+      rw is (tells_kept past now (record { failed_same = refl; ends_same = λ n. refl; later = later_event plan base past (End passes.Control hows.End) }) tells)
+  tells_end past passes.Ticker how is running tells = absurd is
+  tells_end past (passes.Egress port) how is running tells = absurd is
 
-  tells_after : (turn : Turn) (past : List Row) (b : Bool) → has_ended base (pass_of plan (who_of turn)) past ≡ b → Tells plan base past → IsOurs plan turn → Tells plan base (if b then past else entered plan base turn past)
-  tells_after turn past true is tells ours = tells
-  tells_after turn past false is tells ours = tells_entered turn past tells ours is
+  keeps_close : (past : List Row) (port : Port) (b : Bool) → Keeps past (if b then past else with_event plan base past (End (passes.Egress port) hows.End))
+  keeps_close past port true = record { failed_same = refl; ends_same = λ n. refl; later = λ pass is. is }
+  keeps_close past port false = record { failed_same = refl; ends_same = λ n. refl; later = later_event plan base past (End (passes.Egress port) hows.End) }
 
-  tells_all : (ts : List Turn) (past : List Row) → AreOurs plan ts → Tells plan base past → Tells plan base (after_all plan base ts past)
-  tells_all [] past ours tells = tells
-  tells_all (t ∷ ts) past ours tells = tells_all ts (after plan base t past) ours.1 (tells_after t past (has_ended base (pass_of plan (who_of t)) past) refl tells ours.0)
+  tells_each : IsKept plan base stops (λ past. Tells plan base past)
+  tells_each = record {
+    arrives = λ past port a tells. tells_kept past (with_event plan base past (event_of port a)) (keeps_arrival past port a) tells;
+    ends = tells_end;
+    ticks = tells_ticker;
+    drains = λ past port at tells.
+        let count = length (queue base (number_of port) past) in
+        tells_kept past (with_drain plan base stops port count past) (keeps_drain past port count (count == 0)) tells;
+    closes = λ past port at tells. tells_kept past (with_end plan base port past) (keeps_close past port (has_ended base (egress_pass plan (number_of port)) past)) tells;
+  }
 
-  module _ (x : Turn) (rest : List Turn → List Turn) (ours : IsOurs plan x) (behind : (ys : List Turn) → AreOurs plan ys → AreOurs plan (rest ys)) where
-    enter_at : (b : Bool) (y : Turn) (ys : List Turn) → AreOurs plan (y ∷ ys) → AreOurs plan (enter x rest ys) → AreOurs plan (if b then y ∷ enter x rest ys else x ∷ rest (y ∷ ys))
-    enter_at true y ys are step = (are.0, step)
-    enter_at false y ys are step = (ours, behind (y ∷ ys) are)
-
-    turns_enter : (ys : List Turn) → AreOurs plan ys → AreOurs plan (enter x rest ys)
-    turns_enter [] are = (ours, behind [] tt)
-    turns_enter (y ∷ ys) are = enter_at (nat_lt (turn_at y) (turn_at x)) y ys are (turns_enter ys are.1)
-
-  turns_merge : (xs ys : List Turn) → AreOurs plan xs → AreOurs plan ys → AreOurs plan (merge xs ys)
-  turns_merge [] ys are_x are_y = are_y
-  turns_merge (x ∷ xs) ys are_x are_y = turns_enter x (merge xs) are_x.0 (λ zs are. turns_merge xs zs are_x.1 are) ys are_y
-
-  turns_of : (port : Port) (before : List Arrival) (how : How) → IsAt plan (number_of port) → AreOurs plan (map (λ a. Arrives port a) before ++ Ends (passes.Ingress port) how ∷ [])
-  turns_of port [] how at = (at, tt)
-  turns_of port (a ∷ before) how at = (tt, turns_of port before how at)
-
-  turns_ports : (ports : List PortPlan) (inputs : List Input) → ((k : ℕ) → k < length ports → IsAt plan (get_or (numbers_of ports) k 0)) → AreOurs plan (merged (port_turns ports inputs))
-  turns_ports [] inputs at = tt
-  turns_ports (p ∷ ports) [] at = tt
-  turns_ports (p ∷ ports) (i ∷ inputs) at =
-      turns_merge (turns p.number i) (merged (port_turns ports inputs)) (turns_of p.number i.arrivals i.ending (at 0 (omega arith)))
-      (turns_ports ports inputs (λ k inside. at (suc k) (omega arith)))
-
-  tells_replayed : (inputs : List Input) → Tells plan base (replayed plan base inputs)
+  tells_replayed : (inputs : List Input) → Tells plan base (replayed plan base inputs stops)
   tells_replayed inputs =
-      let before : List Row = after_all plan base (merged (control_turns ∷ port_turns plan.ports inputs)) [] in
-      let ours : AreOurs plan (merged (control_turns ∷ port_turns plan.ports inputs)) =
-      turns_merge control_turns (merged (port_turns plan.ports inputs)) (refl, tt) (turns_ports plan.ports inputs (λ k inside. record { place = k; inside = inside; number = refl })) in
       let start : Tells plan base [] = record { failed = λ is. cc; ended = λ n is. cc } in
-      let ticked = with_event plan base before (End passes.Ticker hows.End) in
-      tells_kept before (egress_ended plan base plan.ports ticked)
-      (keeps_then before ticked (egress_ended plan base plan.ports ticked) (keeps_ticker before) (keeps_egresses plan.ports ticked))
-      (tells_all (merged (control_turns ∷ port_turns plan.ports inputs)) [] ours start)
+      replay_has plan base stops (λ past. Tells plan base past) tells_each inputs (tells_kept [] (begun plan base stops plan.ports []) (keeps_begun plan.ports []) start)
 
-pub failed_at_port : (plan : Plan) (base : Base) (inputs : List Input) → has_failed (replayed plan base inputs) ≡ true → (k : ℕ) × (k < length plan.ports) × (input_end (get_or (numbers_of plan.ports) k 0) (replayed plan base inputs) ≡ Some hows.Failed)
-failed_at_port plan base inputs is =
-    let found = (tells_replayed plan base inputs).failed is in
+pub failed_at_port : (plan : Plan) (base : Base) (inputs : List Input) (stops : Stops) → has_failed (replayed plan base inputs stops) ≡ true → (k : ℕ) × (k < length plan.ports) × (input_end (get_or (numbers_of plan.ports) k 0) (replayed plan base inputs stops) ≡ Some hows.Failed)
+failed_at_port plan base inputs stops is =
+    let found = (tells_replayed plan base stops inputs).failed is in
     let at = found.1 in
-    (at.place, at.inside, subst (λ (n : ℕ). input_end n (replayed plan base inputs) ≡ Some hows.Failed) at.number found.2)
+    (at.place, at.inside, subst (λ (n : ℕ). input_end n (replayed plan base inputs stops) ≡ Some hows.Failed) at.number found.2)

@@ -18,7 +18,7 @@ use Rattle.savi_history.specs.Passes.{pass_of, has_ended, place_of, pass_count, 
 use Rattle.savi_history.specs.Events.{End}
 use Rattle.savi_history.specs.Legal.{IsFinished}
 use Rattle.savi_history.specs.Turns.{Turn, Arrives, Ends, turn_at, port_turns, enter, merge, merged}
-use Rattle.savi_history.specs.Replay.{with_event, after, after_all, egress_ended, control_turns, replayed}
+use Rattle.savi_history.specs.Replay.{Stops, with_event, begun, with_end, after, after_all, egress_ended, control_turns, replayed}
 use Rattle.savi_history.proofs.Ends.{Later, later_event, later_after, after_open}
 use Rattle.savi_history.proofs.Waiting.{ended_now}
 use Rattle.savi_history.proofs.PassNumbers.{number_at, place_at}
@@ -79,71 +79,87 @@ in_port_turns plan (p ∷ plans) [] k size inside = absurd (omega arith)
 in_port_turns plan (p ∷ plans) (i ∷ inputs) zero size inside = in_turns_from plan p.number i.arrivals i.ending
 in_port_turns plan (p ∷ plans) (i ∷ inputs) (suc k) size inside = in_port_turns plan plans inputs k (omega arith) (omega arith)
 
-later_all : (plan : Plan) (base : Base) (xs : List Turn) (past : List Row) → Later base past (after_all plan base xs past)
-later_all plan base [] past pass is = is
-later_all plan base (x ∷ xs) past pass is = later_all plan base xs (after plan base x past) pass (later_after plan base x past pass is)
+later_all : (plan : Plan) (base : Base) (stops : Stops) (xs : List Turn) (past : List Row) → Later base past (after_all plan base stops xs past)
+later_all plan base stops [] past pass is = is
+later_all plan base stops (x ∷ xs) past pass is = later_all plan base stops xs (after plan base stops x past) pass (later_after plan base stops x past pass is)
 
-ended_here_at : (plan : Plan) (base : Base) (who : Who) (how : How) (past : List Row) → (has_ended base (pass_of plan who) past ≡ true) ⊎ (has_ended base (pass_of plan who) past ≡ false) → has_ended base (pass_of plan who) (after plan base (Ends who how) past) ≡ true
-ended_here_at plan base who how past (inl is) = later_after plan base (Ends who how) past (pass_of plan who) is
-ended_here_at plan base who how past (inr is) = ap (λ (l : List Row). has_ended base (pass_of plan who) l) (after_open plan base (Ends who how) past is) ∙ ended_now plan base past who how
+ended_here_at : (plan : Plan) (base : Base) (stops : Stops) (who : Who) (how : How) (past : List Row) → (has_ended base (pass_of plan who) past ≡ true) ⊎ (has_ended base (pass_of plan who) past ≡ false) → has_ended base (pass_of plan who) (after plan base stops (Ends who how) past) ≡ true
+ended_here_at plan base stops who how past (inl is) = later_after plan base stops (Ends who how) past (pass_of plan who) is
+ended_here_at plan base stops who how past (inr is) = ap (λ (l : List Row). has_ended base (pass_of plan who) l) (after_open plan base stops (Ends who how) past is) ∙ ended_now plan base past who how
 
-ended_here : (plan : Plan) (base : Base) (who : Who) (how : How) (past : List Row) → has_ended base (pass_of plan who) (after plan base (Ends who how) past) ≡ true
-ended_here plan base who how past = ended_here_at plan base who how past (cases_Bool (has_ended base (pass_of plan who) past))
+ended_here : (plan : Plan) (base : Base) (stops : Stops) (who : Who) (how : How) (past : List Row) → has_ended base (pass_of plan who) (after plan base stops (Ends who how) past) ≡ true
+ended_here plan base stops who how past = ended_here_at plan base stops who how past (cases_Bool (has_ended base (pass_of plan who) past))
 
-ended_all : (plan : Plan) (base : Base) (pass : ℕ) (xs : List Turn) (past : List Row) → EndsIn plan pass xs → has_ended base pass (after_all plan base xs past) ≡ true
-ended_all plan base pass [] past is = absurd is
-ended_all plan base pass (Arrives port a ∷ xs) past is = ended_all plan base pass xs (after plan base (Arrives port a) past) is
-ended_all plan base pass (Ends who how ∷ xs) past (inl here) =
-    later_all plan base xs (after plan base (Ends who how) past) pass (subst (λ (n : ℕ). has_ended base n (after plan base (Ends who how) past) ≡ true) here (ended_here plan base who how past))
-ended_all plan base pass (Ends who how ∷ xs) past (inr there) = ended_all plan base pass xs (after plan base (Ends who how) past) there
+ended_all : (plan : Plan) (base : Base) (stops : Stops) (pass : ℕ) (xs : List Turn) (past : List Row) → EndsIn plan pass xs → has_ended base pass (after_all plan base stops xs past) ≡ true
+ended_all plan base stops pass [] past is = absurd is
+ended_all plan base stops pass (Arrives port a ∷ xs) past is = ended_all plan base stops pass xs (after plan base stops (Arrives port a) past) is
+ended_all plan base stops pass (Ends who how ∷ xs) past (inl here) =
+    later_all plan base stops xs (after plan base stops (Ends who how) past) pass (subst (λ (n : ℕ). has_ended base n (after plan base stops (Ends who how) past) ≡ true) here (ended_here plan base stops who how past))
+ended_all plan base stops pass (Ends who how ∷ xs) past (inr there) = ended_all plan base stops pass xs (after plan base stops (Ends who how) past) there
+
+later_end_at : (plan : Plan) (base : Base) (port : Port) (past : List Row) (b : Bool) → Later base past (if b then past else with_event plan base past (End (passes.Egress port) hows.End))
+later_end_at plan base port past true pass is = is
+later_end_at plan base port past false pass is = later_event plan base past (End (passes.Egress port) hows.End) pass is
+
+pub later_end : (plan : Plan) (base : Base) (port : Port) (past : List Row) → Later base past (with_end plan base port past)
+later_end plan base port past = later_end_at plan base port past (has_ended base (egress_pass plan (number_of port)) past)
+
+ended_by_end_at : (plan : Plan) (base : Base) (port : Port) (past : List Row) (b : Bool) → has_ended base (egress_pass plan (number_of port)) past ≡ b
+    → has_ended base (egress_pass plan (number_of port)) (if b then past else with_event plan base past (End (passes.Egress port) hows.End)) ≡ true
+ended_by_end_at plan base port past true is = is
+ended_by_end_at plan base port past false is = ended_now plan base past (passes.Egress port) hows.End
+
+-- an egress has ended then, as it had or now
+pub ended_by_end : (plan : Plan) (base : Base) (port : Port) (past : List Row) → has_ended base (egress_pass plan (number_of port)) (with_end plan base port past) ≡ true
+ended_by_end plan base port past = ended_by_end_at plan base port past (has_ended base (egress_pass plan (number_of port)) past) refl
 
 later_egress : (plan : Plan) (base : Base) (ports : List PortPlan) (past : List Row) → Later base past (egress_ended plan base ports past)
 later_egress plan base [] past pass is = is
-later_egress plan base (q ∷ qs) past pass is = later_egress plan base qs (with_event plan base past (End (passes.Egress q.number) hows.End)) pass (later_event plan base past (End (passes.Egress q.number) hows.End) pass is)
+later_egress plan base (q ∷ qs) past pass is = later_egress plan base qs (with_end plan base q.number past) pass (later_end plan base q.number past pass is)
 
 egress_all : (plan : Plan) (base : Base) (ports : List PortPlan) (past : List Row) (k : ℕ) → k < length ports → has_ended base (egress_pass plan (get_or (numbers_of ports) k 0)) (egress_ended plan base ports past) ≡ true
 egress_all plan base [] past k inside = absurd (omega arith)
-egress_all plan base (q ∷ qs) past zero inside = later_egress plan base qs (with_event plan base past (End (passes.Egress q.number) hows.End)) (egress_pass plan (number_of q.number)) (ended_now plan base past (passes.Egress q.number) hows.End)
-egress_all plan base (q ∷ qs) past (suc k) inside = egress_all plan base qs (with_event plan base past (End (passes.Egress q.number) hows.End)) k (omega arith)
+egress_all plan base (q ∷ qs) past zero inside = later_egress plan base qs (with_end plan base q.number past) (egress_pass plan (number_of q.number)) (ended_by_end plan base q.number past)
+egress_all plan base (q ∷ qs) past (suc k) inside = egress_all plan base qs (with_end plan base q.number past) k (omega arith)
 
-module _ (plan : Plan) (base : Base) (inputs : List Input) (rising : IsStrictlyIncreasing (numbers_of plan.ports)) (size : length inputs ≡ length plan.ports) where
+module _ (plan : Plan) (base : Base) (inputs : List Input) (stops : Stops) (rising : IsStrictlyIncreasing (numbers_of plan.ports)) (size : length inputs ≡ length plan.ports) where
   abbrev pub all : List Turn
   all = merged (control_turns ∷ port_turns plan.ports inputs)
 
   abbrev pub before : List Row
-  before = after_all plan base all []
+  before = after_all plan base stops all (begun plan base stops plan.ports [])
 
-  through : (pass : ℕ) → has_ended base pass before ≡ true → has_ended base pass (replayed plan base inputs) ≡ true
+  through : (pass : ℕ) → has_ended base pass before ≡ true → has_ended base pass (replayed plan base inputs stops) ≡ true
   through pass is =
       later_egress plan base plan.ports (with_event plan base before (End passes.Ticker hows.End)) pass (later_event plan base before (End passes.Ticker hows.End) pass is)
 
   ingress_ended : (pass : ℕ) → pass < length plan.ports → has_ended base pass before ≡ true
   ingress_ended pass inside =
       let in_all : EndsIn plan (place_of plan (number_at plan pass)) all = in_merged plan (place_of plan (number_at plan pass)) (control_turns ∷ port_turns plan.ports inputs) (suc pass) (in_port_turns plan plan.ports inputs pass size inside) in
-      subst (λ (n : ℕ). has_ended base n before ≡ true) (place_at plan pass rising inside) (ended_all plan base (place_of plan (number_at plan pass)) all [] in_all)
+      subst (λ (n : ℕ). has_ended base n before ≡ true) (place_at plan pass rising inside) (ended_all plan base stops (place_of plan (number_at plan pass)) all (begun plan base stops plan.ports []) in_all)
 
   control_ended : has_ended base (control_pass plan) before ≡ true
-  control_ended = ended_all plan base (control_pass plan) all [] (in_merged plan (control_pass plan) (control_turns ∷ port_turns plan.ports inputs) 0 (inl refl))
+  control_ended = ended_all plan base stops (control_pass plan) all (begun plan base stops plan.ports []) (in_merged plan (control_pass plan) (control_turns ∷ port_turns plan.ports inputs) 0 (inl refl))
 
   pub finished_low : (pass : ℕ) → (pass < length plan.ports) ⊎ (length plan.ports ≤ pass) → pass < length plan.ports + 1 → has_ended base pass before ≡ true
   finished_low pass (inl inside) below = ingress_ended pass inside
   finished_low pass (inr outside) below = subst (λ (n : ℕ). has_ended base n before ≡ true) (omega arith) control_ended
 
-  ticker_ended : has_ended base (ticker_pass plan) (replayed plan base inputs) ≡ true
+  ticker_ended : has_ended base (ticker_pass plan) (replayed plan base inputs stops) ≡ true
   ticker_ended = later_egress plan base plan.ports (with_event plan base before (End passes.Ticker hows.End)) (ticker_pass plan) (ended_now plan base before passes.Ticker hows.End)
 
-  finished_high : (pass : ℕ) → (pass ≡ ticker_pass plan) ⊎ (pass ≢ ticker_pass plan) → length plan.ports + 1 ≤ pass → pass < pass_count plan → has_ended base pass (replayed plan base inputs) ≡ true
-  finished_high pass (inl same) above below = subst (λ (n : ℕ). has_ended base n (replayed plan base inputs) ≡ true) (sym same) ticker_ended
+  finished_high : (pass : ℕ) → (pass ≡ ticker_pass plan) ⊎ (pass ≢ ticker_pass plan) → length plan.ports + 1 ≤ pass → pass < pass_count plan → has_ended base pass (replayed plan base inputs stops) ≡ true
+  finished_high pass (inl same) above below = subst (λ (n : ℕ). has_ended base n (replayed plan base inputs stops) ≡ true) (sym same) ticker_ended
   finished_high pass (inr other) above below =
       let k = pass - (length plan.ports + 2) in
       let inside : k < length plan.ports = omega arith in
       let place = place_at plan k rising inside in
       let is : egress_pass plan (number_at plan k) ≡ pass = omega arith in
-      subst (λ (n : ℕ). has_ended base n (replayed plan base inputs) ≡ true) is (egress_all plan base plan.ports (with_event plan base before (End passes.Ticker hows.End)) k inside)
+      subst (λ (n : ℕ). has_ended base n (replayed plan base inputs stops) ≡ true) is (egress_all plan base plan.ports (with_event plan base before (End passes.Ticker hows.End)) k inside)
 
-  finished_at : (pass : ℕ) → (pass < length plan.ports + 1) ⊎ (length plan.ports + 1 ≤ pass) → pass < pass_count plan → has_ended base pass (replayed plan base inputs) ≡ true
+  finished_at : (pass : ℕ) → (pass < length plan.ports + 1) ⊎ (length plan.ports + 1 ≤ pass) → pass < pass_count plan → has_ended base pass (replayed plan base inputs stops) ≡ true
   finished_at pass (inl low) below = through pass (finished_low pass (cases_lt pass (length plan.ports)) low)
   finished_at pass (inr high) below = finished_high pass (cases_eq pass (ticker_pass plan)) high below
 
-  pub replay_finished : IsFinished plan base (replayed plan base inputs)
+  pub replay_finished : IsFinished plan base (replayed plan base inputs stops)
   replay_finished pass below = finished_at pass (cases_lt pass (length plan.ports + 1)) below

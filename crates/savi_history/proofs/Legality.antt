@@ -25,11 +25,12 @@ use Rattle.savi_history.specs.Events.{Event, Drain, End}
 use Rattle.savi_history.specs.Legal.{IsLegal, IsOpen, MayCome}
 use Rattle.savi_history.specs.Readable.{IsArrival, IsEnding, IsInput}
 use Rattle.savi_history.specs.Turns.{Turn, Arrives, Ends, who_of, turn_at, turns, port_turns, enter, merge, merged}
-use Rattle.savi_history.specs.Replay.{event_of, with_event, with_drain, drained, entered, after, after_all, egress_ended, control_turns, replayed}
+use Rattle.savi_history.specs.Replay.{Stops, is_stopped, pieces_by, event_of, with_event, with_failure, begun, with_drain, drained, entered, after, after_all, with_end, egress_ended, control_turns, replayed}
 use Rattle.savi_history.proofs.Ends.{later_event}
-use Rattle.savi_history.proofs.Waiting.{ended_now, ended_other, ended_arrival, ended_drain, ended_drained, empty_end, drained_empty}
+use Rattle.savi_history.proofs.Waiting.{ended_now, ended_other, ended_arrival, ended_failure, ended_drained, ended_begun, empty_end, empty_begun, drained_empty}
 use Rattle.savi_history.proofs.PassNumbers.{number_at, place_at, known_at}
-use Rattle.savi_history.proofs.Finished.{finished_low}
+use Rattle.savi_history.proofs.Finished.{finished_low, later_end}
+use Rattle.savi_history.proofs.Closed.{waits_open}
 
 -- a turn that a reader of a port of the plan may give, or control's end
 abbrev pub IsTurn : Plan → Turn → Type 0
@@ -47,10 +48,10 @@ abbrev pub AreKnown : Plan → List PortPlan → Type 0
 AreKnown plan [] = Unit {0}
 AreKnown plan (p ∷ ports) = (has_port plan (number_of p.number) ≡ true) × AreKnown plan ports
 
--- legal, with nothing waiting and each egress and the ticker open
+-- legal, with nothing waiting and the ticker open
 pub record IsGood (plan : Plan) (past : List Row) : Type 0 where
   pub legal : IsLegal plan empty past
-  pub outputs : (pass : ℕ) → control_pass plan < pass → has_ended empty pass past ≡ false
+  pub ticking : has_ended empty (ticker_pass plan) past ≡ false
   pub quiet : (k : ℕ) → k < length plan.ports → queue empty (number_at plan k) past ≡ []
 
 place_in_at : (ns : List ℕ) (n x : ℕ) (b : Bool) → (b || list_any (λ m. m == x) ns) ≡ true → (list_any (λ m. m == x) ns ≡ true → place_among ns x < length ns) → (if b then 0 else suc (place_among ns x)) < suc (length ns)
@@ -61,7 +62,7 @@ place_in : (ns : List ℕ) (x : ℕ) → list_any (λ n. n == x) ns ≡ true →
 place_in [] x is = cc
 place_in (n ∷ ns) x is = place_in_at ns n x (n == x) is (λ there. place_in ns x there)
 
-module _ (plan : Plan) where
+module _ (plan : Plan) (stops : Stops) where
   ticked_at : (past : List Row) (pass : ℕ) → AllEnded empty (control_pass plan + 1) past → pass < ticker_pass plan + 1 → (pass ≡ ticker_pass plan) ⊎ (pass ≢ ticker_pass plan) → has_ended empty pass (with_event plan empty past (End passes.Ticker hows.End)) ≡ true
   ticked_at past pass inputs below (inl same) = subst (λ (n : ℕ). has_ended empty n (with_event plan empty past (End passes.Ticker hows.End)) ≡ true) (sym same) (ended_now plan empty past passes.Ticker hows.End)
   ticked_at past pass inputs below (inr other) = later_event plan empty past (End passes.Ticker hows.End) pass (inputs pass (omega arith))
@@ -69,19 +70,44 @@ module _ (plan : Plan) where
   legal_event : (past : List Row) (event : Event) → IsLegal plan empty past → MayCome plan empty past event → IsLegal plan empty (with_event plan empty past event)
   legal_event past event legal may = ((event, may, refl), legal)
 
-  legal_drain_at : (past : List Row) (port : Port) (b : Bool) → (length (queue empty (number_of port) past) == 0) ≡ b → IsLegal plan empty past → IsOpen plan empty past (passes.Egress port)
-      → IsLegal plan empty (if b then past else with_event plan empty past (Drain port (length (queue empty (number_of port) past))))
-  legal_drain_at past port true is legal is_open = legal
-  legal_drain_at past port false is legal is_open =
-      legal_event past (Drain port (length (queue empty (number_of port) past))) legal (is_open, grind (arith, nat_tests), omega arith)
+  -- an egress that is open may end at a failed write
+  legal_failure_at : (past : List Row) (port : Port) (b : Bool) → IsLegal plan empty past → IsOpen plan empty past (passes.Egress port)
+      → IsLegal plan empty (if b then with_event plan empty past (End (passes.Egress port) hows.Failed) else past)
+  legal_failure_at past port true legal is_open = legal_event past (End (passes.Egress port) hows.Failed) legal (is_open, tt)
+  legal_failure_at past port false legal is_open = legal
 
-  legal_drained : (ports : List PortPlan) (past : List Row) → AreKnown plan ports → IsLegal plan empty past → ((pass : ℕ) → control_pass plan < pass → has_ended empty pass past ≡ false) → IsLegal plan empty (drained plan empty ports past)
-  legal_drained [] past known legal outputs = legal
-  legal_drained (q ∷ qs) past known legal outputs =
+  legal_failure : (past : List Row) (port : Port) → IsLegal plan empty past → IsOpen plan empty past (passes.Egress port) → IsLegal plan empty (with_failure plan empty stops port past)
+  legal_failure past port = legal_failure_at past port (is_stopped (stops (number_of port)) (pieces_by empty (number_of port) past))
+
+  -- where something waits the egress is open
+  legal_drain_at : (past : List Row) (port : Port) (b : Bool) → (length (queue empty (number_of port) past) == 0) ≡ b → IsLegal plan empty past → has_port plan (number_of port) ≡ true
+      → IsLegal plan empty (if b then past else with_failure plan empty stops port (with_event plan empty past (Drain port (length (queue empty (number_of port) past)))))
+  legal_drain_at past port true is legal known = legal
+  legal_drain_at past port false is legal known =
+      let count = length (queue empty (number_of port) past) in
+      let some : 0 < length (queue empty (number_of port) past) = grind (arith, nat_tests) in
+      let running : has_ended empty (egress_pass plan (number_of port)) past ≡ false = waits_open plan past (number_of port) legal known some in
+      legal_failure (with_event plan empty past (Drain port count)) port
+      (legal_event past (Drain port count) legal (record { known = known; running = running }, omega arith, omega arith))
+      (record { known = known; running = running })
+
+  legal_drained : (ports : List PortPlan) (past : List Row) → AreKnown plan ports → IsLegal plan empty past → IsLegal plan empty (drained plan empty stops ports past)
+  legal_drained [] past known legal = legal
+  legal_drained (q ∷ qs) past known legal =
       let count = length (queue empty (number_of q.number) past) in
-      legal_drained qs (with_drain plan empty q.number count past) known.1
-      (legal_drain_at past q.number (count == 0) refl legal (record { known = known.0; running = outputs (egress_pass plan (number_of q.number)) (omega arith) }))
-      (λ pass above. ended_drain plan empty past q.number count pass ∙ outputs pass above)
+      legal_drained qs (with_drain plan empty stops q.number count past) known.1 (legal_drain_at past q.number (count == 0) refl legal known.0)
+
+  -- outputs that haven't ended are begun
+  legal_begun : (ports : List PortPlan) (j : ℕ) (past : List Row) → ((k : ℕ) → k < length ports → place_of plan (get_or (numbers_of ports) k 0) ≡ j + k) → AreKnown plan ports → IsLegal plan empty past
+      → ((k : ℕ) → k < length ports → has_ended empty (egress_pass plan (get_or (numbers_of ports) k 0)) past ≡ false) → IsLegal plan empty (begun plan empty stops ports past)
+  legal_begun [] j past places known legal running = legal
+  legal_begun (q ∷ qs) j past places known legal running =
+      let here : place_of plan (number_of q.number) ≡ j + 0 = places 0 (omega arith) in
+      legal_begun qs (j + 1) (with_failure plan empty stops q.number past)
+      (λ k inside. let there = places (suc k) (omega arith) in omega arith)
+      known.1
+      (legal_failure past q.number legal (record { known = known.0; running = running 0 (omega arith) }))
+      (λ k inside. ended_failure plan empty stops past q.number (egress_pass plan (get_or (numbers_of qs) k 0)) (λ same. let there = places (suc k) (omega arith) in absurd (omega arith)) ∙ running (suc k) (omega arith))
 
   known_all : (ports : List PortPlan) → ((k : ℕ) → k < length ports → has_port plan (get_or (numbers_of ports) k 0) ≡ true) → AreKnown plan ports
   known_all [] each = tt
@@ -112,25 +138,24 @@ module _ (plan : Plan) where
   good_end : (past : List Row) (who : Who) (how : How) → IsGood plan past → pass_of plan who ≤ control_pass plan → MayCome plan empty past (End who how) → IsGood plan (with_event plan empty past (End who how))
   good_end past who how good low may = record {
     legal = legal_event past (End who how) good.legal may;
-    outputs = λ pass above. ended_other plan empty past who how pass (λ same. absurd (omega arith)) ∙ good.outputs pass above;
+    ticking = ended_other plan empty past who how (ticker_pass plan) (λ same. absurd (omega arith)) ∙ good.ticking;
     quiet = λ k inside. empty_end plan empty past who how (number_at plan k) (good.quiet k inside);
   }
 
   good_arrival : (past : List Row) (port : Port) (a : Arrival) (b : Bool) → has_room plan past ≡ b → IsGood plan past → has_port plan (number_of port) ≡ true → IsArrival a → has_ended empty (pass_of plan (passes.Ingress port)) past ≡ false
-      → IsGood plan (if b then drained plan empty plan.ports (with_event plan empty past (event_of port a)) else with_event plan empty past (End (passes.Ingress port) (hows.Full (length past))))
+      → IsGood plan (if b then drained plan empty stops plan.ports (with_event plan empty past (event_of port a)) else with_event plan empty past (End (passes.Ingress port) (hows.Full (length past))))
   good_arrival past port a true room good known fits running =
       let entered_row = with_event plan empty past (event_of port a) in
-      let outputs : (pass : ℕ) → control_pass plan < pass → has_ended empty pass entered_row ≡ false = λ pass above. ended_arrival plan empty past port a pass ∙ good.outputs pass above in
       record {
-        legal = legal_drained plan.ports entered_row all_known (legal_event past (event_of port a) good.legal (may_arrive past port a (record { known = known; running = running }) room fits)) outputs;
-        outputs = λ pass above. ended_drained plan empty plan.ports entered_row pass ∙ outputs pass above;
-        quiet = λ k inside. drained_empty plan empty plan.ports entered_row k inside;
+        legal = legal_drained plan.ports entered_row all_known (legal_event past (event_of port a) good.legal (may_arrive past port a (record { known = known; running = running }) room fits));
+        ticking = ended_drained plan empty stops plan.ports entered_row (ticker_pass plan) (omega arith) ∙ ended_arrival plan empty past port a (ticker_pass plan) ∙ good.ticking;
+        quiet = λ k inside. drained_empty plan empty stops plan.ports entered_row k inside;
       }
   good_arrival past port a false room good known fits running =
       let below = place_below port known in
       good_end past (passes.Ingress port) (hows.Full (length past)) good (omega arith) (record { known = known; running = running }, record { no_room = room; all = refl })
 
-  good_entered : (t : Turn) (past : List Row) → IsGood plan past → IsTurn plan t → has_ended empty (pass_of plan (who_of t)) past ≡ false → IsGood plan (entered plan empty t past)
+  good_entered : (t : Turn) (past : List Row) → IsGood plan past → IsTurn plan t → has_ended empty (pass_of plan (who_of t)) past ≡ false → IsGood plan (entered plan empty stops t past)
   good_entered (Arrives port a) past good fits running = good_arrival past port a (has_room plan past) refl good fits.0 fits.1 running
   good_entered (Ends (passes.Ingress port) how) past good fits running =
       let below = place_below port fits.0 in
@@ -140,13 +165,13 @@ module _ (plan : Plan) where
   good_entered (Ends passes.Ticker how) past good fits running = absurd fits
   good_entered (Ends (passes.Egress port) how) past good fits running = absurd fits
 
-  good_after : (t : Turn) (past : List Row) (b : Bool) → has_ended empty (pass_of plan (who_of t)) past ≡ b → IsGood plan past → IsTurn plan t → IsGood plan (if b then past else entered plan empty t past)
+  good_after : (t : Turn) (past : List Row) (b : Bool) → has_ended empty (pass_of plan (who_of t)) past ≡ b → IsGood plan past → IsTurn plan t → IsGood plan (if b then past else entered plan empty stops t past)
   good_after t past true is good fits = good
   good_after t past false is good fits = good_entered t past good fits is
 
-  good_all : (ts : List Turn) (past : List Row) → AreTurns plan ts → IsGood plan past → IsGood plan (after_all plan empty ts past)
+  good_all : (ts : List Turn) (past : List Row) → AreTurns plan ts → IsGood plan past → IsGood plan (after_all plan empty stops ts past)
   good_all [] past fits good = good
-  good_all (t ∷ ts) past fits good = good_all ts (after plan empty t past) fits.1 (good_after t past (has_ended empty (pass_of plan (who_of t)) past) refl good fits.0)
+  good_all (t ∷ ts) past fits good = good_all ts (after plan empty stops t past) fits.1 (good_after t past (has_ended empty (pass_of plan (who_of t)) past) refl good fits.0)
 
   module _ (x : Turn) (rest : List Turn → List Turn) (fits : IsTurn plan x) (behind : (ys : List Turn) → AreTurns plan ys → AreTurns plan (rest ys)) where
     enter_at : (b : Bool) (y : Turn) (ys : List Turn) → AreTurns plan (y ∷ ys) → AreTurns plan (enter x rest ys) → AreTurns plan (if b then y ∷ enter x rest ys else x ∷ rest (y ∷ ys))
@@ -173,33 +198,45 @@ module _ (plan : Plan) where
       turns_merge (turns p.number i) (merged (port_turns ports inputs)) (turns_from p.number i.arrivals i.ending known.0 first.arrivals first.ending)
       (turns_ports ports inputs known.1 (λ k d inside. are (suc k) d (omega arith)))
 
-  legal_egress : (ports : List PortPlan) (j : ℕ) (past : List Row) → ((k : ℕ) → k < length ports → place_of plan (get_or (numbers_of ports) k 0) ≡ j + k) → AreKnown plan ports → IsLegal plan empty past → AllEnded empty (ticker_pass plan + 1) past
-      → ((k : ℕ) → k < length ports → has_ended empty (egress_pass plan (get_or (numbers_of ports) k 0)) past ≡ false) → ((k : ℕ) → k < length ports → queue empty (get_or (numbers_of ports) k 0) past ≡ []) → IsLegal plan empty (egress_ended plan empty ports past)
-  legal_egress [] j past places known legal ended running quiet = legal
-  legal_egress (q ∷ qs) j past places known legal ended running quiet =
-      let who = passes.Egress q.number in
-      let here : place_of plan (number_of q.number) ≡ j + 0 = places 0 (omega arith) in
-      legal_egress qs (j + 1) (with_event plan empty past (End who hows.End))
-      (λ k inside. let there = places (suc k) (omega arith) in omega arith)
+  -- where all else has ended and nothing waits, an egress that is open may end
+  legal_end_at : (past : List Row) (port : Port) (b : Bool) → has_ended empty (egress_pass plan (number_of port)) past ≡ b → has_port plan (number_of port) ≡ true → IsLegal plan empty past → AllEnded empty (ticker_pass plan + 1) past → queue empty (number_of port) past ≡ []
+      → IsLegal plan empty (if b then past else with_event plan empty past (End (passes.Egress port) hows.End))
+  legal_end_at past port true is known legal ended quiet = legal
+  legal_end_at past port false is known legal ended quiet = legal_event past (End (passes.Egress port) hows.End) legal (record { known = known; running = is }, (ended, quiet))
+
+  empty_end_at : (past : List Row) (port : Port) (q : ℕ) (b : Bool) → queue empty q past ≡ [] → queue empty q (if b then past else with_event plan empty past (End (passes.Egress port) hows.End)) ≡ []
+  empty_end_at past port q true quiet = quiet
+  empty_end_at past port q false quiet = empty_end plan empty past (passes.Egress port) hows.End q quiet
+
+  legal_egress : (ports : List PortPlan) (past : List Row) → AreKnown plan ports → IsLegal plan empty past → AllEnded empty (ticker_pass plan + 1) past
+      → ((k : ℕ) → k < length ports → queue empty (get_or (numbers_of ports) k 0) past ≡ []) → IsLegal plan empty (egress_ended plan empty ports past)
+  legal_egress [] past known legal ended quiet = legal
+  legal_egress (q ∷ qs) past known legal ended quiet =
+      let has = has_ended empty (egress_pass plan (number_of q.number)) past in
+      legal_egress qs (with_end plan empty q.number past)
       known.1
-      (legal_event past (End who hows.End) legal (record { known = known.0; running = running 0 (omega arith) }, (ended, quiet 0 (omega arith))))
-      (λ pass below. later_event plan empty past (End who hows.End) pass (ended pass below))
-      (λ k inside. ended_other plan empty past who hows.End (egress_pass plan (get_or (numbers_of qs) k 0)) (λ same. let there = places (suc k) (omega arith) in absurd (omega arith)) ∙ running (suc k) (omega arith))
-      (λ k inside. empty_end plan empty past who hows.End (get_or (numbers_of qs) k 0) (quiet (suc k) (omega arith)))
+      (legal_end_at past q.number has refl known.0 legal ended (quiet 0 (omega arith)))
+      (λ pass below. later_end plan empty q.number past pass (ended pass below))
+      (λ k inside. empty_end_at past q.number (get_or (numbers_of qs) k 0) has (quiet (suc k) (omega arith)))
 
-  good_start : IsGood plan []
-  good_start = record { legal = tt; outputs = λ pass above. refl; quiet = λ k inside. refl }
-
-  pub replay_legal : (inputs : List Input) → IsStrictlyIncreasing (numbers_of plan.ports) → length inputs ≡ length plan.ports → All IsInput inputs → IsLegal plan empty (replayed plan empty inputs)
+  replay_legal : (inputs : List Input) → IsStrictlyIncreasing (numbers_of plan.ports) → length inputs ≡ length plan.ports → All IsInput inputs → IsLegal plan empty (replayed plan empty inputs stops)
   replay_legal inputs rising size are =
-      let before : List Row = after_all plan empty (merged (control_turns ∷ port_turns plan.ports inputs)) [] in
-      let good : IsGood plan before = good_all (merged (control_turns ∷ port_turns plan.ports inputs)) [] (turns_merge control_turns (merged (port_turns plan.ports inputs)) (refl, tt) (turns_ports plan.ports inputs all_known are)) good_start in
-      let inputs_ended : AllEnded empty (control_pass plan + 1) before = λ pass below. finished_low plan empty inputs rising size pass (cases_lt pass (length plan.ports)) below in
+      let started : List Row = begun plan empty stops plan.ports [] in
+      let before : List Row = after_all plan empty stops (merged (control_turns ∷ port_turns plan.ports inputs)) started in
+      let places : (k : ℕ) → k < length plan.ports → place_of plan (number_at plan k) ≡ 0 + k = λ k inside. place_at plan k rising inside ∙ omega arith in
+      let good_start : IsGood plan started = record {
+        legal = legal_begun plan.ports 0 [] places all_known tt (λ k inside. refl);
+        ticking = ended_begun plan empty stops plan.ports [] (ticker_pass plan) (omega arith);
+        quiet = λ k inside. empty_begun plan empty stops plan.ports [] (number_at plan k) refl;
+      } in
+      let good : IsGood plan before = good_all (merged (control_turns ∷ port_turns plan.ports inputs)) started (turns_merge control_turns (merged (port_turns plan.ports inputs)) (refl, tt) (turns_ports plan.ports inputs all_known are)) good_start in
+      let inputs_ended : AllEnded empty (control_pass plan + 1) before = λ pass below. finished_low plan empty inputs stops rising size pass (cases_lt pass (length plan.ports)) below in
       let ticked = with_event plan empty before (End passes.Ticker hows.End) in
-      legal_egress plan.ports 0 ticked
-      (λ k inside. place_at plan k rising inside ∙ omega arith)
+      legal_egress plan.ports ticked
       all_known
-      (legal_event before (End passes.Ticker hows.End) good.legal (record { known = refl; running = good.outputs (ticker_pass plan) (omega arith) }, inputs_ended))
+      (legal_event before (End passes.Ticker hows.End) good.legal (record { known = refl; running = good.ticking }, inputs_ended))
       (λ pass below. ticked_at before pass inputs_ended below (cases_eq pass (ticker_pass plan)))
-      (λ k inside. ended_other plan empty before passes.Ticker hows.End (egress_pass plan (number_at plan k)) (λ same. absurd (omega arith)) ∙ good.outputs (egress_pass plan (number_at plan k)) (omega arith))
       (λ k inside. empty_end plan empty before passes.Ticker hows.End (number_at plan k) (good.quiet k inside))
+
+pub replay_is_legal : (plan : Plan) (inputs : List Input) (stops : Stops) → IsStrictlyIncreasing (numbers_of plan.ports) → length inputs ≡ length plan.ports → All IsInput inputs → IsLegal plan empty (replayed plan empty inputs stops)
+replay_is_legal plan inputs stops rising size are = replay_legal plan stops inputs rising size are

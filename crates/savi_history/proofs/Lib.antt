@@ -6,6 +6,9 @@ pub mod Order
 pub mod Reaching
 pub mod Guarded
 pub mod PassNumbers
+pub mod PortPlaces
+pub mod PortMembers
+pub mod Closed
 pub mod Waiting
 pub mod Lines
 pub mod Words
@@ -19,4 +22,9 @@ pub mod AddressTexts
 pub mod Finished
 pub mod Legality
 pub mod PortInputs
+pub mod Replaying
 pub mod Failing
+pub mod FailedWrites
+pub mod EndedOutputs
+pub mod TakenPieces
+pub mod FittingOutputs

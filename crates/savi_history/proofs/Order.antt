@@ -9,7 +9,7 @@ use Rattle.savi_history.specs.Bases.{Base}
 use Rattle.savi_history.specs.Passes.{pass_of, has_ended}
 use Rattle.savi_history.specs.Turns.{Turn, who_of, merged}
 use Rattle.savi_history.specs.Picks.{first_at, IsLeast}
-use Rattle.savi_history.specs.Replay.{after, after_all}
+use Rattle.savi_history.specs.Replay.{Stops, after, after_all}
 use Rattle.savi_history.proofs.Merging.{picked}
 use Rattle.savi_history.proofs.Ends.{Later, later_after, is_open, still_open, AreOf, AreSingle, stopped}
 
@@ -79,12 +79,12 @@ same_head : (x y : Turn) (xs ys : List Turn) → x ∷ xs ≡ y ∷ ys → (x �
 same_head x y xs ys e = (cc, cc)
 
 -- The turn that comes first is entered, whatever comes behind it.
-pub next_turn : (plan : Plan) (base : Base) (past : List Row) (inputs : List (List Turn)) (j : ℕ) (turn : Turn) (left : List Turn)
+pub next_turn : (plan : Plan) (base : Base) (stops : Stops) (past : List Row) (inputs : List (List Turn)) (j : ℕ) (turn : Turn) (left : List Turn)
     → AreSingle plan inputs → get_or inputs j [] ≡ turn ∷ left → has_ended base (pass_of plan (who_of turn)) past ≡ false → IsLeast (map first_at (still_open plan base past inputs)) j
-    → after_all plan base (merged inputs) past ≡ after_all plan base (merged (set inputs j left)) (after plan base turn past)
-next_turn plan base past inputs j turn left single there running least =
+    → after_all plan base stops (merged inputs) past ≡ after_all plan base stops (merged (set inputs j left)) (after plan base stops turn past)
+next_turn plan base stops past inputs j turn left single there running least =
     let open_now = still_open plan base past inputs in
-    let now = after plan base turn past in
+    let now = after plan base stops turn past in
     let first = picked open_now j least in
     let of : AreOf plan (single j).0 (turn ∷ left) = subst (λ (l : List Turn). AreOf plan (single j).0 l) there (single j).1 in
     let runs : has_ended base (single j).0 past ≡ false = sym (ap (λ (n : ℕ). has_ended base n past) of.0) ∙ running in
@@ -96,10 +96,10 @@ next_turn plan base past inputs j turn left single there running least =
     let keeps = filter (is_open plan base now) in
     let again : still_open plan base now (set open_now j left) ≡ still_open plan base now (set inputs j left) =
     map-set keeps open_now j left
-    ∙ ap (λ (l : List (List Turn)). set l j (keeps left)) (still_open_again plan base past now inputs (later_after plan base turn past))
+    ∙ ap (λ (l : List (List Turn)). set l j (keeps left)) (still_open_again plan base past now inputs (later_after plan base stops turn past))
     ∙ sym (map-set keeps inputs j left) in
-    stopped plan base past inputs single
-    ∙ ap (λ (l : List Turn). after_all plan base l past) split
-    ∙ stopped plan base now (set open_now j left) (single_set plan open_now j (single j).0 left of.1 (single_open plan base past inputs single))
-    ∙ ap (λ (l : List (List Turn)). after_all plan base (merged l) now) again
-    ∙ sym (stopped plan base now (set inputs j left) (single_set plan inputs j (single j).0 left of.1 single))
+    stopped plan base stops past inputs single
+    ∙ ap (λ (l : List Turn). after_all plan base stops l past) split
+    ∙ stopped plan base stops now (set open_now j left) (single_set plan open_now j (single j).0 left of.1 (single_open plan base past inputs single))
+    ∙ ap (λ (l : List (List Turn)). after_all plan base stops (merged l) now) again
+    ∙ sym (stopped plan base stops now (set inputs j left) (single_set plan inputs j (single j).0 left of.1 single))

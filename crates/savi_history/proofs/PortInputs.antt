@@ -13,10 +13,11 @@ use Rattle.savi_kinds.specs.Arrivals as arrivals
 use Rattle.hist_store.specs.Rows.{Row}
 use Rattle.savi_history.specs.Bases.{Base}
 use Rattle.savi_history.specs.Limits.{has_room}
+use Rattle.savi_history.specs.Passes.{has_ended, egress_pass}
 use Rattle.savi_history.specs.Queues.{queue}
 use Rattle.savi_history.specs.Events.{Drain, End}
 use Rattle.savi_history.specs.Turns.{Turn, Arrives, Ends}
-use Rattle.savi_history.specs.Replay.{event_of, with_event, with_drain, drained, entered, egress_ended}
+use Rattle.savi_history.specs.Replay.{Stops, is_stopped, pieces_by, event_of, with_event, with_failure, begun, with_drain, drained, entered, with_end, egress_ended}
 use Rattle.savi_history.specs.PortInputs.{arrived, input_end}
 
 -- two histories hold the same of a port's input
@@ -27,18 +28,36 @@ pub record HoldsSame (n : ℕ) (old new : List Row) : Type 0 where
 holds_then : (n : ℕ) (old mid new : List Row) → HoldsSame n old mid → HoldsSame n mid new → HoldsSame n old new
 holds_then n old mid new first later = record { arrivals_same = later.arrivals_same ∙ first.arrivals_same; end_same = later.end_same ∙ first.end_same }
 
+-- failed writes
+
+same_failure_at : (plan : Plan) (base : Base) (past : List Row) (port : Port) (n : ℕ) (b : Bool) → HoldsSame n past (if b then with_event plan base past (End (Egress port) hows.Failed) else past)
+same_failure_at plan base past port n true = record { arrivals_same = append-nil (arrived n past); end_same = refl }
+same_failure_at plan base past port n false = record { arrivals_same = refl; end_same = refl }
+
+pub same_failure : (plan : Plan) (base : Base) (stops : Stops) (past : List Row) (port : Port) (n : ℕ) → HoldsSame n past (with_failure plan base stops port past)
+same_failure plan base stops past port n = same_failure_at plan base past port n (is_stopped (stops (number_of port)) (pieces_by base (number_of port) past))
+
+-- when outputs are begun nothing comes in
+pub same_begun : (plan : Plan) (base : Base) (stops : Stops) (ports : List PortPlan) (past : List Row) (n : ℕ) → HoldsSame n past (begun plan base stops ports past)
+same_begun plan base stops [] past n = record { arrivals_same = refl; end_same = refl }
+same_begun plan base stops (q ∷ qs) past n =
+    let later = with_failure plan base stops q.number past in
+    holds_then n past later (begun plan base stops qs later) (same_failure plan base stops past q.number n) (same_begun plan base stops qs later n)
+
 -- drains
 
-same_drain_at : (plan : Plan) (base : Base) (past : List Row) (port : Port) (count n : ℕ) (b : Bool) → HoldsSame n past (if b then past else with_event plan base past (Drain port count))
-same_drain_at plan base past port count n true = record { arrivals_same = refl; end_same = refl }
-same_drain_at plan base past port count n false = record { arrivals_same = append-nil (arrived n past); end_same = refl }
+same_drain_at : (plan : Plan) (base : Base) (stops : Stops) (past : List Row) (port : Port) (count n : ℕ) (b : Bool) → HoldsSame n past (if b then past else with_failure plan base stops port (with_event plan base past (Drain port count)))
+same_drain_at plan base stops past port count n true = record { arrivals_same = refl; end_same = refl }
+same_drain_at plan base stops past port count n false =
+    let mid = with_event plan base past (Drain port count) in
+    holds_then n past mid (with_failure plan base stops port mid) (record { arrivals_same = append-nil (arrived n past); end_same = refl }) (same_failure plan base stops mid port n)
 
-same_drained : (plan : Plan) (base : Base) (ports : List PortPlan) (past : List Row) (n : ℕ) → HoldsSame n past (drained plan base ports past)
-same_drained plan base [] past n = record { arrivals_same = refl; end_same = refl }
-same_drained plan base (q ∷ qs) past n =
+same_drained : (plan : Plan) (base : Base) (stops : Stops) (ports : List PortPlan) (past : List Row) (n : ℕ) → HoldsSame n past (drained plan base stops ports past)
+same_drained plan base stops [] past n = record { arrivals_same = refl; end_same = refl }
+same_drained plan base stops (q ∷ qs) past n =
     let count = length (queue base (number_of q.number) past) in
-    let later = with_drain plan base q.number count past in
-    holds_then n past later (drained plan base qs later) (same_drain_at plan base past q.number count n (count == 0)) (same_drained plan base qs later n)
+    let later = with_drain plan base stops q.number count past in
+    holds_then n past later (drained plan base stops qs later) (same_drain_at plan base stops past q.number count n (count == 0)) (same_drained plan base stops qs later n)
 
 -- ends of other passes
 
@@ -48,11 +67,15 @@ same_control plan base past how n = record { arrivals_same = append-nil (arrived
 same_ticker : (plan : Plan) (base : Base) (past : List Row) (how : How) (n : ℕ) → HoldsSame n past (with_event plan base past (End Ticker how))
 same_ticker plan base past how n = record { arrivals_same = append-nil (arrived n past); end_same = refl }
 
-same_egress : (plan : Plan) (base : Base) (ports : List PortPlan) (past : List Row) (n : ℕ) → HoldsSame n past (egress_ended plan base ports past)
+same_end_at : (plan : Plan) (base : Base) (past : List Row) (port : Port) (n : ℕ) (b : Bool) → HoldsSame n past (if b then past else with_event plan base past (End (Egress port) hows.End))
+same_end_at plan base past port n true = record { arrivals_same = refl; end_same = refl }
+same_end_at plan base past port n false = record { arrivals_same = append-nil (arrived n past); end_same = refl }
+
+pub same_egress : (plan : Plan) (base : Base) (ports : List PortPlan) (past : List Row) (n : ℕ) → HoldsSame n past (egress_ended plan base ports past)
 same_egress plan base [] past n = record { arrivals_same = refl; end_same = refl }
 same_egress plan base (q ∷ qs) past n =
-    let later = with_event plan base past (End (Egress q.number) hows.End) in
-    holds_then n past later (egress_ended plan base qs later) (record { arrivals_same = append-nil (arrived n past); end_same = refl }) (same_egress plan base qs later n)
+    let later = with_end plan base q.number past in
+    holds_then n past later (egress_ended plan base qs later) (same_end_at plan base past q.number n (has_ended base (egress_pass plan (number_of q.number)) past)) (same_egress plan base qs later n)
 
 -- behind the ends of all inputs nothing more comes in
 pub same_finished : (plan : Plan) (base : Base) (past : List Row) (n : ℕ) → HoldsSame n past (egress_ended plan base plan.ports (with_event plan base past (End Ticker hows.End)))
@@ -78,11 +101,11 @@ pub record HoldsMore (n : ℕ) (old new : List Row) (arrival : Arrival) : Type 0
   pub arrivals_more : arrived n new ≡ arrived n old ++ arrival ∷ []
   pub end_same : input_end n new ≡ input_end n old
 
-pub more_entered : (plan : Plan) (base : Base) (past : List Row) (port : Port) (arrival : Arrival) → has_room plan past ≡ true → HoldsMore (number_of port) past (entered plan base (Arrives port arrival) past) arrival
-more_entered plan base past port arrival room =
+pub more_entered : (plan : Plan) (base : Base) (stops : Stops) (past : List Row) (port : Port) (arrival : Arrival) → has_room plan past ≡ true → HoldsMore (number_of port) past (entered plan base stops (Arrives port arrival) past) arrival
+more_entered plan base stops past port arrival room =
     let n = number_of port in
     let later = with_event plan base past (event_of port arrival) in
-    let drains = same_drained plan base plan.ports later n in
+    let drains = same_drained plan base stops plan.ports later n in
     rw room (record {
       arrivals_more = drains.arrivals_same ∙ arrival_here plan base past port arrival (n == n) refl (itself n);
       end_same = drains.end_same ∙ arrival_end plan base past port arrival n;
@@ -96,8 +119,8 @@ pub record HoldsEnd (n : ℕ) (old new : List Row) (how : How) : Type 0 where
 pub end_entered : (plan : Plan) (base : Base) (past : List Row) (port : Port) (how : How) → HoldsEnd (number_of port) past (with_event plan base past (End (Ingress port) how)) how
 end_entered plan base past port how = record { arrivals_same = append-nil (arrived (number_of port) past); ended_so = rw (itself (number_of port)) refl }
 
-pub full_entered : (plan : Plan) (base : Base) (past : List Row) (port : Port) (arrival : Arrival) → has_room plan past ≡ false → HoldsEnd (number_of port) past (entered plan base (Arrives port arrival) past) (hows.Full (length past))
-full_entered plan base past port arrival room = rw room (end_entered plan base past port (hows.Full (length past)))
+pub full_entered : (plan : Plan) (base : Base) (stops : Stops) (past : List Row) (port : Port) (arrival : Arrival) → has_room plan past ≡ false → HoldsEnd (number_of port) past (entered plan base stops (Arrives port arrival) past) (hows.Full (length past))
+full_entered plan base stops past port arrival room = rw room (end_entered plan base past port (hows.Full (length past)))
 
 -- a turn at another port
 
@@ -111,11 +134,11 @@ arrival_other plan base past port (arrivals.Long stamp len) n other = rw (apart 
 end_other : (plan : Plan) (base : Base) (past : List Row) (port : Port) (how : How) (n : ℕ) → number_of port ≢ n → HoldsSame n past (with_event plan base past (End (Ingress port) how))
 end_other plan base past port how n other = record { arrivals_same = append-nil (arrived n past); end_same = rw (apart (number_of port) n other) refl }
 
-other_at : (plan : Plan) (base : Base) (past : List Row) (port : Port) (arrival : Arrival) (n : ℕ) (b : Bool) → has_room plan past ≡ b → number_of port ≢ n → HoldsSame n past (entered plan base (Arrives port arrival) past)
-other_at plan base past port arrival n true room other =
+other_at : (plan : Plan) (base : Base) (stops : Stops) (past : List Row) (port : Port) (arrival : Arrival) (n : ℕ) (b : Bool) → has_room plan past ≡ b → number_of port ≢ n → HoldsSame n past (entered plan base stops (Arrives port arrival) past)
+other_at plan base stops past port arrival n true room other =
     let later = with_event plan base past (event_of port arrival) in
-    rw room (holds_then n past later (drained plan base plan.ports later) (record { arrivals_same = arrival_other plan base past port arrival n other; end_same = arrival_end plan base past port arrival n }) (same_drained plan base plan.ports later n))
-other_at plan base past port arrival n false room other = rw room (end_other plan base past port (hows.Full (length past)) n other)
+    rw room (holds_then n past later (drained plan base stops plan.ports later) (record { arrivals_same = arrival_other plan base past port arrival n other; end_same = arrival_end plan base past port arrival n }) (same_drained plan base stops plan.ports later n))
+other_at plan base stops past port arrival n false room other = rw room (end_other plan base past port (hows.Full (length past)) n other)
 
 -- the turn is one of this port
 abbrev pub IsTurnOf : Port → Turn → Type 0
@@ -125,9 +148,9 @@ IsTurnOf port (Ends Control how) = ⊥
 IsTurnOf port (Ends Ticker how) = ⊥
 IsTurnOf port (Ends (Egress p) how) = ⊥
 
-pub other_entered : (plan : Plan) (base : Base) (past : List Row) (port : Port) (turn : Turn) (n : ℕ) → IsTurnOf port turn → number_of port ≢ n → HoldsSame n past (entered plan base turn past)
-other_entered plan base past port (Arrives p arrival) n is other = other_at plan base past p arrival n (has_room plan past) refl (rw is other)
-other_entered plan base past port (Ends (Ingress p) how) n is other = end_other plan base past p how n (rw is other)
-other_entered plan base past port (Ends Control how) n is other = absurd is
-other_entered plan base past port (Ends Ticker how) n is other = absurd is
-other_entered plan base past port (Ends (Egress p) how) n is other = absurd is
+pub other_entered : (plan : Plan) (base : Base) (stops : Stops) (past : List Row) (port : Port) (turn : Turn) (n : ℕ) → IsTurnOf port turn → number_of port ≢ n → HoldsSame n past (entered plan base stops turn past)
+other_entered plan base stops past port (Arrives p arrival) n is other = other_at plan base stops past p arrival n (has_room plan past) refl (rw is other)
+other_entered plan base stops past port (Ends (Ingress p) how) n is other = end_other plan base past p how n (rw is other)
+other_entered plan base stops past port (Ends Control how) n is other = absurd is
+other_entered plan base stops past port (Ends Ticker how) n is other = absurd is
+other_entered plan base stops past port (Ends (Egress p) how) n is other = absurd is

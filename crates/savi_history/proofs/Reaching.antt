@@ -1,4 +1,4 @@
--- What was taken of each input so far, with whatever may come behind it, makes what the rest makes of the history so far.
+-- What was taken of each input so far, with whatever may come behind it, makes of the start what the rest makes of the history so far.
 use Rattle.std.proofs.Common.{◌≡◌, ◌≢◌, ℕ, suc, zero, ◌<◌, true, false, List, [], ◌∷◌, ◌++◌, map, get_or, set, length, length-set, subst, refl, ap, sym, ◌∙◌, arith, ◌⊎◌, inl, inr, Option, Some, None, append_assoc}
 use Rattle.std.proofs.lemmas.Bool.{cases_eq}
 use Rattle.std.proofs.lemmas.List.{get_or-set_same, get_or-set_other, set-set, set-get_or, ext_get_or, length-map, get_or-map}
@@ -12,7 +12,7 @@ use Rattle.savi_history.specs.Passes.{pass_of, has_ended, control_pass}
 use Rattle.savi_history.specs.Events.{End}
 use Rattle.savi_history.specs.Turns.{Turn, Ends, who_of, turn_at, merged}
 use Rattle.savi_history.specs.Picks.{first_at, IsLeast}
-use Rattle.savi_history.specs.Replay.{with_event, after, after_all, control_turns}
+use Rattle.savi_history.specs.Replay.{Stops, with_event, after, after_all, control_turns}
 use Rattle.savi_history.proofs.Merging.{NoneBefore, merge_left, merged_none}
 use Rattle.savi_history.proofs.Ends.{is_open, still_open, AreOf, AreSingle, stopped, after_open}
 use Rattle.savi_history.proofs.Order.{get_or-map_past, of_open, of_ended, next_turn}
@@ -63,10 +63,10 @@ joined [] rest = []
 joined (t ∷ taken) [] = []
 joined (t ∷ taken) (r ∷ rest) = (t ++ r) ∷ joined taken rest
 
-abbrev pub Reaches : Plan → Base → List Head → List (List Turn) → List Row → Type 0
-Reaches plan base heads taken past =
+abbrev pub Reaches : Plan → Base → Stops → List Row → List Head → List (List Turn) → List Row → Type 0
+Reaches plan base stops start heads taken past =
     (rest : List (List Turn)) → AreLeft plan heads rest
-    → after_all plan base (merged (control_turns ∷ joined taken rest)) [] ≡ after_all plan base (merged rest) past
+    → after_all plan base stops (merged (control_turns ∷ joined taken rest)) start ≡ after_all plan base stops (merged rest) past
 
 single_left : (plan : Plan) (heads : List Head) (rest : List (List Turn)) → AreLeft plan heads rest → AreSingle plan rest
 single_left plan heads rest left k = (k, left.of k)
@@ -101,13 +101,13 @@ zero_none : (ys : List Turn) → NoneBefore 0 ys
 zero_none [] = tt
 zero_none (y ∷ ys) = grind arith
 
-pub reaches_start : (plan : Plan) (base : Base) (heads : List Head) (taken : List (List Turn)) → has_ended base (control_pass plan) [] ≡ false → ((rest : List (List Turn)) → length rest ≡ length heads → joined taken rest ≡ rest)
-    → Reaches plan base heads taken (with_event plan base [] (End passes.Control hows.End))
-reaches_start plan base heads taken running none rest left =
+pub reaches_start : (plan : Plan) (base : Base) (stops : Stops) (start : List Row) (heads : List Head) (taken : List (List Turn)) → has_ended base (control_pass plan) start ≡ false → ((rest : List (List Turn)) → length rest ≡ length heads → joined taken rest ≡ rest)
+    → Reaches plan base stops start heads taken (with_event plan base start (End passes.Control hows.End))
+reaches_start plan base stops start heads taken running none rest left =
     let first : merged (control_turns ∷ rest) ≡ Ends passes.Control hows.End ∷ merged rest = merge_left (Ends passes.Control hows.End) [] (merged rest) (zero_none (merged rest)) in
-    ap (λ (l : List (List Turn)). after_all plan base (merged (control_turns ∷ l)) []) (none rest left.size)
-    ∙ ap (λ (l : List Turn). after_all plan base l []) first
-    ∙ ap (after_all plan base (merged rest)) (after_open plan base (Ends passes.Control hows.End) [] running)
+    ap (λ (l : List (List Turn)). after_all plan base stops (merged (control_turns ∷ l)) start) (none rest left.size)
+    ∙ ap (λ (l : List Turn). after_all plan base stops l start) first
+    ∙ ap (after_all plan base stops (merged rest)) (after_open plan base stops (Ends passes.Control hows.End) start running)
 
 -- one turn goes over from what is left to what was taken
 joined_move : (taken rest : List (List Turn)) (j : ℕ) (turn : Turn) → joined taken (set rest j (turn ∷ get_or rest j [])) ≡ joined (set taken j (get_or taken j [] ++ turn ∷ [])) rest
@@ -148,22 +148,22 @@ module _ (plan : Plan) (heads : List Head) (j : ℕ) (turn : Turn) (next : Head)
   back_again = set-set rest j (turn ∷ get_or rest j []) (get_or rest j []) ∙ set-get_or rest j []
 
 -- The turn that comes first is taken and entered.
-pub reaches_take : (plan : Plan) (base : Base) (heads : List Head) (taken : List (List Turn)) (past : List Row) (j : ℕ) (turn : Turn) (next : Head)
+pub reaches_take : (plan : Plan) (base : Base) (stops : Stops) (start : List Row) (heads : List Head) (taken : List (List Turn)) (past : List Row) (j : ℕ) (turn : Turn) (next : Head)
     → get_or heads j Done ≡ Known turn → pass_of plan (who_of turn) ≡ j → AllRead heads → AllAgree base past heads → IsLeast (map moment_of heads) j
-    → Reaches plan base heads taken past → Reaches plan base (set heads j next) (set taken j (get_or taken j [] ++ turn ∷ [])) (after plan base turn past)
-reaches_take plan base heads taken past j turn next there of read agree least reaches rest left =
+    → Reaches plan base stops start heads taken past → Reaches plan base stops start (set heads j next) (set taken j (get_or taken j [] ++ turn ∷ [])) (after plan base stops turn past)
+reaches_take plan base stops start heads taken past j turn next there of read agree least reaches rest left =
     let inside : j < length heads = let inside = least.inside in let size = length-map heads moment_of in omega arith in
     let earlier = before plan heads j turn next rest inside there of left in
     let left_earlier = left_before plan heads j turn next rest inside there of left in
     let running : has_ended base (pass_of plan (who_of turn)) past ≡ false =
     ap (λ (n : ℕ). has_ended base n past) of ∙ subst (λ (h : Head). Agrees base past j h) there (agree j inside) in
     let first : IsLeast (map first_at (still_open plan base past earlier)) j = rw (moments_are plan base past heads earlier read agree left_earlier) least in
-    let now = after plan base turn past in
-    let step = next_turn plan base past earlier j turn (get_or rest j []) (single_left plan heads earlier left_earlier) (here plan heads j turn next rest inside there of left) running first in
-    ap (λ (l : List (List Turn)). after_all plan base (merged (control_turns ∷ l)) []) (sym (joined_move taken rest j turn))
+    let now = after plan base stops turn past in
+    let step = next_turn plan base stops past earlier j turn (get_or rest j []) (single_left plan heads earlier left_earlier) (here plan heads j turn next rest inside there of left) running first in
+    ap (λ (l : List (List Turn)). after_all plan base stops (merged (control_turns ∷ l)) start) (sym (joined_move taken rest j turn))
     ∙ reaches earlier left_earlier
     ∙ step
-    ∙ ap (λ (l : List (List Turn)). after_all plan base (merged l) now) (back_again plan heads j turn next rest inside there of left)
+    ∙ ap (λ (l : List (List Turn)). after_all plan base stops (merged l) now) (back_again plan heads j turn next rest inside there of left)
 
 all_none : (heads : List Head) → ((k : ℕ) → k < length heads → get_or heads k Done ≡ Done) → (k : ℕ) (d : Option ℕ) → k < length (map moment_of heads) → get_or (map moment_of heads) k d ≡ None
 all_none heads done k d inside =
@@ -174,11 +174,11 @@ read_done : (heads : List Head) → ((k : ℕ) → k < length heads → get_or h
 read_done heads done k inside = rw (done k inside) tt
 
 -- All inputs have ended: what is left of them changes nothing.
-pub reaches_end : (plan : Plan) (base : Base) (heads : List Head) (taken : List (List Turn)) (past : List Row) (rest : List (List Turn))
-    → ((k : ℕ) → k < length heads → get_or heads k Done ≡ Done) → AllAgree base past heads → AreLeft plan heads rest → Reaches plan base heads taken past
-    → past ≡ after_all plan base (merged (control_turns ∷ joined taken rest)) []
-reaches_end plan base heads taken past rest done agree left reaches =
+pub reaches_end : (plan : Plan) (base : Base) (stops : Stops) (start : List Row) (heads : List Head) (taken : List (List Turn)) (past : List Row) (rest : List (List Turn))
+    → ((k : ℕ) → k < length heads → get_or heads k Done ≡ Done) → AllAgree base past heads → AreLeft plan heads rest → Reaches plan base stops start heads taken past
+    → past ≡ after_all plan base stops (merged (control_turns ∷ joined taken rest)) start
+reaches_end plan base stops start heads taken past rest done agree left reaches =
     let open_now = still_open plan base past rest in
     let moments = moments_are plan base past heads rest (read_done heads done) agree left in
     let none : merged open_now ≡ [] = merged_none open_now (rw moments (all_none heads done)) in
-    sym (reaches rest left ∙ stopped plan base past rest (single_left plan heads rest left) ∙ ap (λ (l : List Turn). after_all plan base l past) none)
+    sym (reaches rest left ∙ stopped plan base stops past rest (single_left plan heads rest left) ∙ ap (λ (l : List Turn). after_all plan base stops l past) none)

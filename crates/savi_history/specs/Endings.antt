@@ -1,4 +1,4 @@
--- How the inputs of a history ended.
+-- How the inputs and the outputs of a history ended.
 use Rattle.std.specs.Prelude.{Bool, true, false, ◌&&◌, List}
 use Rattle.std.specs.List.{list_any}
 use Rattle.savi_kinds.specs.declared.entry.Act.{Act}
@@ -19,7 +19,7 @@ is_malformed_reason hows.Failed = false
 is_malformed_reason hows.Unwritten = false
 is_malformed_reason (hows.Full len) = false
 
--- a read of the input failed
+-- a read of the input failed, or a write of the output
 abbrev pub is_failed_reason : How → Bool
 is_failed_reason hows.End = false
 is_failed_reason hows.Quit = false
@@ -28,6 +28,16 @@ is_failed_reason (hows.Overlong at) = false
 is_failed_reason hows.Failed = true
 is_failed_reason hows.Unwritten = false
 is_failed_reason (hows.Full len) = false
+
+-- an answer could not be written
+abbrev pub is_unwritten_reason : How → Bool
+is_unwritten_reason hows.End = false
+is_unwritten_reason hows.Quit = false
+is_unwritten_reason (hows.Malformed at) = false
+is_unwritten_reason (hows.Overlong at) = false
+is_unwritten_reason hows.Failed = false
+is_unwritten_reason hows.Unwritten = true
+is_unwritten_reason (hows.Full len) = false
 
 -- there was no room for the input
 abbrev pub is_full_reason : How → Bool
@@ -64,6 +74,21 @@ is_failed_end (acts.Command stamp at len) = false
 is_failed_end (acts.Drain port count) = false
 is_failed_end (acts.End who how) = is_input who && is_failed_reason how
 
+-- the end of a pass for a write that failed: of an egress, which writes what is sent, or of control, which answers
+abbrev pub is_failed_write_of : Who → How → Bool
+is_failed_write_of (Ingress p) how = false
+is_failed_write_of Control how = is_unwritten_reason how
+is_failed_write_of Ticker how = false
+is_failed_write_of (Egress p) how = is_failed_reason how
+
+abbrev pub is_failed_write : Act → Bool
+is_failed_write (acts.Frame port stamp at len) = false
+is_failed_write (acts.Long port stamp len) = false
+is_failed_write (acts.Tick stamp) = false
+is_failed_write (acts.Command stamp at len) = false
+is_failed_write (acts.Drain port count) = false
+is_failed_write (acts.End who how) = is_failed_write_of who how
+
 abbrev pub is_malformed_end : Act → Bool
 is_malformed_end act = ends_with is_malformed_reason act
 
@@ -77,6 +102,10 @@ has_malformed rows = list_any (λ r. is_malformed_end r.entry.act) rows
 -- a read of an input of the history failed
 abbrev pub has_failed : List Row → Bool
 has_failed rows = list_any (λ r. is_failed_end r.entry.act) rows
+
+-- a write of an output of the history failed, or an answer could not be written
+abbrev pub has_failed_write : List Row → Bool
+has_failed_write rows = list_any (λ r. is_failed_write r.entry.act) rows
 
 -- an input of the history ended for want of room
 abbrev pub has_full : List Row → Bool

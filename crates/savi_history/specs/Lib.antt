@@ -17,6 +17,7 @@ pub mod Outputs
 pub mod Endings
 pub mod EndLines
 pub mod PortInputs
+pub mod PortOutputs
 pub mod Fits
 pub mod Journals
 pub mod Readable

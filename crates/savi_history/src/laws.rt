@@ -1,6 +1,6 @@
 //! The laws on whole histories. Each function does nothing: its contract is the law.
 
-ghost use Rattle.std.specs.Prelude.{◌≡◌, ◌<◌, ℕ, true, List, length, slice_index, Some, All};
+ghost use Rattle.std.specs.Prelude.{◌≡◌, ◌<◌, ℕ, true, List, length, slice_index, Option, Some, All};
 ghost use Rattle.savi_kinds.specs.Arrivals.{Input};
 ghost use Rattle.savi_kinds.specs.ValidPlan.{IsValidPlan, numbers_of};
 ghost use Rattle.savi_kinds.specs.declared.entry.How.TheVariants as hows;
@@ -10,10 +10,12 @@ ghost use Rattle.hist_store.specs.Rows.{Row};
 ghost use Rattle.savi_history.specs.Bases.{Base, empty};
 ghost use Rattle.savi_history.specs.Legal.{IsLegal, IsFinished};
 ghost use Rattle.savi_history.specs.Readable.{IsInput};
-ghost use Rattle.savi_history.specs.Replay.{replayed};
+ghost use Rattle.savi_history.specs.Replay.{Stops, replayed};
 ghost use Rattle.savi_history.specs.Adverts.{IsGuarded};
-ghost use Rattle.savi_history.specs.Endings.{has_failed};
+ghost use Rattle.savi_history.specs.Endings.{has_failed, has_failed_write};
 ghost use Rattle.savi_history.specs.PortInputs.{input_end};
+ghost use Rattle.savi_history.specs.PortOutputs.{FitsOutputAt, TookPieces, output_end, pieces};
+ghost use Rattle.savi_history.specs.Queues.{sent};
 ghost use Rattle.savi_history.specs.Journals.{IsAddressText, IsJournalOfOne};
 
 /// In a legal history no router advertisement that the header chain shows, and no first fragment whose chain is cut,
@@ -22,19 +24,33 @@ pub fn adverts_are_stopped()
     ensures { (plan : Plan) (base : Base) (past : List Row) → IsLegal plan base past → IsGuarded plan past }
 {}
 
-/// In the history of a replay of one input for each port of the plan, every pass has ended.
+/// In the history of a replay of one input for each port of the plan, every pass has ended, whichever writes failed.
 pub fn replays_end_every_pass()
-    ensures { (plan : Plan) (base : Base) (inputs : List Input) → IsValidPlan plan → length inputs ≡ length plan.ports → IsFinished plan base (replayed plan base inputs) }
+    ensures { (plan : Plan) (base : Base) (inputs : List Input) (stops : Stops) → IsValidPlan plan → length inputs ≡ length plan.ports → IsFinished plan base (replayed plan base inputs stops) }
 {}
 
-/// The history of a replay of what readers may give, one input for each port of the plan, is legal.
+/// The history of a replay of what readers may give, one input for each port of the plan, is legal, whichever writes failed.
 pub fn replays_are_legal()
-    ensures { (plan : Plan) (inputs : List Input) → IsValidPlan plan → length inputs ≡ length plan.ports → All IsInput inputs → IsLegal plan empty (replayed plan empty inputs) }
+    ensures { (plan : Plan) (inputs : List Input) (stops : Stops) → IsValidPlan plan → length inputs ≡ length plan.ports → All IsInput inputs → IsLegal plan empty (replayed plan empty inputs stops) }
 {}
 
 /// A read that failed in a replay is one of the input of a port of the plan, and the history says so of that port.
 pub fn failed_reads_are_of_ports()
-    ensures { (plan : Plan) (base : Base) (inputs : List Input) → has_failed (replayed plan base inputs) ≡ true → (k : ℕ) × (k < length plan.ports) × (input_end (slice_index (numbers_of plan.ports) k) (replayed plan base inputs) ≡ Some hows.Failed) }
+    ensures { (plan : Plan) (base : Base) (inputs : List Input) (stops : Stops) → has_failed (replayed plan base inputs stops) ≡ true → (k : ℕ) × (k < length plan.ports) × (input_end (slice_index (numbers_of plan.ports) k) (replayed plan base inputs stops) ≡ Some hows.Failed) }
+{}
+
+/// A write that failed in a replay is one of the output of a port of the plan, and the history says so of that port. Of
+/// every history that says so of some port, a write failed.
+pub fn failed_writes_are_of_ports()
+    ensures of_port { (plan : Plan) (base : Base) (inputs : List Input) (stops : Stops) → has_failed_write (replayed plan base inputs stops) ≡ true → (k : ℕ) × (k < length plan.ports) × (output_end (slice_index (numbers_of plan.ports) k) (replayed plan base inputs stops) ≡ Some hows.Failed) }
+    ensures told { (port : ℕ) (past : List Row) → output_end port past ≡ Some hows.Failed → has_failed_write past ≡ true }
+{}
+
+/// Where the history is the replay with these stops, what the sink of a port took of the pieces of its output fits how the
+/// history says that the output ended: all of it, or, where a write failed, a front of it with all that the drains before
+/// the last one took.
+pub fn outputs_fit()
+    ensures { (plan : Plan) (inputs : List Input) (stops : Stops) (before : Option (List ℕ)) (after : Option (List ℕ)) (k : ℕ) → IsValidPlan plan → length inputs ≡ length plan.ports → All IsInput inputs → k < length plan.ports → let port = slice_index (numbers_of plan.ports) k in let past = replayed plan empty inputs stops in TookPieces before after (pieces (sent empty port past)) (stops port) → FitsOutputAt empty before after port past }
 {}
 
 /// A journal tells the history: no text is the journal of two legal histories from the start of a switch, nor of two

@@ -9,6 +9,7 @@
 mod laws;
 
 pub use laws::{
-    adverts_are_stopped, journals_tell_one_history, replays_are_legal, replays_end_every_pass,
+    adverts_are_stopped, failed_reads_are_of_ports, failed_writes_are_of_ports,
+    journals_tell_one_history, outputs_fit, replays_are_legal, replays_end_every_pass,
     written_addresses_are_told_apart,
 };

@@ -10,7 +10,7 @@ use Rattle.savi_ends.specs.Octets.{behind}
 use Rattle.savi_ends.specs.Writes.{Extends}
 use Rattle.savi_ends.specs.Places.{Place, Book}
 use Rattle.savi_history.specs.Summary.{summary_of, summary_text}
-use Rattle.switch_run.specs.Session.{IsReplayOf, IsSessionOf, IsStopped, Told, ToldBy, TookOrPart}
+use Rattle.switch_run.specs.Session.{IsReplayOf, IsSessionOf, Told, ToldBy, TookOrPart}
 
 -- a line was told, or its write failed
 pub told_by : {K : Type 0} (faults : K → ℕ) (written : K → Option (List ℕ)) (put : Put) (old new : K) (line : List ℕ) → Extends put (written old) (written new) line → (put ≡ Failed → Rose (faults old) (faults new)) → ToldBy faults written old new line
@@ -31,10 +31,11 @@ moved_summary faults written summary_written old new old' new' text same same' t
 
 moved_did : {S K C : Type 0} (left : S → Option (List ℕ)) (written : K → Option (List ℕ)) (source_faults : S → ℕ) (sink_faults : K → ℕ) (plan : Plan) (Says Says' : List ℕ → Type 0) (old new : Book S K C) (f f' : ℕ) (i i' : List ℕ → Place S) (s s' : Std → Place K) (status : ℕ)
     → s Out ≡ old.std Out → s' Out ≡ new.std Out → ((lines : List ℕ) → Says lines → Says' lines)
-    → IsReplayOf left written source_faults sink_faults plan Says old new status ⊎ IsStopped source_faults sink_faults plan Says old new status
-    → IsReplayOf left written source_faults sink_faults plan Says' (record old { faults = f; inputs = i; std = s }) (record new { faults = f'; inputs = i'; std = s' }) status ⊎ IsStopped source_faults sink_faults plan Says' (record old { faults = f; inputs = i; std = s }) (record new { faults = f'; inputs = i'; std = s' }) status
-moved_did left written source_faults sink_faults plan Says Says' old new f f' i i' s s' status same same' says (inl r) = inl (record {
+    → IsReplayOf left written source_faults sink_faults plan Says old new status
+    → IsReplayOf left written source_faults sink_faults plan Says' (record old { faults = f; inputs = i; std = s }) (record new { faults = f'; inputs = i'; std = s' }) status
+moved_did left written source_faults sink_faults plan Says Says' old new f f' i i' s s' status same same' says r = record {
   inputs = r.inputs;
+  stops = r.stops;
   past = r.past;
   size = r.size;
   gave = r.gave;
@@ -44,6 +45,8 @@ moved_did left written source_faults sink_faults plan Says Says' old new f f' i 
   fits = r.fits;
   broken = r.broken;
   took = r.took;
+  fits_out = r.fits_out;
+  broken_out = r.broken_out;
   journal_written = r.journal_written;
   summary_written = r.summary_written;
   journal = r.journal;
@@ -53,18 +56,7 @@ moved_did left written source_faults sink_faults plan Says Says' old new f f' i 
   errors = says _ r.errors;
   cause = r.cause;
   guarded = r.guarded;
-})
-moved_did left written source_faults sink_faults plan Says Says' old new f f' i i' s s' status same same' says (inr r) = inr (record {
-  past = r.past;
-  legal = r.legal;
-  port = r.port;
-  fault = r.fault;
-  broken = r.broken;
-  errors = says _ r.errors;
-  journal = r.journal;
-  out = same' ∙ r.out ∙ sym same;
-  cause = r.cause;
-})
+}
 
 pub moved_session : {S K C : Type 0} (left : S → Option (List ℕ)) (written : K → Option (List ℕ)) (source_faults : S → ℕ) (sink_faults : K → ℕ) (plan : Plan) (Says Says' : List ℕ → Type 0) (old new : Book S K C) (f f' : ℕ) (i i' : List ℕ → Place S) (s s' : Std → Place K) (status : ℕ)
     → s Out ≡ old.std Out → s' Out ≡ new.std Out → ((lines : List ℕ) → Says lines → Says' lines)

@@ -1,8 +1,7 @@
 -- From a session of the loop over ports to what was played.
-use Rattle.std.proofs.Common.{◌≡◌, ℕ, List, Bool, get_or, subst, arith, Option, Some, None, IfNone, IfSome}
+use Rattle.std.proofs.Common.{◌≡◌, ℕ, List, Bool, get_or, subst, arith, Option}
 use Rattle.std.specs.Prelude.{All, reverse}
 use Rattle.savi_kinds.specs.declared.plan.Plan.{Plan}
-use Rattle.savi_kinds.specs.declared.port.Port.{Port}
 use Rattle.savi_kinds.specs.Ports.{number_of}
 use Rattle.pcap_io.specs.Readers.{State, Comes}
 use Rattle.hist_store.specs.Rows.{Row}
@@ -16,63 +15,52 @@ use Rattle.savi_core.specs.Machines.{Machine}
 use Rattle.port_worker.specs.declared.port_ends.PortEnds.{PortEnds}
 use Rattle.port_worker.specs.Pairs.{EachPair}
 use Rattle.port_worker.specs.Replays.{IsInputOf}
-use Rattle.port_worker.specs.Sessions.{IsSession, IsPlayedOrStopped}
+use Rattle.port_worker.specs.Sessions.{IsSession}
 use Rattle.port_worker.specs.Sessions as loop
 use Rattle.switch_ports.specs.Openings.{IsReadAnew}
-use Rattle.switch_run.specs.Played.{EndedBy, IsPlayed, IsPlayedOut, IsSamePort, JournalWas}
+use Rattle.switch_run.specs.Played.{IsPlayed, IsPlayedOut, IsSamePort, JournalWas}
 
-pub same_of : {S K C : Type 0} (left : S → Option (List ℕ)) (written : K → Option (List ℕ)) (source_faults : S → ℕ) (sink_faults : K → ℕ) (plan : Plan) (core : Machine) (unwritten : Option Port) (old new : List (PortEnds S K C)) → IsSession left written source_faults sink_faults plan core unwritten old new → EachPair IsSamePort old new
-same_of left written source_faults sink_faults plan core unwritten old new session = record { size = session.later.size; each = λ k d inside. (session.later.each k d inside).port }
+pub same_of : {S K C : Type 0} (left : S → Option (List ℕ)) (written : K → Option (List ℕ)) (source_faults : S → ℕ) (sink_faults : K → ℕ) (plan : Plan) (core : Machine) (old new : List (PortEnds S K C)) → IsSession left written source_faults sink_faults plan core old new → EachPair IsSamePort old new
+same_of left written source_faults sink_faults plan core old new session = record { size = session.later.size; each = λ k d inside. (session.later.each k d inside).port }
 
-out_of : {S K C : Type 0} (left : S → Option (List ℕ)) (written : K → Option (List ℕ)) (plan : Plan) (past : List Row) (old new : List (PortEnds S K C)) → All IsReadAnew old → loop.IsPlayed left written plan past old new → IsPlayedOut left written plan past old new
-out_of {S} {K} {C} left written plan past old new anew played = record {
+out_of : {S K C : Type 0} (left : S → Option (List ℕ)) (written : K → Option (List ℕ)) (sink_faults : K → ℕ) (plan : Plan) (past : List Row) (old new : List (PortEnds S K C)) → All IsReadAnew old → loop.IsPlayed left written sink_faults plan past old new → IsPlayedOut left written plan past old new
+out_of {S} {K} {C} left written sink_faults plan past old new anew played = record {
   inputs = played.replayed.inputs;
+  stops = played.replayed.stops;
   size = played.replayed.size;
   gave = λ k d i inside.
       subst (λ (s : State). IsInputOf (Comes s) (left (get_or old k d).ends.source) (left (get_or new k d).ends.source) (input_end (number_of (get_or old k d).port) past) (get_or played.replayed.inputs k i).arrivals (get_or played.replayed.inputs k i).ending)
       (anew k d inside) (played.replayed.arrived k d i inside);
+  took = λ k d inside. played.replayed.wrote k d inside;
   replay = played.replayed.history;
   finished = played.finished;
   each = record {
     size = played.fits.size;
     each = λ k d inside. record {
       fits = subst (λ (s : State). Fits (Comes s) (left (get_or old k d).ends.source) (left (get_or new k d).ends.source) (arrived (number_of (get_or old k d).port) past) (input_end (number_of (get_or old k d).port) past)) (anew k d inside) (played.fits.each k d inside);
-      took = played.replayed.wrote k d inside;
+      fits_out = played.fits_out.each k d inside;
     };
   };
 }
 
-ended_of : {S K C : Type 0} (left : S → Option (List ℕ)) (written : K → Option (List ℕ)) (source_faults : S → ℕ) (sink_faults : K → ℕ) (plan : Plan) (core : Machine) (unwritten : Option Port) (old new : List (PortEnds S K C)) (journal journal' : K) (journal_written : Bool)
-    → All IsReadAnew old → EachPair IsSamePort old new → IsPlayedOrStopped left written sink_faults plan core.past old new unwritten
-    → IfNone unwritten (JournalWas sink_faults written journal_written journal journal' (journal_text address_text plan (reverse core.past)))
-    → IfNone unwritten (IsJournalOf address_text plan core.past (journal_text address_text plan (reverse core.past)))
-    → IfSome unwritten (λ port. journal' ≡ journal)
-    → EndedBy left written sink_faults plan core.past old new journal journal' journal_written unwritten
-ended_of left written source_faults sink_faults plan core None old new journal journal' journal_written anew same played was tells unchanged = (out_of left written plan core.past old new anew played, was, tells)
-ended_of left written source_faults sink_faults plan core (Some port) old new journal journal' journal_written anew same (k, inside, each) was tells unchanged =
-    let size = same.size in
-    (unchanged, k, omega (arith, size, inside), λ d. ((each d).0, let rose = (each d).1 in omega (arith, rose)))
-
-pub played_of : {S K C : Type 0} (left : S → Option (List ℕ)) (written : K → Option (List ℕ)) (source_faults : S → ℕ) (sink_faults : K → ℕ) (plan : Plan) (core : Machine) (unwritten : Option Port) (old new : List (PortEnds S K C)) (journal journal' : K) (journal_written : Bool)
-    → All IsReadAnew old → IsSession left written source_faults sink_faults plan core unwritten old new → IsLegal core.plan empty core.past
-    → IfNone unwritten (JournalWas sink_faults written journal_written journal journal' (journal_text address_text core.plan (reverse core.past)))
-    → IfNone unwritten (IsJournalOf address_text core.plan core.past (journal_text address_text core.plan (reverse core.past)))
-    → IfSome unwritten (λ port. journal' ≡ journal)
-    → IsPlayed left written source_faults sink_faults plan old new journal journal' core journal_written unwritten
-played_of left written source_faults sink_faults plan core unwritten old new journal journal' journal_written anew session legal was tells unchanged =
-    let same = same_of left written source_faults sink_faults plan core unwritten old new session in
-    record {
-      plan_is = session.plan_is;
-      legal = subst (λ (p : Plan). IsLegal p empty core.past) session.plan_is legal;
-      served = record {
-        size = session.later.size;
-        each = λ k d inside. record {
-          port = (session.later.each k d inside).port;
-          used = let later = session.later.each k d inside in record { gave = later.gave; took = later.took; clock = later.clock };
-          broken = λ failed. let rose = session.broken.each k d inside failed in omega (arith, rose);
-        };
-      };
-      ended = ended_of left written source_faults sink_faults plan core unwritten old new journal journal' journal_written anew same session.played
-          (subst (λ (p : Plan). IfNone unwritten (JournalWas sink_faults written journal_written journal journal' (journal_text address_text p (reverse core.past)))) session.plan_is was)
-          (subst (λ (p : Plan). IfNone unwritten (IsJournalOf address_text p core.past (journal_text address_text p (reverse core.past)))) session.plan_is tells) unchanged;
-    }
+pub played_of : {S K C : Type 0} (left : S → Option (List ℕ)) (written : K → Option (List ℕ)) (source_faults : S → ℕ) (sink_faults : K → ℕ) (plan : Plan) (core : Machine) (old new : List (PortEnds S K C)) (journal journal' : K) (journal_written : Bool)
+    → All IsReadAnew old → IsSession left written source_faults sink_faults plan core old new → IsLegal core.plan empty core.past
+    → JournalWas sink_faults written journal_written journal journal' (journal_text address_text core.plan (reverse core.past))
+    → IsJournalOf address_text core.plan core.past (journal_text address_text core.plan (reverse core.past))
+    → IsPlayed left written source_faults sink_faults plan old new journal journal' core journal_written
+played_of left written source_faults sink_faults plan core old new journal journal' journal_written anew session legal was tells = record {
+  plan_is = session.plan_is;
+  legal = subst (λ (p : Plan). IsLegal p empty core.past) session.plan_is legal;
+  served = record {
+    size = session.later.size;
+    each = λ k d inside. record {
+      port = (session.later.each k d inside).port;
+      used = let later = session.later.each k d inside in record { gave = later.gave; took = later.took; clock = later.clock };
+      broken = λ failed. let rose = session.broken.each k d inside failed in omega (arith, rose);
+      broken_out = λ failed. let rose = session.played.broken_out.each k d inside failed in omega (arith, rose);
+    };
+  };
+  out = out_of left written sink_faults plan core.past old new anew session.played;
+  journal_was = subst (λ (p : Plan). JournalWas sink_faults written journal_written journal journal' (journal_text address_text p (reverse core.past))) session.plan_is was;
+  tells = subst (λ (p : Plan). IsJournalOf address_text p core.past (journal_text address_text p (reverse core.past))) session.plan_is tells;
+}

@@ -23,7 +23,9 @@ use Rattle.savi_ends.specs.Places.{Place, Book, OthersStay}
 use Rattle.hist_store.specs.Rows.{Row}
 use Rattle.hist_store.specs.JournalTexts.{journal_text, address_text}
 use Rattle.savi_history.specs.Bases.{empty}
+use Rattle.savi_history.specs.Queues.{sent}
 use Rattle.savi_history.specs.PortInputs.{arrived, input_end}
+use Rattle.savi_history.specs.PortOutputs.{output_end, pieces, TookPieces, FitsOutputAt}
 use Rattle.savi_history.specs.Fits.{Fits}
 use Rattle.savi_history.proofs.Guarded.{guarded}
 use Rattle.savi_history.proofs.AddressTexts.{written-IsAddressText}
@@ -35,9 +37,9 @@ use Rattle.port_worker.specs.SentFrames.{TookMore}
 use Rattle.switch_ports.specs.Openings.{ports_of, IsNextBehind, IsOff}
 use Rattle.run_config.specs.Lines.{cannot_open_line, journal_word, port_name}
 use Rattle.switch_run.specs.Causes.{IsBack, IsUsed, Keeps, KeepsAll, IsOffPlanSame, HasReadFault, HasWriteFault}
-use Rattle.switch_run.specs.Session.{EachPort, FitsPort, GaveAt, IsJournalUnopened, IsPortUnopened, IsReplayOf, IsSessionOf, IsStopped, TookOrPart, TookSent, sent_capture}
+use Rattle.switch_run.specs.Session.{EachPort, FitsPort, FitsSent, GaveAt, IsJournalUnopened, IsPortUnopened, IsReplayOf, IsSessionOf, TookOrPart, TookSent}
 use Rattle.switch_run.specs.Played.{IsPlayed, IsPlayedOut, IsServed, JournalWas}
-use Rattle.switch_run.specs.Concluded.{IsBroken, IsConcluded, IsSummed}
+use Rattle.switch_run.specs.Concluded.{IsSummed}
 
 -- The ends that were told of some ports were opened and are kept by now, each at its own place; those of other ports stay.
 pub record Handled {S K C : Type 0} (held back : List (PortEnds S K C)) (old new : ℕ → Place (Ends S K C)) : Type 0 where
@@ -197,22 +199,29 @@ journal_took : {K : Type 0} (faults : K → ℕ) (written : K → Option (List �
 journal_took faults written true sink sink' text was = (text, was)
 journal_took faults written false sink sink' text (fault, part) = (part.0, part.2)
 
-broken_at : {S K C : Type 0} (left : S → Option (List ℕ)) (written : K → Option (List ℕ)) (source_faults : S → ℕ) (plan : Plan) (past : List Row) (held back : List (PortEnds S K C)) (old new : Book S K C) → ports_held held ≡ ports_of plan.ports → Handled held back old.ports new.ports
-    → ((k : ℕ) (d : PortEnds S K C) → k < length held → IsServed left written source_faults past (get_or held k d) (get_or back k d)) → EachPort plan (λ k n. input_end n past ≡ Some hows.Failed → HasReadFault source_faults new n)
-broken_at {S} {K} {C} left written source_faults plan past held back old new ports handled served =
+broken_at : {S K C : Type 0} (left : S → Option (List ℕ)) (written : K → Option (List ℕ)) (source_faults : S → ℕ) (sink_faults : K → ℕ) (plan : Plan) (past : List Row) (held back : List (PortEnds S K C)) (old new : Book S K C) → ports_held held ≡ ports_of plan.ports → Handled held back old.ports new.ports
+    → ((k : ℕ) (d : PortEnds S K C) → k < length held → IsServed left written source_faults sink_faults past (get_or held k d) (get_or back k d)) → EachPort plan (λ k n. input_end n past ≡ Some hows.Failed → HasReadFault source_faults new n)
+broken_at {S} {K} {C} left written source_faults sink_faults plan past held back old new ports handled served =
     each_port (λ k n. input_end n past ≡ Some hows.Failed → HasReadFault source_faults new n) plan held ports (λ k d inside failed.
     some_and (λ (e : Ends S K C). 0 < source_faults e.source) _ _ (kept_at held back old.ports new.ports k d handled inside) ((served k d inside).broken failed))
 
+broken_out_at : {S K C : Type 0} (left : S → Option (List ℕ)) (written : K → Option (List ℕ)) (source_faults : S → ℕ) (sink_faults : K → ℕ) (plan : Plan) (past : List Row) (held back : List (PortEnds S K C)) (old new : Book S K C) → ports_held held ≡ ports_of plan.ports → Handled held back old.ports new.ports
+    → ((k : ℕ) (d : PortEnds S K C) → k < length held → IsServed left written source_faults sink_faults past (get_or held k d) (get_or back k d)) → EachPort plan (λ k n. output_end n past ≡ Some hows.Failed → HasWriteFault sink_faults new n)
+broken_out_at {S} {K} {C} left written source_faults sink_faults plan past held back old new ports handled served =
+    each_port (λ k n. output_end n past ≡ Some hows.Failed → HasWriteFault sink_faults new n) plan held ports (λ k d inside failed.
+    some_and (λ (e : Ends S K C). 0 < sink_faults e.sink) _ _ (kept_at held back old.ports new.ports k d handled inside) ((served k d inside).broken_out failed))
+
 replay_of : {S K C : Type 0} (left : S → Option (List ℕ)) (written : K → Option (List ℕ)) (source_faults : S → ℕ) (sink_faults : K → ℕ) (plan : Plan) (Says : List ℕ → Type 0) (held back : List (PortEnds S K C)) (sink sink' : K) (core : Machine) (journal_written : Bool) (old new : Book S K C) (status : ℕ)
     → ports_held held ≡ ports_of plan.ports → Handled held back old.ports new.ports → HandledOne plan.journal sink sink' old.outputs new.outputs
-    → IsPlayed left written source_faults sink_faults plan held back sink sink' core journal_written None
+    → IsPlayed left written source_faults sink_faults plan held back sink sink' core journal_written
     → IsSummed written sink_faults Says core.past journal_written (old.std Out) (new.std Out) status
     → IsReplayOf left written source_faults sink_faults plan Says old new status
 replay_of {S} {K} {C} left written source_faults sink_faults plan Says held back sink sink' core journal_written old new status ports handled journal played summed =
     let past = core.past in
-    let out : IsPlayedOut left written plan past held back = played.ended.0 in
+    let out : IsPlayedOut left written plan past held back = played.out in
     record {
       inputs = out.inputs;
+      stops = out.stops;
       past = past;
       size = out.size ∙ size_of held plan.ports ports;
       gave = each_port (λ k n. (i : _) → GaveAt left old new n past (get_or out.inputs k i)) plan held ports (λ k d inside i.
@@ -224,59 +233,34 @@ replay_of {S} {K} {C} left written source_faults sink_faults plan Says held back
       fits = each_port (λ k n. FitsPort left old new n past) plan held ports (λ k d inside.
           at_port (λ n told kept. Fits (Arrive classic_kinds) (left told.source) (left kept.source) (arrived n past) (input_end n past))
           held back old.ports new.ports k d handled inside (out.each.each k d inside).fits);
-      broken = broken_at left written source_faults plan past held back old new ports handled played.served.each;
-      took = each_port (λ k n. TookSent written old new n past) plan held ports (λ k d inside.
-          kept_at_port (λ n told kept. written kept.sink ≡ behind (written told.sink) (sent_capture n past)) held back old.ports new.ports k d handled inside (out.each.each k d inside).took);
+      broken = broken_at left written source_faults sink_faults plan past held back old new ports handled played.served.each;
+      took = each_port (λ k n. TookSent written old new n past (out.stops n)) plan held ports (λ k d inside.
+          at_port (λ n told kept. TookPieces (written told.sink) (written kept.sink) (pieces (sent empty n past)) (out.stops n)) held back old.ports new.ports k d handled inside (out.took k d inside));
+      fits_out = each_port (λ k n. FitsSent written old new n past) plan held ports (λ k d inside.
+          at_port (λ n told kept. FitsOutputAt empty (written told.sink) (written kept.sink) n past) held back old.ports new.ports k d handled inside (out.each.each k d inside).fits_out);
+      broken_out = broken_out_at left written source_faults sink_faults plan past held back old new ports handled played.served.each;
       journal_written = journal_written;
       summary_written = summed.summary_written;
-      journal = journal_was sink_faults written journal_written plan.journal sink sink' old.outputs new.outputs (journal_text address_text plan (reverse past)) journal played.ended.1;
-      tells = played.ended.2;
-      alone = λ plan' past' other. journal_tells address_text written-IsAddressText plan plan' past past' _ played.ended.2 other;
+      journal = journal_was sink_faults written journal_written plan.journal sink sink' old.outputs new.outputs (journal_text address_text plan (reverse past)) journal played.journal_was;
+      tells = played.tells;
+      alone = λ plan' past' other. journal_tells address_text written-IsAddressText plan plan' past past' _ played.tells other;
       summary = summed.summary;
       errors = summed.errors;
       cause = summed.cause;
       guarded = guarded plan empty past played.legal;
     }
 
-stopped_at : {S K C : Type 0} (left : S → Option (List ℕ)) (written : K → Option (List ℕ)) (source_faults : S → ℕ) (sink_faults : K → ℕ) (plan : Plan) (Says : List ℕ → Type 0) (held back : List (PortEnds S K C)) (sink sink' : K) (core : Machine) (journal_written : Bool) (port : Port) (old new : Book S K C) (status : ℕ)
-    → ports_held held ≡ ports_of plan.ports → Handled held back old.ports new.ports → HandledOne plan.journal sink sink' old.outputs new.outputs
-    → IsPlayed left written source_faults sink_faults plan held back sink sink' core journal_written (Some port)
-    → IsBroken Says core.past (number_of port) (old.std Out) (new.std Out) status
-    → IsStopped source_faults sink_faults plan Says old new status
-stopped_at {S} {K} {C} left written source_faults sink_faults plan Says held back sink sink' core journal_written port old new status ports handled journal played broken =
-    let k = played.ended.1 in
-    let d = element back k played.ended.2 in
-    let here = played.ended.3 d in
-    let journal' : HandledOne plan.journal sink sink old.outputs new.outputs = subst (λ (x : K). HandledOne plan.journal sink x old.outputs new.outputs) played.ended.0 journal in
-    record {
-      past = core.past;
-      legal = played.legal;
-      port = number_of port;
-      fault = subst (λ (n : ℕ). HasWriteFault sink_faults new n) here.0 (some_and (λ (e : Ends S K C). 0 < sink_faults e.sink) _ _ (handled.kept k d played.ended.2) here.1);
-      broken = broken_at left written source_faults plan core.past held back old new ports handled played.served.each;
-      errors = broken.errors;
-      journal = output_back plan.journal sink old.outputs new.outputs journal' plan.journal;
-      out = broken.out;
-      cause = broken.cause;
-    }
-
 -- what a session was to the ends is what it was to the places
-pub session_of : {S K C : Type 0} (left : S → Option (List ℕ)) (written : K → Option (List ℕ)) (source_faults : S → ℕ) (sink_faults : K → ℕ) (plan : Plan) (Says : List ℕ → Type 0) (held back : List (PortEnds S K C)) (sink sink' : K) (core : Machine) (journal_written : Bool) (unwritten : Option Port) (old new : Book S K C) (status : ℕ)
+pub session_of : {S K C : Type 0} (left : S → Option (List ℕ)) (written : K → Option (List ℕ)) (source_faults : S → ℕ) (sink_faults : K → ℕ) (plan : Plan) (Says : List ℕ → Type 0) (held back : List (PortEnds S K C)) (sink sink' : K) (core : Machine) (journal_written : Bool) (old new : Book S K C) (status : ℕ)
     → ports_held held ≡ ports_of plan.ports → Handled held back old.ports new.ports → HandledOne plan.journal sink sink' old.outputs new.outputs
-    → IsPlayed left written source_faults sink_faults plan held back sink sink' core journal_written unwritten
-    → IsConcluded written sink_faults Says core.past journal_written unwritten (old.std Out) (new.std Out) status
+    → IsPlayed left written source_faults sink_faults plan held back sink sink' core journal_written
+    → IsSummed written sink_faults Says core.past journal_written (old.std Out) (new.std Out) status
     → IsSessionOf left written source_faults sink_faults plan Says old new status
-session_of {S} {K} {C} left written source_faults sink_faults plan Says held back sink sink' core journal_written None old new status ports handled journal played concluded = record {
+session_of {S} {K} {C} left written source_faults sink_faults plan Says held back sink sink' core journal_written old new status ports handled journal played summed = record {
   kept = keeps_all_of left written plan held back sink sink' old new ports handled journal (λ k d inside. (played.served.each k d inside).used)
-      (journal_took sink_faults written journal_written sink sink' (journal_text address_text plan (reverse core.past)) played.ended.1);
+      (journal_took sink_faults written journal_written sink sink' (journal_text address_text plan (reverse core.past)) played.journal_was);
   elsewhere = off_plan plan held back sink sink' old new ports handled journal;
-  did = inl (replay_of left written source_faults sink_faults plan Says held back sink sink' core journal_written old new status ports handled journal played concluded);
-}
-session_of {S} {K} {C} left written source_faults sink_faults plan Says held back sink sink' core journal_written (Some port) old new status ports handled journal played concluded = record {
-  kept = keeps_all_of left written plan held back sink sink' old new ports handled journal (λ k d inside. (played.served.each k d inside).used)
-      (subst (λ (x : K). TookMore (written sink) (written x)) (sym played.ended.0) (unused_sink written sink));
-  elsewhere = off_plan plan held back sink sink' old new ports handled journal;
-  did = inr (stopped_at left written source_faults sink_faults plan Says held back sink sink' core journal_written port old new status ports handled journal played concluded);
+  did = replay_of left written source_faults sink_faults plan Says held back sink sink' core journal_written old new status ports handled journal played summed;
 }
 
 -- the numbers of the ports of a plan

@@ -1,5 +1,5 @@
 -- What a run has done whose session began: one history stands in all of it.
-use Rattle.std.specs.Prelude.{◌≡◌, ℕ, ◌<◌, ◌⊎◌, ◌&&◌, not, Bool, true, false, if◌then◌else◌, List, [], ◌∷◌, ◌++◌, length, slice_index, slice_index_or, reverse, Option, Some, IfSome, IsSome, IsSomeAnd, All}
+use Rattle.std.specs.Prelude.{◌≡◌, ℕ, ◌<◌, ◌⊎◌, ◌&&◌, ◌||◌, not, Bool, true, false, if◌then◌else◌, List, [], ◌∷◌, ◌++◌, length, slice_index, slice_index_or, reverse, Option, Some, IfSome, IsSome, IsSomeAnd, All}
 use Rattle.savi_kinds.specs.declared.plan.Plan.{Plan}
 use Rattle.savi_kinds.specs.declared.entry.How.TheVariants as hows
 use Rattle.savi_kinds.specs.Arrivals.{Input}
@@ -9,17 +9,16 @@ use Rattle.savi_ends.specs.Octets.{behind, IsFront}
 use Rattle.savi_ends.specs.Places.{Place, Book}
 use Rattle.pcap_io.specs.Kinds.{classic_kinds}
 use Rattle.pcap_io.specs.Runs.{Arrive}
-use Rattle.pcap_io.specs.Captures.{capture_text}
 use Rattle.hist_store.specs.Rows.{Row}
 use Rattle.hist_store.specs.JournalTexts.{journal_text, address_text}
 use Rattle.savi_history.specs.Bases.{empty}
 use Rattle.savi_history.specs.Queues.{sent}
-use Rattle.savi_history.specs.Outputs.{sent_items}
 use Rattle.savi_history.specs.Legal.{IsLegal, IsFinished}
-use Rattle.savi_history.specs.Replay.{replayed}
+use Rattle.savi_history.specs.Replay.{Stops, replayed}
 use Rattle.savi_history.specs.PortInputs.{arrived, input_end}
+use Rattle.savi_history.specs.PortOutputs.{output_end, pieces, TookPieces, FitsOutputAt}
 use Rattle.savi_history.specs.Fits.{Fits}
-use Rattle.savi_history.specs.Endings.{has_failed, has_malformed, has_full}
+use Rattle.savi_history.specs.Endings.{has_failed, has_failed_write, has_malformed, has_full}
 use Rattle.savi_history.specs.EndLines.{end_lines}
 use Rattle.savi_history.specs.Adverts.{IsGuarded}
 use Rattle.savi_history.specs.Journals.{IsJournalOf, IsSame}
@@ -28,13 +27,13 @@ use Rattle.savi_conf.specs.declared.fault.ConfFault.{ConfFault}
 use Rattle.run_config.specs.Configs.{HasFault, IsConfigured, IsReadFrom, IsRefused}
 use Rattle.run_config.specs.Lines.{cannot_open_line, config_line, write_failed_line, read_failed_line, port_name, journal_word}
 use Rattle.port_worker.specs.Replays.{IsInputOf}
-use Rattle.switch_run.specs.Causes.{HasReadFault, HasWriteFault, IsBack, IsUnserved, KeepsAll, IsOffPlanSame}
+use Rattle.switch_run.specs.Causes.{HasReadFault, HasWriteFault, IsUnserved, KeepsAll, IsOffPlanSame}
 
 -- The status by a history, and by whether the journal and the summary were written: the first that applies of a failed
 -- read, a failed write, a malformed input and want of room.
 abbrev pub status_of : Bool → List Row → ℕ
 status_of written past =
-    if has_failed past then 5 else if not written then 6 else if has_malformed past then 4 else if has_full past then 8 else 0
+    if has_failed past then 5 else if has_failed_write past || not written then 6 else if has_malformed past then 4 else if has_full past then 8 else 0
 
 -- A sink that is kept took these octets behind those that it held when it was told.
 abbrev pub Took : {X : Type 0} → (X → Option (List ℕ)) → Place X → Place X → List ℕ → Type 0
@@ -70,35 +69,42 @@ FitsPort left old new port past =
     IfSome (old.ports port).stands (λ told. IsSomeAnd (new.ports port).stands (λ kept.
     Fits (Arrive classic_kinds) (left told.source) (left kept.source) (arrived port past) (input_end port past)))
 
--- the capture of what a history sends at a port
-abbrev pub sent_capture : ℕ → List Row → List ℕ
-sent_capture port past = capture_text (sent_items (sent empty port past))
+-- A port's sink took the pieces of the capture of what the history sends there: all, or, where a write failed behind so
+-- many, those and a front of the next.
+abbrev pub TookSent : {S K C : Type 0} → (K → Option (List ℕ)) → Book S K C → Book S K C → ℕ → List Row → Option ℕ → Type 0
+TookSent written old new port past stop =
+    IfSome (old.ports port).stands (λ told. IsSomeAnd (new.ports port).stands (λ kept. TookPieces (written told.sink) (written kept.sink) (pieces (sent empty port past)) stop))
 
--- A port's sink took the capture of what the history sends there.
-abbrev pub TookSent : {S K C : Type 0} → (K → Option (List ℕ)) → Book S K C → Book S K C → ℕ → List Row → Type 0
-TookSent written old new port past = Took (λ ends. written ends.sink) (old.ports port) (new.ports port) (sent_capture port past)
+-- What a port's sink took fits how the history says that the output ended.
+abbrev pub FitsSent : {S K C : Type 0} → (K → Option (List ℕ)) → Book S K C → Book S K C → ℕ → List Row → Type 0
+FitsSent written old new port past =
+    IfSome (old.ports port).stands (λ told. IsSomeAnd (new.ports port).stands (λ kept. FitsOutputAt empty (written told.sink) (written kept.sink) port past))
 
 -- the line of a journal that couldn't be written
 abbrev pub journal_lines : Bool → List ℕ
 journal_lines true = []
 journal_lines false = write_failed_line journal_word
 
--- A replay with this plan: one history, legal and finished, is the replay of what the sources of the plan's ports gave,
--- and fits that, port by port; an input ended by a failed read only where its own source has a fault; each port's sink
--- took what the history sends there; the journal took its text, which is that of no other legal history, and standard output
--- its summary, or a front of it where a write failed; standard error was told its bad ends, in what `Says`; the status is
--- that of the history; and no advertisement and no hidden fragment passed the port of a host or a server.
+-- A replay with this plan: one history, legal and finished, is the replay of what the sources of the plan's ports gave to
+-- sinks that stop so, and fits both, port by port; an input ended by a failed read only where its own source has a fault, and
+-- an output by a failed write only where its own sink has one; the journal took its text, which is that of no other legal
+-- history, and standard output its summary, or a front of it where a write failed; standard error was told its bad ends, in
+-- what `Says`; the status is that of the history; and no advertisement and no hidden fragment passed the port of a host or a
+-- server.
 pub record IsReplayOf {S K C : Type 0} (left : S → Option (List ℕ)) (written : K → Option (List ℕ)) (source_faults : S → ℕ) (sink_faults : K → ℕ) (plan : Plan) (Says : List ℕ → Type 0) (old new : Book S K C) (status : ℕ) : Type 0 where
   pub inputs : List Input
+  pub stops : Stops
   pub past : List Row
   pub size : length inputs ≡ length plan.ports
   pub gave : EachPort plan (λ k port. (i : Input) → GaveAt left old new port past (slice_index_or inputs k i))
-  pub replay : past ≡ replayed plan empty inputs
+  pub replay : past ≡ replayed plan empty inputs stops
   pub legal : IsLegal plan empty past
   pub finished : IsFinished plan empty past
   pub fits : EachPort plan (λ k port. FitsPort left old new port past)
   pub broken : EachPort plan (λ k port. input_end port past ≡ Some hows.Failed → HasReadFault source_faults new port)
-  pub took : EachPort plan (λ k port. TookSent written old new port past)
+  pub took : EachPort plan (λ k port. TookSent written old new port past (stops port))
+  pub fits_out : EachPort plan (λ k port. FitsSent written old new port past)
+  pub broken_out : EachPort plan (λ k port. output_end port past ≡ Some hows.Failed → HasWriteFault sink_faults new port)
   -- whether the journal was written, and the summary
   pub journal_written : Bool
   pub summary_written : Bool
@@ -110,24 +116,11 @@ pub record IsReplayOf {S K C : Type 0} (left : S → Option (List ℕ)) (written
   pub cause : status ≡ status_of (journal_written && summary_written) past
   pub guarded : IsGuarded plan past
 
--- The replay was stopped by a write at a port that failed: nothing was written to standard output or in the journal.
-pub record IsStopped {S K C : Type 0} (source_faults : S → ℕ) (sink_faults : K → ℕ) (plan : Plan) (Says : List ℕ → Type 0) (old new : Book S K C) (status : ℕ) : Type 0 where
-  pub past : List Row
-  pub legal : IsLegal plan empty past
-  pub port : ℕ
-  pub fault : HasWriteFault sink_faults new port
-  pub broken : EachPort plan (λ k p. input_end p past ≡ Some hows.Failed → HasReadFault source_faults new p)
-  pub errors : Says (end_lines past ++ write_failed_line (port_name port))
-  pub journal : IsBack (old.outputs plan.journal) (new.outputs plan.journal)
-  pub out : new.std Out ≡ old.std Out
-  pub cause : status ≡ 6
-
--- A session of this plan: its ends are kept, each in its own place, no other port or output was touched, and it went to its
--- end or was stopped.
+-- A session of this plan: its ends are kept, each in its own place, no other port or output was touched, and it was a replay.
 pub record IsSessionOf {S K C : Type 0} (left : S → Option (List ℕ)) (written : K → Option (List ℕ)) (source_faults : S → ℕ) (sink_faults : K → ℕ) (plan : Plan) (Says : List ℕ → Type 0) (old new : Book S K C) (status : ℕ) : Type 0 where
   pub kept : KeepsAll left written plan old new
   pub elsewhere : IsOffPlanSame plan old new
-  pub did : IsReplayOf left written source_faults sink_faults plan Says old new status ⊎ IsStopped source_faults sink_faults plan Says old new status
+  pub did : IsReplayOf left written source_faults sink_faults plan Says old new status
 
 -- A session of the plan that the configuration says. The configuration's input is kept, and a front of it was read.
 pub record IsSession {S K C : Type 0} (left : S → Option (List ℕ)) (written : K → Option (List ℕ)) (source_faults : S → ℕ) (sink_faults : K → ℕ) (file : List ℕ) (Says : List ℕ → Type 0) (old new : Book S K C) (status : ℕ) : Type 0 where

@@ -2,7 +2,7 @@
 
 ghost use Rattle.std.specs.Prelude.{◌≡◌, ◌++◌};
 ghost use Rattle.savi_history.specs.EndLines.{end_lines};
-ghost use Rattle.run_config.specs.Lines.{write_failed_line};
+ghost use Rattle.run_config.specs.Lines.{journal_word, write_failed_line};
 ghost use Rattle.switch_run.specs.Concluded.{refusal_line, refusal_status};
 ghost use Rattle.switch_run.specs.Session.{ToldBy, journal_lines};
 
@@ -37,22 +37,22 @@ pub fn refuse<K: Sink>(refusal: Refusal, file: &str, errors: &mut K) -> u8
     }
 }
 
-/// Says how the inputs ended, and what was not written.
-pub fn tell_unfinished<K: Sink>(core: &Core, name: &str, errors: &mut K)
-    ensures { ToldBy K.faults K.written errors.old errors.new (end_lines core.now.past ++ write_failed_line name.now) }
-{
-    if let Put::Done = tell_ends(core, errors) {
-        let _put = tell_unwritten(errors, name);
-    }
-}
-
-/// Says how the inputs ended, and that the journal was not written where that is so.
+/// Says how the inputs and the outputs ended, and that the journal was not written where that is so.
 pub fn tell_finished<K: Sink>(core: &Core, journal_written: bool, errors: &mut K)
     ensures { ToldBy K.faults K.written errors.old errors.new (end_lines core.now.past ++ journal_lines journal_written) }
 {
     if journal_written {
         let _put = tell_ends(core, errors);
     } else {
-        tell_unfinished(core, "journal", errors);
+        tell_unfinished(core, errors);
+    }
+}
+
+// Says how the inputs and the outputs ended, and that the journal was not written.
+fn tell_unfinished<K: Sink>(core: &Core, errors: &mut K)
+    ensures { ToldBy K.faults K.written errors.old errors.new (end_lines core.now.past ++ write_failed_line journal_word) }
+{
+    if let Put::Done = tell_ends(core, errors) {
+        let _put = tell_unwritten(errors, "journal");
     }
 }

@@ -12,18 +12,16 @@ ghost use Rattle.switch_run.specs.Played.{IsPlayed, IsSamePort, JournalWas};
 use port_worker::{Closed, Ready, replay_session};
 use savi_core::{Buffer, Core};
 use savi_ends::{Clock, Put, Sink, Source};
-use savi_kinds::{Plan, Port};
+use savi_kinds::Plan;
 use std::alloc::Global;
 
 /// The octets of the pieces in which the journal is written.
 const JOURNAL_PIECE_OCTETS: usize = 131_072;
 
-/// The history of a session, and what was not written.
+/// The history of a session, and what became of its journal.
 #[derive(Drop)]
 pub struct Outcome {
     pub core: Core,
-    /// The port at which a write failed, which stopped the session.
-    pub unwritten: Option<Port>,
     /// Whether the journal was written.
     pub journal_written: bool,
 }
@@ -34,7 +32,7 @@ pub struct Played<S, K, C> {
     pub outcome: Option<Outcome>,
 }
 
-/// Replays what the ports have, and writes the journal where no write of a port failed.
+/// Replays what the ports have, and writes the journal.
 ///
 /// Without memory nothing is read or written.
 pub fn play<S: Source, K: Sink, C: Clock>(
@@ -49,27 +47,22 @@ pub fn play<S: Source, K: Sink, C: Clock>(
     requires anew { All IsReadAnew ready.ports.items }
     ensures ports { EachPair IsSamePort ready.ports.items result.ready.ports.items }
     ensures none { IfNone result.outcome ((result.ready.ports.items ≡ ready.ports.items) × (journal.new ≡ journal.old)) }
-    ensures played { IfSome result.outcome (λ o. IsPlayed S.left K.written S.faults K.faults plan ready.ports.items result.ready.ports.items journal.old journal.new o.core o.journal_written o.unwritten) }
+    ensures played { IfSome result.outcome (λ o. IsPlayed S.left K.written S.faults K.faults plan ready.ports.items result.ready.ports.items journal.old journal.new o.core o.journal_written) }
 {
     let mut buffer = match Buffer::make(alloc, JOURNAL_PIECE_OCTETS) {
         Ok(buffer) => buffer,
         Err(_) => return unplayed(ready),
     };
-    let Closed {
-        core,
-        ready,
-        unwritten,
-    } = match replay_session(alloc, plan, ready) {
+    let Closed { core, ready } = match replay_session(alloc, plan, ready) {
         Ok(closed) => closed,
         Err(ready) => return unplayed(ready),
     };
     let _legal = core.len();
-    let journal_written = finish_journal(&core, unwritten, journal, &mut buffer);
+    let journal_written = finish_journal(&core, journal, &mut buffer);
     Played {
         ready,
         outcome: Some(Outcome {
             core,
-            unwritten,
             journal_written,
         }),
     }
@@ -86,22 +79,13 @@ fn unplayed<S, K, C>(ready: Ready<S, K, C>) -> Played<S, K, C>
     }
 }
 
-// Writes the journal where no write of a port failed. The answer is whether it was written.
-fn finish_journal<K: Sink>(
-    core: &Core,
-    unwritten: Option<Port>,
-    journal: &mut K,
-    buffer: &mut Buffer,
-) -> bool
+// Writes the journal. The answer is whether it was written.
+fn finish_journal<K: Sink>(core: &Core, journal: &mut K, buffer: &mut Buffer) -> bool
     requires empty { buffer.old.octets ≡ [] }
     requires room { 3401 ≤ buffer.old.room }
-    ensures was { IfNone unwritten (JournalWas K.faults K.written result journal.old journal.new (journal_text address_text core.now.plan (reverse core.now.past))) }
-    ensures tells { IfNone unwritten (IsJournalOf address_text core.now.plan core.now.past (journal_text address_text core.now.plan (reverse core.now.past))) }
-    ensures same { IfSome unwritten (λ port. journal.new ≡ journal.old) }
+    ensures was { JournalWas K.faults K.written result journal.old journal.new (journal_text address_text core.now.plan (reverse core.now.past)) }
+    ensures tells { IsJournalOf address_text core.now.plan core.now.past (journal_text address_text core.now.plan (reverse core.now.past)) }
 {
-    if unwritten.is_some() {
-        return false;
-    }
     match core.write_journal(journal, buffer) {
         Put::Done => true,
         Put::Failed => false,

@@ -2,6 +2,8 @@
 
 ghost use Rattle.std.specs.Prelude.{◌≡◌, IfOk, length};
 
+mod failed_writes;
+
 use crate::recording_world::RecordingWorld;
 use crate::top::run;
 use arrayvec::ArrayVec;
@@ -869,7 +871,7 @@ const NOTHING: (bool, bool, usize, usize) = (false, false, 0, 0);
 
 /// A fault: its name, the words, which call fails, the status, its line, and what is written: whether the journal and the
 /// summary are, and how many octets at the first and at the second port.
-const STATUSES: [(&str, &[&str], Faults, u8, &str, (bool, bool, usize, usize)); 18] = [
+const STATUSES: [(&str, &[&str], Faults, u8, &str, (bool, bool, usize, usize)); 14] = [
     ("no words", &[], NO_FAULT, 2, USAGE_LINE, NOTHING),
     ("one word", &["replay"], NO_FAULT, 2, USAGE_LINE, NOTHING),
     (
@@ -973,51 +975,6 @@ const STATUSES: [(&str, &[&str], Faults, u8, &str, (bool, bool, usize, usize)); 
         5,
         "plan: read failed\n",
         NOTHING,
-    ),
-    (
-        "the first write at the first port",
-        &["replay", "plan"],
-        Faults {
-            first_write: 1,
-            ..NO_FAULT
-        },
-        6,
-        "port 1: write failed\n",
-        NOTHING,
-    ),
-    (
-        "the first write at the second port",
-        &["replay", "plan"],
-        Faults {
-            second_write: 1,
-            ..NO_FAULT
-        },
-        6,
-        "port 2: write failed\n",
-        (false, false, 24, 0),
-    ),
-    (
-        "a frame",
-        &["replay", "plan"],
-        Faults {
-            second_write: 2,
-            ..NO_FAULT
-        },
-        6,
-        "port 2: write failed\n",
-        (false, false, 24, 24),
-    ),
-    (
-        "a frame, of which nothing can be said",
-        &["replay", "plan"],
-        Faults {
-            second_write: 2,
-            error_write: 1,
-            ..NO_FAULT
-        },
-        6,
-        "",
-        (false, false, 24, 24),
     ),
     (
         "the journal",

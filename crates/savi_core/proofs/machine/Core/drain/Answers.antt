@@ -16,7 +16,7 @@ use Rattle.savi_core.specs.Steps.{entry_of, count_of}
 use Rattle.savi_core.specs.Waits.{after_drain}
 use Rattle.savi_core.proofs.Places.{placed, place_within, length-numbers}
 use Rattle.savi_core.proofs.Changes.{after_set}
-use Rattle.savi_core.proofs.Closed.{waits_open}
+use Rattle.savi_history.proofs.Closed.{waits_open}
 use Rattle.savi_core.proofs.Remembering.{holds_at, holds_length}
 use Rattle.savi_core.proofs.Stepping.{row, stepped_view, remembers_drain, drain_fits}
 use Rattle.savi_core.proofs.machine.Core.drain.Goals as goal

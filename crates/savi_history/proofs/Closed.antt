@@ -19,8 +19,8 @@ use Rattle.savi_history.specs.Queues.{Item, queue, item_of, is_queued, is_closed
 use Rattle.savi_history.specs.Events as events
 use Rattle.savi_history.specs.Events.{row_of}
 use Rattle.savi_history.specs.Legal.{MayCome, MayEnd, IsLegal}
-use Rattle.savi_core.proofs.Places.{placed, place_within, length-numbers}
-use Rattle.savi_core.proofs.Sets.{member_chosen}
+use Rattle.savi_history.proofs.PortPlaces.{placed, place_within, length-numbers}
+use Rattle.savi_history.proofs.PortMembers.{member_chosen}
 
 abbrev no_items : List Item
 no_items = []
@@ -61,7 +61,7 @@ egress_none plan past port q r hows.Unwritten same may = absurd may
 egress_none plan past port q r (hows.Full len) same may = absurd may
 
 -- the pass of an egress is that of its port alone
-same_port : (plan : Plan) (port : Port) (q : ℕ) → has_port plan (number_of port) ≡ true → has_port plan q ≡ true → pass_of plan (Egress port) ≡ egress_pass plan q → number_of port ≡ q
+pub same_port : (plan : Plan) (port : Port) (q : ℕ) → has_port plan (number_of port) ≡ true → has_port plan q ≡ true → pass_of plan (Egress port) ≡ egress_pass plan q → number_of port ≡ q
 same_port plan port q known known_q same =
     let one = placed plan (number_of port) known in
     let other = placed plan q known_q in

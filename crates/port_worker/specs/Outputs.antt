@@ -1,0 +1,67 @@
+-- The outputs of a replay while it goes on: what each sink took, and what is known so far of where a write failed.
+use Rattle.std.specs.Prelude.{◌≡◌, ℕ, true, false, List, [], All, Option, Some, None}
+use Rattle.savi_kinds.specs.declared.plan.Plan.{Plan}
+use Rattle.savi_kinds.specs.declared.entry.How.TheVariants as hows
+use Rattle.savi_kinds.specs.Ports.{number_of}
+use Rattle.savi_kinds.specs.ValidPlan.{numbers_of}
+use Rattle.savi_ends.specs.Faults.{Rose}
+use Rattle.hist_store.specs.Rows.{Row}
+use Rattle.savi_history.specs.Bases.{empty}
+use Rattle.savi_history.specs.Passes.{egress_pass, has_ended}
+use Rattle.savi_history.specs.Queues.{queue, sent}
+use Rattle.savi_history.specs.Replay.{Stops, is_stopped, pieces_by}
+use Rattle.savi_history.specs.PortOutputs.{output_end, pieces, text_before_last_drain, TookPieces, FitsOutputAt}
+use Rattle.port_worker.specs.declared.port_ends.PortEnds.{PortEnds}
+use Rattle.port_worker.specs.Pairs.{EachPair}
+
+-- An output that goes on: its sink took all that was sent.
+pub record GoesOn {S K C : Type 0} (written : K → Option (List ℕ)) (plan : Plan) (past : List Row) (old new : PortEnds S K C) : Type 0 where
+  pub running : has_ended empty (egress_pass plan (number_of old.port)) past ≡ false
+  pub none : output_end (number_of old.port) past ≡ None
+  pub took : TookPieces (written old.ends.sink) (written new.ends.sink) (pieces (sent empty (number_of old.port) past)) None
+
+-- An output at which a write failed behind so many whole pieces: its egress has ended for that, and nothing waits there.
+pub record HasFailed {S K C : Type 0} (written : K → Option (List ℕ)) (faults : K → ℕ) (plan : Plan) (past : List Row) (old new : PortEnds S K C) (whole : ℕ) : Type 0 where
+  pub ended : has_ended empty (egress_pass plan (number_of old.port)) past ≡ true
+  pub failed : output_end (number_of old.port) past ≡ Some hows.Failed
+  pub quiet : queue empty (number_of old.port) past ≡ []
+  pub took : TookPieces (written old.ends.sink) (written new.ends.sink) (pieces (sent empty (number_of old.port) past)) (Some whole)
+  pub fits : FitsOutputAt empty (written old.ends.sink) (written new.ends.sink) (number_of old.port) past
+  pub rose : Rose (faults old.ends.sink) (faults new.ends.sink)
+
+-- an output by what is known of where a write failed there
+abbrev pub IsOutput : {S K C : Type 0} → (K → Option (List ℕ)) → (K → ℕ) → Plan → List Row → PortEnds S K C → PortEnds S K C → Option ℕ → Type 0
+IsOutput written faults plan past old new None = GoesOn written plan past old new
+IsOutput written faults plan past old new (Some whole) = HasFailed written faults plan past old new whole
+
+-- all outputs, by what is known of each
+abbrev pub AreOutputs : {S K C : Type 0} → (K → Option (List ℕ)) → (K → ℕ) → Plan → Stops → List Row → List (PortEnds S K C) → List (PortEnds S K C) → Type 0
+AreOutputs written faults plan known past old new = EachPair (λ o n. IsOutput written faults plan past o n (known (number_of o.port))) old new
+
+-- What a write may turn out to have failed at, by what is known of an output that has so many pieces: where none of these
+-- failed, it is none or a later one.
+abbrev pub Allows : Option ℕ → Option ℕ → ℕ → Type 0
+Allows None stop count = is_stopped stop count ≡ false
+Allows (Some whole) stop count = stop ≡ Some whole
+
+-- the same of each port of the plan
+abbrev pub AreAllowed : Plan → Stops → Stops → List Row → Type 0
+AreAllowed plan known stops past = All (λ q. Allows (known q) (stops q) (pieces_by empty q past)) (numbers_of plan.ports)
+
+-- More is known behind a step, and what that allows the step has made.
+pub record Follows (plan : Plan) (known later : Stops) (past now : List Row) (made : Stops → List Row) : Type 0 where
+  pub before : (stops : Stops) → AreAllowed plan later stops now → AreAllowed plan known stops past
+  pub made_so : (stops : Stops) → AreAllowed plan later stops now → now ≡ made stops
+
+-- Whatever was known of the outputs since the first ends of these ports, a step goes on from there.
+abbrev pub OutputsGoOn : {S K C : Type 0} → (K → Option (List ℕ)) → (K → ℕ) → Plan → List Row → List Row → List (PortEnds S K C) → List (PortEnds S K C) → (Stops → List Row) → Type 0
+OutputsGoOn {S} {K} {C} written faults plan past now old new made =
+    (first : List (PortEnds S K C)) (known : Stops) → AreOutputs written faults plan known past first old
+    → (later : Stops) × AreOutputs written faults plan later now first new × Follows plan known later past now made
+
+-- What the end of a replay leaves of an output: the same was sent, and it ended, or it had failed and stays so.
+pub record IsOutputEnded (plan : Plan) (past now : List Row) (port : ℕ) : Type 0 where
+  pub sent_same : sent empty port now ≡ sent empty port past
+  pub sure_same : text_before_last_drain empty port now ≡ text_before_last_drain empty port past
+  pub ended : has_ended empty (egress_pass plan port) past ≡ false → output_end port now ≡ Some hows.End
+  pub still : has_ended empty (egress_pass plan port) past ≡ true → output_end port now ≡ output_end port past

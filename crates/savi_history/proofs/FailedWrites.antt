@@ -1,0 +1,157 @@
+-- A write that failed in a replay is one of the output of a port.
+use Rattle.std.proofs.Common.{◌≡◌, ◌≢◌, ℕ, suc, ◌<◌, ◌==◌, ◌||◌, Bool, true, false, List, [], ◌∷◌, get_or, length, refl, sym, ap, ◌∙◌, subst, arith, if◌then◌else◌, ◌⊎◌, inl, inr, Option, Some, IsSome}
+use Rattle.std.proofs.lemmas.Bool.Decides.{nat_tests}
+use Rattle.std.proofs.lemmas.Bool.{cases_eq, or_right}
+use Rattle.savi_kinds.specs.declared.port.Port.{Port}
+use Rattle.savi_kinds.specs.declared.plan.Plan.{Plan}
+use Rattle.savi_kinds.specs.declared.plan.PortPlan.{PortPlan}
+use Rattle.savi_kinds.specs.declared.entry.Act.{Act}
+use Rattle.savi_kinds.specs.declared.entry.Act.TheVariants as acts
+use Rattle.savi_kinds.specs.declared.entry.Who.{Who}
+use Rattle.savi_kinds.specs.declared.entry.Who.TheVariants as passes
+use Rattle.savi_kinds.specs.declared.entry.How.{How}
+use Rattle.savi_kinds.specs.declared.entry.How.TheVariants as hows
+use Rattle.savi_kinds.specs.Ports.{number_of}
+use Rattle.savi_kinds.specs.ValidPlan.{numbers_of}
+use Rattle.savi_kinds.specs.Arrivals.{Arrival, Input}
+use Rattle.savi_kinds.specs.Arrivals as arrivals
+use Rattle.hist_store.specs.Rows.{Row}
+use Rattle.savi_history.specs.Bases.{Base}
+use Rattle.savi_history.specs.Passes.{pass_of, egress_pass, has_ended}
+use Rattle.savi_history.specs.Queues.{queue}
+use Rattle.savi_history.specs.Events.{Drain, End}
+use Rattle.savi_history.specs.Replay.{Stops, is_stopped, pieces_by, event_of, with_event, with_failure, begun, with_drain, with_end, replayed}
+use Rattle.savi_history.specs.PortOutputs.{output_end, output_ended_by, output_ended_behind}
+use Rattle.savi_history.specs.Endings.{has_failed_write, is_failed_write, is_failed_write_of, is_failed_reason}
+use Rattle.savi_history.proofs.Ends.{Later, later_event}
+use Rattle.savi_history.proofs.Replaying.{IsAt, EndsInput, IsKept, replay_has, at_place}
+use Rattle.savi_history.proofs.Waiting.{ended_now}
+
+itself : (n : ℕ) → (n == n) ≡ true
+itself n = grind (arith, nat_tests)
+
+apart : (m n : ℕ) → m ≢ n → (m == n) ≡ false
+apart m n other = grind (arith, nat_tests)
+
+-- a failed write is that of a port, and the egress of an output that has ended has
+pub record Tells (plan : Plan) (base : Base) (past : List Row) : Type 0 where
+  pub failed : has_failed_write past ≡ true → (n : ℕ) × IsAt plan n × (output_end n past ≡ Some hows.Failed)
+  pub ended : (n : ℕ) → IsSome (output_end n past) → has_ended base (egress_pass plan n) past ≡ true
+
+module _ (plan : Plan) (base : Base) (stops : Stops) where
+  -- what changes neither
+  record Keeps (past now : List Row) : Type 0 where
+    failed_same : has_failed_write now ≡ has_failed_write past
+    ends_same : (n : ℕ) → output_end n now ≡ output_end n past
+    later : Later base past now
+
+  tells_kept : (past now : List Row) → Keeps past now → Tells plan base past → Tells plan base now
+  tells_kept past now keeps tells = record {
+    failed = λ is. let was = tells.failed (sym keeps.failed_same ∙ is) in (was.0, was.1, keeps.ends_same was.0 ∙ was.2);
+    ended = λ n is. keeps.later (egress_pass plan n) (tells.ended n (subst (λ (o : Option How). IsSome o) (keeps.ends_same n) is));
+  }
+
+  tells_arrival : (past : List Row) (port : Port) (a : Arrival) → Tells plan base past → Tells plan base (with_event plan base past (event_of port a))
+  tells_arrival past port (arrivals.Frame stamp octets) tells = tells_kept past (with_event plan base past (event_of port (arrivals.Frame stamp octets))) (record { failed_same = refl; ends_same = λ n. refl; later = λ pass is. is }) tells
+  tells_arrival past port (arrivals.Long stamp len) tells = tells_kept past (with_event plan base past (event_of port (arrivals.Long stamp len))) (record { failed_same = refl; ends_same = λ n. refl; later = λ pass is. is }) tells
+
+  tells_input : (past : List Row) (who : Who) (how : How) → EndsInput plan who how → Tells plan base past → Tells plan base (with_event plan base past (End who how))
+  tells_input past (passes.Ingress port) how is tells =
+      tells_kept past (with_event plan base past (End (passes.Ingress port) how)) (record { failed_same = refl; ends_same = λ n. refl; later = later_event plan base past (End (passes.Ingress port) how) }) tells
+  tells_input past passes.Control how is tells =
+      rw is (tells_kept past (with_event plan base past (End passes.Control hows.End)) (record { failed_same = refl; ends_same = λ n. refl; later = later_event plan base past (End passes.Control hows.End) }) tells)
+  tells_input past passes.Ticker how is tells = absurd is
+  tells_input past (passes.Egress port) how is tells = absurd is
+
+  tells_ticker : (past : List Row) → Tells plan base past → Tells plan base (with_event plan base past (End passes.Ticker hows.End))
+  tells_ticker past tells = tells_kept past (with_event plan base past (End passes.Ticker hows.End)) (record { failed_same = refl; ends_same = λ n. refl; later = later_event plan base past (End passes.Ticker hows.End) }) tells
+
+  -- behind the end of an egress its own output has ended
+  ended_behind : (past : List Row) (port : Port) (how : How) → Tells plan base past → (n : ℕ) → (number_of port ≡ n) ⊎ (number_of port ≢ n) → IsSome (output_end n (with_event plan base past (End (passes.Egress port) how)))
+      → has_ended base (egress_pass plan n) (with_event plan base past (End (passes.Egress port) how)) ≡ true
+  ended_behind past port how tells n (inl same) is =
+      subst (λ (m : ℕ). has_ended base (egress_pass plan m) (with_event plan base past (End (passes.Egress port) how)) ≡ true) same (ended_now plan base past (passes.Egress port) how)
+  ended_behind past port how tells n (inr other) is =
+      later_event plan base past (End (passes.Egress port) how) (egress_pass plan n)
+      (tells.ended n (subst (λ (b : Bool). IsSome (if b then Some how else output_end n past)) (apart (number_of port) n other) is))
+
+  tells_failure : (past : List Row) (port : Port) (b : Bool) → IsAt plan (number_of port) → Tells plan base past → Tells plan base (if b then with_event plan base past (End (passes.Egress port) hows.Failed) else past)
+  tells_failure past port true at tells = record {
+    failed = λ is. (number_of port, at, rw (itself (number_of port)) refl);
+    ended = λ n. ended_behind past port hows.Failed tells n (cases_eq (number_of port) n);
+  }
+  tells_failure past port false at tells = tells
+
+  tells_failed : (past : List Row) (port : Port) → IsAt plan (number_of port) → Tells plan base past → Tells plan base (with_failure plan base stops port past)
+  tells_failed past port = tells_failure past port (is_stopped (stops (number_of port)) (pieces_by base (number_of port) past))
+
+  tells_drain : (past : List Row) (port : Port) (count : ℕ) (b : Bool) → IsAt plan (number_of port) → Tells plan base past → Tells plan base (if b then past else with_failure plan base stops port (with_event plan base past (Drain port count)))
+  tells_drain past port count true at tells = tells
+  tells_drain past port count false at tells =
+      let mid = with_event plan base past (Drain port count) in
+      tells_failed mid port at (tells_kept past mid (record { failed_same = refl; ends_same = λ n. refl; later = λ pass is. is }) tells)
+
+  -- an output that failed isn't the one whose egress ends now
+  not_this : (past : List Row) (port : Port) (n : ℕ) → Tells plan base past → has_ended base (egress_pass plan (number_of port)) past ≡ false → output_end n past ≡ Some hows.Failed → number_of port ≢ n
+  not_this past port n tells running was same =
+      let over : has_ended base (egress_pass plan n) past ≡ true = tells.ended n (subst (λ (o : Option How). IsSome o) (sym was) refl) in
+      let open_now : has_ended base (egress_pass plan n) past ≡ false = subst (λ (m : ℕ). has_ended base (egress_pass plan m) past ≡ false) same running in
+      cc
+
+  tells_close : (past : List Row) (port : Port) (b : Bool) → has_ended base (egress_pass plan (number_of port)) past ≡ b → Tells plan base past → Tells plan base (if b then past else with_event plan base past (End (passes.Egress port) hows.End))
+  tells_close past port true running tells = tells
+  tells_close past port false running tells = record {
+    failed = λ is.
+        let was = tells.failed is in
+        (was.0, was.1, rw (apart (number_of port) was.0 (not_this past port was.0 tells running was.2)) was.2);
+    ended = λ n. ended_behind past port hows.End tells n (cases_eq (number_of port) n);
+  }
+
+  tells_each : IsKept plan base stops (λ past. Tells plan base past)
+  tells_each = record {
+    arrives = tells_arrival;
+    ends = λ past who how is running tells. tells_input past who how is tells;
+    ticks = tells_ticker;
+    drains = λ past port at tells. let count = length (queue base (number_of port) past) in tells_drain past port count (count == 0) at tells;
+    closes = λ past port at tells. tells_close past port (has_ended base (egress_pass plan (number_of port)) past) refl tells;
+  }
+
+  tells_begun : (ports : List PortPlan) (past : List Row) → ((k : ℕ) → k < length ports → IsAt plan (get_or (numbers_of ports) k 0)) → Tells plan base past → Tells plan base (begun plan base stops ports past)
+  tells_begun [] past at tells = tells
+  tells_begun (q ∷ qs) past at tells =
+      tells_begun qs (with_failure plan base stops q.number past) (λ k inside. at (suc k) (omega arith)) (tells_failed past q.number (at 0 (omega arith)) tells)
+
+  pub tells_replayed : (inputs : List Input) → Tells plan base (replayed plan base inputs stops)
+  tells_replayed inputs =
+      let start : Tells plan base [] = record { failed = λ is. cc; ended = λ n is. cc } in
+      replay_has plan base stops (λ past. Tells plan base past) tells_each inputs (tells_begun plan.ports [] (at_place plan) start)
+
+pub failed_write_at_port : (plan : Plan) (base : Base) (inputs : List Input) (stops : Stops) → has_failed_write (replayed plan base inputs stops) ≡ true → (k : ℕ) × (k < length plan.ports) × (output_end (get_or (numbers_of plan.ports) k 0) (replayed plan base inputs stops) ≡ Some hows.Failed)
+failed_write_at_port plan base inputs stops is =
+    let found = (tells_replayed plan base stops inputs).failed is in
+    let at = found.1 in
+    (at.place, at.inside, subst (λ (n : ℕ). output_end n (replayed plan base inputs stops) ≡ Some hows.Failed) at.number found.2)
+
+-- and conversely, of every history
+
+told_egress : (here : Bool) (how : How) (before : Option How) (rest : Bool) → (before ≡ Some hows.Failed → rest ≡ true) → (if here then Some how else before) ≡ Some hows.Failed → (is_failed_reason how || rest) ≡ true
+told_egress true how before rest step is = let same : how ≡ hows.Failed = cc in rw same refl
+told_egress false how before rest step is = or_right _ _ (step is)
+
+told_end : (port : ℕ) (who : Who) (how : How) (before : Option How) (rest : Bool) → (before ≡ Some hows.Failed → rest ≡ true) → output_ended_by port who how before ≡ Some hows.Failed → (is_failed_write_of who how || rest) ≡ true
+told_end port (passes.Ingress p) how before rest step is = step is
+told_end port passes.Control how before rest step is = or_right _ _ (step is)
+told_end port passes.Ticker how before rest step is = step is
+told_end port (passes.Egress p) how before rest step is = told_egress (number_of p == port) how before rest step is
+
+told_act : (port : ℕ) (act : Act) (before : Option How) (rest : Bool) → (before ≡ Some hows.Failed → rest ≡ true) → output_ended_behind port act before ≡ Some hows.Failed → (is_failed_write act || rest) ≡ true
+told_act port (acts.Frame p stamp at len) before rest step is = step is
+told_act port (acts.Long p stamp len) before rest step is = step is
+told_act port (acts.Tick stamp) before rest step is = step is
+told_act port (acts.Command stamp at len) before rest step is = step is
+told_act port (acts.Drain p count) before rest step is = step is
+told_act port (acts.End who how) before rest step is = told_end port who how before rest step is
+
+pub failed_write_told : (port : ℕ) (past : List Row) → output_end port past ≡ Some hows.Failed → has_failed_write past ≡ true
+failed_write_told port [] is = cc
+failed_write_told port (r ∷ past) is = told_act port r.entry.act (output_end port past) (has_failed_write past) (failed_write_told port past) is
