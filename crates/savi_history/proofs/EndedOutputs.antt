@@ -1,11 +1,9 @@
 -- In a legal history an output has ended where its egress has.
-use Rattle.std.proofs.Common.{◌≡◌, ◌≢◌, ℕ, ◌<◌, ◌==◌, ◌||◌, Bool, true, false, if◌then◌else◌, List, [], ◌∷◌, length, inl, inr, refl, sym, ap, subst, ◌∙◌, arith, Option, Some, None}
+use Rattle.std.proofs.Common.{◌≡◌, ◌≢◌, ℕ, true, List, [], ◌∷◌, inl, inr, refl, sym, ap, subst, arith}
 use Rattle.std.specs.Option.{is_some}
 use Rattle.std.proofs.lemmas.Bool.{cases_eq, eq-eqb, ne_eqb}
 use Rattle.savi_kinds.specs.declared.plan.Plan.{Plan}
-use Rattle.savi_kinds.specs.declared.entry.Who.{Who}
 use Rattle.savi_kinds.specs.declared.entry.Who.TheVariants.{Ingress, Control, Ticker, Egress}
-use Rattle.savi_kinds.specs.declared.entry.How.{How}
 use Rattle.savi_kinds.specs.Ports.{number_of}
 use Rattle.hist_store.specs.Rows.{Row}
 use Rattle.savi_history.specs.Bases.{empty}
@@ -13,7 +11,7 @@ use Rattle.savi_history.specs.Passes.{has_ended, has_port, pass_of, egress_pass}
 use Rattle.savi_history.specs.Events as events
 use Rattle.savi_history.specs.Events.{row_of}
 use Rattle.savi_history.specs.Legal.{MayCome, IsLegal}
-use Rattle.savi_history.specs.PortOutputs.{output_end, output_ended_by}
+use Rattle.savi_history.specs.PortOutputs.{output_end}
 use Rattle.savi_history.proofs.PortPlaces.{place_within}
 use Rattle.savi_history.proofs.Closed.{same_port}
 

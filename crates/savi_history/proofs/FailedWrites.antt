@@ -1,5 +1,5 @@
 -- A write that failed in a replay is one of the output of a port.
-use Rattle.std.proofs.Common.{◌≡◌, ◌≢◌, ℕ, suc, ◌<◌, ◌==◌, ◌||◌, Bool, true, false, List, [], ◌∷◌, get_or, length, refl, sym, ap, ◌∙◌, subst, arith, if◌then◌else◌, ◌⊎◌, inl, inr, Option, Some, IsSome}
+use Rattle.std.proofs.Common.{◌≡◌, ◌≢◌, ℕ, suc, ◌<◌, ◌==◌, ◌||◌, Bool, true, false, List, [], ◌∷◌, get_or, length, refl, sym, ◌∙◌, subst, arith, if◌then◌else◌, ◌⊎◌, inl, inr, Option, Some, IsSome}
 use Rattle.std.proofs.lemmas.Bool.Decides.{nat_tests}
 use Rattle.std.proofs.lemmas.Bool.{cases_eq, or_right}
 use Rattle.savi_kinds.specs.declared.port.Port.{Port}
@@ -17,10 +17,10 @@ use Rattle.savi_kinds.specs.Arrivals.{Arrival, Input}
 use Rattle.savi_kinds.specs.Arrivals as arrivals
 use Rattle.hist_store.specs.Rows.{Row}
 use Rattle.savi_history.specs.Bases.{Base}
-use Rattle.savi_history.specs.Passes.{pass_of, egress_pass, has_ended}
+use Rattle.savi_history.specs.Passes.{egress_pass, has_ended}
 use Rattle.savi_history.specs.Queues.{queue}
 use Rattle.savi_history.specs.Events.{Drain, End}
-use Rattle.savi_history.specs.Replay.{Stops, is_stopped, pieces_by, event_of, with_event, with_failure, begun, with_drain, with_end, replayed}
+use Rattle.savi_history.specs.Replay.{Stops, is_stopped, pieces_by, event_of, with_event, with_failure, begun, replayed}
 use Rattle.savi_history.specs.PortOutputs.{output_end, output_ended_by, output_ended_behind}
 use Rattle.savi_history.specs.Endings.{has_failed_write, is_failed_write, is_failed_write_of, is_failed_reason}
 use Rattle.savi_history.proofs.Ends.{Later, later_event}

@@ -1,5 +1,5 @@
 -- An input that ended at a failed read in a replay is the one of a port.
-use Rattle.std.proofs.Common.{◌≡◌, ◌≢◌, ℕ, suc, ◌<◌, ◌==◌, ◌||◌, Bool, true, false, List, [], ◌∷◌, ◌++◌, map, get_or, length, refl, sym, ap, ◌∙◌, subst, arith, nat_lt, if◌then◌else◌, ◌⊎◌, inl, inr, Option, Some, IsSome}
+use Rattle.std.proofs.Common.{◌≡◌, ◌≢◌, ℕ, ◌<◌, ◌==◌, ◌||◌, Bool, true, false, List, [], ◌∷◌, get_or, length, refl, sym, ap, ◌∙◌, subst, arith, if◌then◌else◌, ◌⊎◌, inl, inr, Option, Some, IsSome}
 use Rattle.std.proofs.lemmas.Bool.Decides.{nat_tests}
 use Rattle.std.proofs.lemmas.Bool.{cases_eq}
 use Rattle.savi_kinds.specs.declared.port.Port.{Port}
@@ -15,12 +15,10 @@ use Rattle.savi_kinds.specs.Arrivals.{Arrival, Input}
 use Rattle.savi_kinds.specs.Arrivals as arrivals
 use Rattle.hist_store.specs.Rows.{Row}
 use Rattle.savi_history.specs.Bases.{Base}
-use Rattle.savi_history.specs.Limits.{has_room}
 use Rattle.savi_history.specs.Passes.{pass_of, place_of, egress_pass, has_ended}
 use Rattle.savi_history.specs.Queues.{queue}
 use Rattle.savi_history.specs.Events.{Drain, End}
-use Rattle.savi_history.specs.Turns.{Turn, Arrives, Ends, who_of, turn_at, turns, port_turns, enter, merge, merged}
-use Rattle.savi_history.specs.Replay.{Stops, is_stopped, pieces_by, event_of, with_event, with_failure, begun, with_drain, drained, entered, after, after_all, with_end, egress_ended, control_turns, replayed}
+use Rattle.savi_history.specs.Replay.{Stops, is_stopped, pieces_by, event_of, with_event, with_failure, begun, with_drain, with_end, replayed}
 use Rattle.savi_history.specs.PortInputs.{input_end}
 use Rattle.savi_history.specs.Endings.{has_failed, is_failed_reason}
 use Rattle.savi_history.proofs.Ends.{Later, later_event}

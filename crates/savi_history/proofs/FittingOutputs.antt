@@ -4,7 +4,7 @@ use Rattle.std.specs.Option.{is_some}
 use Rattle.std.specs.List.{All}
 use Rattle.std.specs.List.Sorted.{IsStrictlyIncreasing}
 use Rattle.std.proofs.lemmas.Bool.Decides.{nat_tests}
-use Rattle.std.proofs.lemmas.Bool.{cases_eq, cases_Bool}
+use Rattle.std.proofs.lemmas.Bool.{cases_eq}
 use Rattle.savi_kinds.specs.declared.port.Port.{Port}
 use Rattle.savi_kinds.specs.declared.plan.Plan.{Plan}
 use Rattle.savi_kinds.specs.declared.plan.PortPlan.{PortPlan}
@@ -24,12 +24,12 @@ use Rattle.savi_history.specs.Outputs.{sent_items}
 use Rattle.savi_history.specs.Events.{Drain, End}
 use Rattle.savi_history.specs.Legal.{IsLegal}
 use Rattle.savi_history.specs.Readable.{IsInput}
-use Rattle.savi_history.specs.Replay.{Stops, is_stopped, pieces_by, event_of, with_event, with_failure, begun, with_drain, with_end, replayed}
+use Rattle.savi_history.specs.Replay.{Stops, is_stopped, pieces_by, event_of, with_event, with_failure, begun, replayed}
 use Rattle.savi_history.specs.PortOutputs.{output_end, pieces, TookPieces, text_before_last_drain, FitsOutput, FitsOutputAt}
 use Rattle.pcap_io.specs.Captures.{capture_text}
 use Rattle.savi_history.proofs.PassNumbers.{number_at, known_at, place_at}
 use Rattle.savi_history.proofs.Replaying.{EndsInput, IsKept, replay_has}
-use Rattle.savi_history.proofs.Waiting.{sent_arrival, sent_end, sent_here, sent_elsewhere, sent_failure}
+use Rattle.savi_history.proofs.Waiting.{sent_arrival, sent_end, sent_here, sent_elsewhere}
 use Rattle.savi_history.proofs.Closed.{waits_open}
 use Rattle.savi_history.proofs.EndedOutputs.{ended_output}
 use Rattle.savi_history.proofs.Finished.{replay_finished}

@@ -1,7 +1,7 @@
 -- The one history of a replay, the newest row first: the turns of all inputs in order, each arrival followed by a whole
 -- drain of each queue that holds something; then the ticker ends, and each egress. Before anything is read the output of each
 -- port is begun; where a write fails at a port its egress ends at once, and the others go on.
-use Rattle.std.specs.Prelude.{ℕ, suc, ◌==◌, nat_lt, Bool, true, false, if◌then◌else◌, List, [], ◌∷◌, length, Option, Some, None}
+use Rattle.std.specs.Prelude.{ℕ, suc, ◌==◌, nat_lt, Bool, false, if◌then◌else◌, List, [], ◌∷◌, length, Option, Some, None}
 use Rattle.savi_kinds.specs.declared.port.Port.{Port}
 use Rattle.savi_kinds.specs.declared.plan.Plan.{Plan}
 use Rattle.savi_kinds.specs.declared.plan.PortPlan.{PortPlan}
