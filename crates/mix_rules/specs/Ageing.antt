@@ -1,10 +1,10 @@
 -- Ageing of an address under both methods: the two parts age apart from each other.
-use Rattle.std.specs.Prelude.{ℕ, ◌≡◌, ◌<◌, ◌^◌, nat_le, Option, Some, None, List, option_and_then, if◌then◌else◌}
+use Rattle.std.specs.Prelude.{ℕ, ◌≡◌, ◌≢◌, ◌<◌, ◌^◌, nat_le, Option, Some, None, List, [], ◌++◌, option_and_then, if◌then◌else◌}
 use Rattle.fcfs_states.specs.declared.answer.Probe.{Probe}
 use Rattle.fcfs_states.specs.declared.state.Fcfs.{Fcfs}
 use Rattle.fcfs_states.specs.declared.times.Times.{Times}
 use Rattle.fcfs_states.specs.Premises.{MomentsFit}
-use Rattle.fcfs_states.specs.Ageing.{Ages, IsRested}
+use Rattle.fcfs_states.specs.Ageing.{IsRested}
 use Rattle.fcfs_states.specs.Aged.{aged, due_of}
 use Rattle.dhcp_states.specs.declared.bound.Bound.{Bound}
 use Rattle.dhcp_states.specs.Bindings.{binding_at}
@@ -56,3 +56,15 @@ IsLow (Some moment) = moment < 2 ^ 63
 pub record AllMomentsFit (s : AddrState) : Type 0 where
   pub fcfs : MomentsFit s.fcfs
   pub dhcp : IsLow (end_of s.dhcp)
+
+-- ageing to t changes nothing and sends no probe
+abbrev pub untouched : AddrState → AgedAddr
+untouched s = record { state = s; probes = [] }
+
+-- ageing to t changes the state or sends a probe
+abbrev pub IsTouched : Times → ℕ → AddrState → Type 0
+IsTouched k t s = aged_state k t s ≢ untouched s
+
+-- one ageing and a later one, as one
+abbrev pub joined : AgedAddr → AgedAddr → AgedAddr
+joined early late = record { state = late.state; probes = early.probes ++ late.probes }

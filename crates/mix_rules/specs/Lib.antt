@@ -4,3 +4,4 @@ pub mod Next
 pub mod TableLaws
 pub mod Ageing
 pub mod Ends
+pub mod FirstCome
