@@ -1,5 +1,5 @@
 -- When something is due first, and how ageing ends that an address is live.
-use Rattle.std.proofs.Common.{◌≡◌, ◌≢◌, ℕ, ◌+◌, ◌<◌, ◌≤◌, ◌^◌, Bool, true, false, ◌⊎◌, inl, inr, refl, sym, ◌∙◌, ap, subst, Option, Some, None, List, [], ◌∷◌, arith, rules, ◌↔◌, nat_le, IfSome, if◌then◌else◌}
+use Rattle.std.proofs.Common.{◌≡◌, ◌≢◌, ℕ, ◌+◌, ◌<◌, ◌≤◌, ◌^◌, Bool, true, false, ◌⊎◌, inl, inr, refl, sym, ◌∙◌, ap, subst, Option, Some, None, List, [], ◌∷◌, arith, rules, ◌↔◌, nat_le, IfSome, IsNone, if◌then◌else◌}
 use Rattle.std.proofs.lemmas.Bool.{cases_Bool, cases_lt, leb-true, leb-false, le-leb, lt-leb}
 use Rattle.savi_kinds.specs.declared.port.Port.{Port}
 use Rattle.savi_kinds.specs.declared.plan.Method.{Method}
@@ -9,10 +9,11 @@ use Rattle.fcfs_states.specs.declared.state.Fcfs.TheVariants.{NoBind, Tentative,
 use Rattle.fcfs_states.specs.declared.times.Times.{Times}
 use Rattle.fcfs_states.specs.Premises.{AreTimes}
 use Rattle.fcfs_states.specs.States.{Same, IsSound, IsLive}
-use Rattle.fcfs_states.specs.Ageing.{IsRested, Ages}
-use Rattle.fcfs_states.specs.Aged.{AgedState, aged, due_of, rested}
+use Rattle.fcfs_states.specs.Ageing.{IsRested, Ages, rests, goes_on, behind}
+use Rattle.fcfs_states.specs.Aged.{AgedState, aged, due_of, probe_of, rested}
 use Rattle.fcfs_states.specs.FirstCome.{IsTestOf}
-use Rattle.fcfs_states.proofs.AgeingLemmas.{Ages-aged, untouched as fcfs_untouched, touched as fcfs_touched, rested_none, rested_late}
+use Rattle.fcfs_states.proofs.AgeingLemmas.{Ages-aged, aged-is, first_row, earliest, untouched as fcfs_untouched, touched as fcfs_touched, rested_none, rested_late}
+use Rattle.fcfs_states.proofs.AgesLemmas.{AgeRow-rests}
 use Rattle.fcfs_states.proofs.RunLemmas.{Stands, will_be, may_be_lost, has_rival, Ends, Ages-ends, Ages-test, stands_to_come, stands_now, live_or_not}
 use Rattle.dhcp_states.specs.declared.bound.Bound.{Bound}
 use Rattle.dhcp_states.specs.Bindings.{has_ended, binding_at}
@@ -103,6 +104,14 @@ module _ (k : Times) (times : AreTimes k) where
           go : IsTouched k t s → due ≤ t
           go touched = elim (cases_lt t due) [ inl below ↦ absurd (touched (still-untouched k times t s (before-still below))) | inr by ↦ by ]
 
+    -- untouched and still are one
+    pub still-touched : IsStill k t s ↔ ¬ IsTouched k t s
+    still-touched = (λ still touched. touched (still-untouched k times t s still), by_due (due_in k s) refl)
+      where
+        by_due : (due : Option ℕ) → due_in k s ≡ due → ¬ IsTouched k t s → IsStill k t s
+        by_due None is idle = idle-still is
+        by_due (Some due) is idle = elim (cases_lt t due) [ inl below ↦ before-still due is below | inr by ↦ absurd (idle (after-touched due is by)) ]
+
     pub idle-touched : due_in k s ≡ None → ¬ IsTouched k t s
     idle-touched is touched = touched (still-untouched k times t s (idle-still is))
 
@@ -112,6 +121,30 @@ module _ (k : Times) (times : AreTimes k) where
       by_due : (due : Option ℕ) → due_in k s ≡ due → IfSome due (λ due. (t : ℕ) → (IsTouched k t s ↔ (due ≤ t)))
       by_due None is = tt
       by_due (Some due) is = λ t. due-touched s t due is
+
+  pub due_never : (s : AddrState) (due : Option ℕ) → due ≡ due_in k s → IsNone due → (t : ℕ) → ¬ IsTouched k t s
+  due_never s None is none t = idle-touched s t (sym is)
+  due_never s (Some due) is none t = cc
+
+-- to age to the moment at which something is due first sends one probe, or none
+module _ (k : Times) (times : AreTimes k) where
+  first_probe : (fcfs : Fcfs) (due : ℕ) → due_of k fcfs ≡ Some due → (aged k due fcfs).probes ≡ behind due (probe_of fcfs) []
+  first_probe fcfs due is = ap (λ (a : AgedState). a.probes) (aged-is k times due (goes_on (first_row k fcfs due is) (let le : due ≤ due = omega arith in le) (earliest k times fcfs due is) (rests (AgeRow-rests k times (first_row k fcfs due is)))))
+
+  pub due-probe : (s : AddrState) (due : ℕ) → due_in k s ≡ Some due → (probe : Option Probe) × ((aged_state k due s).probes ≡ behind due probe [])
+  due-probe s due is =
+      elim (soonest (due_of k s.fcfs) (end_of s.dhcp) due is) [
+        | the_first e after ↦ (probe_of s.fcfs, first_probe s.fcfs due e)
+        | the_last e after ↦ by_due (due_of k s.fcfs) refl after
+      ]
+    where
+      by_due : (first : Option ℕ) → due_of k s.fcfs ≡ first → ((n : ℕ) → first ≡ Some n → due ≤ n) → (probe : Option Probe) × ((aged_state k due s).probes ≡ behind due probe [])
+      by_due None none after = (None, ap (λ (a : AgedState). a.probes) (fcfs_untouched k times due s.fcfs (rested_none k due s.fcfs none)))
+      by_due (Some n) first after =
+          elim (cases_lt due n) [
+            | inl below ↦ (None, ap (λ (a : AgedState). a.probes) (fcfs_untouched k times due s.fcfs (rested_late k times due s.fcfs n first below)))
+            | inr above ↦ (probe_of s.fcfs, first_probe s.fcfs due (let at : n ≡ due = (let least : due ≤ n = after n refl in omega arith) in first ∙ ap Some at))
+          ]
 
 -- a test that stands, or will once the binding ends
 Stands-tested : (port : Port) (since : ℕ) {state : Fcfs} → Stands port since state → IsTested port since state

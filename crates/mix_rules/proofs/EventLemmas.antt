@@ -22,7 +22,7 @@ use Rattle.fcfs_states.proofs.AgeingLemmas.{rested_none}
 use Rattle.dhcp_states.specs.declared.bound.Bound.{Bound}
 use Rattle.mix_rules.specs.declared.state.AddrState.{AddrState}
 use Rattle.mix_rules.specs.States.{IsOf, IsSoundFor, IsLiveAt}
-use Rattle.mix_rules.specs.Ageing.{bound_at, end_of, IsLow, IsStill, AllMomentsFit}
+use Rattle.mix_rules.specs.Ageing.{bound_at, end_of, IsLow, IsStill, AllMomentsFit, IsLeaseInRange}
 use Rattle.mix_rules.specs.FirstCome.{IsOwnedAt}
 use Rattle.mix_rules.specs.Next.{Outcome, next_state, fcfs_by, is_dhcp, is_taken_beside}
 use Rattle.mix_rules.specs.Ends.{IsByOperator, EndsByEvent, IsPassing}
@@ -101,4 +101,14 @@ next-still m k t room s event times still =
     record {
       rested = moves-rested k t s.fcfs event _ (fcfs_moves m k t room s event) times still.rested;
       stands = next-stands m k t room s event still.stands
+    }
+
+next-low : (m : Method) (k : Times) (t : ℕ) (room : Bool) (s : AddrState) (event : Ev) → t ≤ 2 ^ 62 → IsLeaseInRange event → IsLow (end_of s.dhcp) → IsLow (end_of (next_state m k t room s event).1.dhcp)
+next-low m k t room s event early short low = search rules
+
+pub next-fits : (m : Method) (k : Times) (t : ℕ) (room : Bool) (s : AddrState) (event : Ev) → AreTimes k → t ≤ 2 ^ 62 → IsLeaseInRange event → AllMomentsFit s → AllMomentsFit (next_state m k t room s event).1
+next-fits m k t room s event times early short fit =
+    record {
+      fcfs = moves-fits k t s.fcfs event _ (fcfs_moves m k t room s event) times early fit.fcfs;
+      dhcp = next-low m k t room s event early short fit.dhcp
     }

@@ -1,6 +1,8 @@
 -- Ageing of an address under both methods: the two parts age apart from each other.
 use Rattle.std.specs.Prelude.{ℕ, ◌≡◌, ◌≢◌, ◌<◌, ◌^◌, nat_le, Option, Some, None, List, [], ◌++◌, option_and_then, if◌then◌else◌}
 use Rattle.fcfs_states.specs.declared.answer.Probe.{Probe}
+use Rattle.fcfs_states.specs.declared.event.Ev.{Ev}
+use Rattle.fcfs_states.specs.declared.event.Ev.TheVariants.{Sent, Dad, Na, TpDad, TpNa, Lease, Release, Fix, Clear}
 use Rattle.fcfs_states.specs.declared.state.Fcfs.{Fcfs}
 use Rattle.fcfs_states.specs.declared.times.Times.{Times}
 use Rattle.fcfs_states.specs.Premises.{MomentsFit}
@@ -68,3 +70,15 @@ IsTouched k t s = aged_state k t s ≢ untouched s
 -- one ageing and a later one, as one
 abbrev pub joined : AgedAddr → AgedAddr → AgedAddr
 joined early late = record { state = late.state; probes = early.probes ++ late.probes }
+
+-- a lease is of a lifetime of 32 bits, as a lease in a message is (RFC 8415 section 21.6)
+abbrev pub IsLeaseInRange : Ev → Type 0
+IsLeaseInRange (Lease p valid) = valid < 2 ^ 32
+IsLeaseInRange (Sent r) = Unit {0}
+IsLeaseInRange (Dad r) = Unit {0}
+IsLeaseInRange (Na r) = Unit {0}
+IsLeaseInRange TpDad = Unit {0}
+IsLeaseInRange TpNa = Unit {0}
+IsLeaseInRange (Release p) = Unit {0}
+IsLeaseInRange (Fix f) = Unit {0}
+IsLeaseInRange Clear = Unit {0}

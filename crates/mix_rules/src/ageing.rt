@@ -1,6 +1,7 @@
 // Ageing.
 
-ghost use Rattle.std.specs.Prelude.{◌≡◌, ◌≢◌, ◌<◌, ◌≤◌, ◌^◌, ◌↔◌, IsTrue, length};
+ghost use Rattle.std.specs.Prelude.{◌≡◌, ◌≢◌, ◌<◌, ◌≤◌, ◌^◌, ◌↔◌, IsTrue, IsNone, IfSome, ℕ, length};
+ghost use Rattle.savi_kinds.specs.declared.plan.Method.{Method};
 ghost use Rattle.fcfs_states.specs.Premises.{AreTimes};
 ghost use Rattle.fcfs_states.specs.Ageing.{Ages};
 ghost use Rattle.fcfs_states.specs.Aged.{due_of};
@@ -11,7 +12,7 @@ use fcfs_states::{Aged, Times};
 
 impl AddrState {
     ghost use Rattle.mix_rules.specs.States.{IsSoundFor};
-    ghost use Rattle.mix_rules.specs.Ageing.{aged_state, due_in, sooner, end_of, bound_at, IsStill, AllMomentsFit};
+    ghost use Rattle.mix_rules.specs.Ageing.{aged_state, due_in, sooner, end_of, bound_at, IsStill, IsTouched, AllMomentsFit};
 
     /// Ages the state to moment `t` (ms): what fell due by then takes place, each thing at its own moment, and each method
     /// apart from the other. O(1).
@@ -23,6 +24,9 @@ impl AddrState {
         ensures changed { IsTrue result.changed ↔ (self.new ≢ self.old) }
         ensures few { length result.probes.items ≤ 3 }
         ensures rising { AreRising result.probes.items }
+        ensures sound { (m : Method) → IsSoundFor m self.old → IsSoundFor m self.new }
+        ensures fits { AllMomentsFit self.new }
+        ensures still { IsStill k.now t self.new }
     {
         let mut aged = self.fcfs.age(t, k);
         if let Some(bound) = self.dhcp {
@@ -40,6 +44,17 @@ impl AddrState {
         requires times { AreTimes k.now }
         requires fits { AllMomentsFit self.now }
         ensures value { result ≡ due_in k.now self.now }
+        ensures first { IfSome result (λ due. (t : ℕ) → (IsTouched k.now t self.now ↔ (due ≤ t))) }
+        ensures never { IsNone result → (t : ℕ) → ¬ IsTouched k.now t self.now }
+    {
+        self.first_due(k)
+    }
+
+    /// The sooner of what falls due first under first come and the end of the binding by DHCP, as a moment (ms).
+    fn first_due(&self, k: &Times) -> Option<u64>
+        requires times { AreTimes k.now }
+        requires fits { AllMomentsFit self.now }
+        ensures { result ≡ due_in k.now self.now }
     {
         let end = self.dhcp.and_then(|bound| bound.until);
         match (self.fcfs.due(k), end) {

@@ -16,7 +16,7 @@ impl AddrState {
     ghost use Rattle.mix_rules.specs.States.{IsSoundFor};
     ghost use Rattle.mix_rules.specs.Table.{Row};
     ghost use Rattle.mix_rules.specs.Next.{next_state, by_parts, is_granted, ended_at, leased};
-    ghost use Rattle.mix_rules.specs.Ageing.{IsStill, AllMomentsFit};
+    ghost use Rattle.mix_rules.specs.Ageing.{IsStill, AllMomentsFit, IsLow, end_of};
 
     /// One row of the table: what an event at moment `t` (ms) comes to, for an address of a prefix of method `m`. The
     /// state has been aged to `t`. `room` says whether the event's port may hold one more address. O(1).
@@ -26,7 +26,24 @@ impl AddrState {
         requires sound { IsSoundFor m self.old }
         requires fits { AllMomentsFit self.old }
         requires still { IsStill k.now t self.old }
+        ensures row { Row m k.now t room self.old ev result self.new }
         ensures value { next_state m k.now t room self.old ev ≡ (result, self.new) }
+        ensures sound { IsSoundFor m self.new }
+        ensures fits { AllMomentsFit self.new }
+        ensures still { IsStill k.now t self.new }
+    {
+        self.take(m, ev, t, room, k)
+    }
+
+    /// The row of an event of any kind.
+    fn take(&mut self, m: Method, ev: Ev, t: u64, room: bool, k: &Times) -> Answer
+        requires times { AreTimes k.now }
+        requires moment { t ≤ 2 ^ 62 }
+        requires sound { IsSoundFor m self.old }
+        requires fits { AllMomentsFit self.old }
+        requires still { IsStill k.now t self.old }
+        ensures value { next_state m k.now t room self.old ev ≡ (result, self.new) }
+        ensures low { IsLow (end_of self.new.dhcp) }
     {
         match ev {
             Ev::Fix(p) => {
@@ -85,7 +102,8 @@ impl AddrState {
     /// The binding by DHCP after a lease of `valid` seconds to the client at port `p`.
     fn leased(&self, p: Port, valid: u32, t: u64, room: bool) -> Option<Bound>
         requires { t ≤ 2 ^ 62 }
-        ensures { result ≡ leased t room p valid self.now.fcfs self.now.dhcp }
+        ensures value { result ≡ leased t room p valid self.now.fcfs self.now.dhcp }
+        ensures low { IsLow (end_of self.now.dhcp) → IsLow (end_of result) }
     {
         if valid == 0 {
             self.released(p)
