@@ -1,25 +1,23 @@
 -- What ageing keeps.
-use Rattle.std.proofs.Common.{◌≡◌, ◌≢◌, ℕ, ◌+◌, ◌<◌, ◌≤◌, ◌^◌, Bool, true, false, ◌⊎◌, inl, inr, refl, sym, ◌∙◌, ap, subst, Option, Some, None, List, [], ◌∷◌, arith, rules, ◌↔◌, option_and_then, nat_le, IfSome, if◌then◌else◌}
-use Rattle.std.proofs.lemmas.Bool.{cases_Bool, cases_lt, leb-true, leb-false, le-leb, lt-leb}
+use Rattle.std.proofs.Common.{◌≡◌, ℕ, ◌≤◌, ◌^◌, Bool, true, false, inl, inr, refl, ◌∙◌, ap, subst, Option, Some, None, List, arith, if◌then◌else◌}
+use Rattle.std.proofs.lemmas.Bool.{cases_Bool}
 use Rattle.savi_kinds.specs.declared.port.Port.{Port}
 use Rattle.savi_kinds.specs.declared.plan.Method.{Method}
 use Rattle.savi_kinds.specs.declared.plan.Method.TheVariants.{Fcfs as ByFcfs, Dhcp as ByDhcp, Mixed as ByBoth}
 use Rattle.fcfs_states.specs.declared.answer.Probe.{Probe}
 use Rattle.fcfs_states.specs.declared.state.Fcfs.{Fcfs}
-use Rattle.fcfs_states.specs.declared.state.Fcfs.TheVariants.{NoBind, Tentative, Valid, TestLt, TestVp}
+use Rattle.fcfs_states.specs.declared.state.Fcfs.TheVariants.{NoBind}
 use Rattle.fcfs_states.specs.declared.times.Times.{Times}
-use Rattle.fcfs_states.specs.Premises.{AreTimes, MomentsFit}
-use Rattle.fcfs_states.specs.States.{Same, IsSound, IsLive}
-use Rattle.fcfs_states.specs.Ageing.{AgeRow, tentative_probe, test_lt_probe, test_vp_probe, tentative_ends, valid_ends, test_lt_ends, test_vp_ends, IsRested, Ages, rests, goes_on}
-use Rattle.fcfs_states.specs.Aged.{AgedState, aged, due_of, rested}
-use Rattle.fcfs_states.specs.FirstCome.{IsTestOf}
-use Rattle.fcfs_states.proofs.AgeingLemmas.{Ages-aged, Ages-rest, untouched as fcfs_untouched, touched as fcfs_touched, rested_none, rested_late}
+use Rattle.fcfs_states.specs.Premises.{AreTimes}
+use Rattle.fcfs_states.specs.Ageing.{AgeRow, tentative_probe, test_lt_probe, test_vp_probe, tentative_ends, valid_ends, test_lt_ends, test_vp_ends, Ages, rests, goes_on}
+use Rattle.fcfs_states.specs.Aged.{AgedState, aged, rested}
+use Rattle.fcfs_states.proofs.AgeingLemmas.{Ages-aged, Ages-rest, untouched as fcfs_untouched, rested_none}
 use Rattle.fcfs_states.proofs.AgesLemmas.{Ages-sound, Ages-fits, aged-joins}
 use Rattle.dhcp_states.specs.declared.bound.Bound.{Bound}
-use Rattle.dhcp_states.specs.Bindings.{has_ended, binding_at}
+use Rattle.dhcp_states.specs.Bindings.{has_ended}
 use Rattle.mix_rules.specs.declared.state.AddrState.{AddrState}
-use Rattle.mix_rules.specs.States.{IsAlone, IsOf, IsBeside, IsOfMethod, IsSoundFor, IsLiveAt}
-use Rattle.mix_rules.specs.Ageing.{AgedAddr, aged_state, bound_at, end_of, sooner, due_in, IsStill, IsLow, AllMomentsFit, untouched, IsTouched, joined}
+use Rattle.mix_rules.specs.States.{IsAlone, IsOf, IsBeside, IsOfMethod, IsSoundFor}
+use Rattle.mix_rules.specs.Ageing.{AgedAddr, aged_state, bound_at, end_of, IsStill, IsLow, AllMomentsFit, untouched, joined}
 
 -- without a state of first come nothing is due
 aged-none : (k : Times) (t : ℕ) → AreTimes k → (aged k t NoBind).state ≡ NoBind
@@ -63,7 +61,7 @@ module _ (k : Times) (times : AreTimes k) (t : ℕ) where
         alone = alone s.fixed s.fcfs s.dhcp sound.alone;
         beside = beside s.fcfs s.dhcp sound.beside;
         method = of_method m s.fcfs s.dhcp sound.method;
-        rival = Ages-sound k t (Ages-aged k times t s.fcfs) sound.rival
+        rival = Ages-sound k t (Ages-aged k times t s.fcfs) sound.rival;
       }
 
   low : (dhcp : Option Bound) → IsLow (end_of dhcp) → IsLow (end_of (bound_at t dhcp))

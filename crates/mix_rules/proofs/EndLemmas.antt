@@ -1,5 +1,5 @@
 -- When something is due first, and how ageing ends that an address is live.
-use Rattle.std.proofs.Common.{◌≡◌, ◌≢◌, ℕ, ◌+◌, ◌<◌, ◌≤◌, ◌^◌, Bool, true, false, ◌⊎◌, inl, inr, refl, sym, ◌∙◌, ap, subst, Option, Some, None, List, [], ◌∷◌, arith, rules, ◌↔◌, nat_le, IfSome, IsNone, if◌then◌else◌}
+use Rattle.std.proofs.Common.{◌≡◌, ◌≢◌, ℕ, ◌+◌, ◌<◌, ◌≤◌, Bool, true, false, ◌⊎◌, inl, inr, refl, sym, ◌∙◌, ap, subst, Option, Some, None, [], arith, ◌↔◌, nat_le, IfSome, IsNone}
 use Rattle.std.proofs.lemmas.Bool.{cases_Bool, cases_lt, leb-true, leb-false, le-leb, lt-leb}
 use Rattle.savi_kinds.specs.declared.port.Port.{Port}
 use Rattle.savi_kinds.specs.declared.plan.Method.{Method}
@@ -8,18 +8,18 @@ use Rattle.fcfs_states.specs.declared.state.Fcfs.{Fcfs}
 use Rattle.fcfs_states.specs.declared.state.Fcfs.TheVariants.{NoBind, Tentative, Valid, TestLt, TestVp}
 use Rattle.fcfs_states.specs.declared.times.Times.{Times}
 use Rattle.fcfs_states.specs.Premises.{AreTimes}
-use Rattle.fcfs_states.specs.States.{Same, IsSound, IsLive}
-use Rattle.fcfs_states.specs.Ageing.{IsRested, Ages, rests, goes_on, behind}
-use Rattle.fcfs_states.specs.Aged.{AgedState, aged, due_of, probe_of, rested}
+use Rattle.fcfs_states.specs.States.{IsSound}
+use Rattle.fcfs_states.specs.Ageing.{IsRested, rests, goes_on, behind}
+use Rattle.fcfs_states.specs.Aged.{AgedState, aged, due_of, probe_of}
 use Rattle.fcfs_states.specs.FirstCome.{IsTestOf}
 use Rattle.fcfs_states.proofs.AgeingLemmas.{Ages-aged, aged-is, first_row, earliest, untouched as fcfs_untouched, touched as fcfs_touched, rested_none, rested_late}
 use Rattle.fcfs_states.proofs.AgesLemmas.{AgeRow-rests}
-use Rattle.fcfs_states.proofs.RunLemmas.{Stands, will_be, may_be_lost, has_rival, Ends, Ages-ends, Ages-test, stands_to_come, stands_now, live_or_not}
+use Rattle.fcfs_states.proofs.RunLemmas.{Stands, will_be, may_be_lost, has_rival, Ends, Ages-ends, Ages-test, stands_to_come, stands_now}
 use Rattle.dhcp_states.specs.declared.bound.Bound.{Bound}
 use Rattle.dhcp_states.specs.Bindings.{has_ended, binding_at}
 use Rattle.mix_rules.specs.declared.state.AddrState.{AddrState}
-use Rattle.mix_rules.specs.States.{IsSoundFor, IsLiveAt, IsLiveBy, IsBoundAt, owner_of}
-use Rattle.mix_rules.specs.Ageing.{AgedAddr, aged_state, bound_at, end_of, sooner, due_in, IsStill, untouched, IsTouched}
+use Rattle.mix_rules.specs.States.{IsSoundFor, IsLiveAt, IsLiveBy, owner_of}
+use Rattle.mix_rules.specs.Ageing.{aged_state, bound_at, end_of, sooner, due_in, IsStill, IsTouched}
 use Rattle.mix_rules.specs.Ends.{IsTested, EndsByTest, EndsByTime}
 use Rattle.mix_rules.proofs.AgeingLemmas.{still-untouched, untouched-still}
 
@@ -64,13 +64,14 @@ module _ (k : Times) (times : AreTimes k) where
     idle-still is =
         record {
           rested = fcfs_rests t s.fcfs (λ n e. absurd (none_first (due_of k s.fcfs) (end_of s.dhcp) n is e));
-          stands = binding_stands t s.dhcp (λ n e. absurd (none_last (due_of k s.fcfs) (end_of s.dhcp) n is e))
+          stands = binding_stands t s.dhcp (λ n e. absurd (none_last (due_of k s.fcfs) (end_of s.dhcp) n is e));
         }
       where
         none_first : (first last : Option ℕ) (n : ℕ) → sooner first last ≡ None → first ≡ Some n → ⊥
         none_first None last n is e = cc
         none_first (Some m) None n is e = cc
         none_first (Some m) (Some l) n is e = cc
+
         none_last : (first last : Option ℕ) (n : ℕ) → sooner first last ≡ None → last ≡ Some n → ⊥
         none_last None last n is e = cc
         none_last (Some m) None n is e = cc
@@ -81,13 +82,13 @@ module _ (k : Times) (times : AreTimes k) where
       before-still below =
           elim (soonest (due_of k s.fcfs) (end_of s.dhcp) due is) [
             | the_first e after ↦ record {
-                rested = rested_late k times t s.fcfs due e below;
-                stands = binding_stands t s.dhcp (λ n j. let le : due ≤ n = after n j in omega arith)
-              }
+              rested = rested_late k times t s.fcfs due e below;
+              stands = binding_stands t s.dhcp (λ n j. let le : due ≤ n = after n j in omega arith);
+            }
             | the_last e after ↦ record {
-                rested = fcfs_rests t s.fcfs (λ n j. let le : due ≤ n = after n j in omega arith);
-                stands = binding_stands t s.dhcp (λ n j. let at : due ≡ n = cc in omega arith)
-              }
+              rested = fcfs_rests t s.fcfs (λ n j. let le : due ≤ n = after n j in omega arith);
+              stands = binding_stands t s.dhcp (λ n j. let at : due ≡ n = cc in omega arith);
+            }
           ]
 
       after-touched : due ≤ t → IsTouched k t s

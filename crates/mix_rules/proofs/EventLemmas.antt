@@ -1,18 +1,16 @@
 -- What one event keeps.
-use Rattle.std.proofs.Common.{◌≡◌, ◌≢◌, ℕ, ◌+◌, ◌<◌, ◌≤◌, ◌^◌, ◌==◌, Bool, true, false, ◌⊎◌, inl, inr, refl, sym, ◌∙◌, ap, subst, Option, Some, None, eqb-true, eq-eqb, arith, rules, ◌↔◌, if◌then◌else◌}
+use Rattle.std.proofs.Common.{◌≡◌, ℕ, ◌<◌, ◌≤◌, ◌^◌, Bool, true, false, ◌⊎◌, refl, Option, Some, None, rules, ◌↔◌, if◌then◌else◌}
 use Rattle.savi_kinds.specs.declared.port.Port.{Port}
 use Rattle.savi_kinds.specs.declared.plan.Method.{Method}
-use Rattle.savi_kinds.specs.declared.plan.Method.TheVariants.{Fcfs as ByFcfs, Dhcp as ByDhcp, Mixed as ByBoth}
-use Rattle.savi_kinds.specs.Ports.{number_of}
 use Rattle.fcfs_states.specs.declared.answer.Answer.{Answer}
 use Rattle.fcfs_states.specs.declared.event.Ev.{Ev}
 use Rattle.fcfs_states.specs.declared.event.Ev.TheVariants.{Sent, Dad, Na, TpDad, TpNa, Lease, Release, Fix, Clear}
 use Rattle.fcfs_states.specs.declared.state.Fcfs.{Fcfs}
-use Rattle.fcfs_states.specs.declared.state.Fcfs.TheVariants.{NoBind, Tentative, Valid, TestLt, TestVp}
+use Rattle.fcfs_states.specs.declared.state.Fcfs.TheVariants.{NoBind}
 use Rattle.fcfs_states.specs.declared.times.Times.{Times}
-use Rattle.fcfs_states.specs.States.{Same, IsSound}
+use Rattle.fcfs_states.specs.States.{Same}
 use Rattle.fcfs_states.specs.FirstCome.{IsTestOf, IsHeardAt}
-use Rattle.fcfs_states.specs.Next.{Next, next, is_same, silence}
+use Rattle.fcfs_states.specs.Next.{next}
 use Rattle.fcfs_states.specs.Premises.{AreTimes, MomentsFit, IsFcfsEvent}
 use Rattle.fcfs_states.specs.Ageing.{IsRested}
 use Rattle.fcfs_states.specs.Table.{Row as FcfsRow}
@@ -21,10 +19,10 @@ use Rattle.fcfs_states.proofs.RowLemmas.{Row-fits, Row-rested}
 use Rattle.fcfs_states.proofs.AgeingLemmas.{rested_none}
 use Rattle.dhcp_states.specs.declared.bound.Bound.{Bound}
 use Rattle.mix_rules.specs.declared.state.AddrState.{AddrState}
-use Rattle.mix_rules.specs.States.{IsOf, IsSoundFor, IsLiveAt}
+use Rattle.mix_rules.specs.States.{IsSoundFor, IsLiveAt}
 use Rattle.mix_rules.specs.Ageing.{bound_at, end_of, IsLow, IsStill, AllMomentsFit, IsLeaseInRange}
 use Rattle.mix_rules.specs.FirstCome.{IsOwnedAt}
-use Rattle.mix_rules.specs.Next.{Outcome, next_state, fcfs_by, is_dhcp, is_taken_beside}
+use Rattle.mix_rules.specs.Next.{next_state, fcfs_by, is_dhcp, is_taken_beside}
 use Rattle.mix_rules.specs.Ends.{IsByOperator, EndsByEvent, IsPassing}
 
 pub next-sound : (m : Method) (k : Times) (t : ℕ) (room : Bool) (s : AddrState) (event : Ev) → IsSoundFor m s → IsSoundFor m (next_state m k t room s event).1
@@ -100,7 +98,7 @@ pub next-still : (m : Method) (k : Times) (t : ℕ) (room : Bool) (s : AddrState
 next-still m k t room s event times still =
     record {
       rested = moves-rested k t s.fcfs event _ (fcfs_moves m k t room s event) times still.rested;
-      stands = next-stands m k t room s event still.stands
+      stands = next-stands m k t room s event still.stands;
     }
 
 next-low : (m : Method) (k : Times) (t : ℕ) (room : Bool) (s : AddrState) (event : Ev) → t ≤ 2 ^ 62 → IsLeaseInRange event → IsLow (end_of s.dhcp) → IsLow (end_of (next_state m k t room s event).1.dhcp)
@@ -110,5 +108,5 @@ pub next-fits : (m : Method) (k : Times) (t : ℕ) (room : Bool) (s : AddrState)
 next-fits m k t room s event times early short fit =
     record {
       fcfs = moves-fits k t s.fcfs event _ (fcfs_moves m k t room s event) times early fit.fcfs;
-      dhcp = next-low m k t room s event early short fit.dhcp
+      dhcp = next-low m k t room s event early short fit.dhcp;
     }

@@ -1,30 +1,28 @@
 -- Who has an address keeps it, but for three causes.
-use Rattle.std.proofs.Common.{◌≡◌, ℕ, ◌+◌, ◌<◌, ◌≤◌, Bool, true, false, ◌⊎◌, inl, inr, refl, sym, ◌∙◌, ap, subst, arith, rules, Option, Some, None, List, [], ◌∷◌, ◌++◌}
+use Rattle.std.proofs.Common.{◌≡◌, ℕ, ◌+◌, ◌<◌, ◌≤◌, ◌⊎◌, inl, inr, refl, sym, ◌∙◌, ap, subst, arith, rules, Option, Some, None, List, [], ◌∷◌, ◌++◌}
 use Rattle.std.proofs.lemmas.Bool.{cases_lt, cases_Bool}
 use Rattle.savi_kinds.specs.declared.port.Port.{Port}
 use Rattle.savi_kinds.specs.declared.plan.Method.{Method}
-use Rattle.fcfs_states.specs.declared.event.Ev.{Ev}
 use Rattle.fcfs_states.specs.declared.event.Ev.TheVariants.{Sent}
 use Rattle.fcfs_states.specs.declared.times.Times.{Times}
 use Rattle.fcfs_states.specs.declared.state.Fcfs.{Fcfs}
 use Rattle.fcfs_states.specs.Premises.{AreTimes}
-use Rattle.fcfs_states.specs.States.{Same, IsLive}
+use Rattle.fcfs_states.specs.States.{Same}
 use Rattle.fcfs_states.specs.Ageing.{IsRested}
-use Rattle.fcfs_states.specs.Aged.{aged}
-use Rattle.fcfs_states.specs.FirstCome.{IsTestOf, Mark, IsSilentAfter, IsBoundTo}
+use Rattle.fcfs_states.specs.FirstCome.{IsTestOf, Mark}
 use Rattle.fcfs_states.proofs.RunLemmas.{same_or_not, live_or_not as fcfs_live_or_not, bound_test, silent_within}
 use Rattle.dhcp_states.specs.declared.bound.Bound.{Bound}
 use Rattle.dhcp_states.specs.Bindings.{has_ended, binding_at}
 use Rattle.mix_rules.specs.declared.state.AddrState.{AddrState}
-use Rattle.mix_rules.specs.States.{IsSoundFor, IsLiveAt, IsLiveBy, IsFixedAt, IsBoundAt, owner_of}
-use Rattle.mix_rules.specs.Ageing.{AgedAddr, aged_state, bound_at, IsStill}
+use Rattle.mix_rules.specs.States.{IsSoundFor, IsLiveAt, IsLiveBy, IsFixedAt, owner_of}
+use Rattle.mix_rules.specs.Ageing.{AgedAddr, aged_state, IsStill}
 use Rattle.mix_rules.specs.Next.{next_state}
-use Rattle.mix_rules.specs.Ends.{EndsByTest, EndsByTime, EndsByEvent, IsByOperator, IsPassing}
-use Rattle.mix_rules.specs.FirstCome.{outcome, state_of, state_at, answer_at, IsRun, IsOwnedAt, OnTheWay, by_age, by_event, earlier, IsSilenced, HasOperator, BindingEnds, IsKept, but_for_silence, but_for_operator, but_for_dhcp}
+use Rattle.mix_rules.specs.Ends.{EndsByTest, EndsByTime, IsPassing}
+use Rattle.mix_rules.specs.FirstCome.{state_of, state_at, answer_at, IsRun, IsOwnedAt, OnTheWay, by_age, by_event, earlier, IsSilenced, IsKept, but_for_silence, but_for_operator, but_for_dhcp}
 use Rattle.mix_rules.proofs.EventLemmas.{next-live, next-owned, sent-passes, one_port}
 use Rattle.mix_rules.proofs.AgeingLemmas.{aged-sound, aged-still, still-untouched}
 use Rattle.mix_rules.proofs.EndLemmas.{aged-live, tested_to_come, tested_now}
-use Rattle.mix_rules.proofs.RunLemmas.{run-sound, run-still, state_at-append, last_of, last_least, last_most, last_rests, silent_late, silent_at, stood_before, walk}
+use Rattle.mix_rules.proofs.RunLemmas.{run-sound, run-still, state_at-append, last_of, last_least, last_rests, silent_late, silent_at, stood_before, walk}
 
 -- the port owns the address or not, and it is live there or not
 owner_or_not : (owner : Option Port) (port : Port) → IsFixedAt owner port ⊎ ¬ IsFixedAt owner port

@@ -1,28 +1,20 @@
 -- Whole runs of events, from any sound state.
-use Rattle.std.proofs.Common.{◌≡◌, ℕ, ◌+◌, ◌<◌, ◌≤◌, Bool, ◌⊎◌, inl, inr, refl, sym, ◌∙◌, ap, subst, arith, rules, Option, Some, None, List, [], ◌∷◌, ◌++◌}
-use Rattle.std.specs.List.{AllByRecursion}
+use Rattle.std.proofs.Common.{◌≡◌, ℕ, ◌<◌, ◌≤◌, ◌⊎◌, inl, inr, ap, subst, arith, List, [], ◌∷◌, ◌++◌}
 use Rattle.std.proofs.lemmas.Bool.{cases_lt}
 use Rattle.savi_kinds.specs.declared.port.Port.{Port}
 use Rattle.savi_kinds.specs.declared.plan.Method.{Method}
-use Rattle.fcfs_states.specs.declared.event.Ev.{Ev}
-use Rattle.fcfs_states.specs.declared.event.Ev.TheVariants.{Sent}
-use Rattle.fcfs_states.specs.declared.state.Fcfs.{Fcfs}
 use Rattle.fcfs_states.specs.declared.times.Times.{Times}
 use Rattle.fcfs_states.specs.Premises.{AreTimes}
-use Rattle.fcfs_states.specs.States.{Same, IsLive}
 use Rattle.fcfs_states.specs.Ageing.{IsRested}
-use Rattle.fcfs_states.specs.FirstCome.{IsTestOf, IsHeardAt, Mark, IsSilentAfter, IsSilentWithin, IsBoundTo}
-use Rattle.fcfs_states.proofs.RunLemmas.{same_or_not, live_or_not, bound_test, silent_within}
-use Rattle.dhcp_states.specs.declared.bound.Bound.{Bound}
+use Rattle.fcfs_states.specs.FirstCome.{IsTestOf, IsHeardAt, Mark, IsSilentAfter}
 use Rattle.mix_rules.specs.declared.state.AddrState.{AddrState}
-use Rattle.mix_rules.specs.States.{IsSoundFor, IsLiveAt, IsLiveBy, IsFixedAt, owner_of}
-use Rattle.mix_rules.specs.Next.{Outcome, next_state}
+use Rattle.mix_rules.specs.States.{IsSoundFor}
+use Rattle.mix_rules.specs.Next.{next_state}
 use Rattle.mix_rules.specs.Ageing.{AgedAddr, aged_state, IsStill}
-use Rattle.mix_rules.specs.Ends.{IsTested, EndsByTest, EndsByTime, EndsByEvent, IsByOperator, IsPassing}
-use Rattle.mix_rules.specs.FirstCome.{outcome, state_of, state_at, answer_at, IsRun, IsOwnedAt, OnTheWay, by_age, by_event, earlier, IsSilenced, HasOperator, BindingEnds, IsKept, but_for_silence, but_for_operator, but_for_dhcp}
-use Rattle.mix_rules.proofs.EventLemmas.{next-sound, next-live, next-test, next-still, sent-passes, one_port}
+use Rattle.mix_rules.specs.FirstCome.{state_of, state_at, IsRun, OnTheWay, by_age, by_event, earlier}
+use Rattle.mix_rules.proofs.EventLemmas.{next-sound, next-test, next-still}
 use Rattle.mix_rules.proofs.AgeingLemmas.{aged-sound, aged-still, aged-joins-all}
-use Rattle.mix_rules.proofs.EndLemmas.{aged-live, aged-test, tested_to_come, tested_now}
+use Rattle.mix_rules.proofs.EndLemmas.{aged-test}
 
 module _ (m : Method) (k : Times) (times : AreTimes k) where
   pub run-sound : (base : AddrState) → IsSoundFor m base → (past : List Mark) → IsSoundFor m (state_of m k base past)
@@ -68,7 +60,7 @@ module _ (m : Method) (k : Times) (times : AreTimes k) where
     older : (mark : Mark) (past : List Mark) → IsTestOf port since (state_of m k base (mark ∷ past)).fcfs → since < mark.moment → (¬ IsHeardAt port mark.event) × IsTestOf port since (state_at m k base past mark.moment).fcfs
     older mark past test late =
         let stood : (¬ IsHeardAt port mark.event) × ((state_of m k base (mark ∷ past)).fcfs ≡ (state_at m k base past mark.moment).fcfs) =
-            next-test m k mark.moment mark.room (state_at m k base past mark.moment) mark.event port since (aged-sound k times mark.moment m (state_of m k base past) (run-sound base sound past)) test late in
+        next-test m k mark.moment mark.room (state_at m k base past mark.moment) mark.event port since (aged-sound k times mark.moment m (state_of m k base past) (run-sound base sound past)) test late in
         (stood.0, subst (IsTestOf port since) stood.1 test)
 
     -- while a test stands its holder isn't heard

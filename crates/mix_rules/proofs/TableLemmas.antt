@@ -1,6 +1,6 @@
 -- The table and the function that it is.
-use Rattle.std.proofs.Common.{◌≡◌, ◌≢◌, ℕ, ◌==◌, ◌||◌, if◌then◌else◌, Bool, true, false, ◌⊎◌, inl, inr, refl, sym, ◌∙◌, ap, subst, Option, Some, None, eqb-true, eq-eqb}
-use Rattle.std.proofs.lemmas.Bool.{cases_Bool, cases_eq, eqb-false}
+use Rattle.std.proofs.Common.{◌≡◌, ◌≢◌, ℕ, ◌==◌, ◌||◌, if◌then◌else◌, Bool, true, false, ◌⊎◌, inl, inr, refl, sym, ◌∙◌, ap, Option, Some, None, eqb-true}
+use Rattle.std.proofs.lemmas.Bool.{cases_Bool, cases_eq}
 use Rattle.savi_kinds.specs.declared.port.Port.{Port}
 use Rattle.savi_kinds.specs.declared.plan.Method.{Method}
 use Rattle.savi_kinds.specs.declared.plan.Method.TheVariants.{Fcfs as ByFcfs, Dhcp as ByDhcp, Mixed as ByBoth}
@@ -13,13 +13,13 @@ use Rattle.fcfs_states.specs.declared.state.Fcfs.TheVariants.{NoBind, Tentative,
 use Rattle.fcfs_states.specs.declared.times.Times.{Times}
 use Rattle.fcfs_states.specs.Premises.{IsFcfsEvent}
 use Rattle.fcfs_states.specs.States.{Same, IsSound}
-use Rattle.fcfs_states.specs.Next.{Next, next, is_same, silence}
+use Rattle.fcfs_states.specs.Next.{Next, next, silence}
 use Rattle.fcfs_states.specs.Table.{Row as FcfsRow}
-use Rattle.fcfs_states.proofs.TableLemmas.{Row-next as FcfsRow-next, Row-only as FcfsRow-only, Row-kind, same_is, differ_is, Cases, one, two_ports, cases}
+use Rattle.fcfs_states.proofs.TableLemmas.{Row-next as FcfsRow-next, Row-only as FcfsRow-only, Row-kind, same_is, differ_is, one, two_ports, cases}
 use Rattle.dhcp_states.specs.declared.bound.Bound.{Bound}
 use Rattle.mix_rules.specs.declared.state.AddrState.{AddrState}
 use Rattle.mix_rules.specs.States.{IsOf, IsBeside, IsSoundFor}
-use Rattle.mix_rules.specs.Table.{Row, lease_to, Takes, none_begins, moves_on, fixed_at, free_with, fixed_sent, fixed_na, fixed_dad, fixed_sent_elsewhere, fixed_dad_elsewhere, fixed_na_elsewhere, fixed_trusted_dad, fixed_trusted_na, fixed_lease, fixed_release, bound_sent, bound_na, bound_dad, bound_sent_elsewhere, bound_dad_elsewhere, bound_na_elsewhere, bound_trusted_dad, bound_trusted_na, unassigned_sent, unassigned_dad, unassigned_na, unassigned_trusted_dad, unassigned_trusted_na, by_first_come, lease_unheeded, lease_of_0, lease_of_0_elsewhere, lease_of_0_unbound, lease_renews, lease_moves, lease_moves_not_full, lease_moves_not_claimed, lease_makes, lease_makes_beside, lease_makes_not_full, lease_makes_not_claimed, release_ends, release_elsewhere, release_unbound, fix, clear}
+use Rattle.mix_rules.specs.Table.{Row, lease_to, Takes, none_begins, moves_on, fixed_at, free_with, fixed_sent, fixed_na, fixed_dad, fixed_sent_elsewhere, fixed_dad_elsewhere, fixed_na_elsewhere, fixed_trusted_dad, fixed_trusted_na, fixed_lease, fixed_release, bound_sent, bound_na, bound_dad, bound_sent_elsewhere, bound_dad_elsewhere, bound_na_elsewhere, bound_trusted_dad, bound_trusted_na, unassigned_sent, unassigned_dad, unassigned_na, unassigned_trusted_dad, unassigned_trusted_na, by_first_come, lease_in_fcfs_prefix, lease_of_0, lease_of_0_elsewhere, lease_of_0_unbound, lease_renews, lease_moves, lease_elsewhere_full, lease_elsewhere_claimed, lease_makes, lease_makes_beside, lease_unbound_full, lease_unbound_claimed, release_ends, release_elsewhere, release_unbound, fix, clear}
 use Rattle.mix_rules.specs.Next.{Outcome, next_state, by_parts, is_dhcp, is_fcfs, is_taken_beside, is_free, is_of, is_granted, ended_at, leased, bound_by}
 
 -- beside a binding at p the state that stands takes its own row, in which room decides nothing
@@ -148,18 +148,18 @@ module _ (m : Method) (k : Times) (t : ℕ) (room : Bool) where
 
     module _ (valid : ℕ) (some : valid ≢ 0) where
       elsewhere_row : (bound : Bound) → ¬ Same bound.p r → (fcfs : Fcfs) → Row m k t room (free_with fcfs (Some bound)) (Lease r valid) silence (free_with fcfs (if is_free room fcfs then lease_to m k t room r valid else Some bound))
-      elsewhere_row bound differ NoBind = elim (cases_Bool room) [ inl is ↦ rw is (lease_moves assigns some differ refl) | inr is ↦ rw is (lease_moves_not_full assigns some differ refl) ]
-      elsewhere_row bound differ (Tentative p since two) = lease_moves_not_claimed assigns some differ (λ e. cc)
-      elsewhere_row bound differ (Valid p until) = lease_moves_not_claimed assigns some differ (λ e. cc)
-      elsewhere_row bound differ (TestLt p since two) = lease_moves_not_claimed assigns some differ (λ e. cc)
-      elsewhere_row bound differ (TestVp p q since two) = lease_moves_not_claimed assigns some differ (λ e. cc)
+      elsewhere_row bound differ NoBind = elim (cases_Bool room) [ inl is ↦ rw is (lease_moves assigns some differ refl) | inr is ↦ rw is (lease_elsewhere_full assigns some differ refl) ]
+      elsewhere_row bound differ (Tentative p since two) = lease_elsewhere_claimed assigns some differ (λ e. cc)
+      elsewhere_row bound differ (Valid p until) = lease_elsewhere_claimed assigns some differ (λ e. cc)
+      elsewhere_row bound differ (TestLt p since two) = lease_elsewhere_claimed assigns some differ (λ e. cc)
+      elsewhere_row bound differ (TestVp p q since two) = lease_elsewhere_claimed assigns some differ (λ e. cc)
 
       unbound_row : (fcfs : Fcfs) → Row m k t room (free_with fcfs None) (Lease r valid) silence (free_with fcfs (if is_free room fcfs || is_of r fcfs then lease_to m k t room r valid else None))
-      unbound_row NoBind = elim (cases_Bool room) [ inl is ↦ rw is (lease_makes assigns some refl) | inr is ↦ rw is (lease_makes_not_full assigns some refl) ]
-      unbound_row (Tentative p since two) = elim (cases p r) [ one same is ↦ rw is (lease_makes_beside assigns some (tentative_some p since two) same) | two_ports differ is ↦ rw is (lease_makes_not_claimed assigns some differ) ]
-      unbound_row (Valid p until) = elim (cases p r) [ one same is ↦ rw is (lease_makes_beside assigns some (valid_some p until) same) | two_ports differ is ↦ rw is (lease_makes_not_claimed assigns some differ) ]
-      unbound_row (TestLt p since two) = elim (cases p r) [ one same is ↦ rw is (lease_makes_beside assigns some (test_lt_some p since two) same) | two_ports differ is ↦ rw is (lease_makes_not_claimed assigns some differ) ]
-      unbound_row (TestVp p q since two) = lease_makes_not_claimed assigns some (λ of. of)
+      unbound_row NoBind = elim (cases_Bool room) [ inl is ↦ rw is (lease_makes assigns some refl) | inr is ↦ rw is (lease_unbound_full assigns some refl) ]
+      unbound_row (Tentative p since two) = elim (cases p r) [ one same is ↦ rw is (lease_makes_beside assigns some (tentative_some p since two) same) | two_ports differ is ↦ rw is (lease_unbound_claimed assigns some differ) ]
+      unbound_row (Valid p until) = elim (cases p r) [ one same is ↦ rw is (lease_makes_beside assigns some (valid_some p until) same) | two_ports differ is ↦ rw is (lease_unbound_claimed assigns some differ) ]
+      unbound_row (TestLt p since two) = elim (cases p r) [ one same is ↦ rw is (lease_makes_beside assigns some (test_lt_some p since two) same) | two_ports differ is ↦ rw is (lease_unbound_claimed assigns some differ) ]
+      unbound_row (TestVp p q since two) = lease_unbound_claimed assigns some (λ of. of)
 
       some_row : (fcfs : Fcfs) (dhcp : Option Bound) → Row m k t room (free_with fcfs dhcp) (Lease r valid) silence (free_with fcfs (if is_granted room r fcfs dhcp then lease_to m k t room r valid else dhcp))
       some_row fcfs None = unbound_row fcfs
@@ -188,7 +188,7 @@ module _ (k : Times) (t : ℕ) (room : Bool) where
   free_row ByDhcp fcfs Clear kind = absurd kind
 
   leased_row : (m : Method) (r : Port) (valid : ℕ) (fcfs : Fcfs) (dhcp : Option Bound) → Row m k t room (free_with fcfs dhcp) (Lease r valid) silence (free_with fcfs (if is_fcfs m then dhcp else leased t room r valid fcfs dhcp))
-  leased_row ByFcfs r valid fcfs dhcp = lease_unheeded refl
+  leased_row ByFcfs r valid fcfs dhcp = lease_in_fcfs_prefix refl
   leased_row ByDhcp r valid fcfs dhcp = lease_row ByDhcp k t room (λ e. cc) r valid fcfs dhcp
   leased_row ByBoth r valid fcfs dhcp = lease_row ByBoth k t room (λ e. cc) r valid fcfs dhcp
 
@@ -284,11 +284,11 @@ module _ (k : Times) (t : ℕ) (room : Bool) where
   lease_is ByBoth other r valid fcfs None = rw (next_lease k t room fcfs r valid)
   lease_is ByBoth other r valid fcfs (Some bound) = refl
 
-  unheeded_is : (m : Method) → m ≡ ByFcfs → (r : Port) (valid : ℕ) (fcfs : Fcfs) (dhcp : Option Bound) → next_state m k t room (free_with fcfs dhcp) (Lease r valid) ≡ (silence, free_with fcfs dhcp)
-  unheeded_is ByFcfs is r valid fcfs None = rw (next_lease k t room fcfs r valid)
-  unheeded_is ByFcfs is r valid fcfs (Some bound) = refl
-  unheeded_is ByDhcp is r valid fcfs dhcp = cc
-  unheeded_is ByBoth is r valid fcfs dhcp = cc
+  fcfs_lease_is : (m : Method) → m ≡ ByFcfs → (r : Port) (valid : ℕ) (fcfs : Fcfs) (dhcp : Option Bound) → next_state m k t room (free_with fcfs dhcp) (Lease r valid) ≡ (silence, free_with fcfs dhcp)
+  fcfs_lease_is ByFcfs is r valid fcfs None = rw (next_lease k t room fcfs r valid)
+  fcfs_lease_is ByFcfs is r valid fcfs (Some bound) = refl
+  fcfs_lease_is ByDhcp is r valid fcfs dhcp = cc
+  fcfs_lease_is ByBoth is r valid fcfs dhcp = cc
 
   release_is : (m : Method) (r : Port) (fcfs : Fcfs) (dhcp : Option Bound) → next_state m k t room (free_with fcfs dhcp) (Release r) ≡ (silence, free_with fcfs (ended_at r dhcp))
   release_is m r fcfs (Some bound) = refl
@@ -332,18 +332,18 @@ module _ {m : Method} {k : Times} {t : ℕ} {room : Bool} where
   Row-only (unassigned_trusted_dad is) sound = rw is
   Row-only (unassigned_trusted_na is) sound = rw is
   Row-only (by_first_come {fcfs = fcfs} {new = new} {event = event} {answer = answer} other row) sound = first_only fcfs new event answer other row sound.rival
-  Row-only (lease_unheeded {r = r} {valid = valid} {fcfs = fcfs} {dhcp = dhcp} is) sound = sym (unheeded_is k t room _ is r valid fcfs dhcp)
+  Row-only (lease_in_fcfs_prefix {r = r} {valid = valid} {fcfs = fcfs} {dhcp = dhcp} is) sound = sym (fcfs_lease_is k t room _ is r valid fcfs dhcp)
   Row-only (lease_of_0 {bound = bound} {r = r} {fcfs = fcfs} other same) sound = rw (lease_is k t room m other r 0 fcfs (Some bound), same_is bound.p r same)
   Row-only (lease_of_0_elsewhere {bound = bound} {r = r} {fcfs = fcfs} other differ) sound = rw (lease_is k t room m other r 0 fcfs (Some bound), differ_is bound.p r differ)
   Row-only (lease_of_0_unbound {r = r} {fcfs = fcfs} other) sound = rw (lease_is k t room m other r 0 fcfs None)
   Row-only (lease_renews {bound = bound} {r = r} {valid = valid} {fcfs = fcfs} other some same) sound = rw (lease_is k t room m other r valid fcfs (Some bound), some_is valid some, same_is bound.p r same)
   Row-only (lease_moves {bound = bound} {r = r} {valid = valid} other some differ full) sound = rw (lease_is k t room m other r valid NoBind (Some bound), some_is valid some, differ_is bound.p r differ, full)
-  Row-only (lease_moves_not_full {bound = bound} {r = r} {valid = valid} other some differ full) sound = rw (lease_is k t room m other r valid NoBind (Some bound), some_is valid some, differ_is bound.p r differ, full)
-  Row-only (lease_moves_not_claimed {bound = bound} {r = r} {valid = valid} {fcfs = fcfs} other some differ claimed) sound = rw (lease_is k t room m other r valid fcfs (Some bound), some_is valid some, differ_is bound.p r differ, not_free room fcfs claimed)
+  Row-only (lease_elsewhere_full {bound = bound} {r = r} {valid = valid} other some differ full) sound = rw (lease_is k t room m other r valid NoBind (Some bound), some_is valid some, differ_is bound.p r differ, full)
+  Row-only (lease_elsewhere_claimed {bound = bound} {r = r} {valid = valid} {fcfs = fcfs} other some differ claimed) sound = rw (lease_is k t room m other r valid fcfs (Some bound), some_is valid some, differ_is bound.p r differ, not_free room fcfs claimed)
   Row-only (lease_makes {r = r} {valid = valid} other some full) sound = rw (lease_is k t room m other r valid NoBind None, some_is valid some, full)
   Row-only (lease_makes_beside {r = r} {valid = valid} {fcfs = fcfs} other some claimed own) sound = rw (lease_is k t room m other r valid fcfs None, some_is valid some, not_free room fcfs claimed, own_is r fcfs claimed own)
-  Row-only (lease_makes_not_full {r = r} {valid = valid} other some full) sound = rw (lease_is k t room m other r valid NoBind None, some_is valid some, full)
-  Row-only (lease_makes_not_claimed {r = r} {valid = valid} {fcfs = fcfs} other some own) sound = rw (lease_is k t room m other r valid fcfs None, some_is valid some, not_free room fcfs (other_some r fcfs own), other_is r fcfs own)
+  Row-only (lease_unbound_full {r = r} {valid = valid} other some full) sound = rw (lease_is k t room m other r valid NoBind None, some_is valid some, full)
+  Row-only (lease_unbound_claimed {r = r} {valid = valid} {fcfs = fcfs} other some own) sound = rw (lease_is k t room m other r valid fcfs None, some_is valid some, not_free room fcfs (other_some r fcfs own), other_is r fcfs own)
   Row-only (release_ends {bound = bound} {r = r} {fcfs = fcfs} same) sound = rw (release_is k t room m r fcfs (Some bound), same_is bound.p r same)
   Row-only (release_elsewhere {bound = bound} {r = r} {fcfs = fcfs} differ) sound = rw (release_is k t room m r fcfs (Some bound), differ_is bound.p r differ)
   Row-only (release_unbound {r = r} {fcfs = fcfs}) sound = rw (release_is k t room m r fcfs None)

@@ -3,7 +3,6 @@ use Rattle.std.specs.Prelude.{ℕ, ◌≡◌, ◌≢◌, ◌<◌, ◌^◌, nat_l
 use Rattle.fcfs_states.specs.declared.answer.Probe.{Probe}
 use Rattle.fcfs_states.specs.declared.event.Ev.{Ev}
 use Rattle.fcfs_states.specs.declared.event.Ev.TheVariants.{Sent, Dad, Na, TpDad, TpNa, Lease, Release, Fix, Clear}
-use Rattle.fcfs_states.specs.declared.state.Fcfs.{Fcfs}
 use Rattle.fcfs_states.specs.declared.times.Times.{Times}
 use Rattle.fcfs_states.specs.Premises.{MomentsFit}
 use Rattle.fcfs_states.specs.Ageing.{IsRested}
@@ -26,7 +25,7 @@ abbrev pub aged_state : Times → ℕ → AddrState → AgedAddr
 aged_state k t s =
     record {
       state = record { fixed = s.fixed; fcfs = (aged k t s.fcfs).state; dhcp = bound_at t s.dhcp };
-      probes = (aged k t s.fcfs).probes
+      probes = (aged k t s.fcfs).probes;
     }
 
 -- nothing is due in the state at t

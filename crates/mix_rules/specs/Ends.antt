@@ -1,5 +1,5 @@
 -- How it ends that an address is live at a port.
-use Rattle.std.specs.Prelude.{ℕ, ◌≡◌, ◌≢◌, ◌+◌, ◌≤◌, ◌⊎◌, Bool, true, false, Option, Some, None}
+use Rattle.std.specs.Prelude.{ℕ, ◌≡◌, ◌≢◌, ◌+◌, ◌≤◌, ◌⊎◌, Option, Some, None}
 use Rattle.savi_kinds.specs.declared.port.Port.{Port}
 use Rattle.savi_kinds.specs.declared.verdict.Verdict.{Verdict}
 use Rattle.savi_kinds.specs.declared.verdict.Verdict.TheVariants.{Pass, Drop}
@@ -10,7 +10,6 @@ use Rattle.fcfs_states.specs.declared.state.Fcfs.{Fcfs}
 use Rattle.fcfs_states.specs.declared.state.Fcfs.TheVariants.{NoBind, Tentative, Valid, TestLt, TestVp}
 use Rattle.fcfs_states.specs.declared.times.Times.{Times}
 use Rattle.fcfs_states.specs.States.{Same}
-use Rattle.dhcp_states.specs.declared.bound.Bound.{Bound}
 use Rattle.mix_rules.specs.declared.state.AddrState.{AddrState}
 use Rattle.mix_rules.specs.States.{owner_of, IsBoundAt}
 use Rattle.mix_rules.specs.Ageing.{bound_at}

@@ -1,6 +1,6 @@
 -- What an event comes to, as a function of its parts: the answer, the state of first come, the binding by DHCP. A law says
 -- that it is the one row of the table.
-use Rattle.std.specs.Prelude.{ℕ, ◌==◌, ◌&&◌, ◌||◌, Bool, true, false, Option, Some, None, if◌then◌else◌}
+use Rattle.std.specs.Prelude.{ℕ, ◌==◌, ◌||◌, Bool, true, false, Option, Some, None, if◌then◌else◌}
 use Rattle.savi_kinds.specs.declared.port.Port.{Port}
 use Rattle.savi_kinds.specs.declared.plan.Method.{Method}
 use Rattle.savi_kinds.specs.declared.plan.Method.TheVariants.{Fcfs as ByFcfs, Dhcp as ByDhcp, Mixed as ByBoth}
@@ -110,15 +110,14 @@ bound_by m t room None fcfs dhcp (Release p) = ended_at p dhcp
 bound_by m t room None fcfs dhcp _ = dhcp
 
 abbrev pub by_parts : Method → Times → ℕ → Bool → AddrState → Ev → Outcome
-by_parts m k t room s event =
-    (
-        answer_by m k t room (owner_of s.fixed s.dhcp) s.fcfs event,
-        record {
-            fixed = s.fixed;
-            fcfs = fcfs_by m k t room s.fixed s.fcfs s.dhcp event;
-            dhcp = bound_by m t room s.fixed s.fcfs s.dhcp event;
-        }
-    )
+by_parts m k t room s event = (
+  answer_by m k t room (owner_of s.fixed s.dhcp) s.fcfs event,
+  record {
+    fixed = s.fixed;
+    fcfs = fcfs_by m k t room s.fixed s.fcfs s.dhcp event;
+    dhcp = bound_by m t room s.fixed s.fcfs s.dhcp event;
+  },
+)
 
 -- what an event at t comes to, where room says whether its port may hold one more address
 abbrev pub next_state : Method → Times → ℕ → Bool → AddrState → Ev → Outcome

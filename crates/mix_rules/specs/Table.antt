@@ -70,7 +70,7 @@ module _ (m : Method) (k : Times) (t : ℕ) (room : Bool) where
     -- without an owner, where addresses are had by first come (alone or beside DHCP): the rows of its own table
     by_first_come : {fcfs new : Fcfs} {event : Ev} {answer : Answer} → m ≢ ByDhcp → FcfsRow k t room fcfs event answer new → Row (free_with fcfs None) event answer (free_with new None)
     -- a lease: none where DHCP assigns nothing
-    lease_unheeded : {r : Port} {valid : ℕ} {fcfs : Fcfs} {dhcp : Option Bound} → m ≡ ByFcfs → Row (free_with fcfs dhcp) (Lease r valid) silence (free_with fcfs dhcp)
+    lease_in_fcfs_prefix : {r : Port} {valid : ℕ} {fcfs : Fcfs} {dhcp : Option Bound} → m ≡ ByFcfs → Row (free_with fcfs dhcp) (Lease r valid) silence (free_with fcfs dhcp)
     -- of lifetime 0: it ends a binding of that port, and nothing else
     lease_of_0 : {bound : Bound} {r : Port} {fcfs : Fcfs} → m ≢ ByFcfs → Same bound.p r → Row (free_with fcfs (Some bound)) (Lease r 0) silence (free_with fcfs None)
     lease_of_0_elsewhere : {bound : Bound} {r : Port} {fcfs : Fcfs} → m ≢ ByFcfs → ¬ Same bound.p r → Row (free_with fcfs (Some bound)) (Lease r 0) silence (free_with fcfs (Some bound))
@@ -78,13 +78,13 @@ module _ (m : Method) (k : Times) (t : ℕ) (room : Bool) where
     -- of an address that is bound: renewed, or moved to a port with room if first come has no state, or left
     lease_renews : {bound : Bound} {r : Port} {valid : ℕ} {fcfs : Fcfs} → m ≢ ByFcfs → valid ≢ 0 → Same bound.p r → Row (free_with fcfs (Some bound)) (Lease r valid) silence (free_with fcfs (lease_to r valid))
     lease_moves : {bound : Bound} {r : Port} {valid : ℕ} → m ≢ ByFcfs → valid ≢ 0 → ¬ Same bound.p r → room ≡ true → Row (free_with NoBind (Some bound)) (Lease r valid) silence (free_with NoBind (lease_to r valid))
-    lease_moves_not_full : {bound : Bound} {r : Port} {valid : ℕ} → m ≢ ByFcfs → valid ≢ 0 → ¬ Same bound.p r → room ≡ false → Row (free_with NoBind (Some bound)) (Lease r valid) silence (free_with NoBind (Some bound))
-    lease_moves_not_claimed : {bound : Bound} {r : Port} {valid : ℕ} {fcfs : Fcfs} → m ≢ ByFcfs → valid ≢ 0 → ¬ Same bound.p r → fcfs ≢ NoBind → Row (free_with fcfs (Some bound)) (Lease r valid) silence (free_with fcfs (Some bound))
+    lease_elsewhere_full : {bound : Bound} {r : Port} {valid : ℕ} → m ≢ ByFcfs → valid ≢ 0 → ¬ Same bound.p r → room ≡ false → Row (free_with NoBind (Some bound)) (Lease r valid) silence (free_with NoBind (Some bound))
+    lease_elsewhere_claimed : {bound : Bound} {r : Port} {valid : ℕ} {fcfs : Fcfs} → m ≢ ByFcfs → valid ≢ 0 → ¬ Same bound.p r → fcfs ≢ NoBind → Row (free_with fcfs (Some bound)) (Lease r valid) silence (free_with fcfs (Some bound))
     -- of an address that isn't bound: made at a port with room if first come has no state, or at the port that alone has one
     lease_makes : {r : Port} {valid : ℕ} → m ≢ ByFcfs → valid ≢ 0 → room ≡ true → Row (free_with NoBind None) (Lease r valid) silence (free_with NoBind (lease_to r valid))
     lease_makes_beside : {r : Port} {valid : ℕ} {fcfs : Fcfs} → m ≢ ByFcfs → valid ≢ 0 → fcfs ≢ NoBind → IsOf r fcfs → Row (free_with fcfs None) (Lease r valid) silence (free_with fcfs (lease_to r valid))
-    lease_makes_not_full : {r : Port} {valid : ℕ} → m ≢ ByFcfs → valid ≢ 0 → room ≡ false → Row (free_with NoBind None) (Lease r valid) silence (free_with NoBind None)
-    lease_makes_not_claimed : {r : Port} {valid : ℕ} {fcfs : Fcfs} → m ≢ ByFcfs → valid ≢ 0 → ¬ IsOf r fcfs → Row (free_with fcfs None) (Lease r valid) silence (free_with fcfs None)
+    lease_unbound_full : {r : Port} {valid : ℕ} → m ≢ ByFcfs → valid ≢ 0 → room ≡ false → Row (free_with NoBind None) (Lease r valid) silence (free_with NoBind None)
+    lease_unbound_claimed : {r : Port} {valid : ℕ} {fcfs : Fcfs} → m ≢ ByFcfs → valid ≢ 0 → ¬ IsOf r fcfs → Row (free_with fcfs None) (Lease r valid) silence (free_with fcfs None)
     -- a release ends a binding of that port, and nothing else
     release_ends : {bound : Bound} {r : Port} {fcfs : Fcfs} → Same bound.p r → Row (free_with fcfs (Some bound)) (Release r) silence (free_with fcfs None)
     release_elsewhere : {bound : Bound} {r : Port} {fcfs : Fcfs} → ¬ Same bound.p r → Row (free_with fcfs (Some bound)) (Release r) silence (free_with fcfs (Some bound))

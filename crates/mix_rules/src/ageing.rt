@@ -1,6 +1,6 @@
 // Ageing.
 
-ghost use Rattle.std.specs.Prelude.{◌≡◌, ◌≢◌, ◌<◌, ◌≤◌, ◌^◌, ◌↔◌, IsTrue, IsNone, IfSome, ℕ, length};
+ghost use Rattle.std.specs.Prelude.{◌≡◌, ◌≢◌, ◌<◌, ◌≤◌, ◌^◌, ◌↔◌, IsTrue, false, IsNone, IfSome, ℕ, length};
 ghost use Rattle.savi_kinds.specs.declared.plan.Method.{Method};
 ghost use Rattle.fcfs_states.specs.Premises.{AreTimes};
 ghost use Rattle.fcfs_states.specs.Ageing.{Ages};
@@ -22,6 +22,7 @@ impl AddrState {
         requires fits { AllMomentsFit self.old }
         ensures value { aged_state k.now t self.old ≡ record { state = self.new; probes = result.probes.items } }
         ensures changed { IsTrue result.changed ↔ (self.new ≢ self.old) }
+        ensures unchanged { result.changed ≡ false → self.new ≡ self.old }
         ensures few { length result.probes.items ≤ 3 }
         ensures rising { AreRising result.probes.items }
         ensures sound { (m : Method) → IsSoundFor m self.old → IsSoundFor m self.new }

@@ -12,6 +12,8 @@ mod laws;
 mod owned;
 mod state;
 mod table;
+#[cfg(test)]
+mod tests;
 
 pub use laws::{
     a_still_state_is_not_touched, a_test_stands_in_silence, ageing_composes,

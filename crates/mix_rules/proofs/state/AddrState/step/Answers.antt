@@ -18,7 +18,7 @@ pub returns-clause-fits : goal.returns-clause-fits
 returns-clause-fits c =
     record {
       fcfs = subst (λ (o : Outcome). MomentsFit o.1.fcfs) c.take.ensures.value (moves-fits c.args.k.now c.args.t c.args.self.now.fcfs c.args.ev _ (fcfs_moves c.args.m c.args.k.now c.args.t c.args.room c.args.self.now c.args.ev) c.requires.times c.requires.moment c.requires.fits.fcfs);
-      dhcp = c.take.ensures.low
+      dhcp = c.take.ensures.low;
     }
 
 pub returns-clause-still : goal.returns-clause-still
