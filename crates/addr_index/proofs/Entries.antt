@@ -11,7 +11,7 @@ find_yes b x xs is = rw is refl
 pub find_no : (b : ℕ) (x : Entry) (xs : List Entry) → is_of b x ≡ false → find (is_of b) (x ∷ xs) ≡ find (is_of b) xs
 find_no b x xs is = rw is refl
 
-count_cons : (b : ℕ) (x : Entry) (xs : List Entry) → count_by (is_of b) (x ∷ xs) ≡ cond (is_of b x) 1 0 + count_by (is_of b) xs
+pub count_cons : (b : ℕ) (x : Entry) (xs : List Entry) → count_by (is_of b) (x ∷ xs) ≡ cond (is_of b x) 1 0 + count_by (is_of b) xs
 count_cons b x xs = sum_by-cons (λ (y : Entry). cond (is_of b y) 1 0) x xs
 
 pub count_yes : (b : ℕ) (x : Entry) (xs : List Entry) → is_of b x ≡ true → count_by (is_of b) (x ∷ xs) ≡ count_by (is_of b) xs + 1
