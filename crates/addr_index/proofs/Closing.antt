@@ -1,5 +1,5 @@
 -- How a search comes to its end, and how a gap is closed.
-use Rattle.std.proofs.Common.{◌≡◌, ◌≢◌, ◌==◌, ◌≤◌, ◌<◌, ◌+◌, ◌⊎◌, ℕ, zero, suc, Bool, true, false, cond, List, [], ◌∷◌, length, get_or, find, count_by, Option, Some, None, refl, sym, ◌∙◌, ap, subst, arith, inl, inr, get_or-set_other, get_or-set_same}
+use Rattle.std.proofs.Common.{◌≡◌, ◌≢◌, ◌==◌, ◌<◌, ◌+◌, ◌⊎◌, ℕ, zero, suc, cond, List, [], ◌∷◌, length, find, Option, Some, None, refl, sym, ◌∙◌, ap, subst, arith, inl, inr, get_or-set_other, get_or-set_same}
 use Rattle.std.proofs.Math.ListN.{set, length-set}
 use Rattle.std.proofs.lemmas.Bool.{cases_Bool, cases_eq, eqb-true, eq-eqb}
 use Rattle.addr_index.specs.declared.entry.Entry.{Entry}
@@ -7,7 +7,7 @@ use Rattle.addr_index.specs.Indexes.{is_of, HasOneEach}
 use Rattle.addr_index.specs.Homes.{home_of}
 use Rattle.addr_index.specs.Ways.{IsOnWay, IsOffWay, IsRound, IsPassed, IsAhead}
 use Rattle.addr_index.specs.Places.{in_place, entries_of, IsReached, IsReachedBut, IsOther, IsRoomFor, HasSameEntries, ClosesGap}
-use Rattle.addr_index.proofs.Ways.{nowhere, end_off, on_off, by_gap, shorter, further, beside, cases_passed, passed_ahead, way_passed, ahead_by, none_ahead, passed_at, passed_later, not_passed, ahead_more}
+use Rattle.addr_index.proofs.Ways.{end_off, on_off, by_gap, shorter, further, beside, cases_passed, passed_ahead, way_passed, ahead_by, none_ahead, passed_at, passed_later, not_passed, ahead_more}
 use Rattle.addr_index.proofs.Filling.{found_place, absent_places, find_filled, count_filled, length_filled, find_emptied, count_emptied, length_emptied, empty_place}
 
 pub IsOther-some : (a : ℕ) (o : Option Entry) → IsOther a o → o ≢ None
@@ -63,12 +63,16 @@ HasSameEntries-move initial places at gap e same there empty within other = reco
   where
     within' : gap < length (set places at None)
     within' = rw length-set within
+
     empty' : in_place (set places at None) gap ≡ None
     empty' = get_or-set_other places at gap None None other ∙ empty
+
     gone : (b : ℕ) → find (is_of b) (entries_of (set places at None)) ≡ cond (e.address == b) None (find (is_of b) (entries_of places))
     gone b = find_emptied places at e b there same.distinct
+
     absent : find (is_of e.address) (entries_of (set places at None)) ≡ None
     absent = gone e.address ∙ rw (eq-eqb e.address e.address refl) refl
+
     found : (b : ℕ) → find (is_of b) (entries_of (set (set places at None) gap (Some e))) ≡ find (is_of b) (entries_of places)
     found b =
         elim (cases_Bool (e.address == b)) [
@@ -136,14 +140,14 @@ closing_kept n initial places emptied steps gap at e closes en sn round there of
       empty = closes.empty;
       passed = passed_later n emptied steps gap closes.passed;
       reached = λ next round' p x f f_there on within empty.
-      let beyond = closes.reached at round p x f f_there on within empty in
-      let p_other : p ≢ at = λ (is : p ≡ at).
-      (let same : f ≡ e = (let f_at : in_place places at ≡ Some f = rw (← is) f_there in cc) in
-      let on_gap : IsOnWay (home_of e.address n) at gap = subst (λ (y : ℕ). IsOnWay (home_of e.address n) at y) beyond.0 (subst (λ (y : ℕ). IsOnWay (home_of e.address n) y x) is (subst (λ (g : Entry). IsOnWay (home_of g.address n) p x) same on)) in
-      on_off (home_of e.address n) at gap on_gap off) in
-      let p_within : p < n = omega (arith, within_places places p f f_there, closes.size) in
-      let round'' : IsRound n (emptied + steps + 1) next = subst (λ (k : ℕ). IsRound n k next) (omega arith) round' in
-      (beyond.0, further n (emptied + steps) gap at next p round round'' (omega (arith, en, sn)) beyond.1 p_other away p_within);
+          let beyond = closes.reached at round p x f f_there on within empty in
+          let p_other : p ≢ at = λ (is : p ≡ at).
+          (let same : f ≡ e = (let f_at : in_place places at ≡ Some f = rw (← is) f_there in cc) in
+          let on_gap : IsOnWay (home_of e.address n) at gap = subst (λ (y : ℕ). IsOnWay (home_of e.address n) at y) beyond.0 (subst (λ (y : ℕ). IsOnWay (home_of e.address n) y x) is (subst (λ (g : Entry). IsOnWay (home_of g.address n) p x) same on)) in
+          on_off (home_of e.address n) at gap on_gap off) in
+          let p_within : p < n = omega (arith, within_places places p f f_there, closes.size) in
+          let round'' : IsRound n (emptied + steps + 1) next = subst (λ (k : ℕ). IsRound n k next) (omega arith) round' in
+          (beyond.0, further n (emptied + steps) gap at next p round round'' (omega (arith, en, sn)) beyond.1 p_other away p_within);
       ahead = (q, q_within, ahead_more n emptied steps at q round en sn q_within q_other q_ahead, q_empty);
     }
 

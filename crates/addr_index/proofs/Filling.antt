@@ -1,11 +1,11 @@
 -- What the places have: which entry a search of them finds, and how many there are, when a place is filled or emptied.
-use Rattle.std.proofs.Common.{◌≡◌, ◌≢◌, ◌==◌, ◌≤◌, ◌<◌, ◌+◌, ◌⊎◌, ℕ, zero, suc, Bool, true, false, cond, List, [], ◌∷◌, length, get_or, find, count_by, Option, Some, None, option_map, refl, sym, ◌∙◌, ap, subst, arith, inl, inr}
+use Rattle.std.proofs.Common.{◌≡◌, ◌≢◌, ◌==◌, ◌≤◌, ◌<◌, ◌+◌, ℕ, zero, suc, true, false, cond, List, [], ◌∷◌, length, find, count_by, Option, Some, None, refl, sym, ◌∙◌, ap, arith, inl, inr}
 use Rattle.std.proofs.Math.ListN.{set}
 use Rattle.std.proofs.lemmas.Bool.{cases_Bool, eqb-true, eq-eqb, false≢true}
 use Rattle.addr_index.specs.declared.entry.Entry.{Entry}
 use Rattle.addr_index.specs.Indexes.{is_of, HasOneEach}
 use Rattle.addr_index.specs.Places.{in_place, entries_of}
-use Rattle.addr_index.proofs.Entries.{find_yes, find_no, count_yes, count_no, count_cons, count_absent, count_there}
+use Rattle.addr_index.proofs.Entries.{find_yes, find_no, count_yes, count_cons, count_there}
 
 -- the rest of entries of pairwise different addresses
 pub HasOneEach-tail : (e : Entry) (xs : List Entry) → HasOneEach (e ∷ xs) → HasOneEach xs

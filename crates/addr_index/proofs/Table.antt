@@ -1,11 +1,11 @@
 -- The table when an entry is taken in or given up.
-use Rattle.std.proofs.Common.{◌≡◌, ◌≢◌, ◌==◌, ◌≤◌, ◌<◌, ◌+◌, ◌-◌, ◌*◌, ◌^◌, ℕ, zero, suc, Bool, true, false, cond, is_some, List, [], ◌∷◌, length, get_or, find, count_by, Option, Some, None, option_map, refl, sym, ◌∙◌, ap, subst, arith, inl, inr, get_or-set_other, get_or-set_same}
+use Rattle.std.proofs.Common.{◌≡◌, ◌≢◌, ◌==◌, ◌≤◌, ◌<◌, ◌+◌, ◌-◌, ◌*◌, ◌^◌, ℕ, zero, suc, Bool, true, false, cond, is_some, List, [], ◌∷◌, length, get_or, find, Option, Some, None, option_map, refl, sym, ◌∙◌, ap, subst, arith, inl, inr, get_or-set_other, get_or-set_same}
 use Rattle.std.proofs.Math.ListN.{set, length-set}
-use Rattle.std.proofs.lemmas.Bool.{cases_Bool, cases_eq, eqb-true, eq-eqb}
+use Rattle.std.proofs.lemmas.Bool.{cases_Bool, cases_eq, eqb-true}
 use Rattle.addr_index.specs.declared.entry.Entry.{Entry}
 use Rattle.addr_index.specs.Indexes.{Index, is_of, key_in, HasOneEach}
 use Rattle.addr_index.specs.Homes.{home_of}
-use Rattle.addr_index.specs.Ways.{IsOnWay, IsOffWay, IsRound}
+use Rattle.addr_index.specs.Ways.{IsOnWay, IsRound}
 use Rattle.addr_index.specs.Places.{in_place, entries_of, IsReached, IsReachedBut, IsPlaceOf, IsRoomFor, HasSameEntries, IsTable}
 use Rattle.addr_index.proofs.Ways.{beside}
 use Rattle.addr_index.proofs.Entries.{count_absent}
@@ -67,8 +67,10 @@ IsTable-insert places len most p e table room less = record {
   where
     filled : in_place (set places p (Some e)) p ≡ Some e
     filled = get_or-set_same places p (Some e) None room.within
+
     others : (y : ℕ) → y ≢ p → in_place (set places p (Some e)) y ≡ in_place places y
     others y other = get_or-set_other places p y (Some e) None other
+
     reached : IsReached (length places) (set places p (Some e))
     reached q x f there on within empty =
         let x_p : x ≢ p = λ (is : x ≡ p). (let none : in_place (set places p (Some e)) p ≡ None = subst (λ (y : ℕ). in_place (set places p (Some e)) y ≡ None) is empty in let some : in_place (set places p (Some e)) p ≡ Some e = filled in cc) in

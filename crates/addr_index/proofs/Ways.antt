@@ -1,11 +1,7 @@
 -- Ways along the ring of places.
-use Rattle.std.proofs.Common.{◌≡◌, ◌≢◌, ◌≤◌, ◌<◌, ◌+◌, ◌⊎◌, ℕ, inl, inr, arith}
+use Rattle.std.proofs.Common.{◌≢◌, ◌≤◌, ◌<◌, ◌+◌, ◌⊎◌, ℕ, inl, inr, arith}
 use Rattle.std.proofs.lemmas.Bool.{cases_lt}
 use Rattle.addr_index.specs.Ways.{IsOnWay, IsOffWay, IsRound, IsPassed, IsAhead}
-
--- no place is on a way of no length
-pub nowhere : (a x : ℕ) → IsOnWay a a x → ⊥
-nowhere a x on = grind arith
 
 -- the end of a way isn't on it
 pub end_off : (a b : ℕ) → IsOnWay a b b → ⊥
@@ -50,13 +46,13 @@ pub cases_passed : (n from steps x : ℕ) → IsPassed n from steps x ⊎ IsAhea
 cases_passed n from steps x =
     elim (cases_lt x from) [
       | inl before ↦ elim (cases_lt (x + n) (from + steps)) [
-          | inl passed ↦ inl (record { straight = λ h. omega arith; round = λ h. passed })
-          | inr ahead ↦ inr (record { straight = λ h. omega arith; round = λ h. ahead })
-        ]
+        | inl passed ↦ inl (record { straight = λ h. omega arith; round = λ h. passed })
+        | inr ahead ↦ inr (record { straight = λ h. omega arith; round = λ h. ahead })
+      ]
       | inr behind ↦ elim (cases_lt x (from + steps)) [
-          | inl passed ↦ inl (record { straight = λ h. passed; round = λ h. omega arith })
-          | inr ahead ↦ inr (record { straight = λ h. ahead; round = λ h. omega arith })
-        ]
+        | inl passed ↦ inl (record { straight = λ h. passed; round = λ h. omega arith })
+        | inr ahead ↦ inr (record { straight = λ h. ahead; round = λ h. omega arith })
+      ]
     ]
 
 pub passed_ahead : (n from steps x : ℕ) → IsPassed n from steps x → IsAhead n from steps x → ⊥
@@ -69,10 +65,6 @@ way_passed n from steps at x r fn sn xn on = record { straight = λ h. grind ari
 -- a place ahead is reached by `at`
 pub ahead_by : (n from steps at x : ℕ) → IsRound n (from + steps) at → from < n → steps < n → x < n → IsAhead n from steps x → x ≢ at → IsOnWay from x at
 ahead_by n from steps at x r fn sn xn ahead other = record { begun = λ h. grind arith; before = λ h. grind arith; round = λ h h'. grind arith }
-
--- what one step more passes
-pub passed_more : (n from steps at x : ℕ) → IsRound n (from + steps) at → from < n → steps < n → x < n → x ≢ at → IsPassed n from (steps + 1) x → IsPassed n from steps x
-passed_more n from steps at x r fn sn xn other passed = record { straight = λ h. grind arith; round = λ h. grind arith }
 
 pub passed_at : (n from steps at : ℕ) → IsRound n (from + steps) at → from < n → steps < n → IsPassed n from (steps + 1) at
 passed_at n from steps at r fn sn = record { straight = λ h. grind arith; round = λ h. grind arith }
@@ -89,6 +81,3 @@ ahead_more n from steps at x r fn sn xn other ahead = record { straight = λ h. 
 -- once round, nothing is ahead
 pub none_ahead : (n from x : ℕ) → x < n → from < n → IsAhead n from n x → ⊥
 none_ahead n from x xn fn ahead = grind arith
-
-pub none_passed : (n from x : ℕ) → IsPassed n from 0 x → x < n → from < n → ⊥
-none_passed n from x passed xn fn = grind arith

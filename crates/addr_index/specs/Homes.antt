@@ -1,5 +1,5 @@
 -- The home of an address: the place at which a search for it begins.
-use Rattle.std.specs.Prelude.{ℕ, ◌+◌, ◌-◌, ◌*◌, ◌/◌, ◌%◌, ◌^◌, bit_and, bit_xor}
+use Rattle.std.specs.Prelude.{ℕ, ◌-◌, ◌*◌, ◌/◌, ◌%◌, ◌^◌, bit_and, bit_xor}
 
 -- a 64-bit word with its high bits folded down by k places, times m
 abbrev pub folded : ℕ → ℕ → ℕ → ℕ

@@ -1,6 +1,7 @@
 //! The index.
 
-ghost use Rattle.std.specs.Prelude.{◌≡◌, ◌==◌, ◌≤◌, ◌<◌, ◌+◌, ◌^◌, ℕ, [], Some, None, is_some, if◌then◌else◌, length, IfOk};
+ghost use Rattle.std.specs.Prelude.{◌≡◌, ◌==◌, ◌≤◌, ◌<◌, ◌+◌, ◌^◌, ◌↔◌, ℕ, [], Some, None, is_some, if◌then◌else◌, length, IfOk, IsTrue};
+ghost use Rattle.std.specs.Bool.{MatchBool};
 ghost use Rattle.addr_index.specs.Indexes.{Index, key_in, HasOneEach};
 
 use crate::entry::Entry;
@@ -72,10 +73,7 @@ impl AddrIndex {
         match search(&self.places, a.0) {
             Ok(_) => unreachable!(),
             Err(place) => {
-                self.places[place] = Some(Entry {
-                    address: a.0,
-                    key,
-                });
+                self.places[place] = Some(Entry { address: a.0, key });
                 self.len += 1;
             }
         }
@@ -93,6 +91,20 @@ impl AddrIndex {
             close_gap(&mut self.places, place);
             self.len -= 1;
         }
+    }
+
+    /// Whether the index holds no address. O(1).
+    pub fn is_empty(&self) -> bool
+        ensures { IsTrue result ↔ (length self.now.entries ≡ 0) }
+    {
+        self.len == 0
+    }
+
+    /// Whether the index holds as many addresses as it has room for. O(1).
+    pub fn is_full(&self) -> bool
+        ensures { MatchBool result (length self.now.entries ≡ self.now.most) (length self.now.entries < self.now.most) }
+    {
+        self.len == self.most
     }
 
     /// How many addresses the index holds, at most those that it has room for, and each once. O(1).

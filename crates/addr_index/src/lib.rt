@@ -12,6 +12,8 @@ mod home;
 mod index;
 mod places;
 mod ring;
+#[cfg(test)]
+mod tests;
 
 pub use entry::Entry;
 pub use index::AddrIndex;

@@ -9,7 +9,11 @@ pub(crate) fn round(steps: usize, places: usize) -> usize
     requires { steps < places + places }
     ensures { IsRound places steps result }
 {
-    if steps < places { steps } else { steps - places }
+    if steps < places {
+        steps
+    } else {
+        steps - places
+    }
 }
 
 // Whether the way from one place up to another one comes by a third.

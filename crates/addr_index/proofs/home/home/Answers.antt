@@ -1,4 +1,4 @@
-use Rattle.std.proofs.Common.{◌≡◌, ap, arith, refl}
+use Rattle.std.proofs.Common.{refl}
 use Rattle.addr_index.specs.Homes.{home_of}
 use Rattle.addr_index.proofs.home.home.Goals as goal
 

@@ -1,10 +1,7 @@
-use Rattle.std.proofs.Common.{◌≡◌, ◌<◌, ◌+◌, ℕ, List, Option, Some, None, length, sym, subst, arith, refl}
-use Rattle.std.proofs.Math.ListN.{set}
-use Rattle.addr_index.specs.declared.entry.Entry.{Entry}
+use Rattle.std.proofs.Common.{◌≡◌, ◌<◌, ◌+◌, ℕ, length, sym, subst, arith}
 use Rattle.addr_index.specs.Homes.{home_of}
 use Rattle.addr_index.specs.Ways.{IsOnWay, IsOffWay, IsRound}
-use Rattle.addr_index.specs.Places.{IsReached, ClosesGap}
-use Rattle.addr_index.proofs.Ways.{none_ahead}
+use Rattle.addr_index.specs.Places.{ClosesGap}
 use Rattle.addr_index.proofs.Closing.{closing_begun, closing_done, closing_kept, closing_moved, none_unless}
 use Rattle.addr_index.proofs.places.close_gap.Goals as goal
 use Rattle.addr_index.proofs.places.close_gap.Goals.{then-is_on_way, else-is_on_way}

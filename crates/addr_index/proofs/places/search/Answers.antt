@@ -1,10 +1,4 @@
-use Rattle.std.proofs.Common.{◌≡◌, ◌<◌, ◌+◌, ℕ, List, Option, Some, None, length, sym, subst, arith, refl}
-use Rattle.addr_index.specs.declared.entry.Entry.{Entry}
-use Rattle.addr_index.specs.Homes.{home_of}
-use Rattle.addr_index.specs.Ways.{IsOnWay, IsOffWay, IsRound, IsPassed}
-use Rattle.addr_index.specs.Places.{IsReached, IsRoomFor, IsOther, in_place}
-use Rattle.addr_index.proofs.Ways.{cases_passed, none_ahead}
-use Rattle.addr_index.proofs.Filling.{empty_place}
+use Rattle.std.proofs.Common.{arith}
 use Rattle.addr_index.proofs.Closing.{room_for, room_met}
 use Rattle.addr_index.proofs.places.search.Goals as goal
 

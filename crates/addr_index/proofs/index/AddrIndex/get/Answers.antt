@@ -1,8 +1,7 @@
-use Rattle.std.proofs.Common.{◌≡◌, ◌==◌, ◌+◌, ◌<◌, ◌≤◌, ℕ, List, Option, cond, Some, None, length, option_map, sym, ◌∙◌, ap, subst, arith, rules}
+use Rattle.std.proofs.Common.{◌≡◌, List, Option, option_map, sym, ◌∙◌, ap, subst, rules}
 use Rattle.addr_index.specs.declared.entry.Entry.{Entry}
-use Rattle.addr_index.specs.Indexes.{Index, key_in}
-use Rattle.addr_index.specs.Places.{IsPlaceOf, IsRoomFor, entries_of, in_place}
-use Rattle.addr_index.proofs.Table.{index_of, key_placed, read_place}
+use Rattle.addr_index.specs.Places.{IsPlaceOf, in_place}
+use Rattle.addr_index.proofs.Table.{key_placed, read_place}
 use Rattle.addr_index.proofs.index.AddrIndex.get.Goals as goal
 
 pub returns-in-Ok : goal.returns-in-Ok

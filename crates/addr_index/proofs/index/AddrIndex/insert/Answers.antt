@@ -1,4 +1,4 @@
-use Rattle.std.proofs.Common.{◌≡◌, ◌==◌, ◌+◌, ◌<◌, ◌≤◌, ℕ, List, Option, cond, Some, None, length, sym, ◌∙◌, ap, subst, arith}
+use Rattle.std.proofs.Common.{◌≡◌, ◌<◌, List, Option, None, length, sym, subst, arith}
 use Rattle.addr_index.specs.declared.entry.Entry.{Entry}
 use Rattle.addr_index.specs.Indexes.{Index, key_in}
 use Rattle.addr_index.specs.Places.{IsPlaceOf, IsRoomFor, entries_of}

@@ -1,4 +1,3 @@
-use Rattle.addr_index.specs.Indexes.{HasOneEach}
 use Rattle.addr_index.proofs.index.AddrIndex.len.Goals as goal
 
 pub returns-clause-distinct : goal.returns-clause-distinct

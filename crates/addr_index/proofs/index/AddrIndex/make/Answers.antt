@@ -1,5 +1,4 @@
-use Rattle.std.proofs.Common.{◌≡◌, ◌≤◌, ◌*◌, ◌^◌, ℕ, List, [], length, ap, refl, sym, ◌∙◌, arith}
-use Rattle.addr_index.specs.declared.entry.Entry.{Entry}
+use Rattle.std.proofs.Common.{◌≡◌, ◌≤◌, ◌*◌, ◌^◌, [], refl, arith}
 use Rattle.addr_index.specs.Places.{entries_of}
 use Rattle.addr_index.proofs.Filling.{none_in_empty}
 use Rattle.addr_index.proofs.Table.{IsTable-empty}

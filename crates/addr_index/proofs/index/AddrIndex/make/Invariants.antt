@@ -1,4 +1,4 @@
-use Rattle.std.proofs.Common.{◌≡◌, ℕ, ◌<◌, None, length}
+use Rattle.std.proofs.Common.{◌≡◌, ℕ, None, length}
 use Rattle.addr_index.specs.Places.{in_place}
 use Rattle.addr_index.proofs.index.AddrIndex.make.Given as goal
 

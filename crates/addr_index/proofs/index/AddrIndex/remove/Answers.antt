@@ -1,11 +1,11 @@
-use Rattle.std.proofs.Common.{◌≡◌, ◌==◌, ◌+◌, ◌<◌, ◌≤◌, ℕ, List, Option, cond, Some, None, length, sym, ◌∙◌, ap, subst, arith}
+use Rattle.std.proofs.Common.{◌≡◌, ◌+◌, List, Option, None, length, sym, ◌∙◌, ap, subst, arith}
 use Rattle.std.proofs.Math.ListN.{set, length-set}
 use Rattle.std.specs.Vec.{with_item, with_items}
 use Rattle.std.proofs.lemmas.List.{with_items_is}
 use Rattle.addr_index.specs.declared.entry.Entry.{Entry}
 use Rattle.addr_index.specs.Indexes.{Index, key_in, HasOneEach}
-use Rattle.addr_index.specs.Places.{IsPlaceOf, IsRoomFor, HasSameEntries, IsReached, entries_of}
-use Rattle.addr_index.proofs.Table.{index_of, place_absent, distinct_emptied, length_removed, IsTable-remove, key_remove, length_remove}
+use Rattle.addr_index.specs.Places.{IsPlaceOf, HasSameEntries, entries_of}
+use Rattle.addr_index.proofs.Table.{place_absent, distinct_emptied, length_removed, IsTable-remove, key_remove, length_remove}
 use Rattle.addr_index.proofs.index.AddrIndex.remove.Goals as goal
 
 place : (c : goal.After-deref_mut) → IsPlaceOf c.args.a.0 c.self.inside.places.items c.in-Ok.place
