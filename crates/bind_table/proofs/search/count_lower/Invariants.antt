@@ -1,0 +1,10 @@
+use Rattle.std.proofs.Common.{◌≡◌, ◌≤◌, ◌-◌, length, true, false}
+use Rattle.std.specs.List.{AllWithin}
+use Rattle.bind_table.specs.Rows.{is_below}
+use Rattle.bind_table.proofs.search.count_lower.Given as goal
+
+abbrev pub invariant-loop-low : goal.invariant-loop-low
+invariant-loop-low l = (l.low ≤ l.high) × (l.high ≤ length l.rows) × AllWithin (λ row. is_below l.a.0 row ≡ true) l.rows 0 l.low × AllWithin (λ row. is_below l.a.0 row ≡ false) l.rows l.high (length l.rows)
+
+abbrev pub decreases-loop-low : goal.decreases-loop-low
+decreases-loop-low l = l.high - l.low
