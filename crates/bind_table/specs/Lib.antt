@@ -1,3 +1,4 @@
 pub mod Rows
 pub mod Bindings
 pub mod Places
+pub mod Kept
