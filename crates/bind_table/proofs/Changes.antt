@@ -32,6 +32,29 @@ pub row_there : (a : ℕ) (rows : List Row) (i : ℕ) (d : Row) → IsRising row
 row_there a rows i d rising stand at =
     ap (λ xs. get_or xs i d) (around a rows i rising stand at) ∙ get_or_at (filter (is_below a) rows) (row_of a (state_in rows a)) (filter (is_above a) rows) d i (sym at.place)
 
+-- the rows before and behind one that stands at a place
+pub front_is : (a : ℕ) (rows : List Row) (i : ℕ) → IsRising rows → AllStand rows → StandsAt a rows i → take i rows ≡ filter (is_below a) rows
+front_is a rows i rising stand at =
+    ap (take i) (around a rows i rising stand at) ∙ take_at (filter (is_below a) rows) (row_of a (state_in rows a) ∷ filter (is_above a) rows) i (sym at.place)
+
+pub behind_is : (a : ℕ) (rows : List Row) (i : ℕ) → IsRising rows → AllStand rows → StandsAt a rows i → drop (suc i) rows ≡ filter (is_above a) rows
+behind_is a rows i rising stand at = ap (drop (suc i)) (around a rows i rising stand at) ∙ drop_behind (filter (is_below a) rows) (filter (is_above a) rows) i at.place
+  where
+    drop_behind : (front back : List Row) (j : ℕ) → j ≡ length front → drop (suc j) (front ++ row_of a (state_in rows a) ∷ back) ≡ back
+    drop_behind front back j is =
+        ap (λ xs. drop (suc j) xs) (regroup front back) ∙ drop_at (front ++ row_of a (state_in rows a) ∷ []) back (suc j) (omega (arith, is, length-append front (row_of a (state_in rows a) ∷ [])))
+      where
+        regroup : (xs ys : List Row) → xs ++ row_of a (state_in rows a) ∷ ys ≡ (xs ++ row_of a (state_in rows a) ∷ []) ++ ys
+        regroup [] ys = refl
+        regroup (x ∷ xs) ys = ap (λ zs. x ∷ zs) (regroup xs ys)
+
+-- the rows before and from a place on where one would stand
+pub front_of : (a : ℕ) (rows : List Row) (i : ℕ) → IsRising rows → AllStand rows → BelongsAt a rows i → take i rows ≡ filter (is_below a) rows
+front_of a rows i rising stand at = ap (take i) (between a rows i rising stand at) ∙ take_at (filter (is_below a) rows) (filter (is_above a) rows) i (sym at.place)
+
+pub rest_of : (a : ℕ) (rows : List Row) (i : ℕ) → IsRising rows → AllStand rows → BelongsAt a rows i → drop i rows ≡ filter (is_above a) rows
+rest_of a rows i rising stand at = ap (drop i) (between a rows i rising stand at) ∙ drop_at (filter (is_below a) rows) (filter (is_above a) rows) i (sym at.place)
+
 -- another state in its place
 pub set_there : (a : ℕ) (state : AddrState) (rows : List Row) (i : ℕ) → IsRising rows → AllStand rows → StandsAt a rows i → has_state state ≡ true → set rows i (row_of a state) ≡ with_state a state rows
 set_there a state rows i rising stand at stands =

@@ -1,5 +1,5 @@
 -- Keys and their rows, side by side.
-use Rattle.std.proofs.Common.{◌≡◌, ◌≢◌, ◌⊎◌, ℕ, ◌+◌, ◌≤◌, ◌<◌, ◌==◌, zero, suc, Bool, true, false, cond, Option, Some, None, List, [], ◌∷◌, ◌++◌, filter, filter_map, length, get_or, take, drop, refl, sym, ◌∙◌, ap, subst, inl, inr, arith}
+use Rattle.std.proofs.Common.{◌≡◌, ◌≢◌, ◌⊎◌, ℕ, ◌+◌, ◌≤◌, ◌<◌, ◌==◌, zero, suc, Bool, true, false, cond, Option, Some, None, IsSome, List, [], ◌∷◌, ◌++◌, filter, filter_map, length, get_or, take, drop, refl, sym, ◌∙◌, ap, subst, inl, inr, arith}
 use Rattle.std.specs.List.{AllByRecursion}
 use Rattle.std.proofs.lemmas.Bool.{cases_Bool, cases_eq, eqb-true, eq-eqb, false≢true}
 use Rattle.mix_rules.specs.declared.state.AddrState.{AddrState}
@@ -113,3 +113,15 @@ pub split_at : {X : Type 0} (xs : List X) (i : ℕ) (d : X) → i < length xs �
 split_at [] i d within = absurd (omega (arith, within))
 split_at (x ∷ xs) zero d within = refl
 split_at (x ∷ xs) (suc i) d within = ap (λ ys. x ∷ ys) (split_at xs i d (omega (arith, within)))
+
+pub told_some : (f : ℕ → Option Row) (keys : List ℕ) (rows : List Row) (i e : ℕ) → HaveRows f keys rows → i < length keys → IsSome (f (get_or keys i e))
+told_some f [] rows i e told within = absurd (omega (arith, within))
+told_some f (key ∷ keys) [] i e told within = absurd told
+told_some f (key ∷ keys) (row ∷ rows) zero e told within = rw told.0 refl
+told_some f (key ∷ keys) (row ∷ rows) (suc i) e told within = told_some f keys rows i e told.1 (omega (arith, within))
+
+-- the row that a look-up under a key gives
+pub told_get : (f : ℕ → Option Row) (keys : List ℕ) (rows : List Row) (i e : ℕ) (row d : Row) → HaveRows f keys rows → i < length rows → f (get_or keys i e) ≡ Some row → row ≡ get_or rows i d
+told_get f keys rows i e row d told within is =
+    let same : Some row ≡ Some (get_or rows i d) = sym is ∙ told_at f keys rows i e d told within in
+    cc

@@ -2,3 +2,4 @@ pub mod Rows
 pub mod Bindings
 pub mod Places
 pub mod Kept
+pub mod Counts

@@ -7,11 +7,13 @@
 //! RFC 6620 section 3.2.1 (the binding data base), RFC 7513 section 5, RFC 8074 section 3.1.
 #![tactic(auto)]
 
+mod counts;
 mod row;
 mod search;
+mod stored;
 mod table;
 #[cfg(test)]
 mod tests;
 
 pub use row::Row;
-pub use table::BindTable;
+pub use table::{BindTable, ROWS_MOST};

@@ -1,40 +1,31 @@
-//! The search for a row.
+//! The search for a place in the order of addresses.
 
-ghost use Rattle.std.specs.Prelude.{◌≡◌, ◌≤◌, length};
-ghost use Rattle.bind_table.specs.Rows.{IsRising, AllStand};
-ghost use Rattle.bind_table.specs.Places.{IsPlaceOf, place_of};
+ghost use Rattle.std.specs.Prelude.{◌≡◌};
+ghost use Rattle.slab.specs.Slab.{get};
+ghost use Rattle.bind_table.specs.Rows.{IsRising};
+ghost use Rattle.bind_table.specs.Places.{place_of};
+ghost use Rattle.bind_table.specs.Kept.{HaveRows, rows_under};
 
 use crate::row::Row;
+use crate::stored::row_under;
 use savi_kinds::Addr;
+use slab::Slab;
 
-// How many of these rows have addresses lower than this one. O(log n).
-fn count_lower(rows: &[Row], a: Addr) -> usize
-    requires { IsRising rows.now }
-    ensures { result ≡ place_of a.0 rows.now }
+// How many of the rows under these keys have addresses lower than this one. O(log n).
+pub(crate) fn count_lower(rows: &Slab<Row>, keys: &[u32], a: Addr) -> usize
+    requires told { HaveRows (get rows.now) keys.now (rows_under rows.now keys.now) }
+    requires rising { IsRising (rows_under rows.now keys.now) }
+    ensures { result ≡ place_of a.0 (rows_under rows.now keys.now) }
 {
     let mut low = 0;
-    let mut high = rows.len();
+    let mut high = keys.len();
     while low < high {
         let middle = low + (high - low) / 2;
-        if rows[middle].address.0 < a.0 {
+        if row_under(rows, keys[middle]).address.0 < a.0 {
             low = middle + 1;
         } else {
             high = middle;
         }
     }
     low
-}
-
-// The place of the row of this address, or where it would stand. O(log n).
-pub(crate) fn search(rows: &[Row], a: Addr) -> Result<usize, usize>
-    requires rising { IsRising rows.now }
-    requires stand { AllStand rows.now }
-    ensures { IsPlaceOf a.0 rows.now result }
-{
-    let at = count_lower(rows, a);
-    if at < rows.len() && rows[at].address.0 == a.0 {
-        Ok(at)
-    } else {
-        Err(at)
-    }
 }
