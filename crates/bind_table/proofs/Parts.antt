@@ -5,7 +5,7 @@ use Rattle.std.proofs.lemmas.Bool.{cases_Bool, cases_lt, cases_eq, ltb-true, ltb
 use Rattle.mix_rules.specs.declared.state.AddrState.{AddrState}
 use Rattle.mix_rules.specs.States.{nobody, has_state, is_held_at}
 use Rattle.bind_table.specs.declared.row.Row.{Row}
-use Rattle.bind_table.specs.Rows.{address_of, state_in, row_of, rows_of, is_below, is_above, with_state, IsRising, AllStand, is_at, held}
+use Rattle.bind_table.specs.Rows.{address_of, state_in, row_of, rows_of, is_below, is_above, with_state, IsRising, AllStand, is_at, count_at}
 
 -- what holds of each item of a list holds of each that a filter leaves
 pub all_filtered : {X : Type 0} (P : X → Type 0) (p : X → Bool) (xs : List X) → AllByRecursion P xs → AllByRecursion P (filter p xs)

@@ -4,7 +4,7 @@ use Rattle.slab.specs.Slab.{Slab, get}
 use Rattle.addr_index.specs.Indexes.{Index, key_in}
 use Rattle.mix_rules.specs.States.{has_state}
 use Rattle.bind_table.specs.declared.row.Row.{Row}
-use Rattle.bind_table.specs.Rows.{state_in, row_of, held}
+use Rattle.bind_table.specs.Rows.{state_in, row_of, count_at}
 use Rattle.bind_table.specs.Places.{place_of}
 use Rattle.bind_table.specs.Bindings.{Bindings}
 use Rattle.bind_table.specs.Counts.{held_once}

@@ -5,7 +5,7 @@ use Rattle.std.specs.List.{filter_map}
 use Rattle.slab.specs.Slab.{Slab, get, slab_len}
 use Rattle.addr_index.specs.Indexes.{Index, key_in}
 use Rattle.bind_table.specs.declared.row.Row.{Row}
-use Rattle.bind_table.specs.Rows.{address_of, IsRising, AllStand, held}
+use Rattle.bind_table.specs.Rows.{address_of, IsRising, AllStand, count_at}
 
 -- the rows that stand under these keys
 abbrev pub rows_under : Slab Row → List ℕ → List Row
@@ -30,7 +30,7 @@ pub record IsKept (slab : Slab Row) (index : Index) (keys counts : List ℕ) (ro
   pub rising : IsRising rows
   pub stand : AllStand rows
   pub indexed : (a : ℕ) → key_in index a ≡ key_of keys rows a
-  pub counted : (port : ℕ) → 1 ≤ port → port ≤ 16 → slice_index counts (port - 1) ≡ held port rows
+  pub counted : (port : ℕ) → 1 ≤ port → port ≤ 16 → slice_index counts (port - 1) ≡ count_at port rows
   pub slab_size : slab_len slab ≡ length rows
   pub index_size : length index.entries ≡ length rows
 

@@ -49,8 +49,8 @@ abbrev pub is_at : ℕ → Row → Bool
 is_at port row = is_held_at port row.state
 
 -- how many addresses a port holds: each counts once
-abbrev pub held : ℕ → List Row → ℕ
-held port rows = count_by (is_at port) rows
+abbrev pub count_at : ℕ → List Row → ℕ
+count_at port rows = count_by (is_at port) rows
 
 -- what is told of a row: its address and its state
 abbrev pub pair_of : Row → Addr × AddrState

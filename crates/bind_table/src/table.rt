@@ -4,7 +4,7 @@ ghost use Rattle.std.specs.Prelude.{◌≡◌, ◌⊎◌, ◌<◌, [], true, len
 ghost use Rattle.std.specs.Option.{option_map};
 ghost use Rattle.savi_kinds.specs.Ports.{number_of};
 ghost use Rattle.mix_rules.specs.States.{nobody, has_state};
-ghost use Rattle.bind_table.specs.Rows.{state_in, with_state, held, pair_of};
+ghost use Rattle.bind_table.specs.Rows.{state_in, with_state, count_at, pair_of};
 
 use crate::counts::{count, recount};
 use crate::row::Row;
@@ -127,7 +127,7 @@ impl BindTable {
     /// How many addresses the port holds. An address counts once, and the port that claims it under a test holds it too.
     /// O(1).
     pub fn count(&self, q: Port) -> u32
-        ensures { result ≡ held (number_of q) self.now.rows }
+        ensures { result ≡ count_at (number_of q) self.now.rows }
     {
         count(&self.counts, q)
     }
