@@ -1,13 +1,12 @@
 -- How many addresses a port holds once one address has another state.
-use Rattle.std.proofs.Common.{◌≡◌, ◌⊎◌, ℕ, ◌+◌, ◌-◌, ◌≤◌, Bool, true, false, cond, List, [], ◌∷◌, ◌++◌, filter, length, count_by, get_or, refl, sym, ◌∙◌, ap, subst, inl, inr, arith}
-use Rattle.std.proofs.lemmas.Bool.{cases_Bool, false≢true}
-use Rattle.std.proofs.lemmas.List.Sums.{sum_by-append, sum_by-cons, count_by-le-length}
+use Rattle.std.proofs.Common.{◌≡◌, ◌⊎◌, ℕ, ◌+◌, ◌-◌, ◌≤◌, Bool, true, false, cond, List, ◌++◌, filter, length, get_or, refl, ◌∙◌, ap, inl, inr, arith}
+use Rattle.std.proofs.lemmas.List.Sums.{sum_by-append, count_by-le-length}
 use Rattle.mix_rules.specs.declared.state.AddrState.{AddrState}
 use Rattle.mix_rules.specs.States.{nobody, has_state, is_held_at}
 use Rattle.bind_table.specs.declared.row.Row.{Row}
-use Rattle.bind_table.specs.Rows.{state_in, row_of, rows_of, is_below, is_above, with_state, IsRising, AllStand, is_at, count_at}
+use Rattle.bind_table.specs.Rows.{state_in, rows_of, is_below, is_above, with_state, IsRising, AllStand, is_at, count_at}
 use Rattle.bind_table.specs.Counts.{held_once, IsRecounted}
-use Rattle.bind_table.proofs.Parts.{parts, state_cases, rows_of-standing}
+use Rattle.bind_table.proofs.Parts.{parts, state_cases}
 
 -- the state of an address counts as often as its rows do
 own_count : (port a : ℕ) (state : AddrState) → (has_state state ≡ true) ⊎ (state ≡ nobody) → count_at port (rows_of a state) ≡ held_once port state

@@ -1,20 +1,21 @@
 -- The parts belong together after each change.
-use Rattle.std.proofs.Common.{◌≡◌, ◌≢◌, ◌⊎◌, ℕ, ◌+◌, ◌≤◌, ◌<◌, ◌==◌, suc, Bool, true, false, cond, Option, Some, None, List, [], ◌∷◌, ◌++◌, filter, length, get_or, take, drop, refl, sym, ◌∙◌, ap, subst, inl, inr, arith}
+use Rattle.std.proofs.Common.{◌≡◌, ◌≢◌, ℕ, ◌+◌, ◌<◌, ◌==◌, suc, true, cond, Some, None, List, ◌∷◌, ◌++◌, filter, length, get_or, take, drop, refl, sym, ◌∙◌, ap, subst, inl, inr, arith}
 use Rattle.std.specs.List.{AllByRecursion}
 use Rattle.std.proofs.lemmas.Bool.{cases_Bool, eqb-true, eq-eqb}
-use Rattle.std.proofs.lemmas.List.{length-append, length-take, take-append-drop}
+use Rattle.std.proofs.lemmas.List.{length-append, take-append-drop}
 use Rattle.slab.specs.Slab.{Slab, get, slab_len, Updates}
 use Rattle.addr_index.specs.Indexes.{Index, key_in}
 use Rattle.mix_rules.specs.declared.state.AddrState.{AddrState}
 use Rattle.mix_rules.specs.States.{nobody, has_state}
 use Rattle.bind_table.specs.declared.row.Row.{Row}
-use Rattle.bind_table.specs.Rows.{address_of, state_in, row_of, is_below, is_above, with_state, IsRising, AllStand}
-use Rattle.bind_table.specs.Places.{place_of, StandsAt, BelongsAt}
+use Rattle.bind_table.specs.Rows.{address_of, state_in, row_of, is_below, is_above, with_state}
+use Rattle.bind_table.specs.Places.{place_of}
+use Rattle.bind_table.proofs.Places.{StandsAt, BelongsAt}
 use Rattle.bind_table.specs.Counts.{IsRecounted}
 use Rattle.bind_table.specs.Kept.{HaveRows, key_of, IsKept}
 use Rattle.bind_table.proofs.Parts.{all_weaker, all_joined, below_all, above_all, rising_with, stand_with, rows_of-standing}
-use Rattle.bind_table.proofs.Changes.{around, between, front_is, behind_is, front_of, rest_of, stands_within, belongs_within}
-use Rattle.bind_table.proofs.Keys.{keys_length, told_at, told_take, told_drop, told_joined, told_other, row_under, state_found, state_absent, key_absent, key_of-middle, split_at}
+use Rattle.bind_table.proofs.Around.{around, between, front_is, behind_is, front_of, rest_of, stands_within}
+use Rattle.bind_table.proofs.Keys.{keys_length, told_take, told_drop, told_joined, told_other, row_under, state_found, state_absent, key_absent, key_of-middle, split_at}
 use Rattle.bind_table.proofs.Held.{counts_kept}
 
 -- rows that are lower or higher have other addresses

@@ -1,6 +1,6 @@
 pub mod Parts
 pub mod Places
-pub mod Changes
+pub mod Around
 pub mod Keys
 pub mod Held
 pub mod KeptChanges

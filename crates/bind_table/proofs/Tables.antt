@@ -1,15 +1,15 @@
 -- A table as a whole after a change.
-use Rattle.std.proofs.Common.{◌≡◌, ◌⊎◌, ℕ, ◌+◌, ◌-◌, ◌^◌, ◌≤◌, ◌<◌, true, Some, None, List, length, get_or, sym, ◌∙◌, ap, subst, arith}
+use Rattle.std.proofs.Common.{◌≡◌, ◌⊎◌, ℕ, ◌-◌, ◌^◌, ◌≤◌, ◌<◌, true, Some, None, List, length, get_or, sym, ◌∙◌, ap, subst, arith}
 use Rattle.slab.specs.Slab.{Slab, get}
 use Rattle.addr_index.specs.Indexes.{Index, key_in}
 use Rattle.mix_rules.specs.States.{has_state}
 use Rattle.bind_table.specs.declared.row.Row.{Row}
-use Rattle.bind_table.specs.Rows.{state_in, row_of, count_at}
+use Rattle.bind_table.specs.Rows.{state_in, row_of}
 use Rattle.bind_table.specs.Places.{place_of}
 use Rattle.bind_table.specs.Bindings.{Bindings}
 use Rattle.bind_table.specs.Counts.{held_once}
 use Rattle.bind_table.specs.Kept.{rows_under, IsKept, HasRoom}
-use Rattle.bind_table.proofs.Changes.{stands_within, belongs_within, room_for}
+use Rattle.bind_table.proofs.Around.{stands_within, belongs_within, room_for}
 use Rattle.bind_table.proofs.Keys.{rows_told, keys_length}
 use Rattle.bind_table.proofs.Held.{held_least, held_most}
 use Rattle.bind_table.proofs.KeptChanges.{row_by_key, stands_by_key, belongs_without_key}

@@ -34,8 +34,8 @@ pub(crate) fn recount(counts: &mut [u32; PORTS_MOST], before: &AddrState, after:
         let Some(port) = Port::new(place as u8 + 1) else {
             unreachable!();
         };
-        counts[place] =
-            counts[place] + u32::from(came.contains(port)) - u32::from(left.contains(port));
+        counts[place] = counts[place] + u32::from(came.contains(port))
+            - u32::from(left.contains(port));
     }
 }
 

@@ -1,5 +1,4 @@
-use Rattle.std.proofs.Common.{◌≡◌, ℕ, List, Some, refl, ap, sym, ◌∙◌, arith}
-use Rattle.mix_rules.specs.declared.state.AddrState.{AddrState}
+use Rattle.std.proofs.Common.{◌≡◌, List, Some, refl, ap, sym, ◌∙◌}
 use Rattle.bind_table.specs.declared.row.Row.{Row}
 use Rattle.bind_table.specs.Rows.{state_in, row_of}
 use Rattle.bind_table.specs.Bindings.{Bindings}

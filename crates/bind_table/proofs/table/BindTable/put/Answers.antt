@@ -1,16 +1,14 @@
-use Rattle.std.proofs.Common.{◌≡◌, ◌≤◌, ◌<◌, ◌-◌, ℕ, ◌∷◌, ◌++◌, List, Some, None, refl, take, drop, length, get_or, vec_capacity, ap, sym, ◌∙◌, subst, arith}
+use Rattle.std.proofs.Common.{◌≡◌, ◌≤◌, ◌<◌, ◌-◌, List, Some, None, refl, length, get_or, vec_capacity, sym, ◌∙◌, subst, arith}
 use Rattle.slab.specs.Slab.{Slab, get}
-use Rattle.addr_index.specs.Indexes.{Index, key_in}
-use Rattle.mix_rules.specs.declared.state.AddrState.{AddrState}
-use Rattle.mix_rules.specs.States.{nobody}
+use Rattle.addr_index.specs.Indexes.{key_in}
 use Rattle.bind_table.specs.declared.row.Row.{Row}
 use Rattle.bind_table.specs.Rows.{state_in, with_state}
-use Rattle.bind_table.specs.Places.{place_of, BelongsAt}
+use Rattle.bind_table.specs.Places.{place_of}
 use Rattle.bind_table.specs.Counts.{held_once, IsRecounted}
-use Rattle.bind_table.specs.Kept.{rows_under, IsKept, HasRoom}
+use Rattle.bind_table.specs.Kept.{rows_under, IsKept}
 use Rattle.bind_table.proofs.Keys.{keys_length}
-use Rattle.bind_table.proofs.KeptChanges.{row_by_key, belongs_without_key, renewed, inserted}
-use Rattle.bind_table.proofs.Tables.{whole_kept, whole_view, table_of, counts_least, state_under, room_left, place_within}
+use Rattle.bind_table.proofs.KeptChanges.{row_by_key, renewed, inserted}
+use Rattle.bind_table.proofs.Tables.{whole_kept, whole_view, counts_least, state_under, room_left, place_within}
 use Rattle.bind_table.proofs.table.BindTable.put.Goals as goal
 
 pub replace-before-requires : goal.replace-before-requires

@@ -1,5 +1,4 @@
-use Rattle.std.proofs.Common.{◌≡◌, ◌≢◌, ◌≤◌, ◌<◌, ◌+◌, ◌-◌, ◌++◌, ℕ, suc, List, Some, None, cond, is_some, refl, take, drop, length, get_or, vec_capacity, ap, sym, ◌∙◌, subst, arith}
-use Rattle.slab.specs.Slab.{get}
+use Rattle.std.proofs.Common.{◌≡◌, ◌≤◌, ◌+◌, ◌-◌, ℕ, List, Some, None, cond, is_some, refl, length, get_or, vec_capacity, ap, sym, ◌∙◌, subst, arith}
 use Rattle.addr_index.specs.Indexes.{key_in}
 use Rattle.mix_rules.specs.States.{nobody}
 use Rattle.bind_table.specs.declared.row.Row.{Row}
@@ -8,7 +7,7 @@ use Rattle.bind_table.specs.Places.{place_of}
 use Rattle.bind_table.specs.Bindings.{Bindings}
 use Rattle.bind_table.specs.Counts.{held_once, IsRecounted}
 use Rattle.bind_table.specs.Kept.{rows_under, IsKept}
-use Rattle.bind_table.proofs.Changes.{nothing_there}
+use Rattle.bind_table.proofs.Around.{nothing_there}
 use Rattle.bind_table.proofs.KeptChanges.{row_by_key, belongs_without_key, removed}
 use Rattle.bind_table.proofs.Tables.{whole_kept, whole_view, table_of, counts_least, counts_most, state_under, place_below}
 use Rattle.bind_table.proofs.table.BindTable.remove.Goals as goal
