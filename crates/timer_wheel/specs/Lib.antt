@@ -1,2 +1,4 @@
 pub mod Arms
 pub mod Places
+pub mod Rows
+pub mod Rings
