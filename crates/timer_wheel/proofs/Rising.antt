@@ -1,14 +1,12 @@
--- Pairs in rising order of address, and where the pair of an address stands among them.
+-- Pairs in rising order of address.
 use Rattle.std.proofs.Common.{◌≡◌, ◌≢◌, ◌⊎◌, ℕ, get_or, add-one, subst, ◌≤◌, ◌<◌, ◌==◌, zero, suc, Bool, true, false, List, [], ◌∷◌, ◌++◌, length, filter, drop, Option, None, Some, IsSome, All, refl, sym, ap, arith, inl, inr, ◌∙◌, take, ◌+◌, length-append, length-drop}
 use Rattle.std.specs.List.{AllPairs, AllWithin}
 use Rattle.std.proofs.lemmas.Bool.{cases_Bool, cases_eq, ltb-true, ltb-false, lt-ltb, le-ltb, eqb-true, eq-eqb}
-use Rattle.std.proofs.lemmas.List.Elements.{All-head, All-tail, All-append, All-weaker, All-cons, filter_passes}
+use Rattle.std.proofs.lemmas.List.Elements.{All-head, All-tail, All-append, All-weaker, All-cons, filter_passes, filter-append}
 use Rattle.std.proofs.lemmas.List.Kept.{AllPairs-cons, AllPairs-filter}
-use Rattle.std.proofs.lemmas.List.{take-append-drop, take-set, drop-set, length-take-le}
-use Rattle.std.proofs.Math.ListN.{set}
+use Rattle.std.proofs.lemmas.List.{append-nil}
 use Rattle.timer_wheel.specs.declared.armed.Armed.{Armed}
 use Rattle.timer_wheel.specs.Arms.{is_of, is_below, is_above, IsRising, due_in, with_due, pair_of}
-use Rattle.timer_wheel.specs.Places.{StandsAt, BelongsAt}
 
 pub filter-all : {X : Type 0} (p : X → Bool) (xs : List X) → All (λ x. p x ≡ true) xs → filter p xs ≡ xs
 filter-all p [] pass = refl
@@ -38,13 +36,6 @@ behind x xs rising = AllPairs-head (λ earlier later. earlier.address.0 < later.
 pub rest_rising : (x : Armed) (xs : List Armed) → IsRising (x ∷ xs) → IsRising xs
 rest_rising x xs rising = AllPairs-tail (λ earlier later. earlier.address.0 < later.address.0) x xs rising
 
--- those that are higher than an address are all above it
-pub all_above : (n : ℕ) (xs : List Armed) → All (λ y. n < y.address.0) xs → All (λ y. is_above n y ≡ true) xs
-all_above n xs higher = All-weaker (λ y. n < y.address.0) (λ y. is_above n y ≡ true) (λ y h. lt-ltb n y.address.0 h) xs higher
-
-pub none_below : (n : ℕ) (xs : List Armed) → All (λ y. n < y.address.0) xs → All (λ y. is_below n y ≡ false) xs
-none_below n xs higher = All-weaker (λ y. n < y.address.0) (λ y. is_below n y ≡ false) (λ y h. le-ltb y.address.0 n (omega (arith, h))) xs higher
-
 -- a pair with another address isn't the one
 pub is_of-other : (n : ℕ) (y : Armed) → y.address.0 ≢ n → is_of n y ≡ false
 is_of-other n y other =
@@ -59,72 +50,6 @@ due_in-none n [] higher = refl
 due_in-none n (x ∷ xs) higher =
     let above : n < x.address.0 = All-head (λ y. n < y.address.0) x xs higher in
     rw (is_of-other n x (omega (arith, above))) (due_in-none n xs (All-tail (λ y. n < y.address.0) x xs higher))
-
--- a pair of the address stands where it is
-pub stands : (n : ℕ) (xs : List Armed) (i : ℕ) → IsRising xs → i < length xs → ((d : Armed) → (get_or xs i d).address.0 ≡ n) → StandsAt n xs i
-stands n [] i rising within is = absurd (omega (arith, within))
-stands n (x ∷ xs) zero rising within is =
-    let same : x.address.0 ≡ n = is x in
-    let higher : All (λ y. n < y.address.0) xs = subst (λ m. All (λ y. m < y.address.0) xs) same (behind x xs rising) in
-    record {
-      bound = within;
-      found = rw (eq-eqb x.address.0 n same) refl;
-      below = rw (le-ltb x.address.0 n (omega (arith, same))) (sym (filter-none (is_below n) xs (none_below n xs higher)));
-      above = rw (le-ltb n x.address.0 (omega (arith, same))) (sym (filter-all (is_above n) xs (all_above n xs higher)));
-    }
-stands n (x ∷ xs) (suc i) rising within is =
-    let inside : i < length xs = omega (arith, within) in
-    let later : x.address.0 < (get_or xs i x).address.0 = behind x xs rising i x inside in
-    let lower : x.address.0 < n = omega (arith, later, is x) in
-    let rest : StandsAt n xs i = stands n xs i (rest_rising x xs rising) inside is in
-    let behind_it : drop (suc i) xs ≡ filter (is_above n) xs = rw add-one at rest.above in
-    record {
-      bound = within;
-      found = rw (is_of-other n x (omega (arith, lower))) rest.found;
-      below = rw (lt-ltb x.address.0 n lower) (ap (λ ys. x ∷ ys) rest.below);
-      above = rw (add-one, le-ltb n x.address.0 (omega (arith, lower))) behind_it;
-    }
-
--- a pair of the address would stand between the lower and the higher ones
-pub belongs : (n : ℕ) (xs : List Armed) (i : ℕ) → i ≤ length xs → AllWithin (λ y. y.address.0 < n) xs 0 i → AllWithin (λ y. n < y.address.0) xs i (length xs) → BelongsAt n xs i
-belongs n xs zero within lower higher =
-    let all : All (λ y. n < y.address.0) xs = λ k d inside. higher k d (omega arith) inside in
-    record {
-      bound = within;
-      none = due_in-none n xs all;
-      below = sym (filter-none (is_below n) xs (none_below n xs all));
-      above = sym (filter-all (is_above n) xs (all_above n xs all));
-    }
-belongs n [] (suc i) within lower higher = absurd (omega (arith, within))
-belongs n (x ∷ xs) (suc i) within lower higher =
-    let first : x.address.0 < n = lower 0 x (omega arith) (omega arith) in
-    let rest : BelongsAt n xs i = belongs n xs i (omega (arith, within)) (λ k d from to. lower (suc k) d (omega arith) (omega (arith, to))) (λ k d from to. higher (suc k) d (omega (arith, from)) (omega (arith, to))) in
-    record {
-      bound = within;
-      none = rw (is_of-other n x (omega (arith, first))) rest.none;
-      below = rw (lt-ltb x.address.0 n first) (ap (λ ys. x ∷ ys) rest.below);
-      above = rw (le-ltb n x.address.0 (omega (arith, first))) rest.above;
-    }
-
--- those from a higher one on are higher
-pub belongs_before : (n : ℕ) (xs : List Armed) (i : ℕ) → IsRising xs → i < length xs → AllWithin (λ y. y.address.0 < n) xs 0 i → ((d : Armed) → n < (get_or xs i d).address.0) → BelongsAt n xs i
-belongs_before n xs i rising within lower first =
-    belongs n xs i (omega (arith, within)) lower
-    (λ k d from to.
-       elim (cases_eq i k) [
-         | inl same ↦ subst (λ j. n < (get_or xs j d).address.0) same (first d)
-         | inr later ↦
-             let more : (get_or xs i d).address.0 < (get_or xs k d).address.0 = rising i k d (omega (arith, from, later)) to in
-             omega (arith, more, first d)
-       ])
-
--- a pair is put where one of its address stands
-pub set_stands : (armed : Armed) (xs : List Armed) (i : ℕ) → StandsAt armed.address.0 xs i → set xs i armed ≡ with_due armed.address.0 (Some armed.due) xs
-set_stands armed xs i at = sym (take-append-drop i (set xs i armed)) ∙ rw (take-set xs i armed, drop-set xs i armed at.bound, at.below, at.above) refl
-
--- or where it belongs
-pub insert_belongs : (armed : Armed) (xs : List Armed) (i : ℕ) → BelongsAt armed.address.0 xs i → take i xs ++ armed ∷ drop i xs ≡ with_due armed.address.0 (Some armed.due) xs
-insert_belongs armed xs i at = rw (at.below, at.above) refl
 
 -- a rising list stays one
 pub IsRising-with_due : (a : ℕ) (due : Option ℕ) (xs : List Armed) → IsRising xs → IsRising (with_due a due xs)
@@ -156,13 +81,22 @@ IsRising-with_due a due xs rising = joined due
         (λ y low. All-cons (λ z. y.address.0 < z.address.0) mine (filter (is_above a) xs) low (All-weaker (λ z. a < z.address.0) (λ z. y.address.0 < z.address.0) (λ z high. omega (arith, low, high)) (filter (is_above a) xs) higher))
         (filter (is_below a) xs) lower)
 
-pub remove_stands : (a : ℕ) (xs : List Armed) (i : ℕ) → StandsAt a xs i → take i xs ++ drop (suc i) xs ≡ with_due a None xs
-remove_stands a xs i at = let above : drop (suc i) xs ≡ filter (is_above a) xs = rw add-one at at.above in rw (at.below, above) refl
+-- those that pass a filter pass it again
+filter-twice : {X : Type 0} (p : X → Bool) (xs : List X) → filter p (filter p xs) ≡ filter p xs
+filter-twice p xs = filter-all p (filter p xs) (filter_passes p xs)
 
--- where nothing is due for an address, canceling it changes nothing
-pub cancel_belongs : (a : ℕ) (xs : List Armed) (i : ℕ) → BelongsAt a xs i → xs ≡ with_due a None xs
-cancel_belongs a xs i at = sym (take-append-drop i xs) ∙ rw (at.below, at.above) refl
+-- no lower one is higher, and no higher one lower
+low-high : (a : ℕ) (xs : List Armed) → filter (is_below a) (filter (is_above a) xs) ≡ []
+low-high a xs = filter-none (is_below a) (filter (is_above a) xs) (All-weaker (λ y. is_above a y ≡ true) (λ y. is_below a y ≡ false) (λ y h. let high : a < y.address.0 = ltb-true a y.address.0 h in le-ltb y.address.0 a (omega (arith, high))) (filter (is_above a) xs) (filter_passes (is_above a) xs))
 
--- inserting a pair makes the list longer by one
-pub length-insert : (armed : Armed) (xs : List Armed) (i : ℕ) → i ≤ length xs → length (take i xs ++ armed ∷ drop i xs) ≡ length xs + 1
-length-insert armed xs i within = omega (arith, length-append (take i xs) (armed ∷ drop i xs), length-take-le i xs within, length-drop i xs)
+high-low : (a : ℕ) (xs : List Armed) → filter (is_above a) (filter (is_below a) xs) ≡ []
+high-low a xs = filter-none (is_above a) (filter (is_below a) xs) (All-weaker (λ y. is_below a y ≡ true) (λ y. is_above a y ≡ false) (λ y h. let low : y.address.0 < a = ltb-true y.address.0 a h in le-ltb a y.address.0 (omega (arith, low))) (filter (is_below a) xs) (filter_passes (is_below a) xs))
+
+-- what is armed for an address takes the place of what was
+pub with_due-again : (a d : ℕ) (xs : List Armed) → with_due a (Some d) (with_due a None xs) ≡ with_due a (Some d) xs
+with_due-again a d xs =
+    let low : filter (is_below a) (with_due a None xs) ≡ filter (is_below a) xs =
+      filter-append (is_below a) (filter (is_below a) xs) (filter (is_above a) xs) ∙ ap (λ ys. ys ++ filter (is_below a) (filter (is_above a) xs)) (filter-twice (is_below a) xs) ∙ ap (λ ys. filter (is_below a) xs ++ ys) (low-high a xs) ∙ append-nil (filter (is_below a) xs) in
+    let high : filter (is_above a) (with_due a None xs) ≡ filter (is_above a) xs =
+      filter-append (is_above a) (filter (is_below a) xs) (filter (is_above a) xs) ∙ ap (λ ys. ys ++ filter (is_above a) (filter (is_above a) xs)) (high-low a xs) ∙ filter-twice (is_above a) xs in
+    ap (λ ys. ys ++ (pair_of a (Some d) ++ filter (is_above a) (with_due a None xs))) low ∙ ap (λ ys. filter (is_below a) xs ++ (pair_of a (Some d) ++ ys)) high

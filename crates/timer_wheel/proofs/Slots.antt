@@ -48,7 +48,7 @@ none_at slots a none = go (due_in (arms_in slots) a) refl
     go None is = refl
     go (Some d) is = let has : Has slots a d = has_row slots a d is in absurd (none has.key has.armed has.there has.address)
 
-rest_each : (x : Option Armed) (slots : List (Option Armed)) → IsOneEach (x ∷ slots) → IsOneEach slots
+pub rest_each : (x : Option Armed) (slots : List (Option Armed)) → IsOneEach (x ∷ slots) → IsOneEach slots
 rest_each x slots each j k y z at_j at_k same = let e : suc j ≡ suc k = each (suc j) (suc k) y z at_j at_k same in omega (arith, e)
 
 -- what a row holds is due
@@ -175,22 +175,4 @@ arms_same slots a none = one_list (arms_in slots) (with_due a None (arms_in slot
         elim (cases_eq b a) [
           | inl here ↦ ap (due_in (arms_in slots)) here ∙ none ∙ sym (ap (due_in (with_due a None (arms_in slots))) here ∙ due_in-with_same a None (arms_in slots))
           | inr other ↦ sym (due_in-with_other a b None (arms_in slots) other)
-        ]
-
--- what is armed for an address takes the place of what was
-pub arms_replaced : (slots : List (Option Armed)) (a d : ℕ) → with_due a (Some d) (with_due a None (arms_in slots)) ≡ with_due a (Some d) (arms_in slots)
-arms_replaced slots a d =
-    one_list (with_due a (Some d) (with_due a None (arms_in slots))) (with_due a (Some d) (arms_in slots))
-    (IsRising-with_due a (Some d) (with_due a None (arms_in slots)) (IsRising-with_due a None (arms_in slots) (arms_in-rising slots)))
-    (IsRising-with_due a (Some d) (arms_in slots) (arms_in-rising slots)) same
-  where
-    same : (b : ℕ) → due_in (with_due a (Some d) (with_due a None (arms_in slots))) b ≡ due_in (with_due a (Some d) (arms_in slots)) b
-    same b =
-        elim (cases_eq b a) [
-          | inl here ↦
-              ap (due_in (with_due a (Some d) (with_due a None (arms_in slots)))) here ∙ due_in-with_same a (Some d) (with_due a None (arms_in slots))
-              ∙ sym (ap (due_in (with_due a (Some d) (arms_in slots))) here ∙ due_in-with_same a (Some d) (arms_in slots))
-          | inr other ↦
-              due_in-with_other a b (Some d) (with_due a None (arms_in slots)) other ∙ due_in-with_other a b None (arms_in slots) other
-              ∙ sym (due_in-with_other a b (Some d) (arms_in slots) other)
         ]

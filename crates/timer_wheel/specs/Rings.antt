@@ -1,6 +1,6 @@
 -- The buckets of a wheel, each a ring of nodes in rising order of moment, then address. A node below 1,024 is the end of a
 -- bucket's ring, and node 1,024 + key is the row under this key.
-use Rattle.std.specs.Prelude.{ℕ, ◌≡◌, ◌≢◌, ◌<◌, ◌+◌, ◌-◌, ◌*◌, ◌/◌, ◌%◌, ◌^◌, nat_lt, Bool, true, ◌||◌, if◌then◌else◌, is_some, Option, None, Some, List, slice_index}
+use Rattle.std.specs.Prelude.{ℕ, ◌≡◌, ◌≢◌, ◌<◌, ◌+◌, ◌-◌, ◌*◌, ◌/◌, ◌%◌, ◌^◌, ◌==◌, nat_lt, Bool, true, false, ◌||◌, ◌&&◌, if◌then◌else◌, is_some, Option, None, Some, List, slice_index}
 use Rattle.timer_wheel.specs.declared.armed.Armed.{Armed}
 use Rattle.timer_wheel.specs.Rows.{row_at}
 
@@ -11,6 +11,21 @@ slice_of armed = armed.due / 64
 -- the bucket of that slice
 abbrev pub bucket_of : Armed → ℕ
 bucket_of armed = slice_of armed % 1024
+
+-- whether a pair is due sooner than another one, or at the same moment and of a lower address
+abbrev pub is_sooner : Armed → Armed → Bool
+is_sooner x y = nat_lt x.due y.due || (x.due == y.due && nat_lt x.address.0 y.address.0)
+
+-- which of two is sooner, where there are any
+abbrev pub sooner_of : Option Armed → Option Armed → Option Armed
+sooner_of None other = other
+sooner_of (Some x) None = Some x
+sooner_of (Some x) (Some y) = if is_sooner y x then Some y else Some x
+
+-- whether there is one that is due in a slice
+abbrev pub is_in : ℕ → Option Armed → Bool
+is_in slice None = false
+is_in slice (Some armed) = slice_of armed == slice
 
 -- the row of a node, or none at an end
 abbrev pub row_of : List (Option Armed) → ℕ → Option Armed
@@ -28,7 +43,7 @@ bucket_in node (Some armed) = bucket_of armed
 abbrev pub bucket_at : List (Option Armed) → ℕ → ℕ
 bucket_at slots node = bucket_in node (row_of slots node)
 
--- where a pair stands in the order by moment, then address
+-- where a pair stands in this order
 abbrev pub rank_of : Armed → ℕ
 rank_of armed = armed.due * 2 ^ 128 + armed.address.0 + 1
 

@@ -7,6 +7,8 @@
 #![tactic(auto)]
 
 mod armed;
+mod rings;
+mod search;
 #[cfg(test)]
 mod tests;
 mod wheel;

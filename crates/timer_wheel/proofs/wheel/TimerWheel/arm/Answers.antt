@@ -1,42 +1,23 @@
-use Rattle.std.proofs.Common.{◌≡◌, ◌⊎◌, ◌≤◌, ◌<◌, ◌+◌, ℕ, Option, None, Some, IsSome, List, length, take, drop, ◌++◌, ◌∷◌, inl, inr, arith, ap, ◌∙◌, sym, subst}
-use Rattle.std.proofs.lemmas.Bool.{false≢true}
-use Rattle.std.proofs.lemmas.List.{length-set}
-use Rattle.std.proofs.Math.ListN.{set}
+use Rattle.std.proofs.Common.{◌≡◌, ◌⊎◌, ◌<◌, ◌≤◌, ℕ, List, length, Option, Some, None, IsSome, sym, subst, ap, ◌∙◌, inl, inr, arith}
 use Rattle.timer_wheel.specs.declared.armed.Armed.{Armed}
-use Rattle.timer_wheel.specs.Arms.{Wheel, due_in, with_due, IsRising}
-use Rattle.timer_wheel.specs.Places.{StandsAt, BelongsAt}
-use Rattle.timer_wheel.proofs.Rising.{set_stands, insert_belongs, length-insert, IsRising-with_due}
+use Rattle.timer_wheel.specs.Arms.{Wheel, due_in, with_due}
+use Rattle.timer_wheel.proofs.Rising.{with_due-again}
+use Rattle.timer_wheel.proofs.Pointwise.{due_in-with_same}
+use Rattle.timer_wheel.proofs.Keeping.{length-canceled_less, length-canceled_le}
 use Rattle.timer_wheel.proofs.wheel.TimerWheel.arm.Goals as goal
 
--- the new pairs where the address was armed
-changed : (c : goal.After-self-1) → set c.self.inside.arms.items c.in-Ok.at (record { address = c.args.a; due = c.args.due }) ≡ with_due c.args.a.0 (Some c.args.due) c.self.inside.arms.items
-changed c = set_stands (record { address = c.args.a; due = c.args.due }) c.self.inside.arms.items c.in-Ok.at (subst (λ xs. StandsAt c.args.a.0 xs c.in-Ok.at) c.as_slice.ensures.value c.in-Ok.ensures)
+pub add-requires-clause-absent : goal.add-requires-clause-absent
+add-requires-clause-absent c = ap (λ (w : Wheel). due_in w.arms c.args.a.0) c.disarm.ensures.arms ∙ due_in-with_same c.args.a.0 None c.args.self.now.arms
 
-pub invariant_of-self : goal.invariant_of-self
-invariant_of-self c =
-    (subst IsRising (sym (changed c)) (IsRising-with_due c.args.a.0 (Some c.args.due) c.self.inside.arms.items c.self.invariant.0),
-    c.self.invariant.1,
-    omega (arith, c.self.invariant.2, length-set c.self.inside.arms.items c.in-Ok.at (record { address = c.args.a; due = c.args.due })))
+-- there is room once what was armed for the address is gone
+room : (a most : ℕ) (arms : List Armed) → length arms ≤ most → IsSome (due_in arms a) ⊎ (length arms < most) → length (with_due a None arms) < most
+room a most arms fits (inl some) = omega (arith, fits, length-canceled_less a arms some)
+room a most arms fits (inr less) = omega (arith, less, length-canceled_le a arms)
 
-belongs_there : (c : goal.After-insert_within) → BelongsAt c.args.a.0 c.self.inside.arms.items c.in-Err.at
-belongs_there c = subst (λ xs. BelongsAt c.args.a.0 xs c.in-Err.at) c.as_slice.ensures.value c.in-Err.ensures
+pub add-requires-clause-room : goal.add-requires-clause-room
+add-requires-clause-room c = subst (λ (w : Wheel). length w.arms < w.most) (sym c.disarm.ensures.arms) (room c.args.a.0 c.args.self.now.most c.args.self.now.arms c.disarm.ensures.room c.requires)
 
--- and where it wasn't
-inserted : (c : goal.After-insert_within) → c.insert_within.new.arms.items ≡ with_due c.args.a.0 (Some c.args.due) c.self.inside.arms.items
-inserted c = c.insert_within.ensures.items ∙ insert_belongs (record { address = c.args.a; due = c.args.due }) c.self.inside.arms.items c.in-Err.at (belongs_there c)
-
--- there was room, since nothing was armed for it
-room : (xs : List Armed) (a i most : ℕ) → BelongsAt a xs i → IsSome (due_in xs a) ⊎ (length xs < most) → length xs < most
-room xs a i most at (inl some) = let none : IsSome {T = ℕ} None = subst IsSome at.none some in absurd (false≢true none)
-room xs a i most at (inr less) = less
-
-pub invariant_of-self-in-Err : goal.invariant_of-self-in-Err
-invariant_of-self-in-Err c =
-    (subst IsRising (sym (inserted c)) (IsRising-with_due c.args.a.0 (Some c.args.due) c.self.inside.arms.items c.self.invariant.0),
-    omega (arith, c.self.invariant.1, c.insert_within.ensures.capacity),
-    omega (arith, ap length c.insert_within.ensures.items, length-insert (record { address = c.args.a; due = c.args.due }) c.self.inside.arms.items c.in-Err.at (belongs_there c).bound,
-    room c.self.inside.arms.items c.args.a.0 c.in-Err.at c.self.inside.most (belongs_there c) (subst (λ (w : Wheel). IsSome (due_in w.arms c.args.a.0) ⊎ (length w.arms < w.most)) (sym c.self.view_is) c.requires)))
-
-pub returns-in-Ok : goal.returns-in-Ok
-returns-in-Ok c = ap (λ xs. record { arms = xs; most = c.self.inside.most }) (changed c) ∙ ap (λ (w : Wheel). record { arms = with_due c.args.a.0 (Some c.args.due) w.arms; most = w.most }) c.self.view_is
-
+pub returns : goal.returns
+returns c =
+    c.add.ensures ∙ ap (λ (w : Wheel). record { arms = with_due c.args.a.0 (Some c.args.due) w.arms; most = w.most }) c.disarm.ensures.arms
+    ∙ ap (λ xs. record { arms = xs; most = c.args.self.now.most }) (with_due-again c.args.a.0 c.args.due c.args.self.now.arms)
