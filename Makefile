@@ -1,19 +1,22 @@
 # The switch, its demonstration and its benchmark. Each needs the Rattle toolchain (`rt` on the path) and no network.
 
-.PHONY: build demo plan bench check clean
+.PHONY: build look demo plan bench check clean FORCE
 
-# The proved program. The first build proves each crate, 15 to 30 minutes on 4 cores; a later one takes seconds.
+# The proved program. The first build proves each crate, 15 to 30 minutes on 4 cores; where the program was built from these
+# very sources, by `make` or by the gate, it is taken as it is.
 build: build/savi_switch
 
-# What `rt` makes of a crate, in its out/, isn't a source.
-SOURCES := $(shell find crates -name out -prune -o '(' -name '*.rt' -o -name '*.antt' ')' -print)
-build/%: $(SOURCES) crates.txt HANDLES
-	tools/build $*
+build/%: FORCE
+	@tools/build $*
+
+# The examples, replayed by a build that isn't proved. About half a minute.
+look:
+	@tools/look
 
 # Replays of the examples: a host that attacks and its router, and a link of five ports. The first time takes the build, a
 # later one a second.
 demo: build
-	tools/demo
+	@tools/demo
 
 # Reads a configuration, and prints its plan or what is wrong with it: make plan PLAN=FILE.
 PLAN = examples/shared-network/plan.toml

@@ -2,7 +2,7 @@
 use Rattle.std.proofs.Common.{ℕ, ◌≡◌, ◌≢◌, ◌+◌, ◌*◌, ◌≤◌, ◌<◌, ◌==◌, nat_le, zero, suc, Bool, true, false, not, List, [], ◌∷◌, ◌++◌, length, count_by, cond, refl, sym, ◌∙◌, ap, subst, arith, inl, inr, length-append, Some, None}
 use Rattle.std.specs.Str.{bytes_eq}
 use Rattle.std.specs.Cmp.Lexicographic.{same_text}
-use Rattle.std.proofs.lemmas.Bool.{cases_Bool, cases_eq, and_parts, and_cases, not-false, not_from_true, ltb-true, lt-ltb, eqb-true, eq-eqb, eqb-false, leb-true, le-leb, lt-leb}
+use Rattle.std.proofs.lemmas.Bool.{cases_Bool, cases_eq, and_parts, and_cases, not-false, not_from_true, ltb-true, lt-ltb, eqb-true, eq-eqb, leb-false, leb-true, le-leb, lt-leb}
 use Rattle.std.proofs.lemmas.List.Elements.{filter_passes, All-filter, filter-append}
 use Rattle.savi_kinds.specs.Ports.{number_of}
 use Rattle.savi_kinds.specs.declared.verdict.Rule.TheVariants.{PendingFull}
@@ -84,10 +84,10 @@ pub has_room : (port tid : ℕ) (duid : List ℕ) (requests : List Request) → 
 has_room port tid duid requests most not_full =
     let fewer : count_at port (without_pair tid duid requests) ≤ count_at port requests = count_by-filter-le (is_at port) (λ request. not (has_pair tid duid request)) requests in
     let own : Bool = has_asked port tid duid requests in
-    elim (and_cases (count_at port requests == 16) (not own) not_full) [
+    elim (and_cases (nat_le 16 (count_at port requests)) (not own) not_full) [
       | inl below ↦
-          let ne : count_at port requests ≢ 16 = eqb-false (count_at port requests) 16 below in
-          omega (arith, fewer, most, ne)
+          let less : count_at port requests < 16 = leb-false 16 (count_at port requests) below in
+          omega (arith, fewer, less)
       | inr renewed ↦
           let less : count_at port (without_pair tid duid requests) + 1 ≤ count_at port requests = count_by-filter_fewer (is_at port) (has_pair tid duid) requests (not-false own renewed) in
           omega (arith, less, most)

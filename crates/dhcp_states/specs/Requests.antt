@@ -1,5 +1,5 @@
 -- The requests of DHCPv6 clients, the one that was asked last at the end, and which of them are open (RFC 7513 section 6).
-use Rattle.std.specs.Prelude.{ℕ, ◌+◌, ◌==◌, nat_lt, Bool, not, ◌&&◌, if◌then◌else◌, Option, Some, None, List, [], ◌∷◌, ◌++◌, filter, count_by, find}
+use Rattle.std.specs.Prelude.{ℕ, ◌+◌, ◌==◌, nat_lt, nat_le, Bool, not, ◌&&◌, if◌then◌else◌, Option, Some, None, List, [], ◌∷◌, ◌++◌, filter, count_by, find}
 use Rattle.std.specs.List.{list_any}
 use Rattle.std.specs.Option.{option_map}
 use Rattle.std.specs.Str.{bytes_eq}
@@ -37,9 +37,9 @@ count_at port requests = count_by (is_at port) requests
 abbrev pub has_asked : ℕ → ℕ → List ℕ → List Request → Bool
 has_asked port tid duid requests = list_any (λ request. is_at port request && has_pair tid duid request) requests
 
--- whether a port has 16 of the open requests and none of them has this pair
+-- whether a port has at least 16 of the open requests and none of them has this pair
 abbrev pub is_full : ℕ → ℕ → List ℕ → List Request → Bool
-is_full port tid duid requests = count_at port requests == 16 && not (has_asked port tid duid requests)
+is_full port tid duid requests = nat_le 16 (count_at port requests) && not (has_asked port tid duid requests)
 
 -- whether another port has an open request with this pair
 abbrev pub is_contested : ℕ → ℕ → List ℕ → List Request → Bool

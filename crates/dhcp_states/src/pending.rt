@@ -147,11 +147,11 @@ fn rule_against(requests: &[Request], p: Port, tid: u32, duid: &[u8]) -> Option<
     }
 }
 
-// Whether port p has 16 of these requests and none of them has this pair.
+// Whether port p has at least 16 of these requests and none of them has this pair.
 fn is_full(requests: &[Request], p: Port, tid: u32, duid: &[u8]) -> bool
     ensures { result ≡ is_full (number_of p) tid duid.now requests.now }
 {
-    count_at(requests, p) == OPEN_REQUESTS_MOST && !has_asked(requests, p, tid, duid)
+    count_at(requests, p) >= OPEN_REQUESTS_MOST && !has_asked(requests, p, tid, duid)
 }
 
 // How many of these requests were asked at port p.

@@ -1,4 +1,5 @@
--- Ageing: what becomes of a state that nothing touches (RFC 6620 section 3.2 for what the states mean; the rows are this switch's own).
+-- Ageing: what becomes of a state that nothing touches (RFC 6620 section 3.2 for what the states mean; the rows are this
+-- switch's own).
 use Rattle.std.specs.Prelude.{ℕ, ◌+◌, ◌<◌, ◌≤◌, Bool, true, false, Option, Some, None, List, [], ◌∷◌}
 use Rattle.savi_kinds.specs.declared.port.Port.{Port}
 use Rattle.fcfs_states.specs.declared.answer.Probe.{Probe}

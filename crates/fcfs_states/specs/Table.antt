@@ -1,4 +1,5 @@
--- The table of first come, first served: a line for each state and event (RFC 6620 section 3.2 for what the states mean; the rows are this switch's own).
+-- The table of first come, first served: a line for each state and event (RFC 6620 section 3.2 for what the states mean; the
+-- rows are this switch's own).
 use Rattle.std.specs.Prelude.{ℕ, ◌≡◌, ◌+◌, Bool, true, false, Option, Some, None}
 use Rattle.savi_kinds.specs.declared.port.Port.{Port}
 use Rattle.savi_kinds.specs.declared.verdict.Rule.{Rule}

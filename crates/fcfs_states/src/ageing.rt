@@ -55,7 +55,8 @@ impl Fcfs {
         aged
     }
 
-    /// The earliest moment (ms) at which ageing changes the state or sends a probe; none where no port has the address. O(1).
+    /// The earliest moment (ms) at which ageing changes the state or sends a probe; none where no port has the address.
+    /// O(1).
     pub fn due(&self, k: &Times) -> Option<u64>
         requires times { AreTimes k.now }
         requires fits { MomentsFit self.now }

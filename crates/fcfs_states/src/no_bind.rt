@@ -9,7 +9,8 @@ use crate::event::Ev;
 use crate::state::Fcfs;
 use savi_kinds::{Rule, Scope};
 
-/// A first claim is tentative where its port has room; a packet that wasn't announced waits, and the trusted ports are asked.
+/// A first claim is tentative where its port has room; a packet that wasn't announced waits, and the trusted ports are
+/// asked.
 pub fn outcome(ev: Ev, t: u64, room: bool) -> (Answer, Fcfs)
     requires { IsFcfsEvent ev }
     ensures { result ≡ next_no_bind t room ev }

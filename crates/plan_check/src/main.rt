@@ -4,13 +4,13 @@
 //! The status is 0 where each text says a plan, and else 3.
 #![tactic(auto)]
 
-mod words;
+mod meanings;
 
-use savi_conf::read_plan;
-use savi_kinds::{Plan, put_addr, put_mac};
+use meanings::fault_meaning;
+use savi_conf::{ConfFault, read_plan};
+use savi_kinds::{Plan, put_addr, put_mac, savi_word, unknown_word};
 use std::process::ExitCode;
 use std::{env, fs, io};
-use words::{format_word, method_word, role_word, savi_word, unknown_word};
 
 // The status where a text says no plan.
 const REFUSED: u8 = 3;
@@ -23,11 +23,20 @@ fn main(rt: HostRuntime) -> io::Result<ExitCode> {
             Ok(plan) => print_plan(&rt, name.as_str(), &plan)?,
             Err(fault) => {
                 println!(rt; "{name}: {fault}")?;
+                print_meaning(&rt, fault)?;
                 status = REFUSED;
             }
         }
     }
     Ok(ExitCode::from(status))
+}
+
+// What a fault means that has a number.
+fn print_meaning(rt: &impl Print, fault: ConfFault) -> io::Result<()> {
+    if let ConfFault::Bad(number) = fault {
+        println!(rt; "{}", fault_meaning(number))?;
+    }
+    Ok(())
 }
 
 // A line for each part of the plan.
@@ -51,8 +60,8 @@ fn print_plan(rt: &impl Print, name: &str, plan: &Plan) -> io::Result<()> {
 fn print_ports(rt: &impl Print, plan: &Plan) -> io::Result<()> {
     for port in plan.ports.as_slice() {
         let number = port.number.get();
-        let role = role_word(port.role);
-        let format = format_word(port.format);
+        let role = port.role.word();
+        let format = port.format.word();
         let (input, output) = (port.input.as_str(), port.output.as_str());
         println!(rt; "port {number} {role} {format} {input} {output}")?;
     }
@@ -66,7 +75,7 @@ fn print_prefixes(rt: &impl Print, plan: &Plan) -> io::Result<()> {
             "prefix {}/{} {}",
             net.as_str(),
             entry.prefix.len,
-            method_word(entry.method)
+            entry.method.word()
         )?;
     }
     Ok(())

@@ -1,6 +1,6 @@
 -- What reading a probe gives.
-use Rattle.std.proofs.Common.{◌≡◌, ℕ, ◌+◌, ◌^◌, ◌<◌, true, List, [], ◌∷◌, ◌++◌, length, drop, Ok, refl, sym, ap, ◌∙◌, subst, arith}
-use Rattle.std.proofs.lemmas.List.{append_assoc, drop_at, length-append}
+use Rattle.std.proofs.Common.{◌≡◌, ℕ, ◌+◌, ◌*◌, ◌^◌, ◌<◌, true, List, [], ◌∷◌, ◌++◌, length, drop, Ok, refl, sym, ap, ◌∙◌, subst, arith}
+use Rattle.std.proofs.lemmas.List.{append_assoc, drop_at, drop-drop, length-append}
 use Rattle.std.proofs.lemmas.List.Elements.{All-nil}
 use Rattle.std.specs.Int.{bytes_high_first}
 use Rattle.std.specs.List.{flat_map}
@@ -19,11 +19,11 @@ use Rattle.nd_read.specs.Messages.{named, target_of, IsNs, behind_fixed}
 use Rattle.nd_read.specs.Options.{NdOption, AreOptions, IsWhole, HasKind, octets_of}
 use Rattle.nd_read.specs.Tests.{Passes, Reads, solicited_node}
 use Rattle.probe_write.specs.ProbeFrame.{no_address, solicited_node_of, group_mac_of, solicitation_with, solicitation_of, ethernet_of, header_of, probe_of}
-use Rattle.probe_write.proofs.ProbeOctets.{length-solicitation}
-
--- the header that is read
-abbrev pub ip_of : Addr → Ip
-ip_of target = record { src = no_address; dst = solicited_node_of target; next = 58; hop = 255; len = 24 }
+use Rattle.probe_write.specs.ProbeReading.{ip_of, AsksFor}
+use Rattle.probe_write.proofs.ProbeOctets.{length-solicitation, field_is}
+use Rattle.v6_sum.proofs.Checksums.{checksum-filled}
+use Rattle.v6_sum.proofs.WordLists.{IsBelow, below-append, below-high_first}
+use Rattle.v6_sum.specs.InternetChecksum.{with_word_at}
 
 -- the packet behind the Ethernet header
 pub packet_is : (mac : Mac) (target : Addr) → length mac.0 ≡ 6 → drop 14 (probe_of mac target) ≡ header_of target ++ solicitation_of target
@@ -106,3 +106,36 @@ length-probe mac target =
     let ethernet = ethernet_of mac target in
     let sol = length-solicitation target (checksum no_address (solicited_node_of target) 58 (solicitation_with target 0)) in
     omega (arith, sol, length-append (ethernet ++ header_of target) (solicitation_of target), length-append ethernet (header_of target), length-append (group_mac_of (solicited_node_of target) ++ mac.0) (134 ∷ 221 ∷ []), length-append (group_mac_of (solicited_node_of target)) mac.0)
+
+octets-below : (target : Addr) → IsBelow 256 (solicitation_with target 0)
+unfolding solicitation_with
+octets-below target =
+    below-append 256 (bytes_high_first 8 (135 * 2 ^ 56)) (bytes_high_first 16 target.0) (below-high_first 8 (135 * 2 ^ 56)) (below-high_first 16 target.0)
+
+-- the checksum of a probe is right
+pub sum_is_right : (target : Addr) → checksum no_address (solicited_node_of target) 58 (solicitation_of target) ≡ 0
+sum_is_right target =
+    let xs = solicitation_with target 0 in
+    let group = solicited_node_of target in
+    let len = length-solicitation target 0 in
+    let filled : checksum no_address group 58 (with_word_at xs 2 (checksum no_address group 58 (with_word_at xs 2 0))) ≡ 0 =
+    checksum-filled no_address group 58 xs 2 (omega arith) (octets-below target) refl (omega (arith, len)) in
+    let zeroed : with_word_at xs 2 0 ≡ xs = field_is target 0 0 in
+    let sum = checksum no_address group 58 xs in
+    let field : with_word_at xs 2 sum ≡ solicitation_with target sum = field_is target 0 sum in
+    rw (zeroed, field) at filled
+
+-- the message stands behind both headers
+message_is : (mac : Mac) (target : Addr) → length mac.0 ≡ 6 → drop 54 (probe_of mac target) ≡ solicitation_of target
+message_is mac target six =
+    sym (drop-drop 40 14 (probe_of mac target))
+    ∙ ap (drop 40) (packet_is mac target six)
+    ∙ drop_at (header_of target) (solicitation_of target) 40 refl
+
+pub asks_for : (mac : Mac) (target : Addr) → length mac.0 ≡ 6 → target.0 < 2 ^ 128 → (LiesIn target.0 multicast → ⊥) → AsksFor target (probe_of mac target)
+asks_for mac target six fits single = record {
+  packet = let P : List ℕ → Type 0 = λ l. IsPacket l (ip_of target) in subst P (sym (packet_is mac target six)) (is_packet target);
+  message =
+      let P : List ℕ → Type 0 = λ l. Reads (ip_of target) l (Ok (Ns target true)) in
+      subst P (sym (message_is mac target six)) (solicitation_reads target (checksum no_address (solicited_node_of target) 58 (solicitation_with target 0)) fits single (sum_is_right target));
+}

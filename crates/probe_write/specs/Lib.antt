@@ -1,1 +1,2 @@
 pub mod ProbeFrame
+pub mod ProbeReading

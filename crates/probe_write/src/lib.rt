@@ -6,10 +6,10 @@
 #![tactic(auto)]
 
 mod frame;
-mod law;
+mod laws;
 mod solicitation;
 #[cfg(test)]
 mod tests;
 
 pub use frame::{PROBE_LEN, probe};
-pub use law::read_probe;
+pub use laws::probes_ask_for_their_target;

@@ -64,7 +64,8 @@ abbrev pub HasUdp : (ℕ → Option ℕ → Type 0) → Class → Type 0
 HasUdp Is (Ip6 eth ip (Udp to first fragmented)) = Is to first
 HasUdp Is _ = ⊥
 
--- a router advertisement (type 134) with a source and a hop limit that hosts take: link-local, and 255 (RFC 4861 section 6.1.2)
+-- a router advertisement (type 134) with a source and a hop limit that hosts take: link-local, and 255 (RFC 4861 section
+-- 6.1.2)
 abbrev pub IsRouterAdvert : Ip → ℕ → Type 0
 IsRouterAdvert ip kind = (kind ≡ 134) × LiesIn ip.src.0 link_local_unicast × (ip.hop ≡ 255)
 

@@ -38,7 +38,8 @@ pub enum Fault {
     FormatWord,
     /// 17: more than 32 prefixes, or a text that isn't a prefix's.
     PrefixTexts,
-    /// 18: two prefixes overlap, or one isn't one that a plan may name: it overlaps fe80::/64 or ff00::/8, or holds `::` or `::1`.
+    /// 18: two prefixes overlap, or one isn't one that a plan may name: it overlaps fe80::/64 or ff00::/8, or holds `::` or
+    /// `::1`.
     PrefixRanges,
     /// 19: a method that isn't known.
     MethodWord,

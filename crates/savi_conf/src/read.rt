@@ -36,8 +36,8 @@ const TOO_LONG: u8 = 1;
 /// Reads a configuration: a document of TOML of at most `OCTETS_MOST` octets, for a replay of captures where `replay`
 /// says so.
 ///
-/// `docs/CONFIGURATION.md` has the keys and the numbers of the faults. The plan's ports are in rising order of number and its
-/// prefixes in rising order of address. Of several faults the one with the least number is answered. Beside the cost of
+/// `docs/CONFIGURATION.md` has the keys and the numbers of the faults. The plan's ports are in rising order of number and
+/// its prefixes in rising order of address. Of several faults the one with the least number is answered. Beside the cost of
 /// the reader of TOML this is O(n²) in the number of ports and of prefixes.
 ///
 /// # Errors

@@ -23,7 +23,8 @@ use std::test::Fail;
 /// Name, number of the port, the frame, and the rule that stops it.
 type Case = (&'static str, u8, &'static str, Option<Rule>);
 
-/// Frames of IEEE 802.1Q, RFC 8200, RFC 7112, RFC 6105, RFC 4861, RFC 6980 and RFC 8415 at the ports of hosts and of a server.
+/// Frames of IEEE 802.1Q, RFC 8200, RFC 7112, RFC 6105, RFC 4861, RFC 6980 and RFC 8415 at the ports of hosts and of a
+/// server.
 static GUARDED: [Case; 21] = [
     (
         "thirteen octets",

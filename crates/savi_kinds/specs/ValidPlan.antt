@@ -25,8 +25,8 @@ nets_of prefixes = map (λ p. p.prefix) prefixes
 abbrev pub IsWithin : ℕ → ℕ → ℕ → Type 0
 IsWithin least most n = (least ≤ n) × (n ≤ most)
 
--- a prefix that a plan may name: apart from fe80::/64, which is on-link in every plan, and from ff00::/8 (multicast), and without ::
--- and ::1
+-- a prefix that a plan may name: apart from fe80::/64, which is on-link in every plan, and from ff00::/8 (multicast), and
+-- without :: and ::1
 pub record IsPlanPrefix (p : Prefix) : Type 0 where
   pub prefix : IsPrefix p
   pub not_link_local : AreApart p link_local

@@ -1,11 +1,1 @@
-pub mod WrittenLines
 pub mod PortLists
-pub mod Sessions
-pub mod Through
-pub mod Handling
-pub mod Recast
-pub mod Running
-pub mod Faulting
-pub mod Refusing
-pub mod Ending
-pub mod Forms

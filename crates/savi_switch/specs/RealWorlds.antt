@@ -3,7 +3,7 @@ use Rattle.savi_ends.specs.declared.world.Std.{Std}
 use Rattle.savi_ends.specs.declared.world.Std.TheVariants.{Out, Err}
 use Rattle.savi_ends.specs.Places.{Place, Book}
 use Rattle.file_ends.specs.declared.file_source.FileSource.{FileSource}
-use Rattle.savi_switch.specs.declared.file_sink.FileSink.{FileSink}
+use Rattle.file_ends.specs.declared.file_sink.FileSink.{FileSink}
 use Rattle.savi_switch.specs.declared.machine_clock.MachineClock.{MachineClock}
 use Rattle.savi_switch.specs.declared.real_world.RealWorld.{RealWorld}
 use Rattle.savi_switch.specs.Spots.{place_of}

@@ -1,33 +1,23 @@
 //! A switch that guards a shared network: it replays captures, and says of each frame what became of it.
 //!
-//! The contract of the program is that of `run`, the top call, over each world that keeps the contracts of `savi_ends`;
-//! `main` makes the real one.
+//! The contract of the program is that of `run` (`switch_run`), the top call, over each world that keeps the contracts of
+//! `savi_ends`; here stand the real world, of files, standard output and standard error, and `main`, which makes it.
 #![tactic(auto)]
 
 ghost use Rattle.std.specs.Prelude.{◌≡◌};
 
-mod end_lines;
-mod ends_told;
-mod file_sink;
 mod machine_clock;
 mod named_spot;
 mod port_spots;
 mod real_world;
-#[cfg(test)]
-mod recording_world;
-mod session;
 mod spot;
-mod summing;
-#[cfg(test)]
-mod tests;
-mod top;
 
-use file_sink::FileSink;
+use file_ends::FileSink;
 use real_world::RealWorld;
 use run_config::{tell_memory, tell_usage};
 use std::env;
 use std::process::ExitCode;
-use top::{NO_MEMORY, USAGE, run};
+use switch_run::{NO_MEMORY, USAGE, run};
 
 fn main(rt: HostRuntime) -> ExitCode {
     ExitCode::from(status_of(rt))

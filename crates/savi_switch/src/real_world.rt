@@ -4,12 +4,11 @@ ghost use Rattle.std.specs.Prelude.{◌≡◌, ◌≤◌, ℕ, List, true, false
 ghost use Rattle.savi_kinds.specs.Ports.{number_of};
 ghost use Rattle.savi_ends.specs.Faults.{Rose};
 
-use crate::file_sink::FileSink;
 use crate::machine_clock::MachineClock;
 use crate::named_spot::NamedSpot;
 use crate::port_spots::PortSpots;
 use crate::spot::Spot;
-use file_ends::FileSource;
+use file_ends::{FileSink, FileSource};
 use savi_ends::{Ends, OpenFailed, Sink, Source, Std, World};
 use savi_kinds::{Port, PortPlan, Text};
 use std::alloc::{AllocError, Global};

@@ -1,4 +1,5 @@
--- The steps at two views keep the rule, split and join, and so does the opening. At the end a pass that has every number has the value.
+-- The steps at two views keep the rule, split and join, and so does the opening. At the end a pass that has every number has
+-- the value.
 use Rattle.std.proofs.Common.{◌≡◌, ◌≢◌, ℕ, zero, suc, ◌+◌, ◌<◌, ◌≤◌, ◌⊎◌, inl, inr, ⊎_elim, eqb, eq-eqb, ne_eqb, cond, List, [], ◌∷◌, ◌++◌, length, set, sym, refl, ap, ◌∙◌, subst, arith, length-set, length-append, Option, Some}
 use Rattle.std.proofs.lemmas.List.Sums.{sum_by_push}
 use mathlib.Core.Logic.{dite}

@@ -1,4 +1,5 @@
--- The history of a value under the lock: a list of entries, each the number of the pass that made it and the numbers that fix it.
+-- The history of a value under the lock: a list of entries, each the number of the pass that made it and the numbers that
+-- fix it.
 use Rattle.std.specs.Prelude.{◌≡◌, ℕ, ◌==◌, List, ◌++◌}
 use Rattle.std.specs.List.{filter}
 

@@ -1,5 +1,6 @@
--- What each kind of step tells the pass that makes it. `m` is the pass before with what it has out of the slot, `r` the word that was found,
--- `m'` the pass after. The two exchanges of the slot, which take the value and put it back, change nothing that a pass knows.
+-- What each kind of step tells the pass that makes it. `m` is the pass before with what it has out of the slot, `r` the word
+-- that was found, `m'` the pass after. The two exchanges of the slot, which take the value and put it back, change nothing
+-- that a pass knows.
 use Rattle.std.specs.Prelude.{◌≡◌, ◌≢◌, ℕ, ◌+◌, ◌==◌, ◌^◌, ◌<◌, ◌≤◌, List, [], ◌∷◌, ◌++◌, map, length, nat_lt, Option, Some, None, if◌then◌else◌}
 use Rattle.atomic_table.specs.Table.{Me, Step}
 use Rattle.table_lock.specs.Entries.{Entry, History, mine, StartsWith}
@@ -57,7 +58,8 @@ module _ {V : Type 0} where
   abbrev pub passed : Step (Option V) → Sat V → ℕ → Sat V → Type 0
   passed st m r m' = m' ≡ (at_stage m.0 Idle, [])
 
--- split: the pass that knows how many numbers were given out counts one more, and the new pass has the old count as its number
+-- split: the pass that knows how many numbers were given out counts one more, and the new pass has the old count as its
+-- number
 abbrev pub one_more : View → View
 one_more v = record v { seats = v.seats + 1 }
 

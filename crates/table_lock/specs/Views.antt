@@ -1,4 +1,5 @@
--- What a pass of this lock knows between two steps: its one key is its number, and the list there is its entries in what it has seen.
+-- What a pass of this lock knows between two steps: its one key is its number, and the list there is its entries in what it
+-- has seen.
 use Rattle.std.specs.Prelude.{ℕ, List, [], ◌∷◌, Some}
 use Rattle.table_lock.specs.Entries.{mine}
 use Rattle.table_lock.specs.Plays.{spent}

@@ -1,5 +1,5 @@
 -- The outcome of a packet's chain as a function: the headers are passed one after the other, up to where the chain ends.
--- That it is the one outcome which `IsOutcome` allows is a law, `chain_is`.
+-- That it is the one outcome which `IsOutcome` allows is a law, `a_chain_has_its_outcome`.
 use Rattle.std.specs.Prelude.{ℕ, zero, suc, nat_lt, ◌==◌, Bool, if◌then◌else◌, List, [], ◌∷◌, length, take, drop, Option, Some, None, unwrap_or}
 use Rattle.v6_chain.specs.declared.kind.Kind.{Kind}
 use Rattle.v6_chain.specs.declared.kind.Kind.TheVariants as kinds

@@ -1,0 +1,125 @@
+-- How a run with a plan ends, by whether its session had memory.
+use Rattle.std.proofs.Common.{◌≡◌, ◌≢◌, ℕ, ◌<◌, ◌&&◌, ◌||◌, not, if◌then◌else◌, ◌⊎◌, inl, inr, List, [], ◌∷◌, Bool, true, false, length, get_or, refl, sym, ap, ◌∙◌, subst, arith, Option, Some, None, IfNone, IfSome}
+use Rattle.savi_kinds.specs.declared.plan.Plan.{Plan}
+use Rattle.savi_kinds.specs.declared.port.Port.{Port}
+use Rattle.savi_ends.specs.declared.world.Std.TheVariants.{Out}
+use Rattle.savi_ends.specs.Places.{Place, Book, OthersStay}
+use Rattle.hist_store.specs.Rows.{Row}
+use Rattle.savi_history.specs.Endings.{has_failed, has_failed_write, has_malformed, has_full}
+use Rattle.savi_core.specs.Machines.{Machine}
+use Rattle.port_worker.specs.declared.port_ends.PortEnds.{PortEnds}
+use Rattle.port_worker.specs.Replays.{ports_held}
+use Rattle.switch_ports.specs.Openings.{ports_of}
+use Rattle.run_config.specs.Lines.{memory_line}
+use Rattle.switch_run.specs.declared.session.Outcome.{Outcome}
+use Rattle.switch_run.specs.Causes.{IsBack, IsOffPlanSame, IsOneOf, IsUnused, KeepsAll, quiet_statuses, session_statuses, statuses, unused_statuses}
+use Rattle.switch_run.specs.Session.{IsSessionOf}
+use Rattle.switch_run.specs.Played.{IsPlayed}
+use Rattle.switch_run.specs.Concluded.{IsSummed}
+use Rattle.switch_run.proofs.Through.{Handled, HandledOne, session_of, ports_back, output_back, cases_name, back_from, keeps_all_of, off_plan, unused_ends, unused_sink}
+
+-- what the clauses say where all was opened
+pub record Closes {S K C : Type 0} (left : S → Option (List ℕ)) (written : K → Option (List ℕ)) (source_faults : S → ℕ) (sink_faults : K → ℕ) (plan : Plan) (Says : List ℕ → Type 0) (old new : Book S K C) (status : ℕ) : Type 0 where
+  pub one_of : IsOneOf statuses status
+  pub usage : status ≢ 2
+  pub config : status ≢ 3
+  pub opening : status ≢ 7
+  pub memory : status ≡ 1 → Says memory_line
+  pub unplayed : status ≡ 1 → KeepsAll left written plan old new × IsOffPlanSame plan old new
+  pub session : IsOneOf session_statuses status → IsSessionOf left written source_faults sink_faults plan Says old new status
+  pub quiet : IsOneOf quiet_statuses status → new.std Out ≡ old.std Out
+  pub unused : IsOneOf unused_statuses status → IsUnused old new
+
+is_status : (f w m h : Bool) → IsOneOf statuses (if f then 5 else if w then 6 else if m then 4 else if h then 8 else 0)
+is_status true w m h = refl
+is_status false true m h = refl
+is_status false false true h = refl
+is_status false false false true = refl
+is_status false false false false = refl
+
+not_quiet : (f w m h : Bool) → IsOneOf quiet_statuses (if f then 5 else if w then 6 else if m then 4 else if h then 8 else 0) → ⊥
+not_quiet true w m h e = let t : false ≡ true = e in cc
+not_quiet false true m h e = let t : false ≡ true = e in cc
+not_quiet false false true h e = let t : false ≡ true = e in cc
+not_quiet false false false true e = let t : false ≡ true = e in cc
+not_quiet false false false false e = let t : false ≡ true = e in cc
+
+-- the status of what was summed up is one of those of a session
+summed_is : {K : Type 0} (written : K → Option (List ℕ)) (faults : K → ℕ) (Says : List ℕ → Type 0) (past : List Row) (journal_written : Bool) (old new : Place K) (status : ℕ) → IsSummed written faults Says past journal_written old new status → IsOneOf statuses status × (IsOneOf quiet_statuses status → ⊥)
+summed_is written faults Says past journal_written old new status summed =
+    let w = has_failed_write past || not (journal_written && summed.summary_written) in (
+      subst (λ (n : ℕ). IsOneOf statuses n) (sym summed.cause) (is_status (has_failed past) w (has_malformed past) (has_full past)),
+      λ one_of. not_quiet (has_failed past) w (has_malformed past) (has_full past) (subst (λ (n : ℕ). IsOneOf quiet_statuses n) summed.cause one_of),
+    )
+
+closes_none : {S K C : Type 0} (left : S → Option (List ℕ)) (written : K → Option (List ℕ)) (source_faults : S → ℕ) (sink_faults : K → ℕ) (plan : Plan) (Says : List ℕ → Type 0) (held back : List (PortEnds S K C)) (sink sink' : K) (old new : Book S K C) (status : ℕ)
+    → ports_held held ≡ ports_of plan.ports → Handled held back old.ports new.ports → HandledOne plan.journal sink sink' old.outputs new.outputs → back ≡ held → sink' ≡ sink → status ≡ 1 → Says memory_line → new.std Out ≡ old.std Out
+    → Closes left written source_faults sink_faults plan Says old new status
+closes_none {S} {K} {C} left written source_faults sink_faults plan Says held back sink sink' old new status ports handled journal same same' one told quiet =
+    let handled' : Handled held held old.ports new.ports = subst (λ (l : List (PortEnds S K C)). Handled held l old.ports new.ports) same handled in
+    let journal' : HandledOne plan.journal sink sink old.outputs new.outputs = subst (λ (k : K). HandledOne plan.journal sink k old.outputs new.outputs) same' journal in
+    record {
+      one_of = rw one refl;
+      usage = λ two. absurd (omega (arith, one, two));
+      config = λ three. absurd (omega (arith, one, three));
+      opening = λ seven. absurd (omega (arith, one, seven));
+      memory = λ e. told;
+      unplayed = λ e. (keeps_all_of left written plan held held sink sink old new ports handled' journal' (λ k d inside. unused_ends left written (get_or held k d).ends) (unused_sink written sink), off_plan plan held held sink sink old new ports handled' journal');
+      session = λ is_one. absurd (let t : false ≡ true = subst (λ (n : ℕ). IsOneOf session_statuses n) one is_one in cc);
+      quiet = λ one_of. quiet;
+      unused = λ one_of. record { ports = ports_back held old.ports new.ports handled'; outputs = output_back plan.journal sink old.outputs new.outputs journal' };
+    }
+
+closes_some : {S K C : Type 0} (left : S → Option (List ℕ)) (written : K → Option (List ℕ)) (source_faults : S → ℕ) (sink_faults : K → ℕ) (plan : Plan) (Says : List ℕ → Type 0) (held back : List (PortEnds S K C)) (sink sink' : K) (core : Machine) (journal_written : Bool) (old new : Book S K C) (status : ℕ)
+    → ports_held held ≡ ports_of plan.ports → Handled held back old.ports new.ports → HandledOne plan.journal sink sink' old.outputs new.outputs
+    → IsPlayed left written source_faults sink_faults plan held back sink sink' core journal_written
+    → IsSummed written sink_faults Says core.past journal_written (old.std Out) (new.std Out) status
+    → Closes left written source_faults sink_faults plan Says old new status
+closes_some {S} {K} {C} left written source_faults sink_faults plan Says held back sink sink' core journal_written old new status ports handled journal played concluded =
+    let past = core.past in
+    let is = summed_is written sink_faults Says past journal_written (old.std Out) (new.std Out) status concluded in
+    let never : IsOneOf quiet_statuses status → ⊥ = is.1 in
+    let never_is : (n : ℕ) → IsOneOf quiet_statuses n → status ≡ n → ⊥ = λ n quiet e. never (subst (λ (m : ℕ). IsOneOf quiet_statuses m) (sym e) quiet) in
+    record {
+      one_of = is.0;
+      usage = never_is 2 refl;
+      config = never_is 3 refl;
+      opening = never_is 7 refl;
+      memory = λ one. absurd (never_is 1 refl one);
+      unplayed = λ one. absurd (never_is 1 refl one);
+      session = λ one_of. session_of left written source_faults sink_faults plan Says held back sink sink' core journal_written old new status ports handled journal played concluded;
+      quiet = λ one_of. absurd (never one_of);
+      unused = λ one_of. absurd (never one_of);
+    }
+
+-- by whether there was an outcome
+pub closes : {S K C : Type 0} (left : S → Option (List ℕ)) (written : K → Option (List ℕ)) (source_faults : S → ℕ) (sink_faults : K → ℕ) (plan : Plan) (Says : List ℕ → Type 0) (held back : List (PortEnds S K C)) (sink sink' : K) (outcome : Option Outcome) (old mid new : Book S K C) (status : ℕ)
+    → ports_held held ≡ ports_of plan.ports → Handled held back old.ports new.ports → HandledOne plan.journal sink sink' old.outputs new.outputs → mid.std ≡ old.std
+    → IfNone outcome ((back ≡ held) × (sink' ≡ sink)) → IfSome outcome (λ o. IsPlayed left written source_faults sink_faults plan held back sink sink' o.core o.journal_written)
+    → IfNone outcome ((status ≡ 1) × (Says memory_line × (new ≡ mid))) → IfSome outcome (λ o. IsSummed written sink_faults Says o.core.past o.journal_written (mid.std Out) (new.std Out) status)
+    → Closes left written source_faults sink_faults plan Says old new status
+closes {S} {K} {C} left written source_faults sink_faults plan Says held back sink sink' None old mid new status ports handled journal same none played unserved concluded =
+    closes_none left written source_faults sink_faults plan Says held back sink sink' old new status ports handled journal none.0 none.1 unserved.0 unserved.1.0
+    (ap (λ (b : Book S K C). b.std Out) unserved.1.1 ∙ ap (λ (p : _ → Place K). p Out) same)
+closes {S} {K} {C} left written source_faults sink_faults plan Says held back sink sink' (Some o) old mid new status ports handled journal same none played unserved concluded =
+    closes_some left written source_faults sink_faults plan Says held back sink sink' o.core o.journal_written old new status ports handled journal played
+    (subst (λ (p : Place K). IsSummed written sink_faults Says o.core.past o.journal_written p (new.std Out) status) (ap (λ (p : _ → Place K). p Out) same) concluded)
+
+element : {X : Type 0} (xs : List X) (k : ℕ) → k < length xs → X
+element [] k inside = absurd (omega arith)
+element (x ∷ xs) k inside = x
+
+stays_by : {K : Type 0} (old new : List ℕ → Place K) (name other : List ℕ) → new name ≡ old name → OthersStay old new name → (other ≡ name) ⊎ (other ≢ name) → new other ≡ old other
+stays_by {K} old new name other here others (inl same) = subst (λ (n : List ℕ). new n ≡ old n) (sym same) here
+stays_by old new name other here others (inr apart) = others other apart
+
+-- where one place is as it was, and every other one is
+pub stays_all : {K : Type 0} (old new : List ℕ → Place K) (name : List ℕ) → new name ≡ old name → OthersStay old new name → (other : List ℕ) → new other ≡ old other
+stays_all old new name here others other = stays_by old new name other here others (cases_name other name)
+
+-- the ports that were opened came back as they were, and no output was touched
+pub unused_by : {S K C : Type 0} (held : List (PortEnds S K C)) (old new : Book S K C) → Handled held held old.ports new.ports → ((name : List ℕ) → new.outputs name ≡ old.outputs name) → IsUnused old new
+unused_by {S} {K} {C} held old new handled same = record {
+  ports = ports_back held old.ports new.ports handled;
+  outputs = λ name. subst (λ (x : Place K). IsBack (old.outputs name) x) (sym (same name)) (back_from (old.outputs name).stands);
+}

@@ -1,0 +1,83 @@
+-- From the calls of a run to what was done with the ends.
+use Rattle.std.proofs.Common.{◌≡◌, ℕ, ◌<◌, List, ◌∷◌, true, length, take, get_or, refl, sym, ap, ◌∙◌, subst, arith, Some, IfSome}
+use Rattle.std.proofs.lemmas.List.{length-map, length-append, take-append-le, take_all}
+use Rattle.std.specs.Prelude.{All}
+use Rattle.std.specs.List.Sorted.{IsStrictlyIncreasing}
+use Rattle.savi_kinds.specs.declared.plan.PortPlan.{PortPlan}
+use Rattle.savi_kinds.specs.declared.port.Port.{Port}
+use Rattle.savi_kinds.specs.Ports.{number_of}
+use Rattle.savi_kinds.specs.ValidPlan.{numbers_of}
+use Rattle.savi_ends.specs.declared.world.Ends.{Ends}
+use Rattle.savi_ends.specs.Places.{Place, OthersStay}
+use Rattle.port_worker.specs.declared.port_ends.PortEnds.{PortEnds}
+use Rattle.port_worker.specs.Pairs.{EachPair}
+use Rattle.port_worker.specs.Replays.{ports_held}
+use Rattle.switch_ports.specs.Openings.{ports_of, AreApart, IsNextBehind, IsOff, IsOpened}
+use Rattle.switch_ports.proofs.Rising.{apart_from}
+use Rattle.switch_run.specs.Played.{IsSamePort}
+use Rattle.switch_run.proofs.Through.{Handled, HandledOne}
+
+pub same_number : {S K C : Type 0} (held back : List (PortEnds S K C)) (k : ℕ) (d : PortEnds S K C) → EachPair IsSamePort held back → k < length held → number_of (get_or back k d).port ≡ number_of (get_or held k d).port
+same_number held back k d pairs inside = ap number_of (pairs.each k d inside)
+
+pub same_ports : {S K C : Type 0} (held : List (PortEnds S K C)) → EachPair IsSamePort held held
+same_ports held = record { size = refl; each = λ k d inside. refl }
+
+-- ports that were opened, all or the first of them, are apart
+pub apart_all : {S K C : Type 0} (held : List (PortEnds S K C)) (plans : List PortPlan) → IsStrictlyIncreasing (numbers_of plans) → ports_held held ≡ ports_of plans → AreApart held
+apart_all held plans rising ports =
+    let sizes = length-map plans (λ (p : PortPlan). p.number) in
+    apart_from held plans (length plans) rising (omega arith) (ports ∙ sym (take_all (length plans) (ports_of plans) (omega (arith, sizes))))
+
+pub apart_first : {S K C : Type 0} (held : List (PortEnds S K C)) (plans : List PortPlan) (port : Port) → IsStrictlyIncreasing (numbers_of plans) → IsNextBehind port (ports_held held) (ports_of plans) → AreApart held
+apart_first {S} {K} {C} held plans port rising (later, all) =
+    let first = length-map held (λ (p : PortEnds S K C). p.port) in
+    let second = length-map plans (λ (p : PortPlan). p.number) in
+    let sizes = ap length all in
+    let more = length-append (ports_held held) (port ∷ later) in
+    let front : take (length held) (ports_of plans) ≡ ports_held held =
+    ap (λ (l : List Port). take (length held) l) all ∙ take-append-le (length held) (ports_held held) (port ∷ later) (omega (arith, first)) ∙ take_all (length held) (ports_held held) (omega (arith, first)) in
+    apart_from held plans (length held) rising (omega (arith, first, second, sizes, more)) (sym front)
+
+pub apart_back : {S K C : Type 0} (held back : List (PortEnds S K C)) → EachPair IsSamePort held back → AreApart held → AreApart back
+apart_back held back pairs apart = λ i j d below inside same.
+    let size = pairs.size in
+    apart i j d below (omega (arith, size, inside)) (sym (same_number held back i d pairs (omega (arith, size, below, inside))) ∙ same ∙ same_number held back j d pairs (omega (arith, size, inside)))
+
+-- what is held is handed out
+pub out_back : {S K C : Type 0} (IsFresh : Ends S K C → Type 0) (held back : List (PortEnds S K C)) (p0 p1 p2 : ℕ → Place (Ends S K C)) → All (λ p. IsOpened IsFresh (p0 (number_of p.port)) (p1 (number_of p.port)) p.ends) held → EachPair IsSamePort held back → p2 ≡ p1
+    → All (λ p. (p2 (number_of p.port)).is_out ≡ true) back
+out_back {S} {K} {C} IsFresh held back p0 p1 p2 opened pairs same = λ k d inside.
+    let size = pairs.size in
+    subst (λ (n : ℕ). (p2 n).is_out ≡ true) (sym (same_number held back k d pairs (omega (arith, size, inside))))
+    (ap (λ (p : ℕ → Place (Ends S K C)). (p (number_of (get_or held k d).port)).is_out) same ∙ (opened k d (omega (arith, size, inside))).out)
+
+off_back : {S K C : Type 0} (held back : List (PortEnds S K C)) (n : ℕ) → EachPair IsSamePort held back → IsOff held n → IsOff back n
+off_back held back n pairs off = λ k d inside same.
+    let size = pairs.size in
+    off k d (omega (arith, size, inside)) (sym (same_number held back k d pairs (omega (arith, size, inside))) ∙ same)
+
+pub handled_by : {S K C : Type 0} (IsFresh : Ends S K C → Type 0) (held back : List (PortEnds S K C)) (p0 p1 p2 p3 p4 : ℕ → Place (Ends S K C))
+    → All (λ p. IsOpened IsFresh (p0 (number_of p.port)) (p1 (number_of p.port)) p.ends) held → ((n : ℕ) → IsOff held n → p1 n ≡ p0 n) → p2 ≡ p1
+    → EachPair IsSamePort held back → All (λ p. (p3 (number_of p.port)).stands ≡ Some p.ends) back → ((n : ℕ) → IsOff back n → p3 n ≡ p2 n) → p4 ≡ p3
+    → Handled held back p0 p4
+handled_by {S} {K} {C} IsFresh held back p0 p1 p2 p3 p4 opened off1 same12 pairs kept off3 same34 = record {
+  size = pairs.size;
+  same = λ k d inside. same_number held back k d pairs inside;
+  told = λ k d inside. (opened k d inside).told;
+  kept = λ k d inside. ap (λ (p : ℕ → Place (Ends S K C)). (p (number_of (get_or back k d).port)).stands) same34 ∙ kept k d inside;
+  others = λ n off. ap (λ (p : ℕ → Place (Ends S K C)). p n) same34 ∙ off3 n (off_back held back n pairs off) ∙ ap (λ (p : ℕ → Place (Ends S K C)). p n) same12 ∙ off1 n off;
+}
+
+pub handled_one : {K : Type 0} (n2 n4 name : List ℕ) (sink sink' : K) (o0 o1 o2 o3 o4 o5 : List ℕ → Place K) → n2 ≡ name → n4 ≡ name → o1 ≡ o0 → IfSome (o1 n2).stands (λ t. sink ≡ t) → OthersStay o1 o2 n2 → o3 ≡ o2
+    → (o4 n4).stands ≡ Some sink' → OthersStay o3 o4 n4 → o5 ≡ o4 → HandledOne name sink sink' o0 o5
+handled_one {K} n2 n4 name sink sink' o0 o1 o2 o3 o4 o5 is2 is4 same01 told others2 same23 kept others4 same45 =
+    let told' : IfSome (o1 name).stands (λ t. sink ≡ t) = subst (λ (n : List ℕ). IfSome (o1 n).stands (λ t. sink ≡ t)) is2 told in
+    let others2' : OthersStay o1 o2 name = subst (λ (n : List ℕ). OthersStay o1 o2 n) is2 others2 in
+    let kept' : (o4 name).stands ≡ Some sink' = subst (λ (n : List ℕ). (o4 n).stands ≡ Some sink') is4 kept in
+    let others4' : OthersStay o3 o4 name = subst (λ (n : List ℕ). OthersStay o3 o4 n) is4 others4 in
+    record {
+      told = subst (λ (o : List ℕ → Place K). IfSome (o name).stands (λ t. sink ≡ t)) same01 told';
+      kept = ap (λ (o : List ℕ → Place K). (o name).stands) same45 ∙ kept';
+      others = λ other apart. ap (λ (o : List ℕ → Place K). o other) same45 ∙ others4' other apart ∙ ap (λ (o : List ℕ → Place K). o other) same23 ∙ others2' other apart ∙ ap (λ (o : List ℕ → Place K). o other) same01;
+    }

@@ -1,0 +1,339 @@
+-- From the ends that were opened and the ends that were kept to what stands when a run is over.
+use Rattle.std.proofs.Common.{◌≡◌, ◌≢◌, ℕ, ◌+◌, ◌<◌, length-append, ◌⊎◌, inl, inr, suc, List, [], ◌∷◌, ◌++◌, Bool, true, false, length, map, get_or, refl, sym, ap, ◌∙◌, subst, arith, Option, Some, None, IfSome, IsSome, IsSomeAnd, append-nil}
+use Rattle.std.proofs.lemmas.List.{get_or-map, get_or_default, get_or-append-add, get_or_append_left, length-map, map-append}
+use Rattle.std.proofs.lemmas.List.Kept.{AllPairs-from_increasing}
+use Rattle.std.specs.List.Sorted.{IsStrictlyIncreasing}
+use Rattle.std.proofs.lemmas.Bool.{cases_eq, cases_Bool}
+use Rattle.std.proofs.lemmas.List.Elements.{All-cons}
+use Rattle.std.proofs.lemmas.Slice.Eq.{bytes_eq-Decides}
+use Rattle.std.specs.Str.{bytes_eq}
+use Rattle.pcap_io.specs.Kinds.{classic_kinds}
+use Rattle.pcap_io.specs.Runs.{Arrive}
+use Rattle.std.specs.Prelude.{All, reverse, slice_index}
+use Rattle.savi_kinds.specs.declared.plan.Plan.{Plan}
+use Rattle.savi_kinds.specs.declared.plan.PortPlan.{PortPlan}
+use Rattle.savi_kinds.specs.declared.port.Port.{Port}
+use Rattle.savi_kinds.specs.declared.entry.How.TheVariants as hows
+use Rattle.savi_kinds.specs.Ports.{number_of}
+use Rattle.savi_kinds.specs.ValidPlan.{numbers_of}
+use Rattle.savi_ends.specs.declared.world.Std.TheVariants.{Out}
+use Rattle.savi_ends.specs.declared.world.Ends.{Ends}
+use Rattle.savi_ends.specs.Octets.{behind, in_front}
+use Rattle.savi_ends.specs.Places.{Place, Book, OthersStay}
+use Rattle.hist_store.specs.Rows.{Row}
+use Rattle.hist_store.specs.JournalTexts.{journal_text, address_text}
+use Rattle.savi_history.specs.Bases.{empty}
+use Rattle.savi_history.specs.Queues.{sent}
+use Rattle.savi_history.specs.PortInputs.{arrived, input_end}
+use Rattle.savi_history.specs.PortOutputs.{output_end, pieces, TookPieces, FitsOutputAt}
+use Rattle.savi_history.specs.Fits.{Fits}
+use Rattle.savi_history.proofs.Guarded.{guarded}
+use Rattle.savi_history.proofs.AddressTexts.{written-IsAddressText}
+use Rattle.savi_history.proofs.OneHistory.{journal_tells}
+use Rattle.savi_core.specs.Machines.{Machine}
+use Rattle.port_worker.specs.declared.port_ends.PortEnds.{PortEnds}
+use Rattle.port_worker.specs.Replays.{ports_held, IsInputOf}
+use Rattle.port_worker.specs.SentFrames.{TookMore}
+use Rattle.switch_ports.specs.Openings.{ports_of, IsNextBehind, IsOff}
+use Rattle.run_config.specs.Lines.{cannot_open_line, journal_word, port_name}
+use Rattle.switch_run.specs.Causes.{IsBack, IsUsed, Keeps, KeepsAll, IsOffPlanSame, HasReadFault, HasWriteFault}
+use Rattle.switch_run.specs.Session.{EachPort, FitsPort, FitsSent, GaveAt, IsJournalUnopened, IsPortUnopened, IsReplayOf, IsSessionOf, TookOrPart, TookSent}
+use Rattle.switch_run.specs.Played.{IsPlayed, IsPlayedOut, IsServed, JournalWas}
+use Rattle.switch_run.specs.Concluded.{IsSummed}
+
+-- The ends that were told of some ports were opened and are kept by now, each at its own place; those of other ports stay.
+pub record Handled {S K C : Type 0} (held back : List (PortEnds S K C)) (old new : ℕ → Place (Ends S K C)) : Type 0 where
+  pub size : length back ≡ length held
+  pub same : (k : ℕ) (d : PortEnds S K C) → k < length held → number_of (get_or back k d).port ≡ number_of (get_or held k d).port
+  pub told : All (λ p. IfSome (old (number_of p.port)).stands (λ t. p.ends ≡ t)) held
+  pub kept : All (λ p. (new (number_of p.port)).stands ≡ Some p.ends) back
+  pub others : (n : ℕ) → IsOff held n → new n ≡ old n
+
+-- The same of the journal.
+pub record HandledOne {K : Type 0} (name : List ℕ) (sink sink' : K) (old new : List ℕ → Place K) : Type 0 where
+  pub told : IfSome (old name).stands (λ t. sink ≡ t)
+  pub kept : (new name).stands ≡ Some sink'
+  pub others : OthersStay old new name
+
+element : {X : Type 0} (xs : List X) (k : ℕ) → k < length xs → X
+element [] k inside = absurd (omega arith)
+element (x ∷ xs) k inside = x
+
+-- what was told and is kept
+both_told : {X : Type 0} (P : X → X → Type 0) (old new : Option X) (x x' : X) → IfSome old (λ t. x ≡ t) → new ≡ Some x' → P x x' → IfSome old (λ told. IsSomeAnd new (λ kept. P told kept))
+both_told P None new x x' told kept holds = tt
+both_told {X} P (Some t) new x x' told kept holds = rw kept (subst (λ (y : X). P y x') told holds)
+
+-- what is kept, and was told
+kept_told : {X : Type 0} (P : X → X → Type 0) (old new : Option X) (x x' : X) → IfSome old (λ t. x ≡ t) → new ≡ Some x' → P x x' → IsSomeAnd new (λ kept. IfSome old (λ told. P told kept))
+kept_told P None new x x' told kept holds = rw kept tt
+kept_told {X} P (Some t) new x x' told kept holds = rw kept (subst (λ (y : X). P y x') told holds)
+
+some_and : {X : Type 0} (P : X → Type 0) (o : Option X) (x : X) → o ≡ Some x → P x → IsSomeAnd o P
+some_and {X} P o x e holds = rw e holds
+
+is_some_of : {X : Type 0} (o : Option X) (x : X) → o ≡ Some x → IsSome o
+is_some_of o x e = rw e refl
+
+pub back_from : {X : Type 0} (o : Option X) → IfSome o (λ told. IsSomeAnd o (λ kept. kept ≡ told))
+back_from None = tt
+back_from (Some x) = refl
+
+-- the numbers of what is held are those of the plan
+number_at : {S K C : Type 0} (held : List (PortEnds S K C)) (plans : List PortPlan) (k : ℕ) (d : PortEnds S K C) → ports_held held ≡ ports_of plans → k < length held → slice_index (numbers_of plans) k ≡ number_of (get_or held k d).port
+number_at {S} {K} {C} held plans k d ports inside =
+    let first = length-map held (λ (p : PortEnds S K C). p.port) in
+    let second = length-map plans (λ (p : PortPlan). p.number) in
+    let sizes = ap length ports in
+    let e = element plans k (omega (arith, first, second, sizes, inside)) in
+    get_or-map (λ (p : PortPlan). number_of p.number) plans k e 0 (omega (arith, first, second, sizes, inside))
+    ∙ ap number_of (sym (get_or-map (λ (p : PortPlan). p.number) plans k e d.port (omega (arith, first, second, sizes, inside)))
+    ∙ ap (λ (l : List Port). get_or l k d.port) (sym ports)
+    ∙ get_or-map (λ (p : PortEnds S K C). p.port) held k d d.port inside)
+
+size_of : {S K C : Type 0} (held : List (PortEnds S K C)) (plans : List PortPlan) → ports_held held ≡ ports_of plans → length held ≡ length plans
+size_of {S} {K} {C} held plans ports = sym (length-map held (λ (p : PortEnds S K C). p.port)) ∙ ap length ports ∙ length-map plans (λ (p : PortPlan). p.number)
+
+-- what holds at each port that is held holds at each port of the plan
+each_port : {S K C : Type 0} (R : ℕ → ℕ → Type 0) (plan : Plan) (held : List (PortEnds S K C)) → ports_held held ≡ ports_of plan.ports → ((k : ℕ) (d : PortEnds S K C) → k < length held → R k (number_of (get_or held k d).port)) → EachPort plan R
+each_port R plan held ports holds = λ k inside.
+    let size = size_of held plan.ports ports in
+    let d = element held k (omega (arith, size, inside)) in
+    subst (λ (n : ℕ). R k n) (sym (number_at held plan.ports k d ports (omega (arith, size, inside)))) (holds k d (omega (arith, size, inside)))
+
+-- a port is held, or it is none of those
+off_step : {S K C : Type 0} (p : PortEnds S K C) (ps : List (PortEnds S K C)) (n : ℕ) → (number_of p.port ≡ n) ⊎ (number_of p.port ≢ n) → IsOff ps n ⊎ ((k : ℕ) × (k < length ps) × ((d : PortEnds S K C) → number_of (get_or ps k d).port ≡ n))
+    → IsOff (p ∷ ps) n ⊎ ((k : ℕ) × (k < length (p ∷ ps)) × ((d : PortEnds S K C) → number_of (get_or (p ∷ ps) k d).port ≡ n))
+off_step p ps n (inl same) rest = inr (0, omega arith, λ d. same)
+off_step {S} {K} {C} p ps n (inr other) (inl off) = inl (All-cons (λ (q : PortEnds S K C). number_of q.port ≢ n) p ps other off)
+off_step p ps n (inr other) (inr (k, inside, found)) = inr (suc k, omega (arith, inside), λ d. found d)
+
+pub off_or_in : {S K C : Type 0} (held : List (PortEnds S K C)) (n : ℕ) → IsOff held n ⊎ ((k : ℕ) × (k < length held) × ((d : PortEnds S K C) → number_of (get_or held k d).port ≡ n))
+off_or_in [] n = inl (λ k d inside. absurd (omega arith))
+off_or_in (p ∷ ps) n = off_step p ps n (cases_eq (number_of p.port) n) (off_or_in ps n)
+
+kept_at : {S K C : Type 0} (held back : List (PortEnds S K C)) (old new : ℕ → Place (Ends S K C)) (k : ℕ) (d : PortEnds S K C) → Handled held back old new → k < length held → (new (number_of (get_or held k d).port)).stands ≡ Some (get_or back k d).ends
+kept_at {S} {K} {C} held back old new k d handled inside =
+    subst (λ (n : ℕ). (new n).stands ≡ Some (get_or back k d).ends) (handled.same k d inside) (handled.kept k d (omega (arith, handled.size, inside)))
+
+-- a relation of what was held and what is kept, at the port's place
+at_port : {S K C : Type 0} (P : ℕ → Ends S K C → Ends S K C → Type 0) (held back : List (PortEnds S K C)) (old new : ℕ → Place (Ends S K C)) (k : ℕ) (d : PortEnds S K C) → Handled held back old new → k < length held
+    → P (number_of (get_or held k d).port) (get_or held k d).ends (get_or back k d).ends
+    → IfSome (old (number_of (get_or held k d).port)).stands (λ told. IsSomeAnd (new (number_of (get_or held k d).port)).stands (λ kept. P (number_of (get_or held k d).port) told kept))
+at_port {S} {K} {C} P held back old new k d handled inside holds =
+    both_told (P (number_of (get_or held k d).port)) _ _ (get_or held k d).ends (get_or back k d).ends (handled.told k d inside) (kept_at held back old new k d handled inside) holds
+
+-- the same, of a place that is kept in any case
+kept_at_port : {S K C : Type 0} (P : ℕ → Ends S K C → Ends S K C → Type 0) (held back : List (PortEnds S K C)) (old new : ℕ → Place (Ends S K C)) (k : ℕ) (d : PortEnds S K C) → Handled held back old new → k < length held
+    → P (number_of (get_or held k d).port) (get_or held k d).ends (get_or back k d).ends
+    → IsSomeAnd (new (number_of (get_or held k d).port)).stands (λ kept. IfSome (old (number_of (get_or held k d).port)).stands (λ told. P (number_of (get_or held k d).port) told kept))
+kept_at_port {S} {K} {C} P held back old new k d handled inside holds =
+    kept_told (P (number_of (get_or held k d).port)) _ _ (get_or held k d).ends (get_or back k d).ends (handled.told k d inside) (kept_at held back old new k d handled inside) holds
+
+port_back : {S K C : Type 0} (held : List (PortEnds S K C)) (old new : ℕ → Place (Ends S K C)) (n : ℕ) → Handled held held old new → IsOff held n ⊎ ((k : ℕ) × (k < length held) × ((d : PortEnds S K C) → number_of (get_or held k d).port ≡ n)) → IsBack (old n) (new n)
+port_back {S} {K} {C} held old new n handled (inl off) = subst (λ (x : Place (Ends S K C)). IsBack (old n) x) (sym (handled.others n off)) (back_from (old n).stands)
+port_back {S} {K} {C} held old new n handled (inr (k, inside, found)) =
+    let d = element held k inside in
+    subst (λ (m : ℕ). IsBack (old m) (new m)) (found d) (at_port (λ m told kept. kept ≡ told) held held old new k d handled inside refl)
+
+-- the ends that came back as they were are back
+pub ports_back : {S K C : Type 0} (held : List (PortEnds S K C)) (old new : ℕ → Place (Ends S K C)) → Handled held held old new → (n : ℕ) → IsBack (old n) (new n)
+ports_back held old new handled n = port_back held old new n handled (off_or_in held n)
+
+cases_by : (a b : List ℕ) → (bytes_eq a b ≡ true) ⊎ (bytes_eq a b ≡ false) → (a ≡ b) ⊎ (a ≢ b)
+cases_by a b (inl same) = inl ((bytes_eq-Decides a b).0 same)
+cases_by a b (inr other) = inr (λ e. let t : bytes_eq a b ≡ true = (bytes_eq-Decides a b).1 e in cc)
+
+pub cases_name : (a b : List ℕ) → (a ≡ b) ⊎ (a ≢ b)
+cases_name a b = cases_by a b (cases_Bool (bytes_eq a b))
+
+other_back : {K : Type 0} (name : List ℕ) (sink : K) (old new : List ℕ → Place K) (other : List ℕ) → HandledOne name sink sink old new → (other ≡ name) ⊎ (other ≢ name) → IsBack (old other) (new other)
+other_back {K} name sink old new other handled (inl same) = subst (λ (m : List ℕ). IsBack (old m) (new m)) (sym same) (both_told (λ told kept. kept ≡ told) _ _ sink sink handled.told handled.kept refl)
+other_back {K} name sink old new other handled (inr apart) = subst (λ (x : Place K). IsBack (old other) x) (sym (handled.others other apart)) (back_from (old other).stands)
+
+pub output_back : {K : Type 0} (name : List ℕ) (sink : K) (old new : List ℕ → Place K) → HandledOne name sink sink old new → (other : List ℕ) → IsBack (old other) (new other)
+output_back name sink old new handled other = other_back name sink old new other handled (cases_name other name)
+
+-- ends of which nothing was used
+front_nothing : (o : Option (List ℕ)) → o ≡ in_front [] o
+front_nothing None = refl
+front_nothing (Some octets) = refl
+
+behind_nothing : (o : Option (List ℕ)) → o ≡ behind o []
+behind_nothing None = refl
+behind_nothing (Some octets) = ap (λ (l : List ℕ). Some l) (sym (append-nil octets))
+
+pub unused_ends : {S K C : Type 0} (left : S → Option (List ℕ)) (written : K → Option (List ℕ)) (ends : Ends S K C) → IsUsed left written ends ends
+unused_ends left written ends = record { gave = ([], front_nothing (left ends.source)); took = ([], behind_nothing (written ends.sink)); clock = refl }
+
+pub unused_sink : {K : Type 0} (written : K → Option (List ℕ)) (sink : K) → TookMore (written sink) (written sink)
+unused_sink written sink = ([], behind_nothing (written sink))
+
+pub keeps_all_of : {S K C : Type 0} (left : S → Option (List ℕ)) (written : K → Option (List ℕ)) (plan : Plan) (held back : List (PortEnds S K C)) (sink sink' : K) (old new : Book S K C) → ports_held held ≡ ports_of plan.ports → Handled held back old.ports new.ports → HandledOne plan.journal sink sink' old.outputs new.outputs
+    → ((k : ℕ) (d : PortEnds S K C) → k < length held → IsUsed left written (get_or held k d).ends (get_or back k d).ends) → TookMore (written sink) (written sink') → KeepsAll left written plan old new
+keeps_all_of {S} {K} {C} left written plan held back sink sink' old new ports handled journal used took = record {
+  ports = λ k d inside.
+      let sizes = length-map plan.ports (λ (p : PortPlan). number_of p.number) in
+      let size = size_of held plan.ports ports in
+      let e = element held k (omega (arith, sizes, size, inside)) in
+      subst (λ (n : ℕ). Keeps (IsUsed left written) (old.ports n) (new.ports n)) (sym (get_or_default (numbers_of plan.ports) k d 0 inside ∙ number_at held plan.ports k e ports (omega (arith, sizes, size, inside))))
+      (kept_at_port (λ n. IsUsed left written) held back old.ports new.ports k e handled (omega (arith, sizes, size, inside)) (used k e (omega (arith, sizes, size, inside))));
+  journal = kept_told (λ told kept. TookMore (written told) (written kept)) _ _ sink sink' journal.told journal.kept took;
+}
+
+pub off_plan : {S K C : Type 0} (plan : Plan) (held back : List (PortEnds S K C)) (sink sink' : K) (old new : Book S K C) → ports_held held ≡ ports_of plan.ports → Handled held back old.ports new.ports → HandledOne plan.journal sink sink' old.outputs new.outputs → IsOffPlanSame plan old new
+off_plan {S} {K} {C} plan held back sink sink' old new ports handled journal = record {
+  ports = λ n away. handled.others n (λ k d inside same.
+      let sizes = length-map plan.ports (λ (p : PortPlan). number_of p.number) in
+      let size = size_of held plan.ports ports in
+      away k 0 (omega (arith, sizes, size, inside)) (number_at held plan.ports k d ports inside ∙ same));
+  outputs = journal.others;
+}
+
+journal_was : {K : Type 0} (faults : K → ℕ) (written : K → Option (List ℕ)) (journal_written : Bool) (name : List ℕ) (sink sink' : K) (old new : List ℕ → Place K) (text : List ℕ) → HandledOne name sink sink' old new → JournalWas faults written journal_written sink sink' text → TookOrPart faults written journal_written (old name) (new name) text
+journal_was faults written true name sink sink' old new text handled was = kept_told (λ told kept. written kept ≡ behind (written told) text) _ _ sink sink' handled.told handled.kept was
+journal_was faults written false name sink sink' old new text handled (fault, part) =
+    (some_and (λ x. 0 < faults x) _ sink' handled.kept fault, (part.0, part.1, kept_told (λ told kept. written kept ≡ behind (written told) part.0) _ _ sink sink' handled.told handled.kept part.2))
+
+journal_took : {K : Type 0} (faults : K → ℕ) (written : K → Option (List ℕ)) (journal_written : Bool) (sink sink' : K) (text : List ℕ) → JournalWas faults written journal_written sink sink' text → TookMore (written sink) (written sink')
+journal_took faults written true sink sink' text was = (text, was)
+journal_took faults written false sink sink' text (fault, part) = (part.0, part.2)
+
+broken_at : {S K C : Type 0} (left : S → Option (List ℕ)) (written : K → Option (List ℕ)) (source_faults : S → ℕ) (sink_faults : K → ℕ) (plan : Plan) (past : List Row) (held back : List (PortEnds S K C)) (old new : Book S K C) → ports_held held ≡ ports_of plan.ports → Handled held back old.ports new.ports
+    → ((k : ℕ) (d : PortEnds S K C) → k < length held → IsServed left written source_faults sink_faults past (get_or held k d) (get_or back k d)) → EachPort plan (λ k n. input_end n past ≡ Some hows.Failed → HasReadFault source_faults new n)
+broken_at {S} {K} {C} left written source_faults sink_faults plan past held back old new ports handled served =
+    each_port (λ k n. input_end n past ≡ Some hows.Failed → HasReadFault source_faults new n) plan held ports (λ k d inside failed.
+    some_and (λ (e : Ends S K C). 0 < source_faults e.source) _ _ (kept_at held back old.ports new.ports k d handled inside) ((served k d inside).broken failed))
+
+broken_out_at : {S K C : Type 0} (left : S → Option (List ℕ)) (written : K → Option (List ℕ)) (source_faults : S → ℕ) (sink_faults : K → ℕ) (plan : Plan) (past : List Row) (held back : List (PortEnds S K C)) (old new : Book S K C) → ports_held held ≡ ports_of plan.ports → Handled held back old.ports new.ports
+    → ((k : ℕ) (d : PortEnds S K C) → k < length held → IsServed left written source_faults sink_faults past (get_or held k d) (get_or back k d)) → EachPort plan (λ k n. output_end n past ≡ Some hows.Failed → HasWriteFault sink_faults new n)
+broken_out_at {S} {K} {C} left written source_faults sink_faults plan past held back old new ports handled served =
+    each_port (λ k n. output_end n past ≡ Some hows.Failed → HasWriteFault sink_faults new n) plan held ports (λ k d inside failed.
+    some_and (λ (e : Ends S K C). 0 < sink_faults e.sink) _ _ (kept_at held back old.ports new.ports k d handled inside) ((served k d inside).broken_out failed))
+
+replay_of : {S K C : Type 0} (left : S → Option (List ℕ)) (written : K → Option (List ℕ)) (source_faults : S → ℕ) (sink_faults : K → ℕ) (plan : Plan) (Says : List ℕ → Type 0) (held back : List (PortEnds S K C)) (sink sink' : K) (core : Machine) (journal_written : Bool) (old new : Book S K C) (status : ℕ)
+    → ports_held held ≡ ports_of plan.ports → Handled held back old.ports new.ports → HandledOne plan.journal sink sink' old.outputs new.outputs
+    → IsPlayed left written source_faults sink_faults plan held back sink sink' core journal_written
+    → IsSummed written sink_faults Says core.past journal_written (old.std Out) (new.std Out) status
+    → IsReplayOf left written source_faults sink_faults plan Says old new status
+replay_of {S} {K} {C} left written source_faults sink_faults plan Says held back sink sink' core journal_written old new status ports handled journal played summed =
+    let past = core.past in
+    let out : IsPlayedOut left written plan past held back = played.out in
+    record {
+      inputs = out.inputs;
+      stops = out.stops;
+      past = past;
+      size = out.size ∙ size_of held plan.ports ports;
+      gave = each_port (λ k n. (i : _) → GaveAt left old new n past (get_or out.inputs k i)) plan held ports (λ k d inside i.
+          at_port (λ n told kept. IsInputOf (Arrive classic_kinds) (left told.source) (left kept.source) (input_end n past) (get_or out.inputs k i).arrivals (get_or out.inputs k i).ending)
+          held back old.ports new.ports k d handled inside (out.gave k d i inside));
+      replay = out.replay;
+      legal = played.legal;
+      finished = out.finished;
+      fits = each_port (λ k n. FitsPort left old new n past) plan held ports (λ k d inside.
+          at_port (λ n told kept. Fits (Arrive classic_kinds) (left told.source) (left kept.source) (arrived n past) (input_end n past))
+          held back old.ports new.ports k d handled inside (out.each.each k d inside).fits);
+      broken = broken_at left written source_faults sink_faults plan past held back old new ports handled played.served.each;
+      took = each_port (λ k n. TookSent written old new n past (out.stops n)) plan held ports (λ k d inside.
+          at_port (λ n told kept. TookPieces (written told.sink) (written kept.sink) (pieces (sent empty n past)) (out.stops n)) held back old.ports new.ports k d handled inside (out.took k d inside));
+      fits_out = each_port (λ k n. FitsSent written old new n past) plan held ports (λ k d inside.
+          at_port (λ n told kept. FitsOutputAt empty (written told.sink) (written kept.sink) n past) held back old.ports new.ports k d handled inside (out.each.each k d inside).fits_out);
+      broken_out = broken_out_at left written source_faults sink_faults plan past held back old new ports handled played.served.each;
+      journal_written = journal_written;
+      summary_written = summed.summary_written;
+      journal = journal_was sink_faults written journal_written plan.journal sink sink' old.outputs new.outputs (journal_text address_text plan (reverse past)) journal played.journal_was;
+      tells = played.tells;
+      alone = λ plan' past' other. journal_tells address_text written-IsAddressText plan plan' past past' _ played.tells other;
+      summary = summed.summary;
+      errors = summed.errors;
+      cause = summed.cause;
+      guarded = guarded plan empty past played.legal;
+    }
+
+-- what a session was to the ends is what it was to the places
+pub session_of : {S K C : Type 0} (left : S → Option (List ℕ)) (written : K → Option (List ℕ)) (source_faults : S → ℕ) (sink_faults : K → ℕ) (plan : Plan) (Says : List ℕ → Type 0) (held back : List (PortEnds S K C)) (sink sink' : K) (core : Machine) (journal_written : Bool) (old new : Book S K C) (status : ℕ)
+    → ports_held held ≡ ports_of plan.ports → Handled held back old.ports new.ports → HandledOne plan.journal sink sink' old.outputs new.outputs
+    → IsPlayed left written source_faults sink_faults plan held back sink sink' core journal_written
+    → IsSummed written sink_faults Says core.past journal_written (old.std Out) (new.std Out) status
+    → IsSessionOf left written source_faults sink_faults plan Says old new status
+session_of {S} {K} {C} left written source_faults sink_faults plan Says held back sink sink' core journal_written old new status ports handled journal played summed = record {
+  kept = keeps_all_of left written plan held back sink sink' old new ports handled journal (λ k d inside. (played.served.each k d inside).used)
+      (journal_took sink_faults written journal_written sink sink' (journal_text address_text plan (reverse core.past)) played.journal_was);
+  elsewhere = off_plan plan held back sink sink' old new ports handled journal;
+  did = replay_of left written source_faults sink_faults plan Says held back sink sink' core journal_written old new status ports handled journal played summed;
+}
+
+-- the numbers of the ports of a plan
+numbers_are : (plans : List PortPlan) → numbers_of plans ≡ map number_of (ports_of plans)
+numbers_are [] = refl
+numbers_are (p ∷ plans) = ap (λ (l : List ℕ). number_of p.number ∷ l) (numbers_are plans)
+
+held_number : {S K C : Type 0} (held : List (PortEnds S K C)) (k d : ℕ) (e : PortEnds S K C) → k < length held → get_or (map number_of (ports_held held)) k d ≡ number_of (get_or held k e).port
+held_number {S} {K} {C} held k d e inside =
+    let size = length-map held (λ (p : PortEnds S K C). p.port) in
+    get_or-map number_of (ports_held held) k e.port d (omega (arith, size, inside))
+    ∙ ap number_of (get_or-map (λ (p : PortEnds S K C). p.port) held k e e.port inside)
+
+held_size : {S K C : Type 0} (held : List (PortEnds S K C)) → length (map number_of (ports_held held)) ≡ length held
+held_size {S} {K} {C} held = length-map (ports_held held) number_of ∙ length-map held (λ (p : PortEnds S K C). p.port)
+
+-- the ports that were opened are kept
+held_kept : {S K C : Type 0} (held back : List (PortEnds S K C)) (old new : ℕ → Place (Ends S K C)) → Handled held back old new → All (λ n. IsSome (new n).stands) (map number_of (ports_held held))
+held_kept {S} {K} {C} held back old new handled = λ k d inside.
+    let size = held_size held in
+    let within : k < length held = omega (arith, size, inside) in
+    let e = element held k within in
+    subst (λ (n : ℕ). IsSome (new n).stands) (sym (held_number held k d e within)) (is_some_of _ _ (kept_at held back old new k e handled within))
+
+-- those that come behind them in the plan are none of them
+later_same : {S K C : Type 0} (held back : List (PortEnds S K C)) (old new : ℕ → Place (Ends S K C)) (numbers rest : List ℕ) → IsStrictlyIncreasing numbers → numbers ≡ map number_of (ports_held held) ++ rest → Handled held back old new → All (λ n. new n ≡ old n) rest
+later_same {S} {K} {C} held back old new numbers rest rising all handled = λ j d inside. handled.others (get_or rest j d) (λ k e within same.
+    let before = map number_of (ports_held held) in
+    let size = held_size held in
+    let sizes = ap length all ∙ length-append before rest in
+    let here = ap (λ (l : List ℕ). get_or l (length before + j) d) all ∙ get_or-append-add before rest j d in
+    let there = ap (λ (l : List ℕ). get_or l k d) all ∙ get_or_append_left before rest d k (omega (arith, size, within)) ∙ held_number held k d e within in
+    let below = AllPairs-from_increasing numbers rising k (length before + j) d (omega (arith, size, within)) (omega (arith, sizes, inside)) in
+    omega (arith, here, there, below, same))
+
+-- a port off the plan is none of those that were opened
+off_held : {S K C : Type 0} (held : List (PortEnds S K C)) (numbers rest : List ℕ) (n : ℕ) → numbers ≡ map number_of (ports_held held) ++ rest → All (λ m. m ≢ n) numbers → IsOff held n
+off_held {S} {K} {C} held numbers rest n all away = λ k d inside same.
+    let before = map number_of (ports_held held) in
+    let size = held_size held in
+    let sizes = ap length all ∙ length-append before rest in
+    let there = ap (λ (l : List ℕ). get_or l k 0) all ∙ get_or_append_left before rest 0 k (omega (arith, size, inside)) ∙ held_number held k 0 d inside in
+    away k 0 (omega (arith, size, sizes, inside)) (there ∙ same)
+
+-- an opening of a port failed, and what was open is kept
+pub port_unopened : {S K C : Type 0} (plan : Plan) (Says : List ℕ → Type 0) (held : List (PortEnds S K C)) (port : Port) (old new : Book S K C) → IsStrictlyIncreasing (numbers_of plan.ports) → IsNextBehind port (ports_held held) (ports_of plan.ports)
+    → Handled held held old.ports new.ports → new.outputs ≡ old.outputs → Says (cannot_open_line (port_name (number_of port))) → IsPortUnopened plan Says old new
+port_unopened {S} {K} {C} plan Says held port old new rising (later, all) handled outputs told =
+    let whole : numbers_of plan.ports ≡ map number_of (ports_held held) ++ number_of port ∷ map number_of later = numbers_are plan.ports ∙ ap (map number_of) all ∙ map-append number_of (ports_held held) (port ∷ later) in
+    record {
+      before = map number_of (ports_held held);
+      port = number_of port;
+      later = map number_of later;
+      all = whole;
+      kept = held_kept held held old.ports new.ports handled;
+      same = later_same held held old.ports new.ports (numbers_of plan.ports) (number_of port ∷ map number_of later) rising whole handled;
+      outputs = outputs;
+      elsewhere = record {
+        ports = λ n away. handled.others n (off_held held (numbers_of plan.ports) (number_of port ∷ map number_of later) n whole away);
+        outputs = λ other apart. ap (λ (o : List ℕ → Place K). o other) outputs;
+      };
+      errors = told;
+    }
+
+-- the opening of the journal failed, and all ports are kept
+pub journal_unopened : {S K C : Type 0} (plan : Plan) (Says : List ℕ → Type 0) (held : List (PortEnds S K C)) (old new : Book S K C) → ports_held held ≡ ports_of plan.ports
+    → Handled held held old.ports new.ports → ((name : List ℕ) → new.outputs name ≡ old.outputs name) → Says (cannot_open_line journal_word) → IsJournalUnopened plan Says old new
+journal_unopened {S} {K} {C} plan Says held old new ports handled outputs told = record {
+  kept = subst (λ (l : List ℕ). All (λ n. IsSome (new.ports n).stands) l) (sym (numbers_are plan.ports ∙ ap (map number_of) (sym ports))) (held_kept held held old.ports new.ports handled);
+  outputs = outputs;
+  elsewhere = record {
+    ports = λ n away. handled.others n (off_held held (numbers_of plan.ports) [] n (numbers_are plan.ports ∙ ap (map number_of) (sym ports) ∙ sym (append-nil (map number_of (ports_held held)))) away);
+    outputs = λ other apart. outputs other;
+  };
+  errors = told;
+}

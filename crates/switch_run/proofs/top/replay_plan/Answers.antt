@@ -1,0 +1,151 @@
+use Rattle.std.proofs.Common.{◌≡◌, ℕ, List, ap, ◌∙◌, inl, inr, refl, subst}
+use Rattle.savi_kinds.specs.declared.plan.PortPlan.{PortPlan}
+use Rattle.savi_ends.specs.declared.world.Std.{Std}
+use Rattle.savi_ends.specs.declared.world.Ends.{Ends}
+use Rattle.savi_ends.specs.Places.{Book, Place, BothFresh}
+use Rattle.port_worker.specs.Replays.{ports_held}
+use Rattle.switch_ports.specs.Openings.{ports_of, IsNextBehind}
+use Rattle.run_config.specs.Lines.{cannot_open_line, journal_word}
+use Rattle.switch_run.specs.Session.{ToldBy}
+use Rattle.switch_run.proofs.Ending.{Closes, closes, stays_all, unused_by}
+use Rattle.switch_run.proofs.Through.{journal_unopened, port_unopened}
+use Rattle.switch_run.proofs.Handling.{apart_all, apart_back, apart_first, handled_by, handled_one, out_back, same_ports}
+use Rattle.switch_run.proofs.Recast.{told_by}
+use Rattle.switch_run.proofs.top.replay_plan.Given as given
+use Rattle.switch_run.proofs.top.replay_plan.Goals as goal
+
+pub keep_all-requires-clause-apart : goal.keep_all-requires-clause-apart
+keep_all-requires-clause-apart g c κs within =
+    apart_first c.open_all.new.held.items c.args.plan.ports c.in-Some-open_all.port c.requires.built.valid.ports
+    (subst (λ (l : List PortPlan). IsNextBehind c.in-Some-open_all.port (ports_held c.open_all.new.held.items) (ports_of l)) c.as_slice.ensures c.in-Some-open_all.ensures.failed)
+
+pub keep_all-requires-clause-out : goal.keep_all-requires-clause-out
+keep_all-requires-clause-out g c κs within =
+    out_back (BothFresh g.W.S.Source.faults g.W.K.Sink.faults) c.open_all.new.held.items c.open_all.new.held.items (g.W.World.book c.args.world.now).ports (g.W.World.book c.open_all.new.world).ports _ c.open_all.ensures.opened (same_ports _) refl
+
+pub returns-in-Some-open_all-clause-unopened : goal.returns-in-Some-open_all-clause-unopened
+returns-in-Some-open_all-clause-unopened g c = λ seven.
+    let S = g.row.W-S.Denot in
+    let K = g.row.W-K.Denot in
+    let C = g.row.W-C.Denot in
+    inl (port_unopened c.args.plan _ c.open_all.new.held.items c.in-Some-open_all.port _ _ c.requires.built.valid.ports
+    (subst (λ (l : List PortPlan). IsNextBehind c.in-Some-open_all.port (ports_held c.open_all.new.held.items) (ports_of l)) c.as_slice.ensures c.in-Some-open_all.ensures.failed)
+    (handled_by (BothFresh g.W.S.Source.faults g.W.K.Sink.faults) _ _ _ (g.W.World.book c.open_all.new.world).ports _ (g.W.World.book c.keep_all.new.world).ports _ c.open_all.ensures.opened c.open_all.ensures.others refl (same_ports _) c.keep_all.ensures.kept c.keep_all.ensures.others refl)
+    (ap (λ (b : Book S K C). b.outputs) c.keep_all.ensures.rest ∙ ap (λ (b : Book S K C). b.outputs) c.open_all.ensures.rest)
+    (subst (λ (name : List ℕ). ToldBy g.W.K.Sink.faults g.W.K.Sink.written c.args.errors.now c.tell_unopened-put.new.sink (cannot_open_line name)) (c.as_str.ensures.value ∙ c.port_name.ensures)
+    (told_by g.W.K.Sink.faults g.W.K.Sink.written c.tell_unopened-put.result _ _ _ c.tell_unopened-put.ensures.extends c.tell_unopened-put.ensures.cause)))
+
+pub returns-in-Some-open_all-clause-unused : goal.returns-in-Some-open_all-clause-unused
+returns-in-Some-open_all-clause-unused g c = λ one_of.
+    let S = g.row.W-S.Denot in
+    let K = g.row.W-K.Denot in
+    let C = g.row.W-C.Denot in
+    unused_by c.open_all.new.held.items _ _
+    (handled_by (BothFresh g.W.S.Source.faults g.W.K.Sink.faults) _ _ _ (g.W.World.book c.open_all.new.world).ports _ (g.W.World.book c.keep_all.new.world).ports _ c.open_all.ensures.opened c.open_all.ensures.others refl (same_ports _) c.keep_all.ensures.kept c.keep_all.ensures.others refl)
+    (λ name. ap (λ (b : Book S K C). b.outputs name) c.keep_all.ensures.rest ∙ ap (λ (b : Book S K C). b.outputs name) c.open_all.ensures.rest)
+
+pub keep_all-requires-in-Err-clause-apart : goal.keep_all-requires-in-Err-clause-apart
+keep_all-requires-in-Err-clause-apart g c κs within =
+    apart_all c.open_all.new.held.items c.args.plan.ports c.requires.built.valid.ports (c.open_all.ensures.all c.in_default-open_all.is ∙ ap ports_of c.as_slice.ensures)
+
+pub keep_all-requires-in-Err-clause-out : goal.keep_all-requires-in-Err-clause-out
+keep_all-requires-in-Err-clause-out g c κs within =
+    let S = g.row.W-S.Denot in
+    let K = g.row.W-K.Denot in
+    let C = g.row.W-C.Denot in
+    out_back (BothFresh g.W.S.Source.faults g.W.K.Sink.faults) c.open_all.new.held.items c.open_all.new.held.items (g.W.World.book c.args.world.now).ports (g.W.World.book c.open_all.new.world).ports _ c.open_all.ensures.opened (same_ports _) (ap (λ (b : Book S K C). b.ports) c.output.ensures.rest)
+
+pub returns-in-Err-clause-unopened : goal.returns-in-Err-clause-unopened
+returns-in-Err-clause-unopened g c = λ seven.
+    let S = g.row.W-S.Denot in
+    let K = g.row.W-K.Denot in
+    let C = g.row.W-C.Denot in
+    inr (journal_unopened c.args.plan _ c.open_all.new.held.items _ _ (c.open_all.ensures.all c.in_default-open_all.is ∙ ap ports_of c.as_slice.ensures)
+    (handled_by (BothFresh g.W.S.Source.faults g.W.K.Sink.faults) _ _ _ (g.W.World.book c.open_all.new.world).ports (g.W.World.book c.output.new.self).ports (g.W.World.book c.keep_all-in-Err.new.world).ports _ c.open_all.ensures.opened c.open_all.ensures.others (ap (λ (b : Book S K C). b.ports) c.output.ensures.rest) (same_ports _) c.keep_all-in-Err.ensures.kept c.keep_all-in-Err.ensures.others refl)
+    (λ name. ap (λ (b : Book S K C). b.outputs name) c.keep_all-in-Err.ensures.rest
+    ∙ stays_all (g.W.World.book c.open_all.new.world).outputs (g.W.World.book c.output.new.self).outputs c.as_str-2.result.now c.in-Err.ensures.opens.err c.in-Err.ensures.others name
+    ∙ ap (λ (b : Book S K C). b.outputs name) c.open_all.ensures.rest)
+    (told_by g.W.K.Sink.faults g.W.K.Sink.written c.tell_unopened-put-in-Err.result _ _ (cannot_open_line journal_word) c.tell_unopened-put-in-Err.ensures.extends c.tell_unopened-put-in-Err.ensures.cause))
+
+pub returns-in-Err-clause-unused : goal.returns-in-Err-clause-unused
+returns-in-Err-clause-unused g c = λ one_of.
+    let S = g.row.W-S.Denot in
+    let K = g.row.W-K.Denot in
+    let C = g.row.W-C.Denot in
+    unused_by c.open_all.new.held.items _ _
+    (handled_by (BothFresh g.W.S.Source.faults g.W.K.Sink.faults) _ _ _ (g.W.World.book c.open_all.new.world).ports (g.W.World.book c.output.new.self).ports (g.W.World.book c.keep_all-in-Err.new.world).ports _ c.open_all.ensures.opened c.open_all.ensures.others (ap (λ (b : Book S K C). b.ports) c.output.ensures.rest) (same_ports _) c.keep_all-in-Err.ensures.kept c.keep_all-in-Err.ensures.others refl)
+    (λ name. ap (λ (b : Book S K C). b.outputs name) c.keep_all-in-Err.ensures.rest
+    ∙ stays_all (g.W.World.book c.open_all.new.world).outputs (g.W.World.book c.output.new.self).outputs c.as_str-2.result.now c.in-Err.ensures.opens.err c.in-Err.ensures.others name
+    ∙ ap (λ (b : Book S K C). b.outputs name) c.open_all.ensures.rest)
+
+pub keep_all-requires-2-clause-apart : goal.keep_all-requires-2-clause-apart
+keep_all-requires-2-clause-apart g c κs within =
+    apart_back c.open_all.new.held.items c.play-ready.result.ready.ports.items c.play-ready.ensures.ports
+    (apart_all c.open_all.new.held.items c.args.plan.ports c.requires.built.valid.ports (c.open_all.ensures.all c.in_default-open_all.is ∙ ap ports_of c.as_slice.ensures))
+
+pub keep_all-requires-2-clause-out : goal.keep_all-requires-2-clause-out
+keep_all-requires-2-clause-out g c κs within =
+    let S = g.row.W-S.Denot in
+    let K = g.row.W-K.Denot in
+    let C = g.row.W-C.Denot in
+    out_back (BothFresh g.W.S.Source.faults g.W.K.Sink.faults) c.open_all.new.held.items c.play-ready.result.ready.ports.items (g.W.World.book c.args.world.now).ports (g.W.World.book c.open_all.new.world).ports _ c.open_all.ensures.opened c.play-ready.ensures.ports (ap (λ (b : Book S K C). b.ports) c.output.ensures.rest)
+
+std_before : (g : given.Over) (c : goal.After-drop-journal-inside-2 g) → (g.W.World.book c.keep_output.new.self).std ≡ (g.W.World.book c.args.world.now).std
+std_before g c =
+    let S = g.row.W-S.Denot in
+    let K = g.row.W-K.Denot in
+    let C = g.row.W-C.Denot in
+    let std : Book S K C → Std → Place K = λ b. b.std in
+    ap std c.keep_output.ensures.rest ∙ ap std c.keep_all-2.ensures.rest ∙ ap std c.output.ensures.rest ∙ ap std c.open_all.ensures.rest
+
+final : (g : given.Over) (c : goal.After-drop-journal-inside-2 g) → Closes g.W.S.Source.left g.W.K.Sink.written g.W.S.Source.faults g.W.K.Sink.faults c.args.plan (ToldBy g.W.K.Sink.faults g.W.K.Sink.written c.args.errors.now c.conclude.new.errors) (g.W.World.book c.args.world.now) (g.W.World.book c.conclude.new.world) c.conclude.result
+final g c =
+    let S = g.row.W-S.Denot in
+    let K = g.row.W-K.Denot in
+    let C = g.row.W-C.Denot in
+    let ports : Book S K C → ℕ → Place (Ends S K C) = λ b. b.ports in
+    let outputs : Book S K C → List ℕ → Place K = λ b. b.outputs in
+    closes g.W.S.Source.left g.W.K.Sink.written g.W.S.Source.faults g.W.K.Sink.faults c.args.plan _ c.open_all.new.held.items c.play-ready.result.ready.ports.items c.in-Ok.sink c.play-ready.new.journal c.play-ready.result.outcome _ (g.W.World.book c.keep_output.new.self) _ c.conclude.result
+    (c.open_all.ensures.all c.in_default-open_all.is ∙ ap ports_of c.as_slice.ensures)
+    (handled_by (BothFresh g.W.S.Source.faults g.W.K.Sink.faults) _ _ _ (ports (g.W.World.book c.open_all.new.world)) (ports (g.W.World.book c.output.new.self)) (ports (g.W.World.book c.keep_all-2.new.world)) _ c.open_all.ensures.opened c.open_all.ensures.others (ap ports c.output.ensures.rest) c.play-ready.ensures.ports c.keep_all-2.ensures.kept c.keep_all-2.ensures.others
+    (ap ports c.conclude.ensures.rest ∙ ap ports c.keep_output.ensures.rest))
+    (handled_one c.as_str-2.result.now c.as_str-3.result.now c.args.plan.journal c.in-Ok.sink c.play-ready.new.journal _ (outputs (g.W.World.book c.open_all.new.world)) (outputs (g.W.World.book c.output.new.self)) (outputs (g.W.World.book c.keep_all-2.new.world)) (outputs (g.W.World.book c.keep_output.new.self)) _
+    (c.as_str-2.ensures ∙ c.in-Some.ensures.journal) (c.as_str-3.ensures ∙ c.in-Some.ensures.journal)
+    (ap outputs c.open_all.ensures.rest) c.in-Ok.ensures.opens.told c.in-Ok.ensures.others (ap outputs c.keep_all-2.ensures.rest) c.keep_output.ensures.kept c.keep_output.ensures.others (ap outputs c.conclude.ensures.rest))
+    (std_before g c)
+    c.play-ready.ensures.none c.play-ready.ensures.played c.conclude.ensures.none c.conclude.ensures.some
+
+pub returns-clause-status : goal.returns-clause-status
+returns-clause-status g c = (final g c).one_of
+
+pub returns-clause-usage : goal.returns-clause-usage
+returns-clause-usage g c = (final g c).usage
+
+pub returns-clause-config : goal.returns-clause-config
+returns-clause-config g c = (final g c).config
+
+pub returns-clause-open : goal.returns-clause-open
+returns-clause-open g c = λ seven. absurd ((final g c).opening seven)
+
+pub returns-clause-unopened : goal.returns-clause-unopened
+returns-clause-unopened g c = λ seven. absurd ((final g c).opening seven)
+
+pub returns-clause-memory : goal.returns-clause-memory
+returns-clause-memory g c = (final g c).memory
+
+pub returns-clause-unplayed : goal.returns-clause-unplayed
+returns-clause-unplayed g c = λ one. inr ((final g c).unplayed one)
+
+pub returns-clause-session : goal.returns-clause-session
+returns-clause-session g c = (final g c).session
+
+pub returns-clause-quiet : goal.returns-clause-quiet
+returns-clause-quiet g c = (final g c).quiet
+
+pub returns-clause-unused : goal.returns-clause-unused
+returns-clause-unused g c = (final g c).unused
+
+pub returns-clause-others : goal.returns-clause-others
+returns-clause-others g c =
+    let K = g.row.W-K.Denot in
+    λ other apart. c.conclude.ensures.others other apart ∙ ap (λ (p : Std → Place K). p other) (std_before g c)

@@ -1,0 +1,4 @@
+pub mod Causes
+pub mod Session
+pub mod Played
+pub mod Concluded

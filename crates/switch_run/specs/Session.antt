@@ -1,0 +1,192 @@
+-- What a run has done whose session began: one history stands in all of it.
+use Rattle.std.specs.Prelude.{◌≡◌, ℕ, ◌<◌, ◌⊎◌, ◌&&◌, ◌||◌, not, Bool, true, false, if◌then◌else◌, List, [], ◌∷◌, ◌++◌, length, slice_index, slice_index_or, reverse, Option, Some, IfSome, IsSome, IsSomeAnd, All}
+use Rattle.savi_kinds.specs.declared.plan.Plan.{Plan}
+use Rattle.savi_kinds.specs.declared.entry.How.TheVariants as hows
+use Rattle.savi_kinds.specs.Arrivals.{Input}
+use Rattle.savi_kinds.specs.ValidPlan.{numbers_of}
+use Rattle.savi_ends.specs.declared.world.Std.TheVariants.{Out, Err}
+use Rattle.savi_ends.specs.Octets.{behind, IsFront}
+use Rattle.savi_ends.specs.Places.{Place, Book}
+use Rattle.pcap_io.specs.Kinds.{classic_kinds}
+use Rattle.pcap_io.specs.Runs.{Arrive}
+use Rattle.hist_store.specs.Rows.{Row}
+use Rattle.hist_store.specs.JournalTexts.{journal_text, address_text}
+use Rattle.savi_history.specs.Bases.{empty}
+use Rattle.savi_history.specs.Queues.{sent}
+use Rattle.savi_history.specs.Legal.{IsLegal, IsFinished}
+use Rattle.savi_history.specs.Replay.{Stops, replayed}
+use Rattle.savi_history.specs.PortInputs.{arrived, input_end}
+use Rattle.savi_history.specs.PortOutputs.{output_end, pieces, TookPieces, FitsOutputAt}
+use Rattle.savi_history.specs.Fits.{Fits}
+use Rattle.savi_history.specs.Endings.{has_failed, has_failed_write, has_malformed, has_full}
+use Rattle.savi_history.specs.EndLines.{end_lines}
+use Rattle.savi_history.specs.Adverts.{IsGuarded}
+use Rattle.savi_history.specs.Journals.{IsJournalOf, IsSame}
+use Rattle.savi_history.specs.Summary.{summary_of, summary_text}
+use Rattle.savi_conf.specs.declared.fault.ConfFault.{ConfFault}
+use Rattle.run_config.specs.Configs.{HasFault, IsConfigured, IsReadFrom, IsRefused}
+use Rattle.run_config.specs.Lines.{cannot_open_line, config_line, write_failed_line, read_failed_line, port_name, journal_word}
+use Rattle.port_worker.specs.Replays.{IsInputOf}
+use Rattle.switch_run.specs.Causes.{HasReadFault, HasWriteFault, IsUnserved, KeepsAll, IsOffPlanSame}
+
+-- The status by a history, and by whether the journal and the summary were written: the first that applies of a failed
+-- read, a failed write, a malformed input and want of room.
+abbrev pub status_of : Bool → List Row → ℕ
+status_of written past =
+    if has_failed past then 5 else if has_failed_write past || not written then 6 else if has_malformed past then 4 else if has_full past then 8 else 0
+
+-- A sink that is kept took these octets behind those that it held when it was told.
+abbrev pub Took : {X : Type 0} → (X → Option (List ℕ)) → Place X → Place X → List ℕ → Type 0
+Took written old new octets = IsSomeAnd new.stands (λ kept. IfSome old.stands (λ told. written kept ≡ behind (written told) octets))
+
+-- it took them, or a front of them before a write of it failed
+abbrev pub TookOrPart : {X : Type 0} → (X → ℕ) → (X → Option (List ℕ)) → Bool → Place X → Place X → List ℕ → Type 0
+TookOrPart faults written true old new octets = Took written old new octets
+TookOrPart faults written false old new octets =
+    HasFault faults new × ((front : List ℕ) × IsFront front octets × Took written old new front)
+
+-- A sink took these lines, or a write of it failed, which changes no status.
+abbrev pub ToldBy : {K : Type 0} → (K → ℕ) → (K → Option (List ℕ)) → K → K → List ℕ → Type 0
+ToldBy faults written old new lines = (written new ≡ behind (written old) lines) ⊎ (0 < faults new)
+
+-- Standard error took these lines, or a write of it failed, which changes no status.
+abbrev pub Told : {S K C : Type 0} → (K → ℕ) → (K → Option (List ℕ)) → Book S K C → Book S K C → List ℕ → Type 0
+Told faults written old new lines = Took written (old.std Err) (new.std Err) lines ⊎ HasFault faults (new.std Err)
+
+-- for each port of the plan, by its place in the plan and its number
+abbrev pub EachPort : Plan → (ℕ → ℕ → Type 0) → Type 0
+EachPort plan Holds = (k : ℕ) → k < length plan.ports → Holds k (slice_index (numbers_of plan.ports) k)
+
+-- The source of a port gave this input, by how the history says that it ended.
+abbrev pub GaveAt : {S K C : Type 0} → (S → Option (List ℕ)) → Book S K C → Book S K C → ℕ → List Row → Input → Type 0
+GaveAt left old new port past input =
+    IfSome (old.ports port).stands (λ told. IsSomeAnd (new.ports port).stands (λ kept.
+    IsInputOf (Arrive classic_kinds) (left told.source) (left kept.source) (input_end port past) input.arrivals input.ending))
+
+-- What the source of a port gave up fits what the history holds of its input.
+abbrev pub FitsPort : {S K C : Type 0} → (S → Option (List ℕ)) → Book S K C → Book S K C → ℕ → List Row → Type 0
+FitsPort left old new port past =
+    IfSome (old.ports port).stands (λ told. IsSomeAnd (new.ports port).stands (λ kept.
+    Fits (Arrive classic_kinds) (left told.source) (left kept.source) (arrived port past) (input_end port past)))
+
+-- A port's sink took the pieces of the capture of what the history sends there: all, or, where a write failed behind so
+-- many, those and a front of the next.
+abbrev pub TookSent : {S K C : Type 0} → (K → Option (List ℕ)) → Book S K C → Book S K C → ℕ → List Row → Option ℕ → Type 0
+TookSent written old new port past stop =
+    IfSome (old.ports port).stands (λ told. IsSomeAnd (new.ports port).stands (λ kept. TookPieces (written told.sink) (written kept.sink) (pieces (sent empty port past)) stop))
+
+-- What a port's sink took fits how the history says that the output ended.
+abbrev pub FitsSent : {S K C : Type 0} → (K → Option (List ℕ)) → Book S K C → Book S K C → ℕ → List Row → Type 0
+FitsSent written old new port past =
+    IfSome (old.ports port).stands (λ told. IsSomeAnd (new.ports port).stands (λ kept. FitsOutputAt empty (written told.sink) (written kept.sink) port past))
+
+-- the line of a journal that couldn't be written
+abbrev pub journal_lines : Bool → List ℕ
+journal_lines true = []
+journal_lines false = write_failed_line journal_word
+
+-- A replay with this plan: one history, legal and finished, is the replay of what the sources of the plan's ports gave to
+-- sinks that stop so, and fits both, port by port; an input ended by a failed read only where its own source has a fault, and
+-- an output by a failed write only where its own sink has one; the journal took its text, which is that of no other legal
+-- history, and standard output its summary, or a front of it where a write failed; standard error was told its bad ends, in
+-- what `Says`; the status is that of the history; and no advertisement and no hidden fragment passed the port of a host or a
+-- server.
+pub record IsReplayOf {S K C : Type 0} (left : S → Option (List ℕ)) (written : K → Option (List ℕ)) (source_faults : S → ℕ) (sink_faults : K → ℕ) (plan : Plan) (Says : List ℕ → Type 0) (old new : Book S K C) (status : ℕ) : Type 0 where
+  pub inputs : List Input
+  pub stops : Stops
+  pub past : List Row
+  pub size : length inputs ≡ length plan.ports
+  pub gave : EachPort plan (λ k port. (i : Input) → GaveAt left old new port past (slice_index_or inputs k i))
+  pub replay : past ≡ replayed plan empty inputs stops
+  pub legal : IsLegal plan empty past
+  pub finished : IsFinished plan empty past
+  pub fits : EachPort plan (λ k port. FitsPort left old new port past)
+  pub broken : EachPort plan (λ k port. input_end port past ≡ Some hows.Failed → HasReadFault source_faults new port)
+  pub took : EachPort plan (λ k port. TookSent written old new port past (stops port))
+  pub fits_out : EachPort plan (λ k port. FitsSent written old new port past)
+  pub broken_out : EachPort plan (λ k port. output_end port past ≡ Some hows.Failed → HasWriteFault sink_faults new port)
+  -- whether the journal was written, and the summary
+  pub journal_written : Bool
+  pub summary_written : Bool
+  pub journal : TookOrPart sink_faults written journal_written (old.outputs plan.journal) (new.outputs plan.journal) (journal_text address_text plan (reverse past))
+  pub tells : IsJournalOf address_text plan past (journal_text address_text plan (reverse past))
+  pub alone : (plan' : Plan) (past' : List Row) → IsJournalOf address_text plan' past' (journal_text address_text plan (reverse past)) → IsSame plan past plan' past'
+  pub summary : TookOrPart sink_faults written summary_written (old.std Out) (new.std Out) (summary_text (summary_of past))
+  pub errors : Says (end_lines past ++ journal_lines journal_written)
+  pub cause : status ≡ status_of (journal_written && summary_written) past
+  pub guarded : IsGuarded plan past
+
+-- A session of this plan: its ends are kept, each in its own place, no other port or output was touched, and it was a replay.
+pub record IsSessionOf {S K C : Type 0} (left : S → Option (List ℕ)) (written : K → Option (List ℕ)) (source_faults : S → ℕ) (sink_faults : K → ℕ) (plan : Plan) (Says : List ℕ → Type 0) (old new : Book S K C) (status : ℕ) : Type 0 where
+  pub kept : KeepsAll left written plan old new
+  pub elsewhere : IsOffPlanSame plan old new
+  pub did : IsReplayOf left written source_faults sink_faults plan Says old new status
+
+-- A session of the plan that the configuration says. The configuration's input is kept, and a front of it was read.
+pub record IsSession {S K C : Type 0} (left : S → Option (List ℕ)) (written : K → Option (List ℕ)) (source_faults : S → ℕ) (sink_faults : K → ℕ) (file : List ℕ) (Says : List ℕ → Type 0) (old new : Book S K C) (status : ℕ) : Type 0 where
+  pub plan : Plan
+  pub configured : IsConfigured left (old.inputs file) plan
+  pub input : IsReadFrom left (old.inputs file) (new.inputs file)
+  pub session : IsSessionOf left written source_faults sink_faults plan Says old new status
+
+-- A read of the configuration failed, before anything else was opened.
+pub record IsUnread {S K C : Type 0} (left : S → Option (List ℕ)) (source_faults : S → ℕ) (file : List ℕ) (Says : List ℕ → Type 0) (old new : Book S K C) (status : ℕ) : Type 0 where
+  pub status_is : status ≡ 5
+  pub fault : HasFault source_faults (new.inputs file)
+  pub input : IsReadFrom left (old.inputs file) (new.inputs file)
+  pub errors : Says (read_failed_line file)
+  pub out : new.std Out ≡ old.std Out
+  pub unserved : IsUnserved old new
+
+-- The configuration could not be opened, and nothing else was touched.
+pub record IsFileUnopened {S K C : Type 0} (file : List ℕ) (Says : List ℕ → Type 0) (old new : Book S K C) : Type 0 where
+  pub errors : Says (cannot_open_line file)
+  pub place : new.inputs file ≡ old.inputs file
+  pub unserved : IsUnserved old new
+
+-- A port could not be opened: it and those behind it in the plan are as they were, and so is each output.
+pub record IsPortUnopened {S K C : Type 0} (plan : Plan) (Says : List ℕ → Type 0) (old new : Book S K C) : Type 0 where
+  pub before : List ℕ
+  pub port : ℕ
+  pub later : List ℕ
+  pub all : numbers_of plan.ports ≡ before ++ port ∷ later
+  pub kept : All (λ n. IsSome (new.ports n).stands) before
+  pub same : All (λ n. new.ports n ≡ old.ports n) (port ∷ later)
+  pub outputs : new.outputs ≡ old.outputs
+  pub elsewhere : IsOffPlanSame plan old new
+  pub errors : Says (cannot_open_line (port_name port))
+
+-- The journal could not be opened: the ends of each port are kept, and each output is as it was.
+pub record IsJournalUnopened {S K C : Type 0} (plan : Plan) (Says : List ℕ → Type 0) (old new : Book S K C) : Type 0 where
+  pub kept : All (λ n. IsSome (new.ports n).stands) (numbers_of plan.ports)
+  pub outputs : (name : List ℕ) → new.outputs name ≡ old.outputs name
+  pub elsewhere : IsOffPlanSame plan old new
+  pub errors : Says (cannot_open_line journal_word)
+
+abbrev pub IsPartUnopened : {S K C : Type 0} → Plan → (List ℕ → Type 0) → Book S K C → Book S K C → Type 0
+IsPartUnopened plan Says old new = IsPortUnopened plan Says old new ⊎ IsJournalUnopened plan Says old new
+
+-- A port or the journal of the plan that the configuration says could not be opened.
+pub record IsPlanUnopened {S K C : Type 0} (left : S → Option (List ℕ)) (file : List ℕ) (Says : List ℕ → Type 0) (old new : Book S K C) : Type 0 where
+  pub plan : Plan
+  pub configured : IsConfigured left (old.inputs file) plan
+  pub input : IsReadFrom left (old.inputs file) (new.inputs file)
+  pub part : IsPartUnopened plan Says old new
+
+-- Something that was to be opened could not be.
+abbrev pub IsUnopened : {S K C : Type 0} → (S → Option (List ℕ)) → List ℕ → (List ℕ → Type 0) → Book S K C → Book S K C → Type 0
+IsUnopened left file Says old new = IsFileUnopened file Says old new ⊎ IsPlanUnopened left file Says old new
+
+-- The configuration, whose input is kept, says no plan, and nothing else was opened.
+pub record IsNoPlan {S K C : Type 0} (left : S → Option (List ℕ)) (file : List ℕ) (Says : List ℕ → Type 0) (old new : Book S K C) : Type 0 where
+  pub fault : ConfFault
+  pub refused : IsRefused left (old.inputs file) fault
+  pub input : IsReadFrom left (old.inputs file) (new.inputs file)
+  pub unserved : IsUnserved old new
+  pub errors : Says (config_line fault)
+
+-- There was no memory. The input of the configuration is as it was, or kept, and a front of it was read. Either no port and
+-- no output was touched, or the ends of all ports of the plan and the journal are kept, and no others were touched.
+pub record IsUnplayed {S K C : Type 0} (left : S → Option (List ℕ)) (written : K → Option (List ℕ)) (file : List ℕ) (old new : Book S K C) : Type 0 where
+  pub input : (new.inputs file ≡ old.inputs file) ⊎ IsReadFrom left (old.inputs file) (new.inputs file)
+  pub ends : IsUnserved old new ⊎ ((plan : Plan) × IsConfigured left (old.inputs file) plan × KeepsAll left written plan old new × IsOffPlanSame plan old new)

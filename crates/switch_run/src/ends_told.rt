@@ -1,0 +1,58 @@
+//! What standard error is told at the end of a run.
+
+ghost use Rattle.std.specs.Prelude.{◌≡◌, ◌++◌};
+ghost use Rattle.savi_history.specs.EndLines.{end_lines};
+ghost use Rattle.run_config.specs.Lines.{journal_word, write_failed_line};
+ghost use Rattle.switch_run.specs.Concluded.{refusal_line, refusal_status};
+ghost use Rattle.switch_run.specs.Session.{ToldBy, journal_lines};
+
+use crate::end_lines::tell_ends;
+use crate::top::{CONFIG_FAULT, NO_MEMORY, OPEN_FAULT, READ_FAULT};
+use run_config::{Refusal, tell_config, tell_memory, tell_unopened, tell_unread, tell_unwritten};
+use savi_core::Core;
+use savi_ends::{Put, Sink};
+
+/// Says why there is no plan. The answer is the status.
+pub fn refuse<K: Sink>(refusal: Refusal, file: &str, errors: &mut K) -> u8
+    ensures status { result ≡ refusal_status refusal }
+    ensures told { ToldBy K.faults K.written errors.old errors.new (refusal_line file.now refusal) }
+{
+    match refusal {
+        Refusal::NoMemory => {
+            let _put = tell_memory(errors);
+            NO_MEMORY
+        }
+        Refusal::CannotOpen => {
+            let _put = tell_unopened(errors, file);
+            OPEN_FAULT
+        }
+        Refusal::ReadFailed => {
+            let _put = tell_unread(errors, file);
+            READ_FAULT
+        }
+        Refusal::Refused(fault) => {
+            let _put = tell_config(errors, fault);
+            CONFIG_FAULT
+        }
+    }
+}
+
+/// Says how the inputs and the outputs ended, and that the journal was not written where that is so.
+pub fn tell_finished<K: Sink>(core: &Core, journal_written: bool, errors: &mut K)
+    ensures { ToldBy K.faults K.written errors.old errors.new (end_lines core.now.past ++ journal_lines journal_written) }
+{
+    if journal_written {
+        let _put = tell_ends(core, errors);
+    } else {
+        tell_unfinished(core, errors);
+    }
+}
+
+// Says how the inputs and the outputs ended, and that the journal was not written.
+fn tell_unfinished<K: Sink>(core: &Core, errors: &mut K)
+    ensures { ToldBy K.faults K.written errors.old errors.new (end_lines core.now.past ++ write_failed_line journal_word) }
+{
+    if let Put::Done = tell_ends(core, errors) {
+        let _put = tell_unwritten(errors, "journal");
+    }
+}

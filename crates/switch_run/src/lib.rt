@@ -1,0 +1,21 @@
+//! What the program does with the words of its command line: `run`, the top call, over any world of inputs, outputs and
+//! ports (`savi_ends`).
+//!
+//! The contract of `run` carries the theorem of the whole: where a session began there is one legal history of the plan that
+//! the configuration says, it is the replay of what the ports' sources gave, and the journal, each port's output, the
+//! summary, the lines on standard error and the status are those of that history (`specs/Session.antt`).
+#![tactic(auto)]
+
+mod end_lines;
+mod ends_told;
+#[cfg(test)]
+mod recording_world;
+mod session;
+mod summing;
+#[cfg(test)]
+mod tests;
+mod top;
+
+pub use top::{
+    CONFIG_FAULT, MALFORMED, NO_MEMORY, OPEN_FAULT, READ_FAULT, TOO_LONG, USAGE, WRITE_FAULT, run,
+};

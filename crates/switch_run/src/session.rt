@@ -1,0 +1,93 @@
+//! A session over the ends of the ports of a plan and of a journal.
+
+ghost use Rattle.std.specs.Prelude.{◌≡◌, ◌≤◌, All, IfNone, IfSome, None, [], reverse};
+ghost use Rattle.port_worker.specs.Pairs.{EachPair};
+ghost use Rattle.port_worker.specs.Replays.{IsUnread, ports_held, ports_planned};
+ghost use Rattle.run_config.specs.Configs.{IsBuilt};
+ghost use Rattle.switch_ports.specs.Openings.{IsReadAnew};
+ghost use Rattle.hist_store.specs.JournalTexts.{address_text, journal_text};
+ghost use Rattle.savi_history.specs.Journals.{IsJournalOf};
+ghost use Rattle.switch_run.specs.Played.{IsPlayed, IsSamePort, JournalWas};
+
+use port_worker::{Closed, Ready, replay_session};
+use savi_core::{Buffer, Core};
+use savi_ends::{Clock, Put, Sink, Source};
+use savi_kinds::Plan;
+use std::alloc::Global;
+
+/// The octets of the pieces in which the journal is written.
+const JOURNAL_PIECE_OCTETS: usize = 131_072;
+
+/// The history of a session, and what became of its journal.
+#[derive(Drop)]
+pub struct Outcome {
+    pub core: Core,
+    /// Whether the journal was written.
+    pub journal_written: bool,
+}
+
+/// The ends, given back, and the outcome, unless there was no memory.
+pub struct Played<S, K, C> {
+    pub ready: Ready<S, K, C>,
+    pub outcome: Option<Outcome>,
+}
+
+/// Replays what the ports have, and writes the journal.
+///
+/// Without memory nothing is read or written.
+pub fn play<S: Source, K: Sink, C: Clock>(
+    alloc: Global,
+    plan: Plan,
+    ready: Ready<S, K, C>,
+    journal: &mut K,
+) -> Played<S, K, C>
+    requires built { IsBuilt plan }
+    requires planned { ports_held ready.ports.items ≡ ports_planned plan }
+    requires unread { All IsUnread ready.ports.items }
+    requires anew { All IsReadAnew ready.ports.items }
+    ensures ports { EachPair IsSamePort ready.ports.items result.ready.ports.items }
+    ensures none { IfNone result.outcome ((result.ready.ports.items ≡ ready.ports.items) × (journal.new ≡ journal.old)) }
+    ensures played { IfSome result.outcome (λ o. IsPlayed S.left K.written S.faults K.faults plan ready.ports.items result.ready.ports.items journal.old journal.new o.core o.journal_written) }
+{
+    let mut buffer = match Buffer::make(alloc, JOURNAL_PIECE_OCTETS) {
+        Ok(buffer) => buffer,
+        Err(_) => return unplayed(ready),
+    };
+    let Closed { core, ready } = match replay_session(alloc, plan, ready) {
+        Ok(closed) => closed,
+        Err(ready) => return unplayed(ready),
+    };
+    let _legal = core.len();
+    let journal_written = finish_journal(&core, journal, &mut buffer);
+    Played {
+        ready,
+        outcome: Some(Outcome {
+            core,
+            journal_written,
+        }),
+    }
+}
+
+// The ends of a session for which there was no memory.
+fn unplayed<S, K, C>(ready: Ready<S, K, C>) -> Played<S, K, C>
+    ensures ready { result.ready ≡ ready }
+    ensures outcome { result.outcome ≡ None }
+{
+    Played {
+        ready,
+        outcome: None,
+    }
+}
+
+// Writes the journal. The answer is whether it was written.
+fn finish_journal<K: Sink>(core: &Core, journal: &mut K, buffer: &mut Buffer) -> bool
+    requires empty { buffer.old.octets ≡ [] }
+    requires room { 3401 ≤ buffer.old.room }
+    ensures was { JournalWas K.faults K.written result journal.old journal.new (journal_text address_text core.now.plan (reverse core.now.past)) }
+    ensures tells { IsJournalOf address_text core.now.plan core.now.past (journal_text address_text core.now.plan (reverse core.now.past)) }
+{
+    match core.write_journal(journal, buffer) {
+        Put::Done => true,
+        Put::Failed => false,
+    }
+}

@@ -1,0 +1,74 @@
+//! The end of a run: its summary, its lines on standard error and its status.
+
+ghost use Rattle.std.specs.Prelude.{◌≡◌, ◌<◌, Bool, IfNone, IfSome, true, false};
+ghost use Rattle.savi_ends.specs.declared.world.Std.{Std};
+ghost use Rattle.savi_ends.specs.Places.{IsReady, OthersStay};
+ghost use Rattle.savi_history.specs.Summary.{summary_text};
+ghost use Rattle.savi_core.specs.Sums.{sum_of};
+ghost use Rattle.run_config.specs.Lines.{memory_line};
+ghost use Rattle.switch_run.specs.Concluded.{IsSummed};
+ghost use Rattle.switch_run.specs.Session.{ToldBy, TookOrPart, status_of};
+
+use crate::ends_told::tell_finished;
+use crate::session::Outcome;
+use crate::top::{MALFORMED, NO_MEMORY, READ_FAULT, TOO_LONG, WRITE_FAULT};
+use run_config::tell_memory;
+use savi_core::{Core, Summary, put_summary};
+use savi_ends::{Put, Sink, Std, World};
+
+/// Writes the summary, tells standard error how the run ended, and answers the status. `None` is that there was no memory.
+pub fn conclude<W: World>(outcome: Option<Outcome>, world: &mut W, errors: &mut W::K) -> u8
+    requires { IsReady (λ k. W.K.faults k ≡ 0) ((W.book world.old).std Std.Out) }
+    ensures none { IfNone outcome ((result ≡ 1) × (ToldBy W.K.faults W.K.written errors.old errors.new memory_line × (W.book world.new ≡ W.book world.old))) }
+    ensures some { IfSome outcome (λ o. IsSummed W.K.written W.K.faults (ToldBy W.K.faults W.K.written errors.old errors.new) o.core.past o.journal_written ((W.book world.old).std Std.Out) ((W.book world.new).std Std.Out) result) }
+    ensures others { OthersStay (W.book world.old).std (W.book world.new).std Std.Out }
+    ensures rest { W.book world.new ≡ record (W.book world.old) { std = (W.book world.new).std } }
+{
+    let Some(
+        Outcome {
+            core,
+            journal_written,
+        },
+    ) = outcome
+    else {
+        let _put = tell_memory(errors);
+        return NO_MEMORY;
+    };
+    let summary_written = write_summary(core.summary(), world);
+    tell_finished(&core, journal_written, errors);
+    status_by(&core, journal_written && summary_written)
+}
+
+// The status of a history, and of whether all was written.
+fn status_by(core: &Core, written: bool) -> u8
+    ensures { result ≡ status_of written core.now.past }
+{
+    if core.has_failed() {
+        READ_FAULT
+    } else if core.has_failed_write() || !written {
+        WRITE_FAULT
+    } else if core.has_malformed() {
+        MALFORMED
+    } else if core.has_full() {
+        TOO_LONG
+    } else {
+        0
+    }
+}
+
+// Writes the summary to standard output. The answer is false where the write failed.
+fn write_summary<W: World>(summary: Summary, world: &mut W) -> bool
+    requires { IsReady (λ k. W.K.faults k ≡ 0) ((W.book world.old).std Std.Out) }
+    ensures took { TookOrPart W.K.faults W.K.written result ((W.book world.old).std Std.Out) ((W.book world.new).std Std.Out) (summary_text (sum_of summary)) }
+    ensures others { OthersStay (W.book world.old).std (W.book world.new).std Std.Out }
+    ensures rest { W.book world.new ≡ record (W.book world.old) { std = (W.book world.new).std } }
+{
+    let mut out = world.std(Std::Out);
+    let line = put_summary(summary);
+    let put = out.write(line.as_slice());
+    world.keep_std(Std::Out, out);
+    match put {
+        Put::Done => true,
+        Put::Failed => false,
+    }
+}

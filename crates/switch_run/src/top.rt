@@ -1,0 +1,174 @@
+//! The top call.
+
+ghost use Rattle.std.specs.Prelude.{◌≡◌, ◌↔◌, ◌⊎◌, ◌≤◌, ℕ, List, IfSome, [], length, map, vec_capacity};
+ghost use Rattle.std.specs.String.{string_bytes};
+ghost use Rattle.savi_ends.specs.declared.world.Std.{Std};
+ghost use Rattle.savi_ends.specs.Faults.{Rose};
+ghost use Rattle.savi_ends.specs.Places.{BothFresh, HandedNothing, IsReady, OthersStay};
+ghost use Rattle.run_config.specs.Configs.{IsBuilt};
+ghost use Rattle.run_config.specs.Lines.{memory_line, usage_line};
+ghost use Rattle.run_config.specs.Words.{IsForm, IsReplay};
+ghost use Rattle.switch_run.specs.Causes.{HasSomeReadFault, HasSomeWriteFault, IsElsewhereSame, IsOffPlanSame, IsOneOf, IsUnserved, IsUnused, IsUntouched, KeepsAll, quiet_statuses, session_statuses, statuses, unused_statuses};
+ghost use Rattle.switch_run.specs.Session.{IsNoPlan, IsPartUnopened, IsSession, IsSessionOf, IsUnopened, IsUnplayed, IsUnread, Told, ToldBy};
+
+use crate::ends_told::refuse;
+use crate::session::{Played, play};
+use crate::summing::conclude;
+use port_worker::{PortEnds, Ready};
+use run_config::{configure, file_of, port_name, tell_memory, tell_unopened, tell_usage};
+use savi_ends::{Std, World};
+use savi_kinds::{Plan, Text};
+use std::alloc::Global;
+use switch_ports::{keep_all, open_all};
+
+/// There was no memory, before anything was read or written at a port.
+pub const NO_MEMORY: u8 = 1;
+/// The words are no form of the command line.
+pub const USAGE: u8 = 2;
+/// The configuration says no plan.
+pub const CONFIG_FAULT: u8 = 3;
+/// An input was malformed.
+pub const MALFORMED: u8 = 4;
+/// A read failed.
+pub const READ_FAULT: u8 = 5;
+/// A write failed.
+pub const WRITE_FAULT: u8 = 6;
+/// Something could not be opened.
+pub const OPEN_FAULT: u8 = 7;
+/// There was no room in the history for an input.
+pub const TOO_LONG: u8 = 8;
+
+/// Does what the words behind the program's name ask for, over this world, and answers the status.
+///
+/// `replay FILE` replays the captures of the ports of the plan that the configuration FILE says. Statuses 0, 4, 6 and 8
+/// say that the session began, and 5 too, unless a read of the configuration failed; the other statuses have their causes.
+pub fn run<W: World>(alloc: Global, words: &[String], world: &mut W) -> u8
+    requires { HandedNothing W.S.faults W.K.faults (W.book world.old) }
+
+    ensures status { IsOneOf statuses result }
+    ensures usage { (result ≡ 2) ↔ (IsForm (map string_bytes words.now) → ⊥) }
+    ensures untouched { result ≡ 2 → IsUntouched (W.book world.old) (W.book world.new) × Told W.K.faults W.K.written (W.book world.old) (W.book world.new) usage_line }
+    ensures memory { result ≡ 1 → Told W.K.faults W.K.written (W.book world.old) (W.book world.new) memory_line }
+    ensures unplayed { (file : List ℕ) → IsReplay file (map string_bytes words.now) → result ≡ 1 → IsUnplayed W.S.left W.K.written file (W.book world.old) (W.book world.new) }
+    ensures config { (file : List ℕ) → IsReplay file (map string_bytes words.now) → result ≡ 3 → IsNoPlan W.S.left file (Told W.K.faults W.K.written (W.book world.old) (W.book world.new)) (W.book world.old) (W.book world.new) }
+    ensures open { result ≡ 7 → Rose (W.book world.old).faults (W.book world.new).faults }
+    ensures unopened { (file : List ℕ) → IsReplay file (map string_bytes words.now) → result ≡ 7 → IsUnopened W.S.left file (Told W.K.faults W.K.written (W.book world.old) (W.book world.new)) (W.book world.old) (W.book world.new) }
+    ensures session { (file : List ℕ) → IsReplay file (map string_bytes words.now) → IsOneOf session_statuses result → IsUnread W.S.left W.S.faults file (Told W.K.faults W.K.written (W.book world.old) (W.book world.new)) (W.book world.old) (W.book world.new) result ⊎ IsSession W.S.left W.K.written W.S.faults W.K.faults file (Told W.K.faults W.K.written (W.book world.old) (W.book world.new)) (W.book world.old) (W.book world.new) result }
+    ensures read { (file : List ℕ) → IsReplay file (map string_bytes words.now) → result ≡ 5 → HasSomeReadFault W.S.faults file (W.book world.new) }
+    ensures write { (file : List ℕ) → IsReplay file (map string_bytes words.now) → result ≡ 6 → HasSomeWriteFault W.K.faults (W.book world.new) }
+    ensures quiet { IsOneOf quiet_statuses result → (W.book world.new).std Std.Out ≡ (W.book world.old).std Std.Out }
+    ensures unused { IsOneOf unused_statuses result → IsUnused (W.book world.old) (W.book world.new) }
+    ensures elsewhere { (file : List ℕ) → IsReplay file (map string_bytes words.now) → IsElsewhereSame file (W.book world.old) (W.book world.new) }
+{
+    let mut errors = world.std(Std::Err);
+    let status = perform(alloc, words, world, &mut errors);
+    world.keep_std(Std::Err, errors);
+    status
+}
+
+// Does what the words ask for, and tells this sink what standard error is told.
+fn perform<W: World>(alloc: Global, words: &[String], world: &mut W, errors: &mut W::K) -> u8
+    requires inputs { (name : _) → IsReady (λ s. W.S.faults s ≡ 0) ((W.book world.old).inputs name) }
+    requires outputs { (name : _) → IsReady (λ k. W.K.faults k ≡ 0) ((W.book world.old).outputs name) }
+    requires ports { (n : _) → IsReady (BothFresh W.S.faults W.K.faults) ((W.book world.old).ports n) }
+    requires out { IsReady (λ k. W.K.faults k ≡ 0) ((W.book world.old).std Std.Out) }
+    ensures status { IsOneOf statuses result }
+    ensures usage { (result ≡ 2) ↔ (IsForm (map string_bytes words.now) → ⊥) }
+    ensures untouched { result ≡ 2 → (W.book world.new ≡ W.book world.old) × ToldBy W.K.faults W.K.written errors.old errors.new usage_line }
+    ensures memory { result ≡ 1 → ToldBy W.K.faults W.K.written errors.old errors.new memory_line }
+    ensures unplayed { (file : List ℕ) → IsReplay file (map string_bytes words.now) → result ≡ 1 → IsUnplayed W.S.left W.K.written file (W.book world.old) (W.book world.new) }
+    ensures config { (file : List ℕ) → IsReplay file (map string_bytes words.now) → result ≡ 3 → IsNoPlan W.S.left file (ToldBy W.K.faults W.K.written errors.old errors.new) (W.book world.old) (W.book world.new) }
+    ensures open { result ≡ 7 → Rose (W.book world.old).faults (W.book world.new).faults }
+    ensures unopened { (file : List ℕ) → IsReplay file (map string_bytes words.now) → result ≡ 7 → IsUnopened W.S.left file (ToldBy W.K.faults W.K.written errors.old errors.new) (W.book world.old) (W.book world.new) }
+    ensures session { (file : List ℕ) → IsReplay file (map string_bytes words.now) → IsOneOf session_statuses result → IsUnread W.S.left W.S.faults file (ToldBy W.K.faults W.K.written errors.old errors.new) (W.book world.old) (W.book world.new) result ⊎ IsSession W.S.left W.K.written W.S.faults W.K.faults file (ToldBy W.K.faults W.K.written errors.old errors.new) (W.book world.old) (W.book world.new) result }
+    ensures quiet { IsOneOf quiet_statuses result → (W.book world.new).std Std.Out ≡ (W.book world.old).std Std.Out }
+    ensures unused { IsOneOf unused_statuses result → IsUnused (W.book world.old) (W.book world.new) }
+    ensures elsewhere { (file : List ℕ) → IsReplay file (map string_bytes words.now) → IsElsewhereSame file (W.book world.old) (W.book world.new) }
+    ensures others { OthersStay (W.book world.old).std (W.book world.new).std Std.Out }
+{
+    match file_of(words) {
+        Some(file) => replay_file(alloc, file, world, errors),
+        None => {
+            let _put = tell_usage(errors);
+            USAGE
+        }
+    }
+}
+
+// Replays what the configuration of this name says.
+fn replay_file<W: World>(alloc: Global, file: &str, world: &mut W, errors: &mut W::K) -> u8
+    requires inputs { (name : _) → IsReady (λ s. W.S.faults s ≡ 0) ((W.book world.old).inputs name) }
+    requires outputs { (name : _) → IsReady (λ k. W.K.faults k ≡ 0) ((W.book world.old).outputs name) }
+    requires ports { (n : _) → IsReady (BothFresh W.S.faults W.K.faults) ((W.book world.old).ports n) }
+    requires out { IsReady (λ k. W.K.faults k ≡ 0) ((W.book world.old).std Std.Out) }
+    ensures status { IsOneOf statuses result }
+    ensures usage { result ≡ 2 → ⊥ }
+    ensures memory { result ≡ 1 → ToldBy W.K.faults W.K.written errors.old errors.new memory_line }
+    ensures unplayed { result ≡ 1 → IsUnplayed W.S.left W.K.written file.now (W.book world.old) (W.book world.new) }
+    ensures config { result ≡ 3 → IsNoPlan W.S.left file.now (ToldBy W.K.faults W.K.written errors.old errors.new) (W.book world.old) (W.book world.new) }
+    ensures open { result ≡ 7 → Rose (W.book world.old).faults (W.book world.new).faults }
+    ensures unopened { result ≡ 7 → IsUnopened W.S.left file.now (ToldBy W.K.faults W.K.written errors.old errors.new) (W.book world.old) (W.book world.new) }
+    ensures session { IsOneOf session_statuses result → IsUnread W.S.left W.S.faults file.now (ToldBy W.K.faults W.K.written errors.old errors.new) (W.book world.old) (W.book world.new) result ⊎ IsSession W.S.left W.K.written W.S.faults W.K.faults file.now (ToldBy W.K.faults W.K.written errors.old errors.new) (W.book world.old) (W.book world.new) result }
+    ensures quiet { IsOneOf quiet_statuses result → (W.book world.new).std Std.Out ≡ (W.book world.old).std Std.Out }
+    ensures unused { IsOneOf unused_statuses result → IsUnused (W.book world.old) (W.book world.new) }
+    ensures elsewhere { IsElsewhereSame file.now (W.book world.old) (W.book world.new) }
+    ensures others { OthersStay (W.book world.old).std (W.book world.new).std Std.Out }
+{
+    match configure(alloc, file, world) {
+        Ok(plan) => replay_plan(alloc, plan, world, errors),
+        Err(refusal) => refuse(refusal, file, errors),
+    }
+}
+
+// Replays a plan: its ports and its journal are opened, and kept again in the end.
+fn replay_plan<W: World>(alloc: Global, plan: Plan, world: &mut W, errors: &mut W::K) -> u8
+    requires built { IsBuilt plan }
+    requires outputs { (name : _) → IsReady (λ k. W.K.faults k ≡ 0) ((W.book world.old).outputs name) }
+    requires ports { (n : _) → IsReady (BothFresh W.S.faults W.K.faults) ((W.book world.old).ports n) }
+    requires out { IsReady (λ k. W.K.faults k ≡ 0) ((W.book world.old).std Std.Out) }
+    ensures status { IsOneOf statuses result }
+    ensures usage { result ≡ 2 → ⊥ }
+    ensures config { result ≡ 3 → ⊥ }
+    ensures memory { result ≡ 1 → ToldBy W.K.faults W.K.written errors.old errors.new memory_line }
+    ensures unplayed { result ≡ 1 → IsUnserved (W.book world.old) (W.book world.new) ⊎ (KeepsAll W.S.left W.K.written plan (W.book world.old) (W.book world.new) × IsOffPlanSame plan (W.book world.old) (W.book world.new)) }
+    ensures open { result ≡ 7 → Rose (W.book world.old).faults (W.book world.new).faults }
+    ensures unopened { result ≡ 7 → IsPartUnopened plan (ToldBy W.K.faults W.K.written errors.old errors.new) (W.book world.old) (W.book world.new) }
+    ensures session { IsOneOf session_statuses result → IsSessionOf W.S.left W.K.written W.S.faults W.K.faults plan (ToldBy W.K.faults W.K.written errors.old errors.new) (W.book world.old) (W.book world.new) result }
+    ensures quiet { IsOneOf quiet_statuses result → (W.book world.new).std Std.Out ≡ (W.book world.old).std Std.Out }
+    ensures unused { IsOneOf unused_statuses result → IsUnused (W.book world.old) (W.book world.new) }
+    ensures others { OthersStay (W.book world.old).std (W.book world.new).std Std.Out }
+    ensures rest { W.book world.new ≡ record (W.book world.old) { faults = (W.book world.new).faults; outputs = (W.book world.new).outputs; ports = (W.book world.new).ports; std = (W.book world.new).std } }
+{
+    let Some((mut held, journal)) = room_for(alloc, &plan) else {
+        let _put = tell_memory(errors);
+        return NO_MEMORY;
+    };
+    if let Some(port) = open_all(plan.ports.as_slice(), &mut held, world) {
+        keep_all(held, world);
+        let _put = tell_unopened(errors, port_name(port).as_str());
+        return OPEN_FAULT;
+    }
+    let mut sink = match world.output(journal.as_str()) {
+        Ok(sink) => sink,
+        Err(_) => {
+            keep_all(held, world);
+            let _put = tell_unopened(errors, "journal");
+            return OPEN_FAULT;
+        }
+    };
+    let Played { ready, outcome } = play(alloc, plan, Ready { ports: held }, &mut sink);
+    keep_all(ready.ports, world);
+    world.keep_output(journal.as_str(), sink);
+    conclude(outcome, world, errors)
+}
+
+// Room for the ports of a plan, and a copy of the name of its journal. `None` is want of memory.
+fn room_for<S, K, C>(alloc: Global, plan: &Plan) -> Option<(Vec<PortEnds<S, K, C>>, Text)>
+    ensures empty { IfSome result (λ room. room.0.items ≡ []) }
+    ensures room { IfSome result (λ room. length plan.now.ports ≤ vec_capacity room.0) }
+    ensures journal { IfSome result (λ room. room.1 ≡ plan.now.journal) }
+{
+    let journal = Text::new(String::from_str(alloc, plan.journal.as_str()).ok()?);
+    let held = Vec::with_capacity(alloc, plan.ports.as_slice().len()).ok()?;
+    Some((held, journal))
+}

@@ -1,0 +1,5 @@
+pub mod Arms
+pub mod Rows
+pub mod Rings
+pub mod Kept
+pub mod Searches
