@@ -1,6 +1,6 @@
 //! Runs of which a write at a port fails: its output ends there, and the others go on.
 
-use super::{
+use super::fixtures::{
     ADVERT, AT_1000, AT_1001, AT_1002, EIGHT_ENTRIES, Faults, HEADER, NO_FAULT, NO_FRAME, PACKET,
     SHORT_PLAN, TO_FIRST, TO_SECOND, WORKED_SUMMARY, errors_of, journal_of, journal_with,
     octets_of, output_of, short_captures, spelled, summary_of, words_of, world_of, world_with,
