@@ -1,35 +1,16 @@
 -- The journal: what the plan is, then a line for each entry, numbered from 0, and how many there are.
-use Rattle.std.specs.Prelude.{ℕ, ◌+◌, List, [], ◌∷◌, ◌++◌, length, map, codes, decimal, if◌then◌else◌}
+use Rattle.std.specs.Prelude.{ℕ, ◌+◌, List, [], ◌∷◌, ◌++◌, length, map, codes, decimal}
 use Rattle.savi_kinds.specs.declared.plan.Plan.{Plan}
 use Rattle.savi_kinds.specs.declared.plan.PortPlan.{PortPlan}
 use Rattle.savi_kinds.specs.declared.plan.PrefixPlan.{PrefixPlan}
-use Rattle.savi_kinds.specs.declared.plan.Role.{Role}
-use Rattle.savi_kinds.specs.declared.plan.Role.TheVariants.{Host, Server, Trusted}
-use Rattle.savi_kinds.specs.declared.plan.Method.{Method}
-use Rattle.savi_kinds.specs.declared.plan.Method.TheVariants.{Fcfs, Dhcp, Mixed}
-use Rattle.savi_kinds.specs.declared.plan.Format.{Format}
-use Rattle.savi_kinds.specs.declared.plan.Format.TheVariants.{Pcap, Stream}
 use Rattle.savi_kinds.specs.declared.address.Prefix.{Prefix}
+use Rattle.savi_kinds.specs.PlanWords.{role_word, method_word, format_word, savi_word, unknown_word}
 use Rattle.savi_kinds.specs.MacText.{mac_text}
 use Rattle.savi_kinds.specs.AddrText.{addr_text}
 use Rattle.hist_store.specs.Rows.{Row}
 use Rattle.hist_store.specs.TextOfLines.{lines_text}
 use Rattle.hist_store.specs.PortTexts.{port_text}
 use Rattle.hist_store.specs.LineTexts.{line_fields}
-
-abbrev pub role_text : Role → List ℕ
-role_text Host = codes "host"
-role_text Server = codes "server"
-role_text Trusted = codes "trusted"
-
-abbrev pub method_text : Method → List ℕ
-method_text Fcfs = codes "fcfs"
-method_text Dhcp = codes "dhcp"
-method_text Mixed = codes "mixed"
-
-abbrev pub format_text : Format → List ℕ
-format_text Pcap = codes "pcap"
-format_text Stream = codes "stream"
 
 -- The text of an address of 128 bits that is written (RFC 5952). What follows has the text of addresses as an argument:
 -- nothing in it depends on which text it is.
@@ -41,10 +22,10 @@ abbrev pub prefix_text : (ℕ → List ℕ) → Prefix → List ℕ
 prefix_text text_of prefix = text_of prefix.net.0 ++ codes "/" ++ decimal prefix.len
 
 abbrev pub port_fields : PortPlan → List (List ℕ)
-port_fields port = codes "port" ∷ port_text port.number ∷ role_text port.role ∷ format_text port.format ∷ []
+port_fields port = codes "port" ∷ port_text port.number ∷ role_word port.role ∷ format_word port.format ∷ []
 
 abbrev pub prefix_fields : (ℕ → List ℕ) → PrefixPlan → List (List ℕ)
-prefix_fields text_of plan = codes "prefix" ∷ prefix_text text_of plan.prefix ∷ method_text plan.method ∷ []
+prefix_fields text_of plan = codes "prefix" ∷ prefix_text text_of plan.prefix ∷ method_word plan.method ∷ []
 
 -- a setting's name and its number
 abbrev pub setting : List ℕ → ℕ → List (List ℕ)
@@ -56,8 +37,8 @@ abbrev pub word_lines : Plan → List (List (List ℕ))
 word_lines plan =
     (codes "savi-journal" ∷ codes "1" ∷ [])
     ∷ (codes "mac" ∷ mac_text plan.mac ∷ [])
-    ∷ (codes "savi" ∷ (if plan.savi then codes "on" else codes "off") ∷ [])
-    ∷ (codes "unknown" ∷ (if plan.drop_unknown then codes "drop" else codes "pass") ∷ [])
+    ∷ (codes "savi" ∷ savi_word plan.savi ∷ [])
+    ∷ (codes "unknown" ∷ unknown_word plan.drop_unknown ∷ [])
     ∷ []
 
 abbrev pub limit_lines : Plan → List (List (List ℕ))

@@ -1,11 +1,11 @@
-ghost use Rattle.std.specs.Prelude.{◌≡◌, ◌+◌, ◌*◌, ◌≤◌, [], ◌∷◌, ◌++◌, length, map, if◌then◌else◌};
+ghost use Rattle.std.specs.Prelude.{◌≡◌, ◌+◌, ◌*◌, ◌≤◌, [], ◌∷◌, ◌++◌, length, map};
 ghost use Rattle.arrayvec.specs.ArrayVec.{array_vec_len};
 ghost use Rattle.hist_store.specs.TextOfLines.{lines_text, space};
-ghost use Rattle.hist_store.specs.JournalTexts.{address_text, end_text, format_text, header_text, limit_lines, method_text, port_fields, prefix_fields, prefix_text, role_text, setting, time_lines, word_lines};
+ghost use Rattle.hist_store.specs.JournalTexts.{address_text, end_text, header_text, limit_lines, port_fields, prefix_fields, prefix_text, setting, time_lines, word_lines};
 
 use crate::pieces::{JournalLine, put_decimal, put_number, put_octets, put_word};
 use crate::port_fields::put_port_field;
-use savi_kinds::{Addr, Format, Method, Plan, PortPlan, PrefixPlan, Role, put_addr, put_mac};
+use savi_kinds::{Addr, Plan, PortPlan, PrefixPlan, put_addr, put_mac, savi_word, unknown_word};
 
 /// Writes the journal's header, in place of what the buffer held: the lines from `savi-journal 1` to `begin`,
 /// each with its line feed. The addresses are written after RFC 5952.
@@ -43,8 +43,8 @@ fn put_word_lines(into: &mut JournalLine, plan: &Plan)
     let mac = put_mac(plan.mac);
     put_octets(into, b"savi-journal 1\n");
     put_word_line(into, "mac", mac.as_str());
-    put_word_line(into, "savi", chosen(plan.savi, "on", "off"));
-    put_word_line(into, "unknown", chosen(plan.drop_unknown, "drop", "pass"));
+    put_word_line(into, "savi", savi_word(plan.savi));
+    put_word_line(into, "unknown", unknown_word(plan.drop_unknown));
 }
 
 // Appends the lines whose values are limits.
@@ -89,8 +89,8 @@ fn put_port_line(into: &mut JournalLine, port: &PortPlan)
 {
     put_octets(into, b"port");
     put_port_field(into, port.number);
-    put_word(into, role_word(port.role));
-    put_word(into, format_word(port.format));
+    put_word(into, port.role.word());
+    put_word(into, port.format.word());
     into.push(b'\n');
 }
 
@@ -113,7 +113,7 @@ fn put_prefix_line(into: &mut JournalLine, prefix: &PrefixPlan)
 {
     put_octets(into, b"prefix");
     put_prefix(into, prefix.prefix.net, prefix.prefix.len);
-    put_word(into, method_word(prefix.method));
+    put_word(into, prefix.method.word());
     into.push(b'\n');
 }
 
@@ -149,46 +149,4 @@ fn put_word_line(into: &mut JournalLine, name: &str, word: &str)
     put_octets(into, name.as_bytes());
     put_word(into, word);
     into.push(b'\n');
-}
-
-// One word or the other.
-fn chosen(first: bool, word: &'static str, other: &'static str) -> &'static str
-    ensures { result.now ≡ (if first then word.now else other.now) }
-{
-    if first { word } else { other }
-}
-
-// The word of a role.
-fn role_word(role: Role) -> &'static str
-    ensures word { result.now ≡ role_text role }
-    ensures short { length result.now ≤ 7 }
-{
-    match role {
-        Role::Host => "host",
-        Role::Server => "server",
-        Role::Trusted => "trusted",
-    }
-}
-
-// The word of a method.
-fn method_word(method: Method) -> &'static str
-    ensures word { result.now ≡ method_text method }
-    ensures short { length result.now ≤ 5 }
-{
-    match method {
-        Method::Fcfs => "fcfs",
-        Method::Dhcp => "dhcp",
-        Method::Mixed => "mixed",
-    }
-}
-
-// The word of a format.
-fn format_word(format: Format) -> &'static str
-    ensures word { result.now ≡ format_text format }
-    ensures short { length result.now ≤ 6 }
-{
-    match format {
-        Format::Pcap => "pcap",
-        Format::Stream => "stream",
-    }
 }

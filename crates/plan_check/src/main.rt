@@ -5,14 +5,12 @@
 #![tactic(auto)]
 
 mod meanings;
-mod words;
 
 use meanings::fault_meaning;
 use savi_conf::{ConfFault, read_plan};
-use savi_kinds::{Plan, put_addr, put_mac};
+use savi_kinds::{Plan, put_addr, put_mac, savi_word, unknown_word};
 use std::process::ExitCode;
 use std::{env, fs, io};
-use words::{format_word, method_word, role_word, savi_word, unknown_word};
 
 // The status where a text says no plan.
 const REFUSED: u8 = 3;
@@ -62,8 +60,8 @@ fn print_plan(rt: &impl Print, name: &str, plan: &Plan) -> io::Result<()> {
 fn print_ports(rt: &impl Print, plan: &Plan) -> io::Result<()> {
     for port in plan.ports.as_slice() {
         let number = port.number.get();
-        let role = role_word(port.role);
-        let format = format_word(port.format);
+        let role = port.role.word();
+        let format = port.format.word();
         let (input, output) = (port.input.as_str(), port.output.as_str());
         println!(rt; "port {number} {role} {format} {input} {output}")?;
     }
@@ -77,7 +75,7 @@ fn print_prefixes(rt: &impl Print, plan: &Plan) -> io::Result<()> {
             "prefix {}/{} {}",
             net.as_str(),
             entry.prefix.len,
-            method_word(entry.method)
+            entry.method.word()
         )?;
     }
     Ok(())

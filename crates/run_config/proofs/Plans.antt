@@ -5,7 +5,7 @@ use Rattle.savi_conf.specs.declared.fault.Fault.TheVariants.{NotBuilt}
 use Rattle.savi_conf.specs.declared.fault.ConfFault.{ConfFault}
 use Rattle.savi_conf.specs.declared.fault.ConfFault.TheVariants.{NoMemory, NotToml, Bad}
 use Rattle.savi_conf.specs.Answers.{IsAnswer, most_octets}
-use Rattle.savi_conf.specs.Words.{savi_word}
+use Rattle.savi_kinds.specs.PlanWords.{savi_word}
 use Rattle.run_config.specs.Configs.{IsBuilt, IsWholeOrLong}
 
 off_word : (b : Bool) → savi_word b ≡ savi_word false → b ≡ false

@@ -8,7 +8,7 @@ use Rattle.savi_kinds.specs.declared.plan.Format.TheVariants.{Pcap}
 use Rattle.savi_kinds.specs.MacText.{IsMacText}
 use Rattle.savi_kinds.specs.Ports.{number_of}
 use Rattle.savi_conf.specs.Documents.{text_at, text_or}
-use Rattle.savi_conf.specs.Words.{role_word, method_word, format_word, savi_word, unknown_word}
+use Rattle.savi_kinds.specs.PlanWords.{role_word, method_word, format_word, savi_word, unknown_word}
 use Rattle.savi_conf.specs.Requirements.{ports_in, prefixes_in, number_in, savi_in, unknown_in, per_port_in, depth_in, entries_in, bytes_in, gap_in, test_in, life_in, HasPrefix}
 
 -- the table says this port

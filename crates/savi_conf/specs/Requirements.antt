@@ -12,7 +12,8 @@ use Rattle.savi_conf.specs.declared.fault.Fault.{Fault}
 use Rattle.savi_conf.specs.declared.fault.Fault.TheVariants.{UnknownKey, WrongKind, MissingKey, SwitchMac, SaviWord, NextHeaderWord, PerPort, Depth, Entries, Bytes, Times, PortCount, PortNumbers, RoleWord, FormatWord, PrefixTexts, PrefixRanges, MethodWord, StreamInReplay, NotBuilt}
 use Rattle.savi_conf.specs.Documents.{text_at, text_or, integer_at, integer_or, tables_at}
 use Rattle.savi_conf.specs.Keys.{Keys, top_keys, port_keys, prefix_keys, HasOnly, HasKinds, HasRequired}
-use Rattle.savi_conf.specs.Words.{role_word, method_word, format_word, savi_word, unknown_word, HasWord}
+use Rattle.savi_kinds.specs.PlanWords.{role_word, method_word, format_word, savi_word, unknown_word}
+use Rattle.savi_conf.specs.Words.{HasWord}
 use Rattle.savi_conf.specs.Faults.{fault_number}
 
 -- the tables of the ports, and those of the prefixes

@@ -3,7 +3,8 @@ use Rattle.std.specs.Prelude.{codes, IsSome, IsSomeAnd, IfSome}
 use Rattle.toml.specs.Data.{Members}
 use Rattle.savi_conf.specs.Documents.{text_at}
 use Rattle.savi_conf.specs.Requirements.{IsBetween, IsSomePrefix, number_in}
-use Rattle.savi_conf.specs.Words.{HasWord, role_word, format_word, method_word}
+use Rattle.savi_kinds.specs.PlanWords.{role_word, format_word, method_word}
+use Rattle.savi_conf.specs.Words.{HasWord}
 
 pub record CanSayPort (t : Members) : Type 0 where
   pub number : IsSomeAnd (number_in t) (IsBetween 1 16)

@@ -29,7 +29,8 @@ ghost use Rattle.savi_conf.specs.Requirements.{
   ports_in,
   prefixes_in,
 };
-ghost use Rattle.savi_conf.specs.Words.{HasWord, format_word, method_word, role_word};
+ghost use Rattle.savi_kinds.specs.PlanWords.{format_word, method_word, role_word};
+ghost use Rattle.savi_conf.specs.Words.{HasWord};
 ghost use Rattle.savi_kinds.specs.ValidPlan.{is_group};
 ghost use Rattle.savi_conf.specs.declared.fault.Fault.{Fault};
 ghost use Rattle.toml.specs.View.{table_view};

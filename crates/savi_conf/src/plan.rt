@@ -26,14 +26,8 @@ ghost use Rattle.savi_conf.specs.Documents.{integer_or, text_at, text_or};
 ghost use Rattle.savi_conf.specs.PlanOf.{IsPortOf, IsPrefixOf};
 ghost use Rattle.savi_conf.specs.Requirements.{IsBetween, IsSwitchMac, number_in};
 ghost use Rattle.savi_conf.specs.Told.{CanSayPort, CanSayPrefix};
-ghost use Rattle.savi_conf.specs.Words.{
-  HasWord,
-  format_word,
-  method_word,
-  role_word,
-  savi_word,
-  unknown_word,
-};
+ghost use Rattle.savi_kinds.specs.PlanWords.{format_word, method_word, role_word, savi_word, unknown_word};
+ghost use Rattle.savi_conf.specs.Words.{HasWord};
 ghost use Rattle.savi_kinds.specs.MacText.{IsMacText};
 ghost use Rattle.savi_kinds.specs.Ports.{number_of};
 ghost use Rattle.savi_kinds.specs.ValidPlan.{is_group};

@@ -2,7 +2,8 @@
 ghost use Rattle.std.specs.Prelude.{◌≡◌, ◌≢◌, ◌↔◌, IsTrue, IfSome, All, AllPairs, Any, Some, codes};
 ghost use Rattle.savi_conf.specs.Documents.{text_at};
 ghost use Rattle.savi_conf.specs.Requirements.{IsBetween, number_in};
-ghost use Rattle.savi_conf.specs.Words.{HasWord, format_word, role_word};
+ghost use Rattle.savi_kinds.specs.PlanWords.{format_word, role_word};
+ghost use Rattle.savi_conf.specs.Words.{HasWord};
 ghost use Rattle.toml.specs.View.{table_view};
 
 use crate::document::{integer_at, text_at};

@@ -2,7 +2,8 @@
 ghost use Rattle.std.specs.Prelude.{◌≡◌, ◌↔◌, IsTrue, IfSome, IfNone, All, AllPairs, codes};
 ghost use Rattle.savi_conf.specs.Documents.{text_at};
 ghost use Rattle.savi_conf.specs.Requirements.{HasPrefix, HaveApartRanges, TellsPlanPrefix, IsSomePrefix};
-ghost use Rattle.savi_conf.specs.Words.{HasWord, method_word};
+ghost use Rattle.savi_kinds.specs.PlanWords.{method_word};
+ghost use Rattle.savi_conf.specs.Words.{HasWord};
 ghost use Rattle.savi_kinds.specs.Prefixes.{IsPrefix};
 ghost use Rattle.savi_kinds.specs.declared.address.Prefix.{Prefix};
 ghost use Rattle.toml.specs.View.{table_view};

@@ -1,14 +1,7 @@
 //! The words of a configuration, read.
 ghost use Rattle.std.specs.Prelude.{◌≡◌, ◌↔◌, IsTrue, IfSome, IfNone, codes};
-ghost use Rattle.savi_conf.specs.Words.{
-  HasWord,
-  IsWordOf,
-  format_word,
-  method_word,
-  role_word,
-  savi_word,
-  unknown_word,
-};
+ghost use Rattle.savi_kinds.specs.PlanWords.{format_word, method_word, role_word, savi_word, unknown_word};
+ghost use Rattle.savi_conf.specs.Words.{HasWord, IsWordOf};
 ghost use Rattle.toml.specs.View.{table_view};
 
 use crate::document::text_at;

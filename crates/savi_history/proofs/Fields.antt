@@ -37,7 +37,8 @@ use Rattle.hist_store.specs.PortTexts.{port_text, members, ports_text}
 use Rattle.hist_store.specs.VerdictTexts.{rule_name, scope_text, entry_verdict_text}
 use Rattle.hist_store.specs.EndTexts.{who_text, how_fields}
 use Rattle.hist_store.specs.LineTexts.{hex_text, act_fields, line_fields}
-use Rattle.hist_store.specs.JournalTexts.{role_text, method_text, format_text, prefix_text, port_fields, prefix_fields, word_lines, limit_lines, time_lines, begin_line, header_lines, entry_lines, end_line}
+use Rattle.savi_kinds.specs.PlanWords.{role_word, method_word, format_word}
+use Rattle.hist_store.specs.JournalTexts.{prefix_text, port_fields, prefix_fields, word_lines, limit_lines, time_lines, begin_line, header_lines, entry_lines, end_line}
 use Rattle.savi_history.specs.Journals.{IsAddressText}
 use Rattle.savi_history.proofs.Words.{IsWord, is_word, IsWords, IsLine, IsLines, word_of, word_all, word_append, word_decimal, word_joined, word_at, lines_append}
 
@@ -158,17 +159,17 @@ word_either : (b : Bool) (s t : List ℕ) → IsWord s → IsWord t → IsWord (
 word_either true s t p q = p
 word_either false s t p q = q
 
-word_role : (role : Role) → IsWord (role_text role)
+word_role : (role : Role) → IsWord (role_word role)
 word_role Host = word_of (codes "host") refl
 word_role Server = word_of (codes "server") refl
 word_role Trusted = word_of (codes "trusted") refl
 
-word_method : (method : Method) → IsWord (method_text method)
+word_method : (method : Method) → IsWord (method_word method)
 word_method Fcfs = word_of (codes "fcfs") refl
 word_method Dhcp = word_of (codes "dhcp") refl
 word_method Mixed = word_of (codes "mixed") refl
 
-word_format : (format : Format) → IsWord (format_text format)
+word_format : (format : Format) → IsWord (format_word format)
 word_format Pcap = word_of (codes "pcap") refl
 word_format Stream = word_of (codes "stream") refl
 

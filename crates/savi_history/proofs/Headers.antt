@@ -15,7 +15,8 @@ use Rattle.savi_kinds.specs.MacText.{mac_text}
 use Rattle.savi_kinds.specs.Prefixes.{first_of}
 use Rattle.savi_kinds.specs.ValidPlan.{IsValidPlan, IsPlanPrefix, nets_of}
 use Rattle.hist_store.specs.PortTexts.{port_text}
-use Rattle.hist_store.specs.JournalTexts.{role_text, method_text, format_text, prefix_text, port_fields, prefix_fields, word_lines, limit_lines, time_lines, begin_line, header_lines}
+use Rattle.savi_kinds.specs.PlanWords.{role_word, method_word, format_word}
+use Rattle.hist_store.specs.JournalTexts.{prefix_text, port_fields, prefix_fields, word_lines, limit_lines, time_lines, begin_line, header_lines}
 use Rattle.savi_history.specs.Journals.{without_port_names, without_names, IsAddress, IsAddressText}
 use Rattle.savi_history.proofs.Words.{avoids_all, parted}
 use Rattle.savi_history.proofs.OneValue.{port_by_text, mac_by_text, role_by_text, method_by_text, format_by_text, switch_by_text, first_apart}
@@ -57,7 +58,7 @@ second_apart {z} {x} {y} {s} {t} e other = let tails : x ∷ s ≡ y ∷ t = cc 
 abbrev the_port_plan : Port → Role → Format → PortPlan
 the_port_plan number role format = record { number = number; role = role; format = format; input = []; output = [] }
 
-port_plan_same : (p q : PortPlan) → port_text p.number ≡ port_text q.number → role_text p.role ≡ role_text q.role → format_text p.format ≡ format_text q.format → without_port_names p ≡ without_port_names q
+port_plan_same : (p q : PortPlan) → port_text p.number ≡ port_text q.number → role_word p.role ≡ role_word q.role → format_word p.format ≡ format_word q.format → without_port_names p ≡ without_port_names q
 port_plan_same p q number role format =
     ap (λ (n : Port). the_port_plan n p.role p.format) (port_by_text p.number q.number number)
     ∙ ap (λ (r : Role). the_port_plan q.number r p.format) (role_by_text p.role q.role role)
@@ -89,7 +90,7 @@ module _ (address_text : ℕ → List ℕ) (is : IsAddressText address_text) whe
   the_prefix_plan net len method = record { prefix = record { net = record { 0 = net }; len = len }; method = method }
 
   prefix_same : (x y : PrefixPlan) → IsPlanPrefix x.prefix → IsPlanPrefix y.prefix → IsAddress (first_of x.prefix) → IsAddress (first_of y.prefix)
-      → prefix_text address_text x.prefix ≡ prefix_text address_text y.prefix → method_text x.method ≡ method_text y.method → x ≡ y
+      → prefix_text address_text x.prefix ≡ prefix_text address_text y.prefix → method_word x.method ≡ method_word y.method → x ≡ y
   prefix_same x y hx hy ax ay text method =
       let net = x.prefix.net.0 in
       let net' = y.prefix.net.0 in

@@ -24,7 +24,7 @@ use Rattle.hist_store.specs.TextOfLines.{or_dash}
 use Rattle.hist_store.specs.PortTexts.{port_text}
 use Rattle.hist_store.specs.EndTexts.{who_text, how_fields}
 use Rattle.hist_store.specs.LineTexts.{hex_text}
-use Rattle.hist_store.specs.JournalTexts.{role_text, method_text, format_text}
+use Rattle.savi_kinds.specs.PlanWords.{role_word, method_word, format_word}
 
 -- ports
 
@@ -106,18 +106,18 @@ mac_by_text m n same = ap the_mac (pairs_same m.0 n.0 same)
 pub first_apart : {x y : ℕ} {s t : List ℕ} → x ∷ s ≡ y ∷ t → (x == y) ≡ false → ⊥
 first_apart {x} {y} e other = let same : x ≡ y = cc in let apart : x ≢ y = grind (arith, nat_tests) in apart same
 
-pub role_by_text : (a b : Role) → role_text a ≡ role_text b → a ≡ b
+pub role_by_text : (a b : Role) → role_word a ≡ role_word b → a ≡ b
 role_by_text Host Host e = refl
 role_by_text Server Server e = refl
 role_by_text Trusted Trusted e = refl
 role_by_text a b e = absurd (first_apart e refl)
 
-pub format_by_text : (a b : Format) → format_text a ≡ format_text b → a ≡ b
+pub format_by_text : (a b : Format) → format_word a ≡ format_word b → a ≡ b
 format_by_text Pcap Pcap e = refl
 format_by_text Stream Stream e = refl
 format_by_text a b e = absurd (first_apart e refl)
 
-pub method_by_text : (a b : Method) → method_text a ≡ method_text b → a ≡ b
+pub method_by_text : (a b : Method) → method_word a ≡ method_word b → a ≡ b
 method_by_text Fcfs Fcfs e = refl
 method_by_text Dhcp Dhcp e = refl
 method_by_text Mixed Mixed e = refl

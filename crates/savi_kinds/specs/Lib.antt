@@ -4,6 +4,7 @@ pub mod Rules
 pub mod Prefixes
 pub mod MacText
 pub mod ValidPlan
+pub mod PlanWords
 pub mod Arrivals
 pub mod AddrText
 pub mod PrefixText

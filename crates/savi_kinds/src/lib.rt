@@ -5,6 +5,8 @@
 //! plan as lists. The one predicate of a plan that is within the limits, `IsValidPlan` of
 //! `specs/ValidPlan.antt`, stands here, since each call that takes a plan needs it.
 //!
+//! The words for the parts of a plan stand here once (`specs/PlanWords.antt`), for configurations and journals.
+//!
 //! Addresses, prefixes and MAC addresses are read from texts and written (`specs/AddrText.antt`,
 //! `specs/PrefixText.antt`, `specs/MacText.antt`); what the texts come to is in the laws of
 //! `text_laws`: what is written is read again, and a text has one value.
@@ -21,6 +23,7 @@ mod entry;
 mod limits;
 mod mac_text;
 mod plan;
+mod plan_words;
 mod port;
 mod prefix_text;
 #[cfg(test)]
@@ -40,6 +43,7 @@ pub use limits::{
 };
 pub use mac_text::{put_mac, read_mac};
 pub use plan::{Format, Method, Plan, PortPlan, PortPlans, PrefixPlan, PrefixPlans, Role};
+pub use plan_words::{savi_word, unknown_word};
 pub use port::{Port, PortSet};
 pub use prefix_text::read_prefix;
 pub use text::Text;

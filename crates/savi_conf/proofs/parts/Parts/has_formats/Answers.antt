@@ -1,6 +1,7 @@
 use Rattle.std.proofs.Common.{codes}
 use Rattle.toml.specs.View.{table_view}
-use Rattle.savi_conf.specs.Words.{HasWord, format_word}
+use Rattle.savi_kinds.specs.PlanWords.{format_word}
+use Rattle.savi_conf.specs.Words.{HasWord}
 use Rattle.savi_conf.proofs.Listed.{seen_all}
 use Rattle.savi_conf.proofs.parts.Parts.has_formats.Goals as goal
 
