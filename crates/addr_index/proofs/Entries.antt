@@ -1,9 +1,9 @@
 -- Which entry of an address a list has, and how many.
-use Rattle.std.proofs.Common.{◌≡◌, ◌==◌, ◌≤◌, ◌+◌, ◌⊎◌, ℕ, Bool, true, false, not, cond, is_some, List, [], ◌∷◌, ◌++◌, length, filter, find, count_by, Option, Some, None, option_map, refl, sym, ◌∙◌, ap, arith, inl, inr}
-use Rattle.std.proofs.lemmas.Bool.{cases_Bool, eqb-true, eq-eqb, false≢true}
-use Rattle.std.proofs.lemmas.List.Sums.{sum_by-cons, sum_by_push}
+use Rattle.std.proofs.Common.{◌≡◌, ◌≤◌, ◌+◌, ℕ, true, false, cond, List, [], ◌∷◌, find, count_by, Some, None, refl, sym, ◌∙◌, arith, inl, inr}
+use Rattle.std.proofs.lemmas.Bool.{cases_Bool}
+use Rattle.std.proofs.lemmas.List.Sums.{sum_by-cons}
 use Rattle.addr_index.specs.declared.entry.Entry.{Entry}
-use Rattle.addr_index.specs.Indexes.{is_of, key_in, HasOneEach}
+use Rattle.addr_index.specs.Indexes.{is_of}
 
 pub find_yes : (b : ℕ) (x : Entry) (xs : List Entry) → is_of b x ≡ true → find (is_of b) (x ∷ xs) ≡ Some x
 find_yes b x xs is = rw is refl

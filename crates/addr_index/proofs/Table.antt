@@ -5,9 +5,8 @@ use Rattle.std.proofs.lemmas.Bool.{cases_Bool, cases_eq, eqb-true}
 use Rattle.addr_index.specs.declared.entry.Entry.{Entry}
 use Rattle.addr_index.specs.Indexes.{Index, is_of, key_in, HasOneEach}
 use Rattle.addr_index.specs.Homes.{home_of}
-use Rattle.addr_index.specs.Ways.{IsOnWay, IsRound}
-use Rattle.addr_index.specs.Places.{in_place, entries_of, IsReached, IsReachedBut, IsPlaceOf, IsRoomFor, HasSameEntries, IsTable}
-use Rattle.addr_index.proofs.Ways.{beside}
+use Rattle.addr_index.specs.Ways.{IsOnWay}
+use Rattle.addr_index.specs.Places.{in_place, entries_of, IsReached, IsPlaceOf, IsRoomFor, HasSameEntries, IsTable}
 use Rattle.addr_index.proofs.Entries.{count_absent}
 use Rattle.addr_index.proofs.Filling.{found_place, find_filled, count_filled, length_filled, find_emptied, count_emptied, length_emptied, none_in_empty}
 use Rattle.addr_index.proofs.Closing.{within_places}
@@ -101,16 +100,6 @@ pub length_removed : (places : List (Option Entry)) (a p : ℕ) → IsPlaceOf a 
 length_removed places a p place =
     let (e, there, same) = place_entry (in_place places p) a place.there in
     length_emptied places p e there
-
-pub reached_emptied : (places : List (Option Entry)) (p next : ℕ) → IsReached (length places) places → p < length places → IsRound (length places) p p → IsRound (length places) (p + 1) next → IsReachedBut (length places) p next (set places p None)
-reached_emptied places p next reached within here round q x f there on x_within empty =
-    let emptied : in_place (set places p None) p ≡ None = get_or-set_same places p None None within in
-    let q_p : q ≢ p = λ (is : q ≡ p). (let none : in_place (set places p None) q ≡ None = rw is emptied in cc) in
-    let q_there : in_place places q ≡ Some f = sym (get_or-set_other places p q None None q_p) ∙ there in
-    elim (cases_eq x p) [
-      | inl x_p ↦ (x_p, beside (length places) p p next q here round q_p (within_places places q f q_there))
-      | inr x_p ↦ absurd (reached q x f q_there on x_within (sym (get_or-set_other places p x None None x_p) ∙ empty))
-    ]
 
 -- an entry is given up
 pub IsTable-remove : (places new : List (Option Entry)) (len most a p : ℕ) → IsTable places len most → IsPlaceOf a places p → HasSameEntries (set places p None) new → IsReached (length new) new → length new ≡ length places → IsTable new (len - 1) most

@@ -13,14 +13,14 @@ pub returns-in_default-clause-reached : goal.returns-in_default-clause-reached
 returns-in_default-clause-reached c =
     let size : length c.args.places.now ≡ length c.loop-steps.places = sym c.loop-steps.auto.places in
     let closes : ClosesGap (length c.loop-steps.places) c.args.places.now c.loop-steps.places c.args.emptied c.loop-steps.steps c.loop-steps.gap = subst (λ (n : ℕ). ClosesGap n c.args.places.now c.loop-steps.places c.args.emptied c.loop-steps.steps c.loop-steps.gap) size c.loop-steps.invariant in
-    closing_done (length c.loop-steps.places) c.args.places.now c.loop-steps.places c.args.emptied c.loop-steps.steps c.loop-steps.gap c.round-at.result closes (omega (arith, size, c.requires.within)) (omega (arith, size, c.loop-steps-test.true)) c.round-at.ensures (none_unless _ c.in_default.not-Some)
+    closing_done (length c.loop-steps.places) c.args.places.now c.loop-steps.places c.args.emptied c.loop-steps.steps c.loop-steps.gap c.round-at.result closes (omega (arith, size, c.requires.within)) (omega (arith, size, c.loop-steps-test.true, c.requires.sparse)) c.round-at.ensures (none_unless _ c.in_default.not-Some)
 
 pub loop-steps-preserved : goal.loop-steps-preserved
 loop-steps-preserved c =
     let size : length c.loop-steps.places ≡ length c.args.places.now = c.loop-steps.auto.places in
     let round : IsRound (length c.args.places.now) (c.args.emptied + c.loop-steps.steps) c.round-at.result = subst (λ (n : ℕ). IsRound n (c.args.emptied + c.loop-steps.steps) c.round-at.result) size c.round-at.ensures in
     let home : c.home.result ≡ home_of c.in-Some.entry.address (length c.args.places.now) = subst (λ (n : ℕ). c.home.result ≡ home_of c.in-Some.entry.address n) size c.home.ensures.home in
-    let within : c.loop-steps.steps < length c.args.places.now = c.loop-steps-test.true in
+    let within : c.loop-steps.steps < length c.args.places.now = omega (arith, c.loop-steps-test.true, c.requires.sparse) in
     elim c.if-is_on_way.branch [
       | then-is_on_way w ↦
           let on : IsOnWay (home_of c.in-Some.entry.address (length c.args.places.now)) c.round-at.result c.loop-steps.gap = subst (λ (h : ℕ). IsOnWay h c.round-at.result c.loop-steps.gap) home w.if-is_on_way.ensures in
