@@ -273,3 +273,7 @@ length-arms (Some x ∷ slots) each =
     (arith, length-arms slots (rest_each (Some x) slots each), sum_by-cons (λ o. cond (is_some o) 1 0) (Some x) slots,
     length-armed x.address.0 x.due (arms_in slots)
     (none_at slots x.address.0 (λ k y there same. let e : suc k ≡ 0 = each (suc k) 0 y x there refl same in omega (arith, e))))
+
+-- arming makes no more than one pair more
+pub length-armed_le : (a d : ℕ) (xs : List Armed) → length (with_due a (Some d) xs) ≤ length xs + 1
+length-armed_le a d xs = omega (arith, length-append (filter (is_below a) xs) (record { address = record { 0 = a }; due = d } ∷ filter (is_above a) xs), length-parted_le a xs)
