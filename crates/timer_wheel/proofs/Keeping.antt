@@ -7,14 +7,14 @@ use Rattle.std.proofs.lemmas.List.Sums.{sum_by-cons}
 use Rattle.slab.specs.Slab.{Slab, slab_len, Updates}
 use Rattle.addr_index.specs.Indexes.{Index, key_in}
 use Rattle.timer_wheel.specs.declared.armed.Armed.{Armed}
-use Rattle.timer_wheel.specs.Arms.{is_below, is_above, due_in, with_due}
+use Rattle.timer_wheel.specs.Arms.{Wheel, is_below, is_above, due_in, with_due}
 use Rattle.timer_wheel.specs.Rows.{arms_in, row_at}
 use Rattle.timer_wheel.specs.Rings.{IsRinged, is_node, slice_of}
 use Rattle.timer_wheel.specs.Kept.{HasRow, IsWired, IsIndexed, HasRoom, IsEarly, IsKept}
 use Rattle.timer_wheel.specs.Searches.{GoesBehind}
-use Rattle.timer_wheel.proofs.Rising.{is_of-other}
+use Rattle.timer_wheel.proofs.Rising.{is_of-other, with_due-again}
 use Rattle.timer_wheel.proofs.Pointwise.{none-some, some-same}
-use Rattle.timer_wheel.proofs.Slots.{IsOneEach, rest_each, Has, has_row, none_at, due_at, AddsRow, DropsRow, new_row, kept_row, left_row}
+use Rattle.timer_wheel.proofs.Slots.{IsOneEach, rest_each, Has, has_row, none_at, due_at, AddsRow, DropsRow, new_row, kept_row, left_row, each_dropped, arms_added, arms_dropped}
 use Rattle.timer_wheel.proofs.Nodes.{node-row, row_of-key, node_within, ringed_added, ringed_dropped}
 
 -- the keys of an index once one was put in or taken out
@@ -77,140 +77,195 @@ node_in rows later earlier node wired is =
 pub row_in : (rows : Slab Armed) (later earlier : List ℕ) (key : ℕ) (armed : Armed) → IsWired rows later earlier → row_at rows.slots key ≡ Some armed → IsNodeIn later earlier (1024 + key)
 row_in rows later earlier key armed wired there = node_in rows later earlier (1024 + key) wired (node-row rows.slots (1024 + key) armed (row_of-key rows.slots key ∙ there))
 
--- what a slab, an index and the rings became when a row was taken out
-pub record IsDropped (rows rows' : Slab Armed) (index index' : Index) (key : ℕ) (armed : Armed) : Type 0 where
+-- what a slab became when a row was taken out
+pub record IsDropped (rows rows' : Slab Armed) (key : ℕ) (armed : Armed) : Type 0 where
   pub there : row_at rows.slots key ≡ Some armed
   pub updates : Updates rows rows' key None
   pub len : slab_len rows' + 1 ≡ slab_len rows
   pub capacity : rows'.capacity ≡ rows.capacity
-  pub keys : IsChanged index index' armed.address.0 None
-  pub entries : length index'.entries + 1 ≡ length index.entries
-  pub most : index'.most ≡ index.most
 
-pub drops_row : (rows rows' : Slab Armed) (index index' : Index) (key : ℕ) (armed : Armed) → IsDropped rows rows' index index' key armed → DropsRow rows.slots rows'.slots key armed
-drops_row rows rows' index index' key armed is = record { there = is.there; gone = is.updates.changed; others = is.updates.others }
+pub drops_row : (rows rows' : Slab Armed) (key : ℕ) (armed : Armed) → IsDropped rows rows' key armed → DropsRow rows.slots rows'.slots key armed
+drops_row rows rows' key armed is = record { there = is.there; gone = is.updates.changed; others = is.updates.others }
 
-pub kept_dropped : (rows rows' : Slab Armed) (index index' : Index) (later earlier : List ℕ) (cursor most key : ℕ) (armed : Armed) → IsDropped rows rows' index index' key armed → IsKept rows index later earlier cursor most → IsKept rows' index' (set later (get_or earlier (1024 + key) 0) (get_or later (1024 + key) 0)) (set earlier (get_or later (1024 + key) 0) (get_or earlier (1024 + key) 0)) cursor most
-kept_dropped rows rows' index index' later earlier cursor most key armed is kept = record {
-  wired = record {
-    ringed = ringed_dropped rows.slots rows'.slots later earlier key armed drops kept.wired.ringed node.before node.behind;
-    within = λ k x there. omega (arith, kept.wired.within k x (was k x there).1, is.capacity);
-    fits = λ k x there. kept.wired.fits k x (was k x there).1;
-    later_nodes = omega (arith, length-set later (get_or earlier (1024 + key) 0) (get_or later (1024 + key) 0), kept.wired.later_nodes, is.capacity);
-    earlier_nodes = omega (arith, length-set earlier (get_or later (1024 + key) 0) (get_or earlier (1024 + key) 0), kept.wired.earlier_nodes, is.capacity);
-    limit = omega (arith, kept.wired.limit, is.capacity);
-  };
-  indexed = record {
-    indexed = λ k x there. changed_other index index' armed.address.0 x.address.0 None is.keys (other k x there) ∙ kept.indexed.indexed k x (was k x there).1;
-    told = λ a k found. told a k found (cases_eq a armed.address.0);
-    count = omega (arith, kept.indexed.count, is.entries, is.len);
-  };
-  room = record {
-    count = omega (arith, kept.room.count, is.len);
-    row_room = omega (arith, kept.room.row_room, is.capacity);
-    index_room = omega (arith, kept.room.index_room, is.most);
-  };
-  early = λ k x there. kept.early k x (was k x there).1;
-  cursor_fits = kept.cursor_fits;
+pub wired_dropped : (rows rows' : Slab Armed) (later earlier : List ℕ) (key : ℕ) (armed : Armed) → IsDropped rows rows' key armed → IsWired rows later earlier → IsWired rows' (set later (get_or earlier (1024 + key) 0) (get_or later (1024 + key) 0)) (set earlier (get_or later (1024 + key) 0) (get_or earlier (1024 + key) 0))
+wired_dropped rows rows' later earlier key armed is wired = record {
+  ringed = ringed_dropped rows.slots rows'.slots later earlier key armed drops wired.ringed node.before node.behind;
+  within = λ k x there. omega (arith, wired.within k x (was k x there), is.capacity);
+  fits = λ k x there. wired.fits k x (was k x there);
+  later_nodes = omega (arith, length-set later (get_or earlier (1024 + key) 0) (get_or later (1024 + key) 0), wired.later_nodes, is.capacity);
+  earlier_nodes = omega (arith, length-set earlier (get_or later (1024 + key) 0) (get_or earlier (1024 + key) 0), wired.earlier_nodes, is.capacity);
+  limit = omega (arith, wired.limit, is.capacity);
 }
   where
     drops : DropsRow rows.slots rows'.slots key armed
-    drops = drops_row rows rows' index index' key armed is
+    drops = drops_row rows rows' key armed is
 
     node : IsNodeIn later earlier (1024 + key)
-    node = row_in rows later earlier key armed kept.wired is.there
+    node = row_in rows later earlier key armed wired is.there
 
-    was : (k : ℕ) (x : Armed) → row_at rows'.slots k ≡ Some x → (k ≢ key) × (row_at rows.slots k ≡ Some x)
-    was k x there = left_row rows.slots rows'.slots key armed drops k x there
+    was : (k : ℕ) (x : Armed) → row_at rows'.slots k ≡ Some x → row_at rows.slots k ≡ Some x
+    was k x there = (left_row rows.slots rows'.slots key armed drops k x there).1
 
-    other : (k : ℕ) (x : Armed) → row_at rows'.slots k ≡ Some x → x.address.0 ≢ armed.address.0
-    other k x there same = (was k x there).0 (one_each rows index kept.indexed k key x armed (was k x there).1 is.there same)
-
-    told : (a k : ℕ) → key_in index' a ≡ Some k → (a ≡ armed.address.0) ⊎ (a ≢ armed.address.0) → HasRow rows'.slots k a
-    told a k found (inl same) = absurd (none-some (key_in index' a) k (ap (key_in index') same ∙ changed_same index index' armed.address.0 None is.keys) found)
-    told a k found (inr differs) =
-        let has : HasRow rows.slots k a = kept.indexed.told a k (sym (changed_other index index' armed.address.0 a None is.keys differs) ∙ found) in
-        let far : k ≢ key = λ same. differs (sym has.address ∙ ap (λ x. x.address.0) (some-same has.armed armed (sym has.there ∙ ap (row_at rows.slots) same ∙ is.there))) in
-        record { armed = has.armed; there = drops.others k far ∙ has.there; address = has.address }
-
--- what they became when a row was put in
-pub record IsAdded (rows rows' : Slab Armed) (index index' : Index) (key : ℕ) (armed : Armed) : Type 0 where
+-- what a slab became when a row was put in
+pub record IsAdded (rows rows' : Slab Armed) (key : ℕ) (armed : Armed) : Type 0 where
   pub empty : row_at rows.slots key ≡ None
   pub updates : Updates rows rows' key (Some armed)
   pub len : slab_len rows' ≡ slab_len rows + 1
   pub capacity : rows'.capacity ≡ rows.capacity
-  pub within : key < rows'.capacity
-  pub keys : IsChanged index index' armed.address.0 (Some key)
-  pub entries : length index'.entries ≡ length index.entries + 1
-  pub most : index'.most ≡ index.most
-  pub fits : armed.address.0 < 2 ^ 128
-  pub absent : due_in (arms_in rows.slots) armed.address.0 ≡ None
+  pub absent : (k : ℕ) (x : Armed) → row_at rows.slots k ≡ Some x → x.address.0 ≢ armed.address.0
 
-pub adds_row : (rows rows' : Slab Armed) (index index' : Index) (key : ℕ) (armed : Armed) → IsAdded rows rows' index index' key armed → IsIndexed rows index → AddsRow rows.slots rows'.slots key armed
-adds_row rows rows' index index' key armed is indexed = record {
-  added = is.updates.changed;
-  others = is.updates.others;
-  empty = is.empty;
-  absent = no_row rows.slots armed.address.0 (one_each rows index indexed) is.absent;
-}
+pub adds_row : (rows rows' : Slab Armed) (key : ℕ) (armed : Armed) → IsAdded rows rows' key armed → AddsRow rows.slots rows'.slots key armed
+adds_row rows rows' key armed is = record { added = is.updates.changed; others = is.updates.others; empty = is.empty; absent = is.absent }
 
-pub kept_added : (rows rows' : Slab Armed) (index index' : Index) (later earlier : List ℕ) (cursor most key p : ℕ) (armed : Armed) → IsAdded rows rows' index index' key armed → GoesBehind rows.slots later armed p → slab_len rows < most → IsKept rows index later earlier cursor most → IsKept rows' index' (set (set later (1024 + key) (get_or later p 0)) p (1024 + key)) (set (set earlier (get_or later p 0) (1024 + key)) (1024 + key) p) (min cursor (slice_of armed)) most
-kept_added rows rows' index index' later earlier cursor most key p armed is goes room kept = record {
-  wired = record {
-    ringed =
-        ringed_added rows.slots rows'.slots later earlier key armed p adds goes kept.wired.ringed (omega (arith, is.within, is.capacity, kept.wired.later_nodes)) (omega (arith, is.within, is.capacity, kept.wired.earlier_nodes)) node.in_later node.behind;
-    within = λ k x there. within k x (is_new k x there);
-    fits = λ k x there. fits k x (is_new k x there);
-    later_nodes = omega (arith, length-set (set later (1024 + key) (get_or later p 0)) p (1024 + key), length-set later (1024 + key) (get_or later p 0), kept.wired.later_nodes, is.capacity);
-    earlier_nodes = omega (arith, length-set (set earlier (get_or later p 0) (1024 + key)) (1024 + key) p, length-set earlier (get_or later p 0) (1024 + key), kept.wired.earlier_nodes, is.capacity);
-    limit = omega (arith, kept.wired.limit, is.capacity);
-  };
-  indexed = record {
-    indexed = λ k x there. indexed k x (is_new k x there);
-    told = λ a k found. told a k found (cases_eq a armed.address.0);
-    count = omega (arith, kept.indexed.count, is.entries, is.len);
-  };
-  room = record {
-    count = omega (arith, room, is.len);
-    row_room = omega (arith, kept.room.row_room, is.capacity);
-    index_room = omega (arith, kept.room.index_room, is.most);
-  };
-  early = λ k x there. early k x (is_new k x there);
-  cursor_fits = omega (arith, kept.cursor_fits);
+pub wired_added : (rows rows' : Slab Armed) (later earlier : List ℕ) (key p : ℕ) (armed : Armed) → IsAdded rows rows' key armed → key < rows'.capacity → armed.address.0 < 2 ^ 128 → GoesBehind rows.slots later armed p → IsWired rows later earlier → IsWired rows' (set (set later (1024 + key) (get_or later p 0)) p (1024 + key)) (set (set earlier (get_or later p 0) (1024 + key)) (1024 + key) p)
+wired_added rows rows' later earlier key p armed is low small goes wired = record {
+  ringed =
+      ringed_added rows.slots rows'.slots later earlier key armed p adds goes wired.ringed (omega (arith, low, is.capacity, wired.later_nodes)) (omega (arith, low, is.capacity, wired.earlier_nodes)) node.in_later node.behind;
+  within = λ k x there. within k x (is_new k x there);
+  fits = λ k x there. fits k x (is_new k x there);
+  later_nodes = omega (arith, length-set (set later (1024 + key) (get_or later p 0)) p (1024 + key), length-set later (1024 + key) (get_or later p 0), wired.later_nodes, is.capacity);
+  earlier_nodes = omega (arith, length-set (set earlier (get_or later p 0) (1024 + key)) (1024 + key) p, length-set earlier (get_or later p 0) (1024 + key), wired.earlier_nodes, is.capacity);
+  limit = omega (arith, wired.limit, is.capacity);
 }
   where
     adds : AddsRow rows.slots rows'.slots key armed
-    adds = adds_row rows rows' index index' key armed is kept.indexed
+    adds = adds_row rows rows' key armed is
 
     node : IsNodeIn later earlier p
-    node = node_in rows later earlier p kept.wired goes.there
+    node = node_in rows later earlier p wired goes.there
 
     is_new : (k : ℕ) (x : Armed) → row_at rows'.slots k ≡ Some x → ((k ≡ key) × (x ≡ armed)) ⊎ ((k ≢ key) × (row_at rows.slots k ≡ Some x))
     is_new k x there = new_row rows.slots rows'.slots key armed adds k x there
 
     within : (k : ℕ) (x : Armed) → ((k ≡ key) × (x ≡ armed)) ⊎ ((k ≢ key) × (row_at rows.slots k ≡ Some x)) → k < rows'.capacity
-    within k x (inl mine) = omega (arith, mine.0, is.within)
-    within k x (inr old) = omega (arith, kept.wired.within k x old.1, is.capacity)
+    within k x (inl mine) = omega (arith, mine.0, low)
+    within k x (inr old) = omega (arith, wired.within k x old.1, is.capacity)
 
     fits : (k : ℕ) (x : Armed) → ((k ≡ key) × (x ≡ armed)) ⊎ ((k ≢ key) × (row_at rows.slots k ≡ Some x)) → x.address.0 < 2 ^ 128
-    fits k x (inl mine) = subst (λ (y : Armed). y.address.0 < 2 ^ 128) (sym mine.1) is.fits
-    fits k x (inr old) = kept.wired.fits k x old.1
+    fits k x (inl mine) = subst (λ (y : Armed). y.address.0 < 2 ^ 128) (sym mine.1) small
+    fits k x (inr old) = wired.fits k x old.1
 
-    early : (k : ℕ) (x : Armed) → ((k ≡ key) × (x ≡ armed)) ⊎ ((k ≢ key) × (row_at rows.slots k ≡ Some x)) → min cursor (slice_of armed) ≤ slice_of x
-    early k x (inl mine) = subst (λ (y : Armed). min cursor (slice_of armed) ≤ slice_of y) (sym mine.1) (omega arith)
-    early k x (inr old) = let le : cursor ≤ slice_of x = kept.early k x old.1 in omega (arith, le)
+-- the key of a row that was taken out is taken from the index
+pub indexed_dropped : (rows rows' : Slab Armed) (index index' : Index) (key : ℕ) (armed : Armed) → IsDropped rows rows' key armed → IsChanged index index' armed.address.0 None → length index'.entries + 1 ≡ length index.entries → IsIndexed rows index → IsIndexed rows' index'
+indexed_dropped rows rows' index index' key armed is keys entries indexed = record {
+  indexed = λ k x there. changed_other index index' armed.address.0 x.address.0 None keys (other k x there) ∙ indexed.indexed k x (was k x there).1;
+  told = λ a k found. told a k found (cases_eq a armed.address.0);
+  count = omega (arith, indexed.count, entries, is.len);
+}
+  where
+    drops : DropsRow rows.slots rows'.slots key armed
+    drops = drops_row rows rows' key armed is
 
-    indexed : (k : ℕ) (x : Armed) → ((k ≡ key) × (x ≡ armed)) ⊎ ((k ≢ key) × (row_at rows.slots k ≡ Some x)) → key_in index' x.address.0 ≡ Some k
-    indexed k x (inl mine) = ap (λ y. key_in index' y.address.0) mine.1 ∙ changed_same index index' armed.address.0 (Some key) is.keys ∙ ap Some (sym mine.0)
-    indexed k x (inr old) = changed_other index index' armed.address.0 x.address.0 (Some key) is.keys (adds.absent k x old.1) ∙ kept.indexed.indexed k x old.1
+    was : (k : ℕ) (x : Armed) → row_at rows'.slots k ≡ Some x → (k ≢ key) × (row_at rows.slots k ≡ Some x)
+    was k x there = left_row rows.slots rows'.slots key armed drops k x there
+
+    other : (k : ℕ) (x : Armed) → row_at rows'.slots k ≡ Some x → x.address.0 ≢ armed.address.0
+    other k x there same = (was k x there).0 (one_each rows index indexed k key x armed (was k x there).1 is.there same)
+
+    told : (a k : ℕ) → key_in index' a ≡ Some k → (a ≡ armed.address.0) ⊎ (a ≢ armed.address.0) → HasRow rows'.slots k a
+    told a k found (inl same) = absurd (none-some (key_in index' a) k (ap (key_in index') same ∙ changed_same index index' armed.address.0 None keys) found)
+    told a k found (inr differs) =
+        let has : HasRow rows.slots k a = indexed.told a k (sym (changed_other index index' armed.address.0 a None keys differs) ∙ found) in
+        let far : k ≢ key = λ same. differs (sym has.address ∙ ap (λ x. x.address.0) (some-same has.armed armed (sym has.there ∙ ap (row_at rows.slots) same ∙ is.there))) in
+        record { armed = has.armed; there = drops.others k far ∙ has.there; address = has.address }
+
+-- the key of a row that was put in is put into the index
+pub indexed_added : (rows rows' : Slab Armed) (index index' : Index) (key : ℕ) (armed : Armed) → IsAdded rows rows' key armed → IsChanged index index' armed.address.0 (Some key) → length index'.entries ≡ length index.entries + 1 → IsIndexed rows index → IsIndexed rows' index'
+indexed_added rows rows' index index' key armed is keys entries indexed = record {
+  indexed = λ k x there. found_key k x (new_row rows.slots rows'.slots key armed adds k x there);
+  told = λ a k found. told a k found (cases_eq a armed.address.0);
+  count = omega (arith, indexed.count, entries, is.len);
+}
+  where
+    adds : AddsRow rows.slots rows'.slots key armed
+    adds = adds_row rows rows' key armed is
+
+    found_key : (k : ℕ) (x : Armed) → ((k ≡ key) × (x ≡ armed)) ⊎ ((k ≢ key) × (row_at rows.slots k ≡ Some x)) → key_in index' x.address.0 ≡ Some k
+    found_key k x (inl mine) = ap (λ y. key_in index' y.address.0) mine.1 ∙ changed_same index index' armed.address.0 (Some key) keys ∙ ap Some (sym mine.0)
+    found_key k x (inr old) = changed_other index index' armed.address.0 x.address.0 (Some key) keys (is.absent k x old.1) ∙ indexed.indexed k x old.1
 
     told : (a k : ℕ) → key_in index' a ≡ Some k → (a ≡ armed.address.0) ⊎ (a ≢ armed.address.0) → HasRow rows'.slots k a
     told a k found (inl same) =
-        let here : key ≡ k = some-same key k (sym (changed_same index index' armed.address.0 (Some key) is.keys) ∙ ap (key_in index') (sym same) ∙ found) in
+        let here : key ≡ k = some-same key k (sym (changed_same index index' armed.address.0 (Some key) keys) ∙ ap (key_in index') (sym same) ∙ found) in
         record { armed = armed; there = ap (row_at rows'.slots) (sym here) ∙ adds.added; address = sym same }
     told a k found (inr differs) =
-        let has : HasRow rows.slots k a = kept.indexed.told a k (sym (changed_other index index' armed.address.0 a (Some key) is.keys differs) ∙ found) in
+        let has : HasRow rows.slots k a = indexed.told a k (sym (changed_other index index' armed.address.0 a (Some key) keys differs) ∙ found) in
         record { armed = has.armed; there = (kept_row rows.slots rows'.slots key armed adds k has.armed has.there).1; address = has.address }
+
+-- the index stays where a row was taken out and another one of its address put in under its key
+pub indexed_renewed : (rows left rows' : Slab Armed) (index : Index) (key : ℕ) (old armed : Armed) → IsDropped rows left key old → IsAdded left rows' key armed → old.address.0 ≡ armed.address.0 → IsIndexed rows index → IsIndexed rows' index
+indexed_renewed rows left rows' index key old armed drop add same indexed = record {
+  indexed = λ k x there. found_key k x (new_row left.slots rows'.slots key armed adds k x there);
+  told = λ a k found. told a k (indexed.told a k found) (cases_eq k key);
+  count = omega (arith, indexed.count, drop.len, add.len);
+}
+  where
+    drops : DropsRow rows.slots left.slots key old
+    drops = drops_row rows left key old drop
+
+    adds : AddsRow left.slots rows'.slots key armed
+    adds = adds_row left rows' key armed add
+
+    found_key : (k : ℕ) (x : Armed) → ((k ≡ key) × (x ≡ armed)) ⊎ ((k ≢ key) × (row_at left.slots k ≡ Some x)) → key_in index x.address.0 ≡ Some k
+    found_key k x (inl mine) = ap (λ y. key_in index y.address.0) mine.1 ∙ ap (key_in index) (sym same) ∙ indexed.indexed key old drop.there ∙ ap Some (sym mine.0)
+    found_key k x (inr rest) = indexed.indexed k x (left_row rows.slots left.slots key old drops k x rest.1).1
+
+    told : (a k : ℕ) → HasRow rows.slots k a → (k ≡ key) ⊎ (k ≢ key) → HasRow rows'.slots k a
+    told a k has (inl here) =
+        let mine : has.armed ≡ old = some-same has.armed old (sym has.there ∙ ap (row_at rows.slots) here ∙ drop.there) in
+        record { armed = armed; there = ap (row_at rows'.slots) here ∙ adds.added; address = sym same ∙ ap (λ x. x.address.0) (sym mine) ∙ has.address }
+    told a k has (inr far) = record { armed = has.armed; there = adds.others k far ∙ drops.others k far ∙ has.there; address = has.address }
+
+-- the cursor once a row was put in
+pub early_added : (old new : List (Option Armed)) (key cursor : ℕ) (armed : Armed) → AddsRow old new key armed → IsEarly old cursor → IsEarly new (min cursor (slice_of armed))
+early_added old new key cursor armed adds early k x there = go (new_row old new key armed adds k x there)
+  where
+    go : ((k ≡ key) × (x ≡ armed)) ⊎ ((k ≢ key) × (row_at old k ≡ Some x)) → min cursor (slice_of armed) ≤ slice_of x
+    go (inl mine) = subst (λ (y : Armed). min cursor (slice_of armed) ≤ slice_of y) (sym mine.1) (omega arith)
+    go (inr rest) = let le : cursor ≤ slice_of x = early k x rest.1 in omega (arith, le)
+
+pub early_dropped : (old new : List (Option Armed)) (key cursor : ℕ) (armed : Armed) → DropsRow old new key armed → IsEarly old cursor → IsEarly new cursor
+early_dropped old new key cursor armed drops early k x there = early k x (left_row old new key armed drops k x there).1
+
+-- what is kept of the wheel in all three cases
+pub kept_dropped : (rows rows' : Slab Armed) (index index' : Index) (later later' earlier earlier' : List ℕ) (cursor most key : ℕ) (armed : Armed) → IsDropped rows rows' key armed → IsWired rows' later' earlier' → IsChanged index index' armed.address.0 None → length index'.entries + 1 ≡ length index.entries → index'.most ≡ index.most → IsKept rows index later earlier cursor most → IsKept rows' index' later' earlier' cursor most
+kept_dropped rows rows' index index' later later' earlier earlier' cursor most key armed is wired keys entries same kept = record {
+  wired = wired;
+  indexed = indexed_dropped rows rows' index index' key armed is keys entries kept.indexed;
+  room = record {
+    count = omega (arith, kept.room.count, is.len);
+    row_room = omega (arith, kept.room.row_room, is.capacity);
+    index_room = omega (arith, kept.room.index_room, same);
+  };
+  early = early_dropped rows.slots rows'.slots key cursor armed (drops_row rows rows' key armed is) kept.early;
+  cursor_fits = kept.cursor_fits;
+}
+
+pub kept_added : (rows rows' : Slab Armed) (index index' : Index) (later later' earlier earlier' : List ℕ) (cursor most key : ℕ) (armed : Armed) → IsAdded rows rows' key armed → IsWired rows' later' earlier' → IsChanged index index' armed.address.0 (Some key) → length index'.entries ≡ length index.entries + 1 → index'.most ≡ index.most → slab_len rows < most → IsKept rows index later earlier cursor most → IsKept rows' index' later' earlier' (min cursor (slice_of armed)) most
+kept_added rows rows' index index' later later' earlier earlier' cursor most key armed is wired keys entries same room kept = record {
+  wired = wired;
+  indexed = indexed_added rows rows' index index' key armed is keys entries kept.indexed;
+  room = record {
+    count = omega (arith, room, is.len);
+    row_room = omega (arith, kept.room.row_room, is.capacity);
+    index_room = omega (arith, kept.room.index_room, same);
+  };
+  early = early_added rows.slots rows'.slots key cursor armed (adds_row rows rows' key armed is) kept.early;
+  cursor_fits = omega (arith, kept.cursor_fits);
+}
+
+pub kept_renewed : (rows left rows' : Slab Armed) (index : Index) (later later' earlier earlier' : List ℕ) (cursor most key : ℕ) (old armed : Armed) → IsDropped rows left key old → IsAdded left rows' key armed → old.address.0 ≡ armed.address.0 → IsWired rows' later' earlier' → IsKept rows index later earlier cursor most → IsKept rows' index later' earlier' (min cursor (slice_of armed)) most
+kept_renewed rows left rows' index later later' earlier earlier' cursor most key old armed drop add same wired kept = record {
+  wired = wired;
+  indexed = indexed_renewed rows left rows' index key old armed drop add same kept.indexed;
+  room = record {
+    count = omega (arith, kept.room.count, drop.len, add.len);
+    row_room = omega (arith, kept.room.row_room, drop.capacity, add.capacity);
+    index_room = kept.room.index_room;
+  };
+  early = early_added left.slots rows'.slots key cursor armed (adds_row left rows' key armed add) (early_dropped rows.slots left.slots key cursor old (drops_row rows left key old drop) kept.early);
+  cursor_fits = omega (arith, kept.cursor_fits);
+}
 
 -- how many pairs are lower and higher than an address that has none
 parted : (a : ℕ) (xs : List Armed) → due_in xs a ≡ None → length (filter (is_below a) xs) + length (filter (is_above a) xs) ≡ length xs
@@ -240,27 +295,6 @@ length-parted_le a (x ∷ xs) =
           ]
     ]
 
--- fewer where the address had one
-pub length-canceled_less : (a : ℕ) (xs : List Armed) → IsSome (due_in xs a) → length (with_due a None xs) < length xs
-length-canceled_less a [] some = absurd (false≢true some)
-length-canceled_less a (x ∷ xs) some = go (cases_eq x.address.0 a) (cases_lt x.address.0 a) (length-canceled_less a xs)
-  where
-    both : (ys : List Armed) → length (with_due a None ys) ≡ length (filter (is_below a) ys) + length (filter (is_above a) ys)
-    both ys = length-append (filter (is_below a) ys) (filter (is_above a) ys)
-
-    go : (x.address.0 ≡ a) ⊎ (x.address.0 ≢ a) → (x.address.0 < a) ⊎ (a ≤ x.address.0) → (IsSome (due_in xs a) → length (with_due a None xs) < length xs) → length (with_due a None (x ∷ xs)) < length (x ∷ xs)
-    go (inl same) place rest = rw (le-ltb x.address.0 a (omega (arith, same)), le-ltb a x.address.0 (omega (arith, same))) (omega (arith, both xs, length-parted_le a xs))
-    go (inr other) (inl low) rest =
-        let behind : IsSome (due_in xs a) = rw (is_of-other a x other) at some in
-        rw (lt-ltb x.address.0 a low, le-ltb a x.address.0 (omega (arith, low))) (omega (arith, rest behind))
-    go (inr other) (inr high) rest =
-        let behind : IsSome (due_in xs a) = rw (is_of-other a x other) at some in
-        rw (le-ltb x.address.0 a high, lt-ltb a x.address.0 (omega (arith, high, other)))
-        (omega (arith, rest behind, both xs, length-append (filter (is_below a) xs) (x ∷ filter (is_above a) xs)))
-
-pub length-canceled_le : (a : ℕ) (xs : List Armed) → length (with_due a None xs) ≤ length xs
-length-canceled_le a xs = omega (arith, length-append (filter (is_below a) xs) (filter (is_above a) xs), length-parted_le a xs)
-
 pub length-armed : (a d : ℕ) (xs : List Armed) → due_in xs a ≡ None → length (with_due a (Some d) xs) ≡ length xs + 1
 length-armed a d xs none = omega (arith, length-append (filter (is_below a) xs) (record { address = record { 0 = a }; due = d } ∷ filter (is_above a) xs), parted a xs none)
 
@@ -273,3 +307,37 @@ length-arms (Some x ∷ slots) each =
     (arith, length-arms slots (rest_each (Some x) slots each), sum_by-cons (λ o. cond (is_some o) 1 0) (Some x) slots,
     length-armed x.address.0 x.due (arms_in slots)
     (none_at slots x.address.0 (λ k y there same. let e : suc k ≡ 0 = each (suc k) 0 y x there refl same in omega (arith, e))))
+
+-- arming makes no more than one pair more
+pub length-armed_le : (a d : ℕ) (xs : List Armed) → length (with_due a (Some d) xs) ≤ length xs + 1
+length-armed_le a d xs = omega (arith, length-append (filter (is_below a) xs) (record { address = record { 0 = a }; due = d } ∷ filter (is_above a) xs), length-parted_le a xs)
+
+-- what a place that isn't empty has
+pub row_there : (o : Option Armed) → IsSome o → (x : Armed) × (o ≡ Some x)
+row_there None some = absurd (false≢true some)
+row_there (Some x) some = (x, refl)
+
+-- no row that is left has the address of the one that was taken out
+pub absent_left : (rows left : Slab Armed) (index : Index) (key : ℕ) (old : Armed) → IsDropped rows left key old → IsIndexed rows index → (k : ℕ) (x : Armed) → row_at left.slots k ≡ Some x → x.address.0 ≢ old.address.0
+absent_left rows left index key old drop indexed k x there same =
+    let was : (k ≢ key) × (row_at rows.slots k ≡ Some x) = left_row rows.slots left.slots key old (drops_row rows left key old drop) k x there in
+    was.0 (one_each rows index indexed k key x old was.1 drop.there same)
+
+-- the pairs once a row was taken out, another one of its address put in, and what is kept then
+pub arms_renewed : (rows left rows' : Slab Armed) (index : Index) (key : ℕ) (old armed : Armed) → IsDropped rows left key old → IsAdded left rows' key armed → old.address.0 ≡ armed.address.0 → IsIndexed rows index → arms_in rows'.slots ≡ with_due armed.address.0 (Some armed.due) (arms_in rows.slots)
+arms_renewed rows left rows' index key old armed drop add same indexed =
+    let each : IsOneEach rows.slots = one_each rows index indexed in
+    let drops : DropsRow rows.slots left.slots key old = drops_row rows left key old drop in
+    arms_added left.slots rows'.slots key armed (adds_row left rows' key armed add) (each_dropped rows.slots left.slots key old drops each)
+    ∙ ap (with_due armed.address.0 (Some armed.due)) (arms_dropped rows.slots left.slots key old drops each ∙ ap (λ n. with_due n None (arms_in rows.slots)) same)
+    ∙ with_due-again armed.address.0 armed.due (arms_in rows.slots)
+
+-- there is room for one more row
+pub room_for : (rows : Slab Armed) (index : Index) (later earlier : List ℕ) (cursor most a : ℕ) (wheel : Wheel) → IsKept rows index later earlier cursor most → record { arms = arms_in rows.slots; most = most } ≡ wheel → key_in index a ≡ None → IsSome (due_in wheel.arms a) ⊎ (length wheel.arms < wheel.most) → slab_len rows < most
+room_for rows index later earlier cursor most a wheel kept view none (inl some) =
+    let no : IsSome (due_in (arms_in rows.slots) a) = subst (λ (w : Wheel). IsSome (due_in w.arms a)) (sym view) some in
+    let nothing : IsSome {T = ℕ} None = subst IsSome (none_due rows index a kept.indexed none) no in
+    absurd (false≢true nothing)
+room_for rows index later earlier cursor most a wheel kept view none (inr less) =
+    let fewer : length (arms_in rows.slots) < most = subst (λ (w : Wheel). length w.arms < w.most) (sym view) less in
+    omega (arith, fewer, length-arms rows.slots (one_each rows index kept.indexed))

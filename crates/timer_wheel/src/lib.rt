@@ -7,8 +7,8 @@
 #![tactic(auto)]
 
 mod armed;
+mod buckets;
 mod rings;
-mod search;
 #[cfg(test)]
 mod tests;
 mod wheel;

@@ -1,11 +1,11 @@
 //! The pairs that are armed.
 
-ghost use Rattle.std.specs.Prelude.{◌≡◌, ◌<◌, ◌≤◌, ◌^◌, ◌⊎◌, [], None, Some, IfOk, IsSome, length};
+ghost use Rattle.std.specs.Prelude.{◌≡◌, ◌<◌, ◌⊎◌, [], None, Some, IfOk, IsSome, length};
 ghost use Rattle.timer_wheel.specs.Arms.{due_in, with_due, first_armed, due_by, without};
 
 use crate::armed::{Armed, SLICE_MS};
 use crate::rings::Rings;
-use crate::search::{BUCKETS, place_of, seek};
+use crate::buckets::{BUCKETS, put_in, seek, take_out};
 use addr_index::AddrIndex;
 use savi_kinds::{Addr, Moment};
 use slab::Slab;
@@ -63,47 +63,35 @@ impl TimerWheel {
         })
     }
 
-    /// The address is due at this moment (ms), in place of what was armed for it. O(1) on average beside the rows of its
-    /// bucket that are due later: for a renewal, which is due after all that were renewed before it for as long, there are
-    /// none but those that were armed for longer.
+    /// The address is due at this moment (ms), in place of what was armed for it. It is one look-up of the address, O(1) on
+    /// average, and a walk over those rows of the new bucket that are due later. A renewal is due after all that were
+    /// renewed before it for as long, so that it walks over none but those that were armed for longer.
     pub fn arm(&mut self, a: Addr, due: Moment)
         requires { IsSome (due_in self.old.arms a.0) ⊎ (length self.old.arms < self.old.most) }
         ensures { self.new ≡ record self.old { arms = with_due a.0 (Some due) self.old.arms } }
     {
-        self.disarm(a);
-        self.add(Armed { address: a, due });
-    }
-
-    // Arms a pair whose address nothing is due for.
-    fn add(&mut self, armed: Armed)
-        requires fits { armed.address.0 < 2 ^ 128 }
-        requires absent { due_in self.old.arms armed.address.0 ≡ None }
-        requires room { length self.old.arms < self.old.most }
-        ensures { self.new ≡ record self.old { arms = with_due armed.address.0 (Some armed.due) self.old.arms } }
-    {
-        let before = place_of(&self.rows, &self.rings, armed);
-        let key = self.rows.insert_reserved(armed) as u32;
-        self.index.insert(armed.address, key);
-        self.rings.link(BUCKETS + key, before);
+        let armed = Armed { address: a, due };
         self.cursor = self.cursor.min(armed.slice());
+        match self.index.get(a) {
+            Some(key) => {
+                take_out(&mut self.rows, &mut self.rings, key);
+                // Under the same key, which is the next one.
+                put_in(&mut self.rows, &mut self.rings, armed);
+            }
+            None => {
+                let key = put_in(&mut self.rows, &mut self.rings, armed);
+                self.index.insert(a, key);
+            }
+        }
     }
 
     /// The address is no longer due, if it was. O(1) on average.
     pub fn cancel(&mut self, a: Addr)
         ensures { self.new ≡ record self.old { arms = with_due a.0 None self.old.arms } }
     {
-        self.disarm(a);
-    }
-
-    // The same, and there are no more pairs than there may be.
-    fn disarm(&mut self, a: Addr)
-        ensures arms { self.new ≡ record self.old { arms = with_due a.0 None self.old.arms } }
-        ensures room { length self.old.arms ≤ self.old.most }
-    {
         if let Some(key) = self.index.get(a) {
             self.index.remove(a);
-            self.rings.unlink(BUCKETS + key);
-            self.rows.try_remove(key as usize);
+            take_out(&mut self.rows, &mut self.rings, key);
         }
     }
 
@@ -121,7 +109,7 @@ impl TimerWheel {
         if armed.due > t {
             return None;
         }
-        self.disarm(armed.address);
+        self.cancel(armed.address);
         Some((armed.due, armed.address))
     }
 }

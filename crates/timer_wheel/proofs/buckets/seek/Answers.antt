@@ -4,7 +4,7 @@ use Rattle.timer_wheel.specs.Rings.{bucket_of, slice_of}
 use Rattle.timer_wheel.specs.Kept.{IsEarly}
 use Rattle.timer_wheel.specs.Searches.{LeastOf}
 use Rattle.timer_wheel.proofs.Seeking.{IsSought, sought_here, sought_next, sought_early, sought_all}
-use Rattle.timer_wheel.proofs.search.seek.Goals as goal
+use Rattle.timer_wheel.proofs.buckets.seek.Goals as goal
 
 pub returns-then-is_in-clause-least : goal.returns-then-is_in-clause-least
 returns-then-is_in-clause-least c =

@@ -1,7 +1,7 @@
 use Rattle.std.proofs.Common.{◌≡◌, ◌≢◌, ◌<◌, true, get_or}
 use Rattle.timer_wheel.specs.Rings.{is_node, bucket_at, bucket_of, rank_at, rank_of}
 use Rattle.timer_wheel.proofs.Walks.{IsBelow}
-use Rattle.timer_wheel.proofs.search.place_of.Given as goal
+use Rattle.timer_wheel.proofs.buckets.place_of.Given as goal
 
 abbrev pub invariant-loop-row : goal.invariant-loop-row
 invariant-loop-row l = IsBelow l.rows.slots l.rings.later.items l.armed l.at

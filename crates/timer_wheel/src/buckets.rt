@@ -1,6 +1,7 @@
-//! What is found in the rings.
+//! The buckets: rows in a slab, those of a bucket linked by a ring.
 
-ghost use Rattle.std.specs.Prelude.{◌≡◌, ◌≢◌, ◌≤◌, ◌<◌, ◌^◌, ◌/◌, ℕ, Some, ⊤};
+ghost use Rattle.std.specs.Prelude.{◌≡◌, ◌≢◌, ◌≤◌, ◌<◌, ◌+◌, ◌^◌, ℕ, None, Some, IsSome};
+ghost use Rattle.slab.specs.Slab.{Updates, HasRoomFor, slab_len};
 ghost use Rattle.timer_wheel.specs.Rows.{row_at};
 ghost use Rattle.timer_wheel.specs.Rings.{row_of as row_of_node, slice_of, bucket_of, sooner_of, is_in as is_in_slice};
 ghost use Rattle.timer_wheel.specs.Kept.{IsWired, IsEarly};
@@ -24,7 +25,7 @@ pub(crate) struct Found {
 }
 
 // The row of a node, or None at an end.
-pub(crate) fn row_of(rows: &Slab<Armed>, node: u32) -> Option<Armed>
+fn row_of(rows: &Slab<Armed>, node: u32) -> Option<Armed>
     ensures { result ≡ row_of_node rows.now.slots node }
 {
     if node < BUCKETS {
@@ -36,7 +37,7 @@ pub(crate) fn row_of(rows: &Slab<Armed>, node: u32) -> Option<Armed>
 
 // The node behind which a pair belongs whose address no row has. It goes back from the end of the pair's bucket over the
 // rows that are due later.
-pub(crate) fn place_of(rows: &Slab<Armed>, rings: &Rings, armed: Armed) -> u32
+fn place_of(rows: &Slab<Armed>, rings: &Rings, armed: Armed) -> u32
     requires wired { IsWired rows.now rings.now.later.items rings.now.earlier.items }
     requires fits { armed.address.0 < 2 ^ 128 }
     requires absent { (key : ℕ) (row : Armed) → row_at rows.now.slots key ≡ Some row → row.address.0 ≢ armed.address.0 }
@@ -111,4 +112,38 @@ pub(crate) fn seek(rows: &Slab<Armed>, rings: &Rings, from: u64, last: u64) -> F
         None => last,
     };
     Found { cursor, least }
+}
+
+// Puts a row in whose address none has: its key.
+pub(crate) fn put_in(rows: &mut Slab<Armed>, rings: &mut Rings, armed: Armed) -> u32
+    requires wired { IsWired rows.old rings.old.later.items rings.old.earlier.items }
+    requires fits { armed.address.0 < 2 ^ 128 }
+    requires absent { (key : ℕ) (row : Armed) → row_at rows.old.slots key ≡ Some row → row.address.0 ≢ armed.address.0 }
+    requires room { HasRoomFor rows.old 1 }
+    ensures wired { IsWired rows.new rings.new.later.items rings.new.earlier.items }
+    ensures key { result ≡ rows.old.vacant_key }
+    ensures vacant { row_at rows.old.slots result ≡ None }
+    ensures updates { Updates rows.old rows.new result (Some armed) }
+    ensures len { slab_len rows.new ≡ slab_len rows.old + 1 }
+    ensures capacity { rows.new.capacity ≡ rows.old.capacity }
+{
+    let before = place_of(rows, rings, armed);
+    let key = rows.insert_reserved(armed) as u32;
+    rings.link(BUCKETS + key, before);
+    key
+}
+
+// Takes the row under a key out. The key is the next one.
+pub(crate) fn take_out(rows: &mut Slab<Armed>, rings: &mut Rings, key: u32)
+    requires wired { IsWired rows.old rings.old.later.items rings.old.earlier.items }
+    requires there { IsSome (row_at rows.old.slots key) }
+    ensures wired { IsWired rows.new rings.new.later.items rings.new.earlier.items }
+    ensures next { rows.new.vacant_key ≡ key }
+    ensures updates { Updates rows.old rows.new key None }
+    ensures len { slab_len rows.new + 1 ≡ slab_len rows.old }
+    ensures capacity { rows.new.capacity ≡ rows.old.capacity }
+    ensures room { HasRoomFor rows.new 1 }
+{
+    rings.unlink(BUCKETS + key);
+    rows.try_remove(key as usize);
 }

@@ -5,7 +5,7 @@ use Rattle.timer_wheel.specs.Rows.{row_at}
 use Rattle.timer_wheel.specs.Rings.{row_of, bucket_of, slice_of, rank_of, rank_at, is_sooner}
 use Rattle.timer_wheel.proofs.Nodes.{node_within, row_key}
 use Rattle.timer_wheel.proofs.Walks.{IsBelow, starts, goes_back, ranks_fall, later_rank, same_rank}
-use Rattle.timer_wheel.proofs.search.place_of.Goals as goal
+use Rattle.timer_wheel.proofs.buckets.place_of.Goals as goal
 
 pub loop-row-init : goal.loop-row-init
 loop-row-init c =

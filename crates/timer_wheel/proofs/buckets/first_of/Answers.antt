@@ -4,7 +4,7 @@ use Rattle.timer_wheel.specs.declared.armed.Armed.{Armed}
 use Rattle.timer_wheel.specs.Rings.{row_of, bucket_of}
 use Rattle.timer_wheel.specs.Searches.{LeastOf}
 use Rattle.timer_wheel.proofs.Nodes.{bucket_least}
-use Rattle.timer_wheel.proofs.search.first_of.Goals as goal
+use Rattle.timer_wheel.proofs.buckets.first_of.Goals as goal
 
 pub returns : goal.returns
 returns c =
