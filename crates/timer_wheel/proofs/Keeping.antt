@@ -1,7 +1,7 @@
 -- What is kept of a wheel once a row is put in or taken out.
-use Rattle.std.proofs.Common.{◌≡◌, ◌≢◌, ◌⊎◌, ℕ, zero, suc, ◌+◌, ◌-◌, ◌*◌, ◌/◌, ◌%◌, ◌^◌, ◌≤◌, ◌<◌, ◌==◌, nat_lt, min, Bool, true, false, cond, is_some, IsSome, count_by, List, [], ◌∷◌, ◌++◌, filter, length, get_or, Option, None, Some, refl, sym, ap, ◌∙◌, subst, arith, inl, inr, length-append}
+use Rattle.std.proofs.Common.{◌≡◌, ◌≢◌, ◌⊎◌, ℕ, suc, ◌+◌, ◌^◌, ◌≤◌, ◌<◌, ◌==◌, min, true, false, cond, is_some, IsSome, count_by, List, [], ◌∷◌, filter, length, get_or, Option, None, Some, refl, sym, ap, ◌∙◌, subst, arith, inl, inr, length-append}
 use Rattle.std.proofs.Math.ListN.{set}
-use Rattle.std.proofs.lemmas.Bool.{cases_eq, cases_lt, cases_Bool, false≢true, eq-eqb, eqb-true, lt-ltb, le-ltb, ltb-true, ltb-false}
+use Rattle.std.proofs.lemmas.Bool.{cases_eq, cases_lt, cases_Bool, false≢true, eq-eqb, eqb-true, lt-ltb, le-ltb}
 use Rattle.std.proofs.lemmas.List.{length-set}
 use Rattle.std.proofs.lemmas.List.Sums.{sum_by-cons}
 use Rattle.slab.specs.Slab.{Slab, slab_len, Updates}
@@ -9,12 +9,12 @@ use Rattle.addr_index.specs.Indexes.{Index, key_in}
 use Rattle.timer_wheel.specs.declared.armed.Armed.{Armed}
 use Rattle.timer_wheel.specs.Arms.{Wheel, is_below, is_above, due_in, with_due}
 use Rattle.timer_wheel.specs.Rows.{arms_in, row_at}
-use Rattle.timer_wheel.specs.Rings.{IsRinged, is_node, slice_of}
-use Rattle.timer_wheel.specs.Kept.{HasRow, IsWired, IsIndexed, HasRoom, IsEarly, IsKept}
+use Rattle.timer_wheel.specs.Rings.{is_node, slice_of}
+use Rattle.timer_wheel.specs.Kept.{HasRow, IsWired, IsIndexed, IsEarly, IsKept}
 use Rattle.timer_wheel.specs.Searches.{GoesBehind}
 use Rattle.timer_wheel.proofs.Rising.{is_of-other, with_due-again}
 use Rattle.timer_wheel.proofs.Pointwise.{none-some, some-same}
-use Rattle.timer_wheel.proofs.Slots.{IsOneEach, rest_each, Has, has_row, none_at, due_at, AddsRow, DropsRow, new_row, kept_row, left_row, each_dropped, arms_added, arms_dropped}
+use Rattle.timer_wheel.proofs.Slots.{IsOneEach, rest_each, none_at, due_at, AddsRow, DropsRow, new_row, kept_row, left_row, each_dropped, arms_added, arms_dropped}
 use Rattle.timer_wheel.proofs.Nodes.{node-row, row_of-key, node_within, ringed_added, ringed_dropped}
 
 -- the keys of an index once one was put in or taken out
@@ -36,17 +36,7 @@ pub one_each : (rows : Slab Armed) (index : Index) → IsIndexed rows index → 
 one_each rows index is j k x y at_j at_k same =
     some-same j k (sym (is.indexed j x at_j) ∙ ap (key_in index) same ∙ is.indexed k y at_k)
 
--- where nothing is due for an address the index has no key for it
-pub no_key : (rows : Slab Armed) (index : Index) (a : ℕ) → IsIndexed rows index → due_in (arms_in rows.slots) a ≡ None → key_in index a ≡ None
-no_key rows index a is none = go (key_in index a) refl
-  where
-    go : (o : Option ℕ) → key_in index a ≡ o → o ≡ None
-    go None found = refl
-    go (Some key) found =
-        let has : HasRow rows.slots key a = is.told a key found in
-        absurd (none-some (due_in (arms_in rows.slots) a) has.armed.due none (ap (due_in (arms_in rows.slots)) (sym has.address) ∙ due_at rows.slots key has.armed (one_each rows index is) has.there))
-
--- nor has a row it
+-- where nothing is due for an address no row has it
 pub no_row : (slots : List (Option Armed)) (a : ℕ) → IsOneEach slots → due_in (arms_in slots) a ≡ None → (key : ℕ) (x : Armed) → row_at slots key ≡ Some x → x.address.0 ≢ a
 no_row slots a each none key x there same = none-some (due_in (arms_in slots) a) x.due none (ap (due_in (arms_in slots)) (sym same) ∙ due_at slots key x each there)
 
@@ -303,10 +293,13 @@ pub length-arms : (slots : List (Option Armed)) → IsOneEach slots → length (
 length-arms [] each = refl
 length-arms (None ∷ slots) each = omega (arith, length-arms slots (rest_each None slots each), sum_by-cons {X = Option Armed} (λ o. cond (is_some o) 1 0) None slots)
 length-arms (Some x ∷ slots) each =
-    omega
-    (arith, length-arms slots (rest_each (Some x) slots each), sum_by-cons (λ o. cond (is_some o) 1 0) (Some x) slots,
-    length-armed x.address.0 x.due (arms_in slots)
-    (none_at slots x.address.0 (λ k y there same. let e : suc k ≡ 0 = each (suc k) 0 y x there refl same in omega (arith, e))))
+    omega (
+      arith,
+      length-arms slots (rest_each (Some x) slots each),
+      sum_by-cons (λ o. cond (is_some o) 1 0) (Some x) slots,
+      length-armed x.address.0 x.due (arms_in slots)
+          (none_at slots x.address.0 (λ k y there same. let e : suc k ≡ 0 = each (suc k) 0 y x there refl same in omega (arith, e))),
+    )
 
 -- arming makes no more than one pair more
 pub length-armed_le : (a d : ℕ) (xs : List Armed) → length (with_due a (Some d) xs) ≤ length xs + 1

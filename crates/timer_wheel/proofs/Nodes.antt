@@ -1,17 +1,17 @@
 -- Nodes of rings, and the rows that they stand for.
-use Rattle.std.proofs.Common.{◌≡◌, ◌≢◌, ◌⊎◌, ℕ, zero, suc, ◌+◌, ◌-◌, ◌*◌, ◌/◌, ◌%◌, ◌^◌, ◌≤◌, ◌<◌, nat_lt, Bool, true, false, ◌||◌, is_some, List, [], ◌∷◌, length, get_or, Option, None, Some, refl, sym, ap, ◌∙◌, subst, arith, inl, inr}
+use Rattle.std.proofs.Common.{◌≡◌, ◌≢◌, ◌⊎◌, ℕ, ◌+◌, ◌-◌, ◌≤◌, ◌<◌, nat_lt, Bool, true, false, ◌||◌, is_some, List, length, get_or, Option, None, Some, refl, sym, ap, ◌∙◌, subst, arith, inl, inr}
 use Rattle.std.proofs.Math.ListN.{set}
-use Rattle.std.proofs.lemmas.Bool.{cases_eq, cases_lt, cases_Bool, false≢true, ltb-true, ltb-false, lt-ltb, le-ltb}
-use Rattle.std.proofs.lemmas.List.{get_or-set_same, get_or-set_other, length-set, get_or_past}
+use Rattle.std.proofs.lemmas.Bool.{cases_lt, false≢true, lt-ltb, le-ltb}
+use Rattle.std.proofs.lemmas.List.{get_or-set_same, get_or-set_other, length-set}
 use Rattle.slab.specs.Slab.{Slab}
 use Rattle.timer_wheel.specs.declared.armed.Armed.{Armed}
 use Rattle.timer_wheel.specs.Rows.{row_at}
-use Rattle.timer_wheel.specs.Rings.{slice_of, bucket_of, row_of, is_node, bucket_in, bucket_at, rank_of, rank_in, rank_at, IsLinked, IsRinged}
+use Rattle.timer_wheel.specs.Rings.{bucket_of, row_of, is_node, bucket_in, bucket_at, rank_of, rank_in, rank_at, IsRinged}
 use Rattle.timer_wheel.specs.Kept.{IsWired}
-use Rattle.timer_wheel.specs.Searches.{GoesBehind, IsRow, IsLeastOf, LeastOf}
-use Rattle.timer_wheel.proofs.Pointwise.{none-some, some-same}
+use Rattle.timer_wheel.specs.Searches.{GoesBehind, LeastOf}
+use Rattle.timer_wheel.proofs.Pointwise.{none-some}
 use Rattle.timer_wheel.proofs.Slots.{AddsRow, DropsRow}
-use Rattle.timer_wheel.proofs.Links.{IsFirst, first_least, PutsIn, put_in, TakesOut, take_out}
+use Rattle.timer_wheel.proofs.Links.{IsFirst, first_least, put_in, take_out}
 
 -- the node of a key
 pub row_of-key : (slots : List (Option Armed)) (key : ℕ) → row_of slots (1024 + key) ≡ row_at slots key
@@ -191,8 +191,8 @@ bucket_least slots later earlier bucket ring low = go (row_of slots (get_or late
         let mine : row_of slots (1024 + key) ≡ Some armed = row_of-key slots key ∙ there in
         let rank : rank_at slots (1024 + key) ≡ rank_of armed = ap rank_in mine in
         let found : IsFirst (rank_at slots) (λ y. get_or later y 0) (bucket_at slots (1024 + key)) (1024 + key) =
-          first_least (is_node slots) (bucket_at slots) (rank_at slots) (λ y. get_or later y 0) (λ y. get_or earlier y 0) ring (end_bucket slots) (rank_of armed) (1024 + key) (node-row slots (1024 + key) armed mine) (omega (arith, rank))
-          (λ none. let e : rank_of armed ≡ 0 = sym rank ∙ none in absurd (omega (arith, e))) in
+        first_least (is_node slots) (bucket_at slots) (rank_at slots) (λ y. get_or later y 0) (λ y. get_or earlier y 0) ring (end_bucket slots) (rank_of armed) (1024 + key) (node-row slots (1024 + key) armed mine) (omega (arith, rank))
+        (λ none. let e : rank_of armed ≡ 0 = sym rank ∙ none in absurd (omega (arith, e))) in
         let here : bucket_at slots (1024 + key) ≡ bucket = ap (bucket_in (1024 + key)) mine ∙ such in
         let of_bucket : IsFirst (rank_at slots) (λ y. get_or later y 0) bucket (1024 + key) = subst (λ b. IsFirst (rank_at slots) (λ y. get_or later y 0) b (1024 + key)) here found in
         (of_bucket.some, omega (arith, of_bucket.least, rank))

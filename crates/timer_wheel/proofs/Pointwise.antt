@@ -1,11 +1,11 @@
 -- Pairs in order, told from what is due for each address.
-use Rattle.std.proofs.Common.{◌≡◌, ◌≢◌, ◌⊎◌, ℕ, zero, suc, ◌+◌, ◌≤◌, ◌<◌, ◌==◌, nat_lt, nat_le, Bool, true, false, cond, List, [], ◌∷◌, ◌++◌, length, filter, Option, None, Some, All, refl, sym, ap, ◌∙◌, subst, arith, inl, inr, length-append}
-use Rattle.std.specs.List.{AllPairs}
-use Rattle.std.proofs.lemmas.Bool.{cases_Bool, cases_eq, cases_lt, false≢true, ltb-true, ltb-false, lt-ltb, le-ltb, leb-true, leb-false, le-leb, lt-leb, eqb-true, eq-eqb}
+use Rattle.std.proofs.Common.{◌≡◌, ◌≢◌, ◌⊎◌, ℕ, ◌+◌, ◌≤◌, ◌<◌, nat_le, Bool, true, false, List, [], ◌∷◌, ◌++◌, filter, Option, None, Some, All, refl, sym, ap, ◌∙◌, arith, inl, inr}
+use Rattle.std.proofs.lemmas.Bool.{cases_Bool, cases_eq, cases_lt, lt-ltb, le-ltb, le-leb, lt-leb, eqb-true, eq-eqb}
 use Rattle.std.proofs.lemmas.List.Elements.{All-head, All-tail, All-cons, All-weaker}
 use Rattle.savi_kinds.specs.declared.address.Addr.{Addr}
 use Rattle.timer_wheel.specs.declared.armed.Armed.{Armed}
 use Rattle.timer_wheel.specs.Arms.{is_of, is_below, is_above, IsRising, due_in, with_due, pair_of, sooner, first_armed, due_by}
+use Rattle.timer_wheel.specs.Laws.{IsLeast}
 use Rattle.timer_wheel.proofs.Rising.{behind, rest_rising, is_of-other, due_in-none}
 
 -- the first of two that is there
@@ -177,10 +177,6 @@ first_late t xs late = go (first_armed xs) refl
     go None is = refl
     go (Some f) is = let above : t + 1 ≤ f.0 = first_above (t + 1) xs f (All-weaker (λ y. t < y.due) (λ y. t + 1 ≤ y.due) (λ y h. omega (arith, h)) xs late) is in rw (lt-leb f.0 t (omega (arith, above))) refl
 
--- no pair is due sooner, and none at this moment has a lower address
-abbrev pub IsLeast : ℕ → ℕ → ℕ → ℕ → Type 0
-IsLeast due a later b = (due < later) ⊎ ((due ≡ later) × (a ≤ b))
-
 -- the least pair is the first
 pub first_is : (a d : ℕ) (xs : List Armed) → IsRising xs → due_in xs a ≡ Some d → All (λ y. IsLeast d a y.due y.address.0) xs → first_armed xs ≡ Some (d, record { 0 = a })
 first_is a d [] rising found least = absurd (none-some (due_in [] a) d refl found)
@@ -189,7 +185,7 @@ first_is a d (x ∷ xs) rising found least =
   where
     no_sooner : All (λ y. d ≤ y.due) xs
     no_sooner =
-        All-weaker (λ y. IsLeast d a y.due y.address.0) (λ y. d ≤ y.due) (λ y h. elim h [ | inl sooner_one ↦ omega (arith, sooner_one) | inr same ↦ omega (arith, same.0) ]) xs
+        All-weaker (λ y. IsLeast d a y.due y.address.0) (λ y. d ≤ y.due) (λ y h. elim h [ inl sooner_one ↦ omega (arith, sooner_one) | inr same ↦ omega (arith, same.0) ]) xs
         (All-tail (λ y. IsLeast d a y.due y.address.0) x xs least)
 
     mine : x.due ≡ d → x.address.0 ≡ a → (o : Option (ℕ × Addr)) → first_armed xs ≡ o → sooner x o ≡ Some (d, record { 0 = a })

@@ -1,7 +1,7 @@
 -- Pairs in rising order of address.
-use Rattle.std.proofs.Common.{◌≡◌, ◌≢◌, ◌⊎◌, ℕ, get_or, add-one, subst, ◌≤◌, ◌<◌, ◌==◌, zero, suc, Bool, true, false, List, [], ◌∷◌, ◌++◌, length, filter, drop, Option, None, Some, IsSome, All, refl, sym, ap, arith, inl, inr, ◌∙◌, take, ◌+◌, length-append, length-drop}
-use Rattle.std.specs.List.{AllPairs, AllWithin}
-use Rattle.std.proofs.lemmas.Bool.{cases_Bool, cases_eq, ltb-true, ltb-false, lt-ltb, le-ltb, eqb-true, eq-eqb}
+use Rattle.std.proofs.Common.{◌≡◌, ◌≢◌, ℕ, ◌<◌, ◌==◌, suc, Bool, true, false, List, [], ◌∷◌, ◌++◌, filter, Option, None, Some, All, refl, ap, arith, inl, inr, ◌∙◌}
+use Rattle.std.specs.List.{AllPairs}
+use Rattle.std.proofs.lemmas.Bool.{cases_Bool, ltb-true, le-ltb, eqb-true}
 use Rattle.std.proofs.lemmas.List.Elements.{All-head, All-tail, All-append, All-weaker, All-cons, filter_passes, filter-append}
 use Rattle.std.proofs.lemmas.List.Kept.{AllPairs-cons, AllPairs-filter}
 use Rattle.std.proofs.lemmas.List.{append-nil}
@@ -96,7 +96,7 @@ high-low a xs = filter-none (is_above a) (filter (is_below a) xs) (All-weaker (�
 pub with_due-again : (a d : ℕ) (xs : List Armed) → with_due a (Some d) (with_due a None xs) ≡ with_due a (Some d) xs
 with_due-again a d xs =
     let low : filter (is_below a) (with_due a None xs) ≡ filter (is_below a) xs =
-      filter-append (is_below a) (filter (is_below a) xs) (filter (is_above a) xs) ∙ ap (λ ys. ys ++ filter (is_below a) (filter (is_above a) xs)) (filter-twice (is_below a) xs) ∙ ap (λ ys. filter (is_below a) xs ++ ys) (low-high a xs) ∙ append-nil (filter (is_below a) xs) in
+    filter-append (is_below a) (filter (is_below a) xs) (filter (is_above a) xs) ∙ ap (λ ys. ys ++ filter (is_below a) (filter (is_above a) xs)) (filter-twice (is_below a) xs) ∙ ap (λ ys. filter (is_below a) xs ++ ys) (low-high a xs) ∙ append-nil (filter (is_below a) xs) in
     let high : filter (is_above a) (with_due a None xs) ≡ filter (is_above a) xs =
-      filter-append (is_above a) (filter (is_below a) xs) (filter (is_above a) xs) ∙ ap (λ ys. ys ++ filter (is_above a) (filter (is_above a) xs)) (high-low a xs) ∙ filter-twice (is_above a) xs in
+    filter-append (is_above a) (filter (is_below a) xs) (filter (is_above a) xs) ∙ ap (λ ys. ys ++ filter (is_above a) (filter (is_above a) xs)) (high-low a xs) ∙ filter-twice (is_above a) xs in
     ap (λ ys. ys ++ (pair_of a (Some d) ++ filter (is_above a) (with_due a None xs))) low ∙ ap (λ ys. filter (is_below a) xs ++ (pair_of a (Some d) ++ ys)) high

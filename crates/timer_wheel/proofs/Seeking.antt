@@ -1,12 +1,11 @@
 -- The search for the least row by slices.
-use Rattle.std.proofs.Common.{◌≡◌, ◌≢◌, ◌⊎◌, ℕ, ◌+◌, ◌-◌, ◌*◌, ◌/◌, ◌%◌, ◌^◌, ◌≤◌, ◌<◌, ◌==◌, Bool, true, false, List, Option, None, Some, refl, sym, ap, ◌∙◌, subst, arith, inl, inr}
+use Rattle.std.proofs.Common.{◌≡◌, ◌≢◌, ◌⊎◌, ℕ, ◌+◌, ◌-◌, ◌%◌, ◌^◌, ◌≤◌, ◌<◌, true, false, List, Option, None, Some, sym, ap, ◌∙◌, arith, inl, inr}
 use Rattle.std.proofs.lemmas.Bool.{cases_eq, cases_lt, cases_Bool, false≢true, eq-eqb, eqb-true}
-use Rattle.slab.specs.Slab.{Slab}
 use Rattle.timer_wheel.specs.declared.armed.Armed.{Armed}
 use Rattle.timer_wheel.specs.Rows.{row_at}
 use Rattle.timer_wheel.specs.Rings.{slice_of, bucket_of, rank_of, is_sooner, sooner_of, is_in}
 use Rattle.timer_wheel.specs.Kept.{IsEarly}
-use Rattle.timer_wheel.specs.Searches.{IsRow, IsLeastOf, LeastOf}
+use Rattle.timer_wheel.specs.Searches.{LeastOf}
 use Rattle.timer_wheel.proofs.Walks.{sooner_rank, later_rank}
 
 -- each row's address is one
@@ -20,9 +19,9 @@ least_weaker slots P Q (Some x) weaker least = record { row = least.row; lowest 
 
 -- the sooner of two is the least of what either is the least of
 pub least_joined : (slots : List (Option Armed)) (P Q : Armed → Type 0) (a b : Option Armed) → Fit slots → LeastOf slots P a → LeastOf slots Q b → LeastOf slots (λ armed. P armed ⊎ Q armed) (sooner_of a b)
-least_joined slots P Q None None fit one other = λ key armed there such. elim such [ | inl p ↦ one key armed there p | inr q ↦ other key armed there q ]
-least_joined slots P Q None (Some y) fit one other = record { row = other.row; lowest = λ key armed there such. elim such [ | inl p ↦ absurd (one key armed there p) | inr q ↦ other.lowest key armed there q ] }
-least_joined slots P Q (Some x) None fit one other = record { row = one.row; lowest = λ key armed there such. elim such [ | inl p ↦ one.lowest key armed there p | inr q ↦ absurd (other key armed there q) ] }
+least_joined slots P Q None None fit one other = λ key armed there such. elim such [ inl p ↦ one key armed there p | inr q ↦ other key armed there q ]
+least_joined slots P Q None (Some y) fit one other = record { row = other.row; lowest = λ key armed there such. elim such [ inl p ↦ absurd (one key armed there p) | inr q ↦ other.lowest key armed there q ] }
+least_joined slots P Q (Some x) None fit one other = record { row = one.row; lowest = λ key armed there such. elim such [ inl p ↦ one.lowest key armed there p | inr q ↦ absurd (other key armed there q) ] }
 least_joined slots P Q (Some x) (Some y) fit one other = go (cases_Bool (is_sooner y x))
   where
     go : ((is_sooner y x ≡ true) ⊎ (is_sooner y x ≡ false)) → LeastOf slots (λ armed. P armed ⊎ Q armed) (sooner_of (Some x) (Some y))
@@ -30,13 +29,13 @@ least_joined slots P Q (Some x) (Some y) fit one other = go (cases_Bool (is_soon
         let less : rank_of y < rank_of x = sooner_rank y x (fit other.row.key y other.row.there) sooner in
         rw sooner (record {
           row = other.row;
-          lowest = λ key armed there such. elim such [ | inl p ↦ omega (arith, less, one.lowest key armed there p) | inr q ↦ other.lowest key armed there q ];
+          lowest = λ key armed there such. elim such [ inl p ↦ omega (arith, less, one.lowest key armed there p) | inr q ↦ other.lowest key armed there q ];
         })
     go (inr later) =
         let le : rank_of x ≤ rank_of y = later_rank y x (fit one.row.key x one.row.there) later in
         rw later (record {
           row = one.row;
-          lowest = λ key armed there such. elim such [ | inl p ↦ one.lowest key armed there p | inr q ↦ omega (arith, le, other.lowest key armed there q) ];
+          lowest = λ key armed there such. elim such [ inl p ↦ one.lowest key armed there p | inr q ↦ omega (arith, le, other.lowest key armed there q) ];
         })
 
 -- a row was looked at, in one of so many buckets from a slice on
@@ -48,19 +47,6 @@ pub record IsSought (slots : List (Option Armed)) (from step : ℕ) (least : Opt
   pub early : IsEarly slots (from + step)
   pub seen : LeastOf slots (WasSeen from step) least
   pub fits : from + step ≤ 2 ^ 58
-
--- at the start none was
-pub sought_none : (slots : List (Option Armed)) (from : ℕ) → IsEarly slots from → from ≤ 2 ^ 58 → IsSought slots from 0 None
-sought_none slots from early fits = record {
-  early = λ key armed there. omega (arith, early key armed there);
-  seen = λ key armed there seen. omega (arith, seen);
-  fits = omega (arith, fits);
-}
-
--- the rows that are asked for are all due later
-pub sought_late : (slots : List (Option Armed)) (from step last : ℕ) (least : Option Armed) → IsSought slots from step least → last < from + step → LeastOf slots (λ armed. slice_of armed ≤ last) least
-sought_late slots from step last least sought late =
-    least_weaker slots (WasSeen from step) (λ armed. slice_of armed ≤ last) least (λ key armed there such. let from_on : from + step ≤ slice_of armed = sought.early key armed there in absurd (omega (arith, from_on, such, late))) sought.seen
 
 by_slice : (x y : Armed) → x.address.0 < 2 ^ 128 → slice_of x < slice_of y → rank_of x ≤ rank_of y
 by_slice x y fits less =
@@ -103,8 +89,8 @@ sought_next slots from step last least first fit sought one not_here within fits
   seen =
       least_weaker slots (λ armed. (bucket_of armed ≡ (from + step) % 1024) ⊎ WasSeen from step armed) (WasSeen from (step + 1)) (sooner_of first least)
       (λ key armed there seen.
-         let from_on : from + step ≤ slice_of armed = sought.early key armed there in
-         elim (seen_next from step (slice_of armed) (omega (arith, from_on)) seen) [ | inl before ↦ inr before | inr now ↦ inl now ])
+      let from_on : from + step ≤ slice_of armed = sought.early key armed there in
+      elim (seen_next from step (slice_of armed) (omega (arith, from_on)) seen) [ inl before ↦ inr before | inr now ↦ inl now ])
       (least_joined slots (λ armed. bucket_of armed ≡ (from + step) % 1024) (WasSeen from step) first least fit one sought.seen);
   fits = omega (arith, within, fits);
 }
@@ -128,8 +114,3 @@ pub sought_early : (slots : List (Option Armed)) (from step : ℕ) (least : Arme
 sought_early slots from step least fit sought turn key armed there =
     let all : LeastOf slots (λ x. ℕ) (Some least) = sought_all slots from step (λ x. ℕ) (Some least) sought turn in
     slice_rank least armed (fit key armed there) (all.lowest key armed there 0)
-
-pub sought_empty : (slots : List (Option Armed)) (from step cursor : ℕ) → IsSought slots from step None → 1024 ≤ step → IsEarly slots cursor
-sought_empty slots from step cursor sought turn key armed there =
-    let all : LeastOf slots (λ x. ℕ) None = sought_all slots from step (λ x. ℕ) None sought turn in
-    absurd (all key armed there 0)

@@ -1,9 +1,8 @@
 -- The pairs in the slots of a slab.
-use Rattle.std.proofs.Common.{◌≡◌, ◌≢◌, ◌⊎◌, ℕ, zero, suc, ◌+◌, ◌≤◌, ◌<◌, ◌==◌, Bool, true, false, cond, is_some, count_by, List, [], ◌∷◌, ◌++◌, length, filter, Option, None, Some, All, refl, sym, ap, ◌∙◌, subst, arith, inl, inr, length-append}
-use Rattle.std.proofs.lemmas.Bool.{cases_eq, cases_lt, ltb-true, ltb-false, lt-ltb, le-ltb}
-use Rattle.std.proofs.lemmas.List.Sums.{sum_by-cons}
+use Rattle.std.proofs.Common.{◌≡◌, ◌≢◌, ◌⊎◌, ℕ, zero, suc, List, [], ◌∷◌, Option, None, Some, refl, sym, ap, ◌∙◌, subst, arith, inl, inr}
+use Rattle.std.proofs.lemmas.Bool.{cases_eq}
 use Rattle.timer_wheel.specs.declared.armed.Armed.{Armed}
-use Rattle.timer_wheel.specs.Arms.{is_of, is_below, is_above, IsRising, due_in, with_due}
+use Rattle.timer_wheel.specs.Arms.{IsRising, due_in, with_due}
 use Rattle.timer_wheel.specs.Rows.{arms_in, row_at}
 use Rattle.timer_wheel.proofs.Rising.{IsRising-with_due}
 use Rattle.timer_wheel.proofs.Pointwise.{none-some, some-same, due_in-with_same, due_in-with_other, one_list}
@@ -122,10 +121,10 @@ arms_added old new key armed adds each =
           | inr other ↦
               same_due old new a each each_new (λ k x is found. (kept_row old new key armed adds k x found).1)
               (λ k x is found.
-                 elim (new_row old new key armed adds k x found) [
-                   | inl mine ↦ absurd (other (sym is ∙ ap (λ z. z.address.0) mine.1))
-                   | inr old_one ↦ old_one.1
-                 ])
+              elim (new_row old new key armed adds k x found) [
+                | inl mine ↦ absurd (other (sym is ∙ ap (λ z. z.address.0) mine.1))
+                | inr old_one ↦ old_one.1
+              ])
               ∙ sym (due_in-with_other armed.address.0 a (Some armed.due) (arms_in old) other)
         ]
 
@@ -156,8 +155,8 @@ arms_dropped old new key armed drops each =
           | inl here ↦
               none_at new a
               (λ k x found is.
-                 let left : (k ≢ key) × (row_at old k ≡ Some x) = left_row old new key armed drops k x found in
-                 left.0 (each k key x armed left.1 drops.there (is ∙ here)))
+              let left : (k ≢ key) × (row_at old k ≡ Some x) = left_row old new key armed drops k x found in
+              left.0 (each k key x armed left.1 drops.there (is ∙ here)))
               ∙ sym (ap (due_in (with_due armed.address.0 None (arms_in old))) here ∙ due_in-with_same armed.address.0 None (arms_in old))
           | inr other ↦
               same_due old new a each each_new

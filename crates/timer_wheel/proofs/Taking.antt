@@ -1,12 +1,13 @@
 -- What is taken out: the first pair, if it is due.
-use Rattle.std.proofs.Common.{◌≡◌, ◌≢◌, ◌⊎◌, ℕ, ◌+◌, ◌*◌, ◌/◌, ◌^◌, ◌≤◌, ◌<◌, Bool, true, false, List, Option, None, Some, refl, sym, ap, ◌∙◌, subst, arith, inl, inr}
-use Rattle.std.proofs.lemmas.Bool.{cases_lt, cases_eq, le-leb}
+use Rattle.std.proofs.Common.{◌≡◌, ℕ, ◌/◌, ◌≤◌, ◌<◌, List, Option, None, Some, refl, ap, ◌∙◌, subst, arith, inl, inr}
+use Rattle.std.proofs.lemmas.Bool.{cases_lt, le-leb}
 use Rattle.timer_wheel.specs.declared.armed.Armed.{Armed}
 use Rattle.timer_wheel.specs.Arms.{due_in, first_armed, due_by}
 use Rattle.timer_wheel.specs.Rows.{arms_in, row_at}
 use Rattle.timer_wheel.specs.Rings.{slice_of, rank_of}
-use Rattle.timer_wheel.specs.Searches.{IsRow, IsLeastOf, LeastOf}
-use Rattle.timer_wheel.proofs.Pointwise.{IsLeast, all_pairs, first_is, first_late}
+use Rattle.timer_wheel.specs.Searches.{IsLeastOf, LeastOf}
+use Rattle.timer_wheel.specs.Laws.{IsLeast}
+use Rattle.timer_wheel.proofs.Pointwise.{all_pairs, first_is, first_late}
 use Rattle.timer_wheel.proofs.Slots.{IsOneEach, Has, has_row, due_at, arms_in-rising}
 use Rattle.timer_wheel.proofs.Seeking.{Fit}
 
@@ -25,23 +26,23 @@ pub nothing_due : (t : ℕ) (slots : List (Option Armed)) → LeastOf slots (λ 
 nothing_due t slots none =
     none_by t slots
     (λ key x there.
-       elim (cases_lt t x.due) [
-         | inl later ↦ later
-         | inr due ↦ absurd (none key x there (omega (arith, due)))
-       ])
+    elim (cases_lt t x.due) [
+      | inl later ↦ later
+      | inr due ↦ absurd (none key x there (omega (arith, due)))
+    ])
 
 -- the least of these rows is due later
 pub least_late : (t : ℕ) (slots : List (Option Armed)) (least : Armed) → Fit slots → IsLeastOf slots (λ armed. slice_of armed ≤ t / 64) least → t < least.due → due_by t (first_armed (arms_in slots)) ≡ None
 least_late t slots least fit is late =
     none_by t slots
     (λ key x there.
-       elim (cases_lt t x.due) [
-         | inl later ↦ later
-         | inr due ↦
-             let le : rank_of least ≤ rank_of x = is.lowest key x there (omega (arith, due)) in
-             let no_later : least.due ≤ x.due = omega (arith, le, fit key x there) in
-             absurd (omega (arith, no_later, late, due))
-       ])
+    elim (cases_lt t x.due) [
+      | inl later ↦ later
+      | inr due ↦
+          let le : rank_of least ≤ rank_of x = is.lowest key x there (omega (arith, due)) in
+          let no_later : least.due ≤ x.due = omega (arith, le, fit key x there) in
+          absurd (omega (arith, no_later, late, due))
+    ])
 
 -- the least of these rows is the first, and it is due
 pub least_due : (t : ℕ) (slots : List (Option Armed)) (least : Armed) → IsOneEach slots → Fit slots → IsLeastOf slots (λ armed. slice_of armed ≤ t / 64) least → least.due ≤ t → due_by t (first_armed (arms_in slots)) ≡ Some (least.due, least.address)

@@ -1,11 +1,9 @@
 -- The walk back through a ring to the place of a pair.
-use Rattle.std.proofs.Common.{◌≡◌, ◌≢◌, ◌⊎◌, ℕ, ◌+◌, ◌*◌, ◌^◌, ◌≤◌, ◌<◌, ◌==◌, nat_lt, Bool, true, false, ◌||◌, ◌&&◌, List, get_or, Option, None, Some, refl, sym, ap, ◌∙◌, arith, inl, inr}
+use Rattle.std.proofs.Common.{◌≡◌, ◌≢◌, ◌⊎◌, ℕ, ◌^◌, ◌≤◌, ◌<◌, ◌==◌, nat_lt, true, false, ◌&&◌, List, get_or, Option, Some, refl, sym, ap, ◌∙◌, arith, inl, inr}
 use Rattle.std.proofs.lemmas.Bool.{cases_eq, cases_lt, lt-ltb, le-ltb, eq-eqb, ltb-true, eqb-true, or_cases, and_parts, false≢true}
 use Rattle.timer_wheel.specs.declared.armed.Armed.{Armed}
-use Rattle.timer_wheel.specs.Rows.{row_at}
 use Rattle.timer_wheel.specs.Rings.{is_node, bucket_at, bucket_of, rank_at, rank_of, rank_in, row_of, is_sooner, IsRinged}
-use Rattle.timer_wheel.specs.Searches.{GoesBehind}
-use Rattle.timer_wheel.proofs.Nodes.{node-end, row_of-end, row_key, end_bucket}
+use Rattle.timer_wheel.proofs.Nodes.{node-end, row_of-end, end_bucket}
 
 -- a node of the pair's bucket, behind which all are higher
 pub record IsBelow (slots : List (Option Armed)) (later : List ℕ) (armed : Armed) (node : ℕ) : Type 0 where

@@ -1,5 +1,5 @@
 -- What is kept of a wheel beside its rows: the key of each address, the rings of the buckets, and a cursor.
-use Rattle.std.specs.Prelude.{ℕ, ◌≡◌, ◌+◌, ◌^◌, ◌≤◌, ◌<◌, Option, None, Some, List, length}
+use Rattle.std.specs.Prelude.{ℕ, ◌≡◌, ◌+◌, ◌^◌, ◌≤◌, ◌<◌, Option, Some, List, length}
 use Rattle.slab.specs.Slab.{Slab, slab_len}
 use Rattle.addr_index.specs.Indexes.{Index, key_in}
 use Rattle.timer_wheel.specs.declared.armed.Armed.{Armed}

@@ -3,3 +3,4 @@ pub mod Rows
 pub mod Rings
 pub mod Kept
 pub mod Searches
+pub mod Laws

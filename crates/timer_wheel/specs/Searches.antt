@@ -1,8 +1,8 @@
 -- What is found in the rings of a wheel.
-use Rattle.std.specs.Prelude.{ℕ, ◌≡◌, ◌≢◌, ◌+◌, ◌^◌, ◌≤◌, ◌<◌, true, Option, None, Some, List, slice_index}
+use Rattle.std.specs.Prelude.{ℕ, ◌≡◌, ◌≢◌, ◌≤◌, ◌<◌, true, Option, None, Some, List, slice_index}
 use Rattle.timer_wheel.specs.declared.armed.Armed.{Armed}
 use Rattle.timer_wheel.specs.Rows.{row_at}
-use Rattle.timer_wheel.specs.Rings.{is_node, bucket_at, bucket_of, rank_at, rank_of, slice_of}
+use Rattle.timer_wheel.specs.Rings.{is_node, bucket_at, bucket_of, rank_at, rank_of}
 
 -- a pair belongs right behind this node: it is of the pair's bucket and of lower rank, and what is behind it is higher or
 -- the end

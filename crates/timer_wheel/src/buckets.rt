@@ -12,7 +12,7 @@ use crate::armed::Armed;
 use crate::rings::Rings;
 use slab::Slab;
 
-/// How many buckets there are: a turn of them is 65,536 ms.
+/// How many buckets there are, one for each slice of 64 ms: a turn of them is 65,536 ms.
 pub(crate) const BUCKETS: u32 = 1024;
 
 // What a search by slices came to.
@@ -20,7 +20,7 @@ pub(crate) const BUCKETS: u32 = 1024;
 pub(crate) struct Found {
     // No row is due in an earlier slice.
     pub(crate) cursor: u64,
-    // The least row, where any is due in a slice that was asked for.
+    // The least of the rows that are due in the slices that were asked for. Where there is none it is a later row, or None.
     pub(crate) least: Option<Armed>,
 }
 
@@ -98,11 +98,17 @@ pub(crate) fn seek(rows: &Slab<Armed>, rings: &Rings, from: u64, last: u64) -> F
     for step in 0..u64::from(BUCKETS) {
         let slice = from + step;
         if slice > last {
-            return Found { cursor: slice, least };
+            return Found {
+                cursor: slice,
+                least,
+            };
         }
         let first = first_of(rows, rings, slice % u64::from(BUCKETS));
         if is_in(first, slice) {
-            return Found { cursor: slice, least: first };
+            return Found {
+                cursor: slice,
+                least: first,
+            };
         }
         least = sooner(first, least);
     }

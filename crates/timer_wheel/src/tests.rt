@@ -7,7 +7,17 @@ use std::test::Fail;
 #[test]
 fn pairs_are_taken_in_order(rt: HostRuntime) -> Result<(), Fail> {
     let mut wheel = TimerWheel::make(rt.alloc(), 9)?;
-    let arms = [(3, 200), (1, 200), (2, 65_736), (4, 131_272), (5, 10), (6, 199), (7, 1_000_000), (8, 150), (7, 300)];
+    let arms = [
+        (3, 200),
+        (1, 200),
+        (2, 65_736),
+        (4, 131_272),
+        (5, 10),
+        (6, 199),
+        (7, 1_000_000),
+        (8, 150),
+        (7, 300),
+    ];
     for (a, due) in arms {
         wheel.arm(Addr(a), due);
     }
@@ -23,11 +33,19 @@ fn pairs_are_taken_in_order(rt: HostRuntime) -> Result<(), Fail> {
         ("at its new moment", 300, Some((300, 7))),
         ("one turn later, too early", 65_735, None),
         ("one turn later", 65_736, Some((65_736, 2))),
-        ("two turns later, long after", 10_000_000, Some((131_272, 4))),
+        (
+            "two turns later, long after",
+            10_000_000,
+            Some((131_272, 4)),
+        ),
         ("nothing is left", u64::MAX, None),
     ];
     for (name, t, wanted) in takes {
-        assert_eq!(rt; wheel.next_due(t), wanted.map(|(due, a)| (due, Addr(a))), "{name}");
+        assert_eq!(rt;
+            wheel.next_due(t),
+            wanted.map(|(due, a)| (due, Addr(a))),
+            "{name}"
+        );
     }
     Ok(())
 }

@@ -4,8 +4,8 @@ ghost use Rattle.std.specs.Prelude.{◌≡◌, ◌<◌, ◌⊎◌, [], None, Som
 ghost use Rattle.timer_wheel.specs.Arms.{due_in, with_due, first_armed, due_by, without};
 
 use crate::armed::{Armed, SLICE_MS};
-use crate::rings::Rings;
 use crate::buckets::{BUCKETS, put_in, seek, take_out};
+use crate::rings::Rings;
 use addr_index::AddrIndex;
 use savi_kinds::{Addr, Moment};
 use slab::Slab;

@@ -1,8 +1,7 @@
-use Rattle.std.proofs.Common.{◌≡◌, ◌≢◌, ◌⊎◌, ◌+◌, ◌-◌, ◌*◌, ◌%◌, ◌^◌, ◌<◌, ◌≤◌, ℕ, true, false, ap, sym, ◌∙◌, subst, length, get_or, Option, Some, arith}
+use Rattle.std.proofs.Common.{◌≡◌, ◌≢◌, ◌+◌, ◌-◌, ◌%◌, ◌^◌, ◌<◌, ◌≤◌, ap, sym, ◌∙◌, subst, length, get_or, Some, arith}
 use Rattle.std.proofs.lemmas.List.{get_or_default}
-use Rattle.timer_wheel.specs.declared.armed.Armed.{Armed}
 use Rattle.timer_wheel.specs.Rows.{row_at}
-use Rattle.timer_wheel.specs.Rings.{row_of, bucket_of, slice_of, rank_of, rank_at, is_sooner}
+use Rattle.timer_wheel.specs.Rings.{row_of, bucket_of, rank_of, rank_at}
 use Rattle.timer_wheel.proofs.Nodes.{node_within, row_key}
 use Rattle.timer_wheel.proofs.Walks.{IsBelow, starts, goes_back, ranks_fall, later_rank, same_rank}
 use Rattle.timer_wheel.proofs.buckets.place_of.Goals as goal

@@ -1,5 +1,4 @@
-use Rattle.std.proofs.Common.{◌≡◌, ◌≢◌, ◌<◌, true, get_or}
-use Rattle.timer_wheel.specs.Rings.{is_node, bucket_at, bucket_of, rank_at, rank_of}
+use Rattle.timer_wheel.specs.Rings.{rank_at}
 use Rattle.timer_wheel.proofs.Walks.{IsBelow}
 use Rattle.timer_wheel.proofs.buckets.place_of.Given as goal
 

@@ -1,5 +1,4 @@
-use Rattle.std.proofs.Common.{◌≡◌, ◌+◌, ◌%◌, ◌≤◌, ◌<◌, ℕ, Option, Some, sym, subst, ap, ◌∙◌, arith}
-use Rattle.timer_wheel.specs.declared.armed.Armed.{Armed}
+use Rattle.std.proofs.Common.{◌≡◌, ◌+◌, ◌%◌, ◌≤◌, Some, sym, subst, arith}
 use Rattle.timer_wheel.specs.Rings.{bucket_of, slice_of}
 use Rattle.timer_wheel.specs.Kept.{IsEarly}
 use Rattle.timer_wheel.specs.Searches.{LeastOf}

@@ -1,4 +1,4 @@
-use Rattle.std.proofs.Common.{◌≡◌, ◌+◌, Option, Some, subst, ◌∙◌}
+use Rattle.std.proofs.Common.{◌≡◌, ◌+◌, Some, subst, ◌∙◌}
 use Rattle.std.specs.Option.{OnSome}
 use Rattle.slab.specs.Slab.{slab_len}
 use Rattle.timer_wheel.specs.declared.armed.Armed.{Armed}
@@ -15,11 +15,11 @@ pub returns-clause-wired : goal.returns-clause-wired
 returns-clause-wired c =
     let row : (x : Armed) × (row_at c.args.rows.now.slots c.args.key ≡ Some x) = row_there (row_at c.args.rows.now.slots c.args.key) c.requires.there in
     let dropped : IsDropped c.args.rows.now c.try_remove.new.self c.args.key row.0 =
-      record {
-        there = row.1;
-        updates = c.try_remove.ensures.updates;
-        len = subst (λ o. OnSome o (slab_len c.try_remove.new.self + 1 ≡ slab_len c.args.rows.now)) (c.try_remove.ensures.value ∙ row.1) c.try_remove.ensures.len;
-        capacity = c.try_remove.ensures.capacity;
-      } in
+    record {
+      there = row.1;
+      updates = c.try_remove.ensures.updates;
+      len = subst (λ o. OnSome o (slab_len c.try_remove.new.self + 1 ≡ slab_len c.args.rows.now)) (c.try_remove.ensures.value ∙ row.1) c.try_remove.ensures.len;
+      capacity = c.try_remove.ensures.capacity;
+    } in
     let wired = wired_dropped c.args.rows.now c.try_remove.new.self c.args.rings.now.later.items c.args.rings.now.earlier.items c.args.key row.0 dropped c.requires.wired in
     rw (c.unlink.ensures.later, c.unlink.ensures.earlier) wired

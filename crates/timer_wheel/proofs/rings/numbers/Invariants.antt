@@ -1,4 +1,4 @@
-use Rattle.std.proofs.Common.{◌≡◌, ◌<◌, ◌≤◌, ℕ, length, get_or, vec_capacity}
+use Rattle.std.proofs.Common.{◌≡◌, ◌<◌, ℕ, length, get_or}
 use Rattle.timer_wheel.proofs.rings.numbers.Given as goal
 
 abbrev pub invariant-loop-number : goal.invariant-loop-number

@@ -1,9 +1,7 @@
-use Rattle.std.proofs.Common.{◌≡◌, ◌≢◌, ℕ, min, length, IsSome, Option, Some, None, sym, subst, ap, ◌∙◌, refl, arith}
-use Rattle.slab.specs.Slab.{Slab, Updates}
-use Rattle.addr_index.specs.Indexes.{key_in}
-use Rattle.timer_wheel.specs.declared.armed.Armed.{Armed}
-use Rattle.timer_wheel.specs.Arms.{Wheel, due_in, with_due}
-use Rattle.timer_wheel.specs.Rows.{arms_in, row_at}
+use Rattle.std.proofs.Common.{◌≡◌, min, IsSome, Some, sym, subst, ap, ◌∙◌, refl, arith}
+use Rattle.slab.specs.Slab.{Updates}
+use Rattle.timer_wheel.specs.Arms.{Wheel, with_due}
+use Rattle.timer_wheel.specs.Rows.{row_at}
 use Rattle.timer_wheel.specs.Rings.{slice_of}
 use Rattle.timer_wheel.specs.Kept.{IsKept, HasRow}
 use Rattle.timer_wheel.proofs.Slots.{arms_added}
@@ -49,15 +47,20 @@ returns-in-Some c =
 
 pub put_in-key-requires-clause-room : goal.put_in-key-requires-clause-room
 put_in-key-requires-clause-room c =
-    omega
-    (arith, room_for c.self.inside.rows c.self.inside.index c.self.inside.rings.later.items c.self.inside.rings.earlier.items c.self.inside.cursor c.self.inside.most c.args.a.0 c.args.self.now c.self.invariant c.self.view_is (sym c.in-None.ensures) c.requires,
-    c.self.invariant.room.row_room)
+    omega (
+      arith,
+      room_for c.self.inside.rows c.self.inside.index c.self.inside.rings.later.items c.self.inside.rings.earlier.items c.self.inside.cursor c.self.inside.most c.args.a.0 c.args.self.now c.self.invariant c.self.view_is (sym c.in-None.ensures) c.requires,
+      c.self.invariant.room.row_room,
+    )
 
 pub insert-requires-clause-room : goal.insert-requires-clause-room
 insert-requires-clause-room c =
-    omega
-    (arith, room_for c.self.inside.rows c.self.inside.index c.self.inside.rings.later.items c.self.inside.rings.earlier.items c.self.inside.cursor c.self.inside.most c.args.a.0 c.args.self.now c.self.invariant c.self.view_is (sym c.in-None.ensures) c.requires,
-    c.self.invariant.room.index_room, c.self.invariant.indexed.count)
+    omega (
+      arith,
+      room_for c.self.inside.rows c.self.inside.index c.self.inside.rings.later.items c.self.inside.rings.earlier.items c.self.inside.cursor c.self.inside.most c.args.a.0 c.args.self.now c.self.invariant c.self.view_is (sym c.in-None.ensures) c.requires,
+      c.self.invariant.room.index_room,
+      c.self.invariant.indexed.count,
+    )
 
 -- the row of an address that had none
 added : (c : After-insert) → IsAdded c.self.inside.rows c.put_in-key.new.rows c.put_in-key.result (record { address = c.args.a; due = c.args.due })

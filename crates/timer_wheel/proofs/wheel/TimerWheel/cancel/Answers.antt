@@ -1,8 +1,6 @@
-use Rattle.std.proofs.Common.{◌≡◌, ◌+◌, cond, is_some, IsSome, length, Option, Some, None, sym, subst, ap, ◌∙◌, refl}
-use Rattle.addr_index.specs.Indexes.{key_in}
-use Rattle.timer_wheel.specs.declared.armed.Armed.{Armed}
+use Rattle.std.proofs.Common.{◌≡◌, ◌+◌, cond, is_some, IsSome, length, None, sym, subst, ap, ◌∙◌, refl}
 use Rattle.timer_wheel.specs.Arms.{Wheel, with_due}
-use Rattle.timer_wheel.specs.Rows.{arms_in, row_at}
+use Rattle.timer_wheel.specs.Rows.{arms_in}
 use Rattle.timer_wheel.specs.Kept.{HasRow}
 use Rattle.timer_wheel.proofs.Slots.{arms_dropped, arms_same}
 use Rattle.timer_wheel.proofs.Keeping.{IsChanged, IsDropped, drops_row, kept_dropped, one_each, none_due}

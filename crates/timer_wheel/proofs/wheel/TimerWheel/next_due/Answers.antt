@@ -1,5 +1,4 @@
-use Rattle.std.proofs.Common.{◌≡◌, ◌≤◌, ◌/◌, Option, Some, None, sym, subst, ap, ◌∙◌}
-use Rattle.timer_wheel.specs.declared.armed.Armed.{Armed}
+use Rattle.std.proofs.Common.{◌≤◌, ◌/◌, sym, subst, ap, ◌∙◌}
 use Rattle.timer_wheel.specs.Arms.{Wheel, first_armed, due_by}
 use Rattle.timer_wheel.specs.Rings.{slice_of}
 use Rattle.timer_wheel.specs.Searches.{LeastOf}
