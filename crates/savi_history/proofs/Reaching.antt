@@ -1,4 +1,5 @@
--- What was taken of each input so far, with whatever may come behind it, makes of the start what the rest makes of the history so far.
+-- What was taken of each input so far, with whatever may come behind it, makes of the start what the rest makes of the
+-- history so far.
 use Rattle.std.proofs.Common.{◌≡◌, ◌≢◌, ℕ, suc, zero, ◌<◌, true, false, List, [], ◌∷◌, ◌++◌, map, get_or, set, length, length-set, subst, refl, ap, sym, ◌∙◌, arith, ◌⊎◌, inl, inr, Option, Some, None, append_assoc}
 use Rattle.std.proofs.lemmas.Bool.{cases_eq}
 use Rattle.std.proofs.lemmas.List.{get_or-set_same, get_or-set_other, set-set, set-get_or, ext_get_or, length-map, get_or-map}

@@ -1,6 +1,6 @@
 -- The one history of a replay, the newest row first: the turns of all inputs in order, each arrival followed by a whole
--- drain of each queue that holds something; then the ticker ends, and each egress. Before anything is read the output of each
--- port is begun; where a write fails at a port its egress ends at once, and the others go on.
+-- drain of each queue that holds something; then the ticker ends, and each egress. Before anything is read the output of
+-- each port is begun; where a write fails at a port its egress ends at once, and the others go on.
 use Rattle.std.specs.Prelude.{ℕ, suc, ◌==◌, nat_lt, Bool, false, if◌then◌else◌, List, [], ◌∷◌, length, Option, Some, None}
 use Rattle.savi_kinds.specs.declared.port.Port.{Port}
 use Rattle.savi_kinds.specs.declared.plan.Plan.{Plan}
@@ -27,8 +27,8 @@ event_of port (arrivals.Long stamp len) = Long port stamp len
 abbrev pub with_event : Plan → Base → List Row → Event → List Row
 with_event plan base past event = row_of plan base past event ∷ past
 
--- How many pieces the sink of a port, by its number, took whole before a write failed there, where one failed. The first piece
--- of an output is its header, each further one the record of an item that was sent.
+-- How many pieces the sink of a port, by its number, took whole before a write failed there, where one failed. The first
+-- piece of an output is its header, each further one the record of an item that was sent.
 abbrev pub Stops : Type 0
 Stops = ℕ → Option ℕ
 

@@ -50,7 +50,8 @@ pub record IsFitting {S K C : Type 0} (left : S → Option (List ℕ)) (written 
   pub fits : Fits (Arrive classic_kinds) (left old.ends.source) (left new.ends.source) (arrived (number_of old.port) past) (input_end (number_of old.port) past)
   pub fits_out : FitsOutputAt empty (written old.ends.sink) (written new.ends.sink) (number_of old.port) past
 
--- The history is the replay of the inputs that the sources gave to sinks that stop so, and each sink took what it sends there.
+-- The history is the replay of the inputs that the sources gave to sinks that stop so, and each sink took what it sends
+-- there.
 pub record IsPlayedOut {S K C : Type 0} (left : S → Option (List ℕ)) (written : K → Option (List ℕ)) (plan : Plan) (past : List Row) (old new : List (PortEnds S K C)) : Type 0 where
   pub inputs : List Input
   pub stops : Stops

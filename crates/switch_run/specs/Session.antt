@@ -86,8 +86,8 @@ journal_lines true = []
 journal_lines false = write_failed_line journal_word
 
 -- A replay with this plan: one history, legal and finished, is the replay of what the sources of the plan's ports gave to
--- sinks that stop so, and fits both, port by port; an input ended by a failed read only where its own source has a fault, and
--- an output by a failed write only where its own sink has one; the journal took its text, which is that of no other legal
+-- sinks that stop so, and fits both, port by port; an input ended by a failed read only where its own source has a fault,
+-- and an output by a failed write only where its own sink has one; the journal took its text, which is that of no other legal
 -- history, and standard output its summary, or a front of it where a write failed; standard error was told its bad ends, in
 -- what `Says`; the status is that of the history; and no advertisement and no hidden fragment passed the port of a host or a
 -- server.
@@ -116,7 +116,8 @@ pub record IsReplayOf {S K C : Type 0} (left : S → Option (List ℕ)) (written
   pub cause : status ≡ status_of (journal_written && summary_written) past
   pub guarded : IsGuarded plan past
 
--- A session of this plan: its ends are kept, each in its own place, no other port or output was touched, and it was a replay.
+-- A session of this plan: its ends are kept, each in its own place, no other port or output was touched, and it was a
+-- replay.
 pub record IsSessionOf {S K C : Type 0} (left : S → Option (List ℕ)) (written : K → Option (List ℕ)) (source_faults : S → ℕ) (sink_faults : K → ℕ) (plan : Plan) (Says : List ℕ → Type 0) (old new : Book S K C) (status : ℕ) : Type 0 where
   pub kept : KeepsAll left written plan old new
   pub elsewhere : IsOffPlanSame plan old new
