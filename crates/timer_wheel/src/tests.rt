@@ -41,6 +41,7 @@ fn pairs_are_taken_in_order(rt: HostRuntime) -> Result<(), Fail> {
         ("nothing is left", u64::MAX, None),
     ];
     for (name, t, wanted) in takes {
+        assert_eq!(rt; wheel.is_due(t), wanted.is_some(), "{name}");
         assert_eq!(rt;
             wheel.next_due(t),
             wanted.map(|(due, a)| (due, Addr(a))),

@@ -1,6 +1,6 @@
 //! The pairs that are armed.
 
-ghost use Rattle.std.specs.Prelude.{◌≡◌, ◌<◌, ◌⊎◌, [], None, Some, IfOk, IsSome, length};
+ghost use Rattle.std.specs.Prelude.{◌≡◌, ◌<◌, ◌⊎◌, [], None, Some, IfOk, IsSome, is_some, length};
 ghost use Rattle.timer_wheel.specs.Arms.{due_in, with_due, first_armed, due_by, without};
 
 use crate::armed::{Armed, SLICE_MS};
@@ -98,10 +98,29 @@ impl TimerWheel {
     /// Takes out what is due first, the least by moment and then by address, if its moment isn't after `t` (ms): None
     /// exactly where nothing is due at or before `t`, and then nothing has changed. It looks at each of the 1,024 buckets at
     /// most once, at the first row alone. Where nothing is due it is O(1) beside the buckets that it passes, which are those
-    /// of the time that has passed since the last call.
+    /// of the time that has passed since the last call of this or of `is_due`.
     pub fn next_due(&mut self, t: Moment) -> Option<(Moment, Addr)>
         ensures value { result ≡ due_by t (first_armed self.old.arms) }
         ensures arms { self.new ≡ record self.old { arms = without result self.old.arms } }
+    {
+        let (due, address) = self.first_due(t)?;
+        self.cancel(address);
+        Some((due, address))
+    }
+
+    /// Whether anything is due at or before `t` (ms). Its cost is that of the search of `next_due`, which need not pass the
+    /// same buckets again: the cursor is moved on, and nothing else is changed.
+    pub fn is_due(&mut self, t: Moment) -> bool
+        ensures value { result ≡ is_some (due_by t (first_armed self.old.arms)) }
+        ensures same { self.new ≡ self.old }
+    {
+        self.first_due(t).is_some()
+    }
+
+    // What is due first, if its moment isn't after t.
+    fn first_due(&mut self, t: Moment) -> Option<(Moment, Addr)>
+        ensures value { result ≡ due_by t (first_armed self.old.arms) }
+        ensures same { self.new ≡ self.old }
     {
         let found = seek(&self.rows, &self.rings, self.cursor, t / SLICE_MS);
         self.cursor = found.cursor;
@@ -109,7 +128,6 @@ impl TimerWheel {
         if armed.due > t {
             return None;
         }
-        self.cancel(armed.address);
         Some((armed.due, armed.address))
     }
 }

@@ -4,7 +4,7 @@ use Rattle.timer_wheel.specs.Rings.{slice_of}
 use Rattle.timer_wheel.specs.Searches.{LeastOf}
 use Rattle.timer_wheel.proofs.Taking.{nothing_due, least_late, least_due}
 use Rattle.timer_wheel.proofs.Keeping.{one_each}
-use Rattle.timer_wheel.proofs.wheel.TimerWheel.next_due.Goals as goal
+use Rattle.timer_wheel.proofs.wheel.TimerWheel.first_due.Goals as goal
 
 pub returns-in_err-armed-clause-value : goal.returns-in_err-armed-clause-value
 returns-in_err-armed-clause-value c =
