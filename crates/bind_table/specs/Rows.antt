@@ -44,6 +44,11 @@ IsRising (row ∷ rows) = AllByRecursion (λ later. address_of row < address_of 
 abbrev pub AllStand : List Row → Type 0
 AllStand rows = AllByRecursion (λ row. has_state row.state ≡ true) rows
 
+-- the rows of a table
+pub record IsTable (rows : List Row) : Type 0 where
+  pub rising : IsRising rows
+  pub stand : AllStand rows
+
 -- whether the port of this number holds the address of a row
 abbrev pub is_at : ℕ → Row → Bool
 is_at port row = is_held_at port row.state

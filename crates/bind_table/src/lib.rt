@@ -4,7 +4,8 @@
 //! Contracts see a `BindTable` as its rows in rising order of address, none without a state (`specs/Rows.antt`). Nothing
 //! takes memory but `BindTable::make`.
 //!
-//! RFC 6620 section 3.2.1 (the binding data base), RFC 7513 section 5, RFC 8074 section 3.1.
+//! RFC 6620 section 3.2.1 (the data base of bindings), RFC 7513 section 5 (the binding state table), RFC 8074 (one table for
+//! both methods).
 #![tactic(auto)]
 
 mod counts;

@@ -1,10 +1,10 @@
 //! The table.
 
-ghost use Rattle.std.specs.Prelude.{◌≡◌, ◌⊎◌, ◌<◌, [], true, length, IfOk, slice_get};
+ghost use Rattle.std.specs.Prelude.{◌≡◌, ◌⊎◌, ◌<◌, ◌≤◌, [], true, length, IfOk, slice_get};
 ghost use Rattle.std.specs.Option.{option_map};
 ghost use Rattle.savi_kinds.specs.Ports.{number_of};
 ghost use Rattle.mix_rules.specs.States.{nobody, has_state};
-ghost use Rattle.bind_table.specs.Rows.{state_in, with_state, count_at, pair_of};
+ghost use Rattle.bind_table.specs.Rows.{state_in, with_state, count_at, pair_of, IsTable};
 
 use crate::counts::{count, recount};
 use crate::row::Row;
@@ -50,8 +50,8 @@ impl Model for BindTable {
 }
 
 impl BindTable {
-    /// No address has a state, and at most `rows` addresses will have one. It takes all its memory here: for more than 2^20
-    /// rows there is none.
+    /// No address has a state, and at most `rows` addresses will have one. It takes all its memory here; for more than
+    /// `ROWS_MOST` rows there is none.
     pub fn make(alloc: Global, rows: u32) -> Result<BindTable, AllocError>
         ensures { IfOk result (λ table. table ≡ record { rows = []; most = rows }) }
     {
@@ -83,6 +83,7 @@ impl BindTable {
 
     /// Gives an address a state, which isn't `AddrState::none()`; there has to be room for its row, where it has none yet.
     /// O(1) on average where it has one; else O(n), since the keys of the rows of higher addresses move: 4 octets each.
+    /// Where other ports hold the address than before, the 16 ports are gone over.
     pub fn put(&mut self, a: Addr, s: AddrState)
         requires state { has_state s ≡ true }
         requires room { (has_state (state_in self.old.rows a.0) ≡ true) ⊎ (length self.old.rows < self.old.most) }
@@ -108,7 +109,7 @@ impl BindTable {
     }
 
     /// Takes the state of an address away, if it has one. O(n), since the keys of the rows of higher addresses move: 4
-    /// octets each. O(1) on average where it has none.
+    /// octets each; the 16 ports are gone over. O(1) on average where it has none.
     pub fn remove(&mut self, a: Addr)
         ensures { self.new ≡ record self.old { rows = with_state a.0 nobody self.old.rows } }
     {
@@ -134,7 +135,8 @@ impl BindTable {
 
     /// How many addresses have a state. O(1).
     pub fn size(&self) -> u32
-        ensures { result ≡ length self.now.rows }
+        ensures size { result ≡ length self.now.rows }
+        ensures most { result ≤ self.now.most }
     {
         self.order.len() as u32
     }
@@ -142,7 +144,8 @@ impl BindTable {
     /// The `i`-th of the addresses that have a state, in rising order, from 0, with its state: None exactly past the last
     /// one. O(1).
     pub fn row(&self, i: u32) -> Option<(Addr, AddrState)>
-        ensures { result ≡ option_map pair_of (slice_get self.now.rows i) }
+        ensures row { result ≡ option_map pair_of (slice_get self.now.rows i) }
+        ensures table { IsTable self.now.rows }
     {
         let key = *self.order.get(i as usize)?;
         let row = row_under(&self.rows, key);
