@@ -17,7 +17,8 @@ use Rattle.dhcp_states.specs.declared.bound.Bound.{Bound}
 use Rattle.dhcp_states.specs.Bindings.{has_ended}
 use Rattle.mix_rules.specs.declared.state.AddrState.{AddrState}
 use Rattle.mix_rules.specs.States.{IsAlone, IsOf, IsBeside, IsOfMethod, IsSoundFor}
-use Rattle.mix_rules.specs.Ageing.{AgedAddr, aged_state, bound_at, end_of, IsStill, IsLow, AllMomentsFit, untouched, joined}
+use Rattle.mix_rules.specs.Ageing.{AgedAddr, aged_state, bound_at, end_of, IsStill, untouched, joined}
+use Rattle.mix_rules.specs.Premises.{IsLow, AllMomentsFit}
 
 -- without a state of first come nothing is due
 aged-none : (k : Times) (t : ℕ) → AreTimes k → (aged k t NoBind).state ≡ NoBind

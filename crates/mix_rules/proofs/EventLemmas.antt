@@ -20,7 +20,8 @@ use Rattle.fcfs_states.proofs.AgeingLemmas.{rested_none}
 use Rattle.dhcp_states.specs.declared.bound.Bound.{Bound}
 use Rattle.mix_rules.specs.declared.state.AddrState.{AddrState}
 use Rattle.mix_rules.specs.States.{IsSoundFor, IsLiveAt}
-use Rattle.mix_rules.specs.Ageing.{bound_at, end_of, IsLow, IsStill, AllMomentsFit, IsLeaseInRange}
+use Rattle.mix_rules.specs.Ageing.{bound_at, end_of, IsStill}
+use Rattle.mix_rules.specs.Premises.{IsLow, AllMomentsFit, IsLeaseInRange}
 use Rattle.mix_rules.specs.FirstCome.{IsOwnedAt}
 use Rattle.mix_rules.specs.Next.{next_state, fcfs_by, is_dhcp, is_taken_beside}
 use Rattle.mix_rules.specs.Ends.{IsByOperator, EndsByEvent, IsPassing}

@@ -3,5 +3,6 @@ pub mod Table
 pub mod Next
 pub mod TableLaws
 pub mod Ageing
+pub mod Premises
 pub mod Ends
 pub mod FirstCome

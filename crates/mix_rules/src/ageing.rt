@@ -12,7 +12,8 @@ use fcfs_states::{Aged, Times};
 
 impl AddrState {
     ghost use Rattle.mix_rules.specs.States.{IsSoundFor};
-    ghost use Rattle.mix_rules.specs.Ageing.{aged_state, due_in, sooner, end_of, bound_at, IsStill, IsTouched, AllMomentsFit};
+    ghost use Rattle.mix_rules.specs.Ageing.{aged_state, due_in, sooner, end_of, bound_at, IsStill, IsTouched};
+    ghost use Rattle.mix_rules.specs.Premises.{AllMomentsFit};
 
     /// Ages the state to moment `t` (ms): what fell due by then takes place, each thing at its own moment, and each method
     /// apart from the other. O(1).

@@ -15,7 +15,8 @@ ghost use Rattle.mix_rules.specs.declared.state.AddrState.{AddrState};
 ghost use Rattle.mix_rules.specs.States.{nobody, has_state, IsSoundFor, IsLiveAt};
 ghost use Rattle.mix_rules.specs.Next.{next_state};
 ghost use Rattle.mix_rules.specs.TableLaws.{IsOnlyRow};
-ghost use Rattle.mix_rules.specs.Ageing.{aged_state, due_in, joined, IsStill, IsTouched, AllMomentsFit, IsLeaseInRange};
+ghost use Rattle.mix_rules.specs.Ageing.{aged_state, due_in, joined, IsStill, IsTouched};
+ghost use Rattle.mix_rules.specs.Premises.{AllMomentsFit, IsLeaseInRange};
 ghost use Rattle.mix_rules.specs.Ends.{IsByOperator, EndsByEvent, EndsByTime, EndsByTest, IsPassing};
 ghost use Rattle.mix_rules.specs.FirstCome.{state_of, state_at, answer_at, IsRun, IsKept};
 

@@ -16,7 +16,8 @@ impl AddrState {
     ghost use Rattle.mix_rules.specs.States.{IsSoundFor};
     ghost use Rattle.mix_rules.specs.Table.{Row};
     ghost use Rattle.mix_rules.specs.Next.{next_state, by_parts, is_granted, ended_at, leased};
-    ghost use Rattle.mix_rules.specs.Ageing.{IsStill, AllMomentsFit, IsLow, end_of};
+    ghost use Rattle.mix_rules.specs.Ageing.{IsStill, end_of};
+    ghost use Rattle.mix_rules.specs.Premises.{AllMomentsFit, IsLow};
 
     /// One row of the table: what an event at moment `t` (ms) comes to, for an address of a prefix of method `m`. The
     /// state has been aged to `t`. `room` says whether the event's port may hold one more address. O(1).

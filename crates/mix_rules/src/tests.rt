@@ -2,7 +2,7 @@
 
 ghost use Rattle.fcfs_states.specs.Premises.{AreTimes};
 ghost use Rattle.mix_rules.specs.States.{IsSoundFor};
-ghost use Rattle.mix_rules.specs.Ageing.{AllMomentsFit};
+ghost use Rattle.mix_rules.specs.Premises.{AllMomentsFit};
 
 use crate::AddrState;
 use fcfs_states::{Answer, Ev, Fcfs, Probe, Times};
@@ -136,372 +136,193 @@ fn happens(
     state.step(m, event_of(rt, act), at, room, &times)
 }
 
-/// A row: the method of the prefix, the events that lead to the state before it (each with its moment), the event, whether
-/// its port has room, the verdict, the state after it.
-type Row = (Method, &'static [(u64, Act)], (u64, Act), bool, Says, State);
+/// The moment of each event of the rows.
+const NOW: u64 = 2400;
 
-/// The address is fixed at port 1.
-const FIXED: &[(u64, Act)] = &[(1000, Lease(2, 600)), (1500, Fix(1))];
+/// A row for a state: the event, whether its port has room, the verdict, the state after it.
+type Row = (Act, bool, Says, State);
 
-/// DHCP bound the address to port 1.
-const BOUND: &[(u64, Act)] = &[(1000, Lease(1, 600))];
+const ROOM: bool = true;
 
-/// The host at port 1 claimed it, and DHCP bound it there.
-const BOUND_AND_CLAIMED: &[(u64, Act)] = &[(1800, Dad(1)), (1900, Lease(1, 600))];
+const FULL: bool = false;
 
-/// It is bound to port 1 by both methods.
-const BOUND_BY_BOTH: &[(u64, Act)] = &[(1000, Dad(1)), (2000, Lease(1, 600))];
+const NOBODY: State = (None, NoBind, None);
 
-/// The host at port 1 has it by first come alone.
-const CLAIMED: &[(u64, Act)] = &[(1000, Dad(1))];
+const FIXED: State = (Some(1), NoBind, None);
 
-/// The same, and it is tested since port 2 claims it.
-const CONTESTED: &[(u64, Act)] = &[(1000, Dad(1)), (1900, Dad(2))];
+/// Bound to port 1 by a lease of 600 s at 1000, and by one at `NOW`.
+const BOUND: State = (None, NoBind, Some((1, Some(721_000))));
 
-const FIXED_STATE: State = (Some(1), NoBind, None);
+const LEASED: State = (None, NoBind, Some((1, Some(722_400))));
 
-const BOUND_STATE: State = (None, NoBind, Some((1, Some(721_000))));
+const MOVED: State = (None, NoBind, Some((2, Some(722_400))));
 
-const CLAIMED_STATE: State = (None, Valid(1, 301_500), None);
+const ENDLESS: State = (None, NoBind, Some((1, None)));
 
-/// What a lease of 600 s at 2100 binds to port 1.
-const LEASED: Binding = Some((1, Some(722_100)));
+/// Claimed at port 1 at 1000, and so bound there by first come; and the same with a lease of 600 s at `NOW`.
+const CLAIMED: State = (None, Valid(1, 301_500), None);
 
-static ROWS: [Row; 49] = [
-    // fixed
-    (Mixed, FIXED, (2100, Sent(1)), true, All, FIXED_STATE),
-    (Mixed, FIXED, (2100, Na(1)), true, All, FIXED_STATE),
-    (Mixed, FIXED, (2100, Dad(1)), true, Trusted, FIXED_STATE),
+const CLAIMED_AND_LEASED: State = (None, Valid(1, 301_500), Some((1, Some(722_400))));
+
+/// The same with a lease of 600 s at 2000, and once the host was heard at `NOW`.
+const BOTH: State = (None, Valid(1, 301_500), Some((1, Some(722_000))));
+
+const BOTH_HEARD: State = (None, Valid(1, 302_400), Some((1, Some(722_000))));
+
+/// Claimed at port 1 at 2100, with a lease of 600 s at 2200; and without the claim.
+const CLAIMING: State = (None, Tentative(1, 2100), Some((1, Some(722_200))));
+
+const UNCLAIMED: State = (None, NoBind, Some((1, Some(722_200))));
+
+/// Claimed at port 1 at 1000 and at port 2 at 2200.
+const CONTESTED: State = (None, TestVp(1, 2, 2200), None);
+
+/// Nothing but configuration decides.
+const IN_FIXED: &[Row] = &[
+    (Sent(1), ROOM, All, FIXED),
+    (Na(1), ROOM, All, FIXED),
+    (Dad(1), ROOM, Trusted, FIXED),
+    (Sent(2), ROOM, Drop(WrongPort), FIXED),
+    (Dad(2), ROOM, TrustedAnd(1), FIXED),
+    (Na(2), ROOM, Drop(NaTarget), FIXED),
+    (TpDad, FULL, TrustedAnd(1), FIXED),
+    (TpNa, FULL, All, FIXED),
+    (Lease(1, 600), ROOM, Silent, FIXED),
+    (Lease(2, 600), ROOM, Silent, FIXED),
+    (Release(1), ROOM, Silent, FIXED),
+    (Fix(2), FULL, Silent, (Some(2), NoBind, None)),
+    (Clear, FULL, Silent, NOBODY),
+];
+
+const IN_BOUND: &[Row] = &[
+    (Sent(1), ROOM, All, BOUND),
+    (Na(1), ROOM, All, BOUND),
+    (Dad(1), ROOM, Trusted, BOUND),
+    (Sent(2), ROOM, Drop(WrongPort), BOUND),
+    (Dad(2), ROOM, TrustedAnd(1), BOUND),
+    (Na(2), ROOM, Drop(NaTarget), BOUND),
+    (TpDad, FULL, TrustedAnd(1), BOUND),
+    (TpNa, FULL, All, BOUND),
+    (Lease(1, 0), ROOM, Silent, NOBODY),
+    (Lease(2, 0), ROOM, Silent, BOUND),
+    (Lease(1, 600), FULL, Silent, LEASED),
+    (Lease(1, 0xffff_ffff), FULL, Silent, ENDLESS),
+    (Lease(2, 600), ROOM, Silent, MOVED),
+    (Lease(2, 600), FULL, Silent, BOUND),
+    (Release(1), ROOM, Silent, NOBODY),
+    (Release(2), ROOM, Silent, BOUND),
+    (Fix(1), FULL, Silent, FIXED),
+];
+
+/// First come takes what its own port says, and objections.
+const IN_CLAIMING: &[Row] = &[
+    (Sent(1), ROOM, All, CLAIMING),
+    (TpDad, FULL, TrustedAnd(1), CLAIMING),
+    (TpNa, FULL, All, UNCLAIMED),
+];
+
+/// The end of one method's binding leaves the other's.
+const IN_BOTH: &[Row] = &[
+    (Sent(1), ROOM, All, BOTH_HEARD),
+    (Sent(2), ROOM, Drop(WrongPort), BOTH),
+    (TpDad, FULL, TrustedAnd(1), BOTH),
+    (Lease(1, 0), ROOM, Silent, CLAIMED),
+    (Lease(2, 600), ROOM, Silent, BOTH),
+    (Release(1), ROOM, Silent, CLAIMED),
+    (Clear, FULL, Silent, NOBODY),
+];
+
+const IN_UNASSIGNED: &[Row] = &[
+    (Sent(1), ROOM, Drop(NotAssigned), NOBODY),
+    (Dad(1), ROOM, Drop(NotAssigned), NOBODY),
+    (Na(1), ROOM, Drop(NaTarget), NOBODY),
+    (TpDad, FULL, Trusted, NOBODY),
+    (TpNa, FULL, All, NOBODY),
+    (Lease(1, 600), ROOM, Silent, LEASED),
+    (Lease(1, 600), FULL, Silent, NOBODY),
+    (Lease(1, 0), ROOM, Silent, NOBODY),
+    (Release(1), ROOM, Silent, NOBODY),
+];
+
+/// Without an owner first come has its own table.
+const IN_NOBODY: &[Row] = &[
     (
-        Mixed,
-        FIXED,
-        (2100, Sent(2)),
-        true,
-        Drop(WrongPort),
-        FIXED_STATE,
-    ),
-    (
-        Mixed,
-        FIXED,
-        (2100, Dad(2)),
-        true,
-        TrustedAnd(1),
-        FIXED_STATE,
-    ),
-    (
-        Mixed,
-        FIXED,
-        (2100, Na(2)),
-        true,
-        Drop(NaTarget),
-        FIXED_STATE,
-    ),
-    (
-        Mixed,
-        FIXED,
-        (2100, TpDad),
-        false,
-        TrustedAnd(1),
-        FIXED_STATE,
-    ),
-    (Mixed, FIXED, (2100, TpNa), false, All, FIXED_STATE),
-    (
-        Mixed,
-        FIXED,
-        (2100, Lease(1, 600)),
-        true,
-        Silent,
-        FIXED_STATE,
-    ),
-    (Mixed, FIXED, (2100, Release(1)), true, Silent, FIXED_STATE),
-    // bound, without a state of first come
-    (Mixed, BOUND, (2100, Sent(1)), true, All, BOUND_STATE),
-    (Mixed, BOUND, (2100, Na(1)), true, All, BOUND_STATE),
-    (Mixed, BOUND, (2100, Dad(1)), true, Trusted, BOUND_STATE),
-    (
-        Mixed,
-        BOUND,
-        (2100, Sent(2)),
-        true,
-        Drop(WrongPort),
-        BOUND_STATE,
-    ),
-    (
-        Mixed,
-        BOUND,
-        (2100, Dad(2)),
-        true,
-        TrustedAnd(1),
-        BOUND_STATE,
-    ),
-    (
-        Mixed,
-        BOUND,
-        (2100, Na(2)),
-        true,
-        Drop(NaTarget),
-        BOUND_STATE,
-    ),
-    (
-        Dhcp,
-        BOUND,
-        (2100, TpDad),
-        false,
-        TrustedAnd(1),
-        BOUND_STATE,
-    ),
-    (Dhcp, BOUND, (2100, TpNa), false, All, BOUND_STATE),
-    // bound beside a state of first come, which takes what its own port says, and objections
-    (
-        Mixed,
-        BOUND_AND_CLAIMED,
-        (2100, Sent(1)),
-        true,
-        All,
-        (None, Tentative(1, 1800), Some((1, Some(721_900)))),
-    ),
-    (
-        Mixed,
-        BOUND_AND_CLAIMED,
-        (2100, TpNa),
-        false,
-        All,
-        (None, NoBind, Some((1, Some(721_900)))),
-    ),
-    (
-        Mixed,
-        BOUND_AND_CLAIMED,
-        (2100, TpDad),
-        false,
-        TrustedAnd(1),
-        (None, Tentative(1, 1800), Some((1, Some(721_900)))),
-    ),
-    (
-        Mixed,
-        BOUND_BY_BOTH,
-        (2100, Sent(1)),
-        true,
-        All,
-        (None, Valid(1, 302_100), Some((1, Some(722_000)))),
-    ),
-    (
-        Mixed,
-        BOUND_BY_BOTH,
-        (2100, Sent(2)),
-        true,
-        Drop(WrongPort),
-        (None, Valid(1, 301_500), Some((1, Some(722_000)))),
-    ),
-    // without an owner
-    (
-        Dhcp,
-        &[],
-        (2100, Sent(1)),
-        true,
-        Drop(NotAssigned),
-        (None, NoBind, None),
-    ),
-    (
-        Dhcp,
-        &[],
-        (2100, Dad(1)),
-        true,
-        Drop(NotAssigned),
-        (None, NoBind, None),
-    ),
-    (
-        Dhcp,
-        &[],
-        (2100, Na(1)),
-        true,
-        Drop(NaTarget),
-        (None, NoBind, None),
-    ),
-    (
-        Dhcp,
-        &[],
-        (2100, TpDad),
-        false,
-        Trusted,
-        (None, NoBind, None),
-    ),
-    (Dhcp, &[], (2100, TpNa), false, All, (None, NoBind, None)),
-    (
-        Mixed,
-        &[],
-        (2100, Sent(1)),
-        true,
+        Sent(1),
+        ROOM,
         Drop(Unverified),
-        (None, Tentative(1, 2100), None),
+        (None, Tentative(1, NOW), None),
     ),
+    (Sent(1), FULL, Drop(PortFull), NOBODY),
+    (Lease(1, 600), ROOM, Silent, LEASED),
+];
+
+const IN_CLAIMED: &[Row] = &[
+    (Sent(1), FULL, All, (None, Valid(1, 302_400), None)),
+    (Dad(2), FULL, Drop(PortFull), CLAIMED),
+    (TpDad, FULL, TrustedAnd(1), (None, TestLt(1, NOW), None)),
+    (Lease(1, 600), FULL, Silent, CLAIMED_AND_LEASED),
+    (Lease(2, 600), ROOM, Silent, CLAIMED),
+];
+
+const IN_CONTESTED: &[Row] = &[
+    (Lease(1, 600), ROOM, Silent, CONTESTED),
+    (Lease(2, 600), ROOM, Silent, CONTESTED),
+];
+
+/// The method of a prefix, the events that lead to a state (each with its moment), and the rows for it.
+type Start = (Method, &'static [(u64, Act)], &'static [Row]);
+
+static STARTS: [Start; 11] = [
+    (Mixed, &[(1000, Lease(2, 600)), (1500, Fix(1))], IN_FIXED),
+    (Mixed, &[(1000, Lease(1, 600))], IN_BOUND),
+    (Dhcp, &[(1000, Lease(1, 600))], IN_BOUND),
+    (Mixed, &[(2100, Dad(1)), (2200, Lease(1, 600))], IN_CLAIMING),
+    (Mixed, &[(1000, Dad(1)), (2000, Lease(1, 600))], IN_BOTH),
+    (Dhcp, &[], IN_UNASSIGNED),
+    (Mixed, &[], IN_NOBODY),
+    (Mixed, &[(1000, Dad(1))], IN_CLAIMED),
+    (
+        Mixed,
+        &[(1000, Dad(1)), (2100, Lease(1, 600)), (2300, Release(1))],
+        IN_CLAIMED,
+    ),
+    (Mixed, &[(1000, Dad(1)), (2200, Dad(2))], IN_CONTESTED),
     (
         Method::Fcfs,
-        &[],
-        (2100, Dad(1)),
-        false,
-        Drop(PortFull),
-        (None, NoBind, None),
-    ),
-    (
-        Mixed,
-        CLAIMED,
-        (2100, TpDad),
-        false,
-        TrustedAnd(1),
-        (None, TestLt(1, 2100), None),
-    ),
-    // leases, case by case
-    (
-        Method::Fcfs,
-        &[],
-        (2100, Lease(1, 600)),
-        true,
-        Silent,
-        (None, NoBind, None),
-    ),
-    (
-        Mixed,
-        BOUND,
-        (2100, Lease(1, 0)),
-        true,
-        Silent,
-        (None, NoBind, None),
-    ),
-    (
-        Mixed,
-        BOUND_BY_BOTH,
-        (2100, Lease(1, 0)),
-        true,
-        Silent,
-        CLAIMED_STATE,
-    ),
-    (Mixed, BOUND, (2100, Lease(2, 0)), true, Silent, BOUND_STATE),
-    (
-        Mixed,
-        &[],
-        (2100, Lease(1, 0)),
-        true,
-        Silent,
-        (None, NoBind, None),
-    ),
-    (
-        Mixed,
-        BOUND,
-        (2100, Lease(1, 600)),
-        false,
-        Silent,
-        (None, NoBind, LEASED),
-    ),
-    (
-        Mixed,
-        BOUND,
-        (2100, Lease(1, 0xffff_ffff)),
-        false,
-        Silent,
-        (None, NoBind, Some((1, None))),
-    ),
-    (
-        Mixed,
-        BOUND,
-        (2100, Lease(2, 600)),
-        true,
-        Silent,
-        (None, NoBind, Some((2, Some(722_100)))),
-    ),
-    (
-        Mixed,
-        BOUND,
-        (2100, Lease(2, 600)),
-        false,
-        Silent,
-        BOUND_STATE,
-    ),
-    (
-        Mixed,
-        BOUND_BY_BOTH,
-        (2100, Lease(2, 600)),
-        true,
-        Silent,
-        (None, Valid(1, 301_500), Some((1, Some(722_000)))),
-    ),
-    (
-        Dhcp,
-        &[],
-        (2100, Lease(1, 600)),
-        true,
-        Silent,
-        (None, NoBind, LEASED),
-    ),
-    (
-        Dhcp,
-        &[],
-        (2100, Lease(1, 600)),
-        false,
-        Silent,
-        (None, NoBind, None),
-    ),
-    (
-        Mixed,
-        CLAIMED,
-        (2100, Lease(1, 600)),
-        false,
-        Silent,
-        (None, Valid(1, 301_500), LEASED),
-    ),
-    (
-        Mixed,
-        CLAIMED,
-        (2100, Lease(2, 600)),
-        true,
-        Silent,
-        CLAIMED_STATE,
-    ),
-    (
-        Mixed,
-        CONTESTED,
-        (2100, Lease(1, 600)),
-        true,
-        Silent,
-        (None, TestVp(1, 2, 1900), None),
-    ),
-    // releases, and the operator
-    (
-        Mixed,
-        BOUND_BY_BOTH,
-        (2300, Release(1)),
-        true,
-        Silent,
-        CLAIMED_STATE,
-    ),
-    (Mixed, BOUND, (2300, Release(2)), true, Silent, BOUND_STATE),
-    (
-        Mixed,
-        BOUND_BY_BOTH,
-        (2300, Clear),
-        false,
-        Silent,
-        (None, NoBind, None),
+        &[(1000, Lease(1, 600))],
+        &[(Dad(1), FULL, Drop(PortFull), NOBODY)],
     ),
 ];
 
+/// The state that the events lead to.
+fn reached(rt: &impl Abort, m: Method, events: &[(u64, Act)]) -> AddrState
+    ensures sound { IsSoundFor m result }
+    ensures fits { AllMomentsFit result }
+{
+    let mut state = AddrState::none();
+    for event in events {
+        happens(rt, m, &mut state, *event, ROOM);
+    }
+    state
+}
+
 #[test]
 fn rows_of_both_methods(rt: HostRuntime) {
-    for (m, before, event, room, verdict, after) in &ROWS {
-        let mut state = AddrState::none();
-        for earlier in *before {
-            happens(&rt, *m, &mut state, *earlier, true);
+    for (m, before, rows) in &STARTS {
+        for (act, room, verdict, after) in *rows {
+            let mut state = reached(&rt, *m, before);
+            let answer = happens(&rt, *m, &mut state, (NOW, *act), *room);
+            assert_eq!(rt;
+                plain_verdict(answer),
+                *verdict,
+                "{m:?} {before:?} {act:?} {room}"
+            );
+            assert_eq!(rt;
+                plain_state(state),
+                *after,
+                "{m:?} {before:?} {act:?} {room}"
+            );
         }
-        let answer = happens(&rt, *m, &mut state, *event, *room);
-        assert_eq!(rt;
-            plain_verdict(answer),
-            *verdict,
-            "{m:?} {before:?} {event:?} {room}"
-        );
-        assert_eq!(rt;
-            plain_state(state),
-            *after,
-            "{m:?} {before:?} {event:?} {room}"
-        );
     }
 }
 
@@ -509,44 +330,19 @@ fn rows_of_both_methods(rt: HostRuntime) {
 /// something is due next.
 type Aging = (u64, bool, &'static [u64], State, Option<u64>);
 
-/// The ageing of an address that both methods bound to port 1, by DHCP for 60 s.
+/// Bound to port 1 by both methods, by a lease of 60 s at 2100.
+const SHORT: State = (None, Valid(1, 301_500), Some((1, Some(182_100))));
+
+const TESTED: State = (None, TestLt(1, 301_500), None);
+
+/// The ageing of that state.
 static AGINGS: [Aging; 6] = [
-    (
-        182_099,
-        false,
-        &[],
-        (None, Valid(1, 301_500), Some((1, Some(182_100)))),
-        Some(182_100),
-    ),
-    (
-        182_100,
-        true,
-        &[],
-        (None, Valid(1, 301_500), None),
-        Some(301_500),
-    ),
-    (
-        301_499,
-        false,
-        &[],
-        (None, Valid(1, 301_500), None),
-        Some(301_500),
-    ),
-    (
-        301_500,
-        true,
-        &[301_500],
-        (None, TestLt(1, 301_500), None),
-        Some(301_750),
-    ),
-    (
-        301_999,
-        true,
-        &[301_750],
-        (None, TestLt(1, 301_500), None),
-        Some(302_000),
-    ),
-    (302_000, true, &[], (None, NoBind, None), None),
+    (182_099, false, &[], SHORT, Some(182_100)),
+    (182_100, true, &[], CLAIMED, Some(301_500)),
+    (301_499, false, &[], CLAIMED, Some(301_500)),
+    (301_500, true, &[301_500], TESTED, Some(301_750)),
+    (301_999, true, &[301_750], TESTED, Some(302_000)),
+    (302_000, true, &[], NOBODY, None),
 ];
 
 #[test]
