@@ -35,7 +35,7 @@ abbrev pub output_end : ℕ → List Row → Option How
 output_end port [] = None
 output_end port (r ∷ past) = output_ended_behind port r.entry.act (output_end port past)
 
--- the pieces of an output, each of which is one write: the header of the capture, and the record of each item
+-- the pieces of an output: the header of the capture, and the record of each item
 abbrev pub pieces : List Item → List (List ℕ)
 pieces items = header_text ∷ map (λ item. record_text item.moment item.octets) items
 

@@ -1,14 +1,17 @@
 //! Calls of `addr_index` and `bind_table`, timed beside those of std's `HashMap` and `BTreeMap` with as many keys.
 //!
-//! usage: tables_bench time. It prints a line for each kind of call at 512 and at 1,024 addresses: its name, how many
-//! addresses there are, how many calls were made, and the nanoseconds of the processor that they took (and a number that
-//! depends on the answers). With no word, or another one, it prints nothing.
+//! usage: tables_bench time|compare. `time` prints a line for each kind of call at 512 and at 1,024 addresses: its name, how
+//! many addresses there are, how many calls were made, and the nanoseconds of the processor that they took (and a number that
+//! depends on the answers). `compare` prints how many calls of a table left it as a plain list; it stops at the first one
+//! that didn't. With no word, or another one, it prints nothing.
 #![tactic(auto)]
 
 ghost use Rattle.std.specs.Prelude.{◌≤◌};
 
 mod bindings;
+mod compare;
 mod keys;
+mod plain_rows;
 mod timed;
 
 use std::alloc::Global;
@@ -20,11 +23,22 @@ fn main(rt: HostRuntime) -> io::Result<()> {
     let Some(word) = env::args(&rt)?.nth(1) else {
         return Ok(());
     };
-    if word.as_str() != "time" {
-        return Ok(());
+    match word.as_str() {
+        "compare" => {
+            let alike = compare::count_alike(rt.alloc())?;
+            println!(rt;
+                "{alike} of {} calls leave the table as a plain list",
+                compare::CALLS
+            )
+        }
+        "time" => print_times(&rt, rt.alloc()),
+        _ => Ok(()),
     }
+}
+
+fn print_times<R: CpuClock + Print>(rt: &R, alloc: Global) -> io::Result<()> {
     for addresses in [512, 1_024] {
-        for timed in &all_timed(&rt, rt.alloc(), addresses)? {
+        for timed in &all_timed(rt, alloc, addresses)? {
             println!(rt;
                 "{} {addresses} {} {} {}",
                 timed.name,
