@@ -66,8 +66,8 @@ abbrev pub IsOutputAt : {S K C : Type 0} → (K → Option (List ℕ)) → List 
 IsOutputAt written past stops old new =
     TookPieces (written old.ends.sink) (written new.ends.sink) (pieces (sent empty (number_of old.port) past)) (stops (number_of old.port))
 
--- The history is the one of a replay of these inputs, one for each port in its order, whose sinks fail so: the octets of each
--- source are its input; and each sink took what is sent there as a capture, or the front of it that its stop says.
+-- The history is the one of a replay of these inputs, one for each port in its order, whose sinks fail so: the octets of
+-- each source are its input; and each sink took what is sent there as a capture, or the front of it that its stop says.
 pub record IsReplayed {S K C : Type 0} (left : S → Option (List ℕ)) (written : K → Option (List ℕ)) (plan : Plan) (past : List Row) (old new : List (PortEnds S K C)) : Type 0 where
   pub inputs : List Input
   pub size : length inputs ≡ length old
