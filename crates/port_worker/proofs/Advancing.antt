@@ -1,5 +1,5 @@
 -- A step of one port.
-use Rattle.std.proofs.Common.{◌≡◌, ◌≢◌, ℕ, ◌<◌, ◌≤◌, not, Bool, true, false, List, [], length, get_or, set, refl, sym, ap, ◌∙◌, subst, arith, ◌⊎◌, inl, inr, Option, Some, None, IfSome, IsSome}
+use Rattle.std.proofs.Common.{◌≡◌, ◌≢◌, ℕ, ◌<◌, ◌≤◌, Bool, true, false, List, [], length, get_or, set, refl, sym, ap, ◌∙◌, subst, arith, ◌⊎◌, inl, inr, Option, Some, None, IfSome, IsSome}
 use Rattle.std.proofs.lemmas.Bool.{cases_eq}
 use Rattle.std.proofs.lemmas.List.{length-set, get_or-set_same, get_or-set_other, get_or_default, map-set, set-get_or, get_or-map}
 use Rattle.savi_kinds.specs.declared.port.Port.{Port}
@@ -19,13 +19,12 @@ use Rattle.savi_history.proofs.PassNumbers.{number_at, known_at}
 use Rattle.savi_history.proofs.PortPlaces.{length-numbers, place_within}
 use Rattle.savi_history.proofs.Waiting.{ended_arrival, one_waits}
 use Rattle.port_worker.specs.declared.port_ends.Ahead.{Ahead}
-use Rattle.port_worker.specs.declared.port_ends.Ahead.TheVariants as ahead
 use Rattle.port_worker.specs.declared.port_ends.PortEnds.{PortEnds}
 use Rattle.port_worker.specs.Pairs.{EachPair}
 use Rattle.port_worker.specs.SentFrames.{TookMore, OnlySink}
 use Rattle.port_worker.specs.Drains.{IsDrainable}
 use Rattle.port_worker.specs.Outputs.{IsOutput, AreOutputs, Allows, AreAllowed, OutputsGoOn}
-use Rattle.port_worker.specs.Steps.{Enters, IsStepped, ends_input, ahead_after}
+use Rattle.port_worker.specs.Steps.{Enters, IsStepped}
 use Rattle.port_worker.specs.Replays.{ports_held, ports_planned}
 use Rattle.port_worker.proofs.Planned.{count_is, number_is}
 use Rattle.port_worker.proofs.KeptOutputs.{KeepsOutput, keeps_pieces, keeps_arrival, keeps_ingress, output_kept, closed_arrival}

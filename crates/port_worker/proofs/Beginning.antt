@@ -1,7 +1,7 @@
 -- The outputs, begun one after the other.
 use Rattle.std.proofs.Common.{◌≡◌, ◌≢◌, ℕ, suc, ◌+◌, ◌<◌, ◌≤◌, true, false, List, [], ◌∷◌, ◌++◌, length, take, drop, get_or, set, refl, sym, ap, ◌∙◌, subst, arith, ◌⊎◌, inl, inr, Option, Some, None, add-one}
 use Rattle.std.proofs.lemmas.Bool.{cases_eq}
-use Rattle.std.proofs.lemmas.List.{length-set, get_or-set_same, get_or-set_other, get_or_default, drop_all}
+use Rattle.std.proofs.lemmas.List.{get_or-set_same, get_or-set_other, get_or_default, drop_all}
 use Rattle.std.specs.List.{concat}
 use Rattle.std.specs.List.Sorted.{IsStrictlyIncreasing}
 use Rattle.savi_kinds.specs.declared.port.Port.{Port}
@@ -15,26 +15,25 @@ use Rattle.savi_ends.specs.Octets.{IsFront}
 use Rattle.pcap_io.specs.Captures.{header_text}
 use Rattle.hist_store.specs.Rows.{Row}
 use Rattle.savi_history.specs.Bases.{empty}
-use Rattle.savi_history.specs.Passes.{has_ended, has_port, egress_pass, pass_of}
-use Rattle.savi_history.specs.Queues.{Item, queue, sent}
+use Rattle.savi_history.specs.Passes.{has_ended, has_port, egress_pass}
+use Rattle.savi_history.specs.Queues.{Item, sent}
 use Rattle.savi_history.specs.Legal.{IsOpen}
 use Rattle.savi_history.specs.Replay.{Stops, is_stopped, pieces_by, with_failure, begun}
 use Rattle.savi_history.specs.PortOutputs.{output_end, pieces, text_before_last_drain, TookPieces}
 use Rattle.savi_history.proofs.PassNumbers.{number_at, known_at}
 use Rattle.savi_history.proofs.PortPlaces.{length-numbers}
-use Rattle.savi_history.proofs.Ends.{Later}
 use Rattle.savi_history.proofs.Waiting.{ended_now, sent_end}
 use Rattle.savi_core.specs.Machines.{Machine}
 use Rattle.port_worker.specs.declared.port_ends.PortEnds.{PortEnds}
 use Rattle.port_worker.specs.SentFrames.{OnlySink}
 use Rattle.port_worker.specs.Drains.{with_failed, IsWritten, IsBegun}
-use Rattle.port_worker.specs.Outputs.{GoesOn, HasFailed, IsOutput, IsOutputOf, AreOutputs, Allows, AreAllowed}
+use Rattle.port_worker.specs.Outputs.{GoesOn, HasFailed, IsOutputOf, AreOutputs, Allows, AreAllowed}
 use Rattle.port_worker.specs.Replays.{ports_held, ports_planned}
 use Rattle.port_worker.proofs.SoFar.{PairsSoFar, pairs_none, pairs_more}
 use Rattle.port_worker.proofs.Planned.{count_is, number_is, numbers_differ, held_at}
 use Rattle.port_worker.proofs.KeptOutputs.{KeepsOutput}
 use Rattle.port_worker.proofs.PortSteps.{PortStep, PortLeaves, no_failure, a_failure, stopped_more, leaves_written, end_failed, quiet_failed, fits_front}
-use Rattle.port_worker.proofs.Draining.{egress_apart, with_known, later, output_here, output_there, allowed_here, made_here, allowed_there}
+use Rattle.port_worker.proofs.Draining.{egress_apart, later, output_here, output_there, made_here, allowed_there}
 
 -- nothing came in, and nothing was sent: at this port nothing has happened yet
 pub record IsFresh (plan : Plan) (past : List Row) (n : ℕ) : Type 0 where

@@ -1,5 +1,5 @@
 -- What a session has done.
-use Rattle.std.proofs.Common.{◌≡◌, ℕ, List, ◌++◌, length, take, drop, sym, ap, ◌∙◌, subst, arith, append-nil, Option}
+use Rattle.std.proofs.Common.{◌≡◌, ℕ, List, ◌++◌, length, take, drop, ap, ◌∙◌, subst, arith, append-nil, Option}
 use Rattle.std.proofs.lemmas.List.{take_all, drop_all}
 use Rattle.savi_kinds.specs.declared.plan.Plan.{Plan}
 use Rattle.savi_core.specs.Machines.{Machine, started}

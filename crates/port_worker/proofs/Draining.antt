@@ -1,5 +1,5 @@
 -- The queues, drained one after the other.
-use Rattle.std.proofs.Common.{◌≡◌, ◌≢◌, ℕ, suc, ◌+◌, ◌<◌, ◌≤◌, ◌==◌, Bool, true, false, List, [], length, drop, get_or, set, refl, sym, ap, ◌∙◌, subst, arith, ◌⊎◌, inl, inr, Option, if◌then◌else◌, add-one}
+use Rattle.std.proofs.Common.{◌≡◌, ◌≢◌, ℕ, suc, ◌+◌, ◌<◌, ◌≤◌, ◌==◌, true, false, List, [], length, drop, get_or, set, refl, sym, ap, ◌∙◌, subst, arith, ◌⊎◌, inl, inr, Option, if◌then◌else◌, add-one}
 use Rattle.std.proofs.lemmas.Bool.{cases_eq, cases_lt}
 use Rattle.std.proofs.lemmas.Bool.Decides.{nat_tests}
 use Rattle.std.proofs.lemmas.List.{length-set, get_or-set_same, get_or-set_other, get_or_default, drop_all}
@@ -12,9 +12,8 @@ use Rattle.savi_kinds.specs.Ports.{number_of}
 use Rattle.savi_kinds.specs.ValidPlan.{numbers_of}
 use Rattle.hist_store.specs.Rows.{Row}
 use Rattle.savi_history.specs.Bases.{empty}
-use Rattle.savi_history.specs.Passes.{has_ended, egress_pass, place_of}
-use Rattle.savi_history.specs.Queues.{queue}
-use Rattle.savi_history.specs.Replay.{Stops, is_stopped, pieces_by, with_drain, drained}
+use Rattle.savi_history.specs.Passes.{has_ended, egress_pass}
+use Rattle.savi_history.specs.Replay.{Stops, pieces_by, with_drain, drained}
 use Rattle.savi_history.proofs.PassNumbers.{number_at, place_at}
 use Rattle.savi_history.proofs.PortPlaces.{length-numbers}
 use Rattle.savi_history.proofs.Ends.{Later}
@@ -27,7 +26,7 @@ use Rattle.port_worker.specs.Replays.{ports_held, ports_planned}
 use Rattle.port_worker.proofs.SoFar.{PairsSoFar, pairs_none, pairs_more}
 use Rattle.port_worker.proofs.Later.{took_none}
 use Rattle.port_worker.proofs.Planned.{count_is, number_is, numbers_differ, held_at}
-use Rattle.port_worker.proofs.KeptOutputs.{KeepsOutput, keeps_pieces, output_kept}
+use Rattle.port_worker.proofs.KeptOutputs.{keeps_pieces, output_kept}
 use Rattle.port_worker.proofs.PortSteps.{PortStep, DrainStep, PortLeaves, drain_step, leaves_drained, emptied, drained_nothing}
 
 pub only_itself : {S K C : Type 0} (written : K → Option (List ℕ)) (faults : K → ℕ) (p : PortEnds S K C) → OnlySink written faults p p

@@ -1,6 +1,5 @@
 -- What a sink took, behind the end of a replay.
 use Rattle.std.proofs.Common.{◌≡◌, ℕ, List, sym, ap, ◌∙◌, subst, Option, Some, None}
-use Rattle.std.specs.List.{concat}
 use Rattle.savi_kinds.specs.declared.plan.Plan.{Plan}
 use Rattle.savi_kinds.specs.declared.entry.How.{How}
 use Rattle.savi_kinds.specs.declared.entry.How.TheVariants as hows

@@ -20,7 +20,7 @@ use Rattle.savi_history.specs.Legal.{IsFinished}
 use Rattle.savi_history.specs.Replay as replay
 use Rattle.savi_history.specs.Replay.{with_end, egress_ended}
 use Rattle.savi_history.proofs.Ends.{later_event}
-use Rattle.savi_history.proofs.Waiting.{ended_now, ended_other, empty_end, sent_end}
+use Rattle.savi_history.proofs.Waiting.{ended_now, empty_end, sent_end}
 use Rattle.savi_history.proofs.PassNumbers.{number_at, place_at, known_at}
 use Rattle.savi_core.specs.Machines.{Machine, with_event}
 use Rattle.savi_core.specs.Steps.{Did}

@@ -1,23 +1,21 @@
 -- What an entry leaves of an output.
-use Rattle.std.proofs.Common.{◌≡◌, ◌≢◌, ℕ, suc, ◌<◌, ◌≤◌, ◌==◌, ◌&&◌, ◌||◌, not, Bool, true, false, List, [], ◌∷◌, ◌++◌, length, get_or, refl, sym, ap, ◌∙◌, subst, arith, Option, Some, None, if◌then◌else◌}
-use Rattle.std.proofs.lemmas.Bool.{cases_Bool, and_from, or_right}
+use Rattle.std.proofs.Common.{◌≡◌, ◌≢◌, ℕ, suc, ◌<◌, ◌≤◌, ◌==◌, ◌&&◌, not, Bool, true, false, List, [], length, refl, sym, ap, ◌∙◌, subst, arith, Option, Some, None}
+use Rattle.std.proofs.lemmas.Bool.{and_from, or_right}
 use Rattle.std.proofs.lemmas.Bool.Decides.{nat_tests}
 use Rattle.savi_kinds.specs.declared.plan.Plan.{Plan}
 use Rattle.savi_kinds.specs.declared.port.Port.{Port}
-use Rattle.savi_kinds.specs.declared.entry.Who.{Who}
 use Rattle.savi_kinds.specs.declared.entry.Who.TheVariants.{Ingress, Control, Ticker, Egress}
 use Rattle.savi_kinds.specs.declared.entry.How.{How}
 use Rattle.savi_kinds.specs.declared.entry.How.TheVariants as hows
 use Rattle.savi_kinds.specs.Ports.{number_of}
 use Rattle.savi_kinds.specs.PortSets.{is_member}
-use Rattle.savi_kinds.specs.ValidPlan.{numbers_of}
 use Rattle.savi_kinds.specs.Arrivals.{Arrival}
 use Rattle.savi_kinds.specs.Arrivals as arrivals
 use Rattle.pcap_io.specs.Captures.{capture_text}
 use Rattle.hist_store.specs.Rows.{Row}
 use Rattle.savi_history.specs.Bases.{empty}
 use Rattle.savi_history.specs.Passes.{has_ended, egress_pass, pass_of, ticker_pass}
-use Rattle.savi_history.specs.Queues.{Item, queue, sent, is_closed, is_queued, cuts, item_of}
+use Rattle.savi_history.specs.Queues.{Item, queue, sent, is_closed, is_queued, cuts}
 use Rattle.savi_history.specs.Outputs.{sent_items}
 use Rattle.savi_history.specs.Events.{Frame, Drain, End, row_of, outs_of}
 use Rattle.savi_history.specs.Replay.{with_event, event_of, pieces_by}
@@ -26,7 +24,7 @@ use Rattle.savi_history.proofs.PassNumbers.{number_at}
 use Rattle.savi_history.proofs.PortMembers.{member_chosen}
 use Rattle.savi_history.proofs.Waiting.{ended_arrival, ended_other, empty_end, sent_arrival, sent_end, sent_elsewhere}
 use Rattle.port_worker.specs.Drains.{with_failed}
-use Rattle.port_worker.specs.Outputs.{GoesOn, HasFailed, IsOutput}
+use Rattle.port_worker.specs.Outputs.{IsOutput}
 
 pub record KeepsOutput (plan : Plan) (n : ℕ) (past now : List Row) : Type 0 where
   pub sent_same : sent empty n now ≡ sent empty n past

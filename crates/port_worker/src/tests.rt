@@ -44,7 +44,15 @@ const FIRST: [&str; 5] = [HEADER, AT_1000, ADVERT, AT_1001, PACKET];
 const SECOND: [&str; 3] = [HEADER, AT_1002, ADVERT];
 
 /// What port 1 gives, which is trusted, to the hosts at ports 2 and 3.
-const ADVERTS: [&str; 7] = [HEADER, AT_1000, ADVERT, AT_1001_LONG, ADVERT, AT_1002, ADVERT];
+const ADVERTS: [&str; 7] = [
+    HEADER,
+    AT_1000,
+    ADVERT,
+    AT_1001_LONG,
+    ADVERT,
+    AT_1002,
+    ADVERT,
+];
 
 const NOTHING: &[&str] = &[HEADER];
 
@@ -194,11 +202,7 @@ fn played(
     let two = port_at(2);
     let three = port_at(3);
     let ready = ready_of(alloc, one, two, three, first, second, third)?;
-    match replay_session(
-        alloc,
-        plan_of(alloc, one, two, three, role, others)?,
-        ready,
-    ) {
+    match replay_session(alloc, plan_of(alloc, one, two, three, role, others)?, ready) {
         Ok(closed) => Ok(closed),
         Err(_) => Err(Fail::from("no memory")),
     }

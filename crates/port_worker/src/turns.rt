@@ -126,9 +126,6 @@ fn end_egress(core: &mut Core, port: Port)
 {
     let who = Who::Egress(port);
     if !core.ended(who) {
-        let _egress = core.step(Event::End {
-            who,
-            how: How::End,
-        });
+        let _egress = core.step(Event::End { who, how: How::End });
     }
 }

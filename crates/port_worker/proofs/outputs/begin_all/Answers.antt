@@ -1,6 +1,5 @@
-use Rattle.std.proofs.Common.{◌<◌, length, get_or, subst, sym, refl, arith}
+use Rattle.std.proofs.Common.{◌<◌, length, get_or, arith}
 use Rattle.std.proofs.lemmas.List.{get_or_default}
-use Rattle.port_worker.specs.declared.port_ends.PortEnds.{PortEnds}
 use Rattle.port_worker.proofs.Planned.{count_is}
 use Rattle.port_worker.proofs.Beginning.{begins_none, begins_more, begins_all, open_here}
 use Rattle.port_worker.proofs.outputs.begin_all.Goals as goal

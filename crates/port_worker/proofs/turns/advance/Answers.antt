@@ -1,10 +1,7 @@
-use Rattle.std.proofs.Common.{◌≡◌, ◌<◌, length, get_or, set, sym, ap, ◌∙◌, subst, arith, true}
-use Rattle.std.proofs.lemmas.List.{length-set, get_or-set_same, get_or_default}
-use Rattle.savi_kinds.specs.declared.port.Port.{Port}
+use Rattle.std.proofs.Common.{◌≡◌, ◌<◌, length, get_or, sym, ap, ◌∙◌, arith, true}
+use Rattle.std.proofs.lemmas.List.{length-set, get_or_default}
 use Rattle.savi_kinds.specs.Ports.{number_of}
 use Rattle.savi_history.specs.Passes.{has_port}
-use Rattle.port_worker.specs.declared.port_ends.PortEnds.{PortEnds}
-use Rattle.port_worker.specs.declared.port_ends.Ahead.TheVariants as ahead
 use Rattle.port_worker.specs.Inputs.{turn_of}
 use Rattle.port_worker.specs.Replays.{ports_planned}
 use Rattle.port_worker.proofs.Planned.{count_is, number_is}

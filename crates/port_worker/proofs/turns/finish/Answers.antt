@@ -1,9 +1,7 @@
-use Rattle.std.proofs.Common.{◌<◌, length, get_or, ap, ◌∙◌, sym, subst, arith, ℕ}
+use Rattle.std.proofs.Common.{◌<◌, length, get_or, sym, subst, arith, ℕ}
 use Rattle.savi_kinds.specs.declared.entry.Who.TheVariants.{Ticker}
 use Rattle.savi_kinds.specs.declared.entry.How.TheVariants as hows
 use Rattle.savi_kinds.specs.Ports.{number_of}
-use Rattle.savi_history.specs.Bases.{empty}
-use Rattle.savi_history.specs.Queues.{queue}
 use Rattle.port_worker.specs.Outputs.{IsOutputEnded}
 use Rattle.port_worker.proofs.Planned.{count_is, number_is, held_at}
 use Rattle.port_worker.proofs.Finishing.{known_here, last_now, finish_start, finish_more, did_end, outputs_ended, all_finished}
