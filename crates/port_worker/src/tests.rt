@@ -8,8 +8,11 @@ ghost use Rattle.port_worker.specs.Replays.{ports_held, ports_planned, IsUnread}
 use crate::port_ends::PortEnds;
 use crate::session::{Closed, Ready, replay_session};
 use pcap_io::PcapReader;
+use savi_core::Core;
 use savi_ends::{Ends, MemClock, MemEnds, MemSink, MemSource};
-use savi_kinds::{Format, Mac, Plan, Port, PortPlan, PortPlans, PrefixPlans, Role, Text};
+use savi_kinds::{
+    Act, Format, How, Mac, Plan, Port, PortPlan, PortPlans, PrefixPlans, Role, Text, Who,
+};
 use std::alloc::{AllocError, Global};
 use std::test::Fail;
 
@@ -31,11 +34,17 @@ const AT_1001: &str = "01000000e80300003600000036000000";
 
 const AT_1002: &str = "01000000d00700004600000046000000";
 
-/// What the captures hold at port 1, a host's, and at port 2, which is trusted. What comes in at one goes out at the
-/// other, but for the advertisement of the host.
+/// In front of 70 octets at 1,001 ms.
+const AT_1001_LONG: &str = "01000000e80300004600000046000000";
+
+/// What the captures hold at port 1, a host's, and at port 2, which is trusted, as is port 3, where nothing comes in. What
+/// comes in at one port goes out at the others, but for the advertisement of the host.
 const FIRST: [&str; 5] = [HEADER, AT_1000, ADVERT, AT_1001, PACKET];
 
 const SECOND: [&str; 3] = [HEADER, AT_1002, ADVERT];
+
+/// What port 1 gives, which is trusted, to the hosts at ports 2 and 3.
+const ADVERTS: [&str; 7] = [HEADER, AT_1000, ADVERT, AT_1001_LONG, ADVERT, AT_1002, ADVERT];
 
 const NOTHING: &[&str] = &[HEADER];
 
@@ -43,22 +52,33 @@ const THE_PACKET: &[&str] = &[HEADER, AT_1001, PACKET];
 
 const THE_ADVERT: &[&str] = &[HEADER, AT_1002, ADVERT];
 
-/// The read at port 1, that at port 2 and the write at port 2 that are to fail, by their numbers from 1, or 0; what goes out at each port; how many entries there are, whether an input of them ended at a failed
-/// read, and the port at which a write failed. A header, the header of a record, its body and the end are a read each.
-const ROWS: [((u64, u64, u64), &[&str], &[&str], u64, bool, u8); 13] = [
-    ((0, 0, 0), THE_ADVERT, THE_PACKET, 11, false, 0),
-    ((1, 0, 0), THE_ADVERT, NOTHING, 8, true, 0),
-    ((2, 0, 0), THE_ADVERT, NOTHING, 8, true, 0),
-    ((3, 0, 0), THE_ADVERT, NOTHING, 8, true, 0),
-    ((4, 0, 0), THE_ADVERT, NOTHING, 9, true, 0),
-    ((5, 0, 0), THE_ADVERT, NOTHING, 9, true, 0),
-    ((6, 0, 0), THE_ADVERT, THE_PACKET, 11, true, 0),
-    ((0, 1, 0), NOTHING, THE_PACKET, 9, true, 0),
-    ((0, 2, 0), NOTHING, THE_PACKET, 9, true, 0),
-    ((0, 3, 0), NOTHING, THE_PACKET, 9, true, 0),
-    ((0, 4, 0), THE_ADVERT, THE_PACKET, 11, true, 0),
-    ((0, 0, 1), NOTHING, &[], 0, false, 2),
-    ((0, 0, 2), NOTHING, NOTHING, 4, false, 2),
+/// The read at port 1 and that at port 2 that are to fail, by their numbers from 1, or 0; what goes out at these ports;
+/// how many entries there are, and whether an input of them ended at a failed read. A header, the header of a record, its
+/// body and the end are a read each.
+const READS: [(u64, u64, &[&str], &[&str], u64, bool); 11] = [
+    (0, 0, THE_ADVERT, THE_PACKET, 15, false),
+    (1, 0, THE_ADVERT, NOTHING, 11, true),
+    (2, 0, THE_ADVERT, NOTHING, 11, true),
+    (3, 0, THE_ADVERT, NOTHING, 11, true),
+    (4, 0, THE_ADVERT, NOTHING, 12, true),
+    (5, 0, THE_ADVERT, NOTHING, 12, true),
+    (6, 0, THE_ADVERT, THE_PACKET, 15, true),
+    (0, 1, NOTHING, THE_PACKET, 12, true),
+    (0, 2, NOTHING, THE_PACKET, 12, true),
+    (0, 3, NOTHING, THE_PACKET, 12, true),
+    (0, 4, THE_ADVERT, THE_PACKET, 15, true),
+];
+
+/// The write that is to fail at each of the three ports, by its number from 1, or 0; the port whose egress ends for it, and
+/// the number of that entry; how many texts of the adverts go out at each port, and how many entries
+/// there are.
+const WRITES: [([u64; 3], u8, u64, [usize; 3], u64); 6] = [
+    ([1, 0, 0], 1, 0, [0, 7, 7], 17),
+    ([0, 1, 0], 2, 0, [1, 0, 7], 14),
+    ([0, 2, 0], 2, 5, [1, 1, 7], 15),
+    ([0, 3, 0], 2, 8, [1, 3, 7], 16),
+    ([0, 4, 0], 2, 11, [1, 5, 7], 17),
+    ([0, 0, 3], 3, 9, [1, 7, 3], 16),
 ];
 
 // The octets of these hexadecimal texts, one behind the other.
@@ -92,16 +112,25 @@ fn port_at(n: u8) -> Port
     }
 }
 
-// A host at the first port, and the second one is trusted.
-fn plan_of(alloc: Global, one: Port, two: Port) -> Result<Plan, AllocError>
+// Three ports, the first one with a role of its own.
+fn plan_of(
+    alloc: Global,
+    one: Port,
+    two: Port,
+    three: Port,
+    first: Role,
+    others: Role,
+) -> Result<Plan, AllocError>
     requires rising { number_of one < number_of two }
+    requires rising_then { number_of two < number_of three }
     ensures valid { IfOk result (λ plan. IsValidPlan plan) }
     ensures guard_only { IfOk result (λ plan. plan.savi ≡ false) }
-    ensures ports { IfOk result (λ plan. ports_planned plan ≡ one ∷ two ∷ []) }
+    ensures ports { IfOk result (λ plan. ports_planned plan ≡ one ∷ two ∷ three ∷ []) }
 {
     let mut ports = Vec::new(alloc);
-    ports.push(port_plan(alloc, one, Role::Host))?;
-    ports.push(port_plan(alloc, two, Role::Trusted))?;
+    ports.push(port_plan(alloc, one, first))?;
+    ports.push(port_plan(alloc, two, others))?;
+    ports.push(port_plan(alloc, three, others))?;
     Ok(Plan {
         mac: Mac([2, 0, 0, 0, 0, 1]),
         savi: false,
@@ -132,21 +161,47 @@ fn port_plan(alloc: Global, number: Port, role: Role) -> PortPlan
     }
 }
 
-// The ends of both ports.
+// The ends of the ports.
 fn ready_of(
     alloc: Global,
     one: Port,
     two: Port,
+    three: Port,
     first: MemEnds,
     second: MemEnds,
+    third: MemEnds,
 ) -> Result<Ready<MemSource, MemSink, MemClock>, AllocError>
-    ensures ports { IfOk result (λ ready. ports_held ready.ports.items ≡ one ∷ two ∷ []) }
+    ensures ports { IfOk result (λ ready. ports_held ready.ports.items ≡ one ∷ two ∷ three ∷ []) }
     ensures unread { IfOk result (λ ready. All IsUnread ready.ports.items) }
 {
     let mut ports = Vec::new(alloc);
     ports.push(PortEnds::new(one, first, PcapReader::new()))?;
     ports.push(PortEnds::new(two, second, PcapReader::new()))?;
+    ports.push(PortEnds::new(three, third, PcapReader::new()))?;
     Ok(Ready { ports })
+}
+
+// A session over these ends.
+fn played(
+    alloc: Global,
+    first: MemEnds,
+    second: MemEnds,
+    third: MemEnds,
+    role: Role,
+    others: Role,
+) -> Result<Closed<MemSource, MemSink, MemClock>, Fail> {
+    let one = port_at(1);
+    let two = port_at(2);
+    let three = port_at(3);
+    let ready = ready_of(alloc, one, two, three, first, second, third)?;
+    match replay_session(
+        alloc,
+        plan_of(alloc, one, two, three, role, others)?,
+        ready,
+    ) {
+        Ok(closed) => Ok(closed),
+        Err(_) => Err(Fail::from("no memory")),
+    }
 }
 
 // What went out at the port at a place.
@@ -157,23 +212,52 @@ fn output_of(closed: &Closed<MemSource, MemSink, MemClock>, place: usize) -> &[u
     }
 }
 
+// The port whose egress ends failed at the entry with this number, or 0.
+fn failed_output(core: &Core, number: u64) -> u8 {
+    if number >= core.len() {
+        return 0;
+    }
+    match core.entry(number).act {
+        Act::End {
+            who: Who::Egress(port),
+            how: How::Failed,
+        } => port.get(),
+        _ => 0,
+    }
+}
+
 #[test]
 fn a_failed_read_ends_its_own_input(rt: HostRuntime) -> Result<(), Fail> {
     let alloc = rt.alloc();
-    let one = port_at(1);
-    let two = port_at(2);
-    for (fails, at_one, at_two, entries, failed, unwritten) in ROWS {
-        let first = ends_of(alloc, octets_of(alloc, &FIRST)?, fails.0, 0)?;
-        let second = ends_of(alloc, octets_of(alloc, &SECOND)?, fails.1, fails.2)?;
-        let ready = ready_of(alloc, one, two, first, second)?;
-        let Ok(closed) = replay_session(alloc, plan_of(alloc, one, two)?, ready) else {
-            return Err(Fail::from("no memory"));
-        };
+    for (one, two, at_one, at_two, entries, failed) in READS {
+        let first = ends_of(alloc, octets_of(alloc, &FIRST)?, one, 0)?;
+        let second = ends_of(alloc, octets_of(alloc, &SECOND)?, two, 0)?;
+        let third = ends_of(alloc, octets_of(alloc, NOTHING)?, 0, 0)?;
+        let closed = played(alloc, first, second, third, Role::Host, Role::Trusted)?;
         assert_eq!(rt; output_of(&closed, 0), octets_of(alloc, at_one)?.as_slice());
         assert_eq!(rt; output_of(&closed, 1), octets_of(alloc, at_two)?.as_slice());
         assert_eq!(rt; closed.core.len(), entries);
         assert_eq!(rt; closed.core.has_failed(), failed);
-        assert_eq!(rt; closed.unwritten.map_or(0, |port| port.get()), unwritten);
+        assert!(rt; !closed.core.has_failed_write());
+    }
+    Ok(())
+}
+
+#[test]
+fn a_failed_write_ends_its_own_output(rt: HostRuntime) -> Result<(), Fail> {
+    let alloc = rt.alloc();
+    for (fails, port, number, texts, entries) in WRITES {
+        let first = ends_of(alloc, octets_of(alloc, &ADVERTS)?, 0, fails[0])?;
+        let second = ends_of(alloc, octets_of(alloc, NOTHING)?, 0, fails[1])?;
+        let third = ends_of(alloc, octets_of(alloc, NOTHING)?, 0, fails[2])?;
+        let closed = played(alloc, first, second, third, Role::Trusted, Role::Host)?;
+        assert_eq!(rt; closed.core.len(), entries);
+        assert_eq!(rt; failed_output(&closed.core, number), port);
+        for (place, count) in texts.iter().enumerate() {
+            let sent = octets_of(alloc, &ADVERTS[..(*count).min(ADVERTS.len())])?;
+            assert_eq!(rt; output_of(&closed, place), sent.as_slice());
+        }
+        assert!(rt; !closed.core.has_failed());
     }
     Ok(())
 }
