@@ -1,1 +1,5 @@
 pub mod Entries
+pub mod Ways
+pub mod Filling
+pub mod Closing
+pub mod Table

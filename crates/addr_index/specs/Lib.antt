@@ -1,1 +1,4 @@
 pub mod Indexes
+pub mod Ways
+pub mod Homes
+pub mod Places

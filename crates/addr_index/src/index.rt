@@ -1,29 +1,36 @@
 //! The index.
 
-ghost use Rattle.std.specs.Prelude.{◌≡◌, ◌==◌, ◌≤◌, ◌<◌, ◌+◌, ◌^◌, ℕ, [], Some, None, is_some, if◌then◌else◌, length, IfOk};
+ghost use Rattle.std.specs.Prelude.{◌≡◌, ◌==◌, ◌≤◌, ◌<◌, ◌+◌, ◌^◌, ◌↔◌, ℕ, [], Some, None, is_some, if◌then◌else◌, length, IfOk, IsTrue};
+ghost use Rattle.std.specs.Bool.{MatchBool};
 ghost use Rattle.addr_index.specs.Indexes.{Index, key_in, HasOneEach};
 
 use crate::entry::Entry;
+use crate::places::{close_gap, search};
 use savi_kinds::Addr;
 use std::alloc::{AllocError, Global};
 use std::marker::Model;
 
 /// The key of each address that it holds.
+///
+/// An entry stands in the first place that was empty from the home of its address on, among at least twice as many places
+/// as there may be entries. A call takes O(1) on average. At worst the homes of all addresses fall together, and it goes
+/// over all of them: at most 1,024 where the addresses are those that hosts may hold, 64 at each of 16 ports.
 #[derive(Drop)]
 pub struct AddrIndex {
-    entries: Vec<Entry>,
+    places: Vec<Option<Entry>>,
+    len: u32,
     most: u32,
 }
 
 impl Model for AddrIndex {
-    ghost use Rattle.std.specs.Prelude.{◌≤◌, ◌^◌, length, vec_capacity};
-    ghost use Rattle.addr_index.specs.Indexes.{Index, HasOneEach};
+    ghost use Rattle.addr_index.specs.Indexes.{Index};
+    ghost use Rattle.addr_index.specs.Places.{IsTable, entries_of};
 
     ghost Value = { Index };
 
-    ghost view = { λ i. record { entries = i.entries.items; most = i.most } };
+    ghost view = { λ i. record { entries = entries_of i.places.items; most = i.most } };
 
-    ghost invariant = { λ i. HasOneEach i.entries.items × (length i.entries.items ≤ i.most) × (i.most ≤ vec_capacity i.entries) × (i.most ≤ 2 ^ 20) };
+    ghost invariant = { λ i. IsTable i.places.items i.len i.most };
 }
 
 impl AddrIndex {
@@ -33,23 +40,29 @@ impl AddrIndex {
         requires limit { most ≤ 2 ^ 20 }
         ensures { IfOk result (λ index. (index.entries ≡ []) × (index.most ≡ most)) }
     {
+        let count = (2 * most as usize).next_power_of_two();
+        let mut places = Vec::with_capacity(alloc, count)?;
+        for _ in 0..count {
+            places.push(None)?;
+        }
         Ok(AddrIndex {
-            entries: Vec::with_capacity(alloc, most as usize)?,
+            places,
+            len: 0,
             most,
         })
     }
 
-    /// The key of an address: None exactly where the index doesn't hold it.
+    /// The key of an address: None exactly where the index doesn't hold it. O(1) on average.
     pub fn get(&self, a: Addr) -> Option<u32>
         ensures { result ≡ key_in self.now a.0 }
     {
-        self.entries
-            .iter()
-            .find(|entry| entry.address == a.0)
-            .map(|entry| entry.key)
+        match search(&self.places, a.0) {
+            Ok(place) => self.places[place].map(|entry| entry.key),
+            Err(_) => None,
+        }
     }
 
-    /// Takes in an address that the index doesn't hold, with its key.
+    /// Takes in an address that the index doesn't hold, with its key. O(1) on average.
     pub fn insert(&mut self, a: Addr, key: u32)
         requires absent { key_in self.old a.0 ≡ None }
         requires room { length self.old.entries < self.old.most }
@@ -57,29 +70,49 @@ impl AddrIndex {
         ensures len { length self.new.entries ≡ length self.old.entries + 1 }
         ensures most { self.new.most ≡ self.old.most }
     {
-        let entry = Entry { address: a.0, key };
-        match self.entries.push(entry) {
-            Ok(()) => {}
-            Err(_) => unreachable!(),
+        match search(&self.places, a.0) {
+            Ok(_) => unreachable!(),
+            Err(place) => {
+                self.places[place] = Some(Entry { address: a.0, key });
+                self.len += 1;
+            }
         }
     }
 
-    /// Gives up an address with its key. An index that doesn't hold it stays as it is.
+    /// Gives up an address with its key. An index that doesn't hold it stays as it is. O(1) on average.
     pub fn remove(&mut self, a: Addr)
         ensures keys { (b : ℕ) → key_in self.new b ≡ (if a.0 == b then None else key_in self.old b) }
         ensures len { length self.new.entries + (if is_some (key_in self.old a.0) then 1 else 0) ≡ length self.old.entries }
         ensures most { self.new.most ≡ self.old.most }
         ensures absent { key_in self.old a.0 ≡ None → self.new ≡ self.old }
     {
-        self.entries.retain(|entry| entry.address != a.0);
+        if let Ok(place) = search(&self.places, a.0) {
+            self.places[place] = None;
+            close_gap(&mut self.places, place);
+            self.len -= 1;
+        }
     }
 
-    /// How many addresses the index holds, at most those that it has room for, and each once.
+    /// Whether the index holds no address. O(1).
+    pub fn is_empty(&self) -> bool
+        ensures { IsTrue result ↔ (length self.now.entries ≡ 0) }
+    {
+        self.len == 0
+    }
+
+    /// Whether the index holds as many addresses as it has room for. O(1).
+    pub fn is_full(&self) -> bool
+        ensures { MatchBool result (length self.now.entries ≡ self.now.most) (length self.now.entries < self.now.most) }
+    {
+        self.len == self.most
+    }
+
+    /// How many addresses the index holds, at most those that it has room for, and each once. O(1).
     pub fn len(&self) -> u32
         ensures len { result ≡ length self.now.entries }
         ensures limit { length self.now.entries ≤ self.now.most }
         ensures distinct { HasOneEach self.now.entries }
     {
-        self.entries.len() as u32
+        self.len
     }
 }

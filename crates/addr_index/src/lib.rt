@@ -3,11 +3,17 @@
 //! Contracts see an `AddrIndex` as its entries, and say of each address which key it has (`specs/Indexes.antt`). Nothing
 //! takes memory but `AddrIndex::make`.
 //!
-//! RFC 4291 section 2 (IPv6 addresses).
+//! Addresses: RFC 4291 section 2. Open addressing with a removal that leaves no mark: Knuth, The Art of Computer
+//! Programming, volume 3, section 6.4, algorithms L and R.
 #![tactic(auto)]
 
 mod entry;
+mod home;
 mod index;
+mod places;
+mod ring;
+#[cfg(test)]
+mod tests;
 
 pub use entry::Entry;
 pub use index::AddrIndex;

@@ -33,7 +33,7 @@ module _ (k : Times) (times : AreTimes k) where
       (Ages-rest k times mark.moment (Ages-aged k times mark.moment (state_of k past)))
 
   -- a test that ageing leaves was there before, or began where something was due
-  AgeRow-test : {state new : Fcfs} {due : ℕ} {probe : Option Probe} → AgeRow k state due new probe → (port : Port) (since : ℕ) → IsTestOf port since new → IsTestOf port since state ⊎ (due ≡ since)
+  pub AgeRow-test : {state new : Fcfs} {due : ℕ} {probe : Option Probe} → AgeRow k state due new probe → (port : Port) (since : ℕ) → IsTestOf port since new → IsTestOf port since state ⊎ (due ≡ since)
   AgeRow-test tentative_probe port since test = absurd test
   AgeRow-test test_lt_probe port since test = inl test
   AgeRow-test test_vp_probe port since test = inl test
@@ -42,7 +42,7 @@ module _ (k : Times) (times : AreTimes k) where
   AgeRow-test test_lt_ends port since test = absurd test
   AgeRow-test test_vp_ends port since test = absurd test
 
-  Ages-test : (t : ℕ) {state new : Fcfs} {probes : List (ℕ × Probe)} → Ages k t state probes new → (port : Port) (since : ℕ) → IsTestOf port since new → (from : ℕ) → IsRested k from state → IsTestOf port since state ⊎ (from < since)
+  pub Ages-test : (t : ℕ) {state new : Fcfs} {probes : List (ℕ × Probe)} → Ages k t state probes new → (port : Port) (since : ℕ) → IsTestOf port since new → (from : ℕ) → IsRested k from state → IsTestOf port since state ⊎ (from < since)
   Ages-test t (rests rest) port since test from idle = inl test
   Ages-test t (goes_on {due = due} {probe = probe} row by first later) port since test from idle =
       let late : from < due = idle due _ probe row in
@@ -74,10 +74,10 @@ module _ (k : Times) (times : AreTimes k) where
       ]
 
 -- the address is live at the port, or it isn't
-same_or_not : (p port : Port) → Same p port ⊎ ¬ Same p port
+pub same_or_not : (p port : Port) → Same p port ⊎ ¬ Same p port
 same_or_not p port = cases_eq (number_of p) (number_of port)
 
-live_or_not : (state : Fcfs) (port : Port) → IsLive state port ⊎ ¬ IsLive state port
+pub live_or_not : (state : Fcfs) (port : Port) → IsLive state port ⊎ ¬ IsLive state port
 live_or_not NoBind port = inr (λ live. live)
 live_or_not (Tentative p since two) port = inr (λ live. live)
 live_or_not (Valid p until) port = same_or_not p port
@@ -85,23 +85,23 @@ live_or_not (TestLt p since two) port = same_or_not p port
 live_or_not (TestVp p q since two) port = same_or_not p port
 
 -- a test of the port as the holder began then, or will begin then
-data Stands (port : Port) (since : ℕ) : Fcfs → Type 0 where
+pub data Stands (port : Port) (since : ℕ) : Fcfs → Type 0 where
   will_be : {p : Port} {until : ℕ} → Same p port → until ≡ since → Stands port since (Valid p until)
   may_be_lost : {p : Port} {from : ℕ} {two : Bool} → Same p port → from ≡ since → Stands port since (TestLt p from two)
   has_rival : {p q : Port} {from : ℕ} {two : Bool} → Same p port → from ≡ since → Stands port since (TestVp p q from two)
 
-stands_for : (port : Port) (since : ℕ) (state : Fcfs) → IsTestOf port since state → Stands port since state
+pub stands_for : (port : Port) (since : ℕ) (state : Fcfs) → IsTestOf port since state → Stands port since state
 stands_for port since NoBind test = absurd test
 stands_for port since (Tentative p from two) test = absurd test
 stands_for port since (Valid p until) test = absurd test
 stands_for port since (TestLt p from two) test = may_be_lost test.0 test.1
 stands_for port since (TestVp p q from two) test = has_rival test.0 test.1
 
-none_stands : (port : Port) (since : ℕ) → Stands port since NoBind → ⊥
+pub none_stands : (port : Port) (since : ℕ) → Stands port since NoBind → ⊥
 none_stands port since stands = elim stands [ ]
 
 -- a test isn't a binding
-bound_test : (port : Port) (since : ℕ) (state : Fcfs) → IsBoundTo port state → IsTestOf port since state → ⊥
+pub bound_test : (port : Port) (since : ℕ) (state : Fcfs) → IsBoundTo port state → IsTestOf port since state → ⊥
 bound_test port since NoBind bound test = bound
 bound_test port since (Tentative p from two) bound test = bound
 bound_test port since (Valid p until) bound test = test
@@ -109,12 +109,12 @@ bound_test port since (TestLt p from two) bound test = bound
 bound_test port since (TestVp p q from two) bound test = bound
 
 -- who isn't heard after a moment isn't heard between it and a later one
-silent_within : (port : Port) (from to : ℕ) (marks : List Mark) → IsSilentAfter port from marks → IsSilentWithin port from to marks
+pub silent_within : (port : Port) (from to : ℕ) (marks : List Mark) → IsSilentAfter port from marks → IsSilentWithin port from to marks
 silent_within port from to [] quiet = tt
 silent_within port from to (mark ∷ past) quiet = (λ above below. quiet.0 above, silent_within port from to past quiet.1)
 
 module _ (k : Times) (times : AreTimes k) where
-  AgeRow-stands : {state new : Fcfs} {due : ℕ} {probe : Option Probe} → AgeRow k state due new probe → (port : Port) (since : ℕ) → IsSound state → IsLive state port → Stands port since new → Stands port since state
+  pub AgeRow-stands : {state new : Fcfs} {due : ℕ} {probe : Option Probe} → AgeRow k state due new probe → (port : Port) (since : ℕ) → IsSound state → IsLive state port → Stands port since new → Stands port since state
   AgeRow-stands tentative_probe port since sound live stands = absurd live
   AgeRow-stands test_lt_probe port since sound live (may_be_lost same is) = may_be_lost same is
   AgeRow-stands test_vp_probe port since sound live (has_rival same is) = has_rival same is
@@ -124,12 +124,12 @@ module _ (k : Times) (times : AreTimes k) where
   AgeRow-stands test_vp_ends port since sound live (will_be same is) = absurd (sound (live ∙ sym same))
 
   -- what ends that an address is live, in an ageing to t
-  record Ends (t : ℕ) (port : Port) (state : Fcfs) : Type 0 where
+  pub record Ends (t : ℕ) (port : Port) (state : Fcfs) : Type 0 where
     pub since : ℕ
     pub by : since + k.test ≤ t
     pub stands : Stands port since state
 
-  Ages-ends : (t : ℕ) {state new : Fcfs} {probes : List (ℕ × Probe)} → Ages k t state probes new → IsSound state → (port : Port) → IsLive state port → ¬ IsLive new port → Ends t port state
+  pub Ages-ends : (t : ℕ) {state new : Fcfs} {probes : List (ℕ × Probe)} → Ages k t state probes new → IsSound state → (port : Port) → IsLive state port → ¬ IsLive new port → Ends t port state
   Ages-ends t (rests rest) sound port live ended = absurd (ended live)
   Ages-ends t (goes_on {state = state} {mid = mid} {due = due} row by first later) sound port live ended =
       elim (live_or_not mid port) [
@@ -143,12 +143,12 @@ module _ (k : Times) (times : AreTimes k) where
       ]
 
   -- where nothing is due, the end of the test is to come, and so is its beginning if it isn't there yet
-  stands_to_come : {state : Fcfs} (port : Port) (since from : ℕ) → Stands port since state → IsRested k from state → from < since + k.test
+  pub stands_to_come : {state : Fcfs} (port : Port) (since from : ℕ) → Stands port since state → IsRested k from state → from < since + k.test
   stands_to_come port since from (will_be {until = until} same is) idle = let late : from < until = idle until _ _ valid_ends in omega arith
   stands_to_come port since from (may_be_lost {from = began} same is) idle = let late : from < began + k.test = idle (began + k.test) _ _ test_lt_ends in omega arith
   stands_to_come port since from (has_rival {from = began} same is) idle = let late : from < began + k.test = idle (began + k.test) _ _ test_vp_ends in omega arith
 
-  stands_now : {state : Fcfs} (port : Port) (since from : ℕ) → Stands port since state → IsRested k from state → IsTestOf port since state ⊎ (from < since)
+  pub stands_now : {state : Fcfs} (port : Port) (since from : ℕ) → Stands port since state → IsRested k from state → IsTestOf port since state ⊎ (from < since)
   stands_now port since from (will_be {until = until} same is) idle = inr (let late : from < until = idle until _ _ valid_ends in omega arith)
   stands_now port since from (may_be_lost same is) idle = inl (same, is)
   stands_now port since from (has_rival same is) idle = inl (same, is)

@@ -15,17 +15,17 @@ use Rattle.fcfs_states.specs.Table.{Row, no_bind_sent, no_bind_dad, no_bind_sent
 use Rattle.fcfs_states.specs.Next.{Next, next, next_no_bind, next_tentative, next_valid, next_test_lt, next_test_vp, is_same}
 
 -- two ports are one, or not, with the test of it
-same_is : (r p : Port) → Same r p → is_same r p ≡ true
+pub same_is : (r p : Port) → Same r p → is_same r p ≡ true
 same_is r p same = eq-eqb (number_of r) (number_of p) same
 
-differ_is : (r p : Port) → ¬ Same r p → is_same r p ≡ false
+pub differ_is : (r p : Port) → ¬ Same r p → is_same r p ≡ false
 differ_is r p differ = elim (cases_Bool (is_same r p)) [ inl is ↦ absurd (differ (eqb-true (number_of r) (number_of p) is)) | inr is ↦ is ]
 
-data Cases (r p : Port) : Type 0 where
+pub data Cases (r p : Port) : Type 0 where
   one : Same r p → is_same r p ≡ true → Cases r p
   two_ports : ¬ Same r p → is_same r p ≡ false → Cases r p
 
-cases : (r p : Port) → Cases r p
+pub cases : (r p : Port) → Cases r p
 cases r p =
     elim (cases_Bool (is_same r p)) [
       | inl is ↦ one (eqb-true (number_of r) (number_of p) is) is

@@ -78,7 +78,8 @@ pub fn only_a_test_ends_a_binding()
 
 /// While a test stands its holder isn't heard: in a run of events that leaves a test, aged to t, no event at a moment above
 /// that at which the test began was one of its holder. And an event that finds a test which began before it, and leaves
-/// one, leaves it as it is.
+/// one, leaves it as it is. These runs start from no binding and have the five events of first come alone; `mix_rules` has
+/// the law for all nine kinds, from any sound state.
 pub fn a_test_stands_in_silence()
     ensures run { (k : Times) (t : ℕ) (marks : List Mark) (port : Port) (since : ℕ)
         → AreTimes k → IsRun t marks → IsTestOf port since (aged k t (state_of k marks)).state
@@ -90,7 +91,9 @@ pub fn a_test_stands_in_silence()
 
 /// First come, first served. Let an address be live at a port at t0, after the events of `early`, and no longer at t, after
 /// those of `late` too (newest first). Then the host at that port wasn't heard for as long as a test takes, up to a moment
-/// after t0 and by t. Where the address was bound to the port at t0, the whole of that time lies behind t0.
+/// after t0 and by t. Where the address was bound to the port at t0, the whole of that time lies behind t0. These runs start
+/// from no binding and have the five events of first come alone; `mix_rules` has the law for all nine kinds, from any sound
+/// state.
 pub fn first_come_is_first_served()
     ensures { (k : Times) (t0 t : ℕ) (early late : List Mark) (port : Port)
         → AreTimes k → t0 ≤ t → IsRun t0 early → IsRun t (late ++ early)

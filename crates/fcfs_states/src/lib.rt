@@ -25,12 +25,13 @@ mod turn;
 mod valid;
 
 pub use ageing::Aged;
-pub use answer::{Answer, Probe};
+pub use answer::{Answer, Probe, dropping, passing};
 pub use event::Ev;
 pub use laws::{
     a_test_stands_in_silence, ageing_composes, ageing_is_one, ageing_sends_few_probes_in_order,
     every_event_meets_one_row, first_come_is_first_served, nothing_is_due_after_ageing,
     only_a_test_ends_a_binding, states_stay_valid,
 };
+pub use ports::is_same;
 pub use state::Fcfs;
 pub use times::Times;

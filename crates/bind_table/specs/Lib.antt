@@ -1,0 +1,5 @@
+pub mod Rows
+pub mod Bindings
+pub mod Places
+pub mod Kept
+pub mod Counts

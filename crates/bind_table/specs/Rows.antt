@@ -1,0 +1,62 @@
+-- The rows of a table of bindings: an address and its state each, in rising order of address, none without a state.
+use Rattle.std.specs.Prelude.{◌≡◌, ℕ, ◌<◌, ◌==◌, nat_lt, Bool, true, if◌then◌else◌, List, [], ◌∷◌, ◌++◌, filter, count_by}
+use Rattle.std.specs.List.{AllByRecursion}
+use Rattle.savi_kinds.specs.declared.address.Addr.{Addr}
+use Rattle.mix_rules.specs.declared.state.AddrState.{AddrState}
+use Rattle.mix_rules.specs.States.{nobody, has_state, is_held_at}
+use Rattle.bind_table.specs.declared.row.Row.{Row}
+
+-- the address of a row as a number
+abbrev pub address_of : Row → ℕ
+address_of row = row.address.0
+
+-- the state of an address: none where it has no row
+abbrev pub state_in : List Row → ℕ → AddrState
+state_in [] a = nobody
+state_in (row ∷ rows) a = if address_of row == a then row.state else state_in rows a
+
+-- the row of an address with a state
+abbrev pub row_of : ℕ → AddrState → Row
+row_of a state = record { address = record { 0 = a }; state = state }
+
+-- the rows of this address: one, or none where it has no state
+abbrev pub rows_of : ℕ → AddrState → List Row
+rows_of a state = if has_state state then row_of a state ∷ [] else []
+
+-- whether a row's address is lower than this one
+abbrev pub is_below : ℕ → Row → Bool
+is_below a row = nat_lt (address_of row) a
+
+-- whether it is higher
+abbrev pub is_above : ℕ → Row → Bool
+is_above a row = nat_lt a (address_of row)
+
+-- the rows once this address has this state: those of lower addresses, its own, and those of higher ones
+abbrev pub with_state : ℕ → AddrState → List Row → List Row
+with_state a state rows = filter (is_below a) rows ++ (rows_of a state ++ filter (is_above a) rows)
+
+-- each row has a higher address than those before it
+abbrev pub IsRising : List Row → Type 0
+IsRising [] = Unit {0}
+IsRising (row ∷ rows) = AllByRecursion (λ later. address_of row < address_of later) rows × IsRising rows
+
+-- each row has a state
+abbrev pub AllStand : List Row → Type 0
+AllStand rows = AllByRecursion (λ row. has_state row.state ≡ true) rows
+
+-- the rows of a table
+pub record IsTable (rows : List Row) : Type 0 where
+  pub rising : IsRising rows
+  pub stand : AllStand rows
+
+-- whether the port of this number holds the address of a row
+abbrev pub is_at : ℕ → Row → Bool
+is_at port row = is_held_at port row.state
+
+-- how many addresses a port holds: each counts once
+abbrev pub count_at : ℕ → List Row → ℕ
+count_at port rows = count_by (is_at port) rows
+
+-- what is told of a row: its address and its state
+abbrev pub pair_of : Row → Addr × AddrState
+pair_of row = (row.address, row.state)

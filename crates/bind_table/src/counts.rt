@@ -1,0 +1,78 @@
+//! How many addresses each port holds, kept as a number for each.
+
+ghost use Rattle.std.specs.Prelude.{◌≡◌, ◌≤◌, ◌<◌, ◌-◌, ◌^◌, ◌||◌, ℕ, slice_index};
+ghost use Rattle.savi_kinds.specs.Ports.{number_of};
+ghost use Rattle.savi_kinds.specs.PortSets.{is_member};
+ghost use Rattle.mix_rules.specs.States.{is_fixed_to, is_bound_to, is_held_in, is_held_at};
+ghost use Rattle.bind_table.specs.Counts.{held_once, IsRecounted};
+
+use dhcp_states::Bound;
+use fcfs_states::Fcfs;
+use mix_rules::AddrState;
+use savi_kinds::{PORTS_MOST, Port, PortSet};
+
+// How many addresses the port holds. O(1).
+pub(crate) fn count(counts: &[u32; PORTS_MOST], q: Port) -> u32
+    ensures { result ≡ slice_index counts.now (number_of q - 1) }
+{
+    counts[usize::from(q.get()) - 1]
+}
+
+// Counts an address anew that had the state `before` and has the state `after`. O(1) where the same ports hold it as before,
+// which is the common case; else it goes over the 16 ports.
+pub(crate) fn recount(counts: &mut [u32; PORTS_MOST], before: &AddrState, after: &AddrState)
+    requires least { (port : ℕ) → 1 ≤ port → port ≤ 16 → held_once port before.now ≤ slice_index counts.old (port - 1) }
+    requires most { (port : ℕ) → 1 ≤ port → port ≤ 16 → slice_index counts.old (port - 1) ≤ 2 ^ 20 }
+    ensures { IsRecounted before.now after.now counts.old counts.new }
+{
+    let left = holders(before);
+    let came = holders(after);
+    if left.0 == came.0 {
+        return;
+    }
+    for place in 0..PORTS_MOST {
+        let Some(port) = Port::new(place as u8 + 1) else {
+            unreachable!();
+        };
+        counts[place] = counts[place] + u32::from(came.contains(port))
+            - u32::from(left.contains(port));
+    }
+}
+
+// The ports that hold an address of this state.
+fn holders(state: &AddrState) -> PortSet
+    ensures { (port : ℕ) → 1 ≤ port → is_member result port ≡ is_held_at port state.now }
+{
+    with_fixed(
+        with_bound(with_first_come(PortSet::empty(), state.fcfs), state.dhcp),
+        state.fixed,
+    )
+}
+
+fn with_fixed(ports: PortSet, fixed: Option<Port>) -> PortSet
+    ensures { (port : ℕ) → 1 ≤ port → is_member result port ≡ (is_fixed_to port fixed || is_member ports port) }
+{
+    match fixed {
+        Some(p) => ports.with(p),
+        None => ports,
+    }
+}
+
+fn with_bound(ports: PortSet, dhcp: Option<Bound>) -> PortSet
+    ensures { (port : ℕ) → 1 ≤ port → is_member result port ≡ (is_bound_to port dhcp || is_member ports port) }
+{
+    match dhcp {
+        Some(bound) => ports.with(bound.p),
+        None => ports,
+    }
+}
+
+fn with_first_come(ports: PortSet, fcfs: Fcfs) -> PortSet
+    ensures { (port : ℕ) → 1 ≤ port → is_member result port ≡ (is_held_in port fcfs || is_member ports port) }
+{
+    match fcfs {
+        Fcfs::NoBind => ports,
+        Fcfs::Tentative { p, .. } | Fcfs::Valid { p, .. } | Fcfs::TestLt { p, .. } => ports.with(p),
+        Fcfs::TestVp { p, q, .. } => ports.with(q).with(p),
+    }
+}

@@ -1,0 +1,31 @@
+//! The search for a place in the order of addresses.
+
+ghost use Rattle.std.specs.Prelude.{◌≡◌};
+ghost use Rattle.slab.specs.Slab.{get};
+ghost use Rattle.bind_table.specs.Rows.{IsRising};
+ghost use Rattle.bind_table.specs.Places.{place_of};
+ghost use Rattle.bind_table.specs.Kept.{HaveRows, rows_under};
+
+use crate::row::Row;
+use crate::stored::row_under;
+use savi_kinds::Addr;
+use slab::Slab;
+
+// How many of the rows under these keys have addresses lower than this one. O(log n).
+pub(crate) fn count_lower(rows: &Slab<Row>, keys: &[u32], a: Addr) -> usize
+    requires told { HaveRows (get rows.now) keys.now (rows_under rows.now keys.now) }
+    requires rising { IsRising (rows_under rows.now keys.now) }
+    ensures { result ≡ place_of a.0 (rows_under rows.now keys.now) }
+{
+    let mut low = 0;
+    let mut high = keys.len();
+    while low < high {
+        let middle = low + (high - low) / 2;
+        if row_under(rows, keys[middle]).address.0 < a.0 {
+            low = middle + 1;
+        } else {
+            high = middle;
+        }
+    }
+    low
+}

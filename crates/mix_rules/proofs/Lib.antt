@@ -1,0 +1,6 @@
+pub mod TableLemmas
+pub mod EventLemmas
+pub mod AgeingLemmas
+pub mod EndLemmas
+pub mod RunLemmas
+pub mod FirstComeLemmas
