@@ -1,24 +1,26 @@
--- How many rows a table has after a renewal.
-use Rattle.std.proofs.Common.{◌≡◌, ◌≤◌, ◌<◌, ◌+◌, ◌⊎◌, ℕ, Bool, true, false, nat_lt, cond, List, [], ◌∷◌, ◌++◌, length, length-append, filter, refl, arith, inl, inr}
+-- How many rows a table or a wheel has after a renewal.
+use Rattle.std.proofs.Common.{◌≤◌, ◌+◌, ℕ, nat_lt, List, [], ◌∷◌, ◌++◌, Some, length, length-append, filter, arith, inl, inr}
 use Rattle.std.proofs.lemmas.Bool.{cases_Bool, ltb-true}
 use Rattle.mix_rules.specs.declared.state.AddrState.{AddrState}
 use Rattle.mix_rules.specs.States.{has_state}
 use Rattle.bind_table.specs.declared.row.Row.{Row}
+use Rattle.timer_wheel.specs.declared.armed.Armed.{Armed}
+use Rattle.timer_wheel.specs.Arms.{with_due, is_below as is_due_below, is_above as is_due_above}
 use Rattle.bind_table.specs.Rows.{address_of, is_below, is_above, rows_of, with_state}
 
 -- no row is both below and above an address
-length_parts : (a : ℕ) (rows : List Row) → length (filter (is_below a) rows) + length (filter (is_above a) rows) ≤ length rows
-length_parts a [] = omega arith
-length_parts a (row ∷ rows) =
-    let rest : length (filter (is_below a) rows) + length (filter (is_above a) rows) ≤ length rows = length_parts a rows in
-    elim (cases_Bool (is_below a row)) [
+length_parts : {X : Type 0} (number : X → ℕ) (a : ℕ) (rows : List X) → length (filter (λ row. nat_lt (number row) a) rows) + length (filter (λ row. nat_lt a (number row)) rows) ≤ length rows
+length_parts number a [] = omega arith
+length_parts {X} number a (row ∷ rows) =
+    let rest : length (filter (λ (x : X). nat_lt (number x) a) rows) + length (filter (λ (x : X). nat_lt a (number x)) rows) ≤ length rows = length_parts number a rows in
+    elim (cases_Bool (nat_lt (number row) a)) [
       | inl below ↦
-          elim (cases_Bool (is_above a row)) [
-            | inl above ↦ absurd (omega (arith, ltb-true (address_of row) a below, ltb-true a (address_of row) above))
+          elim (cases_Bool (nat_lt a (number row))) [
+            | inl above ↦ absurd (omega (arith, ltb-true (number row) a below, ltb-true a (number row) above))
             | inr not_above ↦ rw (below, not_above) (omega (arith, rest))
           ]
       | inr not_below ↦
-          elim (cases_Bool (is_above a row)) [
+          elim (cases_Bool (nat_lt a (number row))) [
             | inl above ↦ rw (not_below, above) (omega (arith, rest))
             | inr not_above ↦ rw (not_below, not_above) (omega (arith, rest))
           ]
@@ -34,4 +36,8 @@ one_row a state =
 -- a renewal adds one row at most
 pub length-with_state : (a : ℕ) (state : AddrState) (rows : List Row) → length (with_state a state rows) ≤ length rows + 1
 length-with_state a state rows =
-    omega (arith, length-append (filter (is_below a) rows) (rows_of a state ++ filter (is_above a) rows), length-append (rows_of a state) (filter (is_above a) rows), length_parts a rows, one_row a state)
+    omega (arith, length-append (filter (is_below a) rows) (rows_of a state ++ filter (is_above a) rows), length-append (rows_of a state) (filter (is_above a) rows), length_parts address_of a rows, one_row a state)
+
+pub length-with_due : (a due : ℕ) (arms : List Armed) → length (with_due a (Some due) arms) ≤ length arms + 1
+length-with_due a due arms =
+    omega (arith, length-append (filter (is_due_below a) arms) (record { address = record { 0 = a }; due = due } ∷ filter (is_due_above a) arms), length_parts (λ (armed : Armed). armed.address.0) a arms)

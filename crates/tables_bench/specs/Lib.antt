@@ -1,1 +1,2 @@
+pub mod Armed
 pub mod Renewed

@@ -1,4 +1,5 @@
-//! Calls of `addr_index` and `bind_table`, timed beside those of std's `HashMap` and `BTreeMap` with as many keys.
+//! Calls of `addr_index`, `bind_table` and `timer_wheel`, timed beside those of std's `HashMap` and `BTreeMap` with as many
+//! keys.
 //!
 //! usage: tables_bench time|compare. `time` prints a line for each kind of call at 512 and at 1,024 addresses: its name, how
 //! many addresses there are, how many calls were made, and the nanoseconds of the processor that they took (and a number that
@@ -13,6 +14,7 @@ mod compare;
 mod keys;
 mod plain_rows;
 mod timed;
+mod wheel_turns;
 
 use std::alloc::Global;
 use std::time::CpuClock;
@@ -64,5 +66,7 @@ fn all_timed<R: CpuClock>(rt: &R, alloc: Global, addresses: u32) -> io::Result<V
     times.push(timed::hash_map_put(rt, alloc, addresses)?)?;
     times.push(timed::btree_map_put(rt, alloc, addresses)?)?;
     times.push(timed::bind_table_put(rt, alloc, addresses)?)?;
+    times.push(timed::wheel_arm(rt, alloc, addresses)?)?;
+    times.push(timed::wheel_next_due(rt, alloc, addresses)?)?;
     Ok(times)
 }

@@ -4,6 +4,7 @@ ghost use Rattle.std.specs.Prelude.{◌≡◌, ◌≤◌, ◌*◌, IfOk};
 
 use crate::bindings::{bound_until, count_bound, renew_all};
 use crate::keys::{address, asked_addresses};
+use crate::wheel_turns::{LIFE_MS, arm_all, armed_wheel};
 use addr_index::AddrIndex;
 use bind_table::BindTable;
 use mix_rules::AddrState;
@@ -217,4 +218,37 @@ pub fn bind_table_put<R: CpuClock>(rt: &R, alloc: Global, addresses: u32) -> io:
     }
     let took = rt.thread_cpu_time()?.saturating_sub(start);
     Ok(in_rounds("bind_table_put", addresses, took, answers))
+}
+
+/// `TimerWheel::arm` of addresses for which something is due: each will be due after all others.
+pub fn wheel_arm<R: CpuClock>(rt: &R, alloc: Global, addresses: u32) -> io::Result<Timed>
+    requires some { 1 ≤ addresses }
+    requires limit { addresses ≤ 1024 }
+{
+    let asked = asked_addresses(alloc, addresses)?;
+    let mut took = Duration::ZERO;
+    for _ in 0..ROUNDS {
+        let mut wheel = armed_wheel(alloc, addresses)?;
+        let start = rt.thread_cpu_time()?;
+        arm_all(&mut wheel, asked.as_slice(), LIFE_MS + u64::from(addresses));
+        took = took.saturating_add(rt.thread_cpu_time()?.saturating_sub(start));
+    }
+    Ok(in_rounds("wheel_arm", addresses, took, 0))
+}
+
+/// `TimerWheel::next_due` with nothing due, as many times a round as there are addresses, and a ms later each round.
+pub fn wheel_next_due<R: CpuClock>(rt: &R, alloc: Global, addresses: u32) -> io::Result<Timed>
+    requires some { 1 ≤ addresses }
+    requires limit { addresses ≤ 1024 }
+{
+    let mut wheel = armed_wheel(alloc, addresses)?;
+    let start = rt.thread_cpu_time()?;
+    let mut answers = 0u64;
+    for round in 0..ROUNDS {
+        for _ in 0..addresses {
+            answers = answers.wrapping_add(u64::from(wheel.next_due(round).is_some()));
+        }
+    }
+    let took = rt.thread_cpu_time()?.saturating_sub(start);
+    Ok(in_rounds("wheel_next_due", addresses, took, answers))
 }

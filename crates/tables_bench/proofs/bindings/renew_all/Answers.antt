@@ -1,5 +1,4 @@
-use Rattle.std.proofs.Common.{◌≡◌, ◌<◌, ◌≤◌, ◌+◌, ℕ, List, get_or, ap, take, sym, ◌∙◌, inr, subst, arith, length}
-use Rattle.std.specs.List.{fold}
+use Rattle.std.proofs.Common.{◌≡◌, ◌≤◌, ◌+◌, List, get_or, ap, sym, ◌∙◌, inr, arith, length}
 use Rattle.std.proofs.lemmas.List.Sums.{fold_more}
 use Rattle.savi_kinds.specs.declared.address.Addr.{Addr}
 use Rattle.bind_table.specs.declared.row.Row.{Row}
