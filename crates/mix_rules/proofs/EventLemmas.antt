@@ -23,8 +23,8 @@ use Rattle.mix_rules.specs.States.{IsSoundFor, IsLiveAt}
 use Rattle.mix_rules.specs.Ageing.{bound_at, end_of, IsStill}
 use Rattle.mix_rules.specs.Premises.{IsLow, AllMomentsFit, IsLeaseInRange}
 use Rattle.mix_rules.specs.FirstCome.{IsOwnedAt}
-use Rattle.mix_rules.specs.Next.{next_state, fcfs_by, is_dhcp, is_taken_beside}
-use Rattle.mix_rules.specs.Ends.{IsByOperator, EndsByEvent, IsPassing}
+use Rattle.mix_rules.specs.Next.{next_state, fcfs_by, is_dhcp, is_taken_beside, IsPassing}
+use Rattle.mix_rules.specs.Ends.{IsByOperator, EndsByEvent}
 
 pub next-sound : (m : Method) (k : Times) (t : ℕ) (room : Bool) (s : AddrState) (event : Ev) → IsSoundFor m s → IsSoundFor m (next_state m k t room s event).1
 next-sound m k t room s event sound = search rules

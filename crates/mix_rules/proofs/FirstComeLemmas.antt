@@ -16,8 +16,8 @@ use Rattle.dhcp_states.specs.Bindings.{has_ended, binding_at}
 use Rattle.mix_rules.specs.declared.state.AddrState.{AddrState}
 use Rattle.mix_rules.specs.States.{IsSoundFor, IsLiveAt, IsLiveBy, IsFixedAt, owner_of}
 use Rattle.mix_rules.specs.Ageing.{AgedAddr, aged_state, IsStill}
-use Rattle.mix_rules.specs.Next.{next_state}
-use Rattle.mix_rules.specs.Ends.{EndsByTest, EndsByTime, IsPassing}
+use Rattle.mix_rules.specs.Next.{next_state, IsPassing}
+use Rattle.mix_rules.specs.Ends.{EndsByTest, EndsByTime}
 use Rattle.mix_rules.specs.FirstCome.{state_of, state_at, answer_at, IsRun, IsOwnedAt, OnTheWay, by_age, by_event, earlier, IsSilenced, IsKept, but_for_silence, but_for_operator, but_for_dhcp}
 use Rattle.mix_rules.proofs.EventLemmas.{next-live, next-owned, sent-passes, one_port}
 use Rattle.mix_rules.proofs.AgeingLemmas.{aged-sound, aged-still, still-untouched}

@@ -1,9 +1,6 @@
 -- How it ends that an address is live at a port.
-use Rattle.std.specs.Prelude.{ℕ, ◌≡◌, ◌≢◌, ◌+◌, ◌≤◌, ◌⊎◌, Option, Some, None}
+use Rattle.std.specs.Prelude.{ℕ, ◌≡◌, ◌≢◌, ◌+◌, ◌≤◌, ◌⊎◌, None}
 use Rattle.savi_kinds.specs.declared.port.Port.{Port}
-use Rattle.savi_kinds.specs.declared.verdict.Verdict.{Verdict}
-use Rattle.savi_kinds.specs.declared.verdict.Verdict.TheVariants.{Pass, Drop}
-use Rattle.fcfs_states.specs.declared.answer.Answer.{Answer}
 use Rattle.fcfs_states.specs.declared.event.Ev.{Ev}
 use Rattle.fcfs_states.specs.declared.event.Ev.TheVariants.{Sent, Dad, Na, TpDad, TpNa, Lease, Release, Fix, Clear}
 use Rattle.fcfs_states.specs.declared.state.Fcfs.{Fcfs}
@@ -64,12 +61,3 @@ pub record EndsByTest (k : Times) (port : Port) (t : ℕ) (before : AddrState) :
   pub tested : IsTested port since before.fcfs
   pub by : since + k.test ≤ t
   pub alone : owner_of before.fixed before.dhcp ≡ None
-
--- the answer lets the frame pass
-abbrev pub IsPass : Option Verdict → Type 0
-IsPass None = ⊥
-IsPass (Some (Pass scope)) = Unit {0}
-IsPass (Some (Drop rule)) = ⊥
-
-abbrev pub IsPassing : Answer → Type 0
-IsPassing answer = IsPass answer.verdict

@@ -6,6 +6,8 @@ use Rattle.savi_kinds.specs.declared.plan.Method.{Method}
 use Rattle.savi_kinds.specs.declared.plan.Method.TheVariants.{Fcfs as ByFcfs, Dhcp as ByDhcp, Mixed as ByBoth}
 use Rattle.savi_kinds.specs.declared.verdict.Rule.TheVariants.{NotAssigned, WrongPort, NaTarget}
 use Rattle.savi_kinds.specs.declared.verdict.Scope.TheVariants.{All, TrustedOnly, TrustedAnd}
+use Rattle.savi_kinds.specs.declared.verdict.Verdict.{Verdict}
+use Rattle.savi_kinds.specs.declared.verdict.Verdict.TheVariants.{Pass, Drop}
 use Rattle.savi_kinds.specs.Ports.{number_of}
 use Rattle.fcfs_states.specs.declared.answer.Answer.{Answer}
 use Rattle.fcfs_states.specs.declared.event.Ev.{Ev}
@@ -124,3 +126,12 @@ abbrev pub next_state : Method → Times → ℕ → Bool → AddrState → Ev �
 next_state m k t room s (Fix p) = (silence, record nobody { fixed = Some p })
 next_state m k t room s Clear = (silence, nobody)
 next_state m k t room s event = by_parts m k t room s event
+
+-- the answer lets the frame pass
+abbrev pub IsPass : Option Verdict → Type 0
+IsPass None = ⊥
+IsPass (Some (Pass scope)) = Unit {0}
+IsPass (Some (Drop rule)) = ⊥
+
+abbrev pub IsPassing : Answer → Type 0
+IsPassing answer = IsPass answer.verdict

@@ -3,8 +3,6 @@
 ghost use Rattle.std.specs.Prelude.{◌≡◌, ◌≢◌, ◌<◌, ◌≤◌, ◌^◌, ◌↔◌, IsTrue, false, IsNone, IfSome, ℕ, length};
 ghost use Rattle.savi_kinds.specs.declared.plan.Method.{Method};
 ghost use Rattle.fcfs_states.specs.Premises.{AreTimes};
-ghost use Rattle.fcfs_states.specs.Ageing.{Ages};
-ghost use Rattle.fcfs_states.specs.Aged.{due_of};
 ghost use Rattle.fcfs_states.specs.AgeingLaws.{AreRising};
 
 use crate::state::AddrState;
@@ -12,7 +10,7 @@ use fcfs_states::{Aged, Times};
 
 impl AddrState {
     ghost use Rattle.mix_rules.specs.States.{IsSoundFor};
-    ghost use Rattle.mix_rules.specs.Ageing.{aged_state, due_in, sooner, end_of, bound_at, IsStill, IsTouched};
+    ghost use Rattle.mix_rules.specs.Ageing.{aged_state, due_in, IsStill, IsTouched};
     ghost use Rattle.mix_rules.specs.Premises.{AllMomentsFit};
 
     /// Ages the state to moment `t` (ms): what fell due by then takes place, each thing at its own moment, and each method

@@ -1,6 +1,6 @@
 // What the tables of both methods come to. Each function does nothing: its contract is the law.
 
-ghost use Rattle.std.specs.Prelude.{◌≡◌, ◌≢◌, ℕ, ◌+◌, ◌<◌, ◌≤◌, ◌^◌, ◌↔◌, ◌⊎◌, Bool, false, Option, Some, None, List, [], ◌++◌};
+ghost use Rattle.std.specs.Prelude.{◌≡◌, ℕ, ◌+◌, ◌<◌, ◌≤◌, ◌^◌, ◌↔◌, ◌⊎◌, Bool, false, Option, Some, None, List, [], ◌++◌};
 ghost use Rattle.savi_kinds.specs.declared.port.Port.{Port};
 ghost use Rattle.savi_kinds.specs.declared.plan.Method.{Method};
 ghost use Rattle.fcfs_states.specs.declared.answer.Probe.{Probe};
@@ -13,11 +13,11 @@ ghost use Rattle.fcfs_states.specs.Ageing.{IsRested, behind};
 ghost use Rattle.fcfs_states.specs.FirstCome.{Mark, IsTestOf, IsHeardAt, IsSilentAfter};
 ghost use Rattle.mix_rules.specs.declared.state.AddrState.{AddrState};
 ghost use Rattle.mix_rules.specs.States.{nobody, has_state, IsSoundFor, IsLiveAt};
-ghost use Rattle.mix_rules.specs.Next.{next_state};
+ghost use Rattle.mix_rules.specs.Next.{next_state, IsPassing};
 ghost use Rattle.mix_rules.specs.TableLaws.{IsOnlyRow};
 ghost use Rattle.mix_rules.specs.Ageing.{aged_state, due_in, joined, IsStill, IsTouched};
 ghost use Rattle.mix_rules.specs.Premises.{AllMomentsFit, IsLeaseInRange};
-ghost use Rattle.mix_rules.specs.Ends.{IsByOperator, EndsByEvent, EndsByTime, EndsByTest, IsPassing};
+ghost use Rattle.mix_rules.specs.Ends.{IsByOperator, EndsByEvent, EndsByTime, EndsByTest};
 ghost use Rattle.mix_rules.specs.FirstCome.{state_of, state_at, answer_at, IsRun, IsKept};
 
 /// An address has no state exactly where its state is that of an address that no port has.

@@ -1,6 +1,6 @@
 // The table of events.
 
-ghost use Rattle.std.specs.Prelude.{◌≡◌, ◌≤◌, ◌^◌, IsTrue, ◌↔◌};
+ghost use Rattle.std.specs.Prelude.{◌≡◌, ◌≤◌, ◌^◌};
 ghost use Rattle.fcfs_states.specs.Premises.{AreTimes, IsFcfsEvent, MomentsFit};
 ghost use Rattle.fcfs_states.specs.States.{IsSound};
 ghost use Rattle.fcfs_states.specs.Ageing.{IsRested};
