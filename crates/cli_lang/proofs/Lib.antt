@@ -1,0 +1,2 @@
+pub mod WordsFound
+pub mod DecimalRead

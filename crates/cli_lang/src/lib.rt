@@ -1,0 +1,13 @@
+//! The command line of the switch: what a line asks for.
+//!
+//! `command` reads one line; `specs/Commands.antt` says which line is which command, and which fault
+//! each other line has. Addresses are those of RFC 4291 section 2.2.
+#![tactic(auto)]
+
+mod command_line;
+mod decimal;
+mod kinds;
+mod words;
+
+pub use command_line::command;
+pub use kinds::{CmdFault, Command};
