@@ -1,2 +1,4 @@
 pub mod WordsFound
 pub mod DecimalRead
+pub mod OneAnswer
+pub mod WordsJoined

@@ -69,7 +69,7 @@ at_space line n found =
     lost outside = rw (le-ltb (position_or_len (λ c. c == 32) line) (length line) outside) refl
 
 -- a line has a word
-some_word : (line : List ℕ) → 0 < length (words_of line)
+pub some_word : (line : List ℕ) → 0 < length (words_of line)
 some_word [] = omega arith
 some_word (c ∷ line) = begun c (c == 32) (words_of line)
   where

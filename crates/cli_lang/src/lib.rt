@@ -7,7 +7,9 @@
 mod command_line;
 mod decimal;
 mod kinds;
+mod laws;
 mod words;
 
 pub use command_line::command;
 pub use kinds::{CmdFault, Command};
+pub use laws::{a_line_has_one_answer, words_spell_their_line};
