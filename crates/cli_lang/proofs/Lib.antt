@@ -2,3 +2,6 @@ pub mod WordsFound
 pub mod DecimalRead
 pub mod OneAnswer
 pub mod WordsJoined
+pub mod TextSays
+pub mod LineTaken
+pub mod AheadHeld

@@ -11,15 +11,15 @@ begun_line c [] = refl
 begun_line c (word ∷ []) = refl
 begun_line c (word ∷ next ∷ words) = refl
 
--- an empty word in front of others
-empty_word : (words : List (List ℕ)) → 0 < length words → join_with_byte 32 ([] ∷ words) ≡ 32 ∷ join_with_byte 32 words
-empty_word [] some = absurd (omega arith)
-empty_word (word ∷ words) some = refl
+-- a word in front of others
+pub join_first : (word : List ℕ) (words : List (List ℕ)) → 0 < length words → join_with_byte 32 (word ∷ words) ≡ word ++ (32 ∷ join_with_byte 32 words)
+join_first word [] some = absurd (omega arith)
+join_first word (next ∷ words) some = refl
 
 pub words_joined : (line : List ℕ) → join_with_byte 32 (words_of line) ≡ line
 words_joined [] = refl
 words_joined (c ∷ line) =
     elim (cases_eq c 32) [
-      | inl space ↦ rw (eq-eqb c 32 space) (empty_word (words_of line) (some_word line) ∙ ap (λ (l : List ℕ). 32 ∷ l) (words_joined line) ∙ ap (λ (b : ℕ). b ∷ line) (sym space))
+      | inl space ↦ rw (eq-eqb c 32 space) (join_first [] (words_of line) (some_word line) ∙ ap (λ (l : List ℕ). 32 ∷ l) (words_joined line) ∙ ap (λ (b : ℕ). b ∷ line) (sym space))
       | inr other ↦ rw (ne_eqb c 32 other) (begun_line c (words_of line) ∙ ap (λ (l : List ℕ). c ∷ l) (words_joined line))
     ]

@@ -1,3 +1,7 @@
 pub mod Words
 pub mod Commands
 pub mod Pieces
+pub mod Arrivals
+pub mod Readers
+pub mod ReaderStates
+pub mod Takings

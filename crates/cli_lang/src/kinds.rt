@@ -28,3 +28,18 @@ pub enum CmdFault {
     /// The number of a port is wanted, and the word there is none from 1 to 16.
     PortNumber,
 }
+
+/// What a reader of control lines answers: the next line, or how the input ended.
+#[derive(Clone, Copy, PartialEq, Eq, Debug)]
+pub enum LineGot {
+    /// A line, whose command is the first `len` octets of the buffer; the stamp is in ms.
+    Line { stamp: u64, len: u32 },
+    /// The input ended behind a line.
+    End,
+    /// The line that begins at this place (octets from the input's start) is at fault.
+    Malformed { at: u64 },
+    /// The line that begins at this place (octets from the input's start) has more than 120 octets.
+    Overlong { at: u64 },
+    /// A read failed.
+    Failed,
+}

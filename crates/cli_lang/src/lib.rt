@@ -4,12 +4,17 @@
 //! each other line has. Addresses are those of RFC 4291 section 2.2.
 #![tactic(auto)]
 
+mod ahead;
 mod command_line;
 mod decimal;
 mod kinds;
 mod laws;
+mod reader;
+mod taking;
+mod text;
 mod words;
 
 pub use command_line::command;
-pub use kinds::{CmdFault, Command};
+pub use kinds::{CmdFault, Command, LineGot};
 pub use laws::{a_line_has_one_answer, words_spell_their_line};
+pub use reader::Lines;

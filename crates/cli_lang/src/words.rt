@@ -26,8 +26,8 @@ pub(crate) fn words_of(line: &[u8]) -> Words<'_>
     }
 }
 
-// The word in front of the first space, and what stands behind that space.
-fn first_word(line: &[u8]) -> Option<(&[u8], &[u8])>
+/// The word in front of the first space, and what stands behind that space.
+pub(crate) fn first_word(line: &[u8]) -> Option<(&[u8], &[u8])>
     ensures { MatchOption result (words_in line.now ≡ line.now ∷ []) (λ two. words_in line.now ≡ two.0.now ∷ words_in two.1.now) }
 {
     let space = space_in(line)?;
