@@ -4,4 +4,5 @@ pub mod OneAnswer
 pub mod WordsJoined
 pub mod TextSays
 pub mod LineTaken
+pub mod LineRead
 pub mod AheadHeld

@@ -1,5 +1,5 @@
 -- A line that is taken octet by octet.
-use Rattle.std.proofs.Common.{ℕ, zero, suc, ◌≡◌, ◌≢◌, ◌+◌, ◌<◌, ◌≤◌, List, [], ◌∷◌, ◌++◌, All, length, take, get_or, set, refl, sym, ap, ◌∙◌, subst, arith, add-one, append_assoc, append-nil, length-append}
+use Rattle.std.proofs.Common.{ℕ, zero, suc, ◌≡◌, ◌≢◌, ◌+◌, ◌<◌, ◌≤◌, List, [], ◌∷◌, ◌++◌, All, length, take, refl, sym, ap, ◌∙◌, subst, arith, add-one, append_assoc, append-nil, length-append}
 use Rattle.std.proofs.lemmas.List.Elements.{All-append}
 use Rattle.cli_lang.specs.Arrivals.{HasNoFeed}
 
@@ -18,14 +18,10 @@ no_feed_one c other (suc k) d inside = absurd (omega arith)
 pub no_feed_more : (text : List ℕ) (c : ℕ) → HasNoFeed text → c ≢ 10 → HasNoFeed (text ++ (c ∷ []))
 no_feed_more text c apart other = All-append (λ b. b ≢ 10) text (c ∷ []) apart (no_feed_one c other)
 
--- an octet written behind the first ones
-pub written_more : (n c : ℕ) (buf : List ℕ) → n < length buf → take (n + 1) (set buf n c) ≡ take n buf ++ (c ∷ [])
-written_more n c buf inside = rw add-one (front n buf inside)
-  where
-    front : (n : ℕ) (buf : List ℕ) → n < length buf → take (suc n) (set buf n c) ≡ take n buf ++ (c ∷ [])
-    front n [] inside = absurd (omega arith)
-    front zero (x ∷ buf) inside = refl
-    front (suc n) (x ∷ buf) inside = ap (λ (l : List ℕ). x ∷ l) (front n buf (omega arith))
-
+-- an octet behind a text
 pub one_behind : (text held : List ℕ) (c : ℕ) (octets : List ℕ) → octets ≡ text ++ (c ∷ held) → octets ≡ (text ++ (c ∷ [])) ++ held
 one_behind text held c octets is = is ∙ sym (append_assoc text (c ∷ []) held)
+
+-- a line in which the read failed
+pub cut_apart : (text octets : List ℕ) → octets ≡ text → HasNoFeed text → HasNoFeed octets
+cut_apart text octets same apart = subst HasNoFeed (sym same) apart

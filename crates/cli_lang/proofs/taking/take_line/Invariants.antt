@@ -7,10 +7,11 @@ use Rattle.cli_lang.proofs.taking.take_line.Given as goal
 abbrev pub invariant-loop-octet : goal.invariant-loop-octet
 invariant-loop-octet g l = record {
   later : g.S.Source.faults l.initial.source ≤ g.S.Source.faults l.source;
-  within : l.n ≤ length l.buf;
+  size : length l.buf ≡ 120;
+  within : l.n ≤ 120;
   apart : HasNoFeed (take l.n l.buf);
   taken : (gave : List ℕ) × Takes (g.S.Source.left l.initial.source) (g.S.Source.left l.source) gave × (l.initial.ahead ++ gave ≡ take l.n l.buf ++ l.ahead);
 }
 
 abbrev pub decreases-loop-octet : goal.decreases-loop-octet
-decreases-loop-octet g l = length l.initial.buf - l.n
+decreases-loop-octet g l = 120 - l.n
