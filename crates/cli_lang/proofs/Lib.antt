@@ -6,3 +6,5 @@ pub mod TextSays
 pub mod LineTaken
 pub mod LineRead
 pub mod AheadHeld
+pub mod Existence
+pub mod WholeRuns

@@ -49,7 +49,7 @@ pub whole_bad : (live : Bool) (place n : ℕ) (held gave now text : List ℕ) (l
 whole_bad live place n held gave now text left old new is state apart short size octets bad =
     let front = text ++ (10 ∷ []) in
     let len : length front ≡ n + 1 = omega (arith, size, length-append text (10 ∷ [])) in
-    let why : (2 ^ 62 < place + length front) ⊎ ((line : Line) → ¬ Says live text line) = elim bad [ | inl past ↦ inl (omega (arith, past, len)) | inr none ↦ inr none ] in
+    let why : (2 ^ 62 < place + length front) ⊎ ((line : Line) → ¬ Says live text line) = elim bad [ inl past ↦ inl (omega (arith, past, len)) | inr none ↦ inr none ] in
     let begins : (seen : Bool) (rest : List ℕ) → BeginsBadLine live seen place (held ++ (gave ++ rest)) = λ seen rest. record {
       text = text;
       front = front;
@@ -77,7 +77,7 @@ last_read live place n held gave text left line old is apart short size some oct
 
 pub last_bad : (live : Bool) (place n : ℕ) (held gave text : List ℕ) (left : Option (List ℕ)) (old new : State) → Running place held ≡ old → new ≡ Ended (how.Malformed place) → HasNoFeed text → length text ≤ 120 → length text ≡ n → n ≢ 0 → held ++ gave ≡ text → NothingLeft left → (2 ^ 62 < place + n) ⊎ ((line : Line) → ¬ Says live text line) → HasEnded live old new gave left (how.Malformed place)
 last_bad live place n held gave text left old new is state apart short size some octets nothing bad =
-    let why : (2 ^ 62 < place + length text) ⊎ ((line : Line) → ¬ Says live text line) = elim bad [ | inl past ↦ inl (omega (arith, past, size)) | inr none ↦ inr none ] in
+    let why : (2 ^ 62 < place + length text) ⊎ ((line : Line) → ¬ Says live text line) = elim bad [ inl past ↦ inl (omega (arith, past, size)) | inr none ↦ inr none ] in
     let begins : BeginsBadLine live true place (held ++ gave) = record {
       text = text;
       front = text;

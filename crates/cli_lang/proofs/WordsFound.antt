@@ -1,5 +1,5 @@
 -- The first word of a line, and those behind it.
-use Rattle.std.proofs.Common.{ℕ, suc, ◌≡◌, ◌≤◌, ◌==◌, ◌+◌, ◌-◌, ◌<◌, List, [], ◌∷◌, Bool, true, false, Option, Some, None, if◌then◌else◌, subst, length, take, drop, refl, sym, ap, ap₂, ◌∙◌, arith, length-drop, add-one, eq-eqb, ne_eqb, lt-ltb, le-ltb, inl, inr}
+use Rattle.std.proofs.Common.{ℕ, suc, ◌⊎◌, ◌≡◌, ◌≤◌, ◌==◌, ◌+◌, ◌-◌, ◌<◌, List, [], ◌∷◌, Bool, true, false, Option, Some, None, if◌then◌else◌, subst, length, take, drop, refl, sym, ap, ap₂, ◌∙◌, arith, length-drop, add-one, eq-eqb, ne_eqb, lt-ltb, le-ltb, inl, inr}
 use Rattle.std.proofs.lemmas.Bool.{cases_eq, cases_lt}
 use Rattle.std.proofs.lemmas.Option.{none-some}
 use Rattle.std.proofs.lemmas.List.{take_all}
@@ -67,6 +67,15 @@ at_space line n found =
 
     lost : length line ≤ position_or_len (λ c. c == 32) line → position (λ c. c == 32) line ≡ None
     lost outside = rw (le-ltb (position_or_len (λ c. c == 32) line) (length line) outside) refl
+
+-- a line is one word, or a first word and others
+pub word_or_words : (line : List ℕ) → (words_of line ≡ line ∷ []) ⊎ ((word : List ℕ) × (rest : List ℕ) × (words_of line ≡ word ∷ words_of rest))
+word_or_words line =
+    let first = position_or_len (λ c. c == 32) line in
+    elim (cases_lt first (length line)) [
+      | inl inside ↦ inr (take first line, drop (first + 1) line, front_word line inside)
+      | inr outside ↦ inl (only_word line (omega arith))
+    ]
 
 -- a line has a word
 pub some_word : (line : List ℕ) → 0 < length (words_of line)

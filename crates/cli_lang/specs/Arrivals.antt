@@ -70,11 +70,14 @@ IsRun live seen place (line ∷ lines) ending octets =
     (first : List ℕ) × (rest : List ℕ) × (octets ≡ first ++ rest) × IsLineOf live seen place first rest line
     × IsRun live seen (place + length first) lines ending rest
 
--- the stamps of a live input are the readings of its clock, one after the other
+-- The stamps of a live input are the readings of its clock, one after the other, as far as readings were made.
 abbrev pub StampedBy : Bool → List ℕ → List Line → Type 0
-StampedBy true readings lines = (more : List ℕ) × (readings ≡ map (λ (line : Line). line.stamp) lines ++ more)
 StampedBy false readings lines = Unit {0}
+StampedBy true [] lines = Unit {0}
+StampedBy true (reading ∷ readings) [] = Unit {0}
+StampedBy true (reading ∷ readings) (line ∷ lines) = (line.stamp ≡ reading) × StampedBy true readings lines
 
 -- What the octets of a control input are, with the readings of its clock, and whether it was seen to end.
-abbrev pub Arrive : Bool → Bool → List ℕ → List ℕ → Input → Type 0
-Arrive live seen readings octets input = IsRun live seen 0 input.arrivals input.ending octets × StampedBy live readings input.arrivals
+pub record Arrive (live seen : Bool) (readings octets : List ℕ) (input : Input) : Type 0 where
+  pub run : IsRun live seen 0 input.arrivals input.ending octets
+  pub stamps : StampedBy live readings input.arrivals

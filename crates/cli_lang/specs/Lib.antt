@@ -5,3 +5,4 @@ pub mod Arrivals
 pub mod Readers
 pub mod ReaderStates
 pub mod Takings
+pub mod Calls

@@ -50,7 +50,7 @@ abbrev pub HasEnded : Bool → State → State → List ℕ → Option (List ℕ
 HasEnded live old new gave left ending =
     (new ≡ Ended ending)
     × (((seen : Bool) (rest : List ℕ) → Comes live seen old (gave ++ rest) (ended ending))
-      ⊎ (NothingLeft left × Comes live true old gave (ended ending)))
+    ⊎ (NothingLeft left × Comes live true old gave (ended ending)))
 
 -- What an answer says of the octets that were taken for it, of the buffer, and of what is left.
 abbrev pub Answers : Bool → State → State → List ℕ → List ℕ → Option (List ℕ) → LineGot → Type 0

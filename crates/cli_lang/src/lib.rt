@@ -11,10 +11,12 @@ mod kinds;
 mod laws;
 mod reader;
 mod taking;
+#[cfg(test)]
+mod tests;
 mod text;
 mod words;
 
 pub use command_line::command;
 pub use kinds::{CmdFault, Command, LineGot};
-pub use laws::{a_line_has_one_answer, words_spell_their_line};
+pub use laws::{a_line_has_one_answer, calls_give_input, octets_arrive, words_spell_their_line};
 pub use reader::Lines;

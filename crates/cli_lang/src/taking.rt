@@ -23,7 +23,11 @@ pub(crate) enum Taken {
 }
 
 /// Takes the next line, up to the octet that makes it too long. O(n).
-pub(crate) fn take_line<S: Source>(ahead: &mut Ahead, source: &mut S, buf: &mut [u8; CONTROL_LINE_OCTETS]) -> Taken
+pub(crate) fn take_line<S: Source>(
+    ahead: &mut Ahead,
+    source: &mut S,
+    buf: &mut [u8; CONTROL_LINE_OCTETS],
+) -> Taken
     ensures later { S.faults source.old ≤ S.faults source.new }
     ensures cause { result ≡ Taken.Failed → Rose (S.faults source.old) (S.faults source.new) }
     ensures octets { (gave : List ℕ) × Takes (S.left source.old) (S.left source.new) gave × TakesLine result (ahead.old ++ gave) ahead.new buf.new (S.left source.new) }

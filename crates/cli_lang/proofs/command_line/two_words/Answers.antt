@@ -19,4 +19,3 @@ returns-in-Some-read_port-2 c = inl (Open c.args.argument.now, ap (λ (w : List 
 
 pub returns-in-None-read_port-2 : goal.returns-in-None-read_port-2
 returns-in-None-read_port-2 c = inl (Open c.args.argument.now, ap (λ (w : List ℕ). w ∷ c.args.argument.now ∷ []) (c.if-is-4.ensures.0 refl), (c.in-None-read_port-2.ensures.only, refl))
-
