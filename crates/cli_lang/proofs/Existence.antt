@@ -82,9 +82,9 @@ stamp_or_not text =
     by_test : (b : Bool) → bytes_eq text (decimal (digits_value 10 text)) ≡ b → digits_value 10 text < 2 ^ 64 → ((n : ℕ) × (text ≡ decimal n) × (n < 2 ^ 64)) ⊎ ((n : ℕ) → n < 2 ^ 64 → text ≢ decimal n)
     by_test true test small = inl (digits_value 10 text, (bytes_eq-Decides text (decimal (digits_value 10 text))).0 test, small)
     by_test false test small = inr (λ n bound is.
-      let same : text ≡ decimal (digits_value 10 text) = is ∙ ap decimal (sym (value n bound is)) in
-      let set : bytes_eq text (decimal (digits_value 10 text)) ≡ true = (bytes_eq-Decides text (decimal (digits_value 10 text))).1 same in
-      cc)
+        let same : text ≡ decimal (digits_value 10 text) = is ∙ ap decimal (sym (value n bound is)) in
+        let set : bytes_eq text (decimal (digits_value 10 text)) ≡ true = (bytes_eq-Decides text (decimal (digits_value 10 text))).1 same in
+        cc)
 
 -- what the text of a line says, with a stamp that is the first reading where the input is live
 record Said (live : Bool) (readings text : List ℕ) : Type 0 where
@@ -120,11 +120,11 @@ one_line live seen readings place octets text front rest split line later =
       | inr within ↦ elim (said_or_not live readings text) [
         | inr none ↦ no_line live seen readings place octets (how.Malformed place) (refl, inr (record { text = text; front = front; rest = rest; split = split; line = line; bad = inr none }))
         | inl said ↦ record {
-            lines = said.line ∷ later.lines;
-            ending = later.ending;
-            run = (front, rest, split, (text, line, said.says, within), later.run);
-            stamped = said.stamped later.lines later.stamped;
-          }
+          lines = said.line ∷ later.lines;
+          ending = later.ending;
+          run = (front, rest, split, (text, line, said.says, within), later.run);
+          stamped = said.stamped later.lines later.stamped;
+        }
       ]
     ]
 

@@ -43,7 +43,7 @@ fn commands_are_read(rt: HostRuntime) -> Result<(), Fail> {
     Ok(())
 }
 
-// The first six answers to an input, and what they left in the buffer of each line.
+// The first six answers to an input.
 fn answers(alloc: Global, mut source: MemSource, live: bool) -> Result<Vec<LineGot>, AllocError> {
     let mut clock = MemClock::new(vec![in alloc; 10, 20, 30]?);
     let mut reader = Lines::new();
@@ -216,30 +216,22 @@ fn lines_are_read(rt: HostRuntime) -> Result<(), Fail> {
         }
     }
 
-    // The greatest piece, and the number of the read that fails.
-    let faults: [(&str, &str, usize, usize, u64, [LineGot; 6]); 5] = [
-        ("at the beginning", "5 a\n", 0, 7, 1, [failed; 6]),
-        ("in a line", "5 quit\n", 0, 1, 4, [failed; 6]),
+    // An input in pieces of 7 octets with so many 'x' behind it, and the number of the read that fails.
+    let faults: [(&str, &str, usize, u64, [LineGot; 6]); 5] = [
+        ("at the beginning", "5 a\n", 0, 1, [failed; 6]),
+        ("in a line", "55 quit\n", 0, 2, [failed; 6]),
         (
             "behind a line",
             "5 quit\n6 quit\n",
             0,
-            7,
             2,
             [line(5, 4), failed, failed, failed, failed, failed],
         ),
-        ("in a line of 120 octets", "5 ", 118, 512, 2, [failed; 6]),
-        (
-            "in a line of 121 octets",
-            "5 ",
-            119,
-            512,
-            2,
-            [overlong(0); 6],
-        ),
+        ("in a line of 120 octets", "5 ", 118, 19, [failed; 6]),
+        ("in a line of 121 octets", "5 ", 119, 19, [overlong(0); 6]),
     ];
-    for (name, text, more, piece, fault, expected) in faults {
-        let source = MemSource::new(octets(alloc, text, more)?, piece, vec![in alloc; fault]?);
+    for (name, text, more, fault, expected) in faults {
+        let source = MemSource::new(octets(alloc, text, more)?, 7, vec![in alloc; fault]?);
         assert_eq!(rt;
             answers(alloc, source, false)?.as_slice(),
             expected.as_slice(),
