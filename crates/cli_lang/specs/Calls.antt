@@ -1,0 +1,66 @@
+-- Call after call of a reader, over one source.
+use Rattle.std.specs.Prelude.{◌≡◌, ℕ, Bool, true, List, [], ◌∷◌, take, Option, Some, IfSome}
+use Rattle.savi_kinds.specs.declared.entry.How.{How}
+use Rattle.savi_kinds.specs.declared.entry.How.TheVariants as how
+use Rattle.savi_ends.specs.Octets.{Takes}
+use Rattle.cli_lang.specs.declared.kinds.LineGot.{LineGot}
+use Rattle.cli_lang.specs.declared.kinds.LineGot.TheVariants as got
+use Rattle.cli_lang.specs.Arrivals.{Line, Input, Arrive}
+use Rattle.cli_lang.specs.Readers.{State, Running, Answers, last_answer}
+
+-- an answer, and what the buffer holds then
+pub record Told : Type 0 where
+  pub answer : LineGot
+  pub buf : List ℕ
+
+-- What each call says of the reader and of what its source has left, before and after.
+pub record IsCall (live : Bool) (old new : State) (before after : Option (List ℕ)) (told : Told) : Type 0 where
+  pub octets : (gave : List ℕ) × Takes before after gave × Answers live old new gave told.buf after told.answer
+  pub again : IfSome (last_answer old) (λ answer. (told.answer ≡ answer) × (new ≡ old) × (after ≡ before))
+
+-- These are the answers of one call after another, in whatever pieces the source gives, and wherever it fails.
+abbrev pub AreCalls : Bool → State → Option (List ℕ) → List Told → State → Option (List ℕ) → Type 0
+AreCalls live old before [] new after = (new ≡ old) × (after ≡ before)
+AreCalls live old before (told ∷ later) new after = (mid : State) × (left : Option (List ℕ)) × IsCall live old mid before left told × AreCalls live mid left later new after
+
+-- each of them is this answer
+abbrev pub AllAnswer : LineGot → List Told → Type 0
+AllAnswer answer [] = Unit {0}
+AllAnswer answer (told ∷ later) = (told.answer ≡ answer) × AllAnswer answer later
+
+-- One answer, where these lines are still to come and then the input ends so: it is the first of them, behind which the
+-- others go on; or none is left, it is the ending, and it stays so; or a read failed, and it stays so.
+abbrev pub Tells : LineGot → List ℕ → (List Line → Type 0) → Type 0 → List Line → How → Type 0
+Tells (got.Line stamp len) buf GoOn Stays [] ending = ⊥
+Tells (got.Line stamp len) buf GoOn Stays (line ∷ lines) ending = (line ≡ record { stamp = stamp; command = take len buf }) × GoOn lines
+Tells got.End buf GoOn Stays [] ending = (ending ≡ how.End) × Stays
+Tells got.End buf GoOn Stays (line ∷ lines) ending = ⊥
+Tells (got.Malformed at) buf GoOn Stays [] ending = (ending ≡ how.Malformed at) × Stays
+Tells (got.Malformed at) buf GoOn Stays (line ∷ lines) ending = ⊥
+Tells (got.Overlong at) buf GoOn Stays [] ending = (ending ≡ how.Overlong at) × Stays
+Tells (got.Overlong at) buf GoOn Stays (line ∷ lines) ending = ⊥
+Tells got.Failed buf GoOn Stays lines ending = Stays
+
+-- The answers, one after the other, are the lines in their order and then the ending, as far as there were calls and no read
+-- failed.
+abbrev pub AnswersAre : List Told → List Line → How → Type 0
+AnswersAre [] lines ending = Unit {0}
+AnswersAre (told ∷ later) lines ending = Tells told.answer told.buf (λ rest. AnswersAre later rest ending) (AllAnswer told.answer later) lines ending
+
+-- the stamps of the lines that were told, one after the other: of a live input the readings of its clock
+abbrev pub stamp_of : LineGot → List ℕ → List ℕ
+stamp_of (got.Line stamp len) stamps = stamp ∷ stamps
+stamp_of got.End stamps = []
+stamp_of (got.Malformed at) stamps = []
+stamp_of (got.Overlong at) stamps = []
+stamp_of got.Failed stamps = []
+
+abbrev pub stamps_of : List Told → List ℕ
+stamps_of [] = []
+stamps_of (told ∷ later) = stamp_of told.answer (stamps_of later)
+
+-- The answers of a new reader are the input that its source's octets are, where that is read to its end.
+abbrev pub CallsGiveInput : Type 0
+CallsGiveInput =
+    (live : Bool) (octets : List ℕ) (calls : List Told) (new : State) (after : Option (List ℕ)) → AreCalls live (Running 0 []) (Some octets) calls new after
+    → (input : Input) × Arrive live true (stamps_of calls) octets input × AnswersAre calls input.arrivals input.ending

@@ -1,0 +1,29 @@
+ghost use Rattle.std.specs.Prelude.{◌≡◌, ℕ, Bool, List, Result};
+ghost use Rattle.std.specs.List.{join_with_byte};
+ghost use Rattle.cli_lang.specs.declared.kinds.Command.{Command};
+ghost use Rattle.cli_lang.specs.declared.kinds.CmdFault.{CmdFault};
+ghost use Rattle.cli_lang.specs.Words.{space, words_of};
+ghost use Rattle.cli_lang.specs.Commands.{LineGives};
+ghost use Rattle.cli_lang.specs.Arrivals.{Input, Arrive};
+ghost use Rattle.cli_lang.specs.Calls.{CallsGiveInput};
+
+/// Law: a line comes to one answer.
+pub fn a_line_has_one_answer()
+    ensures { (line : List ℕ) (one other : Result Command CmdFault) → LineGives line one → LineGives line other → one ≡ other }
+{}
+
+/// Law: the words of a line with one space between each two are the line.
+pub fn words_spell_their_line()
+    ensures { (line : List ℕ) → join_with_byte space (words_of line) ≡ line }
+{}
+
+/// Law: every list of octets is some control input, live or not, seen to end or not, whatever its clock reads.
+pub fn octets_arrive()
+    ensures { (live seen : Bool) (readings octets : List ℕ) → (input : Input) × Arrive live seen readings octets input }
+{}
+
+/// Law: call after call, a reader's answers are the lines of what its source had left, each in its turn, and then how the
+/// input ends; in whatever pieces the source gives its octets, and as far as no read fails.
+pub fn calls_give_input()
+    ensures { CallsGiveInput }
+{}
