@@ -1,6 +1,6 @@
 //! Calls of a table of bindings and of a plain list, in a stated order: rows are put, taken away and put again.
 
-ghost use Rattle.std.specs.Prelude.{◌≡◌, true};
+ghost use Rattle.std.specs.Prelude.{◌≡◌, ◌<◌, true};
 ghost use Rattle.mix_rules.specs.States.{has_state};
 
 use crate::keys::{address, stirred};
@@ -86,7 +86,8 @@ pub fn count_alike(alloc: Global) -> Result<u32, AllocError> {
 
 // Makes the n-th call of both.
 fn call(table: &mut BindTable, plain: &mut PlainRows, n: u32) -> Result<(), AllocError>
-    requires { table.old.most ≡ ROWS }
+    requires most { table.old.most ≡ ROWS }
+    requires few { n < CALLS }
     ensures { table.new.most ≡ ROWS }
 {
     let place = (stirred(u64::from(n)) % u64::from(ROWS)) as u32;
