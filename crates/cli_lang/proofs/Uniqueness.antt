@@ -202,3 +202,37 @@ one_input live seen readings octets one other enough a b =
     enough_of : (l : Bool) → (IsTrue l → length octets ≤ length readings) → Enough l readings octets
     enough_of true given = given refl
     enough_of false given = tt
+
+-- a line of an input that wasn't seen to end has its line feed
+unseen_line : (seen : Bool) (text front rest more : List ℕ) → IsLine false text front rest → IsLine seen text front more
+unseen_line seen text front rest more line = record {
+  apart = line.apart;
+  short = line.short;
+  whole = elim line.whole [ | inl feed ↦ inl feed | inr last ↦ absurd (true≢false (sym last.0)) ];
+}
+
+-- a front of some octets holds a front of their lines
+front_run : (lines others : List Line) (e f : How) (live seen : Bool) (readings : List ℕ) (place : ℕ) (octets more : List ℕ) → IsRun live false place lines e octets → IsRun live seen place others f (octets ++ more) → StampedBy live readings lines → StampedBy live readings others → Enough live readings (octets ++ more) → (rest : List Line) × (others ≡ lines ++ rest)
+front_run [] others e f live seen readings place octets more one whole stamped stamped' enough = (others, refl)
+front_run (a ∷ lines) [] e f live seen readings place octets more one whole stamped stamped' enough =
+    let split : octets ++ more ≡ one.0 ++ (one.1 ++ more) = ap (λ (l : List ℕ). l ++ more) one.2 ∙ append_assoc one.0 one.1 more in
+    absurd (no_ending live seen place f (octets ++ more) one.3.0 one.0 (one.1 ++ more) a whole split (unseen_line seen one.3.0 one.0 one.1 (one.1 ++ more) one.3.1) one.3.2 one.3.3)
+front_run (a ∷ lines) (b ∷ others) e f live seen readings place octets more one whole stamped stamped' enough =
+    let split : octets ++ more ≡ one.0 ++ (one.1 ++ more) = ap (λ (l : List ℕ). l ++ more) one.2 ∙ append_assoc one.0 one.1 more in
+    let line = unseen_line seen one.3.0 one.0 one.1 (one.1 ++ more) one.3.1 in
+    let same = pieces_once seen (octets ++ more) one.3.0 one.0 (one.1 ++ more) whole.3.0 whole.0 whole.1 split whole.2 line.apart whole.3.1.apart line.whole whole.3.1.whole in
+    let some : 0 < length one.0 = front_some seen one.3.0 one.0 (one.1 ++ more) line.whole in
+    let first : a ≡ b = says_once live readings one.3.0 (octets ++ more) a b lines others one.3.2 (subst (λ (t : List ℕ). Says live t b) (sym same.0) whole.3.2) stamped stamped' enough (omega (arith, some, ap length split, length-append one.0 (one.1 ++ more))) in
+    let behind : IsRun live seen (place + length one.0) others f (one.1 ++ more) =
+    subst (λ (l : List ℕ). IsRun live seen (place + length l) others f (one.1 ++ more)) (sym same.1)
+    (subst (λ (l : List ℕ). IsRun live seen (place + length whole.0) others f l) (sym same.2) whole.4) in
+    let rest = front_run lines others e f live seen (later live readings) (place + length one.0) one.1 more one.4 behind (stamped_later live readings a lines stamped) (stamped_later live readings b others stamped') (enough_later live readings (octets ++ more) one.0 (one.1 ++ more) split some enough) in
+    (rest.0, ap₂ (λ (x : Line) (l : List Line). x ∷ l) (sym first) rest.1)
+
+pub front_input : (live seen : Bool) (readings octets more : List ℕ) (part whole : Input) → (IsTrue live → length (octets ++ more) ≤ length readings) → Arrive live false readings octets part → Arrive live seen readings (octets ++ more) whole → (rest : List Line) × (whole.arrivals ≡ part.arrivals ++ rest)
+front_input live seen readings octets more part whole enough a b =
+    front_run part.arrivals whole.arrivals part.ending whole.ending live seen readings 0 octets more a.run b.run a.stamps b.stamps (enough_of live enough)
+  where
+    enough_of : (l : Bool) → (IsTrue l → length (octets ++ more) ≤ length readings) → Enough l readings (octets ++ more)
+    enough_of true given = given refl
+    enough_of false given = tt
