@@ -1,12 +1,12 @@
 -- The lines that were told before a read failed.
-use Rattle.std.proofs.Common.{◌≡◌, ℕ, Bool, true, false, List, [], ◌∷◌, ◌++◌, refl, sym, subst, ◌∙◌, ap, append-nil, Option, Some, None, IfSome, take, ◌⊎◌, inl, inr}
+use Rattle.std.proofs.Common.{◌≡◌, ℕ, Bool, true, false, List, [], ◌∷◌, ◌++◌, refl, sym, subst, ◌∙◌, Option, Some, None, IfSome, take, inl, inr}
 use Rattle.savi_kinds.specs.declared.entry.How.{How}
 use Rattle.savi_kinds.specs.declared.entry.How.TheVariants as how
 use Rattle.savi_ends.specs.Octets.{Takes}
 use Rattle.savi_ends.proofs.Octets.{takes_more}
 use Rattle.cli_lang.specs.declared.kinds.LineGot.{LineGot}
 use Rattle.cli_lang.specs.declared.kinds.LineGot.TheVariants as got
-use Rattle.cli_lang.specs.Arrivals.{Line, Input, StampedBy, Arrive}
+use Rattle.cli_lang.specs.Arrivals.{StampedBy}
 use Rattle.cli_lang.specs.Readers.{State, Running, Ended, Comes, Answers, HasReadOne, answer_of, ended}
 use Rattle.cli_lang.specs.Calls.{Told, AreCalls, lines_of, stamps_of, CallsBeforeFault}
 

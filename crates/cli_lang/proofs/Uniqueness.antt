@@ -208,7 +208,7 @@ unseen_line : (seen : Bool) (text front rest more : List ℕ) → IsLine false t
 unseen_line seen text front rest more line = record {
   apart = line.apart;
   short = line.short;
-  whole = elim line.whole [ | inl feed ↦ inl feed | inr last ↦ absurd (true≢false (sym last.0)) ];
+  whole = elim line.whole [ inl feed ↦ inl feed | inr last ↦ absurd (true≢false (sym last.0)) ];
 }
 
 -- a front of some octets holds a front of their lines

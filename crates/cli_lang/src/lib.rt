@@ -21,5 +21,8 @@ mod words;
 
 pub use command_line::command;
 pub use kinds::{CmdFault, Command, LineGot};
-pub use laws::{a_line_has_one_answer, calls_before_fault, calls_give_input, front_arrives, octets_arrive, octets_arrive_once, words_spell_their_line};
+pub use laws::{
+    a_line_has_one_answer, calls_before_fault, calls_give_input, front_arrives, octets_arrive,
+    octets_arrive_once, words_spell_their_line,
+};
 pub use reader::Lines;
