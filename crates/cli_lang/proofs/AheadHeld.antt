@@ -1,5 +1,5 @@
 -- The octets that are held: those from one place of the buffer to another.
-use Rattle.std.proofs.Common.{ℕ, ◌≡◌, ◌≤◌, ◌-◌, List, [], ◌∷◌, length, take, drop, refl, ap, ◌∙◌, arith, length-drop, length-take-le}
+use Rattle.std.proofs.Common.{ℕ, ◌≡◌, ◌≤◌, List, [], ◌∷◌, length, take, drop, refl, ap, arith, length-drop, length-take-le}
 
 none_of_none : (xs : List ℕ) → length xs ≡ 0 → xs ≡ []
 none_of_none [] none = refl

@@ -8,3 +8,5 @@ pub mod LineRead
 pub mod AheadHeld
 pub mod Existence
 pub mod WholeRuns
+pub mod Uniqueness
+pub mod BeforeFault

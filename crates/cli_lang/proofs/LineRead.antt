@@ -1,13 +1,12 @@
 -- What was taken for a line, as what a reader answers.
-use Rattle.std.proofs.Common.{ℕ, ◌≡◌, ◌≢◌, ◌+◌, ◌^◌, ◌<◌, ◌≤◌, Bool, true, false, List, [], ◌∷◌, ◌++◌, Option, length, take, ◌⊎◌, inl, inr, refl, sym, ap, ◌∙◌, subst, arith, append_assoc, append-nil, length-append}
+use Rattle.std.proofs.Common.{ℕ, ◌≡◌, ◌≢◌, ◌+◌, ◌^◌, ◌<◌, ◌≤◌, Bool, true, List, [], ◌∷◌, ◌++◌, Option, length, take, ◌⊎◌, inl, inr, refl, sym, ap, ◌∙◌, subst, arith, append_assoc, append-nil, length-append}
 use Rattle.std.proofs.lemmas.List.{take_at}
-use Rattle.savi_kinds.specs.declared.entry.How.{How}
 use Rattle.savi_kinds.specs.declared.entry.How.TheVariants as how
 use Rattle.savi_ends.specs.Octets.{NothingLeft}
 use Rattle.cli_lang.specs.declared.reader.State.{State as Kept}
 use Rattle.cli_lang.specs.declared.reader.State.TheVariants as kept
-use Rattle.cli_lang.specs.Arrivals.{Line, HasNoFeed, Says, IsLine, IsLong, BeginsBadLine, IsRun}
-use Rattle.cli_lang.specs.Readers.{State, Running, Ended, HasRead, HasReadOne, HasEnded, ended, only, Comes}
+use Rattle.cli_lang.specs.Arrivals.{Line, HasNoFeed, Says, IsLong, BeginsBadLine, IsRun}
+use Rattle.cli_lang.specs.Readers.{State, Running, Ended, HasRead, HasReadOne, HasEnded, only, Comes}
 use Rattle.cli_lang.specs.ReaderStates.{state_of}
 
 -- a reader that is ready for a line holds the octets that it has ahead

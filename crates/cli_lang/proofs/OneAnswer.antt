@@ -1,17 +1,15 @@
 -- A line has one answer: its words are of one form, and a form gives one answer.
-use Rattle.std.proofs.Common.{ℕ, ◌≡◌, ◌≢◌, ◌+◌, ◌^◌, ◌<◌, ◌≤◌, ◌&&◌, Bool, true, false, List, [], ◌∷◌, Option, Some, None, Result, Ok, Err, decimal, codes, if◌then◌else◌, refl, sym, ap, ◌∙◌, subst, arith, inl, inr}
+use Rattle.std.proofs.Common.{ℕ, ◌≡◌, ◌≤◌, List, [], ◌∷◌, Option, Some, None, Result, Ok, Err, codes, if◌then◌else◌, refl, sym, ap, ◌∙◌, subst, arith, inl, inr}
 use Rattle.std.proofs.lemmas.Fmt.{decimal_injective}
 use Rattle.std.proofs.Math.Bridge.{le_prop}
 use Rattle.std.specs.Str.{bytes_eq}
 use Rattle.savi_kinds.specs.declared.address.Addr.{Addr}
 use Rattle.savi_kinds.specs.declared.port.Port.{Port}
 use Rattle.savi_kinds.specs.Ports.{number_of}
-use Rattle.savi_kinds.specs.AddrText.{IsAddrText}
 use Rattle.savi_kinds.proofs.AddrGrammar.{one_address}
 use Rattle.cli_lang.specs.declared.kinds.Command.{Command}
 use Rattle.cli_lang.specs.declared.kinds.Command.TheVariants as command
 use Rattle.cli_lang.specs.declared.kinds.CmdFault.{CmdFault}
-use Rattle.cli_lang.specs.declared.kinds.CmdFault.TheVariants as fault
 use Rattle.cli_lang.specs.Words.{words_of}
 use Rattle.cli_lang.specs.Commands.{Form, ShowBindings, ShowPorts, ShowCounters, ShowStations, Clear, Static, Shut, Open, Quit, words_for, Gives, GivesPort, IsPortText, WordsGive, LineGives}
 

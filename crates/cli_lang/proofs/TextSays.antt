@@ -1,5 +1,5 @@
 -- What the text of a line says where its stamp is written in it.
-use Rattle.std.proofs.Common.{ℕ, suc, ◌≡◌, ◌≢◌, ◌+◌, ◌^◌, ◌<◌, ◌≤◌, Bool, true, false, List, [], ◌∷◌, ◌++◌, length, get_or, decimal, refl, sym, ap, ◌∙◌, subst, arith, ne_eqb, length-append}
+use Rattle.std.proofs.Common.{ℕ, suc, ◌≡◌, ◌≢◌, ◌^◌, ◌<◌, ◌≤◌, Bool, true, false, List, [], ◌∷◌, ◌++◌, length, get_or, decimal, refl, sym, ap, ◌∙◌, arith, ne_eqb, length-append}
 use Rattle.std.proofs.lemmas.Fmt.{decimal_is_IsNumeral}
 use Rattle.std.proofs.lemmas.Str.Parse.{digit_at}
 use Rattle.std.specs.List.{join_with_byte}
@@ -22,7 +22,7 @@ words_front (c ∷ word) rest apart =
     let other : c ≢ 32 = apart 0 (omega arith) in
     rw (ne_eqb c 32 other) (ap (begun_with c) (words_front word rest (λ k inside. apart (suc k) (omega arith))))
 
-said_words : (text : List ℕ) (line : Line) → Says false text line → words_of text ≡ decimal line.stamp ∷ words_of line.command
+pub said_words : (text : List ℕ) (line : Line) → Says false text line → words_of text ≡ decimal line.stamp ∷ words_of line.command
 said_words text line says = ap words_of says.0 ∙ words_front (decimal line.stamp) line.command (digits_apart line.stamp says.1)
 
 -- a text of one word says nothing

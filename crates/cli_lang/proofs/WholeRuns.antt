@@ -1,13 +1,13 @@
 -- The answers of call after call are one input.
-use Rattle.std.proofs.Common.{◌≡◌, ℕ, Bool, true, false, List, [], ◌∷◌, ◌++◌, refl, sym, subst, ◌∙◌, ap, append-nil, Option, Some, None, IfSome, take, ◌⊎◌, inl, inr}
+use Rattle.std.proofs.Common.{◌≡◌, ℕ, Bool, true, false, List, [], ◌∷◌, ◌++◌, refl, sym, subst, ◌∙◌, ap, append-nil, Option, Some, None, IfSome, take, inl, inr}
 use Rattle.savi_kinds.specs.declared.entry.How.{How}
 use Rattle.savi_kinds.specs.declared.entry.How.TheVariants as how
-use Rattle.savi_ends.specs.Octets.{Takes, NothingLeft}
+use Rattle.savi_ends.specs.Octets.{Takes}
 use Rattle.cli_lang.specs.declared.kinds.LineGot.{LineGot}
 use Rattle.cli_lang.specs.declared.kinds.LineGot.TheVariants as got
-use Rattle.cli_lang.specs.Arrivals.{Line, Input, StampedBy, Arrive}
+use Rattle.cli_lang.specs.Arrivals.{Line, Input, StampedBy}
 use Rattle.cli_lang.specs.Readers.{State, Running, Ended, Comes, Answers, HasReadOne, HasEnded, answer_of, ended}
-use Rattle.cli_lang.specs.Calls.{Told, AreCalls, AllAnswer, Tells, AnswersAre, stamps_of, CallsGiveInput}
+use Rattle.cli_lang.specs.Calls.{Told, AreCalls, AllAnswer, AnswersAre, stamps_of, CallsGiveInput}
 use Rattle.cli_lang.proofs.Existence.{some_later}
 
 -- a reader that has ended answers the same

@@ -1,9 +1,8 @@
 -- The first word of a line, and those behind it.
-use Rattle.std.proofs.Common.{ℕ, suc, ◌⊎◌, ◌≡◌, ◌≤◌, ◌==◌, ◌+◌, ◌-◌, ◌<◌, List, [], ◌∷◌, Bool, true, false, Option, Some, None, if◌then◌else◌, subst, length, take, drop, refl, sym, ap, ap₂, ◌∙◌, arith, length-drop, add-one, eq-eqb, ne_eqb, lt-ltb, le-ltb, inl, inr}
+use Rattle.std.proofs.Common.{ℕ, suc, ◌⊎◌, ◌≡◌, ◌≤◌, ◌==◌, ◌+◌, ◌-◌, ◌<◌, List, [], ◌∷◌, Bool, true, false, Some, None, if◌then◌else◌, subst, length, take, drop, refl, sym, ap, ap₂, ◌∙◌, arith, length-drop, eq-eqb, ne_eqb, lt-ltb, le-ltb, inl, inr}
 use Rattle.std.proofs.lemmas.Bool.{cases_eq, cases_lt}
 use Rattle.std.proofs.lemmas.Option.{none-some}
 use Rattle.std.proofs.lemmas.List.{take_all}
-use Rattle.std.proofs.lemmas.List.Quantifiers.{position-Some}
 use Rattle.std.specs.List.{position, position_or_len}
 use Rattle.cli_lang.specs.Words.{begun_with, words_of}
 

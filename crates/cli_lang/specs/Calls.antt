@@ -1,12 +1,12 @@
 -- Call after call of a reader, over one source.
-use Rattle.std.specs.Prelude.{◌≡◌, ℕ, Bool, true, List, [], ◌∷◌, take, Option, Some, IfSome}
+use Rattle.std.specs.Prelude.{◌≡◌, ℕ, Bool, true, false, List, [], ◌∷◌, take, Option, Some, IfSome}
 use Rattle.savi_kinds.specs.declared.entry.How.{How}
 use Rattle.savi_kinds.specs.declared.entry.How.TheVariants as how
 use Rattle.savi_ends.specs.Octets.{Takes}
 use Rattle.cli_lang.specs.declared.kinds.LineGot.{LineGot}
 use Rattle.cli_lang.specs.declared.kinds.LineGot.TheVariants as got
 use Rattle.cli_lang.specs.Arrivals.{Line, Input, Arrive}
-use Rattle.cli_lang.specs.Readers.{State, Running, Answers, last_answer}
+use Rattle.cli_lang.specs.Readers.{State, Running, Ended, Answers, last_answer}
 
 -- an answer, and what the buffer holds then
 pub record Told : Type 0 where
@@ -64,3 +64,22 @@ abbrev pub CallsGiveInput : Type 0
 CallsGiveInput =
     (live : Bool) (octets : List ℕ) (calls : List Told) (new : State) (after : Option (List ℕ)) → AreCalls live (Running 0 []) (Some octets) calls new after
     → (input : Input) × Arrive live true (stamps_of calls) octets input × AnswersAre calls input.arrivals input.ending
+
+-- the lines that were told, one after the other, up to the first answer that is none
+abbrev pub line_of : LineGot → List ℕ → List Line → List Line
+line_of (got.Line stamp len) buf lines = record { stamp = stamp; command = take len buf } ∷ lines
+line_of got.End buf lines = []
+line_of (got.Malformed at) buf lines = []
+line_of (got.Overlong at) buf lines = []
+line_of got.Failed buf lines = []
+
+abbrev pub lines_of : List Told → List Line
+lines_of [] = []
+lines_of (told ∷ later) = line_of told.answer told.buf (lines_of later)
+
+-- Where a read failed at last, the lines that a new reader told are those of the octets that its source gave, an input that
+-- wasn't seen to end.
+abbrev pub CallsBeforeFault : Type 0
+CallsBeforeFault =
+    (live : Bool) (before : Option (List ℕ)) (calls : List Told) (after : Option (List ℕ)) → AreCalls live (Running 0 []) before calls (Ended how.Failed) after
+    → (gave : List ℕ) × Takes before after gave × Arrive live false (stamps_of calls) gave (record { arrivals = lines_of calls; ending = how.Failed })

@@ -1,11 +1,11 @@
-ghost use Rattle.std.specs.Prelude.{◌≡◌, ℕ, Bool, List, Result};
+ghost use Rattle.std.specs.Prelude.{◌≡◌, ◌≤◌, ℕ, Bool, false, IsTrue, List, ◌++◌, Result, length};
 ghost use Rattle.std.specs.List.{join_with_byte};
 ghost use Rattle.cli_lang.specs.declared.kinds.Command.{Command};
 ghost use Rattle.cli_lang.specs.declared.kinds.CmdFault.{CmdFault};
 ghost use Rattle.cli_lang.specs.Words.{space, words_of};
 ghost use Rattle.cli_lang.specs.Commands.{LineGives};
-ghost use Rattle.cli_lang.specs.Arrivals.{Input, Arrive};
-ghost use Rattle.cli_lang.specs.Calls.{CallsGiveInput};
+ghost use Rattle.cli_lang.specs.Arrivals.{Line, Input, Arrive};
+ghost use Rattle.cli_lang.specs.Calls.{CallsGiveInput, CallsBeforeFault};
 
 /// Law: a line comes to one answer.
 pub fn a_line_has_one_answer()
@@ -22,8 +22,23 @@ pub fn octets_arrive()
     ensures { (live seen : Bool) (readings octets : List ℕ) → (input : Input) × Arrive live seen readings octets input }
 {}
 
+/// Law: no list of octets is two control inputs, where a live one has as many readings as there may be lines.
+pub fn octets_arrive_once()
+    ensures { (live seen : Bool) (readings octets : List ℕ) (one other : Input) → (IsTrue live → length octets ≤ length readings) → Arrive live seen readings octets one → Arrive live seen readings octets other → one ≡ other }
+{}
+
+/// Law: the first octets of an input, where the last of them weren't seen to end it, hold the first of its lines.
+pub fn front_arrives()
+    ensures { (live seen : Bool) (readings octets more : List ℕ) (part whole : Input) → (IsTrue live → length (octets ++ more) ≤ length readings) → Arrive live false readings octets part → Arrive live seen readings (octets ++ more) whole → (later : List Line) × (whole.arrivals ≡ part.arrivals ++ later) }
+{}
+
 /// Law: call after call, a reader's answers are the lines of what its source had left, each in its turn, and then how the
 /// input ends; in whatever pieces the source gives its octets, and as far as no read fails.
 pub fn calls_give_input()
     ensures { CallsGiveInput }
+{}
+
+/// Law: the lines of a reader whose source failed at last are the lines of the octets that were given.
+pub fn calls_before_fault()
+    ensures { CallsBeforeFault }
 {}

@@ -1,4 +1,4 @@
-use Rattle.std.proofs.Common.{ℕ, List, ◌≡◌, decimal, sym, ap, ◌∙◌, arith}
+use Rattle.std.proofs.Common.{ℕ, ◌≡◌, decimal, sym, ap, ◌∙◌, arith}
 use Rattle.cli_lang.proofs.DecimalRead.{too_great, fits_is, no_new_port}
 use Rattle.cli_lang.proofs.command_line.read_port.Goals as goal
 

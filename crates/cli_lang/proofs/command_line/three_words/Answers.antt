@@ -1,4 +1,4 @@
-use Rattle.std.proofs.Common.{List, ℕ, ◌≡◌, ◌∷◌, [], refl, ap, inl, inr, codes, Option, Some, None, IfNone}
+use Rattle.std.proofs.Common.{List, ℕ, ◌≡◌, ◌∷◌, [], refl, ap, inl, inr, Option, Some, None, IfNone}
 use Rattle.savi_kinds.specs.declared.address.Addr.{Addr}
 use Rattle.cli_lang.specs.Commands.{Static, IsNoAddr}
 use Rattle.cli_lang.proofs.command_line.three_words.Goals as goal

@@ -1,4 +1,4 @@
-use Rattle.std.proofs.Common.{ℕ, ◌≡◌, ◌≤◌, ◌<◌, ◌+◌, ◌∷◌, [], ◌++◌, List, length, take, set, sym, ap, ◌∙◌, subst, arith, length-set, length-take-le, length-append}
+use Rattle.std.proofs.Common.{ℕ, ◌≡◌, ◌<◌, ◌+◌, ◌∷◌, [], ◌++◌, List, length, take, set, sym, ap, ◌∙◌, subst, arith, length-set, length-take-le, length-append}
 use Rattle.std.proofs.lemmas.List.{take_more_set}
 use Rattle.savi_ends.proofs.Octets.{takes_more}
 use Rattle.cli_lang.specs.Arrivals.{HasNoFeed}

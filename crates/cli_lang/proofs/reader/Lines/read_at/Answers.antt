@@ -1,6 +1,6 @@
-use Rattle.std.proofs.Common.{ℕ, ◌≡◌, ◌≢◌, ◌≤◌, ◌+◌, List, ◌++◌, length, take, refl, sym, subst, arith, length-take-le}
+use Rattle.std.proofs.Common.{◌≡◌, ◌≢◌, ◌≤◌, length, take, refl, sym, subst, arith, length-take-le}
 use Rattle.cli_lang.specs.declared.kinds.LineGot.{LineGot}
-use Rattle.cli_lang.specs.Readers.{State, Answers}
+use Rattle.cli_lang.specs.Readers.{Answers}
 use Rattle.cli_lang.proofs.LineRead.{running_is, whole_read, whole_bad, last_read, last_bad, long_bad, long_read}
 use Rattle.cli_lang.proofs.reader.Lines.read_at.Goals as goal
 
