@@ -1,6 +1,6 @@
 //! The table.
 
-ghost use Rattle.std.specs.Prelude.{◌≡◌, ◌⊎◌, ◌<◌, ◌≤◌, [], true, length, IfOk, slice_get};
+ghost use Rattle.std.specs.Prelude.{◌≡◌, ◌^◌, ◌⊎◌, ◌<◌, ◌≤◌, [], true, length, IfOk, slice_get};
 ghost use Rattle.std.specs.Option.{option_map};
 ghost use Rattle.savi_kinds.specs.Ports.{number_of};
 ghost use Rattle.mix_rules.specs.States.{nobody, has_state};
@@ -50,14 +50,12 @@ impl Model for BindTable {
 }
 
 impl BindTable {
-    /// No address has a state, and at most `rows` addresses will have one. It takes all its memory here; for more than
-    /// `ROWS_MOST` rows there is none.
+    /// No address has a state, and at most `rows` addresses will have one, at most 2^20. It takes all its memory here, O(rows).
+    /// A slab with more room than 32-bit keys have counts as want of memory; a slab takes no more room than it is asked for.
     pub fn make(alloc: Global, rows: u32) -> Result<BindTable, AllocError>
+        requires { rows ≤ 2 ^ 20 }
         ensures { IfOk result (λ table. table ≡ record { rows = []; most = rows }) }
     {
-        if rows > ROWS_MOST {
-            return Err(AllocError);
-        }
         let slab = Slab::with_capacity(alloc, rows as usize)?;
         if slab.capacity() > KEYS_MOST {
             return Err(AllocError);

@@ -6,8 +6,9 @@ use dhcp_states::Bound;
 use fcfs_states::{Fcfs, is_same};
 use savi_kinds::Port;
 
-/// The state of an address: where it was fixed by configuration, and what each of the two methods says of it. Where it is
-/// fixed, the other two parts are empty; where it is bound by DHCP, first come has no state or one of the same port.
+/// The state of an address: where it was fixed by configuration, and what each of the two methods says of it. In a sound
+/// state, where it is fixed the other two parts are empty, and where it is bound by DHCP first come has no state or one of
+/// the same port.
 #[derive(Clone, Copy, PartialEq, Eq, Debug)]
 pub struct AddrState {
     /// The port to which the address was bound by configuration.

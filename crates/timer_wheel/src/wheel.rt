@@ -1,6 +1,6 @@
 //! The pairs that are armed.
 
-ghost use Rattle.std.specs.Prelude.{◌≡◌, ◌<◌, ◌⊎◌, [], None, Some, IfOk, IsSome, is_some, length};
+ghost use Rattle.std.specs.Prelude.{◌≡◌, ◌^◌, ◌≤◌, ◌<◌, ◌⊎◌, [], None, Some, IfOk, IsSome, is_some, length};
 ghost use Rattle.timer_wheel.specs.Arms.{due_in, with_due, first_armed, due_by, without};
 
 use crate::armed::{Armed, SLICE_MS};
@@ -11,9 +11,6 @@ use savi_kinds::{Addr, Moment};
 use slab::Slab;
 use std::alloc::{AllocError, Global};
 use std::marker::Model;
-
-// The most rows of an index.
-const ROWS_MOST: u32 = 1 << 20;
 
 /// For each of at most so many addresses the moment (ms) at which it is due.
 ///
@@ -41,14 +38,12 @@ impl Model for TimerWheel {
 }
 
 impl TimerWheel {
-    /// Nothing armed, and room for so many addresses, up to 2^20; for more it gives up as without memory. It takes all its
-    /// memory here.
+    /// Nothing armed, and room for so many addresses, at most 2^20. It takes all its memory here, O(rows). A slab with more
+    /// room than 32-bit keys have counts as want of memory; a slab takes no more room than it is asked for.
     pub fn make(alloc: Global, rows: u32) -> Result<TimerWheel, AllocError>
+        requires { rows ≤ 2 ^ 20 }
         ensures { IfOk result (λ wheel. wheel ≡ record { arms = []; most = rows }) }
     {
-        if rows > ROWS_MOST {
-            return Err(AllocError);
-        }
         let slots = Slab::with_capacity(alloc, rows as usize)?;
         if slots.capacity() > (u32::MAX - BUCKETS) as usize {
             return Err(AllocError);
@@ -98,7 +93,7 @@ impl TimerWheel {
     /// Takes out what is due first, the least by moment and then by address, if its moment isn't after `t` (ms): None
     /// exactly where nothing is due at or before `t`, and then nothing has changed. It looks at each of the 1,024 buckets at
     /// most once, at the first row alone. Where nothing is due it is O(1) beside the buckets that it passes, which are those
-    /// of the time that has passed since the last call of this or of `is_due`.
+    /// of the time that has passed since the last call of this or of `is_due`, and those from the earliest moment armed since.
     pub fn next_due(&mut self, t: Moment) -> Option<(Moment, Addr)>
         ensures value { result ≡ due_by t (first_armed self.old.arms) }
         ensures arms { self.new ≡ record self.old { arms = without result self.old.arms } }
