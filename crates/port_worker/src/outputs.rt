@@ -1,24 +1,21 @@
 //! What goes out at each port.
 
-ghost use Rattle.std.specs.Prelude.{◌≡◌, ◌≢◌, ◌<◌, ◌≤◌, ◌∷◌, [], true, false, List, length, map, slice_index, slice_index_or, All, None, Option};
+ghost use Rattle.std.specs.Prelude.{◌≡◌, ◌≤◌, ◌∷◌, [], true, All};
 ghost use Rattle.std.specs.List.Sorted.{IsStrictlyIncreasing};
 ghost use Rattle.savi_kinds.specs.Ports.{number_of};
 ghost use Rattle.savi_kinds.specs.ValidPlan.{numbers_of};
 ghost use Rattle.savi_kinds.specs.declared.entry.Who.TheVariants.{Egress};
 ghost use Rattle.savi_kinds.specs.declared.entry.How.TheVariants as hows;
 ghost use Rattle.savi_ends.specs.Faults.{Rose};
-ghost use Rattle.savi_ends.specs.Octets.{behind};
-ghost use Rattle.savi_ends.specs.Writes.{Extends};
 ghost use Rattle.pcap_io.specs.Captures.{header_text};
 ghost use Rattle.savi_history.specs.Bases.{empty};
-ghost use Rattle.savi_history.specs.Passes.{has_ended, has_port, egress_pass};
+ghost use Rattle.savi_history.specs.Passes.{has_ended, egress_pass};
 ghost use Rattle.savi_history.specs.Legal.{IsOpen};
 ghost use Rattle.savi_history.specs.Events.{End};
-ghost use Rattle.savi_history.specs.PortOutputs.{TookPieces};
 ghost use Rattle.savi_history.specs.Replay.{Stops, begun, drained};
 ghost use Rattle.savi_core.specs.Machines.{with_event};
 ghost use Rattle.port_worker.specs.Pairs.{EachPair};
-ghost use Rattle.port_worker.specs.SentFrames.{records, TookAs, TookMore, OnlySink};
+ghost use Rattle.port_worker.specs.SentFrames.{records, TookAs, OnlySink};
 ghost use Rattle.port_worker.specs.Drains.{IsBegun, IsDrained, IsDrainable};
 ghost use Rattle.port_worker.specs.Outputs.{AreOutputs, AreAllowed, OutputsGoOn};
 ghost use Rattle.port_worker.specs.Replays.{ports_held, ports_planned};
