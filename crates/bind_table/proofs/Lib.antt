@@ -5,3 +5,4 @@ pub mod Keys
 pub mod Held
 pub mod KeptChanges
 pub mod Tables
+pub mod Pointwise

@@ -1,4 +1,5 @@
 pub mod Rows
+pub mod Laws
 pub mod Bindings
 pub mod Places
 pub mod Kept

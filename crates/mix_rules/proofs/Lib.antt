@@ -1,5 +1,6 @@
 pub mod TableLemmas
 pub mod EventLemmas
+pub mod HolderLemmas
 pub mod AgeingLemmas
 pub mod EndLemmas
 pub mod RunLemmas

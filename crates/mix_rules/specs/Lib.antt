@@ -5,4 +5,5 @@ pub mod TableLaws
 pub mod Ageing
 pub mod Premises
 pub mod Ends
+pub mod Holders
 pub mod FirstCome

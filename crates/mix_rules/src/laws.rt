@@ -1,6 +1,6 @@
 // What the tables of both methods come to. Each function does nothing: its contract is the law.
 
-ghost use Rattle.std.specs.Prelude.{◌≡◌, ℕ, ◌+◌, ◌<◌, ◌≤◌, ◌^◌, ◌↔◌, ◌⊎◌, Bool, false, Option, Some, None, List, [], ◌++◌};
+ghost use Rattle.std.specs.Prelude.{◌≡◌, ℕ, ◌+◌, ◌<◌, ◌≤◌, ◌^◌, ◌↔◌, ◌⊎◌, Bool, true, false, Option, Some, None, List, [], ◌++◌};
 ghost use Rattle.savi_kinds.specs.declared.port.Port.{Port};
 ghost use Rattle.savi_kinds.specs.declared.plan.Method.{Method};
 ghost use Rattle.fcfs_states.specs.declared.answer.Probe.{Probe};
@@ -12,7 +12,9 @@ ghost use Rattle.fcfs_states.specs.States.{Same};
 ghost use Rattle.fcfs_states.specs.Ageing.{IsRested, behind};
 ghost use Rattle.fcfs_states.specs.FirstCome.{Mark, IsTestOf, IsHeardAt, IsSilentAfter};
 ghost use Rattle.mix_rules.specs.declared.state.AddrState.{AddrState};
-ghost use Rattle.mix_rules.specs.States.{nobody, has_state, IsSoundFor, IsLiveAt};
+ghost use Rattle.mix_rules.specs.States.{nobody, has_state, IsSoundFor, IsLiveAt, IsHeldAt};
+ghost use Rattle.mix_rules.specs.Holders.{MakesHolder};
+ghost use Rattle.mix_rules.specs.Holders.{MakesHolder};
 ghost use Rattle.mix_rules.specs.Next.{next_state, IsPassing};
 ghost use Rattle.mix_rules.specs.TableLaws.{IsOnlyRow};
 ghost use Rattle.mix_rules.specs.Ageing.{aged_state, due_in, joined, IsStill, IsTouched};
@@ -73,6 +75,16 @@ pub fn what_is_due_first_is_the_earliest()
 /// An address is live at one port at most.
 pub fn an_address_is_live_at_one_port()
     ensures { (s : AddrState) (p q : Port) → IsLiveAt s p → IsLiveAt s q → Same p q }
+{}
+
+/// A port comes to hold an address by an event of its own where it has room, or by the operator, and never by ageing; and an
+/// address that has a state is held somewhere. So the addresses that a port holds never exceed those for which it has room.
+pub fn a_port_holds_what_it_has_room_for()
+    ensures events { (m : Method) (k : Times) (t : ℕ) (room : Bool) (s : AddrState) (event : Ev) (port : Port)
+        → ¬ IsHeldAt s port → IsHeldAt (next_state m k t room s event).1 port → MakesHolder port room event }
+    ensures ageing { (k : Times) (t : ℕ) (s : AddrState) (port : Port)
+        → AreTimes k → IsHeldAt (aged_state k t s).state port → IsHeldAt s port }
+    ensures someone { (s : AddrState) → has_state s ≡ true → (port : Port) × IsHeldAt s port }
 {}
 
 /// A packet from the address, or an advertisement of it, passes at a port of a host exactly where the address is live; and

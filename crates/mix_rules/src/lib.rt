@@ -16,9 +16,9 @@ mod table;
 mod tests;
 
 pub use laws::{
-    a_still_state_is_not_touched, a_test_stands_in_silence, ageing_composes,
-    an_address_is_live_at_one_port, every_event_meets_one_row, first_come_is_first_served,
-    nobody_alone_has_no_state, only_these_end_that_an_address_is_live,
+    a_port_holds_what_it_has_room_for, a_still_state_is_not_touched, a_test_stands_in_silence,
+    ageing_composes, an_address_is_live_at_one_port, every_event_meets_one_row,
+    first_come_is_first_served, nobody_alone_has_no_state, only_these_end_that_an_address_is_live,
     passes_are_those_of_live_ports, states_are_read_from_any_moment, states_stay_valid,
     what_is_due_first_is_the_earliest, who_has_an_address_keeps_it,
 };

@@ -1,7 +1,7 @@
 //! The pairs that are armed.
 
 ghost use Rattle.std.specs.Prelude.{◌≡◌, ◌^◌, ◌≤◌, ◌<◌, ◌⊎◌, [], None, Some, IfOk, IsSome, is_some, length};
-ghost use Rattle.timer_wheel.specs.Arms.{due_in, with_due, first_armed, due_by, without};
+ghost use Rattle.timer_wheel.specs.Arms.{IsRising, due_in, with_due, first_armed, due_by, without};
 
 use crate::armed::{Armed, SLICE_MS};
 use crate::buckets::{BUCKETS, put_in, seek, take_out};
@@ -95,6 +95,7 @@ impl TimerWheel {
     /// most once, at the first row alone. Where nothing is due it is O(1) beside the buckets that it passes, which are those
     /// of the time that has passed since the last call of this or of `is_due`, and those from the earliest moment armed since.
     pub fn next_due(&mut self, t: Moment) -> Option<(Moment, Addr)>
+        ensures rising { IsRising self.old.arms }
         ensures value { result ≡ due_by t (first_armed self.old.arms) }
         ensures arms { self.new ≡ record self.old { arms = without result self.old.arms } }
     {
@@ -106,6 +107,7 @@ impl TimerWheel {
     /// Whether anything is due at or before `t` (ms). Its cost is that of the search of `next_due`, which need not pass the
     /// same buckets again: the cursor is moved on, and nothing else is changed.
     pub fn is_due(&mut self, t: Moment) -> bool
+        ensures rising { IsRising self.old.arms }
         ensures value { result ≡ is_some (due_by t (first_armed self.old.arms)) }
         ensures same { self.new ≡ self.old }
     {
@@ -114,6 +116,7 @@ impl TimerWheel {
 
     // What is due first, if its moment isn't after t.
     fn first_due(&mut self, t: Moment) -> Option<(Moment, Addr)>
+        ensures rising { IsRising self.old.arms }
         ensures value { result ≡ due_by t (first_armed self.old.arms) }
         ensures same { self.new ≡ self.old }
     {

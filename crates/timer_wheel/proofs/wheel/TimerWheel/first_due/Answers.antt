@@ -1,5 +1,6 @@
 use Rattle.std.proofs.Common.{◌≤◌, ◌/◌, sym, subst, ap, ◌∙◌}
-use Rattle.timer_wheel.specs.Arms.{Wheel, first_armed, due_by}
+use Rattle.timer_wheel.specs.Arms.{Wheel, IsRising, first_armed, due_by}
+use Rattle.timer_wheel.proofs.Slots.{arms_in-rising}
 use Rattle.timer_wheel.specs.Rings.{slice_of}
 use Rattle.timer_wheel.specs.Searches.{LeastOf}
 use Rattle.timer_wheel.proofs.Taking.{nothing_due, least_late, least_due}
@@ -26,3 +27,12 @@ returns-clause-value c =
     (ap (λ (w : Wheel). due_by c.args.t (first_armed w.arms)) (sym c.self.view_is)
     ∙ least_due c.args.t c.self.inside.rows.slots c.in_ok-armed.armed (one_each c.self.inside.rows c.self.inside.index c.self.invariant.indexed) c.self.invariant.wired.fits
     (subst (LeastOf c.self.inside.rows.slots (λ armed. slice_of armed ≤ c.args.t / 64)) c.in_ok-armed.was c.seek-found.ensures.least) c.if-armed-t.false)
+
+pub returns-in_err-armed-clause-rising : goal.returns-in_err-armed-clause-rising
+returns-in_err-armed-clause-rising c = subst (λ (w : Wheel). IsRising w.arms) c.self.view_is (arms_in-rising c.self.inside.rows.slots)
+
+pub returns-then-armed-t-clause-rising : goal.returns-then-armed-t-clause-rising
+returns-then-armed-t-clause-rising c = subst (λ (w : Wheel). IsRising w.arms) c.self.view_is (arms_in-rising c.self.inside.rows.slots)
+
+pub returns-clause-rising : goal.returns-clause-rising
+returns-clause-rising c = subst (λ (w : Wheel). IsRising w.arms) c.self.view_is (arms_in-rising c.self.inside.rows.slots)
