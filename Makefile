@@ -33,7 +33,7 @@ bench: build build/capture_bench build/lock_bench build/fdb_bench build/tables_b
 	bench/stations build/fdb_bench
 	bench/tables build/tables_bench
 
-# The merge gate: `rt ci`, and then the examples. From nothing it takes about an hour on 4 cores.
+# The merge gate: `rt ci`, and then the examples. From nothing it takes about 40 minutes on 4 cores.
 check:
 	.ci/run
 
