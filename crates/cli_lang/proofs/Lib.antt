@@ -10,3 +10,4 @@ pub mod Existence
 pub mod WholeRuns
 pub mod Uniqueness
 pub mod BeforeFault
+pub mod Unread

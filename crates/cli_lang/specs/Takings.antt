@@ -1,5 +1,5 @@
 -- What was taken from a source for one octet, and for one line.
-use Rattle.std.specs.Prelude.{◌≡◌, ℕ, ◌≤◌, List, [], ◌∷◌, ◌++◌, length, take, Option}
+use Rattle.std.specs.Prelude.{◌≡◌, ◌⊎◌, ℕ, ◌≤◌, List, [], ◌∷◌, ◌++◌, length, take, Option}
 use Rattle.savi_ends.specs.Octets.{NothingLeft}
 use Rattle.cli_lang.specs.declared.ahead.Octet.{Octet}
 use Rattle.cli_lang.specs.declared.ahead.Octet.TheVariants as octet
@@ -20,3 +20,9 @@ TakesLine (taken.Whole n) octets held buf left = (n ≤ length buf) × HasNoFeed
 TakesLine (taken.Last n) octets held buf left = (n ≤ length buf) × HasNoFeed (take n buf) × (octets ≡ take n buf) × NothingLeft left
 TakesLine taken.Long octets held buf left = (front : List ℕ) × (length front ≡ 121) × HasNoFeed front × (octets ≡ front ++ held)
 TakesLine taken.Failed octets held buf left = HasNoFeed octets × (length octets ≤ 120)
+
+-- These octets decide the line at their front: there is a line feed behind at most 120 of them, or there are more than a line
+-- may have.
+abbrev pub DecideLine : List ℕ → Type 0
+DecideLine held =
+    ((front : List ℕ) × (rest : List ℕ) × (held ≡ front ++ (line_feed ∷ rest)) × (length front ≤ 120)) ⊎ (121 ≤ length held)

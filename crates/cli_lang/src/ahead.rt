@@ -55,6 +55,7 @@ impl Ahead {
         ensures later { S.faults source.old ≤ S.faults source.new }
         ensures cause { result ≡ Octet.Failed → Rose (S.faults source.old) (S.faults source.new) }
         ensures octets { (gave : List ℕ) × Takes (S.left source.old) (S.left source.new) gave × GivesOctet result (self.old ++ gave) self.new (S.left source.new) }
+        ensures held { self.old ≢ [] → (source.new ≡ source.old) × ((c : ℕ) × (result ≡ Octet.Is c) × (self.old ≡ c ∷ self.new)) }
     {
         if !self.is_empty() {
             return Octet::Is(self.first());

@@ -45,6 +45,7 @@ impl Model for Lines {
 
 impl Lines {
     ghost use Rattle.savi_kinds.specs.declared.entry.How.TheVariants as how;
+    ghost use Rattle.cli_lang.specs.Takings.{DecideLine};
     ghost use Rattle.cli_lang.specs.Readers.{Running, Ended, Answers, Stamps, last_answer, IsPlaced};
 
     /// A reader at the beginning of its input.
@@ -80,6 +81,9 @@ impl Lines {
         // There are octets that the source gave in this call, and the answer is what they are behind those that were held.
         ensures octets { (gave : List ℕ) × Takes (S.left source.old) (S.left source.new) gave × Answers live self.old self.new gave buf.new (S.left source.new) result }
 
+        // Nothing is read where the octets that are held decide the line.
+        ensures unread { (place : ℕ) (held : List ℕ) → self.old ≡ Running place held → DecideLine held → source.new ≡ source.old }
+
         // A reader that has ended reads nothing and answers the same.
         ensures again { IfSome (last_answer self.old) (λ answer. (result ≡ answer) × (self.new ≡ self.old) × (source.new ≡ source.old) × (buf.new ≡ buf.old)) }
         ensures stamps { Stamps C.readings live clock.old clock.new result }
@@ -105,6 +109,7 @@ impl Lines {
     ) -> LineGot
         requires placed { place ≤ 2 ^ 62 }
         requires running { (held : List ℕ) × (self.old ≡ Running place held) }
+        ensures unread { (at : ℕ) (held : List ℕ) → self.old ≡ Running at held → DecideLine held → source.new ≡ source.old }
         ensures later { S.faults source.old ≤ S.faults source.new }
         ensures cause { result ≡ LineGot.Failed → Rose (S.faults source.old) (S.faults source.new) }
         ensures octets { (gave : List ℕ) × Takes (S.left source.old) (S.left source.new) gave × Answers live self.old self.new gave buf.new (S.left source.new) result }

@@ -1,7 +1,7 @@
 ghost use Rattle.std.specs.Prelude.{◌≡◌, ◌≤◌, ℕ, List, ◌++◌};
 ghost use Rattle.savi_ends.specs.Octets.{Takes};
 ghost use Rattle.savi_ends.specs.Faults.{Rose};
-ghost use Rattle.cli_lang.specs.Takings.{TakesLine};
+ghost use Rattle.cli_lang.specs.Takings.{DecideLine, TakesLine};
 
 use crate::ahead::{Ahead, Octet};
 use savi_ends::Source;
@@ -31,6 +31,7 @@ pub(crate) fn take_line<S: Source>(
     ensures later { S.faults source.old ≤ S.faults source.new }
     ensures cause { result ≡ Taken.Failed → Rose (S.faults source.old) (S.faults source.new) }
     ensures octets { (gave : List ℕ) × Takes (S.left source.old) (S.left source.new) gave × TakesLine result (ahead.old ++ gave) ahead.new buf.new (S.left source.new) }
+    ensures unread { DecideLine ahead.old → source.new ≡ source.old }
 {
     let mut n = 0;
     loop {

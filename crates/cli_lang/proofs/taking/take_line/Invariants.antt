@@ -1,4 +1,4 @@
-use Rattle.std.proofs.Common.{ℕ, ◌≡◌, ◌≤◌, ◌-◌, ◌++◌, List, length, take}
+use Rattle.std.proofs.Common.{ℕ, ◌≡◌, ◌⊎◌, ◌≤◌, ◌-◌, ◌++◌, List, length, take}
 use Rattle.savi_ends.specs.Octets.{Takes}
 use Rattle.cli_lang.specs.Arrivals.{HasNoFeed}
 use Rattle.cli_lang.proofs.taking.take_line.Given as goal
@@ -11,6 +11,7 @@ invariant-loop-octet g l = record {
   within : l.n ≤ 120;
   apart : HasNoFeed (take l.n l.buf);
   taken : (gave : List ℕ) × Takes (g.S.Source.left l.initial.source) (g.S.Source.left l.source) gave × (l.initial.ahead ++ gave ≡ take l.n l.buf ++ l.ahead);
+  unread : ((l.source ≡ l.initial.source) × (l.initial.ahead ≡ take l.n l.buf ++ l.ahead)) ⊎ ((rest : List ℕ) × (take l.n l.buf ≡ l.initial.ahead ++ rest));
 }
 
 abbrev pub decreases-loop-octet : goal.decreases-loop-octet
