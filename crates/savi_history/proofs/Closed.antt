@@ -8,6 +8,7 @@ use Rattle.savi_kinds.specs.declared.entry.Who.{Who}
 use Rattle.savi_kinds.specs.declared.entry.Who.TheVariants.{Ingress, Control, Ticker, Egress}
 use Rattle.savi_kinds.specs.declared.entry.How.{How}
 use Rattle.savi_kinds.specs.declared.entry.How.TheVariants as hows
+use Rattle.savi_kinds.specs.declared.entry.Act.{Act}
 use Rattle.savi_kinds.specs.declared.entry.Act.TheVariants as acts
 use Rattle.savi_kinds.specs.Ports.{number_of}
 use Rattle.savi_kinds.specs.PortSets.{is_member}
@@ -15,12 +16,12 @@ use Rattle.savi_kinds.specs.ValidPlan.{numbers_of}
 use Rattle.hist_store.specs.Rows.{Row}
 use Rattle.savi_history.specs.Bases.{empty}
 use Rattle.savi_history.specs.Passes.{has_ended, has_port, pass_of, place_of, egress_pass}
-use Rattle.savi_history.specs.Queues.{Item, queue, item_of, is_queued, is_closed, cuts, waiting_after}
+use Rattle.savi_history.specs.Queues.{Item, item_of, room_at, joined, all_joined, offered_at, probed, framed, waiting_after, queue}
 use Rattle.savi_history.specs.Events as events
 use Rattle.savi_history.specs.Events.{row_of}
 use Rattle.savi_history.specs.Legal.{MayCome, MayEnd, IsLegal}
-use Rattle.savi_history.proofs.PortPlaces.{placed, place_within, length-numbers}
-use Rattle.savi_history.proofs.PortMembers.{member_chosen}
+use Rattle.savi_history.proofs.PortPlaces.{placed, place_within}
+use Rattle.savi_history.proofs.Joining.{room_ended, joined_closed}
 
 abbrev no_items : List Item
 no_items = []
@@ -38,25 +39,25 @@ failed_none true = refl
 failed_none false = refl
 
 -- an end lets nothing wait where nothing waited
-end_none : (q : ℕ) (r : Row) (who : Who) (how : How) → waiting_after q r (acts.End who how) [] ≡ []
-end_none q r (Egress port) hows.Failed = failed_none (number_of port == q)
-end_none q r (Egress port) hows.End = refl
-end_none q r (Egress port) hows.Quit = refl
-end_none q r (Egress port) (hows.Malformed at) = refl
-end_none q r (Egress port) (hows.Overlong at) = refl
-end_none q r (Egress port) hows.Unwritten = refl
-end_none q r (Egress port) (hows.Full len) = refl
-end_none q r (Ingress port) how = refl
-end_none q r Control how = refl
-end_none q r Ticker how = refl
+end_none : (plan : Plan) (past : List Row) (q : ℕ) (r : Row) (who : Who) (how : How) → waiting_after plan empty past q r (acts.End who how) [] ≡ []
+end_none plan past q r (Egress port) hows.Failed = failed_none (number_of port == q)
+end_none plan past q r (Egress port) hows.End = refl
+end_none plan past q r (Egress port) hows.Quit = refl
+end_none plan past q r (Egress port) (hows.Malformed at) = refl
+end_none plan past q r (Egress port) (hows.Overlong at) = refl
+end_none plan past q r (Egress port) hows.Unwritten = refl
+end_none plan past q r (Egress port) (hows.Full len) = refl
+end_none plan past q r (Ingress port) how = refl
+end_none plan past q r Control how = refl
+end_none plan past q r Ticker how = refl
 
 -- an end of this egress that might come leaves nothing there
-egress_none : (plan : Plan) (past : List Row) (port : Port) (q : ℕ) (r : Row) (how : How) → number_of port ≡ q → MayEnd plan empty past (Egress port) how → waiting_after q r (acts.End (Egress port) how) (queue empty q past) ≡ []
-egress_none plan past port q r hows.End same may = subst (λ (n : ℕ). queue empty n past ≡ []) same may.1
+egress_none : (plan : Plan) (past : List Row) (port : Port) (q : ℕ) (r : Row) (how : How) → number_of port ≡ q → MayEnd plan empty past (Egress port) how → waiting_after plan empty past q r (acts.End (Egress port) how) (queue plan empty q past) ≡ []
+egress_none plan past port q r hows.End same may = subst (λ (n : ℕ). queue plan empty n past ≡ []) same may.1
 egress_none plan past port q r hows.Quit same may = absurd may
 egress_none plan past port q r (hows.Malformed at) same may = absurd may
 egress_none plan past port q r (hows.Overlong at) same may = absurd may
-egress_none plan past port q r hows.Failed same may = cond-true (number_of port == q) [] (queue empty q past) (eq-eqb (number_of port) q same)
+egress_none plan past port q r hows.Failed same may = cond-true (number_of port == q) [] (queue plan empty q past) (eq-eqb (number_of port) q same)
 egress_none plan past port q r hows.Unwritten same may = absurd may
 egress_none plan past port q r (hows.Full len) same may = absurd may
 
@@ -69,39 +70,37 @@ same_port plan port q known known_q same =
     sym one.number_is ∙ ap (λ (k : ℕ). get_or (numbers_of plan.ports) k 0) places ∙ other.number_is
 
 -- the pass that ended is this egress
-ended_here : (plan : Plan) (past : List Row) (q : ℕ) (r : Row) (who : Who) (how : How) → has_port plan q ≡ true → MayCome plan empty past (events.End who how) → pass_of plan who ≡ egress_pass plan q → waiting_after q r (acts.End who how) (queue empty q past) ≡ []
+ended_here : (plan : Plan) (past : List Row) (q : ℕ) (r : Row) (who : Who) (how : How) → has_port plan q ≡ true → MayCome plan empty past (events.End who how) → pass_of plan who ≡ egress_pass plan q → waiting_after plan empty past q r (acts.End who how) (queue plan empty q past) ≡ []
 ended_here plan past q r (Ingress port) how known may same = let within = place_within plan (number_of port) may.0.known in absurd (omega (arith, within, same))
 ended_here plan past q r Control how known may same = absurd (omega (arith, same))
 ended_here plan past q r Ticker how known may same = absurd (omega (arith, same))
 ended_here plan past q r (Egress port) how known may same = egress_none plan past port q r how (same_port plan port q may.0.known known same) may.1
 
--- a frame that goes where the egress has ended is left out
-left_out : (plan : Plan) (past : List Row) (q : ℕ) (r : Row) (out : PortSet) → has_port plan q ≡ true → has_ended empty (egress_pass plan q) past ≡ true → r.entry.outs ≡ out → r.entry.cuts ≡ cuts plan empty past out → is_queued q r ≡ false
-left_out plan past q r out known is_ended outs_is cuts_is =
-    elim (cases_Bool (is_queued q r)) [
-      | inr stays ↦ stays
-      | inl queued ↦
-          let both = and_parts (is_member r.entry.outs q) (not (is_member r.entry.cuts q)) queued in
-          let place = placed plan q known in
-          let test : ℕ → Bool = λ n. is_member out n && is_closed plan empty past n in
-          let closed : is_closed plan empty past q ≡ true = or_right _ _ is_ended in
-          let here : get_or (numbers_of plan.ports) (place_of plan q) 0 ≡ q = place.number_is in
-          let goes : is_member out q ≡ true = sym (ap (λ (s : PortSet). is_member s q) outs_is) ∙ both.0 in
-          let size = length-numbers plan.ports in
-          let chosen = member_chosen test plan.ports (place_of plan q) (omega (arith, place.within, size)) (ap test here ∙ and_from _ _ goes closed) in
-          let cut : is_member r.entry.cuts q ≡ true = ap (λ (s : PortSet). is_member s q) cuts_is ∙ sym (ap (λ (n : ℕ). is_member (cuts plan empty past out) n) here) ∙ chosen in
-          absurd (both_ways (is_member r.entry.cuts q) (not-true (is_member r.entry.cuts q) both.1) cut)
-    ]
+-- nothing that an entry offers joins where the egress has ended
+probes_none : (plan : Plan) (past : List Row) (q : ℕ) (act : Act) (octets : List ℕ) (waiting : List Item) → has_ended empty (egress_pass plan q) past ≡ true → probed plan empty past act octets q waiting ≡ waiting
+probes_none plan past q act octets waiting is_ended =
+    let items = offered_at plan empty past act octets q in
+    ap (λ (room : ℕ). all_joined room waiting items) (room_ended plan empty past q is_ended) ∙ joined_closed waiting items
+
+frame_at : (b : Bool) (r : Row) (waiting : List Item) → (if b then joined 0 waiting (item_of r) else waiting) ≡ waiting
+frame_at true r waiting = joined_closed waiting (item_of r ∷ [])
+frame_at false r waiting = refl
+
+frame_none : (plan : Plan) (past : List Row) (q : ℕ) (r : Row) (waiting : List Item) → has_ended empty (egress_pass plan q) past ≡ true → framed (room_at plan empty past q) q r waiting ≡ waiting
+frame_none plan past q r waiting is_ended =
+    ap (λ (room : ℕ). framed room q r waiting) (room_ended plan empty past q is_ended) ∙ frame_at (is_member r.entry.outs q) r waiting
 
 -- one row more
 none_next : (plan : Plan) (past : List Row) (q : ℕ) (event : events.Event) → has_port plan q ≡ true → MayCome plan empty past event
-    → (has_ended empty (egress_pass plan q) past ≡ true → queue empty q past ≡ [])
-    → has_ended empty (egress_pass plan q) (row_of plan empty past event ∷ past) ≡ true → queue empty q (row_of plan empty past event ∷ past) ≡ []
+    → (has_ended empty (egress_pass plan q) past ≡ true → queue plan empty q past ≡ [])
+    → has_ended empty (egress_pass plan q) (row_of plan empty past event ∷ past) ≡ true → queue plan empty q (row_of plan empty past event ∷ past) ≡ []
 none_next plan past q (events.Frame port stamp octets) known may before is_ended =
     let r = row_of plan empty past (events.Frame port stamp octets) in
-    let out = events.outs_of plan empty past port stamp octets in
-    cond-false (is_queued q r) (queue empty q past ++ item_of r ∷ []) (queue empty q past) (left_out plan past q r out known is_ended refl refl) ∙ before is_ended
-none_next plan past q (events.Long port stamp len) known may before is_ended = before is_ended
+    let waiting = queue plan empty q past in
+    let act = events.frame_act past port stamp octets in
+    frame_none plan past q r (probed plan empty past act octets q waiting) is_ended ∙ probes_none plan past q act octets waiting is_ended ∙ before is_ended
+none_next plan past q (events.Long port stamp len) known may before is_ended =
+    probes_none plan past q (acts.Long port stamp len) [] (queue plan empty q past) is_ended ∙ before is_ended
 none_next plan past q (events.Drain port count) known may before is_ended = rw (before is_ended) (drop_none (number_of port == q) count)
 none_next plan past q (events.End who how) known may before is_ended =
     let r = row_of plan empty past (events.End who how) in
@@ -109,19 +108,19 @@ none_next plan past q (events.End who how) known may before is_ended =
       | inl same ↦ ended_here plan past q r who how known may same
       | inr other ↦
           let still : has_ended empty (egress_pass plan q) past ≡ true = sym (ap (λ (b : Bool). b || has_ended empty (egress_pass plan q) past) (ne_eqb (pass_of plan who) (egress_pass plan q) other)) ∙ is_ended in
-          rw (before still) (end_none q r who how)
+          rw (before still) (end_none plan past q r who how)
     ]
 
-pub closed_empty : (plan : Plan) (past : List Row) (q : ℕ) → IsLegal plan empty past → has_port plan q ≡ true → has_ended empty (egress_pass plan q) past ≡ true → queue empty q past ≡ []
+pub closed_empty : (plan : Plan) (past : List Row) (q : ℕ) → IsLegal plan empty past → has_port plan q ≡ true → has_ended empty (egress_pass plan q) past ≡ true → queue plan empty q past ≡ []
 closed_empty plan [] q legal known is_ended = refl
 closed_empty plan (r ∷ past) q legal known is_ended =
     let stands = legal.0 in
     let row_is : r ≡ row_of plan empty past stands.0 = stands.2 in
-    subst (λ (x : Row). queue empty q (x ∷ past) ≡ []) (sym row_is)
+    subst (λ (x : Row). queue plan empty q (x ∷ past) ≡ []) (sym row_is)
     (none_next plan past q stands.0 known stands.1 (closed_empty plan past q legal.1 known) (subst (λ (x : Row). has_ended empty (egress_pass plan q) (x ∷ past) ≡ true) row_is is_ended))
 
 -- where something waits the egress is open
-pub waits_open : (plan : Plan) (past : List Row) (q : ℕ) → IsLegal plan empty past → has_port plan q ≡ true → 0 < length (queue empty q past) → has_ended empty (egress_pass plan q) past ≡ false
+pub waits_open : (plan : Plan) (past : List Row) (q : ℕ) → IsLegal plan empty past → has_port plan q ≡ true → 0 < length (queue plan empty q past) → has_ended empty (egress_pass plan q) past ≡ false
 waits_open plan past q legal known some =
     elim (cases_Bool (has_ended empty (egress_pass plan q) past)) [
       | inr still ↦ still

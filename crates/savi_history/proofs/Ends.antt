@@ -34,7 +34,7 @@ later_failure_at plan base port past true pass is = later_event plan base past (
 later_failure_at plan base port past false pass is = is
 
 pub later_failure : (plan : Plan) (base : Base) (stops : Stops) (port : Port) (past : List Row) → Later base past (with_failure plan base stops port past)
-later_failure plan base stops port past = later_failure_at plan base port past (is_stopped (stops (number_of port)) (pieces_by base (number_of port) past))
+later_failure plan base stops port past = later_failure_at plan base port past (is_stopped (stops (number_of port)) (pieces_by plan base (number_of port) past))
 
 pub later_begun : (plan : Plan) (base : Base) (stops : Stops) (ports : List PortPlan) (past : List Row) → Later base past (begun plan base stops ports past)
 later_begun plan base stops [] past pass is = is
@@ -48,7 +48,7 @@ later_drain plan base stops port false count past pass is = later_failure plan b
 pub later_drained : (plan : Plan) (base : Base) (stops : Stops) (ports : List PortPlan) (past : List Row) → Later base past (drained plan base stops ports past)
 later_drained plan base stops [] past pass is = is
 later_drained plan base stops (q ∷ qs) past pass is =
-    let count = length (queue base (number_of q.number) past) in
+    let count = length (queue plan base (number_of q.number) past) in
     later_drained plan base stops qs (with_drain plan base stops q.number count past) pass (later_drain plan base stops q.number (count == 0) count past pass is)
 
 later_arrival : (plan : Plan) (base : Base) (stops : Stops) (port : Port) (arrival : Arrival) (past : List Row) (b : Bool)

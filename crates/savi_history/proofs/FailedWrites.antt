@@ -83,7 +83,7 @@ module _ (plan : Plan) (base : Base) (stops : Stops) where
   tells_failure past port false at tells = tells
 
   tells_failed : (past : List Row) (port : Port) → IsAt plan (number_of port) → Tells plan base past → Tells plan base (with_failure plan base stops port past)
-  tells_failed past port = tells_failure past port (is_stopped (stops (number_of port)) (pieces_by base (number_of port) past))
+  tells_failed past port = tells_failure past port (is_stopped (stops (number_of port)) (pieces_by plan base (number_of port) past))
 
   tells_drain : (past : List Row) (port : Port) (count : ℕ) (b : Bool) → IsAt plan (number_of port) → Tells plan base past → Tells plan base (if b then past else with_failure plan base stops port (with_event plan base past (Drain port count)))
   tells_drain past port count true at tells = tells
@@ -112,7 +112,7 @@ module _ (plan : Plan) (base : Base) (stops : Stops) where
     arrives = tells_arrival;
     ends = λ past who how is running tells. tells_input past who how is tells;
     ticks = tells_ticker;
-    drains = λ past port at tells. let count = length (queue base (number_of port) past) in tells_drain past port count (count == 0) at tells;
+    drains = λ past port at tells. let count = length (queue plan base (number_of port) past) in tells_drain past port count (count == 0) at tells;
     closes = λ past port at tells. tells_close past port (has_ended base (egress_pass plan (number_of port)) past) refl tells;
   }
 

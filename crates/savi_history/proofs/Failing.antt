@@ -74,7 +74,7 @@ module _ (plan : Plan) (base : Base) (stops : Stops) where
   keeps_failure_at past port false = record { failed_same = refl; ends_same = λ n. refl; later = λ pass is. is }
 
   keeps_failure : (past : List Row) (port : Port) → Keeps past (with_failure plan base stops port past)
-  keeps_failure past port = keeps_failure_at past port (is_stopped (stops (number_of port)) (pieces_by base (number_of port) past))
+  keeps_failure past port = keeps_failure_at past port (is_stopped (stops (number_of port)) (pieces_by plan base (number_of port) past))
 
   keeps_begun : (ports : List PortPlan) (past : List Row) → Keeps past (begun plan base stops ports past)
   keeps_begun [] past = record { failed_same = refl; ends_same = λ n. refl; later = λ pass is. is }
@@ -135,7 +135,7 @@ module _ (plan : Plan) (base : Base) (stops : Stops) where
     ends = tells_end;
     ticks = tells_ticker;
     drains = λ past port at tells.
-        let count = length (queue base (number_of port) past) in
+        let count = length (queue plan base (number_of port) past) in
         tells_kept past (with_drain plan base stops port count past) (keeps_drain past port count (count == 0)) tells;
     closes = λ past port at tells. tells_kept past (with_end plan base port past) (keeps_close past port (has_ended base (egress_pass plan (number_of port)) past)) tells;
   }

@@ -55,7 +55,7 @@ module _ (plan : Plan) (stops : Stops) (n : ℕ) (known : has_port plan n ≡ tr
 
   -- the output stands well with what was sent
   abbrev Stands : List Row → Type 0
-  Stands past = Fine stop (output_end n past) (sent empty n past) (text_before_last_drain empty n past)
+  Stands past = Fine stop (output_end n past) (sent plan empty n past) (text_before_last_drain plan empty n past)
 
   abbrev Has : List Row → Type 0
   Has past = IsLegal plan empty past → Stands past
@@ -63,14 +63,14 @@ module _ (plan : Plan) (stops : Stops) (n : ℕ) (known : has_port plan n ≡ tr
   -- nothing of the output changed
   record IsSame (past now : List Row) : Type 0 where
     end_same : output_end n now ≡ output_end n past
-    sent_same : sent empty n now ≡ sent empty n past
-    text_same : text_before_last_drain empty n now ≡ text_before_last_drain empty n past
+    sent_same : sent plan empty n now ≡ sent plan empty n past
+    text_same : text_before_last_drain plan empty n now ≡ text_before_last_drain plan empty n past
 
   stands_same : (past now : List Row) → IsSame past now → Stands past → Stands now
   stands_same past now same stands =
-      subst (λ (o : Option How). Fine stop o (sent empty n now) (text_before_last_drain empty n now)) (sym same.end_same)
-      (subst (λ (items : List Item). Fine stop (output_end n past) items (text_before_last_drain empty n now)) (sym same.sent_same)
-      (subst (λ (text : List ℕ). Fine stop (output_end n past) (sent empty n past) text) (sym same.text_same) stands))
+      subst (λ (o : Option How). Fine stop o (sent plan empty n now) (text_before_last_drain plan empty n now)) (sym same.end_same)
+      (subst (λ (items : List Item). Fine stop (output_end n past) items (text_before_last_drain plan empty n now)) (sym same.sent_same)
+      (subst (λ (text : List ℕ). Fine stop (output_end n past) (sent plan empty n past) text) (sym same.text_same) stands))
 
   same_arrival : (past : List Row) (port : Port) (a : Arrival) → IsSame past (with_event plan empty past (event_of port a))
   same_arrival past port (arrivals.Frame stamp octets) = record { end_same = refl; sent_same = sent_arrival plan empty past port (arrivals.Frame stamp octets) n; text_same = refl }
@@ -107,24 +107,24 @@ module _ (plan : Plan) (stops : Stops) (n : ℕ) (known : has_port plan n ≡ tr
   }
 
   -- behind a drain at this port a write failed, or none did
-  drained_here : (past : List Row) (port : Port) (count : ℕ) (b : Bool) → number_of port ≡ n → is_stopped stop (pieces_by empty n (with_event plan empty past (Drain port count))) ≡ b → output_end n past ≡ None → Stands past
+  drained_here : (past : List Row) (port : Port) (count : ℕ) (b : Bool) → number_of port ≡ n → is_stopped stop (pieces_by plan empty n (with_event plan empty past (Drain port count))) ≡ b → output_end n past ≡ None → Stands past
       → Stands (if b then with_event plan empty (with_event plan empty past (Drain port count)) (End (passes.Egress port) hows.Failed) else with_event plan empty past (Drain port count))
   drained_here past port count true here stopped was stands =
       let mid = with_event plan empty past (Drain port count) in
       let now = with_event plan empty mid (End (passes.Egress port) hows.Failed) in
       let same : (number_of port == n) ≡ true = subst (λ (m : ℕ). (number_of port == m) ≡ true) here (itself (number_of port)) in
-      let sent_now : sent empty n now ≡ sent empty n mid = sent_end plan empty mid (passes.Egress port) hows.Failed n in
-      let sent_mid : sent empty n mid ≡ sent empty n past ++ take count (queue empty n past) =
-      subst (λ (m : ℕ). sent empty m mid ≡ sent empty m past ++ take count (queue empty m past)) here (sent_here plan empty past port count) in
-      let text_is : text_before_last_drain empty n now ≡ capture_text (sent_items (sent empty n past)) = rw same refl in
-      let running : is_stopped stop (suc (length (sent empty n past))) ≡ false =
-      subst (λ (o : Option How). Fine stop o (sent empty n past) (text_before_last_drain empty n past)) was stands in
+      let sent_now : sent plan empty n now ≡ sent plan empty n mid = sent_end plan empty mid (passes.Egress port) hows.Failed n in
+      let sent_mid : sent plan empty n mid ≡ sent plan empty n past ++ take count (queue plan empty n past) =
+      subst (λ (m : ℕ). sent plan empty m mid ≡ sent plan empty m past ++ take count (queue plan empty m past)) here (sent_here plan empty past port count) in
+      let text_is : text_before_last_drain plan empty n now ≡ capture_text (sent_items (sent plan empty n past)) = rw same refl in
+      let running : is_stopped stop (suc (length (sent plan empty n past))) ≡ false =
+      subst (λ (o : Option How). Fine stop o (sent plan empty n past) (text_before_last_drain plan empty n past)) was stands in
       let failed : output_end n now ≡ Some hows.Failed = rw same refl in
-      subst (λ (o : Option How). Fine stop o (sent empty n now) (text_before_last_drain empty n now)) (sym failed) (
+      subst (λ (o : Option How). Fine stop o (sent plan empty n now) (text_before_last_drain plan empty n now)) (sym failed) (
         ap (λ (items : List Item). is_stopped stop (suc (length items))) sent_now ∙ stopped,
         inr (record {
-          front = sent empty n past;
-          more = take count (queue empty n past);
+          front = sent plan empty n past;
+          more = take count (queue plan empty n past);
           all = sent_now ∙ sent_mid;
           text_is = text_is;
           taken = running;
@@ -132,27 +132,27 @@ module _ (plan : Plan) (stops : Stops) (n : ℕ) (known : has_port plan n ≡ tr
       )
   drained_here past port count false here stopped was stands =
       let mid = with_event plan empty past (Drain port count) in
-      subst (λ (o : Option How). Fine stop o (sent empty n mid) (text_before_last_drain empty n mid)) (sym was) stopped
+      subst (λ (o : Option How). Fine stop o (sent plan empty n mid) (text_before_last_drain plan empty n mid)) (sym was) stopped
 
   legal_mid : (past : List Row) (port : Port) (b : Bool) → IsLegal plan empty (if b then with_event plan empty past (End (passes.Egress port) hows.Failed) else past) → IsLegal plan empty past
   legal_mid past port true legal = legal.1
   legal_mid past port false legal = legal
 
-  has_drain_at : (past : List Row) (port : Port) (b : Bool) → (number_of port ≡ n) ⊎ (number_of port ≢ n) → (length (queue empty (number_of port) past) == 0) ≡ b → Has past
-      → Has (if b then past else with_failure plan empty stops port (with_event plan empty past (Drain port (length (queue empty (number_of port) past)))))
+  has_drain_at : (past : List Row) (port : Port) (b : Bool) → (number_of port ≡ n) ⊎ (number_of port ≢ n) → (length (queue plan empty (number_of port) past) == 0) ≡ b → Has past
+      → Has (if b then past else with_failure plan empty stops port (with_event plan empty past (Drain port (length (queue plan empty (number_of port) past)))))
   has_drain_at past port true where_is is has legal = has legal
   has_drain_at past port false (inl here) is has legal =
-      let count = length (queue empty (number_of port) past) in
+      let count = length (queue plan empty (number_of port) past) in
       let mid = with_event plan empty past (Drain port count) in
-      let test = is_stopped (stops (number_of port)) (pieces_by empty (number_of port) mid) in
+      let test = is_stopped (stops (number_of port)) (pieces_by plan empty (number_of port) mid) in
       let legal_past = (legal_mid mid port test legal).1 in
-      let waits : 0 < length (queue empty n past) = subst (λ (m : ℕ). 0 < length (queue empty m past)) here (some_positive (queue empty (number_of port) past) is) in
+      let waits : 0 < length (queue plan empty n past) = subst (λ (m : ℕ). 0 < length (queue plan empty m past)) here (some_positive (queue plan empty (number_of port) past) is) in
       let running = waits_open plan past n legal_past known waits in
-      drained_here past port count test here (ap (λ (m : ℕ). is_stopped (stops m) (pieces_by empty m mid)) (sym here)) (open_output past legal_past running) (has legal_past)
+      drained_here past port count test here (ap (λ (m : ℕ). is_stopped (stops m) (pieces_by plan empty m mid)) (sym here)) (open_output past legal_past running) (has legal_past)
   has_drain_at past port false (inr other) is has legal =
-      let count = length (queue empty (number_of port) past) in
+      let count = length (queue plan empty (number_of port) past) in
       let mid = with_event plan empty past (Drain port count) in
-      let test = is_stopped (stops (number_of port)) (pieces_by empty (number_of port) mid) in
+      let test = is_stopped (stops (number_of port)) (pieces_by plan empty (number_of port) mid) in
       stands_same mid (with_failure plan empty stops port mid) (failure_other mid port test other)
       (stands_same past mid (drain_other past port count other) (has (legal_mid mid port test legal).1))
 
@@ -166,11 +166,11 @@ module _ (plan : Plan) (stops : Stops) (n : ℕ) (known : has_port plan n ≡ tr
       let same : (number_of port == n) ≡ true = subst (λ (m : ℕ). (number_of port == m) ≡ true) here (itself (number_of port)) in
       let running : has_ended empty (egress_pass plan n) past ≡ false = subst (λ (m : ℕ). has_ended empty (egress_pass plan m) past ≡ false) here is in
       let was = open_output past legal.1 running in
-      let not_stopped : is_stopped stop (suc (length (sent empty n past))) ≡ false =
-      subst (λ (o : Option How). Fine stop o (sent empty n past) (text_before_last_drain empty n past)) was (has legal.1) in
+      let not_stopped : is_stopped stop (suc (length (sent plan empty n past))) ≡ false =
+      subst (λ (o : Option How). Fine stop o (sent plan empty n past) (text_before_last_drain plan empty n past)) was (has legal.1) in
       let ends : output_end n now ≡ Some hows.End = rw same refl in
-      let sent_now : sent empty n now ≡ sent empty n past = sent_end plan empty past (passes.Egress port) hows.End n in
-      subst (λ (o : Option How). Fine stop o (sent empty n now) (text_before_last_drain empty n now)) (sym ends)
+      let sent_now : sent plan empty n now ≡ sent plan empty n past = sent_end plan empty past (passes.Egress port) hows.End n in
+      subst (λ (o : Option How). Fine stop o (sent plan empty n now) (text_before_last_drain plan empty n now)) (sym ends)
       (ap (λ (items : List Item). is_stopped stop (suc (length items))) sent_now ∙ not_stopped)
   has_close_at past port false (inr other) is has legal = stands_same past (with_event plan empty past (End (passes.Egress port) hows.End)) (same_other past port hows.End other) (has legal.1)
 
@@ -180,7 +180,7 @@ module _ (plan : Plan) (stops : Stops) (n : ℕ) (known : has_port plan n ≡ tr
     ends = λ past who how is running has legal. stands_same past (with_event plan empty past (End who how)) (same_input past who how is) (has legal.1);
     ticks = λ past has legal.
         stands_same past (with_event plan empty past (End passes.Ticker hows.End)) (record { end_same = refl; sent_same = sent_end plan empty past passes.Ticker hows.End n; text_same = refl }) (has legal.1);
-    drains = λ past port at has. has_drain_at past port (length (queue empty (number_of port) past) == 0) (cases_eq (number_of port) n) refl has;
+    drains = λ past port at has. has_drain_at past port (length (queue plan empty (number_of port) past) == 0) (cases_eq (number_of port) n) refl has;
     closes = λ past port at has. has_close_at past port (has_ended empty (egress_pass plan (number_of port)) past) (cases_eq (number_of port) n) refl has;
   }
 
@@ -188,19 +188,19 @@ module _ (plan : Plan) (stops : Stops) (n : ℕ) (known : has_port plan n ≡ tr
 
   -- nothing was sent, and the output has failed at its beginning or not
   record IsBegun (past : List Row) : Type 0 where
-    none_sent : sent empty n past ≡ []
-    no_text : text_before_last_drain empty n past ≡ []
+    none_sent : sent plan empty n past ≡ []
+    no_text : text_before_last_drain plan empty n past ≡ []
     how : (output_end n past ≡ None) ⊎ ((output_end n past ≡ Some hows.Failed) × (is_stopped stop 1 ≡ true))
 
   -- where the first write fails the output has failed
   abbrev Settled : List Row → Type 0
   Settled past = is_stopped stop 1 ≡ true → output_end n past ≡ Some hows.Failed
 
-  first_piece : (past : List Row) (port : Port) → number_of port ≡ n → IsBegun past → is_stopped (stops (number_of port)) (pieces_by empty (number_of port) past) ≡ is_stopped stop 1
+  first_piece : (past : List Row) (port : Port) → number_of port ≡ n → IsBegun past → is_stopped (stops (number_of port)) (pieces_by plan empty (number_of port) past) ≡ is_stopped stop 1
   first_piece past port here begins =
-      ap (λ (m : ℕ). is_stopped (stops m) (pieces_by empty m past)) here ∙ ap (λ (items : List Item). is_stopped stop (suc (length items))) begins.none_sent
+      ap (λ (m : ℕ). is_stopped (stops m) (pieces_by plan empty m past)) here ∙ ap (λ (items : List Item). is_stopped stop (suc (length items))) begins.none_sent
 
-  begun_step : (past : List Row) (port : Port) (b : Bool) → (number_of port ≡ n) ⊎ (number_of port ≢ n) → is_stopped (stops (number_of port)) (pieces_by empty (number_of port) past) ≡ b → IsBegun past
+  begun_step : (past : List Row) (port : Port) (b : Bool) → (number_of port ≡ n) ⊎ (number_of port ≢ n) → is_stopped (stops (number_of port)) (pieces_by plan empty (number_of port) past) ≡ b → IsBegun past
       → IsBegun (if b then with_event plan empty past (End (passes.Egress port) hows.Failed) else past)
   begun_step past port false where_is is begins = begins
   begun_step past port true (inl here) is begins =
@@ -218,7 +218,7 @@ module _ (plan : Plan) (stops : Stops) (n : ℕ) (known : has_port plan n ≡ tr
         how = subst (λ (o : Option How). (o ≡ None) ⊎ ((o ≡ Some hows.Failed) × (is_stopped stop 1 ≡ true))) (sym same.end_same) begins.how;
       }
 
-  settled_here : (past : List Row) (port : Port) (b : Bool) → number_of port ≡ n → is_stopped (stops (number_of port)) (pieces_by empty (number_of port) past) ≡ b → IsBegun past
+  settled_here : (past : List Row) (port : Port) (b : Bool) → number_of port ≡ n → is_stopped (stops (number_of port)) (pieces_by plan empty (number_of port) past) ≡ b → IsBegun past
       → Settled (if b then with_event plan empty past (End (passes.Egress port) hows.Failed) else past)
   settled_here past port true here is begins stopped =
       let same : (number_of port == n) ≡ true = subst (λ (m : ℕ). (number_of port == m) ≡ true) here (itself (number_of port)) in rw same refl
@@ -235,10 +235,10 @@ module _ (plan : Plan) (stops : Stops) (n : ℕ) (known : has_port plan n ≡ tr
   settled_all : (ports : List PortPlan) (past : List Row) → Settled past → Settled (begun plan empty stops ports past)
   settled_all [] past settled = settled
   settled_all (q ∷ qs) past settled =
-      settled_all qs (with_failure plan empty stops q.number past) (settled_later past q.number (is_stopped (stops (number_of q.number)) (pieces_by empty (number_of q.number) past)) settled)
+      settled_all qs (with_failure plan empty stops q.number past) (settled_later past q.number (is_stopped (stops (number_of q.number)) (pieces_by plan empty (number_of q.number) past)) settled)
 
   begun_at : (past : List Row) (port : Port) → IsBegun past → IsBegun (with_failure plan empty stops port past)
-  begun_at past port begins = begun_step past port (is_stopped (stops (number_of port)) (pieces_by empty (number_of port) past)) (cases_eq (number_of port) n) refl begins
+  begun_at past port begins = begun_step past port (is_stopped (stops (number_of port)) (pieces_by plan empty (number_of port) past)) (cases_eq (number_of port) n) refl begins
 
   begun_all : (ports : List PortPlan) (past : List Row) → IsBegun past → IsBegun (begun plan empty stops ports past)
   begun_all [] past begins = begins
@@ -247,17 +247,17 @@ module _ (plan : Plan) (stops : Stops) (n : ℕ) (known : has_port plan n ≡ tr
   settled_at : (ports : List PortPlan) (past : List Row) (k : ℕ) → k < length ports → get_or (numbers_of ports) k 0 ≡ n → IsBegun past → Settled (begun plan empty stops ports past)
   settled_at [] past k inside here begins = absurd (omega arith)
   settled_at (q ∷ qs) past zero inside here begins =
-      settled_all qs (with_failure plan empty stops q.number past) (settled_here past q.number (is_stopped (stops (number_of q.number)) (pieces_by empty (number_of q.number) past)) here refl begins)
+      settled_all qs (with_failure plan empty stops q.number past) (settled_here past q.number (is_stopped (stops (number_of q.number)) (pieces_by plan empty (number_of q.number) past)) here refl begins)
   settled_at (q ∷ qs) past (suc k) inside here begins = settled_at qs (with_failure plan empty stops q.number past) k (omega arith) here (begun_at past q.number begins)
 
   begun_stands_at : (past : List Row) (b : Bool) → is_stopped stop 1 ≡ b → IsBegun past → Settled past → Stands past
   begun_stands_at past true is begins settled =
-      let items_is : is_stopped stop (suc (length (sent empty n past))) ≡ true = ap (λ (items : List Item). is_stopped stop (suc (length items))) begins.none_sent ∙ is in
-      subst (λ (o : Option How). Fine stop o (sent empty n past) (text_before_last_drain empty n past)) (sym (settled is)) (items_is, inl begins.no_text)
+      let items_is : is_stopped stop (suc (length (sent plan empty n past))) ≡ true = ap (λ (items : List Item). is_stopped stop (suc (length items))) begins.none_sent ∙ is in
+      subst (λ (o : Option How). Fine stop o (sent plan empty n past) (text_before_last_drain plan empty n past)) (sym (settled is)) (items_is, inl begins.no_text)
   begun_stands_at past false is begins settled =
-      let items_is : is_stopped stop (suc (length (sent empty n past))) ≡ false = ap (λ (items : List Item). is_stopped stop (suc (length items))) begins.none_sent ∙ is in
+      let items_is : is_stopped stop (suc (length (sent plan empty n past))) ≡ false = ap (λ (items : List Item). is_stopped stop (suc (length items))) begins.none_sent ∙ is in
       elim begins.how [
-        | inl none ↦ subst (λ (o : Option How). Fine stop o (sent empty n past) (text_before_last_drain empty n past)) (sym none) items_is
+        | inl none ↦ subst (λ (o : Option How). Fine stop o (sent plan empty n past) (text_before_last_drain plan empty n past)) (sym none) items_is
         | inr failed ↦ let e = failed.1 in cc
       ]
 
@@ -266,16 +266,16 @@ module _ (plan : Plan) (stops : Stops) (n : ℕ) (known : has_port plan n ≡ tr
       let start : IsBegun [] = record { none_sent = refl; no_text = refl; how = inl refl } in
       begun_stands_at (begun plan empty stops plan.ports []) (is_stopped stop 1) refl (begun_all plan.ports [] start) (settled_at plan.ports [] k inside here start)
 
-  fits_by : (past : List Row) (before after : Option (List ℕ)) (o : Option How) → output_end n past ≡ o → is_some o ≡ true → Stands past → TookPieces before after (pieces (sent empty n past)) stop → FitsOutputAt empty before after n past
+  fits_by : (past : List Row) (before after : Option (List ℕ)) (o : Option How) → output_end n past ≡ o → is_some o ≡ true → Stands past → TookPieces before after (pieces (sent plan empty n past)) stop → FitsOutputAt plan empty before after n past
   fits_by past before after None is some stands took = cc
   fits_by past before after (Some how) is some stands took =
-      subst (λ (o : Option How). FitsOutput before after (capture_text (sent_items (sent empty n past))) (text_before_last_drain empty n past) o) (sym is)
-      (fits_taken stop how before after (sent empty n past) (text_before_last_drain empty n past)
-      (subst (λ (o : Option How). Fine stop o (sent empty n past) (text_before_last_drain empty n past)) is stands) took)
+      subst (λ (o : Option How). FitsOutput before after (capture_text (sent_items (sent plan empty n past))) (text_before_last_drain plan empty n past) o) (sym is)
+      (fits_taken stop how before after (sent plan empty n past) (text_before_last_drain plan empty n past)
+      (subst (λ (o : Option How). Fine stop o (sent plan empty n past) (text_before_last_drain plan empty n past)) is stands) took)
 
 -- In a replay with these stops, what the sink of a port took of its pieces fits how the history says that its output ended.
 pub output_fits : (plan : Plan) (inputs : List Input) (stops : Stops) (before after : Option (List ℕ)) (k : ℕ) → IsStrictlyIncreasing (numbers_of plan.ports) → length inputs ≡ length plan.ports → All IsInput inputs → k < length plan.ports
-    → TookPieces before after (pieces (sent empty (number_at plan k) (replayed plan empty inputs stops))) (stops (number_at plan k)) → FitsOutputAt empty before after (number_at plan k) (replayed plan empty inputs stops)
+    → TookPieces before after (pieces (sent plan empty (number_at plan k) (replayed plan empty inputs stops))) (stops (number_at plan k)) → FitsOutputAt plan empty before after (number_at plan k) (replayed plan empty inputs stops)
 output_fits plan inputs stops before after k rising size are inside took =
     let n = number_at plan k in
     let past = replayed plan empty inputs stops in

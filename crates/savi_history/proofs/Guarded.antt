@@ -1,5 +1,5 @@
 -- No advertisement and no hidden fragment passes a port whose sources are validated.
-use Rattle.std.proofs.Common.{◌≡◌, ◌≢◌, ℕ, nat_lt, Bool, true, false, List, [], ◌∷◌, length, refl, ap, sym, Option, Some, None, is_none, subst, if◌then◌else◌}
+use Rattle.std.proofs.Common.{◌≡◌, ◌≢◌, ℕ, Bool, true, false, List, [], ◌∷◌, refl, ap, sym, Option, Some, None, is_none, subst}
 use Rattle.std.specs.Option.{IsSomeAnd}
 use Rattle.std.proofs.lemmas.Bool.{false≢true}
 use Rattle.std.proofs.lemmas.List.Elements.{All-nil, All-cons}
@@ -8,7 +8,6 @@ use Rattle.savi_kinds.specs.declared.plan.Role.{Role}
 use Rattle.savi_kinds.specs.declared.plan.Role.TheVariants as roles
 use Rattle.savi_kinds.specs.declared.port.Port.{Port}
 use Rattle.savi_kinds.specs.declared.verdict.Rule.{Rule}
-use Rattle.savi_kinds.specs.declared.verdict.Rule.TheVariants as rules
 use Rattle.savi_kinds.specs.declared.entry.Act.{Act}
 use Rattle.savi_kinds.specs.declared.entry.Act.TheVariants as acts
 use Rattle.savi_kinds.specs.Ports.{number_of}
@@ -21,7 +20,6 @@ use Rattle.ra_guard.proofs.Stopping.{advert_frames, hidden_frames}
 use Rattle.hist_store.specs.Rows.{Row}
 use Rattle.savi_history.specs.Bases.{Base}
 use Rattle.savi_history.specs.Passes.{role_of, is_trusted}
-use Rattle.savi_history.specs.Guard.{guard}
 use Rattle.savi_history.specs.Judged.{verdict_by}
 use Rattle.savi_history.specs.Adverts.{NotPassed, NonePasses, IsGuarded}
 use Rattle.savi_history.specs.Summary.{is_pass}
@@ -46,17 +44,13 @@ validating roles.Trusted host = absurd (false≢true (sym host))
 
 -- frames with this property are stopped at each validating port
 abbrev pub IsStopped : (List ℕ → Type 0) → Type 0
-IsStopped Has = (frame : List ℕ) (role : Role) (drop_unknown : Bool) → Has frame → is_trusted role ≡ false → is_none (guard role drop_unknown frame) ≡ false
-
-none_either : (long : Bool) (rule : Rule) (other : Option Rule) → is_none other ≡ false → is_none (if long then Some rule else other) ≡ false
-none_either true rule other some = refl
-none_either false rule other some = some
+IsStopped Has = (frame : List ℕ) (role : Role) (drop_unknown : Bool) → Has frame → is_trusted role ≡ false → is_none (guard_of role drop_unknown (class_of frame)) ≡ false
 
 -- what the guard stops of every class is stopped
 by_class : (Has : List ℕ → Type 0) (most : ℕ) → IsStoppedByClass Has most → IsStopped Has
 by_class Has most stopped frame role drop_unknown has host =
-    none_either (nat_lt 1518 (length frame)) rules.Malformed (guard_of role drop_unknown (class_of frame))
-    (given _ (guard_of role drop_unknown (class_of frame)) (stopped frame (class_of frame) role drop_unknown (guard_of role drop_unknown (class_of frame)) has (class_is frame) (validating role host) (guard_is role drop_unknown (class_of frame))))
+    let rule = guard_of role drop_unknown (class_of frame) in
+    given _ rule (stopped frame (class_of frame) role drop_unknown rule has (class_is frame) (validating role host) (guard_is role drop_unknown (class_of frame)))
 
 hidden_fragments : IsStopped IsHiddenFrame
 hidden_fragments = by_class IsHiddenFrame 7 hidden_frames
@@ -78,7 +72,7 @@ event_stopped : (Has : List ℕ → Type 0) → IsStopped Has → (plan : Plan) 
 event_stopped Has stopped plan base past (events.Frame port stamp octets) = λ at_port frame host has.
     let same : port ≡ at_port = ap (port_in port) frame.frame in
     let here : is_trusted (role_of plan (number_of port)) ≡ false = subst (λ (p : Port). is_trusted (role_of plan (number_of p)) ≡ false) (sym same) host in
-    stopped-not_pass (guard (role_of plan (number_of port)) plan.drop_unknown octets) (stopped octets (role_of plan (number_of port)) plan.drop_unknown has here)
+    stopped-not_pass (guard_of (role_of plan (number_of port)) plan.drop_unknown (class_of octets)) (stopped octets (role_of plan (number_of port)) plan.drop_unknown has here)
 event_stopped Has stopped plan base past (events.Long port stamp len) = λ at_port frame host has. refl
 event_stopped Has stopped plan base past (events.Drain port count) = λ at_port frame host has. refl
 event_stopped Has stopped plan base past (events.End who how) = λ at_port frame host has. refl

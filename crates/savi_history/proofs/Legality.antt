@@ -52,7 +52,7 @@ AreKnown plan (p ∷ ports) = (has_port plan (number_of p.number) ≡ true) × A
 pub record IsGood (plan : Plan) (past : List Row) : Type 0 where
   pub legal : IsLegal plan empty past
   pub ticking : has_ended empty (ticker_pass plan) past ≡ false
-  pub quiet : (k : ℕ) → k < length plan.ports → queue empty (number_at plan k) past ≡ []
+  pub quiet : (k : ℕ) → k < length plan.ports → queue plan empty (number_at plan k) past ≡ []
 
 place_in_at : (ns : List ℕ) (n x : ℕ) (b : Bool) → (b || list_any (λ m. m == x) ns) ≡ true → (list_any (λ m. m == x) ns ≡ true → place_among ns x < length ns) → (if b then 0 else suc (place_among ns x)) < suc (length ns)
 place_in_at ns n x true is step = omega arith
@@ -77,15 +77,15 @@ module _ (plan : Plan) (stops : Stops) where
   legal_failure_at past port false legal is_open = legal
 
   legal_failure : (past : List Row) (port : Port) → IsLegal plan empty past → IsOpen plan empty past (passes.Egress port) → IsLegal plan empty (with_failure plan empty stops port past)
-  legal_failure past port = legal_failure_at past port (is_stopped (stops (number_of port)) (pieces_by empty (number_of port) past))
+  legal_failure past port = legal_failure_at past port (is_stopped (stops (number_of port)) (pieces_by plan empty (number_of port) past))
 
   -- where something waits the egress is open
-  legal_drain_at : (past : List Row) (port : Port) (b : Bool) → (length (queue empty (number_of port) past) == 0) ≡ b → IsLegal plan empty past → has_port plan (number_of port) ≡ true
-      → IsLegal plan empty (if b then past else with_failure plan empty stops port (with_event plan empty past (Drain port (length (queue empty (number_of port) past)))))
+  legal_drain_at : (past : List Row) (port : Port) (b : Bool) → (length (queue plan empty (number_of port) past) == 0) ≡ b → IsLegal plan empty past → has_port plan (number_of port) ≡ true
+      → IsLegal plan empty (if b then past else with_failure plan empty stops port (with_event plan empty past (Drain port (length (queue plan empty (number_of port) past)))))
   legal_drain_at past port true is legal known = legal
   legal_drain_at past port false is legal known =
-      let count = length (queue empty (number_of port) past) in
-      let some : 0 < length (queue empty (number_of port) past) = grind (arith, nat_tests) in
+      let count = length (queue plan empty (number_of port) past) in
+      let some : 0 < length (queue plan empty (number_of port) past) = grind (arith, nat_tests) in
       let running : has_ended empty (egress_pass plan (number_of port)) past ≡ false = waits_open plan past (number_of port) legal known some in
       legal_failure (with_event plan empty past (Drain port count)) port
       (legal_event past (Drain port count) legal (record { known = known; running = running }, omega arith, omega arith))
@@ -94,7 +94,7 @@ module _ (plan : Plan) (stops : Stops) where
   legal_drained : (ports : List PortPlan) (past : List Row) → AreKnown plan ports → IsLegal plan empty past → IsLegal plan empty (drained plan empty stops ports past)
   legal_drained [] past known legal = legal
   legal_drained (q ∷ qs) past known legal =
-      let count = length (queue empty (number_of q.number) past) in
+      let count = length (queue plan empty (number_of q.number) past) in
       legal_drained qs (with_drain plan empty stops q.number count past) known.1 (legal_drain_at past q.number (count == 0) refl legal known.0)
 
   -- outputs that haven't ended are begun
@@ -199,17 +199,17 @@ module _ (plan : Plan) (stops : Stops) where
       (turns_ports ports inputs known.1 (λ k d inside. are (suc k) d (omega arith)))
 
   -- where all else has ended and nothing waits, an egress that is open may end
-  legal_end_at : (past : List Row) (port : Port) (b : Bool) → has_ended empty (egress_pass plan (number_of port)) past ≡ b → has_port plan (number_of port) ≡ true → IsLegal plan empty past → AllEnded empty (ticker_pass plan + 1) past → queue empty (number_of port) past ≡ []
+  legal_end_at : (past : List Row) (port : Port) (b : Bool) → has_ended empty (egress_pass plan (number_of port)) past ≡ b → has_port plan (number_of port) ≡ true → IsLegal plan empty past → AllEnded empty (ticker_pass plan + 1) past → queue plan empty (number_of port) past ≡ []
       → IsLegal plan empty (if b then past else with_event plan empty past (End (passes.Egress port) hows.End))
   legal_end_at past port true is known legal ended quiet = legal
   legal_end_at past port false is known legal ended quiet = legal_event past (End (passes.Egress port) hows.End) legal (record { known = known; running = is }, (ended, quiet))
 
-  empty_end_at : (past : List Row) (port : Port) (q : ℕ) (b : Bool) → queue empty q past ≡ [] → queue empty q (if b then past else with_event plan empty past (End (passes.Egress port) hows.End)) ≡ []
+  empty_end_at : (past : List Row) (port : Port) (q : ℕ) (b : Bool) → queue plan empty q past ≡ [] → queue plan empty q (if b then past else with_event plan empty past (End (passes.Egress port) hows.End)) ≡ []
   empty_end_at past port q true quiet = quiet
   empty_end_at past port q false quiet = empty_end plan empty past (passes.Egress port) hows.End q quiet
 
   legal_egress : (ports : List PortPlan) (past : List Row) → AreKnown plan ports → IsLegal plan empty past → AllEnded empty (ticker_pass plan + 1) past
-      → ((k : ℕ) → k < length ports → queue empty (get_or (numbers_of ports) k 0) past ≡ []) → IsLegal plan empty (egress_ended plan empty ports past)
+      → ((k : ℕ) → k < length ports → queue plan empty (get_or (numbers_of ports) k 0) past ≡ []) → IsLegal plan empty (egress_ended plan empty ports past)
   legal_egress [] past known legal ended quiet = legal
   legal_egress (q ∷ qs) past known legal ended quiet =
       let has = has_ended empty (egress_pass plan (number_of q.number)) past in

@@ -8,6 +8,8 @@ pub mod Guarded
 pub mod PassNumbers
 pub mod PortPlaces
 pub mod PortMembers
+pub mod Joining
+pub mod Depth
 pub mod Closed
 pub mod Waiting
 pub mod Lines

@@ -35,7 +35,7 @@ same_failure_at plan base past port n true = record { arrivals_same = append-nil
 same_failure_at plan base past port n false = record { arrivals_same = refl; end_same = refl }
 
 pub same_failure : (plan : Plan) (base : Base) (stops : Stops) (past : List Row) (port : Port) (n : ℕ) → HoldsSame n past (with_failure plan base stops port past)
-same_failure plan base stops past port n = same_failure_at plan base past port n (is_stopped (stops (number_of port)) (pieces_by base (number_of port) past))
+same_failure plan base stops past port n = same_failure_at plan base past port n (is_stopped (stops (number_of port)) (pieces_by plan base (number_of port) past))
 
 -- when outputs are begun nothing comes in
 pub same_begun : (plan : Plan) (base : Base) (stops : Stops) (ports : List PortPlan) (past : List Row) (n : ℕ) → HoldsSame n past (begun plan base stops ports past)
@@ -55,7 +55,7 @@ same_drain_at plan base stops past port count n false =
 same_drained : (plan : Plan) (base : Base) (stops : Stops) (ports : List PortPlan) (past : List Row) (n : ℕ) → HoldsSame n past (drained plan base stops ports past)
 same_drained plan base stops [] past n = record { arrivals_same = refl; end_same = refl }
 same_drained plan base stops (q ∷ qs) past n =
-    let count = length (queue base (number_of q.number) past) in
+    let count = length (queue plan base (number_of q.number) past) in
     let later = with_drain plan base stops q.number count past in
     holds_then n past later (drained plan base stops qs later) (same_drain_at plan base stops past q.number count n (count == 0)) (same_drained plan base stops qs later n)
 

@@ -80,14 +80,14 @@ pub record IsKept (plan : Plan) (base : Base) (stops : Stops) (Has : List Row �
   pub arrives : (past : List Row) (port : Port) (a : Arrival) → Has past → Has (with_event plan base past (event_of port a))
   pub ends : (past : List Row) (who : Who) (how : How) → EndsInput plan who how → has_ended base (pass_of plan who) past ≡ false → Has past → Has (with_event plan base past (End who how))
   pub ticks : (past : List Row) → Has past → Has (with_event plan base past (End passes.Ticker hows.End))
-  pub drains : (past : List Row) (port : Port) → IsAt plan (number_of port) → Has past → Has (with_drain plan base stops port (length (queue base (number_of port) past)) past)
+  pub drains : (past : List Row) (port : Port) → IsAt plan (number_of port) → Has past → Has (with_drain plan base stops port (length (queue plan base (number_of port) past)) past)
   pub closes : (past : List Row) (port : Port) → IsAt plan (number_of port) → Has past → Has (with_end plan base port past)
 
 module _ (plan : Plan) (base : Base) (stops : Stops) (Has : List Row → Type 0) (kept : IsKept plan base stops Has) where
   has_drained : (ports : List PortPlan) (past : List Row) → AllAt plan ports → Has past → Has (drained plan base stops ports past)
   has_drained [] past at has = has
   has_drained (q ∷ qs) past at has =
-      has_drained qs (with_drain plan base stops q.number (length (queue base (number_of q.number) past)) past) (λ k inside. at (suc k) (omega arith))
+      has_drained qs (with_drain plan base stops q.number (length (queue plan base (number_of q.number) past)) past) (λ k inside. at (suc k) (omega arith))
       (kept.drains past q.number (at 0 (omega arith)) has)
 
   has_arrival : (past : List Row) (port : Port) (a : Arrival) (b : Bool) → IsAt plan (number_of port) → has_ended base (pass_of plan (passes.Ingress port)) past ≡ false → Has past

@@ -16,8 +16,8 @@ use Rattle.savi_kinds.specs.Arrivals as arrivals
 use Rattle.hist_store.specs.Rows.{Row}
 use Rattle.savi_history.specs.Bases.{Base}
 use Rattle.savi_history.specs.Passes.{pass_of, has_ended, ticker_pass}
-use Rattle.savi_history.specs.Queues.{Item, queue, sent, item_of, is_queued}
-use Rattle.savi_history.specs.Events.{Frame, Drain, End, row_of}
+use Rattle.savi_history.specs.Queues.{Item, queue, sent}
+use Rattle.savi_history.specs.Events.{Drain, End}
 use Rattle.savi_history.specs.Replay.{Stops, is_stopped, pieces_by, event_of, with_event, with_failure, begun, with_drain, drained}
 
 -- ends
@@ -38,7 +38,7 @@ ended_failure_at plan base past port pass false other = refl
 
 -- a failed write ends no other pass
 pub ended_failure : (plan : Plan) (base : Base) (stops : Stops) (past : List Row) (port : Port) (pass : ℕ) → pass_of plan (passes.Egress port) ≢ pass → has_ended base pass (with_failure plan base stops port past) ≡ has_ended base pass past
-ended_failure plan base stops past port pass other = ended_failure_at plan base past port pass (is_stopped (stops (number_of port)) (pieces_by base (number_of port) past)) other
+ended_failure plan base stops past port pass other = ended_failure_at plan base past port pass (is_stopped (stops (number_of port)) (pieces_by plan base (number_of port) past)) other
 
 ended_drain_at : (plan : Plan) (base : Base) (stops : Stops) (past : List Row) (port : Port) (count pass : ℕ) (b : Bool) → pass_of plan (passes.Egress port) ≢ pass → has_ended base pass (if b then past else with_failure plan base stops port (with_event plan base past (Drain port count))) ≡ has_ended base pass past
 ended_drain_at plan base stops past port count pass true other = refl
@@ -51,7 +51,7 @@ ended_drain plan base stops past port count pass other = ended_drain_at plan bas
 pub ended_drained : (plan : Plan) (base : Base) (stops : Stops) (ports : List PortPlan) (past : List Row) (pass : ℕ) → pass ≤ ticker_pass plan → has_ended base pass (drained plan base stops ports past) ≡ has_ended base pass past
 ended_drained plan base stops [] past pass low = refl
 ended_drained plan base stops (q ∷ qs) past pass low =
-    let count = length (queue base (number_of q.number) past) in
+    let count = length (queue plan base (number_of q.number) past) in
     ended_drained plan base stops qs (with_drain plan base stops q.number count past) pass low ∙ ended_drain plan base stops past q.number count pass (λ same. absurd (omega arith))
 
 -- nor do the beginnings of outputs
@@ -73,7 +73,7 @@ empty_failed : (b : Bool) → (if b then no_items else no_items) ≡ []
 empty_failed true = refl
 empty_failed false = refl
 
-pub empty_end : (plan : Plan) (base : Base) (past : List Row) (who : Who) (how : How) (q : ℕ) → queue base q past ≡ [] → queue base q (with_event plan base past (End who how)) ≡ []
+pub empty_end : (plan : Plan) (base : Base) (past : List Row) (who : Who) (how : How) (q : ℕ) → queue plan base q past ≡ [] → queue plan base q (with_event plan base past (End who how)) ≡ []
 empty_end plan base past (passes.Ingress p) how q is = is
 empty_end plan base past passes.Control how q is = is
 empty_end plan base past passes.Ticker how q is = is
@@ -85,14 +85,14 @@ empty_end plan base past (passes.Egress p) hows.Failed q is = rw is (empty_faile
 empty_end plan base past (passes.Egress p) hows.Unwritten q is = is
 empty_end plan base past (passes.Egress p) (hows.Full len) q is = is
 
-empty_failure_at : (plan : Plan) (base : Base) (past : List Row) (port : Port) (q : ℕ) (b : Bool) → queue base q past ≡ [] → queue base q (if b then with_event plan base past (End (passes.Egress port) hows.Failed) else past) ≡ []
+empty_failure_at : (plan : Plan) (base : Base) (past : List Row) (port : Port) (q : ℕ) (b : Bool) → queue plan base q past ≡ [] → queue plan base q (if b then with_event plan base past (End (passes.Egress port) hows.Failed) else past) ≡ []
 empty_failure_at plan base past port q true is = empty_end plan base past (passes.Egress port) hows.Failed q is
 empty_failure_at plan base past port q false is = is
 
-pub empty_failure : (plan : Plan) (base : Base) (stops : Stops) (past : List Row) (port : Port) (q : ℕ) → queue base q past ≡ [] → queue base q (with_failure plan base stops port past) ≡ []
-empty_failure plan base stops past port q is = empty_failure_at plan base past port q (is_stopped (stops (number_of port)) (pieces_by base (number_of port) past)) is
+pub empty_failure : (plan : Plan) (base : Base) (stops : Stops) (past : List Row) (port : Port) (q : ℕ) → queue plan base q past ≡ [] → queue plan base q (with_failure plan base stops port past) ≡ []
+empty_failure plan base stops past port q is = empty_failure_at plan base past port q (is_stopped (stops (number_of port)) (pieces_by plan base (number_of port) past)) is
 
-pub empty_begun : (plan : Plan) (base : Base) (stops : Stops) (ports : List PortPlan) (past : List Row) (q : ℕ) → queue base q past ≡ [] → queue base q (begun plan base stops ports past) ≡ []
+pub empty_begun : (plan : Plan) (base : Base) (stops : Stops) (ports : List PortPlan) (past : List Row) (q : ℕ) → queue plan base q past ≡ [] → queue plan base q (begun plan base stops ports past) ≡ []
 empty_begun plan base stops [] past q is = is
 empty_begun plan base stops (p ∷ ps) past q is = empty_begun plan base stops ps (with_failure plan base stops p.number past) q (empty_failure plan base stops past p.number q is)
 
@@ -100,90 +100,90 @@ empty_drop : (b : Bool) (count : ℕ) → (if b then drop count no_items else []
 empty_drop true count = drop_none count
 empty_drop false count = refl
 
-empty_drain_at : (plan : Plan) (base : Base) (stops : Stops) (past : List Row) (port : Port) (count q : ℕ) (b : Bool) → queue base q past ≡ [] → queue base q (if b then past else with_failure plan base stops port (with_event plan base past (Drain port count))) ≡ []
+empty_drain_at : (plan : Plan) (base : Base) (stops : Stops) (past : List Row) (port : Port) (count q : ℕ) (b : Bool) → queue plan base q past ≡ [] → queue plan base q (if b then past else with_failure plan base stops port (with_event plan base past (Drain port count))) ≡ []
 empty_drain_at plan base stops past port count q true is = is
 empty_drain_at plan base stops past port count q false is =
     empty_failure plan base stops (with_event plan base past (Drain port count)) port q (rw is (empty_drop (number_of port == q) count))
 
-pub empty_drain : (plan : Plan) (base : Base) (stops : Stops) (past : List Row) (port : Port) (count q : ℕ) → queue base q past ≡ [] → queue base q (with_drain plan base stops port count past) ≡ []
+pub empty_drain : (plan : Plan) (base : Base) (stops : Stops) (past : List Row) (port : Port) (count q : ℕ) → queue plan base q past ≡ [] → queue plan base q (with_drain plan base stops port count past) ≡ []
 empty_drain plan base stops past port count q is = empty_drain_at plan base stops past port count q (count == 0) is
 
-pub empty_drained : (plan : Plan) (base : Base) (stops : Stops) (ports : List PortPlan) (past : List Row) (q : ℕ) → queue base q past ≡ [] → queue base q (drained plan base stops ports past) ≡ []
+pub empty_drained : (plan : Plan) (base : Base) (stops : Stops) (ports : List PortPlan) (past : List Row) (q : ℕ) → queue plan base q past ≡ [] → queue plan base q (drained plan base stops ports past) ≡ []
 empty_drained plan base stops [] past q is = is
 empty_drained plan base stops (p ∷ ps) past q is =
-    let count = length (queue base (number_of p.number) past) in
+    let count = length (queue plan base (number_of p.number) past) in
     empty_drained plan base stops ps (with_drain plan base stops p.number count past) q (empty_drain plan base stops past p.number count q is)
 
 no_length : (items : List Item) → (length items == 0) ≡ true → items ≡ []
 no_length items is = nil_from_length items (grind (arith, nat_tests))
 
-emptied_at : (plan : Plan) (base : Base) (stops : Stops) (past : List Row) (port : Port) (items : List Item) (b : Bool) → (length items == 0) ≡ b → queue base (number_of port) past ≡ items
-    → queue base (number_of port) (if b then past else with_failure plan base stops port (with_event plan base past (Drain port (length items)))) ≡ []
+emptied_at : (plan : Plan) (base : Base) (stops : Stops) (past : List Row) (port : Port) (items : List Item) (b : Bool) → (length items == 0) ≡ b → queue plan base (number_of port) past ≡ items
+    → queue plan base (number_of port) (if b then past else with_failure plan base stops port (with_event plan base past (Drain port (length items)))) ≡ []
 emptied_at plan base stops past port items true none is = is ∙ no_length items none
 emptied_at plan base stops past port items false none is =
     let same : (number_of port == number_of port) ≡ true = grind (arith, nat_tests) in
     empty_failure plan base stops (with_event plan base past (Drain port (length items))) port (number_of port) (rw (same, is) (drop_all (length items) items (omega arith)))
 
 -- a whole drain leaves nothing
-pub emptied : (plan : Plan) (base : Base) (stops : Stops) (past : List Row) (port : Port) → queue base (number_of port) (with_drain plan base stops port (length (queue base (number_of port) past)) past) ≡ []
-emptied plan base stops past port = let items = queue base (number_of port) past in emptied_at plan base stops past port items (length items == 0) refl refl
+pub emptied : (plan : Plan) (base : Base) (stops : Stops) (past : List Row) (port : Port) → queue plan base (number_of port) (with_drain plan base stops port (length (queue plan base (number_of port) past)) past) ≡ []
+emptied plan base stops past port = let items = queue plan base (number_of port) past in emptied_at plan base stops past port items (length items == 0) refl refl
 
 -- After the drains of a step nothing waits at any port of the plan.
-pub drained_empty : (plan : Plan) (base : Base) (stops : Stops) (ports : List PortPlan) (past : List Row) (k : ℕ) → k < length ports → queue base (get_or (numbers_of ports) k 0) (drained plan base stops ports past) ≡ []
+pub drained_empty : (plan : Plan) (base : Base) (stops : Stops) (ports : List PortPlan) (past : List Row) (k : ℕ) → k < length ports → queue plan base (get_or (numbers_of ports) k 0) (drained plan base stops ports past) ≡ []
 drained_empty plan base stops [] past k inside = absurd (omega arith)
 drained_empty plan base stops (p ∷ ps) past zero inside =
-    let count = length (queue base (number_of p.number) past) in
+    let count = length (queue plan base (number_of p.number) past) in
     empty_drained plan base stops ps (with_drain plan base stops p.number count past) (number_of p.number) (emptied plan base stops past p.number)
 drained_empty plan base stops (p ∷ ps) past (suc k) inside =
-    drained_empty plan base stops ps (with_drain plan base stops p.number (length (queue base (number_of p.number) past)) past) k (omega arith)
+    drained_empty plan base stops ps (with_drain plan base stops p.number (length (queue plan base (number_of p.number) past)) past) k (omega arith)
 
 -- what was sent
 
-pub sent_arrival : (plan : Plan) (base : Base) (past : List Row) (port : Port) (arrival : Arrival) (q : ℕ) → sent base q (with_event plan base past (event_of port arrival)) ≡ sent base q past
-sent_arrival plan base past port (arrivals.Frame stamp octets) q = append-nil (sent base q past)
-sent_arrival plan base past port (arrivals.Long stamp len) q = append-nil (sent base q past)
+pub sent_arrival : (plan : Plan) (base : Base) (past : List Row) (port : Port) (arrival : Arrival) (q : ℕ) → sent plan base q (with_event plan base past (event_of port arrival)) ≡ sent plan base q past
+sent_arrival plan base past port (arrivals.Frame stamp octets) q = append-nil (sent plan base q past)
+sent_arrival plan base past port (arrivals.Long stamp len) q = append-nil (sent plan base q past)
 
-pub sent_end : (plan : Plan) (base : Base) (past : List Row) (who : Who) (how : How) (q : ℕ) → sent base q (with_event plan base past (End who how)) ≡ sent base q past
-sent_end plan base past who how q = append-nil (sent base q past)
+pub sent_end : (plan : Plan) (base : Base) (past : List Row) (who : Who) (how : How) (q : ℕ) → sent plan base q (with_event plan base past (End who how)) ≡ sent plan base q past
+sent_end plan base past who how q = append-nil (sent plan base q past)
 
-sent_failure_at : (plan : Plan) (base : Base) (past : List Row) (port : Port) (q : ℕ) (b : Bool) → sent base q (if b then with_event plan base past (End (passes.Egress port) hows.Failed) else past) ≡ sent base q past
+sent_failure_at : (plan : Plan) (base : Base) (past : List Row) (port : Port) (q : ℕ) (b : Bool) → sent plan base q (if b then with_event plan base past (End (passes.Egress port) hows.Failed) else past) ≡ sent plan base q past
 sent_failure_at plan base past port q true = sent_end plan base past (passes.Egress port) hows.Failed q
 sent_failure_at plan base past port q false = refl
 
-pub sent_failure : (plan : Plan) (base : Base) (stops : Stops) (past : List Row) (port : Port) (q : ℕ) → sent base q (with_failure plan base stops port past) ≡ sent base q past
-sent_failure plan base stops past port q = sent_failure_at plan base past port q (is_stopped (stops (number_of port)) (pieces_by base (number_of port) past))
+pub sent_failure : (plan : Plan) (base : Base) (stops : Stops) (past : List Row) (port : Port) (q : ℕ) → sent plan base q (with_failure plan base stops port past) ≡ sent plan base q past
+sent_failure plan base stops past port q = sent_failure_at plan base past port q (is_stopped (stops (number_of port)) (pieces_by plan base (number_of port) past))
 
-pub sent_begun : (plan : Plan) (base : Base) (stops : Stops) (ports : List PortPlan) (past : List Row) (q : ℕ) → sent base q (begun plan base stops ports past) ≡ sent base q past
+pub sent_begun : (plan : Plan) (base : Base) (stops : Stops) (ports : List PortPlan) (past : List Row) (q : ℕ) → sent plan base q (begun plan base stops ports past) ≡ sent plan base q past
 sent_begun plan base stops [] past q = refl
 sent_begun plan base stops (p ∷ ps) past q = sent_begun plan base stops ps (with_failure plan base stops p.number past) q ∙ sent_failure plan base stops past p.number q
 
 -- a drain of the whole queue sends it
-pub sent_here : (plan : Plan) (base : Base) (past : List Row) (port : Port) (count : ℕ) → sent base (number_of port) (with_event plan base past (Drain port count)) ≡ sent base (number_of port) past ++ take count (queue base (number_of port) past)
+pub sent_here : (plan : Plan) (base : Base) (past : List Row) (port : Port) (count : ℕ) → sent plan base (number_of port) (with_event plan base past (Drain port count)) ≡ sent plan base (number_of port) past ++ take count (queue plan base (number_of port) past)
 sent_here plan base past port count = let same : (number_of port == number_of port) ≡ true = grind (arith, nat_tests) in rw same refl
 
-pub sent_elsewhere : (plan : Plan) (base : Base) (past : List Row) (port : Port) (count q : ℕ) → number_of port ≢ q → sent base q (with_event plan base past (Drain port count)) ≡ sent base q past
+pub sent_elsewhere : (plan : Plan) (base : Base) (past : List Row) (port : Port) (count q : ℕ) → number_of port ≢ q → sent plan base q (with_event plan base past (Drain port count)) ≡ sent plan base q past
 sent_elsewhere plan base past port count q other =
-    let apart : (number_of port == q) ≡ false = grind (arith, nat_tests) in rw apart (append-nil (sent base q past))
+    let apart : (number_of port == q) ≡ false = grind (arith, nat_tests) in rw apart (append-nil (sent plan base q past))
 
-sent_whole_at : (plan : Plan) (base : Base) (stops : Stops) (past : List Row) (port : Port) (items : List Item) (b : Bool) → (length items == 0) ≡ b → queue base (number_of port) past ≡ items
-    → sent base (number_of port) (if b then past else with_failure plan base stops port (with_event plan base past (Drain port (length items)))) ≡ sent base (number_of port) past ++ items
-sent_whole_at plan base stops past port items true none is = sym (append-nil (sent base (number_of port) past)) ∙ ap (λ (l : List Item). sent base (number_of port) past ++ l) (sym (no_length items none))
+sent_whole_at : (plan : Plan) (base : Base) (stops : Stops) (past : List Row) (port : Port) (items : List Item) (b : Bool) → (length items == 0) ≡ b → queue plan base (number_of port) past ≡ items
+    → sent plan base (number_of port) (if b then past else with_failure plan base stops port (with_event plan base past (Drain port (length items)))) ≡ sent plan base (number_of port) past ++ items
+sent_whole_at plan base stops past port items true none is = sym (append-nil (sent plan base (number_of port) past)) ∙ ap (λ (l : List Item). sent plan base (number_of port) past ++ l) (sym (no_length items none))
 sent_whole_at plan base stops past port items false none is =
     sent_failure plan base stops (with_event plan base past (Drain port (length items))) port (number_of port)
     ∙ sent_here plan base past port (length items)
-    ∙ ap (λ (l : List Item). sent base (number_of port) past ++ take (length items) l) is
-    ∙ ap (λ (l : List Item). sent base (number_of port) past ++ l) (take_all (length items) items (omega arith))
+    ∙ ap (λ (l : List Item). sent plan base (number_of port) past ++ take (length items) l) is
+    ∙ ap (λ (l : List Item). sent plan base (number_of port) past ++ l) (take_all (length items) items (omega arith))
 
 -- a whole drain sends all that waits
 pub sent_whole : (plan : Plan) (base : Base) (stops : Stops) (past : List Row) (port : Port)
-    → sent base (number_of port) (with_drain plan base stops port (length (queue base (number_of port) past)) past) ≡ sent base (number_of port) past ++ queue base (number_of port) past
-sent_whole plan base stops past port = let items = queue base (number_of port) past in sent_whole_at plan base stops past port items (length items == 0) refl refl
+    → sent plan base (number_of port) (with_drain plan base stops port (length (queue plan base (number_of port) past)) past) ≡ sent plan base (number_of port) past ++ queue plan base (number_of port) past
+sent_whole plan base stops past port = let items = queue plan base (number_of port) past in sent_whole_at plan base stops past port items (length items == 0) refl refl
 
-sent_other_at : (plan : Plan) (base : Base) (stops : Stops) (past : List Row) (port : Port) (count q : ℕ) (b : Bool) → number_of port ≢ q → sent base q (if b then past else with_failure plan base stops port (with_event plan base past (Drain port count))) ≡ sent base q past
+sent_other_at : (plan : Plan) (base : Base) (stops : Stops) (past : List Row) (port : Port) (count q : ℕ) (b : Bool) → number_of port ≢ q → sent plan base q (if b then past else with_failure plan base stops port (with_event plan base past (Drain port count))) ≡ sent plan base q past
 sent_other_at plan base stops past port count q true other = refl
 sent_other_at plan base stops past port count q false other = sent_failure plan base stops (with_event plan base past (Drain port count)) port q ∙ sent_elsewhere plan base past port count q other
 
-pub sent_other : (plan : Plan) (base : Base) (stops : Stops) (past : List Row) (port : Port) (count q : ℕ) → number_of port ≢ q → sent base q (with_drain plan base stops port count past) ≡ sent base q past
+pub sent_other : (plan : Plan) (base : Base) (stops : Stops) (past : List Row) (port : Port) (count q : ℕ) → number_of port ≢ q → sent plan base q (with_drain plan base stops port count past) ≡ sent plan base q past
 sent_other plan base stops past port count q other = sent_other_at plan base stops past port count q (count == 0) other
 
 fewer_items : (b : Bool) (count : ℕ) (items : List Item) → length (if b then drop count items else items) ≤ length items
@@ -194,27 +194,18 @@ fewer_failed : (b : Bool) (items : List Item) → length (if b then no_items els
 fewer_failed true items = omega arith
 fewer_failed false items = omega arith
 
-fewer_failure_at : (plan : Plan) (base : Base) (past : List Row) (port : Port) (q : ℕ) (b : Bool) → length (queue base q (if b then with_event plan base past (End (passes.Egress port) hows.Failed) else past)) ≤ length (queue base q past)
-fewer_failure_at plan base past port q true = fewer_failed (number_of port == q) (queue base q past)
+fewer_failure_at : (plan : Plan) (base : Base) (past : List Row) (port : Port) (q : ℕ) (b : Bool) → length (queue plan base q (if b then with_event plan base past (End (passes.Egress port) hows.Failed) else past)) ≤ length (queue plan base q past)
+fewer_failure_at plan base past port q true = fewer_failed (number_of port == q) (queue plan base q past)
 fewer_failure_at plan base past port q false = omega arith
 
-pub fewer_failure : (plan : Plan) (base : Base) (stops : Stops) (past : List Row) (port : Port) (q : ℕ) → length (queue base q (with_failure plan base stops port past)) ≤ length (queue base q past)
-fewer_failure plan base stops past port q = fewer_failure_at plan base past port q (is_stopped (stops (number_of port)) (pieces_by base (number_of port) past))
+pub fewer_failure : (plan : Plan) (base : Base) (stops : Stops) (past : List Row) (port : Port) (q : ℕ) → length (queue plan base q (with_failure plan base stops port past)) ≤ length (queue plan base q past)
+fewer_failure plan base stops past port q = fewer_failure_at plan base past port q (is_stopped (stops (number_of port)) (pieces_by plan base (number_of port) past))
 
-fewer_at : (plan : Plan) (base : Base) (stops : Stops) (past : List Row) (port : Port) (count q : ℕ) (b : Bool) → length (queue base q (if b then past else with_failure plan base stops port (with_event plan base past (Drain port count)))) ≤ length (queue base q past)
+fewer_at : (plan : Plan) (base : Base) (stops : Stops) (past : List Row) (port : Port) (count q : ℕ) (b : Bool) → length (queue plan base q (if b then past else with_failure plan base stops port (with_event plan base past (Drain port count)))) ≤ length (queue plan base q past)
 fewer_at plan base stops past port count q true = omega arith
 fewer_at plan base stops past port count q false =
-    omega (arith, fewer_failure plan base stops (with_event plan base past (Drain port count)) port q, fewer_items (number_of port == q) count (queue base q past))
+    omega (arith, fewer_failure plan base stops (with_event plan base past (Drain port count)) port q, fewer_items (number_of port == q) count (queue plan base q past))
 
 -- a drain leaves no more than there was
-pub fewer : (plan : Plan) (base : Base) (stops : Stops) (past : List Row) (port : Port) (count q : ℕ) → length (queue base q (with_drain plan base stops port count past)) ≤ length (queue base q past)
+pub fewer : (plan : Plan) (base : Base) (stops : Stops) (past : List Row) (port : Port) (count q : ℕ) → length (queue plan base q (with_drain plan base stops port count past)) ≤ length (queue plan base q past)
 fewer plan base stops past port count q = fewer_at plan base stops past port count q (count == 0)
-
-one_item : (b : Bool) (r : Row) (items : List Item) → items ≡ [] → length (if b then items ++ item_of r ∷ [] else items) ≤ 1
-one_item true r items none = rw none (omega arith)
-one_item false r items none = rw none (omega arith)
-
--- behind an empty queue an arrival is the only item
-pub one_waits : (plan : Plan) (base : Base) (past : List Row) (port : Port) (arrival : Arrival) (q : ℕ) → queue base q past ≡ [] → length (queue base q (with_event plan base past (event_of port arrival))) ≤ 1
-one_waits plan base past port (arrivals.Frame stamp octets) q none = let r = row_of plan base past (Frame port stamp octets) in one_item (is_queued q r) r (queue base q past) none
-one_waits plan base past port (arrivals.Long stamp len) q none = rw none (omega arith)

@@ -1,7 +1,8 @@
 -- The row of an event doesn't depend on the names of a plan.
-use Rattle.std.proofs.Common.{◌≡◌, ℕ, ◌+◌, ◌==◌, ◌&&◌, ◌||◌, not, nat_le, Bool, true, false, if◌then◌else◌, List, [], ◌∷◌, length, map, Some, None, refl, ap, sym, ◌∙◌}
+use Rattle.std.proofs.Common.{◌≡◌, ℕ, ◌+◌, ◌-◌, ◌==◌, ◌&&◌, not, nat_le, if◌then◌else◌, Bool, true, false, if◌then◌else◌, List, [], ◌∷◌, length, map, Some, None, refl, ap, sym, ◌∙◌}
 use Rattle.std.specs.List.{filter}
 use Rattle.std.proofs.lemmas.List.{length-map}
+use Rattle.std.proofs.lemmas.List.Elements.{filter_agree}
 use Rattle.savi_kinds.specs.declared.port.Port.{Port}
 use Rattle.savi_kinds.specs.declared.port.PortSet.{PortSet}
 use Rattle.savi_kinds.specs.declared.plan.Plan.{Plan}
@@ -11,21 +12,28 @@ use Rattle.savi_kinds.specs.declared.verdict.Verdict.{Verdict}
 use Rattle.savi_kinds.specs.declared.verdict.Verdict.TheVariants.{Pass, Drop}
 use Rattle.savi_kinds.specs.declared.verdict.Scope.{Scope}
 use Rattle.savi_kinds.specs.declared.verdict.Scope.TheVariants.{All, TrustedOnly, TrustedAnd}
+use Rattle.savi_kinds.specs.declared.entry.Act.{Act}
 use Rattle.savi_kinds.specs.declared.entry.Act.TheVariants as acts
+use Rattle.savi_kinds.specs.declared.entry.How.{How}
+use Rattle.savi_kinds.specs.declared.entry.How.TheVariants as hows
+use Rattle.fcfs_states.specs.declared.answer.Probe.{Probe}
+use Rattle.fcfs_states.specs.declared.answer.Probe.TheVariants.{Trusted, To}
 use Rattle.savi_kinds.specs.declared.entry.Who.{Who}
 use Rattle.savi_kinds.specs.declared.entry.Who.TheVariants as passes
 use Rattle.savi_kinds.specs.Ports.{number_of}
 use Rattle.savi_kinds.specs.PortSets.{is_member, set_of}
 use Rattle.savi_kinds.specs.ValidPlan.{numbers_of}
-use Rattle.hist_store.specs.Rows.{Row, held}
+use Rattle.hist_store.specs.Rows.{Row}
 use Rattle.savi_history.specs.Bases.{Base}
-use Rattle.savi_history.specs.Passes.{role_among, pass_of, place_among, has_ended}
+use Rattle.savi_history.specs.Passes.{role_among, is_trusted, pass_of, egress_pass, place_among, has_ended}
+use Rattle.savi_history.specs.Marks.{Offer, offers}
 use Rattle.savi_history.specs.Moments.{moment_at}
-use Rattle.savi_history.specs.Guard.{guard}
-use Rattle.savi_history.specs.Judged.{judged_long, verdict_by}
+use Rattle.frame_class.specs.ClassOf.{class_of}
+use Rattle.ra_guard.specs.GuardOf.{guard_of}
+use Rattle.savi_history.specs.Judged.{verdict_by}
 use Rattle.savi_history.specs.Outs.{is_in_scope, outs}
-use Rattle.savi_history.specs.Queues.{queue, cuts}
-use Rattle.savi_history.specs.Events.{Event, Frame, Long, Drain, End, the_vlan, plain_row, verdict_of, outs_of, row_of}
+use Rattle.savi_history.specs.Queues.{Item, probe_item, is_target, offered_at, room_at, all_joined, probed, framed, waiting_after, queue, queued_at, lost_at, over_ports, probes, lost, is_closed, cuts}
+use Rattle.savi_history.specs.Events.{Event, Frame, Long, Drain, End, the_vlan, frame_act, plain_row, verdict_of, outs_of, row_of}
 use Rattle.savi_history.specs.Moments.{last_moment}
 use Rattle.savi_history.specs.Journals.{without_port_names, without_names}
 
@@ -65,7 +73,7 @@ role_among_kept [] number = refl
 role_among_kept (p ∷ ports) number = role_at p (map without_port_names ports) ports number (number_of p.number == number) (role_among_kept ports number)
 
 verdict_kept : (plan : Plan) (base : Base) (past : List Row) (port : Port) (stamp : ℕ) (octets : List ℕ) → verdict_of (without_names plan) base past port stamp octets ≡ verdict_of plan base past port stamp octets
-verdict_kept plan base past port stamp octets = ap (λ (role : Role). verdict_by (guard role plan.drop_unknown octets)) (role_among_kept plan.ports (number_of port))
+verdict_kept plan base past port stamp octets = ap (λ (role : Role). verdict_by (guard_of role plan.drop_unknown (class_of octets))) (role_among_kept plan.ports (number_of port))
 
 -- the ports of a scope, as a test
 abbrev is_other : Scope → ℕ → PortPlan → Bool
@@ -86,50 +94,133 @@ others_kept : (scope : Scope) (port : ℕ) (ports : List PortPlan) → numbers_o
 others_kept scope port [] = refl
 others_kept scope port (p ∷ ports) = rw (test_kept scope port p) (others_at scope port p ports (is_other scope port p) (others_kept scope port ports))
 
-outs_kept : (plan : Plan) (base : Base) (past : List Row) (port : ℕ) (verdict : Verdict) → outs the_vlan (without_names plan) base past port verdict ≡ outs the_vlan plan base past port verdict
-outs_kept plan base past port (Pass scope) = ap set_of (others_kept scope port plan.ports)
-outs_kept plan base past port (Drop rule) = refl
+outs_kept : (plan : Plan) (base : Base) (past : List Row) (port moment : ℕ) (octets : List ℕ) (verdict : Verdict) → outs the_vlan (without_names plan) base past port moment octets verdict ≡ outs the_vlan plan base past port moment octets verdict
+outs_kept plan base past port moment octets (Pass scope) = ap set_of (others_kept scope port plan.ports)
+outs_kept plan base past port moment octets (Drop rule) = refl
 
--- the cuts, by what they depend on
-abbrev cuts_by : ℕ → ℕ → List ℕ → Base → List Row → PortSet → PortSet
-cuts_by depth count numbers base past out =
-    set_of (filter (λ q. is_member out q && (nat_le depth (length (queue base q past)) || has_ended base (count + 2 + place_among numbers q) past)) numbers)
+-- what waits
 
-cuts_kept : (plan : Plan) (base : Base) (past : List Row) (out : PortSet) → cuts (without_names plan) base past out ≡ cuts plan base past out
-cuts_kept plan base past out =
-    ap (λ (count : ℕ). cuts_by plan.depth count (numbers_of (map without_port_names plan.ports)) base past out) (count_kept plan.ports)
-    ∙ ap (λ (numbers : List ℕ). cuts_by plan.depth (length plan.ports) numbers base past out) (numbers_kept plan.ports)
+module _ (plan : Plan) (base : Base) where
+  abbrev bare : Plan
+  bare = without_names plan
 
--- the row of a frame, by its parts
-abbrev frame_by : Base → List Row → Port → ℕ → List ℕ → ℕ → Verdict → PortSet → PortSet → Row
-frame_by base past port stamp octets by verdict out cut = record {
-  entry = record { by = by; moment = moment_at base past stamp; act = acts.Frame port stamp (held past) (length octets); verdict = Some verdict; outs = out; cuts = cut; probes = 0; lost = 0 };
-  octets = octets;
-}
+  egress_kept : (q : ℕ) → egress_pass bare q ≡ egress_pass plan q
+  egress_kept q =
+      ap (λ (count : ℕ). count + 2 + place_among (numbers_of (map without_port_names plan.ports)) q) (count_kept plan.ports)
+      ∙ ap (λ (numbers : List ℕ). length plan.ports + 2 + place_among numbers q) (numbers_kept plan.ports)
 
-frame_parts : (base : Base) (past : List Row) (port : Port) (stamp : ℕ) (octets : List ℕ) (by by' : ℕ) (verdict verdict' : Verdict) (out out' cut cut' : PortSet)
-    → by ≡ by' → verdict ≡ verdict' → out ≡ out' → cut ≡ cut' → frame_by base past port stamp octets by verdict out cut ≡ frame_by base past port stamp octets by' verdict' out' cut'
-frame_parts base past port stamp octets by by' verdict verdict' out out' cut cut' a b c d =
-    ap (λ (v : ℕ). frame_by base past port stamp octets v verdict out cut) a
-    ∙ ap (λ (v : Verdict). frame_by base past port stamp octets by' v out cut) b
-    ∙ ap (λ (v : PortSet). frame_by base past port stamp octets by' verdict' v cut) c
-    ∙ ap (λ (v : PortSet). frame_by base past port stamp octets by' verdict' out' v) d
+  room_kept : (past : List Row) (q : ℕ) → room_at bare base past q ≡ room_at plan base past q
+  room_kept past q = ap (λ (pass : ℕ). if has_ended base pass past then 0 else plan.depth) (egress_kept q)
+
+  target_kept : (q : ℕ) (target : Probe) → is_target bare q target ≡ is_target plan q target
+  target_kept q Trusted = ap is_trusted (role_among_kept plan.ports q)
+  target_kept q (To port) = refl
+
+  offers_kept : (past : List Row) (act : Act) (octets : List ℕ) → offers bare base past act octets ≡ offers plan base past act octets
+  unfolding offers
+  offers_kept past act octets = refl
+
+  offered_kept : (past : List Row) (act : Act) (octets : List ℕ) (q : ℕ) → offered_at bare base past act octets q ≡ offered_at plan base past act octets q
+  offered_kept past act octets q =
+      ap (λ (all : List Offer). map (probe_item plan) (filter (λ (offer : Offer). is_target bare q offer.target) all)) (offers_kept past act octets)
+      ∙ ap (λ (some : List Offer). map (probe_item plan) some)
+      (filter_agree (λ (offer : Offer). is_target bare q offer.target) (λ (offer : Offer). is_target plan q offer.target) (λ offer. target_kept q offer.target) (offers plan base past act octets))
+
+  probed_kept : (past : List Row) (act : Act) (octets : List ℕ) (q : ℕ) (waiting : List Item) → probed bare base past act octets q waiting ≡ probed plan base past act octets q waiting
+  probed_kept past act octets q waiting =
+      ap (λ (room : ℕ). all_joined room waiting (offered_at bare base past act octets q)) (room_kept past q)
+      ∙ ap (λ (items : List Item). all_joined (room_at plan base past q) waiting items) (offered_kept past act octets q)
+
+  ended_kept : (past : List Row) (q : ℕ) (r : Row) (who : Who) (how : How) (waiting : List Item) → waiting_after bare base past q r (acts.End who how) waiting ≡ waiting_after plan base past q r (acts.End who how) waiting
+  ended_kept past q r (passes.Egress port) hows.Failed waiting = refl
+  ended_kept past q r (passes.Egress port) hows.End waiting = refl
+  ended_kept past q r (passes.Egress port) hows.Quit waiting = refl
+  ended_kept past q r (passes.Egress port) (hows.Malformed at) waiting = refl
+  ended_kept past q r (passes.Egress port) (hows.Overlong at) waiting = refl
+  ended_kept past q r (passes.Egress port) hows.Unwritten waiting = refl
+  ended_kept past q r (passes.Egress port) (hows.Full len) waiting = refl
+  ended_kept past q r (passes.Ingress port) how waiting = refl
+  ended_kept past q r passes.Control how waiting = refl
+  ended_kept past q r passes.Ticker how waiting = refl
+
+  after_kept : (past : List Row) (q : ℕ) (r : Row) (act : Act) (waiting : List Item) → waiting_after bare base past q r act waiting ≡ waiting_after plan base past q r act waiting
+  after_kept past q r (acts.Frame port stamp at len) waiting =
+      let act = acts.Frame port stamp at len in
+      ap (λ (room : ℕ). framed room q r (probed bare base past (acts.Frame port stamp at len) r.octets q waiting)) (room_kept past q)
+      ∙ ap (λ (items : List Item). framed (room_at plan base past q) q r items) (probed_kept past act r.octets q waiting)
+  after_kept past q r (acts.Long port stamp len) waiting = probed_kept past (acts.Long port stamp len) r.octets q waiting
+  after_kept past q r (acts.Tick stamp) waiting = probed_kept past (acts.Tick stamp) r.octets q waiting
+  after_kept past q r (acts.Command stamp at len) waiting = probed_kept past (acts.Command stamp at len) r.octets q waiting
+  after_kept past q r (acts.Drain port count) waiting = refl
+  after_kept past q r (acts.End who how) waiting = ended_kept past q r who how waiting
+
+  queue_kept : (q : ℕ) (past : List Row) → queue bare base q past ≡ queue plan base q past
+  queue_kept q [] = refl
+  queue_kept q (r ∷ past) =
+      after_kept past q r r.entry.act (queue bare base q past) ∙ ap (λ (items : List Item). waiting_after plan base past q r r.entry.act items) (queue_kept q past)
+
+  module _ (past : List Row) (act : Act) (octets : List ℕ) where
+    now_kept : (q : ℕ) → probed bare base past act octets q (queue bare base q past) ≡ probed plan base past act octets q (queue plan base q past)
+    now_kept q = probed_kept past act octets q (queue bare base q past) ∙ ap (λ (items : List Item). probed plan base past act octets q items) (queue_kept q past)
+
+    queued_kept : (q : ℕ) → queued_at bare base past act octets q ≡ queued_at plan base past act octets q
+    queued_kept q =
+        ap (λ (items : List Item). length items - length (queue bare base q past)) (now_kept q)
+        ∙ ap (λ (items : List Item). length (probed plan base past act octets q (queue plan base q past)) - length items) (queue_kept q past)
+
+    lost_kept_at : (q : ℕ) → lost_at bare base past act octets q ≡ lost_at plan base past act octets q
+    lost_kept_at q =
+        ap (λ (items : List Item). length items - queued_at bare base past act octets q) (offered_kept past act octets q)
+        ∙ ap (λ (count : ℕ). length (offered_at plan base past act octets q) - count) (queued_kept q)
+
+    sum_kept : (f g : ℕ → ℕ) → ((q : ℕ) → f q ≡ g q) → (qs : List ℕ) → over_ports qs f ≡ over_ports qs g
+    sum_kept f g same [] = refl
+    sum_kept f g same (q ∷ qs) = ap (λ (n : ℕ). n + over_ports qs f) (same q) ∙ ap (λ (n : ℕ). g q + n) (sum_kept f g same qs)
+
+    probes_kept : probes bare base past act octets ≡ probes plan base past act octets
+    unfolding probes
+    probes_kept =
+        ap (λ (numbers : List ℕ). over_ports numbers (queued_at bare base past act octets)) (numbers_kept plan.ports)
+        ∙ sum_kept (queued_at bare base past act octets) (queued_at plan base past act octets) queued_kept (numbers_of plan.ports)
+
+    lost_kept : lost bare base past act octets ≡ lost plan base past act octets
+    unfolding lost
+    lost_kept =
+        ap (λ (numbers : List ℕ). over_ports numbers (lost_at bare base past act octets)) (numbers_kept plan.ports)
+        ∙ sum_kept (lost_at bare base past act octets) (lost_at plan base past act octets) lost_kept_at (numbers_of plan.ports)
+
+    closed_kept : (q : ℕ) → is_closed bare base past act octets q ≡ is_closed plan base past act octets q
+    closed_kept q =
+        ap (λ (room : ℕ). nat_le room (length (probed bare base past act octets q (queue bare base q past)))) (room_kept past q)
+        ∙ ap (λ (items : List Item). nat_le (room_at plan base past q) (length items)) (now_kept q)
+
+    cuts_kept : (out : PortSet) → cuts bare base past act octets out ≡ cuts plan base past act octets out
+    cuts_kept out =
+        ap (λ (numbers : List ℕ). set_of (filter (λ (q : ℕ). is_member out q && is_closed bare base past act octets q) numbers)) (numbers_kept plan.ports)
+        ∙ ap set_of
+        (filter_agree (λ (q : ℕ). is_member out q && is_closed bare base past act octets q) (λ (q : ℕ). is_member out q && is_closed plan base past act octets q)
+        (λ q. ap (λ (b : Bool). is_member out q && b) (closed_kept q)) (numbers_of plan.ports))
 
 pub row_kept : (plan : Plan) (base : Base) (past : List Row) (event : Event) → row_of (without_names plan) base past event ≡ row_of plan base past event
 row_kept plan base past (Frame port stamp octets) =
-    let verdict = verdict_of plan base past port stamp octets in
-    let verdict' = verdict_of (without_names plan) base past port stamp octets in
-    let out = outs_of plan base past port stamp octets in
-    let out' = outs_of (without_names plan) base past port stamp octets in
-    let same : verdict' ≡ verdict = verdict_kept plan base past port stamp octets in
-    let sent : out' ≡ out = ap (λ (v : Verdict). outs the_vlan (without_names plan) base past (number_of port) v) same ∙ outs_kept plan base past (number_of port) verdict in
-    let cut : cuts (without_names plan) base past out' ≡ cuts plan base past out =
-    ap (λ (o : PortSet). cuts (without_names plan) base past o) sent ∙ cuts_kept plan base past out in
-    frame_parts base past port stamp octets (pass_of (without_names plan) (passes.Ingress port)) (pass_of plan (passes.Ingress port)) verdict' verdict out' out
-    (cuts (without_names plan) base past out') (cuts plan base past out) (pass_kept plan (passes.Ingress port)) same sent cut
+    let bare_plan = without_names plan in
+    let moment = moment_at base past stamp in
+    let act = frame_act past port stamp octets in
+    let verdict : verdict_of bare_plan base past port stamp octets ≡ verdict_of plan base past port stamp octets = verdict_kept plan base past port stamp octets in
+    let out : outs_of bare_plan base past port stamp octets ≡ outs_of plan base past port stamp octets =
+    ap (λ (v : Verdict). outs the_vlan bare_plan base past (number_of port) moment octets v) verdict ∙ outs_kept plan base past (number_of port) moment octets (verdict_of plan base past port stamp octets) in
+    let cut : cuts bare_plan base past act octets (outs_of bare_plan base past port stamp octets) ≡ cuts plan base past act octets (outs_of plan base past port stamp octets) =
+    ap (λ (o : PortSet). cuts bare_plan base past act octets o) out ∙ cuts_kept plan base past act octets (outs_of plan base past port stamp octets) in
+    let by = pass_kept plan (passes.Ingress port) in
+    let queued = probes_kept plan base past act octets in
+    let missed = lost_kept plan base past act octets in
+    cc (by, verdict, out, cut, queued, missed)
 row_kept plan base past (Long port stamp len) =
-    ap (λ (by : ℕ). plain_row by (moment_at base past stamp) (acts.Long port stamp len) (Some judged_long)) (pass_kept plan (passes.Ingress port))
+    let by = pass_kept plan (passes.Ingress port) in
+    let queued = probes_kept plan base past (acts.Long port stamp len) [] in
+    let missed = lost_kept plan base past (acts.Long port stamp len) [] in
+    cc (by, queued, missed)
 row_kept plan base past (Drain port count) =
-    ap (λ (by : ℕ). plain_row by (last_moment base past) (acts.Drain port count) None) (pass_kept plan (passes.Egress port))
+    ap (λ (by : ℕ). plain_row by (last_moment base past) (acts.Drain port count)) (pass_kept plan (passes.Egress port))
 row_kept plan base past (End who how) =
-    ap (λ (by : ℕ). plain_row by (last_moment base past) (acts.End who how) None) (pass_kept plan who)
+    ap (λ (by : ℕ). plain_row by (last_moment base past) (acts.End who how)) (pass_kept plan who)

@@ -11,13 +11,14 @@ use Rattle.savi_kinds.specs.declared.entry.Who.TheVariants as passes
 use Rattle.savi_kinds.specs.declared.entry.How.{How}
 use Rattle.savi_kinds.specs.Ports.{number_of}
 use Rattle.savi_kinds.specs.PortSets.{no_ports}
+use Rattle.frame_class.specs.ClassOf.{class_of}
 use Rattle.hist_store.specs.Rows.{Row, held}
 use Rattle.savi_history.specs.Bases.{Base}
 use Rattle.savi_history.specs.Passes.{pass_of}
 use Rattle.savi_history.specs.Moments.{last_moment, moment_at}
-use Rattle.savi_history.specs.Judged.{judged, judged_long}
+use Rattle.savi_history.specs.Judged.{Judged, judged, judged_long}
 use Rattle.savi_history.specs.Outs.{outs}
-use Rattle.savi_history.specs.Queues.{cuts}
+use Rattle.savi_history.specs.Queues.{cuts, probes, lost}
 
 pub data Event : Type 0 where
   -- a frame came in at a port, with its stamp
@@ -33,43 +34,66 @@ pub data Event : Type 0 where
 abbrev pub the_vlan : ℕ
 the_vlan = 1
 
+-- the act of a frame, whose octets are kept behind those of the past
+abbrev pub frame_act : List Row → Port → ℕ → List ℕ → Act
+frame_act past port stamp octets = acts.Frame port stamp (held past) (length octets)
+
 -- the row of a frame with this verdict that goes to these ports
 abbrev pub frame_row : Plan → Base → List Row → Port → ℕ → List ℕ → Verdict → PortSet → Row
 frame_row plan base past port stamp octets verdict out = record {
   entry = record {
     by = pass_of plan (passes.Ingress port);
     moment = moment_at base past stamp;
-    act = acts.Frame port stamp (held past) (length octets);
+    act = frame_act past port stamp octets;
     verdict = Some verdict;
     outs = out;
-    cuts = cuts plan base past out;
-    probes = 0;
-    lost = 0;
+    cuts = cuts plan base past (frame_act past port stamp octets) octets out;
+    probes = probes plan base past (frame_act past port stamp octets) octets;
+    lost = lost plan base past (frame_act past port stamp octets) octets;
   };
   octets = octets;
 }
 
--- an entry that is no frame goes nowhere and keeps no octets
-abbrev pub plain_row : ℕ → ℕ → Act → Option Verdict → Row
-plain_row by moment act verdict = record {
-  entry = record { by = by; moment = moment; act = act; verdict = verdict; outs = no_ports; cuts = no_ports; probes = 0; lost = 0 };
+-- the row of a longer frame, which goes nowhere and whose octets aren't kept
+abbrev pub long_row : Plan → Base → List Row → Port → ℕ → ℕ → Row
+long_row plan base past port stamp len = record {
+  entry = record {
+    by = pass_of plan (passes.Ingress port);
+    moment = moment_at base past stamp;
+    act = acts.Long port stamp len;
+    verdict = Some judged_long;
+    outs = no_ports;
+    cuts = no_ports;
+    probes = probes plan base past (acts.Long port stamp len) [];
+    lost = lost plan base past (acts.Long port stamp len) [];
+  };
   octets = [];
 }
 
--- the verdict on a frame at a port after this past
+-- an entry without a stamp: it has the last moment, goes nowhere and keeps no octets
+abbrev pub plain_row : ℕ → ℕ → Act → Row
+plain_row by moment act = record {
+  entry = record { by = by; moment = moment; act = act; verdict = None; outs = no_ports; cuts = no_ports; probes = 0; lost = 0 };
+  octets = [];
+}
+
+-- what a frame at a port comes to after this past
+abbrev pub judged_of : Plan → Base → List Row → Port → ℕ → List ℕ → Judged
+judged_of plan base past port stamp octets =
+    judged the_vlan plan base past (number_of port) (moment_at base past stamp) (class_of octets)
+
 abbrev pub verdict_of : Plan → Base → List Row → Port → ℕ → List ℕ → Verdict
-verdict_of plan base past port stamp octets = judged the_vlan plan base past (number_of port) (moment_at base past stamp) octets
+verdict_of plan base past port stamp octets = (judged_of plan base past port stamp octets).verdict
 
 -- the ports to which it goes
 abbrev pub outs_of : Plan → Base → List Row → Port → ℕ → List ℕ → PortSet
-outs_of plan base past port stamp octets = outs the_vlan plan base past (number_of port) (verdict_of plan base past port stamp octets)
+outs_of plan base past port stamp octets =
+    outs the_vlan plan base past (number_of port) (moment_at base past stamp) octets (verdict_of plan base past port stamp octets)
 
 abbrev pub row_of : Plan → Base → List Row → Event → Row
 row_of plan base past (Frame port stamp octets) =
     frame_row plan base past port stamp octets (verdict_of plan base past port stamp octets) (outs_of plan base past port stamp octets)
-row_of plan base past (Long port stamp len) =
-    plain_row (pass_of plan (passes.Ingress port)) (moment_at base past stamp) (acts.Long port stamp len) (Some judged_long)
+row_of plan base past (Long port stamp len) = long_row plan base past port stamp len
 row_of plan base past (Drain port count) =
-    plain_row (pass_of plan (passes.Egress port)) (last_moment base past) (acts.Drain port count) None
-row_of plan base past (End who how) =
-    plain_row (pass_of plan who) (last_moment base past) (acts.End who how) None
+    plain_row (pass_of plan (passes.Egress port)) (last_moment base past) (acts.Drain port count)
+row_of plan base past (End who how) = plain_row (pass_of plan who) (last_moment base past) (acts.End who how)

@@ -72,7 +72,7 @@ MayEndTicker plan base past (hows.Full len) = IsFull plan past len
 
 -- an egress goes on while anything may be queued or waits
 abbrev pub MayEndEgress : Plan → Base → List Row → ℕ → How → Type 0
-MayEndEgress plan base past q hows.End = AllEnded base (ticker_pass plan + 1) past × (queue base q past ≡ [])
+MayEndEgress plan base past q hows.End = AllEnded base (ticker_pass plan + 1) past × (queue plan base q past ≡ [])
 MayEndEgress plan base past q hows.Quit = ⊥
 MayEndEgress plan base past q (hows.Malformed at) = ⊥
 MayEndEgress plan base past q (hows.Overlong at) = ⊥
@@ -90,7 +90,7 @@ MayEnd plan base past (Egress p) how = MayEndEgress plan base past (number_of p)
 abbrev pub MayCome : Plan → Base → List Row → Event → Type 0
 MayCome plan base past (Frame port stamp octets) = MayArrive plan base past port stamp × (length octets ≤ 1518)
 MayCome plan base past (Long port stamp len) = MayArrive plan base past port stamp × (1518 < len) × IsU32 len
-MayCome plan base past (Drain port count) = IsOpen plan base past (Egress port) × (1 ≤ count) × (count ≤ length (queue base (number_of port) past))
+MayCome plan base past (Drain port count) = IsOpen plan base past (Egress port) × (1 ≤ count) × (count ≤ length (queue plan base (number_of port) past))
 MayCome plan base past (End who how) = IsOpen plan base past who × MayEnd plan base past who how
 
 -- the row is the row of an event that might come

@@ -2,7 +2,7 @@ pub mod Bases
 pub mod Passes
 pub mod Moments
 pub mod Limits
-pub mod Guard
+pub mod Marks
 pub mod Judged
 pub mod Outs
 pub mod Queues

@@ -1,6 +1,7 @@
 -- What a history says of the output of one port, by the port's number: how it ended, and what a sink that took it has taken.
 use Rattle.std.specs.Prelude.{◌≡◌, ℕ, ◌<◌, ◌==◌, if◌then◌else◌, List, [], ◌∷◌, ◌++◌, length, map, take, get_or, Option, Some, None}
 use Rattle.std.specs.List.{concat}
+use Rattle.savi_kinds.specs.declared.plan.Plan.{Plan}
 use Rattle.savi_kinds.specs.declared.entry.Act.{Act}
 use Rattle.savi_kinds.specs.declared.entry.Act.TheVariants as acts
 use Rattle.savi_kinds.specs.declared.entry.Who.{Who}
@@ -46,17 +47,17 @@ TookPieces before after pieces (Some whole) =
     (whole < length pieces) × (front : List ℕ) × IsFront front (get_or pieces whole []) × (after ≡ behind before (concat (take whole pieces) ++ front))
 
 -- the capture of what the drains of a port before its last one took; nothing where there was none
-abbrev pub text_before_last : Base → ℕ → List Row → Act → List ℕ → List ℕ
-text_before_last base port past (acts.Frame p stamp at len) before = before
-text_before_last base port past (acts.Long p stamp len) before = before
-text_before_last base port past (acts.Tick stamp) before = before
-text_before_last base port past (acts.Command stamp at len) before = before
-text_before_last base port past (acts.Drain p count) before = if number_of p == port then capture_text (sent_items (sent base port past)) else before
-text_before_last base port past (acts.End who how) before = before
+abbrev pub text_before_last : Plan → Base → ℕ → List Row → Act → List ℕ → List ℕ
+text_before_last plan base port past (acts.Frame p stamp at len) before = before
+text_before_last plan base port past (acts.Long p stamp len) before = before
+text_before_last plan base port past (acts.Tick stamp) before = before
+text_before_last plan base port past (acts.Command stamp at len) before = before
+text_before_last plan base port past (acts.Drain p count) before = if number_of p == port then capture_text (sent_items (sent plan base port past)) else before
+text_before_last plan base port past (acts.End who how) before = before
 
-abbrev pub text_before_last_drain : Base → ℕ → List Row → List ℕ
-text_before_last_drain base port [] = []
-text_before_last_drain base port (r ∷ past) = text_before_last base port past r.entry.act (text_before_last_drain base port past)
+abbrev pub text_before_last_drain : Plan → Base → ℕ → List Row → List ℕ
+text_before_last_drain plan base port [] = []
+text_before_last_drain plan base port (r ∷ past) = text_before_last plan base port past r.entry.act (text_before_last_drain plan base port past)
 
 -- What a sink took is the output that a history sends, by how that ended there: all of it; or, where a write failed, a front
 -- of it that holds all that the drains before the last one took. An output ends in no other way.
@@ -71,6 +72,6 @@ FitsOutput before after output sure (Some (hows.Full len)) = ⊥
 FitsOutput before after output sure None = ⊥
 
 -- the same of a port after a history
-abbrev pub FitsOutputAt : Base → Option (List ℕ) → Option (List ℕ) → ℕ → List Row → Type 0
-FitsOutputAt base before after port past =
-    FitsOutput before after (capture_text (sent_items (sent base port past))) (text_before_last_drain base port past) (output_end port past)
+abbrev pub FitsOutputAt : Plan → Base → Option (List ℕ) → Option (List ℕ) → ℕ → List Row → Type 0
+FitsOutputAt plan base before after port past =
+    FitsOutput before after (capture_text (sent_items (sent plan base port past))) (text_before_last_drain plan base port past) (output_end port past)

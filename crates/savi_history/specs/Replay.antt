@@ -38,13 +38,13 @@ is_stopped None pieces = false
 is_stopped (Some whole) pieces = nat_lt whole pieces
 
 -- how many pieces the output of a port has so far
-abbrev pub pieces_by : Base → ℕ → List Row → ℕ
-pieces_by base q past = suc (length (sent base q past))
+abbrev pub pieces_by : Plan → Base → ℕ → List Row → ℕ
+pieces_by plan base q past = suc (length (sent plan base q past))
 
 -- where a write failed at the port by now, its egress ends for that
 abbrev pub with_failure : Plan → Base → Stops → Port → List Row → List Row
 with_failure plan base stops port past =
-    if is_stopped (stops (number_of port)) (pieces_by base (number_of port) past)
+    if is_stopped (stops (number_of port)) (pieces_by plan base (number_of port) past)
     then with_event plan base past (End (Egress port) hows.Failed)
     else past
 
@@ -62,7 +62,7 @@ with_drain plan base stops port count past =
 abbrev pub drained : Plan → Base → Stops → List PortPlan → List Row → List Row
 drained plan base stops [] past = past
 drained plan base stops (q ∷ qs) past =
-    drained plan base stops qs (with_drain plan base stops q.number (length (queue base (number_of q.number) past)) past)
+    drained plan base stops qs (with_drain plan base stops q.number (length (queue plan base (number_of q.number) past)) past)
 
 -- an arrival is entered and the queues are drained, or there is no room and its input ends; an ending is entered
 abbrev pub entered : Plan → Base → Stops → Turn → List Row → List Row

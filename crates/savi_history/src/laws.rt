@@ -50,7 +50,7 @@ pub fn failed_writes_are_of_ports()
 /// history says that the output ended: all of it, or, where a write failed, a front of it with all that the drains before
 /// the last one took.
 pub fn outputs_fit()
-    ensures { (plan : Plan) (inputs : List Input) (stops : Stops) (before : Option (List ℕ)) (after : Option (List ℕ)) (k : ℕ) → IsValidPlan plan → length inputs ≡ length plan.ports → All IsInput inputs → k < length plan.ports → let port = slice_index (numbers_of plan.ports) k in let past = replayed plan empty inputs stops in TookPieces before after (pieces (sent empty port past)) (stops port) → FitsOutputAt empty before after port past }
+    ensures { (plan : Plan) (inputs : List Input) (stops : Stops) (before : Option (List ℕ)) (after : Option (List ℕ)) (k : ℕ) → IsValidPlan plan → length inputs ≡ length plan.ports → All IsInput inputs → k < length plan.ports → let port = slice_index (numbers_of plan.ports) k in let past = replayed plan empty inputs stops in TookPieces before after (pieces (sent plan empty port past)) (stops port) → FitsOutputAt plan empty before after port past }
 {}
 
 /// A journal tells the history: no text is the journal of two legal histories from the start of a switch, nor of two
