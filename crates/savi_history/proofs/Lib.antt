@@ -10,6 +10,7 @@ pub mod PortPlaces
 pub mod PortMembers
 pub mod Joining
 pub mod Depth
+pub mod Offered
 pub mod Closed
 pub mod Waiting
 pub mod Lines

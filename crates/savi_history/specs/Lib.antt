@@ -21,3 +21,4 @@ pub mod PortOutputs
 pub mod Fits
 pub mod Journals
 pub mod Readable
+pub mod QueueLaws

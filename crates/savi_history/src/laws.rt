@@ -1,8 +1,9 @@
 //! The laws on whole histories. Each function does nothing: its contract is the law.
 
-ghost use Rattle.std.specs.Prelude.{◌≡◌, ◌<◌, ℕ, true, List, length, slice_index, Option, Some, All};
+ghost use Rattle.std.specs.Prelude.{◌≡◌, ◌<◌, ◌≤◌, ◌++◌, ℕ, true, false, List, [], length, slice_index, Option, Some, All};
 ghost use Rattle.savi_kinds.specs.Arrivals.{Input};
 ghost use Rattle.savi_kinds.specs.ValidPlan.{IsValidPlan, numbers_of};
+ghost use Rattle.savi_kinds.specs.declared.entry.Act.{Act};
 ghost use Rattle.savi_kinds.specs.declared.entry.How.TheVariants as hows;
 ghost use Rattle.savi_kinds.specs.declared.plan.Plan.{Plan};
 ghost use Rattle.hist_store.specs.JournalTexts.{address_text};
@@ -15,13 +16,36 @@ ghost use Rattle.savi_history.specs.Adverts.{IsGuarded};
 ghost use Rattle.savi_history.specs.Endings.{has_failed, has_failed_write};
 ghost use Rattle.savi_history.specs.PortInputs.{input_end};
 ghost use Rattle.savi_history.specs.PortOutputs.{FitsOutputAt, TookPieces, output_end, pieces};
-ghost use Rattle.savi_history.specs.Queues.{sent};
+ghost use Rattle.savi_history.specs.Marks.{offers};
+ghost use Rattle.savi_history.specs.Queues.{queue, sent};
+ghost use Rattle.savi_history.specs.QueueLaws.{came, NeverFailed, AreCounted};
 ghost use Rattle.savi_history.specs.Journals.{IsAddressText, IsJournalOfOne};
 
 /// In a legal history no router advertisement that the header chain shows, and no first fragment whose chain is cut,
 /// passes a port of a host or a server (RFC 6105, RFC 7113, RFC 7112 section 5).
 pub fn adverts_are_stopped()
     ensures { (plan : Plan) (base : Base) (past : List Row) → IsLegal plan base past → IsGuarded plan past }
+{}
+
+/// No more items wait at a port than the plan's depth.
+pub fn queues_stay_within_depth()
+    ensures { (plan : Plan) (base : Base) (q : ℕ) (past : List Row) → length (queue plan base q past) ≤ plan.depth }
+{}
+
+/// Nothing overtakes: what was sent at a port, and behind it what waits there, are the items that joined, in the order in
+/// which entries offered them, as long as no write failed there.
+pub fn nothing_overtakes()
+    ensures { (plan : Plan) (base : Base) (q : ℕ) (past : List Row) → NeverFailed q past → sent plan base q past ++ queue plan base q past ≡ came plan base q past }
+{}
+
+/// In a legal history each probe that an entry offers to a port is counted once, as queued or as lost.
+pub fn nothing_is_lost_uncounted()
+    ensures { (plan : Plan) (base : Base) (past : List Row) → IsLegal plan base past → AreCounted plan base past }
+{}
+
+/// A switch that doesn't validate sources sends no probes.
+pub fn probes_come_with_validation()
+    ensures { (plan : Plan) (base : Base) (past : List Row) (act : Act) (octets : List ℕ) → plan.savi ≡ false → offers plan base past act octets ≡ [] }
 {}
 
 /// In the history of a replay of one input for each port of the plan, every pass has ended, whichever writes failed.

@@ -1,0 +1,143 @@
+-- What is offered to a queue joins it, in order, and is counted.
+use Rattle.std.proofs.Common.{◌≡◌, ℕ, ◌+◌, ◌-◌, ◌==◌, nat_le, Bool, true, false, if◌then◌else◌, List, [], ◌∷◌, ◌++◌, length, map, take, drop, refl, sym, ap, subst, ◌∙◌, arith, append_assoc, append-nil}
+use Rattle.std.specs.List.{filter}
+use Rattle.std.proofs.lemmas.List.{take-append-drop}
+use Rattle.savi_kinds.specs.declared.plan.Plan.{Plan}
+use Rattle.savi_kinds.specs.declared.entry.Act.{Act}
+use Rattle.savi_kinds.specs.declared.entry.Act.TheVariants as acts
+use Rattle.savi_kinds.specs.declared.entry.Who.{Who}
+use Rattle.savi_kinds.specs.declared.entry.Who.TheVariants as passes
+use Rattle.savi_kinds.specs.declared.entry.How.{How}
+use Rattle.savi_kinds.specs.declared.entry.How.TheVariants as hows
+use Rattle.savi_kinds.specs.Ports.{number_of}
+use Rattle.savi_kinds.specs.PortSets.{is_member}
+use Rattle.savi_kinds.specs.ValidPlan.{numbers_of}
+use Rattle.hist_store.specs.Rows.{Row}
+use Rattle.savi_history.specs.Bases.{Base}
+use Rattle.savi_history.specs.Marks.{Offer, offers}
+use Rattle.savi_history.specs.Queues.{Item, item_of, probe_item, is_target, room_at, joined, all_joined, offered_at, probed, waiting_after, taken_by, queue, sent, queued_at, lost_at, over_ports, probes, lost, is_closed}
+use Rattle.savi_history.specs.QueueLaws.{frame_to, all_offered, added, came, is_failure_at, NeverFailed, IsCounted, AreCounted}
+use Rattle.savi_history.specs.Events.{Event, Frame, Long, Drain, End, row_of, frame_act}
+use Rattle.savi_history.specs.Legal.{IsLegal}
+use Rattle.savi_history.proofs.Joining.{no_items, take_none, all_joined-is, joined_more, joined_few}
+
+-- items one after the other are items joined to the first ones
+pub joined_behind : (room : ℕ) (waiting first second : List Item) → all_joined room waiting (first ++ second) ≡ all_joined room (all_joined room waiting first) second
+joined_behind room waiting [] second = refl
+joined_behind room waiting (item ∷ first) second = joined_behind room (joined room waiting item) first second
+
+frame_joins : (b : Bool) (room : ℕ) (r : Row) (waiting : List Item) → (if b then joined room waiting (item_of r) else waiting) ≡ all_joined room waiting (if b then item_of r ∷ [] else [])
+frame_joins true room r waiting = refl
+frame_joins false room r waiting = refl
+
+drop_some : (b : Bool) (count : ℕ) (waiting : List Item) → (if b then take count waiting else no_items) ++ (if b then drop count waiting else waiting) ≡ waiting
+drop_some true count waiting = take-append-drop count waiting
+drop_some false count waiting = refl
+
+nothing_added : (room : ℕ) (items : List Item) → items ≡ items ++ take room no_items
+nothing_added room items = sym (append-nil items) ∙ ap (λ (l : List Item). items ++ l) (sym (take_none room))
+
+-- an end that isn't for a failed write at q leaves what waits there
+end_leaves : (plan : Plan) (base : Base) (past : List Row) (q : ℕ) (r : Row) (who : Who) (how : How) (waiting : List Item) → is_failure_at q (acts.End who how) ≡ false → waiting_after plan base past q r (acts.End who how) waiting ≡ waiting
+end_leaves plan base past q r (passes.Egress p) hows.Failed waiting other = rw other refl
+end_leaves plan base past q r (passes.Egress p) hows.End waiting other = refl
+end_leaves plan base past q r (passes.Egress p) hows.Quit waiting other = refl
+end_leaves plan base past q r (passes.Egress p) (hows.Malformed at) waiting other = refl
+end_leaves plan base past q r (passes.Egress p) (hows.Overlong at) waiting other = refl
+end_leaves plan base past q r (passes.Egress p) hows.Unwritten waiting other = refl
+end_leaves plan base past q r (passes.Egress p) (hows.Full len) waiting other = refl
+end_leaves plan base past q r (passes.Ingress p) how waiting other = refl
+end_leaves plan base past q r passes.Control how waiting other = refl
+end_leaves plan base past q r passes.Ticker how waiting other = refl
+
+module _ (plan : Plan) (base : Base) (past : List Row) (q : ℕ) (r : Row) (waiting : List Item) where
+  abbrev room : ℕ
+  room = room_at plan base past q
+
+  -- what an entry takes and what it leaves is what waited, and behind it what it adds
+  one_entry : (act : Act) → is_failure_at q act ≡ false → taken_by q act waiting ++ waiting_after plan base past q r act waiting ≡ waiting ++ take (room - length waiting) (all_offered plan base past r act q)
+  one_entry (acts.Frame port stamp at len) other =
+      let first = offered_at plan base past (acts.Frame port stamp at len) r.octets q in
+      frame_joins (is_member r.entry.outs q) room r (all_joined room waiting first)
+      ∙ sym (joined_behind room waiting first (frame_to q r))
+      ∙ all_joined-is room waiting (first ++ frame_to q r)
+  one_entry (acts.Long port stamp len) other = all_joined-is room waiting (offered_at plan base past (acts.Long port stamp len) r.octets q)
+  one_entry (acts.Tick stamp) other = all_joined-is room waiting (offered_at plan base past (acts.Tick stamp) r.octets q)
+  one_entry (acts.Command stamp at len) other = all_joined-is room waiting (offered_at plan base past (acts.Command stamp at len) r.octets q)
+  one_entry (acts.Drain port count) other = drop_some (number_of port == q) count waiting ∙ nothing_added (room - length waiting) waiting
+  one_entry (acts.End who how) other = end_leaves plan base past q r who how waiting other ∙ nothing_added (room - length waiting) waiting
+
+pub in_order : (plan : Plan) (base : Base) (q : ℕ) (past : List Row) → NeverFailed q past → sent plan base q past ++ queue plan base q past ≡ came plan base q past
+in_order plan base q [] never = refl
+in_order plan base q (r ∷ past) never =
+    let waiting = queue plan base q past in
+    let before = sent plan base q past in
+    let act = r.entry.act in
+    append_assoc before (taken_by q act waiting) (waiting_after plan base past q r act waiting)
+    ∙ ap (λ (l : List Item). before ++ l) (one_entry plan base past q r waiting act never.0)
+    ∙ sym (append_assoc before waiting (added plan base past r q))
+    ∙ ap (λ (l : List Item). l ++ added plan base past r q) (in_order plan base q past never.1)
+
+-- counts
+
+sum_both : (f g h : ℕ → ℕ) → ((q : ℕ) → f q + g q ≡ h q) → (qs : List ℕ) → over_ports qs f + over_ports qs g ≡ over_ports qs h
+sum_both f g h same [] = refl
+sum_both f g h same (q ∷ qs) = omega (arith, same q, sum_both f g h same qs)
+
+module _ (plan : Plan) (base : Base) (past : List Row) (act : Act) (octets : List ℕ) where
+  counted_at : (q : ℕ) → queued_at plan base past act octets q + lost_at plan base past act octets q ≡ length (offered_at plan base past act octets q)
+  counted_at q =
+      let waiting = queue plan base q past in
+      let items = offered_at plan base past act octets q in
+      omega (arith, joined_more (room_at plan base past q) waiting items, joined_few (room_at plan base past q) waiting items)
+
+  pub counted : probes plan base past act octets + lost plan base past act octets ≡ over_ports (numbers_of plan.ports) (λ q. length (offered_at plan base past act octets q))
+  unfolding probes lost
+  counted =
+      sum_both (queued_at plan base past act octets) (lost_at plan base past act octets) (λ q. length (offered_at plan base past act octets q)) counted_at (numbers_of plan.ports)
+
+row_counted : (plan : Plan) (base : Base) (past : List Row) (event : Event) → IsCounted plan base past (row_of plan base past event) (row_of plan base past event).entry.act
+row_counted plan base past (Frame port stamp octets) = counted plan base past (frame_act past port stamp octets) octets
+row_counted plan base past (Long port stamp len) = counted plan base past (acts.Long port stamp len) []
+row_counted plan base past (Drain port count) = refl
+row_counted plan base past (End who how) = refl
+
+pub all_counted : (plan : Plan) (base : Base) (past : List Row) → IsLegal plan base past → AreCounted plan base past
+all_counted plan base [] legal = tt
+all_counted plan base (r ∷ past) legal =
+    (subst (λ (x : Row). IsCounted plan base past x x.entry.act) (sym legal.0.2) (row_counted plan base past legal.0.0), all_counted plan base past legal.1)
+
+-- without validation
+
+-- a switch that validates no sources sends no probes
+pub no_offers : (plan : Plan) (base : Base) (past : List Row) (act : Act) (octets : List ℕ) → plan.savi ≡ false → offers plan base past act octets ≡ []
+unfolding offers
+no_offers plan base past act octets off = refl
+
+module _ (plan : Plan) (base : Base) (past : List Row) (act : Act) (octets : List ℕ) (off : plan.savi ≡ false) where
+  pub offered_off : (q : ℕ) → offered_at plan base past act octets q ≡ []
+  offered_off q = ap (λ (all : List Offer). map (probe_item plan) (filter (λ (offer : Offer). is_target plan q offer.target) all)) (no_offers plan base past act octets off)
+
+  pub probed_off : (q : ℕ) (waiting : List Item) → probed plan base past act octets q waiting ≡ waiting
+  probed_off q waiting = ap (λ (items : List Item). all_joined (room_at plan base past q) waiting items) (offered_off q)
+
+  none_counted : (f : ℕ → ℕ) → ((q : ℕ) → f q ≡ 0) → (qs : List ℕ) → over_ports qs f ≡ 0
+  none_counted f none [] = refl
+  none_counted f none (q ∷ qs) = omega (arith, none q, none_counted f none qs)
+
+  queued_off : (q : ℕ) → queued_at plan base past act octets q ≡ 0
+  queued_off q = omega (arith, ap (λ (items : List Item). length items) (probed_off q (queue plan base q past)))
+
+  lost_off_at : (q : ℕ) → lost_at plan base past act octets q ≡ 0
+  lost_off_at q = omega (arith, ap (λ (items : List Item). length items) (offered_off q))
+
+  pub probes_off : probes plan base past act octets ≡ 0
+  unfolding probes
+  probes_off = none_counted (queued_at plan base past act octets) queued_off (numbers_of plan.ports)
+
+  pub lost_off : lost plan base past act octets ≡ 0
+  unfolding lost
+  lost_off = none_counted (lost_at plan base past act octets) lost_off_at (numbers_of plan.ports)
+
+  pub closed_off : (q : ℕ) → is_closed plan base past act octets q ≡ nat_le (room_at plan base past q) (length (queue plan base q past))
+  closed_off q = ap (λ (items : List Item). nat_le (room_at plan base past q) (length items)) (probed_off q (queue plan base q past))
