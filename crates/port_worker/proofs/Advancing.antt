@@ -98,7 +98,7 @@ module _ {S K C : Type 0} (written : K → Option (List ℕ)) (faults : K → �
     pub allowed_kept : (known stops : Stops) → AreAllowed plan known stops mid → AreAllowed plan known stops past
     allowed_kept known stops allowed k d within =
         let size = length-numbers plan.ports in
-        subst (λ (n : ℕ). Allows (known n) (stops n) (pieces_by empty n past)) (get_or_default (numbers_of plan.ports) k 0 d within)
+        subst (λ (n : ℕ). Allows (known n) (stops n) (pieces_by plan empty n past)) (get_or_default (numbers_of plan.ports) k 0 d within)
         (subst (λ (c : ℕ). Allows (known (number_at plan k)) (stops (number_at plan k)) c) (keeps_pieces plan (number_at plan k) past mid (keeps k (omega (arith, within)))) (allowed k 0 within))
 
     -- an entry behind which nothing is drained
@@ -112,21 +112,21 @@ module _ {S K C : Type 0} (written : K → Option (List ℕ)) (faults : K → �
         (later.0, later.1, record { before = λ stops allowed. allowed_kept known stops (later.2.before stops allowed); made_so = λ stops allowed. later.2.made_so stops allowed ∙ same stops })
 
 -- behind an arrival that was entered each queue may be drained
-drainable_behind : (plan : Plan) (past : List Row) (port here : Port) (arrival : Arrival) (k : ℕ) → k < length plan.ports → number_of here ≡ number_at plan k → queue empty (number_of here) past ≡ [] → IsDrainable plan (with_event plan empty past (event_of port arrival)) here
+drainable_behind : (plan : Plan) (past : List Row) (port here : Port) (arrival : Arrival) (k : ℕ) → k < length plan.ports → number_of here ≡ number_at plan k → queue plan empty (number_of here) past ≡ [] → IsDrainable plan (with_event plan empty past (event_of port arrival)) here
 drainable_behind plan past port here arrival k within number quiet =
     let one = one_waits plan empty past port arrival (number_of here) quiet in
-    let n_quiet : queue empty (number_at plan k) past ≡ [] = ap (λ (n : ℕ). queue empty n past) (sym number) ∙ quiet in
+    let n_quiet : queue plan empty (number_at plan k) past ≡ [] = ap (λ (n : ℕ). queue plan empty n past) (sym number) ∙ quiet in
     record {
       known = ap (has_port plan) number ∙ known_at plan k within;
       few = omega (arith, one);
       quiet = λ ended.
           let ended_k : has_ended empty (egress_pass plan (number_at plan k)) past ≡ true =
           sym (ended_arrival plan empty past port arrival (egress_pass plan (number_at plan k))) ∙ ap (λ (n : ℕ). has_ended empty (egress_pass plan n) (with_event plan empty past (event_of port arrival))) (sym number) ∙ ended in
-          ap (λ (n : ℕ). queue empty n (with_event plan empty past (event_of port arrival))) number ∙ closed_arrival plan past port arrival k within ended_k ∙ n_quiet;
+          ap (λ (n : ℕ). queue plan empty n (with_event plan empty past (event_of port arrival))) number ∙ closed_arrival plan past port arrival k within ended_k ∙ n_quiet;
     }
 
 pub drainable_then : (plan plan' : Plan) (port here here' : Port) (o : Option Turn) (past mid : List Row) (result : Bool) (k : ℕ) → plan' ≡ plan → here' ≡ here → result ≡ true → IsSome o → IfSome o (λ turn. Enters plan port turn past result mid)
-    → k < length plan.ports → number_of here ≡ number_at plan k → queue empty (number_of here) past ≡ [] → IsDrainable plan' mid here'
+    → k < length plan.ports → number_of here ≡ number_at plan k → queue plan empty (number_of here) past ≡ [] → IsDrainable plan' mid here'
 drainable_then plan plan' port here here' None past mid result k plan_is here_is answer some enters within number quiet = cc
 drainable_then plan plan' port here here' (Some turn) past mid result k plan_is here_is answer some enters within number quiet =
     let e : Enters plan port turn past true mid = subst (λ (b : Bool). Enters plan port turn past b mid) answer enters in

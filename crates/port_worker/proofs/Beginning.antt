@@ -39,15 +39,15 @@ use Rattle.port_worker.proofs.Draining.{egress_apart, later, output_here, output
 pub record IsFresh (plan : Plan) (past : List Row) (n : ℕ) : Type 0 where
   pub running : has_ended empty (egress_pass plan n) past ≡ false
   pub none : output_end n past ≡ None
-  pub unsent : sent empty n past ≡ []
-  pub unsure : text_before_last_drain empty n past ≡ []
+  pub unsent : sent plan empty n past ≡ []
+  pub unsure : text_before_last_drain plan empty n past ≡ []
 
 -- one port is begun
 module _ {K : Type 0} (written : K → Option (List ℕ)) (faults : K → ℕ) (plan : Plan) (port : Port) (past now : List Row) (old new : K) (fresh : IsFresh plan past (number_of port)) where
   abbrev q : ℕ
   q = number_of port
 
-  one_piece : pieces_by empty q past ≡ 1
+  one_piece : pieces_by plan empty q past ≡ 1
   one_piece = ap (λ (l : List Item). suc (length l)) fresh.unsent
 
   -- the header was written, or that failed
@@ -61,14 +61,14 @@ module _ {K : Type 0} (written : K → Option (List ℕ)) (faults : K → ℕ) (
       record {
         later = None;
         output = subst (λ (l : List Row). GoesOn written plan l q old new) (sym all.past) here;
-        made_so = λ stops allowed. all.past ∙ sym (no_failure plan stops port past (subst (λ (l : List Row). is_stopped (stops q) (pieces_by empty q l) ≡ false) all.past allowed));
+        made_so = λ stops allowed. all.past ∙ sym (no_failure plan stops port past (subst (λ (l : List Row). is_stopped (stops q) (pieces_by plan empty q l) ≡ false) all.past allowed));
       }
   begun_step (inr front) =
       let failed = with_failed plan port past in
-      let unsent : sent empty q failed ≡ [] = sent_end plan empty past (Egress port) hows.Failed q ∙ fresh.unsent in
+      let unsent : sent plan empty q failed ≡ [] = sent_end plan empty past (Egress port) hows.Failed q ∙ fresh.unsent in
       let size = one_piece in
       let inside = front.took.0 in
-      let took : TookPieces (written old) (written new) (pieces (sent empty q failed)) (Some front.whole) =
+      let took : TookPieces (written old) (written new) (pieces (sent plan empty q failed)) (Some front.whole) =
       subst (λ (l : List Item). TookPieces (written old) (written new) (pieces l) (Some front.whole)) (sym unsent) front.took in
       let here : HasFailed written faults plan failed q old new front.whole = record {
         ended = ended_now plan empty past (Egress port) hows.Failed;
@@ -83,7 +83,7 @@ module _ {K : Type 0} (written : K → Option (List ℕ)) (faults : K → ℕ) (
         output = subst (λ (l : List Row). HasFailed written faults plan l q old new front.whole) (sym front.past) here;
         made_so = λ stops allowed.
             front.past
-            ∙ sym (a_failure plan stops port past (subst (λ (o : Option ℕ). is_stopped o (pieces_by empty q past) ≡ true) (sym allowed) (stopped_more front.whole (pieces_by empty q past) (omega (arith, size, inside)))));
+            ∙ sym (a_failure plan stops port past (subst (λ (o : Option ℕ). is_stopped o (pieces_by plan empty q past) ≡ true) (sym allowed) (stopped_more front.whole (pieces_by plan empty q past) (omega (arith, size, inside)))));
       }
 
 fresh_kept : (plan : Plan) (n : ℕ) (past now : List Row) → KeepsOutput plan n past now → IsFresh plan past n → IsFresh plan now n
@@ -96,7 +96,7 @@ fresh_kept plan n past now keeps fresh = record {
 
 -- what is allowed at the ports below a place
 abbrev pub AllowedBelow : Plan → ℕ → Stops → Stops → List Row → Type 0
-AllowedBelow plan place known stops past = (k : ℕ) → k < place → Allows (known (number_at plan k)) (stops (number_at plan k)) (pieces_by empty (number_at plan k) past)
+AllowedBelow plan place known stops past = (k : ℕ) → k < place → Allows (known (number_at plan k)) (stops (number_at plan k)) (pieces_by plan empty (number_at plan k) past)
 
 -- the outputs of the ports below a place are begun
 pub record BeginsSoFar {S K C : Type 0} (written : K → Option (List ℕ)) (faults : K → ℕ) (place : ℕ) (first now : Machine) (old new : List (PortEnds S K C)) : Type 0 where
@@ -190,7 +190,7 @@ module _ {S K C : Type 0} (written : K → Option (List ℕ)) (faults : K → �
     next_is : (stops : Stops) → AllowedBelow first.plan (place + 1) known_now stops next.past → next.past ≡ made stops
     next_is stops allowed =
         made_here written faults first.plan so_far.known now.past next.past x x y made refl (omega arith) only leaves step stops
-        (subst (λ (n : ℕ). Allows (known_now n) (stops n) (pieces_by empty n next.past)) (sym number_here) (allowed place (omega arith)))
+        (subst (λ (n : ℕ). Allows (known_now n) (stops n) (pieces_by plan empty n next.past)) (sym number_here) (allowed place (omega arith)))
 
     rest_is : (stops : Stops) → AllowedBelow first.plan (place + 1) known_now stops next.past → begun first.plan empty stops (drop (place + 1) first.plan.ports) next.past ≡ begun first.plan empty stops (drop place first.plan.ports) now.past
     rest_is stops allowed =

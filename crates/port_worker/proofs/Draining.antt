@@ -79,16 +79,16 @@ module _ {S K C : Type 0} (written : K → Option (List ℕ)) (faults : K → �
       }
 
   -- what is allowed behind the step was allowed before it, and the step made it
-  pub allowed_here : (stop : Option ℕ) → Allows (later (number_of x.port)) stop (pieces_by empty (number_of x.port) now) → Allows step.later stop (pieces_by empty (number_of x.port) now)
-  allowed_here stop = subst (λ (o : Option ℕ). Allows o stop (pieces_by empty (number_of x.port) now)) (known_here known (number_of x.port) (number_of x.port) step.later refl)
+  pub allowed_here : (stop : Option ℕ) → Allows (later (number_of x.port)) stop (pieces_by plan empty (number_of x.port) now) → Allows step.later stop (pieces_by plan empty (number_of x.port) now)
+  allowed_here stop = subst (λ (o : Option ℕ). Allows o stop (pieces_by plan empty (number_of x.port) now)) (known_here known (number_of x.port) (number_of x.port) step.later refl)
 
-  pub made_here : (stops : Stops) → Allows (later (number_of x.port)) (stops (number_of x.port)) (pieces_by empty (number_of x.port) now) → now ≡ made stops
+  pub made_here : (stops : Stops) → Allows (later (number_of x.port)) (stops (number_of x.port)) (pieces_by plan empty (number_of x.port) now) → now ≡ made stops
   made_here stops allowed = step.made_so stops (allowed_here (stops (number_of x.port)) allowed)
 
-  pub allowed_there : (n : ℕ) (stop : Option ℕ) → number_of x.port ≢ n → egress_pass plan (number_of x.port) ≢ egress_pass plan n → Allows (later n) stop (pieces_by empty n now) → Allows (known n) stop (pieces_by empty n past)
+  pub allowed_there : (n : ℕ) (stop : Option ℕ) → number_of x.port ≢ n → egress_pass plan (number_of x.port) ≢ egress_pass plan n → Allows (later n) stop (pieces_by plan empty n now) → Allows (known n) stop (pieces_by plan empty n past)
   allowed_there n stop apart passes allowed =
       subst (λ (c : ℕ). Allows (known n) stop c) (keeps_pieces plan n past now (leaves.keeps n apart passes))
-      (subst (λ (o : Option ℕ). Allows o stop (pieces_by empty n now)) (known_there known (number_of x.port) n step.later (λ same. apart (sym same))) allowed)
+      (subst (λ (o : Option ℕ). Allows o stop (pieces_by plan empty n now)) (known_there known (number_of x.port) n step.later (λ same. apart (sym same))) allowed)
 
 -- what the ports below a place made of the outputs, from what was known before
 pub record DrainedSoFar {S K C : Type 0} (written : K → Option (List ℕ)) (faults : K → ℕ) (plan : Plan) (place : ℕ) (known : Stops) (past now : List Row) (first new : List (PortEnds S K C)) : Type 0 where
@@ -228,14 +228,14 @@ module _ {S K C : Type 0} (written : K → Option (List ℕ)) (faults : K → �
         (output_there written faults first.plan before.later now.past next.past o x y made was.port was.later only leaves step (get_or start k d) (get_or new k d)
         (λ e. apart k (within_old k within) other (e ∙ number_start k d within)) (λ e. passes_apart k (within_old k within) other (e ∙ ap (egress_pass first.plan) (number_start k d within))) (before.outputs.each k d within))
 
-    allowed_at : (stops : Stops) (k : ℕ) → k < length old → (k ≡ place) ⊎ (k ≢ place) → Allows (known_now (number_at first.plan k)) (stops (number_at first.plan k)) (pieces_by empty (number_at first.plan k) next.past)
-        → Allows (before.later (number_at first.plan k)) (stops (number_at first.plan k)) (pieces_by empty (number_at first.plan k) now.past)
+    allowed_at : (stops : Stops) (k : ℕ) → k < length old → (k ≡ place) ⊎ (k ≢ place) → Allows (known_now (number_at first.plan k)) (stops (number_at first.plan k)) (pieces_by plan empty (number_at first.plan k) next.past)
+        → Allows (before.later (number_at first.plan k)) (stops (number_at first.plan k)) (pieces_by plan empty (number_at first.plan k) now.past)
     allowed_at stops k within (inl same) allowed =
         let here : number_of x.port ≡ number_at first.plan k = number_here ∙ ap (number_at first.plan) (sym same) in
-        subst (λ (n : ℕ). Allows (before.later n) (stops n) (pieces_by empty n now.past)) here
+        subst (λ (n : ℕ). Allows (before.later n) (stops n) (pieces_by plan empty n now.past)) here
         (drain.before (stops (number_of x.port))
         (allowed_here written faults first.plan before.later now.past next.past o x y made was.port was.later only leaves step (stops (number_of x.port))
-        (subst (λ (n : ℕ). Allows (known_now n) (stops n) (pieces_by empty n next.past)) (sym here) allowed)))
+        (subst (λ (n : ℕ). Allows (known_now n) (stops n) (pieces_by plan empty n next.past)) (sym here) allowed)))
     allowed_at stops k within (inr other) allowed =
         allowed_there written faults first.plan before.later now.past next.past o x y made was.port was.later only leaves step (number_at first.plan k) (stops (number_at first.plan k)) (apart k within other) (passes_apart k within other) allowed
 
@@ -243,7 +243,7 @@ module _ {S K C : Type 0} (written : K → Option (List ℕ)) (faults : K → �
     allowed_before stops allowed k d within =
         let count = count_is old first.plan planned in
         let size = length-numbers first.plan.ports in
-        subst (λ (n : ℕ). Allows (before.later n) (stops n) (pieces_by empty n now.past)) (get_or_default (numbers_of first.plan.ports) k 0 d within)
+        subst (λ (n : ℕ). Allows (before.later n) (stops n) (pieces_by plan empty n now.past)) (get_or_default (numbers_of first.plan.ports) k 0 d within)
         (allowed_at stops k (omega arith) (cases_eq k place) (allowed k 0 within))
 
     next_is : (stops : Stops) → AreAllowed first.plan known_now stops next.past → next.past ≡ made stops
@@ -252,7 +252,7 @@ module _ {S K C : Type 0} (written : K → Option (List ℕ)) (faults : K → �
         let size = length-numbers first.plan.ports in
         let here = inside_old in
         made_here written faults first.plan before.later now.past next.past o x y made was.port was.later only leaves step stops
-        (subst (λ (n : ℕ). Allows (known_now n) (stops n) (pieces_by empty n next.past)) (sym number_here) (allowed place 0 (omega arith)))
+        (subst (λ (n : ℕ). Allows (known_now n) (stops n) (pieces_by plan empty n next.past)) (sym number_here) (allowed place 0 (omega arith)))
 
     rest_is : (stops : Stops) → AreAllowed first.plan known_now stops next.past → drained first.plan empty stops (drop (place + 1) first.plan.ports) next.past ≡ drained first.plan empty stops (drop place first.plan.ports) now.past
     rest_is stops allowed =

@@ -15,18 +15,18 @@ use Rattle.port_worker.specs.Outputs.{IsOutput, IsOutputEnded}
 use Rattle.port_worker.proofs.Pieces.{pieces_joined}
 
 module _ {K : Type 0} (written : K → Option (List ℕ)) (faults : K → ℕ) (plan : Plan) (past now : List Row) (n : ℕ) (old new : K) where
-  pub took_of : (known : Option ℕ) → IsOutput written faults plan past n old new known → IsOutputEnded plan past now n → TookPieces (written old) (written new) (pieces (sent empty n now)) known
+  pub took_of : (known : Option ℕ) → IsOutput written faults plan past n old new known → IsOutputEnded plan past now n → TookPieces (written old) (written new) (pieces (sent plan empty n now)) known
   took_of None output ended = subst (λ (l : List Item). TookPieces (written old) (written new) (pieces l) None) (sym ended.sent_same) output.took
   took_of (Some whole) output ended = subst (λ (l : List Item). TookPieces (written old) (written new) (pieces l) (Some whole)) (sym ended.sent_same) output.took
 
-  pub fit_of : (known : Option ℕ) → IsOutput written faults plan past n old new known → IsOutputEnded plan past now n → FitsOutputAt empty (written old) (written new) n now
+  pub fit_of : (known : Option ℕ) → IsOutput written faults plan past n old new known → IsOutputEnded plan past now n → FitsOutputAt plan empty (written old) (written new) n now
   fit_of None output ended =
-      subst (λ (o : Option How). FitsOutput (written old) (written new) (capture_text (sent_items (sent empty n now))) (text_before_last_drain empty n now) o) (sym (ended.ended output.running))
-      (took_of None output ended ∙ ap (behind (written old)) (pieces_joined (sent empty n now)))
+      subst (λ (o : Option How). FitsOutput (written old) (written new) (capture_text (sent_items (sent plan empty n now))) (text_before_last_drain plan empty n now) o) (sym (ended.ended output.running))
+      (took_of None output ended ∙ ap (behind (written old)) (pieces_joined (sent plan empty n now)))
   fit_of (Some whole) output ended =
-      subst (λ (l : List Item). FitsOutput (written old) (written new) (capture_text (sent_items l)) (text_before_last_drain empty n now) (output_end n now)) (sym ended.sent_same)
-      (subst (λ (s : List ℕ). FitsOutput (written old) (written new) (capture_text (sent_items (sent empty n past))) s (output_end n now)) (sym ended.sure_same)
-      (subst (λ (o : Option How). FitsOutput (written old) (written new) (capture_text (sent_items (sent empty n past))) (text_before_last_drain empty n past) o) (sym (ended.still output.ended)) output.fits))
+      subst (λ (l : List Item). FitsOutput (written old) (written new) (capture_text (sent_items l)) (text_before_last_drain plan empty n now) (output_end n now)) (sym ended.sent_same)
+      (subst (λ (s : List ℕ). FitsOutput (written old) (written new) (capture_text (sent_items (sent plan empty n past))) s (output_end n now)) (sym ended.sure_same)
+      (subst (λ (o : Option How). FitsOutput (written old) (written new) (capture_text (sent_items (sent plan empty n past))) (text_before_last_drain plan empty n past) o) (sym (ended.still output.ended)) output.fits))
 
   pub broken_of : (known : Option ℕ) → IsOutput written faults plan past n old new known → IsOutputEnded plan past now n → output_end n now ≡ Some hows.Failed → Rose (faults old) (faults new)
   broken_of None output ended failed = let e : Some hows.End ≡ Some hows.Failed = sym (ended.ended output.running) ∙ failed in cc

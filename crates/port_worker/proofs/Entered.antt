@@ -46,11 +46,11 @@ module _ (plan : Plan) (stops : Stops) (past : List Row) where
   ended_entered_done (Arrives port a) is = rw (not_true (has_room plan past) is) (ended_now plan empty past (Ingress port) (hows.Full (length past)))
   ended_entered_done (Ends who how) is = ended_now plan empty past who how
 
-  quiet_at : (port : Port) (a : Arrival) (k : ℕ) (b : Bool) → k < length plan.ports → queue empty (number_at plan k) past ≡ []
-      → queue empty (number_at plan k) (if b then drained plan empty stops plan.ports (with_event plan empty past (event_of port a)) else with_event plan empty past (End (Ingress port) (hows.Full (length past)))) ≡ []
+  quiet_at : (port : Port) (a : Arrival) (k : ℕ) (b : Bool) → k < length plan.ports → queue plan empty (number_at plan k) past ≡ []
+      → queue plan empty (number_at plan k) (if b then drained plan empty stops plan.ports (with_event plan empty past (event_of port a)) else with_event plan empty past (End (Ingress port) (hows.Full (length past)))) ≡ []
   quiet_at port a k true inside none = drained_empty plan empty stops plan.ports (with_event plan empty past (event_of port a)) k inside
   quiet_at port a k false inside none = empty_end plan empty past (Ingress port) (hows.Full (length past)) (number_at plan k) none
 
-  pub quiet_entered : (t : Turn) (k : ℕ) → k < length plan.ports → queue empty (number_at plan k) past ≡ [] → queue empty (number_at plan k) (entered plan empty stops t past) ≡ []
+  pub quiet_entered : (t : Turn) (k : ℕ) → k < length plan.ports → queue plan empty (number_at plan k) past ≡ [] → queue plan empty (number_at plan k) (entered plan empty stops t past) ≡ []
   quiet_entered (Arrives port a) k inside none = quiet_at port a k (has_room plan past) inside none
   quiet_entered (Ends who how) k inside none = empty_end plan empty past who how (number_at plan k) none

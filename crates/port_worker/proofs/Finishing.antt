@@ -40,7 +40,7 @@ pub record FinishesSoFar (plan : Plan) (place : ℕ) (first now : Machine) : Typ
   pub plan_is : now.plan ≡ plan
   pub past : egress_ended plan empty (drop place plan.ports) now.past ≡ egress_ended plan empty plan.ports (replay.with_event plan empty first.past (End Ticker hows.End))
   pub ended : AllEnded empty (ticker_pass plan + 1 + place) now.past
-  pub quiet : (q : ℕ) → queue empty q first.past ≡ [] → queue empty q now.past ≡ []
+  pub quiet : (q : ℕ) → queue plan empty q first.past ≡ [] → queue plan empty q now.past ≡ []
   pub outputs : (k : ℕ) → k < place → IsOutputEnded plan first.past now.past (number_at plan k)
   pub keeps : (k : ℕ) → place ≤ k → k < length plan.ports → KeepsOutput plan (number_at plan k) first.past now.past
 

@@ -27,19 +27,19 @@ use Rattle.port_worker.specs.Drains.{with_failed}
 use Rattle.port_worker.specs.Outputs.{IsOutput}
 
 pub record KeepsOutput (plan : Plan) (n : ℕ) (past now : List Row) : Type 0 where
-  pub sent_same : sent empty n now ≡ sent empty n past
+  pub sent_same : sent plan empty n now ≡ sent plan empty n past
   pub ended_same : has_ended empty (egress_pass plan n) now ≡ has_ended empty (egress_pass plan n) past
   pub end_same : output_end n now ≡ output_end n past
-  pub sure_same : text_before_last_drain empty n now ≡ text_before_last_drain empty n past
-  pub quiet : has_ended empty (egress_pass plan n) past ≡ true → queue empty n past ≡ [] → queue empty n now ≡ []
+  pub sure_same : text_before_last_drain plan empty n now ≡ text_before_last_drain plan empty n past
+  pub quiet : has_ended empty (egress_pass plan n) past ≡ true → queue plan empty n past ≡ [] → queue plan empty n now ≡ []
 
 pub keeps_same : (plan : Plan) (n : ℕ) (past now : List Row) → now ≡ past → KeepsOutput plan n past now
 keeps_same plan n past now same = record {
-  sent_same = ap (λ (l : List Row). sent empty n l) same;
+  sent_same = ap (λ (l : List Row). sent plan empty n l) same;
   ended_same = ap (λ (l : List Row). has_ended empty (egress_pass plan n) l) same;
   end_same = ap (λ (l : List Row). output_end n l) same;
-  sure_same = ap (λ (l : List Row). text_before_last_drain empty n l) same;
-  quiet = λ ended none. ap (λ (l : List Row). queue empty n l) same ∙ none;
+  sure_same = ap (λ (l : List Row). text_before_last_drain plan empty n l) same;
+  quiet = λ ended none. ap (λ (l : List Row). queue plan empty n l) same ∙ none;
 }
 
 pub keeps_then : (plan : Plan) (n : ℕ) (past mid now : List Row) → KeepsOutput plan n past mid → KeepsOutput plan n mid now → KeepsOutput plan n past now
@@ -51,14 +51,14 @@ keeps_then plan n past mid now one two = record {
   quiet = λ ended none. two.quiet (one.ended_same ∙ ended) (one.quiet ended none);
 }
 
-pub keeps_pieces : (plan : Plan) (n : ℕ) (past now : List Row) → KeepsOutput plan n past now → pieces_by empty n now ≡ pieces_by empty n past
+pub keeps_pieces : (plan : Plan) (n : ℕ) (past now : List Row) → KeepsOutput plan n past now → pieces_by plan empty n now ≡ pieces_by plan empty n past
 keeps_pieces plan n past now keeps = ap (λ (l : List Item). suc (length l)) keeps.sent_same
 
-fits_kept : (plan : Plan) (n : ℕ) (past now : List Row) (before after : Option (List ℕ)) → KeepsOutput plan n past now → FitsOutputAt empty before after n past → FitsOutputAt empty before after n now
+fits_kept : (plan : Plan) (n : ℕ) (past now : List Row) (before after : Option (List ℕ)) → KeepsOutput plan n past now → FitsOutputAt plan empty before after n past → FitsOutputAt plan empty before after n now
 fits_kept plan n past now before after keeps fits =
-    subst (λ (l : List Item). FitsOutput before after (capture_text (sent_items l)) (text_before_last_drain empty n now) (output_end n now)) (sym keeps.sent_same)
-    (subst (λ (s : List ℕ). FitsOutput before after (capture_text (sent_items (sent empty n past))) s (output_end n now)) (sym keeps.sure_same)
-    (subst (λ (o : Option How). FitsOutput before after (capture_text (sent_items (sent empty n past))) (text_before_last_drain empty n past) o) (sym keeps.end_same) fits))
+    subst (λ (l : List Item). FitsOutput before after (capture_text (sent_items l)) (text_before_last_drain plan empty n now) (output_end n now)) (sym keeps.sent_same)
+    (subst (λ (s : List ℕ). FitsOutput before after (capture_text (sent_items (sent plan empty n past))) s (output_end n now)) (sym keeps.sure_same)
+    (subst (λ (o : Option How). FitsOutput before after (capture_text (sent_items (sent plan empty n past))) (text_before_last_drain plan empty n past) o) (sym keeps.end_same) fits))
 
 pub output_kept : {K : Type 0} (written : K → Option (List ℕ)) (faults : K → ℕ) (plan : Plan) (n : ℕ) (past now : List Row) (old new : K) (known : Option ℕ) → KeepsOutput plan n past now → IsOutput written faults plan past n old new known → IsOutput written faults plan now n old new known
 output_kept written faults plan n past now old new None keeps was = record {
@@ -79,7 +79,7 @@ apart : (m n : ℕ) → m ≢ n → (m == n) ≡ false
 apart m n other = grind (arith, nat_tests)
 
 -- a drain of another port
-pub queue_drain : (plan : Plan) (past : List Row) (port : Port) (count n : ℕ) → number_of port ≢ n → queue empty n (with_event plan empty past (Drain port count)) ≡ queue empty n past
+pub queue_drain : (plan : Plan) (past : List Row) (port : Port) (count n : ℕ) → number_of port ≢ n → queue plan empty n (with_event plan empty past (Drain port count)) ≡ queue plan empty n past
 queue_drain plan past port count n other = rw (apart (number_of port) n other) refl
 
 pub keeps_drain : (plan : Plan) (past : List Row) (port : Port) (count n : ℕ) → number_of port ≢ n → KeepsOutput plan n past (with_event plan empty past (Drain port count))
@@ -102,7 +102,7 @@ keeps_egress plan past port how n other pass = record {
 }
 
 -- a write that failed at another port
-pub queue_failed : (plan : Plan) (past : List Row) (port : Port) (n : ℕ) → number_of port ≢ n → queue empty n (with_failed plan port past) ≡ queue empty n past
+pub queue_failed : (plan : Plan) (past : List Row) (port : Port) (n : ℕ) → number_of port ≢ n → queue plan empty n (with_failed plan port past) ≡ queue plan empty n past
 queue_failed plan past port n other = rw (apart (number_of port) n other) refl
 
 pub keeps_failed : (plan : Plan) (past : List Row) (port : Port) (n : ℕ) → number_of port ≢ n → egress_pass plan (number_of port) ≢ egress_pass plan n → KeepsOutput plan n past (with_failed plan port past)
@@ -157,7 +157,7 @@ left_out plan past port stamp octets k inside ended =
     queued_at (is_member out n) (is_member (cuts plan empty past out) n) (λ goes. member_chosen test plan.ports k inside (and_from _ _ goes closed))
 
 pub closed_arrival : (plan : Plan) (past : List Row) (port : Port) (arrival : Arrival) (k : ℕ) → k < length plan.ports → has_ended empty (egress_pass plan (number_at plan k)) past ≡ true
-    → queue empty (number_at plan k) (with_event plan empty past (event_of port arrival)) ≡ queue empty (number_at plan k) past
+    → queue plan empty (number_at plan k) (with_event plan empty past (event_of port arrival)) ≡ queue plan empty (number_at plan k) past
 closed_arrival plan past port (arrivals.Frame stamp octets) k inside ended = rw (left_out plan past port stamp octets k inside ended) refl
 closed_arrival plan past port (arrivals.Long stamp len) k inside ended = refl
 
@@ -165,7 +165,7 @@ end_arrival : (plan : Plan) (past : List Row) (port : Port) (arrival : Arrival) 
 end_arrival plan past port (arrivals.Frame stamp octets) n = refl
 end_arrival plan past port (arrivals.Long stamp len) n = refl
 
-sure_arrival : (plan : Plan) (past : List Row) (port : Port) (arrival : Arrival) (n : ℕ) → text_before_last_drain empty n (with_event plan empty past (event_of port arrival)) ≡ text_before_last_drain empty n past
+sure_arrival : (plan : Plan) (past : List Row) (port : Port) (arrival : Arrival) (n : ℕ) → text_before_last_drain plan empty n (with_event plan empty past (event_of port arrival)) ≡ text_before_last_drain plan empty n past
 sure_arrival plan past port (arrivals.Frame stamp octets) n = refl
 sure_arrival plan past port (arrivals.Long stamp len) n = refl
 

@@ -64,12 +64,12 @@ drain_longer : (plan : Plan) (stops : Stops) (port : Port) (count : ℕ) (past :
 drain_longer plan stops port count past true = omega arith
 drain_longer plan stops port count past false =
     let mid = with_event plan empty past (Drain port count) in
-    let more = failure_longer plan mid port (is_stopped (stops (number_of port)) (pieces_by empty (number_of port) mid)) in omega arith
+    let more = failure_longer plan mid port (is_stopped (stops (number_of port)) (pieces_by plan empty (number_of port) mid)) in omega arith
 
 drained_longer : (plan : Plan) (stops : Stops) (ports : List PortPlan) (past : List Row) → length past ≤ length (drained plan empty stops ports past)
 drained_longer plan stops [] past = omega arith
 drained_longer plan stops (q ∷ qs) past =
-    let count = length (queue empty (number_of q.number) past) in
+    let count = length (queue plan empty (number_of q.number) past) in
     let one = drain_longer plan stops q.number count past (count == 0) in
     let more = drained_longer plan stops qs (with_drain plan empty stops q.number count past) in
     omega arith

@@ -41,10 +41,10 @@ not_stopped whole m less = grind (arith, nat_tests)
 pub stopped_more : (whole m : ℕ) → whole < m → is_stopped (Some whole) m ≡ true
 stopped_more whole m less = grind (arith, nat_tests)
 
-pub no_failure : (plan : Plan) (stops : Stops) (port : Port) (past : List Row) → is_stopped (stops (number_of port)) (pieces_by empty (number_of port) past) ≡ false → with_failure plan empty stops port past ≡ past
+pub no_failure : (plan : Plan) (stops : Stops) (port : Port) (past : List Row) → is_stopped (stops (number_of port)) (pieces_by plan empty (number_of port) past) ≡ false → with_failure plan empty stops port past ≡ past
 no_failure plan stops port past is = rw is refl
 
-pub a_failure : (plan : Plan) (stops : Stops) (port : Port) (past : List Row) → is_stopped (stops (number_of port)) (pieces_by empty (number_of port) past) ≡ true → with_failure plan empty stops port past ≡ with_failed plan port past
+pub a_failure : (plan : Plan) (stops : Stops) (port : Port) (past : List Row) → is_stopped (stops (number_of port)) (pieces_by plan empty (number_of port) past) ≡ true → with_failure plan empty stops port past ≡ with_failed plan port past
 a_failure plan stops port past is = rw is refl
 
 some_length : (items : List Item) → items ≢ [] → (length items == 0) ≡ false
@@ -55,23 +55,23 @@ some_length (x ∷ items) some = grind (arith, nat_tests)
 pub record PortStep {K : Type 0} (written : K → Option (List ℕ)) (faults : K → ℕ) (plan : Plan) (port : Port) (now : List Row) (first new : K) (made : Stops → List Row) : Type 0 where
   pub later : Option ℕ
   pub output : IsOutput written faults plan now (number_of port) first new later
-  pub made_so : (stops : Stops) → Allows later (stops (number_of port)) (pieces_by empty (number_of port) now) → now ≡ made stops
+  pub made_so : (stops : Stops) → Allows later (stops (number_of port)) (pieces_by plan empty (number_of port) now) → now ≡ made stops
 
 -- the same of a drain, before which something was known already
 pub record DrainStep {K : Type 0} (written : K → Option (List ℕ)) (faults : K → ℕ) (plan : Plan) (port : Port) (known : Option ℕ) (past now : List Row) (first new : K) (made : Stops → List Row) : Type 0 where
   pub step : PortStep written faults plan port now first new made
-  pub before : (stop : Option ℕ) → Allows step.later stop (pieces_by empty (number_of port) now) → Allows known stop (pieces_by empty (number_of port) past)
+  pub before : (stop : Option ℕ) → Allows step.later stop (pieces_by plan empty (number_of port) now) → Allows known stop (pieces_by plan empty (number_of port) past)
 
 -- what it leaves of the outputs of other ports, and of all ends
 pub record PortLeaves (plan : Plan) (port : Port) (past now : List Row) : Type 0 where
   pub keeps : (n : ℕ) → number_of port ≢ n → egress_pass plan (number_of port) ≢ egress_pass plan n → KeepsOutput plan n past now
-  pub queues : (n : ℕ) → number_of port ≢ n → queue empty n now ≡ queue empty n past
+  pub queues : (n : ℕ) → number_of port ≢ n → queue plan empty n now ≡ queue plan empty n past
   pub later : Later empty past now
 
 pub leaves_same : (plan : Plan) (port : Port) (past now : List Row) → now ≡ past → PortLeaves plan port past now
 leaves_same plan port past now same = record {
   keeps = λ n other pass. keeps_same plan n past now same;
-  queues = λ n other. ap (λ (l : List Row). queue empty n l) same;
+  queues = λ n other. ap (λ (l : List Row). queue plan empty n l) same;
   later = λ pass ended. ap (λ (l : List Row). has_ended empty pass l) same ∙ ended;
 }
 
@@ -110,19 +110,19 @@ leaves_drained written faults plan past now x y (inr drained) =
 itself_at : (n : ℕ) → (n == n) ≡ true
 itself_at n = grind (arith, nat_tests)
 
-pub quiet_failed : (plan : Plan) (port : Port) (past : List Row) → queue empty (number_of port) (with_failed plan port past) ≡ []
+pub quiet_failed : (plan : Plan) (port : Port) (past : List Row) → queue plan empty (number_of port) (with_failed plan port past) ≡ []
 quiet_failed plan port past = rw (itself_at (number_of port)) refl
 
-quiet_whole : (plan : Plan) (port : Port) (past : List Row) → queue empty (number_of port) (with_event plan empty past (Drain port (length (waiting_at port past)))) ≡ []
+quiet_whole : (plan : Plan) (port : Port) (past : List Row) → queue plan empty (number_of port) (with_event plan empty past (Drain port (length (waiting_at port past)))) ≡ []
 quiet_whole plan port past = rw (itself_at (number_of port)) (drop_all (length (waiting_at port past)) (waiting_at port past) (omega arith))
 
-quiet_written : {K : Type 0} (written : K → Option (List ℕ)) (faults : K → ℕ) (plan : Plan) (port : Port) (past now : List Row) (given : List (List ℕ)) (old new : K) → IsWritten written faults plan port past now given old new → queue empty (number_of port) past ≡ [] → queue empty (number_of port) now ≡ []
-quiet_written written faults plan port past now given old new (inl all) none = ap (λ (l : List Row). queue empty (number_of port) l) all.past ∙ none
-quiet_written written faults plan port past now given old new (inr front) none = ap (λ (l : List Row). queue empty (number_of port) l) front.past ∙ quiet_failed plan port past
+quiet_written : {K : Type 0} (written : K → Option (List ℕ)) (faults : K → ℕ) (plan : Plan) (port : Port) (past now : List Row) (given : List (List ℕ)) (old new : K) → IsWritten written faults plan port past now given old new → queue plan empty (number_of port) past ≡ [] → queue plan empty (number_of port) now ≡ []
+quiet_written written faults plan port past now given old new (inl all) none = ap (λ (l : List Row). queue plan empty (number_of port) l) all.past ∙ none
+quiet_written written faults plan port past now given old new (inr front) none = ap (λ (l : List Row). queue plan empty (number_of port) l) front.past ∙ quiet_failed plan port past
 
 -- nothing waits at a port that was drained
-pub emptied : {S K C : Type 0} (written : K → Option (List ℕ)) (faults : K → ℕ) (plan : Plan) (past now : List Row) (x y : PortEnds S K C) → IsDrained written faults plan past now x y → queue empty (number_of x.port) now ≡ []
-emptied written faults plan past now x y (inl quiet) = ap (λ (l : List Row). queue empty (number_of x.port) l) quiet.past_same ∙ quiet.none
+pub emptied : {S K C : Type 0} (written : K → Option (List ℕ)) (faults : K → ℕ) (plan : Plan) (past now : List Row) (x y : PortEnds S K C) → IsDrained written faults plan past now x y → queue plan empty (number_of x.port) now ≡ []
+emptied written faults plan past now x y (inl quiet) = ap (λ (l : List Row). queue plan empty (number_of x.port) l) quiet.past_same ∙ quiet.none
 emptied written faults plan past now x y (inr drained) =
     quiet_written written faults plan x.port (with_event plan empty past (Drain x.port (length (waiting_at x.port past)))) now (records (waiting_at x.port past)) x.ends.sink y.ends.sink drained.wrote (quiet_whole plan x.port past)
 
@@ -135,15 +135,15 @@ pub end_failed : (plan : Plan) (port : Port) (past : List Row) → output_end (n
 end_failed plan port past = rw (itself_at (number_of port)) refl
 
 -- What a sink took up to a failed write fits, where it holds what was sent before the last drain.
-pub fits_front : (plan : Plan) (port : Port) (past : List Row) (before after : Option (List ℕ)) (given : List (List ℕ)) (whole : ℕ) (took : TookPieces before after given (Some whole)) → pieces (sent empty (number_of port) (with_failed plan port past)) ≡ given
-    → IsFront (text_before_last_drain empty (number_of port) past) (concat (take whole given) ++ took.1) → FitsOutputAt empty before after (number_of port) (with_failed plan port past)
+pub fits_front : (plan : Plan) (port : Port) (past : List Row) (before after : Option (List ℕ)) (given : List (List ℕ)) (whole : ℕ) (took : TookPieces before after given (Some whole)) → pieces (sent plan empty (number_of port) (with_failed plan port past)) ≡ given
+    → IsFront (text_before_last_drain plan empty (number_of port) past) (concat (take whole given) ++ took.1) → FitsOutputAt plan empty before after (number_of port) (with_failed plan port past)
 fits_front plan port past before after given whole took given_is sure =
     let q = number_of port in
     let failed = with_failed plan port past in
-    let joined : concat given ≡ capture_text (sent_items (sent empty q failed)) = ap (λ (l : List (List ℕ)). concat l) (sym given_is) ∙ pieces_joined (sent empty q failed) in
-    let front : IsFront (concat (take whole given) ++ took.1) (capture_text (sent_items (sent empty q failed))) =
+    let joined : concat given ≡ capture_text (sent_items (sent plan empty q failed)) = ap (λ (l : List (List ℕ)). concat l) (sym given_is) ∙ pieces_joined (sent plan empty q failed) in
+    let front : IsFront (concat (take whole given) ++ took.1) (capture_text (sent_items (sent plan empty q failed))) =
     subst (λ (l : List ℕ). IsFront (concat (take whole given) ++ took.1) l) joined (front_of_all given whole took.1 took.2 took.0) in
-    subst (λ (o : Option How). FitsOutput before after (capture_text (sent_items (sent empty q failed))) (text_before_last_drain empty q failed) o) (sym (end_failed plan port past))
+    subst (λ (o : Option How). FitsOutput before after (capture_text (sent_items (sent plan empty q failed))) (text_before_last_drain plan empty q failed) o) (sym (end_failed plan port past))
     (concat (take whole given) ++ took.1, took.3, front, sure)
 
 module _ {K : Type 0} (written : K → Option (List ℕ)) (faults : K → ℕ) (plan : Plan) (port : Port) (past now : List Row) (first old new : K) where
@@ -169,18 +169,18 @@ module _ {K : Type 0} (written : K → Option (List ℕ)) (faults : K → ℕ) (
           output = subst (λ (l : List Row). IsOutput written faults plan l q first new known) (sym past_same) (subst (λ (k : K). IsOutput written faults plan past q first k known) (sym same) output);
           made_so = λ stops allowed. past_same ∙ rw zero_is refl;
         };
-        before = λ stop allowed. subst (λ (l : List Row). Allows known stop (pieces_by empty q l)) past_same allowed;
+        before = λ stop allowed. subst (λ (l : List Row). Allows known stop (pieces_by plan empty q l)) past_same allowed;
       }
 
   module _ (some : items ≢ []) where
     drained_is : (stops : Stops) → made stops ≡ with_failure plan empty stops port mid
     drained_is stops = rw (some_length items some) refl
 
-    sent_mid : sent empty q mid ≡ sent empty q past ++ items
-    sent_mid = sent_here plan empty past port (length items) ∙ ap (λ (l : List Item). sent empty q past ++ l) (take_all (length items) items (omega arith))
+    sent_mid : sent plan empty q mid ≡ sent plan empty q past ++ items
+    sent_mid = sent_here plan empty past port (length items) ∙ ap (λ (l : List Item). sent plan empty q past ++ l) (take_all (length items) items (omega arith))
 
-    pieces_mid : pieces_by empty q mid ≡ pieces_by empty q past + length items
-    pieces_mid = let sizes = length-append (sent empty q past) items in let e : length (sent empty q mid) ≡ length (sent empty q past) + length items = ap (λ (l : List Item). length l) sent_mid ∙ sizes in omega arith
+    pieces_mid : pieces_by plan empty q mid ≡ pieces_by plan empty q past + length items
+    pieces_mid = let sizes = length-append (sent plan empty q past) items in let e : length (sent plan empty q mid) ≡ length (sent plan empty q past) + length items = ap (λ (l : List Item). length l) sent_mid ∙ sizes in omega arith
 
     -- all was written
     pub drained_step : now ≡ mid → TookPieces (written old) (written new) (records items) None → GoesOn written plan past q first old → DrainStep written faults plan port None past now first new made
@@ -188,50 +188,50 @@ module _ {K : Type 0} (written : K → Option (List ℕ)) (faults : K → ℕ) (
         let here : GoesOn written plan mid q first new = record {
           running = was.running;
           none = was.none;
-          took = subst (λ (l : List (List ℕ)). TookPieces (written first) (written new) l None) (sym (ap pieces sent_mid ∙ pieces-append (sent empty q past) items))
-              (took_then (written first) (written old) (written new) (pieces (sent empty q past)) (records items) was.took took);
+          took = subst (λ (l : List (List ℕ)). TookPieces (written first) (written new) l None) (sym (ap pieces sent_mid ∙ pieces-append (sent plan empty q past) items))
+              (took_then (written first) (written old) (written new) (pieces (sent plan empty q past)) (records items) was.took took);
         } in
         let more = pieces_mid in
         record {
           step = record {
             later = None;
             output = subst (λ (l : List Row). GoesOn written plan l q first new) (sym now_is) here;
-            made_so = λ stops allowed. now_is ∙ sym (drained_is stops ∙ no_failure plan stops port mid (subst (λ (l : List Row). is_stopped (stops q) (pieces_by empty q l) ≡ false) now_is allowed));
+            made_so = λ stops allowed. now_is ∙ sym (drained_is stops ∙ no_failure plan stops port mid (subst (λ (l : List Row). is_stopped (stops q) (pieces_by plan empty q l) ≡ false) now_is allowed));
           };
           before = λ stop allowed.
-              stopped_less stop (pieces_by empty q past) (pieces_by empty q mid) (omega (arith, more)) (subst (λ (l : List Row). is_stopped stop (pieces_by empty q l) ≡ false) now_is allowed);
+              stopped_less stop (pieces_by plan empty q past) (pieces_by plan empty q mid) (omega (arith, more)) (subst (λ (l : List Row). is_stopped stop (pieces_by plan empty q l) ≡ false) now_is allowed);
         }
 
     -- a write failed
     module _ (whole : ℕ) (took : TookPieces (written old) (written new) (records items) (Some whole)) (rose : Rose (faults old) (faults new)) (later_faults : faults first ≤ faults old) (was : GoesOn written plan past q first old) where
       abbrev done : ℕ
-      done = length (pieces (sent empty q past)) + whole
+      done = length (pieces (sent plan empty q past)) + whole
 
       abbrev failed : List Row
       failed = with_failed plan port mid
 
-      sent_failed : sent empty q failed ≡ sent empty q past ++ items
+      sent_failed : sent plan empty q failed ≡ sent plan empty q past ++ items
       sent_failed = sent_end plan empty mid (Egress port) hows.Failed q ∙ sent_mid
 
-      given_is : pieces (sent empty q failed) ≡ pieces (sent empty q past) ++ records items
-      given_is = ap pieces sent_failed ∙ pieces-append (sent empty q past) items
+      given_is : pieces (sent plan empty q failed) ≡ pieces (sent plan empty q past) ++ records items
+      given_is = ap pieces sent_failed ∙ pieces-append (sent plan empty q past) items
 
-      took_both : TookPieces (written first) (written new) (pieces (sent empty q past) ++ records items) (Some done)
-      took_both = took_until (written first) (written old) (written new) (pieces (sent empty q past)) (records items) whole was.took took
+      took_both : TookPieces (written first) (written new) (pieces (sent plan empty q past) ++ records items) (Some done)
+      took_both = took_until (written first) (written old) (written new) (pieces (sent plan empty q past)) (records items) whole was.took took
 
-      sure_mid : text_before_last_drain empty q mid ≡ capture_text (sent_items (sent empty q past))
+      sure_mid : text_before_last_drain plan empty q mid ≡ capture_text (sent_items (sent plan empty q past))
       sure_mid = rw (itself_at q) refl
 
-      fits_failed : FitsOutputAt empty (written first) (written new) q failed
+      fits_failed : FitsOutputAt plan empty (written first) (written new) q failed
       fits_failed =
-          fits_front plan port mid (written first) (written new) (pieces (sent empty q past) ++ records items) done took_both given_is
-          (subst (λ (l : List ℕ). IsFront l (concat (take done (pieces (sent empty q past) ++ records items)) ++ took_both.1)) (pieces_joined (sent empty q past) ∙ sym sure_mid)
-          (sure_front (pieces (sent empty q past)) (records items) whole took_both.1))
+          fits_front plan port mid (written first) (written new) (pieces (sent plan empty q past) ++ records items) done took_both given_is
+          (subst (λ (l : List ℕ). IsFront l (concat (take done (pieces (sent plan empty q past) ++ records items)) ++ took_both.1)) (pieces_joined (sent plan empty q past) ∙ sym sure_mid)
+          (sure_front (pieces (sent plan empty q past)) (records items) whole took_both.1))
 
-      pieces_past : length (pieces (sent empty q past)) ≡ pieces_by empty q past
-      pieces_past = ap (λ (n : ℕ). suc n) (length-records (sent empty q past))
+      pieces_past : length (pieces (sent plan empty q past)) ≡ pieces_by plan empty q past
+      pieces_past = ap (λ (n : ℕ). suc n) (length-records (sent plan empty q past))
 
-      in_time : done < pieces_by empty q mid
+      in_time : done < pieces_by plan empty q mid
       in_time = let size = length-records items in let within = took.0 in let more = pieces_mid in let first_is = pieces_past in omega arith
 
       pub failed_step : now ≡ failed → DrainStep written faults plan port None past now first new made
@@ -250,9 +250,9 @@ module _ {K : Type 0} (written : K → Option (List ℕ)) (faults : K → ℕ) (
               later = Some done;
               output = subst (λ (l : List Row). HasFailed written faults plan l q first new done) (sym now_is) here;
               made_so = λ stops allowed.
-                  now_is ∙ sym (drained_is stops ∙ a_failure plan stops port mid (subst (λ (o : Option ℕ). is_stopped o (pieces_by empty q mid) ≡ true) (sym allowed) (stopped_more done (pieces_by empty q mid) in_time)));
+                  now_is ∙ sym (drained_is stops ∙ a_failure plan stops port mid (subst (λ (o : Option ℕ). is_stopped o (pieces_by plan empty q mid) ≡ true) (sym allowed) (stopped_more done (pieces_by plan empty q mid) in_time)));
             };
-            before = λ stop allowed. subst (λ (o : Option ℕ). is_stopped o (pieces_by empty q past) ≡ false) (sym allowed) (not_stopped done (pieces_by empty q past) (omega (arith, first_is)));
+            before = λ stop allowed. subst (λ (o : Option ℕ). is_stopped o (pieces_by plan empty q past) ≡ false) (sym allowed) (not_stopped done (pieces_by plan empty q past) (omega (arith, first_is)));
           }
 
 -- the part of one port in the drains behind an arrival

@@ -39,7 +39,7 @@ pub record Running {S K C : Type 0} (left : S → Option (List ℕ)) (written : 
   pub progress : (k : ℕ) (d : PortEnds S K C) → k < length first → Progress left plan k past (get_or first k d) (get_or ports k d) (get_or taken k [])
   pub control : has_ended empty (control_pass plan) past ≡ true
   pub ticker : has_ended empty (ticker_pass plan) past ≡ false
-  pub quiet : (k : ℕ) → k < length plan.ports → queue empty (number_at plan k) past ≡ []
+  pub quiet : (k : ℕ) → k < length plan.ports → queue plan empty (number_at plan k) past ≡ []
   pub outputs : AreOutputs written sink_faults plan known past first ports
 
 -- the head of the port at a place

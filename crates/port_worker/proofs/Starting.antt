@@ -152,7 +152,7 @@ module _ {S K C : Type 0} (left : S → Option (List ℕ)) (written : K → Opti
       progress = λ k d inside. rw (nothing_at first k) (subst (λ (a : Ahead). ProgressBy left plan k past (get_or first k d) (get_or ports k d) [] a) (sym (ahead_is k d inside)) (goes_at_first k d inside));
       control = ended_now plan empty before Control hows.End;
       ticker = ended_none (ticker_pass plan) (omega arith) (λ same. absurd (omega arith));
-      quiet = λ k inside. empty_end plan empty before Control hows.End (number_at plan k) (ap (λ (l : List Row). queue empty (number_at plan k) l) before_is ∙ empty_begun plan empty known plan.ports [] (number_at plan k) refl);
+      quiet = λ k inside. empty_end plan empty before Control hows.End (number_at plan k) (ap (λ (l : List Row). queue plan empty (number_at plan k) l) before_is ∙ empty_begun plan empty known plan.ports [] (number_at plan k) refl);
       outputs = record {
         size = outputs.size;
         each = λ k d inside.
@@ -179,10 +179,10 @@ module _ {S K C : Type 0} (left : S → Option (List ℕ)) (written : K → Opti
     pub sound_now : All (λ p. IsSound p.reader p.ahead) ports
     sound_now k d inside = let size = r.later.size in r.sound k d (omega arith)
 
-    pub quiet_now : All (λ p. queue empty (number_of p.port) past ≡ []) ports
+    pub quiet_now : All (λ p. queue plan empty (number_of p.port) past ≡ []) ports
     quiet_now k d inside =
         let count = count_is ports plan planned_now in
-        ap (λ (n : ℕ). queue empty n past) (number_now k d inside) ∙ r.quiet k (omega arith)
+        ap (λ (n : ℕ). queue plan empty n past) (number_now k d inside) ∙ r.quiet k (omega arith)
 
     pub input_open : (k : ℕ) (d : PortEnds S K C) → k < length ports → has_ended empty k past ≡ false → IsOpen plan empty past (Ingress (get_or ports k d).port)
     input_open k d inside running =

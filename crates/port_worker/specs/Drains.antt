@@ -19,7 +19,7 @@ use Rattle.port_worker.specs.SentFrames.{records}
 
 -- the items that wait at a port
 abbrev pub waiting_at : Port → List Row → List Item
-waiting_at port past = queue empty (number_of port) past
+waiting_at port past = queue plan empty (number_of port) past
 
 -- a port of the plan, at which nothing waits once its egress has ended, and never more than a batch holds
 pub record IsDrainable (plan : Plan) (past : List Row) (port : Port) : Type 0 where

@@ -18,15 +18,15 @@ use Rattle.port_worker.specs.Pairs.{EachPair}
 pub record GoesOn {K : Type 0} (written : K → Option (List ℕ)) (plan : Plan) (past : List Row) (port : ℕ) (old new : K) : Type 0 where
   pub running : has_ended empty (egress_pass plan port) past ≡ false
   pub none : output_end port past ≡ None
-  pub took : TookPieces (written old) (written new) (pieces (sent empty port past)) None
+  pub took : TookPieces (written old) (written new) (pieces (sent plan empty port past)) None
 
 -- An output at which a write failed behind so many whole pieces: its egress has ended for that, and nothing waits there.
 pub record HasFailed {K : Type 0} (written : K → Option (List ℕ)) (faults : K → ℕ) (plan : Plan) (past : List Row) (port : ℕ) (old new : K) (whole : ℕ) : Type 0 where
   pub ended : has_ended empty (egress_pass plan port) past ≡ true
   pub failed : output_end port past ≡ Some hows.Failed
-  pub quiet : queue empty port past ≡ []
-  pub took : TookPieces (written old) (written new) (pieces (sent empty port past)) (Some whole)
-  pub fits : FitsOutputAt empty (written old) (written new) port past
+  pub quiet : queue plan empty port past ≡ []
+  pub took : TookPieces (written old) (written new) (pieces (sent plan empty port past)) (Some whole)
+  pub fits : FitsOutputAt plan empty (written old) (written new) port past
   pub rose : Rose (faults old) (faults new)
 
 -- an output by what is known of where a write failed there
@@ -51,7 +51,7 @@ Allows (Some whole) stop count = stop ≡ Some whole
 
 -- the same of each port of the plan
 abbrev pub AreAllowed : Plan → Stops → Stops → List Row → Type 0
-AreAllowed plan known stops past = All (λ q. Allows (known q) (stops q) (pieces_by empty q past)) (numbers_of plan.ports)
+AreAllowed plan known stops past = All (λ q. Allows (known q) (stops q) (pieces_by plan empty q past)) (numbers_of plan.ports)
 
 -- More is known behind a step, and the step has made what that allows.
 pub record Follows (plan : Plan) (known later : Stops) (past now : List Row) (made : Stops → List Row) : Type 0 where
@@ -66,7 +66,7 @@ OutputsGoOn {S} {K} {C} written faults plan past now old new made =
 
 -- What the end of a replay leaves of an output: the same was sent, and it ended, or it had failed and stays so.
 pub record IsOutputEnded (plan : Plan) (past now : List Row) (port : ℕ) : Type 0 where
-  pub sent_same : sent empty port now ≡ sent empty port past
-  pub sure_same : text_before_last_drain empty port now ≡ text_before_last_drain empty port past
+  pub sent_same : sent plan empty port now ≡ sent plan empty port past
+  pub sure_same : text_before_last_drain plan empty port now ≡ text_before_last_drain plan empty port past
   pub ended : has_ended empty (egress_pass plan port) past ≡ false → output_end port now ≡ Some hows.End
   pub still : has_ended empty (egress_pass plan port) past ≡ true → output_end port now ≡ output_end port past

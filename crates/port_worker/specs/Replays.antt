@@ -64,7 +64,7 @@ IsInputAt left past old new input =
 -- The sink of a port took the pieces of its output, as these stops say.
 abbrev pub IsOutputAt : {S K C : Type 0} → (K → Option (List ℕ)) → List Row → Stops → PortEnds S K C → PortEnds S K C → Type 0
 IsOutputAt written past stops old new =
-    TookPieces (written old.ends.sink) (written new.ends.sink) (pieces (sent empty (number_of old.port) past)) (stops (number_of old.port))
+    TookPieces (written old.ends.sink) (written new.ends.sink) (pieces (sent plan empty (number_of old.port) past)) (stops (number_of old.port))
 
 -- The history is the one of a replay of these inputs, one for each port in its order, whose sinks fail so: the octets of
 -- each source are its input; and each sink took what is sent there as a capture, or the front of it that its stop says.
@@ -90,7 +90,7 @@ HasBroken source_faults past old new =
 
 -- what the sink of a port took fits what the history sends there
 abbrev pub IsOutputFit : {S K C : Type 0} → (K → Option (List ℕ)) → List Row → PortEnds S K C → PortEnds S K C → Type 0
-IsOutputFit written past old new = FitsOutputAt empty (written old.ends.sink) (written new.ends.sink) (number_of old.port) past
+IsOutputFit written past old new = FitsOutputAt plan empty (written old.ends.sink) (written new.ends.sink) (number_of old.port) past
 
 -- where the history says that a write at the port failed, the count of its sink rose
 abbrev pub HasBrokenOut : {S K C : Type 0} → (K → ℕ) → List Row → PortEnds S K C → PortEnds S K C → Type 0

@@ -1,6 +1,7 @@
 -- How much may still come.
 use Rattle.std.proofs.Common.{ℕ, zero, suc, ◌≡◌, ◌+◌, ◌*◌, ◌<◌, ◌≤◌, Bool, true, false, List, [], ◌∷◌, length, get_or, cond, inl, inr, refl, sym, ap, ◌∙◌, arith, add-one}
 use Rattle.std.proofs.lemmas.Bool.{cases_Bool, cases_eq, cond-true, cond-false}
+use Rattle.savi_kinds.specs.declared.plan.Plan.{Plan}
 use Rattle.hist_store.specs.Rows.{Row}
 use Rattle.savi_history.specs.Bases.{empty}
 use Rattle.savi_history.specs.Passes.{has_ended, AllEnded}
@@ -39,24 +40,24 @@ module _ (old new : List Row) (stays : (pass : ℕ) → has_ended empty pass old
             omega (arith, less, fewer_open (has_ended empty n old) (has_ended empty n new) (stays n))
       ]
 
-module _ (old new : List Row) (fewer : (number : ℕ) → length (queue empty number new) ≤ length (queue empty number old)) where
-  pub waiting_at-later : (ns : List ℕ) → waiting_at new ns ≤ waiting_at old ns
+module _ (plan : Plan) (old new : List Row) (fewer : (number : ℕ) → length (queue plan empty number new) ≤ length (queue plan empty number old)) where
+  pub waiting_at-later : (ns : List ℕ) → waiting_at plan new ns ≤ waiting_at plan old ns
   waiting_at-later [] = omega arith
   waiting_at-later (n ∷ ns) = omega (arith, waiting_at-later ns, fewer n)
 
   -- at one port at least one item less waits
-  pub waiting_at-taken : (ns : List ℕ) (k : ℕ) → k < length ns → length (queue empty (get_or ns k 0) new) < length (queue empty (get_or ns k 0) old) → waiting_at new ns + 1 ≤ waiting_at old ns
+  pub waiting_at-taken : (ns : List ℕ) (k : ℕ) → k < length ns → length (queue plan empty (get_or ns k 0) new) < length (queue plan empty (get_or ns k 0) old) → waiting_at plan new ns + 1 ≤ waiting_at plan old ns
   waiting_at-taken [] k within less = absurd (omega arith)
   waiting_at-taken (n ∷ ns) zero within less = omega (arith, waiting_at-later ns, less)
   waiting_at-taken (n ∷ ns) (suc k) within less =
-      let rest : waiting_at new ns + 1 ≤ waiting_at old ns = waiting_at-taken ns k (omega (arith, within)) less in
+      let rest : waiting_at plan new ns + 1 ≤ waiting_at plan old ns = waiting_at-taken ns k (omega (arith, within)) less in
       omega (arith, rest, fewer n)
 
-pub waiting_at-le : (past : List Row) (most : ℕ) (ns : List ℕ) → ((k : ℕ) → k < length ns → length (queue empty (get_or ns k 0) past) ≤ most) → waiting_at past ns ≤ most * length ns
-waiting_at-le past most [] each = omega arith
-waiting_at-le past most (n ∷ ns) each =
-    let here : length (queue empty n past) ≤ most = each 0 (omega arith) in
-    let rest : waiting_at past ns ≤ most * length ns = waiting_at-le past most ns (λ k within. each (suc k) (omega (arith, within))) in
+pub waiting_at-le : (plan : Plan) (past : List Row) (most : ℕ) (ns : List ℕ) → ((k : ℕ) → k < length ns → length (queue plan empty (get_or ns k 0) past) ≤ most) → waiting_at plan past ns ≤ most * length ns
+waiting_at-le plan past most [] each = omega arith
+waiting_at-le plan past most (n ∷ ns) each =
+    let here : length (queue plan empty n past) ≤ most = each 0 (omega arith) in
+    let rest : waiting_at plan past ns ≤ most * length ns = waiting_at-le plan past most ns (λ k within. each (suc k) (omega (arith, within))) in
     omega (arith, here, rest)
 
 -- one pass is open
@@ -84,11 +85,11 @@ ended_more past pass left ended was =
     rw (add-one pass) (omega (arith, was, none_here))
 
 -- something waits at a port
-pub waiting_at-some : (past : List Row) (ns : List ℕ) (k : ℕ) → k < length ns → 0 < length (queue empty (get_or ns k 0) past) → 0 < waiting_at past ns
-waiting_at-some past [] k within some = absurd (omega arith)
-waiting_at-some past (n ∷ ns) zero within some = omega (arith, some)
-waiting_at-some past (n ∷ ns) (suc k) within some =
-    let rest : 0 < waiting_at past ns = waiting_at-some past ns k (omega (arith, within)) some in
+pub waiting_at-some : (plan : Plan) (past : List Row) (ns : List ℕ) (k : ℕ) → k < length ns → 0 < length (queue plan empty (get_or ns k 0) past) → 0 < waiting_at plan past ns
+waiting_at-some plan past [] k within some = absurd (omega arith)
+waiting_at-some plan past (n ∷ ns) zero within some = omega (arith, some)
+waiting_at-some plan past (n ∷ ns) (suc k) within some =
+    let rest : 0 < waiting_at plan past ns = waiting_at-some plan past ns k (omega (arith, within)) some in
     omega (arith, rest)
 
 -- where none of the passes below a number is open, each has ended

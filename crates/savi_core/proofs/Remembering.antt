@@ -1,5 +1,5 @@
 -- What a core keeps, after one more row.
-use Rattle.std.proofs.Common.{ℕ, zero, suc, replicate, ◌≡◌, ◌+◌, ◌*◌, ◌<◌, ◌≤◌, ◌==◌, ◌&&◌, ◌||◌, Bool, true, false, List, [], ◌∷◌, ◌++◌, length, get_or, inl, inr, refl, sym, ap, subst, ◌∙◌, arith, length-append}
+use Rattle.std.proofs.Common.{ℕ, zero, suc, replicate, ◌≡◌, ◌+◌, ◌*◌, ◌<◌, ◌≤◌, ◌==◌, ◌&&◌, ◌||◌, nat_le, if◌then◌else◌, Bool, true, false, List, [], ◌∷◌, ◌++◌, length, get_or, inl, inr, refl, sym, ap, subst, ◌∙◌, arith, length-append}
 use Rattle.std.specs.Prelude.{All, reverse}
 use Rattle.std.proofs.lemmas.List.{length-reverse, length-map, reverse-append}
 use Rattle.std.proofs.lemmas.List.Elements.{All-nil}
@@ -13,11 +13,12 @@ use Rattle.hist_store.proofs.StoreLemmas.{held-append}
 use Rattle.savi_history.specs.Bases.{empty}
 use Rattle.savi_history.specs.Passes.{has_ended, has_port, has_pass, pass_of, place_of, is_end, pass_count, egress_pass}
 use Rattle.savi_history.specs.Limits.{has_room}
-use Rattle.savi_history.specs.Queues.{queue, is_closed}
+use Rattle.savi_history.specs.Queues.{room_at, queue}
+use Rattle.savi_history.proofs.Joining.{room_low}
 use Rattle.savi_history.specs.Events.{Event, row_of}
 use Rattle.savi_history.specs.Legal.{MayCome}
 use Rattle.savi_core.specs.Machines.{number_at}
-use Rattle.savi_core.specs.Waits.{AreAfter, shown, IsFrameOf}
+use Rattle.savi_core.specs.Waits.{AreAfter, shown, IsFrameOf, takes_none}
 use Rattle.savi_core.specs.Counts.{still_to_come, waiting_at}
 use Rattle.savi_core.specs.Remembers.{HoldsQueue, Remembers}
 use Rattle.savi_core.proofs.Places.{length-numbers, egress_at, placed, place_within, pass_within}
@@ -25,8 +26,8 @@ use Rattle.savi_core.proofs.Counting.{open_below-le, waiting_at-le}
 use Rattle.savi_core.proofs.Holding.{reverse_push}
 
 -- the length of what waits
-pub holds_length : (depth : ℕ) (rows : List Row) (number : ℕ) (w : Waiting) → HoldsQueue depth rows number w → length (queue empty number (reverse rows)) ≡ length w.items
-holds_length depth rows number w holds = ap length (sym holds.items) ∙ length-map w.items (shown rows)
+pub holds_length : (plan : Plan) (rows : List Row) (number : ℕ) (w : Waiting) → HoldsQueue plan rows number w → length (queue plan empty number (reverse rows)) ≡ length w.items
+holds_length plan rows number w holds = ap length (sym holds.items) ∙ length-map w.items (shown rows)
 
 pub held-reverse : (rows : List Row) → held (reverse rows) ≡ held rows
 held-reverse [] = refl
@@ -40,9 +41,10 @@ none_ended (suc n) zero = refl
 none_ended (suc n) (suc pass) = none_ended n pass
 
 -- what a core keeps at its start
-pub remembers_start : (plan : Plan) (waiting : List Waiting) → IsValidPlan plan → length waiting ≡ length plan.ports → All (λ w. w ≡ nothing plan.depth) waiting → Remembers plan [] 0 (replicate 34 false) waiting
-remembers_start plan waiting valid count empty_all = record {
+pub remembers_start : (plan : Plan) (waiting : List Waiting) → IsValidPlan plan → plan.savi ≡ false → length waiting ≡ length plan.ports → All (λ w. w ≡ nothing plan.depth) waiting → Remembers plan [] 0 (replicate 34 false) waiting
+remembers_start plan waiting valid off count empty_all = record {
   valid = valid;
+  off = off;
   legal = tt;
   last = refl;
   passes = λ pass below. none_ended 34 pass;
@@ -50,7 +52,7 @@ remembers_start plan waiting valid count empty_all = record {
   queue_count = count;
   queues = λ k d within.
       let in_waiting : k < length waiting = omega (arith, within, count) in
-      subst (λ (w : Waiting). HoldsQueue plan.depth [] (number_at plan k) w) (sym (empty_all k d in_waiting))
+      subst (λ (w : Waiting). HoldsQueue plan [] (number_at plan k) w) (sym (empty_all k d in_waiting))
       (record { frames = All-nil (IsFrameOf []); items = refl; depth_is = refl; within = omega arith });
   octets = omega arith;
   room = λ near. absurd (omega (arith, near, valid.entries.0));
@@ -62,7 +64,7 @@ pub record HasNext (plan : Plan) (rows : List Row) (r : Row) (ended ended' : Lis
   pub passes : (pass : ℕ) → pass < pass_count plan → get_or ended' pass false ≡ ((is_end r.entry.act && (r.entry.by == pass)) || get_or ended pass false)
   pub marks : length ended' ≡ length ended
   pub queues : AreAfter change (numbers_of plan.ports) waiting waiting'
-  pub holds : (k : ℕ) → k < length plan.ports → (w : Waiting) → HoldsQueue plan.depth rows (number_at plan k) w → HoldsQueue plan.depth (rows ++ r ∷ []) (number_at plan k) (change (number_at plan k) w)
+  pub holds : (k : ℕ) → k < length plan.ports → (w : Waiting) → HoldsQueue plan rows (number_at plan k) w → HoldsQueue plan (rows ++ r ∷ []) (number_at plan k) (change (number_at plan k) w)
   pub octets : held rows + length r.octets ≤ plan.bytes
   pub room : plan.entries < length rows + 1 + 4130 → length rows + 1 + still_to_come plan (r ∷ reverse rows) ≤ plan.entries
 
@@ -73,6 +75,7 @@ module _ (plan : Plan) (rows : List Row) (moment : ℕ) (ended : List Bool) (wai
       let longer : length (rows ++ r ∷ []) ≡ length rows + 1 = omega (arith, length-append rows (r ∷ [])) in
       record {
         valid = was.valid;
+        off = was.off;
         legal = rw at ((event, may, is_row), was.legal);
         last = rw at moment_is;
         passes = λ pass below. rw at (next.passes pass below ∙ ap (λ b. (is_end r.entry.act && (r.entry.by == pass)) || b) (was.passes pass below));
@@ -80,22 +83,22 @@ module _ (plan : Plan) (rows : List Row) (moment : ℕ) (ended : List Bool) (wai
         queue_count = next.queues.size ∙ was.queue_count;
         queues = λ k d within.
             let in_waiting : k < length waiting = omega (arith, within, was.queue_count) in
-            subst (λ (w : Waiting). HoldsQueue plan.depth (rows ++ r ∷ []) (number_at plan k) w) (sym (next.queues.each k d in_waiting))
+            subst (λ (w : Waiting). HoldsQueue plan (rows ++ r ∷ []) (number_at plan k) w) (sym (next.queues.each k d in_waiting))
             (next.holds k within (get_or waiting k d) (was.queues k d within));
         octets = omega (arith, held-append rows (r ∷ []), next.octets);
         room = rw (at, longer) next.room;
       }
 
   -- no queue is longer than it may be
-  pub queue_within : (k : ℕ) → k < length plan.ports → length (queue empty (number_at plan k) (reverse rows)) ≤ plan.depth
+  pub queue_within : (k : ℕ) → k < length plan.ports → length (queue plan empty (number_at plan k) (reverse rows)) ≤ plan.depth
   queue_within k within =
       let holds = was.queues k (nothing 0) within in
-      omega (arith, holds_length plan.depth rows (number_at plan k) (get_or waiting k (nothing 0)) holds, holds.within)
+      omega (arith, holds_length plan rows (number_at plan k) (get_or waiting k (nothing 0)) holds, holds.within)
 
   pub few_to_come : still_to_come plan (reverse rows) ≤ 4130
   few_to_come =
-      let wait : waiting_at (reverse rows) (numbers_of plan.ports) ≤ 256 * length (numbers_of plan.ports) =
-      waiting_at-le (reverse rows) 256 (numbers_of plan.ports) (λ k within. omega (arith, queue_within k (omega (arith, within, length-numbers plan.ports)), was.valid.depth.1)) in
+      let wait : waiting_at plan (reverse rows) (numbers_of plan.ports) ≤ 256 * length (numbers_of plan.ports) =
+      waiting_at-le plan (reverse rows) 256 (numbers_of plan.ports) (λ k within. omega (arith, queue_within k (omega (arith, within, length-numbers plan.ports)), was.valid.depth.1)) in
       omega (arith, wait, length-numbers plan.ports, open_below-le (reverse rows) (pass_count plan), was.valid.port_count.1)
 
   -- a drain or an end fits
@@ -123,32 +126,38 @@ module _ (plan : Plan) (rows : List Row) (moment : ℕ) (ended : List Bool) (wai
       (omega (arith, entries, length-reverse rows), omega (arith, octets, held-reverse rows))
 
   -- the port at a place takes nothing
-  pub closed_full : (k : ℕ) (d : Waiting) → k < length plan.ports → plan.depth ≤ length (get_or waiting k d).items → is_closed plan empty (reverse rows) (number_at plan k) ≡ true
+  pub closed_full : (k : ℕ) (d : Waiting) → k < length plan.ports → plan.depth ≤ length (get_or waiting k d).items → takes_none plan (reverse rows) (number_at plan k) ≡ true
   closed_full k d within full =
-      let size = holds_length plan.depth rows (number_at plan k) (get_or waiting k d) (was.queues k d within) in
-      ap (λ b. b || has_ended empty (egress_pass plan (number_at plan k)) (reverse rows)) (le-leb plan.depth (length (queue empty (number_at plan k) (reverse rows))) (omega (arith, size, full)))
+      let n = number_at plan k in
+      let size = holds_length plan rows n (get_or waiting k d) (was.queues k d within) in
+      le-leb (room_at plan empty (reverse rows) n) (length (queue plan empty n (reverse rows))) (omega (arith, size, full, room_low plan empty (reverse rows) n))
 
-  pub closed_else : (k : ℕ) (d : Waiting) → k < length plan.ports → length (get_or waiting k d).items < plan.depth → is_closed plan empty (reverse rows) (number_at plan k) ≡ get_or ended (length plan.ports + 2 + k) false
+  none_at : (n size : ℕ) (b : Bool) → size < n → nat_le (if b then 0 else n) size ≡ b
+  none_at n size true room = le-leb 0 size (omega arith)
+  none_at n size false room = lt-leb n size room
+
+  pub closed_else : (k : ℕ) (d : Waiting) → k < length plan.ports → length (get_or waiting k d).items < plan.depth → takes_none plan (reverse rows) (number_at plan k) ≡ get_or ended (length plan.ports + 2 + k) false
   closed_else k d within room =
-      let size = holds_length plan.depth rows (number_at plan k) (get_or waiting k d) (was.queues k d within) in
-      ap (λ b. b || has_ended empty (egress_pass plan (number_at plan k)) (reverse rows)) (lt-leb plan.depth (length (queue empty (number_at plan k) (reverse rows))) (omega (arith, size, room)))
-      ∙ ap (λ n. has_ended empty n (reverse rows)) (egress_at plan k was.valid within)
+      let n = number_at plan k in
+      let size = holds_length plan rows n (get_or waiting k d) (was.queues k d within) in
+      none_at plan.depth (length (queue plan empty n (reverse rows))) (has_ended empty (egress_pass plan n) (reverse rows)) (omega (arith, size, room))
+      ∙ ap (λ m. has_ended empty m (reverse rows)) (egress_at plan k was.valid within)
       ∙ sym (was.passes (length plan.ports + 2 + k) (omega (arith, within)))
 
   -- what is kept of a port's queue
-  pub holds_at : (number place : ℕ) (w : Waiting) → has_port plan number ≡ true → place ≡ place_of plan number → w ≡ get_or waiting place w → HoldsQueue plan.depth rows number w
+  pub holds_at : (number place : ℕ) (w : Waiting) → has_port plan number ≡ true → place ≡ place_of plan number → w ≡ get_or waiting place w → HoldsQueue plan rows number w
   holds_at number place w known place_is is =
       let place_in = placed plan number known in
       let within : place < length plan.ports = omega (arith, place_is, place_within plan number known) in
       let number_is : number_at plan place ≡ number = ap (number_at plan) place_is ∙ place_in.number_is in
-      subst (λ (v : Waiting). HoldsQueue plan.depth rows number v) (sym is)
-      (subst (λ (n : ℕ). HoldsQueue plan.depth rows n (get_or waiting place w)) number_is (was.queues place w within))
+      subst (λ (v : Waiting). HoldsQueue plan rows number v) (sym is)
+      (subst (λ (n : ℕ). HoldsQueue plan rows n (get_or waiting place w)) number_is (was.queues place w within))
 
   pub pass_small : (who : Who) → has_pass plan who ≡ true → pass_of plan who < 34
   pass_small who known = omega (arith, pass_within plan who known, was.valid.port_count.1)
 
   -- no queue of a port of the plan is longer than it may be
-  pub waits_within : (number : ℕ) → has_port plan number ≡ true → length (queue empty number (reverse rows)) ≤ plan.depth
+  pub waits_within : (number : ℕ) → has_port plan number ≡ true → length (queue plan empty number (reverse rows)) ≤ plan.depth
   waits_within number known =
       let place = placed plan number known in
-      subst (λ n. length (queue empty n (reverse rows)) ≤ plan.depth) place.number_is (queue_within (place_of plan number) (place_within plan number known))
+      subst (λ n. length (queue plan empty n (reverse rows)) ≤ plan.depth) place.number_is (queue_within (place_of plan number) (place_within plan number known))

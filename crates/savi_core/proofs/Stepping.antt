@@ -1,7 +1,7 @@
 -- What a core keeps after each kind of event.
 use Rattle.std.proofs.Common.{ℕ, ◌≡◌, ◌+◌, ◌^◌, ◌<◌, ◌≤◌, ◌==◌, ◌&&◌, ◌||◌, not, Bool, true, false, List, [], ◌∷◌, ◌++◌, length, get_or, set, drop, cond, inl, inr, refl, sym, ap, subst, ◌∙◌, arith, length-drop, length-set, get_or-set_same, get_or-set_other}
 use Rattle.std.specs.Prelude.{reverse}
-use Rattle.std.proofs.lemmas.Bool.{cases_lt, cases_eq, cases_Bool, eq-eqb, ne_eqb, and_parts, and_from, not-true, le-leb, or_left, or_right, both_ways, cond-true, cond-false}
+use Rattle.std.proofs.lemmas.Bool.{cases_lt, cases_eq, cases_Bool, eq-eqb, ne_eqb, and_parts, not-true, leb-false, or_left, or_right, cond-true, cond-false}
 use Rattle.savi_kinds.specs.declared.plan.Plan.{Plan}
 use Rattle.savi_kinds.specs.declared.port.Port.{Port}
 use Rattle.savi_kinds.specs.declared.entry.Entry.{Entry}
@@ -19,17 +19,20 @@ use Rattle.hist_store.specs.Rows.{Row, held}
 use Rattle.savi_history.specs.Bases.{empty}
 use Rattle.savi_history.specs.Passes.{has_ended, has_port, pass_of, place_of, pass_count, is_end}
 use Rattle.savi_history.specs.Limits.{has_room}
-use Rattle.savi_history.specs.Queues.{queue, waiting_after, is_closed, is_queued, cuts}
+use Rattle.savi_history.specs.Queues.{room_at, queue, waiting_after, is_closed}
+use Rattle.savi_history.proofs.Joining.{room_low}
+use Rattle.savi_history.proofs.Depth.{ended_fewer}
+use Rattle.savi_history.proofs.Offered.{probed_off, closed_off}
+use Rattle.savi_history.proofs.PortMembers.{member_is}
 use Rattle.savi_history.specs.Events as events
 use Rattle.savi_history.specs.Events.{Event, row_of}
 use Rattle.savi_history.specs.Legal.{IsOpen, MayCome}
 use Rattle.savi_core.specs.Machines.{Machine, number_at, with_event}
 use Rattle.savi_core.specs.Steps.{MayStep}
 use Rattle.savi_core.specs.Counts.{still_to_come, open_below}
-use Rattle.savi_core.specs.Waits.{AreAfter, after_frame, after_end, after_drain}
+use Rattle.savi_core.specs.Waits.{AreAfter, goes_to, takes_none, after_frame, after_end, after_drain}
 use Rattle.savi_core.specs.Remembers.{HoldsQueue, Remembers}
 use Rattle.savi_core.proofs.Places.{placed, pass_within}
-use Rattle.savi_core.proofs.Sets.{member_chosen}
 use Rattle.savi_core.proofs.Changes.{after_none}
 use Rattle.savi_core.proofs.Holding.{reverse_push, holds_kept, holds_frame, holds_drain, holds_end}
 use Rattle.savi_core.proofs.Counting.{open_below-later, open_below-ended, open_below-some, waiting_at-later, waiting_at-taken, waiting_at-some}
@@ -63,26 +66,36 @@ module _ (plan : Plan) (rows : List Row) (moment : ℕ) (ended : List Bool) (wai
         passes = λ pass below. ap (λ (a : Act). (is_end a && (e.by == pass)) || get_or ended pass false) (sym act_is);
         marks = refl;
         queues = after_none (λ number w. w) (numbers_of plan.ports) waiting (λ number w. refl);
-        holds = λ k within w holds. holds_kept plan.depth rows (row e []) (number_at plan k) w holds (ap (λ (a : Act). waiting_after (number_at plan k) (row e []) a (queue empty (number_at plan k) (reverse rows))) act_is);
+        holds = λ k within w holds. holds_kept plan rows (row e []) (number_at plan k) w holds (ap (λ (a : Act). waiting_after plan empty (reverse rows) (number_at plan k) (row e []) a (queue plan empty (number_at plan k) (reverse rows))) act_is
+            ∙ probed_off plan empty (reverse rows) (acts.Long port stamp len) [] was.off (number_at plan k) (queue plan empty (number_at plan k) (reverse rows)));
         octets = omega (arith, was.octets);
         room = λ near. absurd (omega (arith, near, (room_for plan rows moment ended waiting was may.0.room).0));
       })
 
-  -- where a frame is queued there is room
-  pub queue_room : (port : Port) (stamp : ℕ) (octets : List ℕ) (e : Entry) → e ≡ (row_of plan empty (reverse rows) (events.Frame port stamp octets)).entry → (k : ℕ) → k < length plan.ports → (w : Waiting) → HoldsQueue plan.depth rows (number_at plan k) w → is_queued (number_at plan k) (row e octets) ≡ true → length w.items < plan.depth
-  queue_room port stamp octets e e_is k within w holds queued =
+  -- a frame is cut at a port of its outs exactly where that takes no item
+  frame_cut : (port : Port) (stamp : ℕ) (octets : List ℕ) (e : Entry) → e ≡ (row_of plan empty (reverse rows) (events.Frame port stamp octets)).entry → (k : ℕ) → k < length plan.ports
+      → is_member e.outs (number_at plan k) ≡ true → is_member e.cuts (number_at plan k) ≡ takes_none plan (reverse rows) (number_at plan k)
+  frame_cut port stamp octets e e_is k within goes =
       let n = number_at plan k in
-      let cuts_is : e.cuts ≡ cuts plan empty (reverse rows) e.outs = ap (λ (x : Entry). x.cuts) e_is ∙ ap (λ outs. cuts plan empty (reverse rows) outs) (sym (ap (λ (x : Entry). x.outs) e_is)) in
-      let both = and_parts (is_member e.outs n) (not (is_member e.cuts n)) queued in
-      elim (cases_lt (length w.items) plan.depth) [
-        | inl room ↦ room
-        | inr full ↦
-            let test : ℕ → Bool = λ q. is_member e.outs q && is_closed plan empty (reverse rows) q in
-            let long : plan.depth ≤ length (queue empty n (reverse rows)) = omega (arith, full, holds_length plan.depth rows n w holds) in
-            let closed : is_closed plan empty (reverse rows) n ≡ true = or_left _ _ (le-leb plan.depth (length (queue empty n (reverse rows))) long) in
-            let cut : is_member e.cuts n ≡ true = ap (λ set. is_member set n) cuts_is ∙ member_chosen test plan.ports k within (and_from _ _ both.0 closed) in
-            absurd (both_ways (is_member e.cuts n) (not-true (is_member e.cuts n) both.1) cut)
-      ]
+      let act = events.frame_act (reverse rows) port stamp octets in
+      let past = reverse rows in
+      let out = events.outs_of plan empty past port stamp octets in
+      let test : ℕ → Bool = λ q. is_member out q && is_closed plan empty past act octets q in
+      let member : is_member out n ≡ true = sym (ap (λ (x : Entry). is_member x.outs n) e_is) ∙ goes in
+      ap (λ (x : Entry). is_member x.cuts n) e_is
+      ∙ member_is test plan.ports k within
+      ∙ ap (λ (b : Bool). b && is_closed plan empty past act octets n) member
+      ∙ closed_off plan empty past act octets was.off n
+
+  -- where a frame is queued there is room
+  pub queue_room : (port : Port) (stamp : ℕ) (octets : List ℕ) (e : Entry) → e ≡ (row_of plan empty (reverse rows) (events.Frame port stamp octets)).entry → (k : ℕ) → k < length plan.ports → (w : Waiting) → HoldsQueue plan rows (number_at plan k) w
+      → goes_to e.outs e.cuts (number_at plan k) ≡ true → length w.items < plan.depth
+  queue_room port stamp octets e e_is k within w holds goes =
+      let n = number_at plan k in
+      let both = and_parts (is_member e.outs n) (not (is_member e.cuts n)) goes in
+      let opened : takes_none plan (reverse rows) n ≡ false = sym (frame_cut port stamp octets e e_is k within both.0) ∙ not-true (is_member e.cuts n) both.1 in
+      let short = leb-false (room_at plan empty (reverse rows) n) (length (queue plan empty n (reverse rows))) opened in
+      omega (arith, short, room_low plan empty (reverse rows) n, holds_length plan rows n w holds)
 
   pub remembers_frame : (port : Port) (stamp : ℕ) (octets : List ℕ) (e : Entry) (waiting' : List Waiting) → MayCome plan empty (reverse rows) (events.Frame port stamp octets) → e ≡ (row_of plan empty (reverse rows) (events.Frame port stamp octets)).entry → AreAfter (after_frame e.outs e.cuts (length rows)) (numbers_of plan.ports) waiting waiting' → Remembers plan (rows ++ row e octets ∷ []) e.moment ended waiting'
   remembers_frame port stamp octets e waiting' may e_is after =
@@ -93,32 +106,32 @@ module _ (plan : Plan) (rows : List Row) (moment : ℕ) (ended : List Bool) (wai
         passes = λ pass below. ap (λ (a : Act). (is_end a && (e.by == pass)) || get_or ended pass false) (sym act_is);
         marks = refl;
         queues = after;
-        holds = λ k within w holds. holds_frame plan.depth rows (row e octets) (number_at plan k) w holds port stamp (held (reverse rows)) (length octets) act_is may.1 (queue_room port stamp octets e e_is k within w holds);
+        holds = λ k within w holds. holds_frame plan rows (row e octets) (number_at plan k) w holds was.off port stamp (held (reverse rows)) (length octets) act_is may.1 (frame_cut port stamp octets e e_is k within);
         octets = omega (arith, room.1, may.1);
         room = λ near. absurd (omega (arith, near, room.0));
       })
 
-  drained_fewer : (r : Row) (port : Port) (count : ℕ) → r.entry.act ≡ acts.Drain port count → (number : ℕ) → length (queue empty number (r ∷ reverse rows)) ≤ length (queue empty number (reverse rows))
+  drained_fewer : (r : Row) (port : Port) (count : ℕ) → r.entry.act ≡ acts.Drain port count → (number : ℕ) → length (queue plan empty number (r ∷ reverse rows)) ≤ length (queue plan empty number (reverse rows))
   drained_fewer r port count act_is number =
-      let waited = queue empty number (reverse rows) in
-      let step : queue empty number (r ∷ reverse rows) ≡ cond (number_of port == number) (drop count waited) waited = ap (λ (a : Act). waiting_after number r a waited) act_is in
+      let waited = queue plan empty number (reverse rows) in
+      let step : queue plan empty number (r ∷ reverse rows) ≡ cond (number_of port == number) (drop count waited) waited = ap (λ (a : Act). waiting_after plan empty (reverse rows) number r a waited) act_is in
       elim (cases_Bool (number_of port == number)) [
         | inl here ↦ omega (arith, ap length (step ∙ cond-true _ _ _ here), length-drop count waited)
         | inr elsewhere ↦ omega (arith, ap length (step ∙ cond-false _ _ _ elsewhere))
       ]
 
-  pub drain_less : (r : Row) (port : Port) (count : ℕ) → r.entry.act ≡ acts.Drain port count → has_port plan (number_of port) ≡ true → 1 ≤ count → count ≤ length (queue empty (number_of port) (reverse rows)) → still_to_come plan (r ∷ reverse rows) + 1 ≤ still_to_come plan (reverse rows)
+  pub drain_less : (r : Row) (port : Port) (count : ℕ) → r.entry.act ≡ acts.Drain port count → has_port plan (number_of port) ≡ true → 1 ≤ count → count ≤ length (queue plan empty (number_of port) (reverse rows)) → still_to_come plan (r ∷ reverse rows) + 1 ≤ still_to_come plan (reverse rows)
   drain_less r port count act_is known least most =
       let place = placed plan (number_of port) known in
       let number = number_of port in
-      let waited = queue empty number (reverse rows) in
-      let step : queue empty number (r ∷ reverse rows) ≡ drop count waited = ap (λ (a : Act). waiting_after number r a waited) act_is ∙ cond-true _ _ _ (eq-eqb number number refl) in
-      let fewer : length (queue empty number (r ∷ reverse rows)) < length waited = omega (arith, ap length step, length-drop count waited, least, most) in
-      let at_place : length (queue empty (get_or (numbers_of plan.ports) (place_of plan number) 0) (r ∷ reverse rows)) < length (queue empty (get_or (numbers_of plan.ports) (place_of plan number) 0) (reverse rows)) =
-      subst (λ n. length (queue empty n (r ∷ reverse rows)) < length (queue empty n (reverse rows))) (sym place.number_is) fewer in
+      let waited = queue plan empty number (reverse rows) in
+      let step : queue plan empty number (r ∷ reverse rows) ≡ drop count waited = ap (λ (a : Act). waiting_after plan empty (reverse rows) number r a waited) act_is ∙ cond-true _ _ _ (eq-eqb number number refl) in
+      let fewer : length (queue plan empty number (r ∷ reverse rows)) < length waited = omega (arith, ap length step, length-drop count waited, least, most) in
+      let at_place : length (queue plan empty (get_or (numbers_of plan.ports) (place_of plan number) 0) (r ∷ reverse rows)) < length (queue plan empty (get_or (numbers_of plan.ports) (place_of plan number) 0) (reverse rows)) =
+      subst (λ n. length (queue plan empty n (r ∷ reverse rows)) < length (queue plan empty n (reverse rows))) (sym place.number_is) fewer in
       let opened : open_below (r ∷ reverse rows) (pass_count plan) ≤ open_below (reverse rows) (pass_count plan) =
       open_below-later (reverse rows) (r ∷ reverse rows) (λ pass before. or_right _ _ before) (pass_count plan) in
-      omega (arith, opened, waiting_at-taken (reverse rows) (r ∷ reverse rows) (drained_fewer r port count act_is) (numbers_of plan.ports) (place_of plan number) place.within at_place)
+      omega (arith, opened, waiting_at-taken plan (reverse rows) (r ∷ reverse rows) (drained_fewer r port count act_is) (numbers_of plan.ports) (place_of plan number) place.within at_place)
 
   pub remembers_drain : (port : Port) (count : ℕ) (e : Entry) (waiting' : List Waiting) → MayCome plan empty (reverse rows) (events.Drain port count) → e ≡ (row_of plan empty (reverse rows) (events.Drain port count)).entry → AreAfter (after_drain (number_of port) count) (numbers_of plan.ports) waiting waiting' → Remembers plan (rows ++ row e [] ∷ []) e.moment ended waiting'
   remembers_drain port count e waiting' may e_is after =
@@ -128,38 +141,21 @@ module _ (plan : Plan) (rows : List Row) (moment : ℕ) (ended : List Bool) (wai
         passes = λ pass below. ap (λ (a : Act). (is_end a && (e.by == pass)) || get_or ended pass false) (sym act_is);
         marks = refl;
         queues = after;
-        holds = λ k within w holds. holds_drain plan.depth rows (row e []) (number_at plan k) w holds port count act_is;
+        holds = λ k within w holds. holds_drain plan rows (row e []) (number_at plan k) w holds port count act_is;
         octets = omega (arith, was.octets);
         room = room_less plan rows moment ended waiting was (row e []) (drain_less (row e []) port count act_is may.0.known may.1 may.2);
       })
-
-  -- the end of a pass lets nothing more wait
-  ended_fewer : (r : Row) (who : Who) (how : How) (number : ℕ) → length (waiting_after number r (acts.End who how) (queue empty number (reverse rows))) ≤ length (queue empty number (reverse rows))
-  ended_fewer r (Egress port) hows.Failed number =
-      elim (cases_Bool (number_of port == number)) [
-        | inl here ↦ let e : length (cond (number_of port == number) [] (queue empty number (reverse rows))) ≡ 0 = ap length (cond-true (number_of port == number) [] (queue empty number (reverse rows)) here) in omega (arith, e)
-        | inr elsewhere ↦ omega (arith, ap length (cond-false (number_of port == number) [] (queue empty number (reverse rows)) elsewhere))
-      ]
-  ended_fewer r (Egress port) hows.End number = omega arith
-  ended_fewer r (Egress port) hows.Quit number = omega arith
-  ended_fewer r (Egress port) (hows.Malformed at) number = omega arith
-  ended_fewer r (Egress port) (hows.Overlong at) number = omega arith
-  ended_fewer r (Egress port) hows.Unwritten number = omega arith
-  ended_fewer r (Egress port) (hows.Full len) number = omega arith
-  ended_fewer r (Ingress port) how number = omega arith
-  ended_fewer r Control how number = omega arith
-  ended_fewer r Ticker how number = omega arith
 
   pub end_less : (r : Row) (who : Who) (how : How) → r.entry.act ≡ acts.End who how → r.entry.by ≡ pass_of plan who → pass_of plan who < pass_count plan → has_ended empty (pass_of plan who) (reverse rows) ≡ false → still_to_come plan (r ∷ reverse rows) + 1 ≤ still_to_come plan (reverse rows)
   end_less r who how act_is by_is within runs =
       let pass = pass_of plan who in
       let now_ended : has_ended empty pass (r ∷ reverse rows) ≡ true =
       or_left _ _ (ap (λ (a : Act). is_end a && (r.entry.by == pass)) act_is ∙ eq-eqb r.entry.by pass by_is) in
-      let fewer : (number : ℕ) → length (queue empty number (r ∷ reverse rows)) ≤ length (queue empty number (reverse rows)) =
-      λ number. omega (arith, ap length (ap (λ (a : Act). waiting_after number r a (queue empty number (reverse rows))) act_is), ended_fewer r who how number) in
+      let fewer : (number : ℕ) → length (queue plan empty number (r ∷ reverse rows)) ≤ length (queue plan empty number (reverse rows)) =
+      λ number. omega (arith, ap length (ap (λ (a : Act). waiting_after plan empty (reverse rows) number r a (queue plan empty number (reverse rows))) act_is), ended_fewer plan empty (reverse rows) number r who how (queue plan empty number (reverse rows))) in
       omega (
         arith,
-        waiting_at-later (reverse rows) (r ∷ reverse rows) fewer (numbers_of plan.ports),
+        waiting_at-later plan (reverse rows) (r ∷ reverse rows) fewer (numbers_of plan.ports),
         open_below-ended (reverse rows) (r ∷ reverse rows) (λ q before. or_right _ _ before) pass (pass_count plan) within runs now_ended,
       )
 
@@ -170,12 +166,12 @@ module _ (plan : Plan) (rows : List Row) (moment : ℕ) (ended : List Bool) (wai
       (omega (arith, open_below-some (reverse rows) (pass_of plan who) (pass_count plan) (pass_within plan who open_pass.known) open_pass.running))
 
   -- a drain of something fits
-  pub drain_fits : (number : ℕ) → has_port plan number ≡ true → 0 < length (queue empty number (reverse rows)) → length rows < plan.entries
+  pub drain_fits : (number : ℕ) → has_port plan number ≡ true → 0 < length (queue plan empty number (reverse rows)) → length rows < plan.entries
   drain_fits number known some =
       let place = placed plan number known in
-      let there : 0 < length (queue empty (get_or (numbers_of plan.ports) (place_of plan number) 0) (reverse rows)) =
-      subst (λ n. 0 < length (queue empty n (reverse rows))) (sym place.number_is) some in
-      fits plan rows moment ended waiting was (omega (arith, waiting_at-some (reverse rows) (numbers_of plan.ports) (place_of plan number) place.within there))
+      let there : 0 < length (queue plan empty (get_or (numbers_of plan.ports) (place_of plan number) 0) (reverse rows)) =
+      subst (λ n. 0 < length (queue plan empty n (reverse rows))) (sym place.number_is) some in
+      fits plan rows moment ended waiting was (omega (arith, waiting_at-some plan (reverse rows) (numbers_of plan.ports) (place_of plan number) place.within there))
 
   pub remembers_end : (who : Who) (how : How) (e : Entry) (ended' : List Bool) (waiting' : List Waiting) → MayCome plan empty (reverse rows) (events.End who how) → e ≡ (row_of plan empty (reverse rows) (events.End who how)).entry → ended' ≡ set ended e.by true → AreAfter (after_end who how) (numbers_of plan.ports) waiting waiting' → Remembers plan (rows ++ row e [] ∷ []) e.moment ended' waiting'
   remembers_end who how e ended' waiting' may e_is ended_is after =
@@ -197,7 +193,7 @@ module _ (plan : Plan) (rows : List Row) (moment : ℕ) (ended : List Bool) (wai
         passes = λ pass below. mark pass;
         marks = ap length ended_is ∙ length-set ended e.by true;
         queues = after;
-        holds = λ k in_ports w holds. holds_end plan.depth rows (row e []) (number_at plan k) w holds who how act_is;
+        holds = λ k in_ports w holds. holds_end plan rows (row e []) (number_at plan k) w holds who how act_is;
         octets = omega (arith, was.octets);
         room = room_less plan rows moment ended waiting was (row e []) (end_less (row e []) who how act_is by_is within may.0.running);
       })

@@ -13,9 +13,9 @@ open_below past zero = 0
 open_below past (suc n) = open_below past n + (if has_ended empty n past then 0 else 1)
 
 -- how many items wait at these ports
-abbrev pub waiting_at : List Row → List ℕ → ℕ
-waiting_at past [] = 0
-waiting_at past (n ∷ ns) = length (queue empty n past) + waiting_at past ns
+abbrev pub waiting_at : Plan → List Row → List ℕ → ℕ
+waiting_at plan past [] = 0
+waiting_at plan past (n ∷ ns) = length (queue plan empty n past) + waiting_at plan past ns
 
 abbrev pub still_to_come : Plan → List Row → ℕ
-still_to_come plan past = waiting_at past (numbers_of plan.ports) + open_below past (pass_count plan)
+still_to_come plan past = waiting_at plan past (numbers_of plan.ports) + open_below past (pass_count plan)

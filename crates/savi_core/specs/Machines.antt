@@ -28,7 +28,7 @@ row_at m n = slice_get (reverse m.past) n
 
 -- what waits at a port
 abbrev pub queue_at : Machine → Port → List Item
-queue_at m port = queue empty (number_of port) m.past
+queue_at m port = queue m.plan empty (number_of port) m.past
 
 -- no queue of a port of the plan is longer than the plan's depth
 abbrev pub HasShortQueues : Machine → Type 0

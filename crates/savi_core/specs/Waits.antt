@@ -1,17 +1,21 @@
 -- What a queue of entries' numbers stands for in a history whose rows are given with the oldest first.
-use Rattle.std.specs.Prelude.{ℕ, zero, suc, ◌<◌, ◌≤◌, ◌≡◌, ◌&&◌, ◌==◌, not, if◌then◌else◌, List, [], ◌∷◌, length, drop, slice_index, slice_index_or, Bool, true}
+use Rattle.std.specs.Prelude.{ℕ, zero, suc, ◌<◌, ◌≤◌, ◌≡◌, ◌&&◌, ◌==◌, nat_le, not, if◌then◌else◌, List, [], ◌∷◌, length, drop, slice_index, slice_index_or, Bool, true}
+use Rattle.std.specs.List.{filter}
+use Rattle.savi_kinds.specs.declared.plan.Plan.{Plan}
 use Rattle.savi_kinds.specs.declared.port.PortSet.{PortSet}
 use Rattle.savi_kinds.specs.declared.entry.Who.{Who}
 use Rattle.savi_kinds.specs.declared.entry.Who.TheVariants.{Egress}
 use Rattle.savi_kinds.specs.declared.entry.How.{How}
 use Rattle.savi_kinds.specs.declared.entry.How.TheVariants.{Failed}
 use Rattle.savi_kinds.specs.Ports.{number_of}
-use Rattle.savi_kinds.specs.PortSets.{is_member}
+use Rattle.savi_kinds.specs.PortSets.{is_member, set_of}
+use Rattle.savi_kinds.specs.ValidPlan.{numbers_of}
 use Rattle.egress_ring.specs.declared.item.Item.{Item as Queued}
 use Rattle.egress_ring.specs.declared.item.Item.TheVariants as entries
 use Rattle.egress_ring.specs.Waiting.{Waiting, nothing, with_last}
 use Rattle.hist_store.specs.Rows.{Row}
-use Rattle.savi_history.specs.Queues.{Item, item_of}
+use Rattle.savi_history.specs.Bases.{empty}
+use Rattle.savi_history.specs.Queues.{Item, item_of, room_at, queue}
 
 -- the frame of the row with this number
 abbrev pub frame_of : List Row → ℕ → Item
@@ -56,3 +60,11 @@ after_drain port count number waiting = if port == number then record waiting { 
 pub record AreAfter (change : ℕ → Waiting → Waiting) (numbers : List ℕ) (old new : List Waiting) : Type 0 where
   pub size : length new ≡ length old
   pub each : (k : ℕ) (d : Waiting) → k < length old → slice_index_or new k d ≡ change (slice_index numbers k) (slice_index_or old k d)
+
+-- a port takes no item more: as many wait there as may
+abbrev pub takes_none : Plan → List Row → ℕ → Bool
+takes_none plan past q = nat_le (room_at plan empty past q) (length (queue plan empty q past))
+
+-- those of these ports that take no item more
+abbrev pub full_among : Plan → List Row → PortSet → PortSet
+full_among plan past outs = set_of (filter (λ q. is_member outs q && takes_none plan past q) (numbers_of plan.ports))

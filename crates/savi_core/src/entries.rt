@@ -23,15 +23,15 @@ pub fn moment_at(last: Moment, stamp: u64) -> Moment
     last.max(stamp.min(LAST_MOMENT))
 }
 
-/// The entry of an event that goes nowhere.
-pub fn plain_entry(by: u32, moment: Moment, act: Act, verdict: Option<Verdict>) -> Entry
-    ensures { result ≡ (plain_row by moment act verdict).entry }
+/// The entry of an event that goes nowhere and on which there is no verdict.
+pub fn plain_entry(by: u32, moment: Moment, act: Act) -> Entry
+    ensures { result ≡ (plain_row by moment act).entry }
 {
     Entry {
         by,
         moment,
         act,
-        verdict,
+        verdict: None,
         outs: PortSet::empty(),
         cuts: PortSet::empty(),
         probes: 0,

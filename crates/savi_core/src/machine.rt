@@ -1,6 +1,6 @@
 //! The machine.
 
-ghost use Rattle.std.specs.Prelude.{◌≡◌, ◌≤◌, ◌<◌, true, false, ◌&&◌, ◌||◌, [], length, reverse, IfOk, IsSomeAnd, Some, ◌+◌, Option};
+ghost use Rattle.std.specs.Prelude.{◌≡◌, ◌≤◌, ◌<◌, true, false, ◌&&◌, ◌||◌, ℕ, List, [], length, reverse, IfOk, IsSomeAnd, Some, ◌+◌, Option};
 ghost use Rattle.savi_kinds.specs.Ports.{number_of};
 ghost use Rattle.savi_ends.specs.declared.sink.Put.{Put};
 ghost use Rattle.savi_ends.specs.Faults.{Rose};
@@ -15,7 +15,6 @@ ghost use Rattle.savi_kinds.specs.ValidPlan.{IsValidPlan, IsWithin};
 ghost use Rattle.savi_history.specs.Bases.{empty};
 ghost use Rattle.savi_history.specs.Passes.{has_port, has_pass, pass_of, control_pass, has_ended};
 ghost use Rattle.savi_history.specs.Limits.{has_room};
-ghost use Rattle.savi_history.specs.Queues.{is_closed, cuts};
 ghost use Rattle.savi_history.specs.Outs.{outs};
 ghost use Rattle.savi_history.specs.Events.{the_vlan};
 ghost use Rattle.savi_history.specs.Events as events;
@@ -23,6 +22,7 @@ ghost use Rattle.savi_history.specs.Legal.{IsLegal};
 ghost use Rattle.savi_history.specs.Journals.{IsJournalOf};
 ghost use Rattle.savi_core.specs.Machines.{HasShortQueues, started, row_at, queue_at, number_at};
 ghost use Rattle.savi_core.specs.Counts.{open_below};
+ghost use Rattle.savi_core.specs.Waits.{takes_none, full_among};
 ghost use Rattle.frame_class.specs.Reading.{IsClassOf};
 ghost use Rattle.savi_core.specs.Steps.{event_of, IsClassed, MayStep, Did, Drained, entry_of};
 
@@ -324,7 +324,7 @@ impl Core {
         ensures { result ≡ entry_of self.now (events.Drain port count) }
     {
         let by = pass_of(&self.plan, Who::Egress(port));
-        plain_entry(by, self.moment, Act::Drain { port, count }, None)
+        plain_entry(by, self.moment, Act::Drain { port, count })
     }
 
     // Enters a frame that is too long.
@@ -349,8 +349,10 @@ impl Core {
     {
         let by = pass_of(&self.plan, Who::Ingress(port));
         let moment = moment_at(self.moment, stamp);
-        let verdict = Verdict::Drop(Rule::Malformed);
-        plain_entry(by, moment, Act::Long { port, stamp, len }, Some(verdict))
+        Entry {
+            verdict: Some(Verdict::Drop(Rule::Malformed)),
+            ..plain_entry(by, moment, Act::Long { port, stamp, len })
+        }
     }
 
     // Enters the end of a pass.
@@ -371,12 +373,12 @@ impl Core {
         ensures { result ≡ entry_of self.now (events.End who how) }
     {
         let by = pass_of(&self.plan, who);
-        plain_entry(by, self.moment, Act::End { who, how }, None)
+        plain_entry(by, self.moment, Act::End { who, how })
     }
 
-    // The ports to which a frame with this verdict goes.
+    // The ports to which a frame with this verdict goes, whatever its octets.
     fn outs(&self, port: Port, verdict: Verdict) -> PortSet
-        ensures { result ≡ outs the_vlan self.now.plan empty self.now.past (number_of port) verdict }
+        ensures { (moment : ℕ) (octets : List ℕ) → result ≡ outs the_vlan self.now.plan empty self.now.past (number_of port) moment octets verdict }
     {
         match verdict {
             Verdict::Pass(scope) => ports_of(&self.plan, scope, port),
@@ -386,7 +388,7 @@ impl Core {
 
     // Those of these ports whose queue takes nothing.
     fn cuts(&self, outs: PortSet) -> PortSet
-        ensures { result ≡ cuts self.now.plan empty self.now.past outs }
+        ensures { result ≡ full_among self.now.plan self.now.past outs }
     {
         let mut cuts = PortSet::empty();
         for (place, port) in self.plan.ports.as_slice().iter().enumerate() {
@@ -402,7 +404,7 @@ impl Core {
         requires within { place < length self.now.plan.ports }
         requires port { number_at self.now.plan place ≡ number_of port }
         ensures { let n = number_of port in
-            result ≡ (is_member outs n && is_closed self.now.plan empty self.now.past n) }
+            result ≡ (is_member outs n && takes_none self.now.plan self.now.past n) }
     {
         outs.contains(port) && self.is_closed(place)
     }
@@ -410,7 +412,7 @@ impl Core {
     // Whether the port at this place takes nothing: its queue is full, or its egress has ended.
     fn is_closed(&self, place: usize) -> bool
         requires { place < length self.now.plan.ports }
-        ensures { result ≡ is_closed self.now.plan empty self.now.past (number_at self.now.plan place) }
+        ensures { result ≡ takes_none self.now.plan self.now.past (number_at self.now.plan place) }
     {
         self.queues[place].len() >= self.plan.depth
             || self.closed[self.plan.ports.as_slice().len() + 2 + place]

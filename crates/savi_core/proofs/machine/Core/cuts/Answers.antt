@@ -3,8 +3,7 @@ use Rattle.std.proofs.lemmas.List.{at_drop_all}
 use Rattle.savi_kinds.specs.declared.plan.PortPlan.{PortPlan}
 use Rattle.savi_kinds.specs.Ports.{number_of}
 use Rattle.savi_kinds.specs.PortSets.{is_member}
-use Rattle.savi_history.specs.Bases.{empty}
-use Rattle.savi_history.specs.Queues.{is_closed}
+use Rattle.savi_core.specs.Waits.{takes_none}
 use Rattle.savi_core.specs.Machines.{Machine}
 use Rattle.savi_core.proofs.Sets.{union, union-none, chosen, chosen_taken, chosen_left, chosen_numbers}
 use Rattle.savi_core.proofs.machine.Core.cuts.Goals as goal
@@ -14,7 +13,7 @@ pub loop-place-preserved : goal.loop-place-preserved
 loop-place-preserved c =
     let m = c.args.self.now in
     let ports = m.plan.ports in
-    let test : PortPlan → Bool = λ q. is_member c.args.outs (number_of q.number) && is_closed m.plan empty m.past (number_of q.number) in
+    let test : PortPlan → Bool = λ q. is_member c.args.outs (number_of q.number) && takes_none m.plan m.past (number_of q.number) in
     let place = c.loop-place.place in
     let item = c.port-item.result in
     let same : c.as_slice-port-items.result.now ≡ ports = c.as_slice-port-items.ensures ∙ ap (λ (x : Machine). x.plan.ports) c.self.view_is in
@@ -33,7 +32,7 @@ pub returns : goal.returns
 returns c =
     let m = c.args.self.now in
     let ports = m.plan.ports in
-    let numbers : ℕ → Bool = λ q. is_member c.args.outs q && is_closed m.plan empty m.past q in
+    let numbers : ℕ → Bool = λ q. is_member c.args.outs q && takes_none m.plan m.past q in
     let test : PortPlan → Bool = λ q. numbers (number_of q.number) in
     let same : c.as_slice-port-items.result.now ≡ ports = c.as_slice-port-items.ensures ∙ ap (λ (x : Machine). x.plan.ports) c.self.view_is in
     let all : length ports ≤ c.loop-place.place = omega (arith, ap length same) in

@@ -35,8 +35,8 @@ returns-then-count-eq0 c =
     let w = c.index.result.now in
     let known : has_port inside.plan number ≡ true = ap (λ (m : Machine). has_port m.plan number) c.self.view_is ∙ c.requires.port in
     let holds = holds_at inside.plan inside.hist.rows inside.moment inside.closed inside.queues.items c.self.invariant.0 number c.place_of-place.result w known c.place_of-place.ensures.place c.index.ensures in
-    let none : length (queue empty number (reverse inside.hist.rows)) ≡ 0 = omega (arith, holds_length inside.plan.depth inside.hist.rows number w holds, c.len.ensures.len, c.min-count.ensures, c.if-count-eq0.true, c.requires.most.0) in
-    (ap (λ (m : Machine). queue_at m c.args.port) (sym c.self.view_is) ∙ nil_from_length (queue empty number (reverse inside.hist.rows)) none, c.clear.ensures, refl)
+    let none : length (queue inside.plan empty number (reverse inside.hist.rows)) ≡ 0 = omega (arith, holds_length inside.plan inside.hist.rows number w holds, c.len.ensures.len, c.min-count.ensures, c.if-count-eq0.true, c.requires.most.0) in
+    (ap (λ (m : Machine). queue_at m c.args.port) (sym c.self.view_is) ∙ nil_from_length (queue inside.plan empty number (reverse inside.hist.rows)) none, c.clear.ensures, refl)
 
 pub index_mut-requires : goal.index_mut-requires
 index_mut-requires c =
@@ -63,7 +63,7 @@ move_frames-requires-clause-count c =
     let known : has_port inside.plan number ≡ true = ap (λ (m : Machine). has_port m.plan number) c.self.view_is ∙ c.requires.port in
     let holds = holds_at inside.plan rows inside.moment inside.closed inside.queues.items c.self.invariant.0 number place w known c.place_of-place.ensures.place c.index.ensures in
     let holds_v = holds_at inside.plan rows inside.moment inside.closed inside.queues.items c.self.invariant.0 number place v known c.place_of-place.ensures.place c.index_mut.ensures.value in
-    omega (arith, holds_length inside.plan.depth rows number w holds, holds_length inside.plan.depth rows number v holds_v, c.len.ensures.len, c.min-count.ensures)
+    omega (arith, holds_length inside.plan rows number w holds, holds_length inside.plan rows number v holds_v, c.len.ensures.len, c.min-count.ensures)
 
 pub append-requires-clause-room : goal.append-requires-clause-room
 append-requires-clause-room c =
@@ -73,7 +73,7 @@ append-requires-clause-room c =
     let w = c.index.result.now in
     let known : has_port inside.plan number ≡ true = ap (λ (m : Machine). has_port m.plan number) c.self.view_is ∙ c.requires.port in
     let holds = holds_at inside.plan rows inside.moment inside.closed inside.queues.items c.self.invariant.0 number c.place_of-place.result w known c.place_of-place.ensures.place c.index.ensures in
-    let some : 0 < length (queue empty number (reverse rows)) = omega (arith, holds_length inside.plan.depth rows number w holds, c.len.ensures.len, c.min-count.ensures, c.if-count-eq0.false) in
+    let some : 0 < length (queue inside.plan empty number (reverse rows)) = omega (arith, holds_length inside.plan rows number w holds, c.len.ensures.len, c.min-count.ensures, c.if-count-eq0.false) in
     omega (arith, drain_fits inside.plan rows inside.moment inside.closed inside.queues.items c.self.invariant.0 number known some, c.self.invariant.1)
 
 pub invariant_of-self : goal.invariant_of-self
@@ -90,9 +90,9 @@ invariant_of-self c =
     let event = events.Drain c.args.port count in
     let known : has_port inside.plan number ≡ true = ap (λ (m : Machine). has_port m.plan number) c.self.view_is ∙ c.requires.port in
     let holds = holds_at inside.plan rows inside.moment inside.closed inside.queues.items c.self.invariant.0 number place w known c.place_of-place.ensures.place c.index.ensures in
-    let size = holds_length inside.plan.depth rows number w holds in
+    let size = holds_length inside.plan rows number w holds in
     let least : 1 ≤ count = omega (arith, c.if-count-eq0.false) in
-    let most : count ≤ length (queue empty number (reverse rows)) = omega (arith, size, c.len.ensures.len, c.min-count.ensures) in
+    let most : count ≤ length (queue inside.plan empty number (reverse rows)) = omega (arith, size, c.len.ensures.len, c.min-count.ensures) in
     let open_pass : IsOpen inside.plan empty (reverse rows) (Egress c.args.port) =
     record { known = known; running = waits_open inside.plan (reverse rows) number c.self.invariant.0.legal known (omega (arith, least, most)) } in
     let e_is = subst (λ (m : Machine). e ≡ entry_of m event) (sym c.self.view_is) c.drain_entry-entry.ensures in
@@ -124,8 +124,8 @@ returns c =
     let known : has_port inside.plan number ≡ true = ap (λ (x : Machine). has_port x.plan number) c.self.view_is ∙ c.requires.port in
     let holds = holds_at inside.plan rows inside.moment inside.closed inside.queues.items c.self.invariant.0 number place w known c.place_of-place.ensures.place c.index.ensures in
     let holds_v = holds_at inside.plan rows inside.moment inside.closed inside.queues.items c.self.invariant.0 number place v known c.place_of-place.ensures.place c.index_mut.ensures.value in
-    let queue_is : queue empty number (reverse rows) ≡ queue_at m port = ap (λ (x : Machine). queue_at x port) c.self.view_is in
-    let size : length w.items ≡ length (queue_at m port) = omega (arith, holds_length inside.plan.depth rows number w holds, ap length queue_is) in
+    let queue_is : queue inside.plan empty number (reverse rows) ≡ queue_at m port = ap (λ (x : Machine). queue_at x port) c.self.view_is in
+    let size : length w.items ≡ length (queue_at m port) = omega (arith, holds_length inside.plan rows number w holds, ap length queue_is) in
     let count_is : count ≡ count_of m port c.args.most = c.min-count.ensures ∙ ap (min c.args.most) (c.len.ensures.len ∙ size) in
     let e_is = subst (λ (x : Machine). e ≡ entry_of x (events.Drain port count)) (sym c.self.view_is) c.drain_entry-entry.ensures in (
       (λ none. c.if-count-eq0.false (omega (arith, count_is, ap length none))),

@@ -6,7 +6,7 @@ pub invariant_of-result : goal.invariant_of-result
 invariant_of-result c =
     let plan = c.args.plan in
     rw c.in_ok-hist.ensures (
-      remembers_start plan c.in_ok-queues.queues.items c.requires.valid (omega (arith, c.in_ok-queues.queues.ok.0, c.in_ok-queues.ensures.count, ap length c.as_slice.ensures)) c.in_ok-queues.ensures.empty,
+      remembers_start plan c.in_ok-queues.queues.items c.requires.valid c.requires.guard_only (omega (arith, c.in_ok-queues.queues.ok.0, c.in_ok-queues.ensures.count, ap length c.as_slice.ensures)) c.in_ok-queues.ensures.empty,
       refl,
       refl,
     )

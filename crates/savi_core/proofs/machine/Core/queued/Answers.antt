@@ -18,5 +18,5 @@ returns c =
     let number = number_of c.args.port in
     let known : has_port inside.plan number ≡ true = ap (λ (m : Machine). has_port m.plan number) c.self.view_is ∙ c.requires in
     let w = c.index.result.now in
-    rw (← c.self.view_is) (c.len.ensures.len ∙ sym (holds_length inside.plan.depth inside.hist.rows number w
+    rw (← c.self.view_is) (c.len.ensures.len ∙ sym (holds_length inside.plan inside.hist.rows number w
     (holds_at inside.plan inside.hist.rows inside.moment inside.closed inside.queues.items c.self.invariant.0 number c.place_of.result w known c.place_of.ensures.place c.index.ensures)))
