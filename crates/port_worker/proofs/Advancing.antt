@@ -17,7 +17,8 @@ use Rattle.savi_history.specs.Turns.{Turn, Arrives}
 use Rattle.savi_history.specs.Replay.{Stops, pieces_by, event_of, with_event, drained, entered}
 use Rattle.savi_history.proofs.PassNumbers.{number_at, known_at}
 use Rattle.savi_history.proofs.PortPlaces.{length-numbers, place_within}
-use Rattle.savi_history.proofs.Waiting.{ended_arrival, one_waits}
+use Rattle.savi_history.proofs.Waiting.{ended_arrival}
+use Rattle.savi_history.proofs.Depth.{queue_within}
 use Rattle.port_worker.specs.declared.port_ends.Ahead.{Ahead}
 use Rattle.port_worker.specs.declared.port_ends.PortEnds.{PortEnds}
 use Rattle.port_worker.specs.Pairs.{EachPair}
@@ -112,25 +113,25 @@ module _ {S K C : Type 0} (written : K → Option (List ℕ)) (faults : K → �
         (later.0, later.1, record { before = λ stops allowed. allowed_kept known stops (later.2.before stops allowed); made_so = λ stops allowed. later.2.made_so stops allowed ∙ same stops })
 
 -- behind an arrival that was entered each queue may be drained
-drainable_behind : (plan : Plan) (past : List Row) (port here : Port) (arrival : Arrival) (k : ℕ) → k < length plan.ports → number_of here ≡ number_at plan k → queue plan empty (number_of here) past ≡ [] → IsDrainable plan (with_event plan empty past (event_of port arrival)) here
-drainable_behind plan past port here arrival k within number quiet =
-    let one = one_waits plan empty past port arrival (number_of here) quiet in
+drainable_behind : (plan : Plan) (past : List Row) (port here : Port) (arrival : Arrival) (k : ℕ) → plan.depth ≤ 256 → k < length plan.ports → number_of here ≡ number_at plan k → queue plan empty (number_of here) past ≡ [] → IsDrainable plan (with_event plan empty past (event_of port arrival)) here
+drainable_behind plan past port here arrival k depth within number quiet =
+    let few = queue_within plan empty (number_of here) (with_event plan empty past (event_of port arrival)) in
     let n_quiet : queue plan empty (number_at plan k) past ≡ [] = ap (λ (n : ℕ). queue plan empty n past) (sym number) ∙ quiet in
     record {
       known = ap (has_port plan) number ∙ known_at plan k within;
-      few = omega (arith, one);
+      few = omega (arith, few, depth);
       quiet = λ ended.
           let ended_k : has_ended empty (egress_pass plan (number_at plan k)) past ≡ true =
           sym (ended_arrival plan empty past port arrival (egress_pass plan (number_at plan k))) ∙ ap (λ (n : ℕ). has_ended empty (egress_pass plan n) (with_event plan empty past (event_of port arrival))) (sym number) ∙ ended in
           ap (λ (n : ℕ). queue plan empty n (with_event plan empty past (event_of port arrival))) number ∙ closed_arrival plan past port arrival k within ended_k ∙ n_quiet;
     }
 
-pub drainable_then : (plan plan' : Plan) (port here here' : Port) (o : Option Turn) (past mid : List Row) (result : Bool) (k : ℕ) → plan' ≡ plan → here' ≡ here → result ≡ true → IsSome o → IfSome o (λ turn. Enters plan port turn past result mid)
+pub drainable_then : (plan plan' : Plan) (port here here' : Port) (o : Option Turn) (past mid : List Row) (result : Bool) (k : ℕ) → plan.depth ≤ 256 → plan' ≡ plan → here' ≡ here → result ≡ true → IsSome o → IfSome o (λ turn. Enters plan port turn past result mid)
     → k < length plan.ports → number_of here ≡ number_at plan k → queue plan empty (number_of here) past ≡ [] → IsDrainable plan' mid here'
-drainable_then plan plan' port here here' None past mid result k plan_is here_is answer some enters within number quiet = cc
-drainable_then plan plan' port here here' (Some turn) past mid result k plan_is here_is answer some enters within number quiet =
+drainable_then plan plan' port here here' None past mid result k depth plan_is here_is answer some enters within number quiet = cc
+drainable_then plan plan' port here here' (Some turn) past mid result k depth plan_is here_is answer some enters within number quiet =
     let e : Enters plan port turn past true mid = subst (λ (b : Bool). Enters plan port turn past b mid) answer enters in
-    subst (λ (p : Plan). IsDrainable p mid here') (sym plan_is) (subst (λ (p : Port). IsDrainable plan mid p) (sym here_is) (subst (λ (l : List Row). IsDrainable plan l here) (sym e.3) (drainable_behind plan past port here e.0 k within number quiet)))
+    subst (λ (p : Plan). IsDrainable p mid here') (sym plan_is) (subst (λ (p : Port). IsDrainable plan mid p) (sym here_is) (subst (λ (l : List Row). IsDrainable plan l here) (sym e.3) (drainable_behind plan past port here e.0 k depth within number quiet)))
 
 -- the outputs behind an arrival and its drains, and behind an ending
 

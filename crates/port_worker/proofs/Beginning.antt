@@ -190,7 +190,7 @@ module _ {S K C : Type 0} (written : K → Option (List ℕ)) (faults : K → �
     next_is : (stops : Stops) → AllowedBelow first.plan (place + 1) known_now stops next.past → next.past ≡ made stops
     next_is stops allowed =
         made_here written faults first.plan so_far.known now.past next.past x x y made refl (omega arith) only leaves step stops
-        (subst (λ (n : ℕ). Allows (known_now n) (stops n) (pieces_by plan empty n next.past)) (sym number_here) (allowed place (omega arith)))
+        (subst (λ (n : ℕ). Allows (known_now n) (stops n) (pieces_by first.plan empty n next.past)) (sym number_here) (allowed place (omega arith)))
 
     rest_is : (stops : Stops) → AllowedBelow first.plan (place + 1) known_now stops next.past → begun first.plan empty stops (drop (place + 1) first.plan.ports) next.past ≡ begun first.plan empty stops (drop place first.plan.ports) now.past
     rest_is stops allowed =

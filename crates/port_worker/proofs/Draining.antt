@@ -153,13 +153,13 @@ module _ {S K C : Type 0} (written : K → Option (List ℕ)) (faults : K → �
 
   drainable_here : (p : Port) → x.port ≡ p → IsDrainable first.plan now.past p → IsDrainable first.plan next.past p
   drainable_here p same was =
-      let none : waiting_at p next.past ≡ [] = subst (λ (r : Port). waiting_at r next.past ≡ []) same (emptied written faults first.plan now.past next.past x y drained_one) in
+      let none : waiting_at first.plan p next.past ≡ [] = subst (λ (r : Port). waiting_at first.plan r next.past ≡ []) same (emptied written faults first.plan now.past next.past x y drained_one) in
       record { known = was.known; few = rw none (omega arith); quiet = λ ended. none }
 
   drainable_there : (p : Port) → number_of x.port ≢ number_of p → egress_pass first.plan (number_of x.port) ≢ egress_pass first.plan (number_of p) → IsDrainable first.plan now.past p → IsDrainable first.plan next.past p
   drainable_there p other passes was =
       let keeps = leaves.keeps (number_of p) other passes in
-      let same : waiting_at p next.past ≡ waiting_at p now.past = leaves.queues (number_of p) other in
+      let same : waiting_at first.plan p next.past ≡ waiting_at first.plan p now.past = leaves.queues (number_of p) other in
       record { known = was.known; few = rw same was.few; quiet = λ ended. same ∙ was.quiet (sym keeps.ended_same ∙ ended) }
 
   drainable_at : (k : ℕ) (d : PortEnds S K C) → k < length old → (k ≡ place) ⊎ (k ≢ place) → IsDrainable first.plan next.past (get_or old k d).port
@@ -175,13 +175,13 @@ module _ {S K C : Type 0} (written : K → Option (List ℕ)) (faults : K → �
   alone_at k d within (inl same) ended =
       let here : get_or old k d ≡ x = ap (λ (n : ℕ). get_or old n d) same ∙ get_or_default old place d y inside_old ∙ old_is in
       let ended_now : has_ended empty (egress_pass first.plan (number_of (get_or old k d).port)) now.past ≡ true = so_far.later (egress_pass first.plan (number_of (get_or old k d).port)) ended in
-      let none : waiting_at x.port now.past ≡ [] = subst (λ (p : PortEnds S K C). waiting_at p.port now.past ≡ []) here ((so_far.drainable k d within).quiet ended_now) in
+      let none : waiting_at first.plan x.port now.past ≡ [] = subst (λ (p : PortEnds S K C). waiting_at first.plan p.port now.past ≡ []) here ((so_far.drainable k d within).quiet ended_now) in
       ap (λ (n : ℕ). get_or (set new place y) n d) same ∙ get_or-set_same new place y d inside ∙ drained_nothing written faults first.plan now.past next.past x y drained_one none ∙ sym here
   alone_at k d within (inr other) ended = get_or-set_other new place k y d other ∙ so_far.alone k d within ended
 
   module _ (start : List (PortEnds S K C)) (known : Stops) (before : DrainedSoFar written faults first.plan place known first.past now.past start new) where
     abbrev made : Stops → List Row
-    made stops = with_drain first.plan empty stops x.port (length (waiting_at x.port now.past)) now.past
+    made stops = with_drain first.plan empty stops x.port (length (waiting_at first.plan x.port now.past)) now.past
 
     inside_start : place < length start
     inside_start = let size = before.outputs.size in omega arith
@@ -228,14 +228,14 @@ module _ {S K C : Type 0} (written : K → Option (List ℕ)) (faults : K → �
         (output_there written faults first.plan before.later now.past next.past o x y made was.port was.later only leaves step (get_or start k d) (get_or new k d)
         (λ e. apart k (within_old k within) other (e ∙ number_start k d within)) (λ e. passes_apart k (within_old k within) other (e ∙ ap (egress_pass first.plan) (number_start k d within))) (before.outputs.each k d within))
 
-    allowed_at : (stops : Stops) (k : ℕ) → k < length old → (k ≡ place) ⊎ (k ≢ place) → Allows (known_now (number_at first.plan k)) (stops (number_at first.plan k)) (pieces_by plan empty (number_at first.plan k) next.past)
-        → Allows (before.later (number_at first.plan k)) (stops (number_at first.plan k)) (pieces_by plan empty (number_at first.plan k) now.past)
+    allowed_at : (stops : Stops) (k : ℕ) → k < length old → (k ≡ place) ⊎ (k ≢ place) → Allows (known_now (number_at first.plan k)) (stops (number_at first.plan k)) (pieces_by first.plan empty (number_at first.plan k) next.past)
+        → Allows (before.later (number_at first.plan k)) (stops (number_at first.plan k)) (pieces_by first.plan empty (number_at first.plan k) now.past)
     allowed_at stops k within (inl same) allowed =
         let here : number_of x.port ≡ number_at first.plan k = number_here ∙ ap (number_at first.plan) (sym same) in
-        subst (λ (n : ℕ). Allows (before.later n) (stops n) (pieces_by plan empty n now.past)) here
+        subst (λ (n : ℕ). Allows (before.later n) (stops n) (pieces_by first.plan empty n now.past)) here
         (drain.before (stops (number_of x.port))
         (allowed_here written faults first.plan before.later now.past next.past o x y made was.port was.later only leaves step (stops (number_of x.port))
-        (subst (λ (n : ℕ). Allows (known_now n) (stops n) (pieces_by plan empty n next.past)) (sym here) allowed)))
+        (subst (λ (n : ℕ). Allows (known_now n) (stops n) (pieces_by first.plan empty n next.past)) (sym here) allowed)))
     allowed_at stops k within (inr other) allowed =
         allowed_there written faults first.plan before.later now.past next.past o x y made was.port was.later only leaves step (number_at first.plan k) (stops (number_at first.plan k)) (apart k within other) (passes_apart k within other) allowed
 
@@ -243,7 +243,7 @@ module _ {S K C : Type 0} (written : K → Option (List ℕ)) (faults : K → �
     allowed_before stops allowed k d within =
         let count = count_is old first.plan planned in
         let size = length-numbers first.plan.ports in
-        subst (λ (n : ℕ). Allows (before.later n) (stops n) (pieces_by plan empty n now.past)) (get_or_default (numbers_of first.plan.ports) k 0 d within)
+        subst (λ (n : ℕ). Allows (before.later n) (stops n) (pieces_by first.plan empty n now.past)) (get_or_default (numbers_of first.plan.ports) k 0 d within)
         (allowed_at stops k (omega arith) (cases_eq k place) (allowed k 0 within))
 
     next_is : (stops : Stops) → AreAllowed first.plan known_now stops next.past → next.past ≡ made stops
@@ -252,7 +252,7 @@ module _ {S K C : Type 0} (written : K → Option (List ℕ)) (faults : K → �
         let size = length-numbers first.plan.ports in
         let here = inside_old in
         made_here written faults first.plan before.later now.past next.past o x y made was.port was.later only leaves step stops
-        (subst (λ (n : ℕ). Allows (known_now n) (stops n) (pieces_by plan empty n next.past)) (sym number_here) (allowed place 0 (omega arith)))
+        (subst (λ (n : ℕ). Allows (known_now n) (stops n) (pieces_by first.plan empty n next.past)) (sym number_here) (allowed place 0 (omega arith)))
 
     rest_is : (stops : Stops) → AreAllowed first.plan known_now stops next.past → drained first.plan empty stops (drop (place + 1) first.plan.ports) next.past ≡ drained first.plan empty stops (drop place first.plan.ports) now.past
     rest_is stops allowed =
@@ -260,7 +260,7 @@ module _ {S K C : Type 0} (written : K → Option (List ℕ)) (faults : K → �
         let port_is : q.0.number ≡ x.port = q.2 ∙ ap (λ (p : PortEnds S K C). p.port) old_is in
         let one : drained first.plan empty stops (drop place first.plan.ports) now.past ≡ drained first.plan empty stops (drop (suc place) first.plan.ports) next.past =
         ap (λ (l : List PortPlan). drained first.plan empty stops l now.past) q.1
-        ∙ ap (λ (p : Port). drained first.plan empty stops (drop (suc place) first.plan.ports) (with_drain first.plan empty stops p (length (waiting_at p now.past)) now.past)) port_is
+        ∙ ap (λ (p : Port). drained first.plan empty stops (drop (suc place) first.plan.ports) (with_drain first.plan empty stops p (length (waiting_at first.plan p now.past)) now.past)) port_is
         ∙ ap (drained first.plan empty stops (drop (suc place) first.plan.ports)) (sym (next_is stops allowed)) in
         rw add-one (sym one)
 

@@ -228,7 +228,7 @@ module _ {S K C : Type 0} (left : S → Option (List ℕ)) (written : K → Opti
           took_of written sink_faults plan past now n (get_or first k d).ends.sink (get_or ports k d).ends.sink (r.known n) (output_at k d inside) (ended_output k d inside);
     }
 
-    pub fits_out : EachPair (IsOutputFit written now) first ports
+    pub fits_out : EachPair (IsOutputFit written plan now) first ports
     fits_out = record {
       size = r.outputs.size;
       each = λ k d inside.

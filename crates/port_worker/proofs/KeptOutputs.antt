@@ -1,6 +1,5 @@
 -- What an entry leaves of an output.
-use Rattle.std.proofs.Common.{◌≡◌, ◌≢◌, ℕ, suc, ◌<◌, ◌≤◌, ◌==◌, ◌&&◌, not, Bool, true, false, List, [], length, refl, sym, ap, ◌∙◌, subst, arith, Option, Some, None}
-use Rattle.std.proofs.lemmas.Bool.{and_from, or_right}
+use Rattle.std.proofs.Common.{◌≡◌, ◌≢◌, ℕ, suc, ◌<◌, ◌≤◌, ◌==◌, Bool, true, false, List, [], length, refl, sym, ap, ◌∙◌, subst, arith, Option, Some, None}
 use Rattle.std.proofs.lemmas.Bool.Decides.{nat_tests}
 use Rattle.savi_kinds.specs.declared.plan.Plan.{Plan}
 use Rattle.savi_kinds.specs.declared.port.Port.{Port}
@@ -8,20 +7,19 @@ use Rattle.savi_kinds.specs.declared.entry.Who.TheVariants.{Ingress, Control, Ti
 use Rattle.savi_kinds.specs.declared.entry.How.{How}
 use Rattle.savi_kinds.specs.declared.entry.How.TheVariants as hows
 use Rattle.savi_kinds.specs.Ports.{number_of}
-use Rattle.savi_kinds.specs.PortSets.{is_member}
 use Rattle.savi_kinds.specs.Arrivals.{Arrival}
 use Rattle.savi_kinds.specs.Arrivals as arrivals
 use Rattle.pcap_io.specs.Captures.{capture_text}
 use Rattle.hist_store.specs.Rows.{Row}
 use Rattle.savi_history.specs.Bases.{empty}
 use Rattle.savi_history.specs.Passes.{has_ended, egress_pass, pass_of, ticker_pass}
-use Rattle.savi_history.specs.Queues.{Item, queue, sent, is_closed, is_queued, cuts}
+use Rattle.savi_history.specs.Queues.{Item, queue, sent}
 use Rattle.savi_history.specs.Outputs.{sent_items}
-use Rattle.savi_history.specs.Events.{Frame, Drain, End, row_of, outs_of}
+use Rattle.savi_history.specs.Events.{Drain, End}
 use Rattle.savi_history.specs.Replay.{with_event, event_of, pieces_by}
 use Rattle.savi_history.specs.PortOutputs.{output_end, text_before_last_drain, pieces, TookPieces, FitsOutput, FitsOutputAt}
 use Rattle.savi_history.proofs.PassNumbers.{number_at}
-use Rattle.savi_history.proofs.PortMembers.{member_chosen}
+use Rattle.savi_history.proofs.Closed.{nothing_joins_frame, nothing_joins_long}
 use Rattle.savi_history.proofs.Waiting.{ended_arrival, ended_other, empty_end, sent_arrival, sent_end, sent_elsewhere}
 use Rattle.port_worker.specs.Drains.{with_failed}
 use Rattle.port_worker.specs.Outputs.{IsOutput}
@@ -142,24 +140,10 @@ end_here plan past port how = let same : (number_of port == number_of port) ≡ 
 
 -- an arrival, which joins no queue whose egress has ended
 
-queued_at : (out cut : Bool) → (out ≡ true → cut ≡ true) → (out && not cut) ≡ false
-queued_at true true is = refl
-queued_at true false is = sym (is refl)
-queued_at false cut is = refl
-
-left_out : (plan : Plan) (past : List Row) (port : Port) (stamp : ℕ) (octets : List ℕ) (k : ℕ) → k < length plan.ports → has_ended empty (egress_pass plan (number_at plan k)) past ≡ true
-    → is_queued (number_at plan k) (row_of plan empty past (Frame port stamp octets)) ≡ false
-left_out plan past port stamp octets k inside ended =
-    let out = outs_of plan empty past port stamp octets in
-    let n = number_at plan k in
-    let test : ℕ → Bool = λ q. is_member out q && is_closed plan empty past q in
-    let closed : is_closed plan empty past n ≡ true = or_right _ _ ended in
-    queued_at (is_member out n) (is_member (cuts plan empty past out) n) (λ goes. member_chosen test plan.ports k inside (and_from _ _ goes closed))
-
 pub closed_arrival : (plan : Plan) (past : List Row) (port : Port) (arrival : Arrival) (k : ℕ) → k < length plan.ports → has_ended empty (egress_pass plan (number_at plan k)) past ≡ true
     → queue plan empty (number_at plan k) (with_event plan empty past (event_of port arrival)) ≡ queue plan empty (number_at plan k) past
-closed_arrival plan past port (arrivals.Frame stamp octets) k inside ended = rw (left_out plan past port stamp octets k inside ended) refl
-closed_arrival plan past port (arrivals.Long stamp len) k inside ended = refl
+closed_arrival plan past port (arrivals.Frame stamp octets) k inside ended = nothing_joins_frame plan past (number_at plan k) port stamp octets ended
+closed_arrival plan past port (arrivals.Long stamp len) k inside ended = nothing_joins_long plan past (number_at plan k) port stamp len ended
 
 end_arrival : (plan : Plan) (past : List Row) (port : Port) (arrival : Arrival) (n : ℕ) → output_end n (with_event plan empty past (event_of port arrival)) ≡ output_end n past
 end_arrival plan past port (arrivals.Frame stamp octets) n = refl

@@ -103,9 +103,9 @@ leaves_written written faults plan port past now given old new (inr front) = sub
 pub leaves_drained : {S K C : Type 0} (written : K → Option (List ℕ)) (faults : K → ℕ) (plan : Plan) (past now : List Row) (x y : PortEnds S K C) → IsDrained written faults plan past now x y → PortLeaves plan x.port past now
 leaves_drained written faults plan past now x y (inl quiet) = leaves_same plan x.port past now quiet.past_same
 leaves_drained written faults plan past now x y (inr drained) =
-    let count = length (waiting_at x.port past) in
+    let count = length (waiting_at plan x.port past) in
     let mid = with_event plan empty past (Drain x.port count) in
-    leaves_then plan x.port past mid now (leaves_drain plan x.port past count) (leaves_written written faults plan x.port mid now (records (waiting_at x.port past)) x.ends.sink y.ends.sink drained.wrote)
+    leaves_then plan x.port past mid now (leaves_drain plan x.port past count) (leaves_written written faults plan x.port mid now (records (waiting_at plan x.port past)) x.ends.sink y.ends.sink drained.wrote)
 
 itself_at : (n : ℕ) → (n == n) ≡ true
 itself_at n = grind (arith, nat_tests)
@@ -113,8 +113,8 @@ itself_at n = grind (arith, nat_tests)
 pub quiet_failed : (plan : Plan) (port : Port) (past : List Row) → queue plan empty (number_of port) (with_failed plan port past) ≡ []
 quiet_failed plan port past = rw (itself_at (number_of port)) refl
 
-quiet_whole : (plan : Plan) (port : Port) (past : List Row) → queue plan empty (number_of port) (with_event plan empty past (Drain port (length (waiting_at port past)))) ≡ []
-quiet_whole plan port past = rw (itself_at (number_of port)) (drop_all (length (waiting_at port past)) (waiting_at port past) (omega arith))
+quiet_whole : (plan : Plan) (port : Port) (past : List Row) → queue plan empty (number_of port) (with_event plan empty past (Drain port (length (waiting_at plan port past)))) ≡ []
+quiet_whole plan port past = rw (itself_at (number_of port)) (drop_all (length (waiting_at plan port past)) (waiting_at plan port past) (omega arith))
 
 quiet_written : {K : Type 0} (written : K → Option (List ℕ)) (faults : K → ℕ) (plan : Plan) (port : Port) (past now : List Row) (given : List (List ℕ)) (old new : K) → IsWritten written faults plan port past now given old new → queue plan empty (number_of port) past ≡ [] → queue plan empty (number_of port) now ≡ []
 quiet_written written faults plan port past now given old new (inl all) none = ap (λ (l : List Row). queue plan empty (number_of port) l) all.past ∙ none
@@ -124,10 +124,10 @@ quiet_written written faults plan port past now given old new (inr front) none =
 pub emptied : {S K C : Type 0} (written : K → Option (List ℕ)) (faults : K → ℕ) (plan : Plan) (past now : List Row) (x y : PortEnds S K C) → IsDrained written faults plan past now x y → queue plan empty (number_of x.port) now ≡ []
 emptied written faults plan past now x y (inl quiet) = ap (λ (l : List Row). queue plan empty (number_of x.port) l) quiet.past_same ∙ quiet.none
 emptied written faults plan past now x y (inr drained) =
-    quiet_written written faults plan x.port (with_event plan empty past (Drain x.port (length (waiting_at x.port past)))) now (records (waiting_at x.port past)) x.ends.sink y.ends.sink drained.wrote (quiet_whole plan x.port past)
+    quiet_written written faults plan x.port (with_event plan empty past (Drain x.port (length (waiting_at plan x.port past)))) now (records (waiting_at plan x.port past)) x.ends.sink y.ends.sink drained.wrote (quiet_whole plan x.port past)
 
 -- where nothing waited nothing changes
-pub drained_nothing : {S K C : Type 0} (written : K → Option (List ℕ)) (faults : K → ℕ) (plan : Plan) (past now : List Row) (x y : PortEnds S K C) → IsDrained written faults plan past now x y → waiting_at x.port past ≡ [] → y ≡ x
+pub drained_nothing : {S K C : Type 0} (written : K → Option (List ℕ)) (faults : K → ℕ) (plan : Plan) (past now : List Row) (x y : PortEnds S K C) → IsDrained written faults plan past now x y → waiting_at plan x.port past ≡ [] → y ≡ x
 drained_nothing written faults plan past now x y (inl quiet) none = quiet.same
 drained_nothing written faults plan past now x y (inr drained) none = absurd (drained.some none)
 
@@ -151,7 +151,7 @@ module _ {K : Type 0} (written : K → Option (List ℕ)) (faults : K → ℕ) (
   q = number_of port
 
   abbrev items : List Item
-  items = waiting_at port past
+  items = waiting_at plan port past
 
   abbrev made : Stops → List Row
   made stops = with_drain plan empty stops port (length items) past
@@ -257,11 +257,11 @@ module _ {K : Type 0} (written : K → Option (List ℕ)) (faults : K → ℕ) (
 
 -- the part of one port in the drains behind an arrival
 pub drain_step : {S K C : Type 0} (written : K → Option (List ℕ)) (faults : K → ℕ) (plan : Plan) (past now : List Row) (first : K) (x y : PortEnds S K C) (known : Option ℕ) → faults first ≤ faults x.ends.sink → IsOutput written faults plan past (number_of x.port) first x.ends.sink known
-    → IsDrained written faults plan past now x y → DrainStep written faults plan x.port known past now first y.ends.sink (λ stops. with_drain plan empty stops x.port (length (waiting_at x.port past)) past)
+    → IsDrained written faults plan past now x y → DrainStep written faults plan x.port known past now first y.ends.sink (λ stops. with_drain plan empty stops x.port (length (waiting_at plan x.port past)) past)
 drain_step {S} {K} {C} written faults plan past now first x y known later output (inl quiet) =
     quiet_step written faults plan x.port past now first x.ends.sink y.ends.sink known quiet.none quiet.past_same (ap (λ (p : PortEnds S K C). p.ends.sink) quiet.same) output
 drain_step written faults plan past now first x y None later output (inr drained) =
-    elim drained.wrote as (λ w. DrainStep written faults plan x.port None past now first y.ends.sink (λ stops. with_drain plan empty stops x.port (length (waiting_at x.port past)) past)) [
+    elim drained.wrote as (λ w. DrainStep written faults plan x.port None past now first y.ends.sink (λ stops. with_drain plan empty stops x.port (length (waiting_at plan x.port past)) past)) [
       | inl all ↦ drained_step written faults plan x.port past now first x.ends.sink y.ends.sink drained.some all.past all.took output
       | inr front ↦ failed_step written faults plan x.port past now first x.ends.sink y.ends.sink drained.some front.whole front.took front.rose later output front.past
     ]

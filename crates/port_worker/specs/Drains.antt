@@ -18,14 +18,14 @@ use Rattle.port_worker.specs.declared.port_ends.PortEnds.{PortEnds}
 use Rattle.port_worker.specs.SentFrames.{records}
 
 -- the items that wait at a port
-abbrev pub waiting_at : Port → List Row → List Item
-waiting_at port past = queue plan empty (number_of port) past
+abbrev pub waiting_at : Plan → Port → List Row → List Item
+waiting_at plan port past = queue plan empty (number_of port) past
 
 -- a port of the plan, at which nothing waits once its egress has ended, and never more than a batch holds
 pub record IsDrainable (plan : Plan) (past : List Row) (port : Port) : Type 0 where
   pub known : has_port plan (number_of port) ≡ true
-  pub few : length (waiting_at port past) ≤ 256
-  pub quiet : has_ended empty (egress_pass plan (number_of port)) past ≡ true → waiting_at port past ≡ []
+  pub few : length (waiting_at plan port past) ≤ 256
+  pub quiet : has_ended empty (egress_pass plan (number_of port)) past ≡ true → waiting_at plan port past ≡ []
 
 -- the history with the end of an egress at which a write failed
 abbrev pub with_failed : Plan → Port → List Row → List Row
@@ -51,16 +51,16 @@ abbrev pub IsBegun : {S K C : Type 0} → (K → Option (List ℕ)) → (K → �
 IsBegun written faults plan past now old new = IsWritten written faults plan old.port past now (header_text ∷ []) old.ends.sink new.ends.sink
 
 -- nothing waited at a port, and nothing has changed
-pub record WasQuiet {S K C : Type 0} (past now : List Row) (old new : PortEnds S K C) : Type 0 where
-  pub none : waiting_at old.port past ≡ []
+pub record WasQuiet {S K C : Type 0} (plan : Plan) (past now : List Row) (old new : PortEnds S K C) : Type 0 where
+  pub none : waiting_at plan old.port past ≡ []
   pub past_same : now ≡ past
   pub same : new ≡ old
 
 -- all that waited at a port was taken, and written, or a write failed
 pub record WasDrained {S K C : Type 0} (written : K → Option (List ℕ)) (faults : K → ℕ) (plan : Plan) (past now : List Row) (old new : PortEnds S K C) : Type 0 where
-  pub some : waiting_at old.port past ≢ []
-  pub wrote : IsWritten written faults plan old.port (with_event plan empty past (Drain old.port (length (waiting_at old.port past)))) now
-      (records (waiting_at old.port past)) old.ends.sink new.ends.sink
+  pub some : waiting_at plan old.port past ≢ []
+  pub wrote : IsWritten written faults plan old.port (with_event plan empty past (Drain old.port (length (waiting_at plan old.port past)))) now
+      (records (waiting_at plan old.port past)) old.ends.sink new.ends.sink
 
 abbrev pub IsDrained : {S K C : Type 0} → (K → Option (List ℕ)) → (K → ℕ) → Plan → List Row → List Row → PortEnds S K C → PortEnds S K C → Type 0
-IsDrained written faults plan past now old new = WasQuiet past now old new ⊎ WasDrained written faults plan past now old new
+IsDrained written faults plan past now old new = WasQuiet plan past now old new ⊎ WasDrained written faults plan past now old new

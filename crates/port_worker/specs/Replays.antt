@@ -62,8 +62,8 @@ IsInputAt left past old new input =
     IsInputOf (Comes old.reader) (left old.ends.source) (left new.ends.source) (input_end (number_of old.port) past) input.arrivals input.ending
 
 -- The sink of a port took the pieces of its output, as these stops say.
-abbrev pub IsOutputAt : {S K C : Type 0} → (K → Option (List ℕ)) → List Row → Stops → PortEnds S K C → PortEnds S K C → Type 0
-IsOutputAt written past stops old new =
+abbrev pub IsOutputAt : {S K C : Type 0} → (K → Option (List ℕ)) → Plan → List Row → Stops → PortEnds S K C → PortEnds S K C → Type 0
+IsOutputAt written plan past stops old new =
     TookPieces (written old.ends.sink) (written new.ends.sink) (pieces (sent plan empty (number_of old.port) past)) (stops (number_of old.port))
 
 -- The history is the one of a replay of these inputs, one for each port in its order, whose sinks fail so: the octets of
@@ -76,7 +76,7 @@ pub record IsReplayed {S K C : Type 0} (left : S → Option (List ℕ)) (written
   pub arrived : (k : ℕ) (d : PortEnds S K C) (i : Input) → k < length old
       → IsInputAt left past (slice_index_or old k d) (slice_index_or new k d) (slice_index_or inputs k i)
   pub wrote : (k : ℕ) (d : PortEnds S K C) → k < length old
-      → IsOutputAt written past stops (slice_index_or old k d) (slice_index_or new k d)
+      → IsOutputAt written plan past stops (slice_index_or old k d) (slice_index_or new k d)
 
 -- what the source of a port gave up fits what the history holds of its input
 abbrev pub IsFit : {S K C : Type 0} → (S → Option (List ℕ)) → List Row → PortEnds S K C → PortEnds S K C → Type 0
@@ -89,8 +89,8 @@ HasBroken source_faults past old new =
     input_end (number_of old.port) past ≡ Some hows.Failed → Rose (source_faults old.ends.source) (source_faults new.ends.source)
 
 -- what the sink of a port took fits what the history sends there
-abbrev pub IsOutputFit : {S K C : Type 0} → (K → Option (List ℕ)) → List Row → PortEnds S K C → PortEnds S K C → Type 0
-IsOutputFit written past old new = FitsOutputAt plan empty (written old.ends.sink) (written new.ends.sink) (number_of old.port) past
+abbrev pub IsOutputFit : {S K C : Type 0} → (K → Option (List ℕ)) → Plan → List Row → PortEnds S K C → PortEnds S K C → Type 0
+IsOutputFit written plan past old new = FitsOutputAt plan empty (written old.ends.sink) (written new.ends.sink) (number_of old.port) past
 
 -- where the history says that a write at the port failed, the count of its sink rose
 abbrev pub HasBrokenOut : {S K C : Type 0} → (K → ℕ) → List Row → PortEnds S K C → PortEnds S K C → Type 0

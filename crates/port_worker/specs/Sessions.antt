@@ -13,7 +13,7 @@ use Rattle.port_worker.specs.Replays.{IsLater, IsReplayed, IsFit, IsOutputFit, H
 pub record IsPlayed {S K C : Type 0} (left : S → Option (List ℕ)) (written : K → Option (List ℕ)) (sink_faults : K → ℕ) (plan : Plan) (past : List Row) (old new : List (PortEnds S K C)) : Type 0 where
   pub replayed : IsReplayed left written plan past old new
   pub fits : EachPair (IsFit left past) old new
-  pub fits_out : EachPair (IsOutputFit written past) old new
+  pub fits_out : EachPair (IsOutputFit written plan past) old new
   pub broken_out : EachPair (HasBrokenOut sink_faults past) old new
   pub finished : IsFinished plan empty past
 

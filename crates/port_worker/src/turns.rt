@@ -79,10 +79,11 @@ fn advance<S, K: Sink, C>(
     requires inside { place < length ports.old }
     requires planned { ports_held ports.old ≡ ports_planned core.old.plan }
     requires rising { IsStrictlyIncreasing (numbers_of core.old.plan.ports) }
+    requires depth { core.old.plan.depth ≤ 256 }
     requires sound { All (λ p. IsSound p.reader p.ahead) ports.old }
     requires known { (d : PortEnds S K C) → IsSome (turn_of (slice_index_or ports.old place d)) }
     requires open { (d : PortEnds S K C) → IsOpen core.old.plan empty core.old.past (Ingress (slice_index_or ports.old place d).port) }
-    requires quiet { All (λ p. queue plan empty (number_of p.port) core.old.past ≡ []) ports.old }
+    requires quiet { All (λ p. queue core.old.plan empty (number_of p.port) core.old.past ≡ []) ports.old }
     ensures plan { core.new.plan ≡ core.old.plan }
     ensures stepped { EachPair (IsStepped K.written K.faults) ports.old ports.new }
     ensures others { (k : ℕ) → (d : PortEnds S K C) → k ≢ place → k < length ports.old → (slice_index_or ports.new k d).ahead ≡ (slice_index_or ports.old k d).ahead }
@@ -101,7 +102,7 @@ fn finish<S, K, C>(core: &mut Core, ports: &[PortEnds<S, K, C>])
     requires rising { IsStrictlyIncreasing (numbers_of core.old.plan.ports) }
     requires inputs { AllEnded empty (control_pass core.old.plan + 1) core.old.past }
     requires ticker { has_ended empty (ticker_pass core.old.plan) core.old.past ≡ false }
-    requires quiet { All (λ p. queue plan empty (number_of p.port) core.old.past ≡ []) ports.now }
+    requires quiet { All (λ p. queue core.old.plan empty (number_of p.port) core.old.past ≡ []) ports.now }
     ensures plan { core.new.plan ≡ core.old.plan }
     ensures past { core.new.past ≡ egress_ended core.old.plan empty core.old.plan.ports (with_event core.old.plan empty core.old.past (End Ticker hows.End)) }
     ensures outputs { All (λ p. IsOutputEnded core.old.plan core.old.past core.new.past (number_of p.port)) ports.now }
@@ -120,7 +121,7 @@ fn finish<S, K, C>(core: &mut Core, ports: &[PortEnds<S, K, C>])
 fn end_egress(core: &mut Core, port: Port)
     requires known { has_pass core.old.plan (Egress port) ≡ true }
     requires last { AllEnded empty (ticker_pass core.old.plan + 1) core.old.past }
-    requires quiet { queue plan empty (number_of port) core.old.past ≡ [] }
+    requires quiet { queue core.old.plan empty (number_of port) core.old.past ≡ [] }
     ensures plan { core.new.plan ≡ core.old.plan }
     ensures past { core.new.past ≡ with_end core.old.plan empty port core.old.past }
 {

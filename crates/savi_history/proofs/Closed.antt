@@ -90,17 +90,25 @@ frame_none : (plan : Plan) (past : List Row) (q : ℕ) (r : Row) (waiting : List
 frame_none plan past q r waiting is_ended =
     ap (λ (room : ℕ). framed room q r waiting) (room_ended plan empty past q is_ended) ∙ frame_at (is_member r.entry.outs q) r waiting
 
+-- nothing that a frame offers joins where the egress has ended, whatever the history is
+pub nothing_joins_frame : (plan : Plan) (past : List Row) (q : ℕ) (port : Port) (stamp : ℕ) (octets : List ℕ) → has_ended empty (egress_pass plan q) past ≡ true
+    → queue plan empty q (row_of plan empty past (events.Frame port stamp octets) ∷ past) ≡ queue plan empty q past
+nothing_joins_frame plan past q port stamp octets is_ended =
+    let r = row_of plan empty past (events.Frame port stamp octets) in
+    let waiting = queue plan empty q past in
+    let act = events.frame_act past port stamp octets in
+    frame_none plan past q r (probed plan empty past act octets q waiting) is_ended ∙ probes_none plan past q act octets waiting is_ended
+
+pub nothing_joins_long : (plan : Plan) (past : List Row) (q : ℕ) (port : Port) (stamp len : ℕ) → has_ended empty (egress_pass plan q) past ≡ true
+    → queue plan empty q (row_of plan empty past (events.Long port stamp len) ∷ past) ≡ queue plan empty q past
+nothing_joins_long plan past q port stamp len is_ended = probes_none plan past q (acts.Long port stamp len) [] (queue plan empty q past) is_ended
+
 -- one row more
 none_next : (plan : Plan) (past : List Row) (q : ℕ) (event : events.Event) → has_port plan q ≡ true → MayCome plan empty past event
     → (has_ended empty (egress_pass plan q) past ≡ true → queue plan empty q past ≡ [])
     → has_ended empty (egress_pass plan q) (row_of plan empty past event ∷ past) ≡ true → queue plan empty q (row_of plan empty past event ∷ past) ≡ []
-none_next plan past q (events.Frame port stamp octets) known may before is_ended =
-    let r = row_of plan empty past (events.Frame port stamp octets) in
-    let waiting = queue plan empty q past in
-    let act = events.frame_act past port stamp octets in
-    frame_none plan past q r (probed plan empty past act octets q waiting) is_ended ∙ probes_none plan past q act octets waiting is_ended ∙ before is_ended
-none_next plan past q (events.Long port stamp len) known may before is_ended =
-    probes_none plan past q (acts.Long port stamp len) [] (queue plan empty q past) is_ended ∙ before is_ended
+none_next plan past q (events.Frame port stamp octets) known may before is_ended = nothing_joins_frame plan past q port stamp octets is_ended ∙ before is_ended
+none_next plan past q (events.Long port stamp len) known may before is_ended = nothing_joins_long plan past q port stamp len is_ended ∙ before is_ended
 none_next plan past q (events.Drain port count) known may before is_ended = rw (before is_ended) (drop_none (number_of port == q) count)
 none_next plan past q (events.End who how) known may before is_ended =
     let r = row_of plan empty past (events.End who how) in

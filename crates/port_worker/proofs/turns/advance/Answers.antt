@@ -23,7 +23,7 @@ drain_all-requires-clause-drainable g c k d within =
     let place = c.args.place in
     let x = get_or old place c.index-ports-place.result in
     let inside : k < length old = omega (arith, length-set old place c.enter.new.self, within) in
-    drainable_then plan c.enter.new.core.plan x.port (get_or old k d).port _ (turn_of x) c.args.core.now.past c.enter.new.core.past c.enter.result k c.enter.ensures.plan
+    drainable_then plan c.enter.new.core.plan x.port (get_or old k d).port _ (turn_of x) c.args.core.now.past c.enter.new.core.past c.enter.result k c.requires.depth c.enter.ensures.plan
     (port_kept g.K.Sink.written g.K.Sink.faults old place x c.enter.new.self c.requires.inside (λ e. get_or_default old place _ _ c.requires.inside) c.enter.ensures.rest k d)
     c.if-enter.true (c.requires.known c.index-ports-place.result) c.enter.ensures.entered (omega (arith, count_is old plan c.requires.planned, inside)) (number_is old plan k d c.requires.planned inside) (c.requires.quiet k d inside)
 

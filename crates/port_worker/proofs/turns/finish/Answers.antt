@@ -1,7 +1,10 @@
-use Rattle.std.proofs.Common.{◌<◌, length, get_or, sym, subst, arith, ℕ}
+use Rattle.std.proofs.Common.{◌<◌, length, get_or, sym, ap, ◌∙◌, subst, arith, ℕ}
+use Rattle.savi_kinds.specs.declared.plan.Plan.{Plan}
 use Rattle.savi_kinds.specs.declared.entry.Who.TheVariants.{Ticker}
 use Rattle.savi_kinds.specs.declared.entry.How.TheVariants as hows
 use Rattle.savi_kinds.specs.Ports.{number_of}
+use Rattle.savi_history.specs.Bases.{empty}
+use Rattle.savi_history.specs.Queues.{queue}
 use Rattle.port_worker.specs.Outputs.{IsOutputEnded}
 use Rattle.port_worker.proofs.Planned.{count_is, number_is, held_at}
 use Rattle.port_worker.proofs.Finishing.{known_here, last_now, finish_start, finish_more, did_end, outputs_ended, all_finished}
@@ -20,7 +23,7 @@ end_egress-requires g c =
     record {
       known = known_here plan place c.args.core.now c.loop-place.core p.port c.requires.rising within number c.loop-place.invariant;
       last = last_now plan place c.args.core.now c.loop-place.core p.port c.requires.rising within number c.loop-place.invariant;
-      quiet = c.loop-place.invariant.quiet (number_of p.port) (c.requires.quiet place d inside);
+      quiet = ap (λ (x : Plan). queue x empty (number_of p.port) c.loop-place.core.past) c.loop-place.invariant.plan_is ∙ c.loop-place.invariant.quiet (number_of p.port) (c.requires.quiet place d inside);
     }
 
 pub loop-place-preserved : goal.loop-place-preserved

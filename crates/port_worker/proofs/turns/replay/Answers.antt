@@ -1,4 +1,4 @@
-use Rattle.std.proofs.Common.{◌≡◌, ℕ, ◌+◌, ◌-◌, ◌<◌, List, length, map, get_or, refl, sym, ap, ◌∙◌, subst, arith, false, Option, Some, None, IfSome}
+use Rattle.std.proofs.Common.{◌≡◌, ℕ, ◌+◌, ◌-◌, ◌<◌, List, [], length, map, get_or, refl, sym, ap, ◌∙◌, subst, arith, false, Option, Some, None, IfSome}
 use Rattle.std.specs.List.{All}
 use Rattle.savi_kinds.specs.declared.plan.Plan.{Plan}
 use Rattle.savi_kinds.specs.declared.entry.Who.TheVariants.{Ingress, Control, Ticker}
@@ -7,6 +7,7 @@ use Rattle.savi_kinds.specs.Ports.{number_of}
 use Rattle.hist_store.specs.Rows.{Row}
 use Rattle.savi_history.specs.Bases.{empty}
 use Rattle.savi_history.specs.Passes.{AllEnded, control_pass, ticker_pass, has_ended}
+use Rattle.savi_history.specs.Queues.{queue}
 use Rattle.savi_history.specs.Events.{End}
 use Rattle.savi_history.specs.Legal.{IsOpen, IsFinished}
 use Rattle.savi_history.specs.Picks.{IsPick}
@@ -88,7 +89,8 @@ finish-requires-clause-quiet g c =
     let first = c.args.ports.now in
     let known = c.look_all.ensures.known in
     let runs = look_step g.S.Source.left g.K.Sink.written g.S.Source.faults g.K.Sink.faults plan first c.turns.ports c.look_all.new.ports c.turns.core.past c.turns.invariant.runs c.look_all.ensures.looked in
-    quiet_now g.S.Source.left g.K.Sink.written g.S.Source.faults g.K.Sink.faults plan first c.look_all.new.ports c.requires.planned c.requires.valid.ports c.turns.core.past runs
+    subst (λ (p : Plan). All (λ q. queue p empty (number_of q.port) c.turns.core.past ≡ []) c.look_all.new.ports) (sym c.turns.invariant.same_plan)
+    (quiet_now g.S.Source.left g.K.Sink.written g.S.Source.faults g.K.Sink.faults plan first c.look_all.new.ports c.requires.planned c.requires.valid.ports c.turns.core.past runs)
 
 pub finish-requires-clause-ticker : goal.finish-requires-clause-ticker
 finish-requires-clause-ticker g c =
@@ -168,7 +170,8 @@ advance-requires-clause-quiet g c =
     let first = c.args.ports.now in
     let known = c.look_all.ensures.known in
     let runs = look_step g.S.Source.left g.K.Sink.written g.S.Source.faults g.K.Sink.faults plan first c.turns.ports c.look_all.new.ports c.turns.core.past c.turns.invariant.runs c.look_all.ensures.looked in
-    quiet_now g.S.Source.left g.K.Sink.written g.S.Source.faults g.K.Sink.faults plan first c.look_all.new.ports c.requires.planned c.requires.valid.ports c.turns.core.past runs
+    subst (λ (p : Plan). All (λ q. queue p empty (number_of q.port) c.turns.core.past ≡ []) c.look_all.new.ports) (sym c.turns.invariant.same_plan)
+    (quiet_now g.S.Source.left g.K.Sink.written g.S.Source.faults g.K.Sink.faults plan first c.look_all.new.ports c.requires.planned c.requires.valid.ports c.turns.core.past runs)
 
 pub turns-smaller : goal.turns-smaller
 turns-smaller g c =
