@@ -235,9 +235,9 @@ replay_of {S} {K} {C} left written source_faults sink_faults plan Says held back
           held back old.ports new.ports k d handled inside (out.each.each k d inside).fits);
       broken = broken_at left written source_faults sink_faults plan past held back old new ports handled played.served.each;
       took = each_port (λ k n. TookSent written old new n past (out.stops n)) plan held ports (λ k d inside.
-          at_port (λ n told kept. TookPieces (written told.sink) (written kept.sink) (pieces (sent empty n past)) (out.stops n)) held back old.ports new.ports k d handled inside (out.took k d inside));
+          at_port (λ n told kept. TookPieces (written told.sink) (written kept.sink) (pieces (sent plan empty n past)) (out.stops n)) held back old.ports new.ports k d handled inside (out.took k d inside));
       fits_out = each_port (λ k n. FitsSent written old new n past) plan held ports (λ k d inside.
-          at_port (λ n told kept. FitsOutputAt empty (written told.sink) (written kept.sink) n past) held back old.ports new.ports k d handled inside (out.each.each k d inside).fits_out);
+          at_port (λ n told kept. FitsOutputAt plan empty (written told.sink) (written kept.sink) n past) held back old.ports new.ports k d handled inside (out.each.each k d inside).fits_out);
       broken_out = broken_out_at left written source_faults sink_faults plan past held back old new ports handled played.served.each;
       journal_written = journal_written;
       summary_written = summed.summary_written;

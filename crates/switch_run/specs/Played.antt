@@ -43,12 +43,12 @@ pub record IsServed {S K C : Type 0} (left : S → Option (List ℕ)) (written :
 -- the sink of a port took the pieces of what the history sends there, as these stops say
 abbrev pub TookOutput : {S K C : Type 0} → (K → Option (List ℕ)) → List Row → Stops → PortEnds S K C → PortEnds S K C → Type 0
 TookOutput written past stops old new =
-    TookPieces (written old.ends.sink) (written new.ends.sink) (pieces (sent empty (number_of old.port) past)) (stops (number_of old.port))
+    TookPieces (written old.ends.sink) (written new.ends.sink) (pieces (sent plan empty (number_of old.port) past)) (stops (number_of old.port))
 
 -- what a source gave up and what a sink took fits what the history holds of both
 pub record IsFitting {S K C : Type 0} (left : S → Option (List ℕ)) (written : K → Option (List ℕ)) (past : List Row) (old new : PortEnds S K C) : Type 0 where
   pub fits : Fits (Arrive classic_kinds) (left old.ends.source) (left new.ends.source) (arrived (number_of old.port) past) (input_end (number_of old.port) past)
-  pub fits_out : FitsOutputAt empty (written old.ends.sink) (written new.ends.sink) (number_of old.port) past
+  pub fits_out : FitsOutputAt plan empty (written old.ends.sink) (written new.ends.sink) (number_of old.port) past
 
 -- The history is the replay of the inputs that the sources gave to sinks that stop so, and each sink took what it sends
 -- there.

@@ -73,12 +73,12 @@ FitsPort left old new port past =
 -- many, those and a front of the next.
 abbrev pub TookSent : {S K C : Type 0} → (K → Option (List ℕ)) → Book S K C → Book S K C → ℕ → List Row → Option ℕ → Type 0
 TookSent written old new port past stop =
-    IfSome (old.ports port).stands (λ told. IsSomeAnd (new.ports port).stands (λ kept. TookPieces (written told.sink) (written kept.sink) (pieces (sent empty port past)) stop))
+    IfSome (old.ports port).stands (λ told. IsSomeAnd (new.ports port).stands (λ kept. TookPieces (written told.sink) (written kept.sink) (pieces (sent plan empty port past)) stop))
 
 -- What a port's sink took fits how the history says that the output ended.
 abbrev pub FitsSent : {S K C : Type 0} → (K → Option (List ℕ)) → Book S K C → Book S K C → ℕ → List Row → Type 0
 FitsSent written old new port past =
-    IfSome (old.ports port).stands (λ told. IsSomeAnd (new.ports port).stands (λ kept. FitsOutputAt empty (written told.sink) (written kept.sink) port past))
+    IfSome (old.ports port).stands (λ told. IsSomeAnd (new.ports port).stands (λ kept. FitsOutputAt plan empty (written told.sink) (written kept.sink) port past))
 
 -- the line of a journal that couldn't be written
 abbrev pub journal_lines : Bool → List ℕ
