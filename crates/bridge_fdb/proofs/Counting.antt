@@ -10,7 +10,7 @@ use Rattle.bridge_fdb.specs.Learning.{is_known, with_station}
 use Rattle.bridge_fdb.specs.Limits.{IsRising}
 use Rattle.bridge_fdb.specs.Places.{StandsAt}
 use Rattle.bridge_fdb.specs.Kept.{IsTied, IsOwn, LivesUntil, in_slot, has, without}
-use Rattle.bridge_fdb.proofs.Filters.{count_by-cons}
+use Rattle.savi_kinds.proofs.Filters.{count_by-cons}
 use Rattle.bridge_fdb.proofs.Parts.{count_with, of_count}
 use Rattle.bridge_fdb.proofs.Without.{live_without_ended}
 use Rattle.bridge_fdb.proofs.Slots.{slot_within, get_or_within}

@@ -11,7 +11,7 @@ use Rattle.bridge_fdb.specs.Limits.{IsRising}
 use Rattle.bridge_fdb.specs.Places.{StandsAt}
 use Rattle.bridge_fdb.specs.Kept.{without}
 use Rattle.bridge_fdb.specs.Full.{Tells}
-use Rattle.bridge_fdb.proofs.Rising.{filter-none}
+use Rattle.savi_kinds.proofs.Filters.{filter-none}
 use Rattle.bridge_fdb.proofs.Parts.{count_with, of_count}
 use Rattle.bridge_fdb.proofs.Without.{count_without}
 use Rattle.bridge_fdb.proofs.Counting.{count_by-filter}

@@ -1,4 +1,3 @@
-pub mod Filters
 pub mod Rising
 pub mod Numbers
 pub mod Parts

@@ -15,8 +15,8 @@ use Rattle.bridge_fdb.specs.Stations.{mac_number, is_live, live_at, is_of, is_be
 use Rattle.bridge_fdb.specs.Learning.{with_station, is_known}
 use Rattle.bridge_fdb.specs.Limits.{IsRising}
 use Rattle.bridge_fdb.specs.Places.{StandsAt, BelongsAt}
-use Rattle.bridge_fdb.proofs.Filters.{count_by-cons}
-use Rattle.bridge_fdb.proofs.Rising.{is_of-other, behind, rest_rising, filter-none, find-none, none_of}
+use Rattle.savi_kinds.proofs.Filters.{count_by-cons, filter-none, find-none}
+use Rattle.bridge_fdb.proofs.Rising.{is_of-other, behind, rest_rising, none_of}
 
 -- each station is below, with or above
 pub count_parts : (n : ℕ) (p : Station → Bool) (xs : List Station) → count_by p xs ≡ count_by p (filter (is_below n) xs) + count_by p (filter (is_of n) xs) + count_by p (filter (is_above n) xs)

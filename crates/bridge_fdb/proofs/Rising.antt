@@ -1,37 +1,15 @@
--- Lists in which each item stands in a relation to all later ones, and where a station of a MAC address stands in one.
-use Rattle.std.proofs.Common.{◌≡◌, ◌≢◌, ◌⊎◌, ℕ, get_or, add-one, subst, ◌≤◌, ◌<◌, ◌==◌, zero, suc, Bool, true, false, List, [], ◌∷◌, ◌++◌, length, filter, find, drop, None, All, refl, sym, ap, arith, inl, inr}
-use Rattle.std.specs.List.{AllPairs, AllWithin}
+-- Stations in rising order of MAC address, and where one of a MAC address stands among them.
+use Rattle.std.proofs.Common.{◌≡◌, ◌≢◌, ◌⊎◌, ℕ, get_or, add-one, subst, ◌≤◌, ◌<◌, ◌==◌, zero, suc, true, false, List, [], ◌∷◌, length, filter, drop, All, refl, sym, ap, arith, inl, inr}
+use Rattle.std.specs.List.{AllWithin}
 use Rattle.std.specs.List.Sorted.{IsNonDecreasingBy}
 use Rattle.std.proofs.lemmas.Bool.{cases_Bool, cases_eq, ltb-true, ltb-false, lt-ltb, le-ltb, eqb-true, eq-eqb}
-use Rattle.std.proofs.lemmas.List.Elements.{All-head, All-tail, All-append, All-weaker}
-use Rattle.std.proofs.lemmas.List.Kept.{AllPairs-cons}
+use Rattle.std.proofs.lemmas.List.Elements.{All-weaker}
 use Rattle.bridge_fdb.specs.declared.station.Station.{Station}
 use Rattle.bridge_fdb.specs.Stations.{mac_number, is_of, is_below, is_above}
 use Rattle.bridge_fdb.specs.Limits.{IsRising}
 use Rattle.bridge_fdb.specs.Places.{StandsAt, BelongsAt}
-use Rattle.bridge_fdb.proofs.Filters.{filter-all}
-
-pub AllPairs-head : {X : Type 0} (R : X → X → Type 0) (x : X) (xs : List X) → AllPairs R (x ∷ xs) → All (R x) xs
-AllPairs-head R x xs pairs k d below = pairs 0 (suc k) d (omega arith) (omega (arith, below))
-
-pub AllPairs-tail : {X : Type 0} (R : X → X → Type 0) (x : X) (xs : List X) → AllPairs R (x ∷ xs) → AllPairs R xs
-AllPairs-tail R x xs pairs i j d before below = pairs (suc i) (suc j) d (omega (arith, before)) (omega (arith, below))
-
-pub AllPairs-append : {X : Type 0} (R : X → X → Type 0) (xs ys : List X) → AllPairs R xs → AllPairs R ys → All (λ x. All (R x) ys) xs → AllPairs R (xs ++ ys)
-AllPairs-append R [] ys front back across = back
-AllPairs-append R (x ∷ xs) ys front back across =
-    AllPairs-cons R x (xs ++ ys)
-    (All-append (R x) xs ys (AllPairs-head R x xs front) (All-head (λ z. All (R z) ys) x xs across))
-    (AllPairs-append R xs ys (AllPairs-tail R x xs front) back (All-tail (λ z. All (R z) ys) x xs across))
-
--- a filter through which no item passes
-pub filter-none : {X : Type 0} (p : X → Bool) (xs : List X) → All (λ x. p x ≡ false) xs → filter p xs ≡ []
-filter-none p [] stop = refl
-filter-none p (x ∷ xs) stop = rw (All-head (λ y. p y ≡ false) x xs stop) (filter-none p xs (All-tail (λ y. p y ≡ false) x xs stop))
-
-pub find-none : {X : Type 0} (p : X → Bool) (xs : List X) → All (λ x. p x ≡ false) xs → find p xs ≡ None
-find-none p [] stop = refl
-find-none p (x ∷ xs) stop = rw (All-head (λ y. p y ≡ false) x xs stop) (find-none p xs (All-tail (λ y. p y ≡ false) x xs stop))
+use Rattle.savi_kinds.proofs.Filters.{filter-all, filter-none, find-none}
+use Rattle.savi_kinds.proofs.Pairs.{AllPairs-head, AllPairs-tail}
 
 -- in a rising list those behind a station are higher
 pub behind : (x : Station) (xs : List Station) → IsRising (x ∷ xs) → All (λ y. mac_number x.mac < mac_number y.mac) xs

@@ -13,7 +13,8 @@ use Rattle.bridge_fdb.specs.Stations.{mac_number}
 use Rattle.bridge_fdb.specs.Limits.{IsRising}
 use Rattle.bridge_fdb.specs.Places.{StandsAt}
 use Rattle.bridge_fdb.specs.Kept.{IsTied, IsOwn, in_slot, has, numbers_of}
-use Rattle.bridge_fdb.proofs.Filters.{count_by-cons}
+use Rattle.savi_kinds.proofs.Lists.{split_at}
+use Rattle.savi_kinds.proofs.Filters.{count_by-cons}
 
 -- the list is what the slots tell
 pub listed_is : (f : ℕ → Option Station) (slots : List ℕ) (xs : List Station) → map f slots ≡ map Some xs → filter_map f slots ≡ xs
@@ -84,11 +85,6 @@ back_distinct stations slots numbers xs d tied rising i within =
     subst (λ j. j ≢ get_or slots i 0) (sym (get_or-drop (suc i) slots k 0)) (distinct stations slots numbers xs d tied rising i (suc i + k) within inside (omega (arith))))
 
 -- a list in parts around a place
-pub split_at : {X : Type 0} (xs : List X) (i : ℕ) (d : X) → i < length xs → xs ≡ take i xs ++ get_or xs i d ∷ drop (suc i) xs
-split_at [] i d within = absurd (omega (arith, within))
-split_at (x ∷ xs) zero d within = refl
-split_at (x ∷ xs) (suc i) d within = ap (λ ys. x ∷ ys) (split_at xs i d (omega (arith, within)))
-
 pub set_split : {X : Type 0} (xs : List X) (i : ℕ) (y : X) → i < length xs → set xs i y ≡ take i xs ++ y ∷ drop (suc i) xs
 set_split [] i y within = absurd (omega (arith, within))
 set_split (x ∷ xs) zero y within = refl

@@ -1,7 +1,7 @@
 -- How many stations there are.
-use Rattle.std.proofs.Common.{◌≡◌, ◌≢◌, ℕ, ◌+◌, ◌*◌, ◌^◌, ◌≤◌, ◌<◌, ◌==◌, nat_le, zero, suc, Bool, true, false, ◌&&◌, cond, List, [], ◌∷◌, ◌++◌, length, filter, count_by, All, refl, ◌∙◌, subst, arith, inl, inr, length-append}
+use Rattle.std.proofs.Common.{◌≡◌, ℕ, ◌+◌, ◌^◌, ◌≤◌, ◌<◌, Bool, true, false, ◌&&◌, cond, List, [], ◌∷◌, ◌++◌, length, filter, count_by, All, refl, ◌∙◌, subst, arith, inl, inr, length-append}
 use Rattle.std.specs.List.{list_any}
-use Rattle.std.proofs.lemmas.Bool.{cases_Bool, cases_eq, cond_both, and_parts, or_cases, false≢true, ltb-true, eqb-true, eq-eqb, leb-true, le-leb, lt-leb, leb-false}
+use Rattle.std.proofs.lemmas.Bool.{cases_Bool, cond_both, and_parts, or_cases, false≢true, ltb-true, eqb-true, leb-true, le-leb, lt-leb, leb-false}
 use Rattle.std.proofs.lemmas.List.Elements.{All-append, All-cons, All-filter, All-weaker, filter_passes}
 use Rattle.std.proofs.lemmas.List.Kept.{AllPairs-cons, AllPairs-filter}
 use Rattle.savi_kinds.specs.Ports.{number_of}
@@ -9,8 +9,9 @@ use Rattle.bridge_fdb.specs.declared.station.Station.{Station}
 use Rattle.bridge_fdb.specs.Stations.{mac_number, is_of, is_below, is_above, is_at, count_at}
 use Rattle.bridge_fdb.specs.Learning.{is_known, is_full, with_station, learned}
 use Rattle.bridge_fdb.specs.Limits.{IsRising, IsWithinLimits}
-use Rattle.bridge_fdb.proofs.Filters.{count_by-cons, count_by-push, count_by-filter-le}
-use Rattle.bridge_fdb.proofs.Rising.{AllPairs-append}
+use Rattle.savi_kinds.proofs.Filters.{count_by-cons, count_by-push, count_by-filter-le}
+use Rattle.savi_kinds.proofs.Pairs.{AllPairs-append}
+use Rattle.savi_kinds.proofs.PortCounts.{length-by_port}
 use Rattle.bridge_fdb.proofs.Parts.{count_with}
 
 pub IsWithinLimits-filter : (p : Station → Bool) (xs : List Station) → IsWithinLimits xs → IsWithinLimits (filter p xs)
@@ -101,58 +102,9 @@ IsWithinLimits-learned s xs moment within =
           ]
     ]
 
--- how many stations the ports up to k have
-abbrev count_up_to : ℕ → List Station → ℕ
-count_up_to k stations = count_by (λ station. nat_le (number_of station.port) k) stations
-
-up_to_suc : (n k : ℕ) → cond (nat_le n (suc k)) 1 0 ≤ cond (nat_le n k) 1 0 + cond (n == suc k) 1 0
-up_to_suc n k =
-    elim (cases_Bool (nat_le n (suc k))) [
-      | inl up ↦
-          let bound : n ≤ suc k = leb-true n (suc k) up in
-          elim (cases_eq n (suc k)) [
-            | inl same ↦ rw (up, eq-eqb n (suc k) same) (omega arith)
-            | inr other ↦
-                let ne : n ≢ suc k = other in
-                let below : n ≤ k = omega (arith, bound, ne) in
-                rw (up, le-leb n k below) (omega arith)
-          ]
-      | inr past ↦ rw past (omega arith)
-    ]
-
-count_up_to-suc : (k : ℕ) (stations : List Station) → count_up_to (suc k) stations ≤ count_up_to k stations + count_at (suc k) stations
-count_up_to-suc k [] = omega arith
-count_up_to-suc k (station ∷ stations) =
-    let n : ℕ = number_of station.port in
-    let wide : count_up_to (suc k) (station ∷ stations) ≡ cond (nat_le n (suc k)) 1 0 + count_up_to (suc k) stations = count_by-cons (λ other. nat_le (number_of other.port) (suc k)) station stations in
-    let narrow : count_up_to k (station ∷ stations) ≡ cond (nat_le n k) 1 0 + count_up_to k stations = count_by-cons (λ other. nat_le (number_of other.port) k) station stations in
-    let last : count_at (suc k) (station ∷ stations) ≡ cond (n == suc k) 1 0 + count_at (suc k) stations = count_by-cons (is_at (suc k)) station stations in
-    omega (arith, wide, narrow, last, up_to_suc n k, count_up_to-suc k stations)
-
-count_up_to-zero : (stations : List Station) → count_up_to 0 stations ≡ 0
-count_up_to-zero [] = refl
-count_up_to-zero (station ∷ stations) =
-    let n : ℕ = number_of station.port in
-    let low : 1 ≤ n = station.port.low in
-    let past : nat_le n 0 ≡ false = lt-leb n 0 (omega (arith, low)) in
-    let all : count_up_to 0 (station ∷ stations) ≡ cond (nat_le n 0) 1 0 + count_up_to 0 stations = count_by-cons (λ other. nat_le (number_of other.port) 0) station stations in
-    all ∙ rw past (omega (arith, count_up_to-zero stations))
-
-count_up_to-le : (k : ℕ) (stations : List Station) → ((port : ℕ) → count_at port stations ≤ 256) → count_up_to k stations ≤ 256 * k
-count_up_to-le zero stations room = omega (arith, count_up_to-zero stations)
-count_up_to-le (suc k) stations room = omega (arith, count_up_to-suc k stations, room (suc k), count_up_to-le k stations room)
-
-count_up_to-all : (stations : List Station) → count_up_to 16 stations ≡ length stations
-count_up_to-all [] = refl
-count_up_to-all (station ∷ stations) =
-    let n : ℕ = number_of station.port in
-    let high : n ≤ 16 = station.port.high in
-    let all : count_up_to 16 (station ∷ stations) ≡ cond (nat_le n 16) 1 0 + count_up_to 16 stations = count_by-cons (λ other. nat_le (number_of other.port) 16) station stations in
-    all ∙ rw (le-leb n 16 high) (omega (arith, count_up_to-all stations))
-
 -- 256 stations for each of 16 ports are 4096
 pub length-le : (stations : List Station) → ((port : ℕ) → count_at port stations ≤ 256) → length stations ≤ 4096
-length-le stations room = omega (arith, count_up_to-le 16 stations room, count_up_to-all stations)
+length-le stations room = length-by_port (λ station. station.port) 256 stations room
 
 -- there are fewer where a port has fewer
 pub length-lt : (s : Station) (xs : List Station) → IsWithinLimits xs → count_at (number_of s.port) xs < 256 → length xs < 4096

@@ -12,8 +12,9 @@ use Rattle.bridge_fdb.specs.Learning.{with_station}
 use Rattle.bridge_fdb.specs.Limits.{IsRising, IsWithinLimits}
 use Rattle.bridge_fdb.specs.Places.{StandsAt, BelongsAt}
 use Rattle.bridge_fdb.specs.Kept.{without}
-use Rattle.bridge_fdb.proofs.Filters.{filter-all}
-use Rattle.bridge_fdb.proofs.Rising.{AllPairs-append, filter-none, behind, rest_rising, is_of-other, none_below, all_above, belongs}
+use Rattle.savi_kinds.proofs.Filters.{filter-all, filter-none}
+use Rattle.savi_kinds.proofs.Pairs.{AllPairs-append}
+use Rattle.bridge_fdb.proofs.Rising.{behind, rest_rising, is_of-other, none_below, all_above, belongs}
 use Rattle.bridge_fdb.proofs.Parts.{count_parts, filter_turned}
 
 above_not_below : (n : ℕ) (xs : List Station) → All (λ x. is_below n x ≡ false) (filter (is_above n) xs)

@@ -1,5 +1,5 @@
 pub mod WordsFound
-pub mod DecimalRead
+pub mod PortRead
 pub mod OneAnswer
 pub mod WordsJoined
 pub mod TextSays

@@ -1,11 +1,11 @@
 -- A line has one answer: its words are of one form, and a form gives one answer.
 use Rattle.std.proofs.Common.{ℕ, ◌≡◌, ◌≤◌, List, [], ◌∷◌, Option, Some, None, Result, Ok, Err, codes, if◌then◌else◌, refl, sym, ap, ◌∙◌, subst, arith, inl, inr}
 use Rattle.std.proofs.lemmas.Fmt.{decimal_injective}
-use Rattle.std.proofs.Math.Bridge.{le_prop}
 use Rattle.std.specs.Str.{bytes_eq}
 use Rattle.savi_kinds.specs.declared.address.Addr.{Addr}
 use Rattle.savi_kinds.specs.declared.port.Port.{Port}
 use Rattle.savi_kinds.specs.Ports.{number_of}
+use Rattle.savi_kinds.proofs.PortNumbers.{port_same}
 use Rattle.savi_kinds.proofs.AddrGrammar.{one_address}
 use Rattle.cli_lang.specs.declared.kinds.Command.{Command}
 use Rattle.cli_lang.specs.declared.kinds.Command.TheVariants as command
@@ -44,22 +44,11 @@ one_form words f g one other =
     cc
 
 -- a text is the number of one port
-abbrev the_port : (n : ℕ) → 1 ≤ n → n ≤ 16 → Port
-the_port n low high = record { number = n; low = low; high = high }
-
-one_bound : (a b : ℕ) (p q : a ≤ b) → p ≡ q
-one_bound a b p q = le_prop p q
-
-the_port_same : (n m : ℕ) → n ≡ m → (low : 1 ≤ n) (high : n ≤ 16) (low' : 1 ≤ m) (high' : m ≤ 16) → the_port n low high ≡ the_port m low' high'
-the_port_same n m same low high =
-    subst (λ (k : ℕ). (low' : 1 ≤ k) (high' : k ≤ 16) → the_port n low high ≡ the_port k low' high') same
-    (λ low' high'. ap (λ (l : 1 ≤ n). the_port n l high) (one_bound 1 n low low') ∙ ap (λ (h : n ≤ 16). the_port n low' h) (one_bound n 16 high high'))
-
 one_port : (text : List ℕ) (p q : Port) → IsPortText text p → IsPortText text q → p ≡ q
 one_port text p q one other =
     let first : p.number ≤ 16 = p.high in
     let second : q.number ≤ 16 = q.high in
-    the_port_same p.number q.number (decimal_injective p.number q.number (omega arith) (omega arith) (sym one ∙ other)) p.low p.high q.low q.high
+    port_same p q (decimal_injective p.number q.number (omega arith) (omega arith) (sym one ∙ other))
 
 port_once : (number : List ℕ) (make : Port → Command) (one other : Result Command CmdFault) → GivesPort number make one → GivesPort number make other → one ≡ other
 port_once number make (Ok c) (Ok d) one other = ap (λ (k : Command). Ok k) (one.2 ∙ ap make (one_port number one.0 other.0 one.1 other.1) ∙ sym other.2)

@@ -1,10 +1,9 @@
 ghost use Rattle.std.specs.Prelude.{◌≡◌, [], ◌∷◌, ◌↔◌, IsTrue, IfSome, IfNone, codes};
 ghost use Rattle.cli_lang.specs.Commands.{IsNoPort, IsPortText, WordsGive, LineGives};
 
-use crate::decimal::read_decimal;
 use crate::kinds::{CmdFault, Command};
 use crate::words::{Words, words_of};
-use savi_kinds::{Port, read_addr};
+use savi_kinds::{PORTS_MOST, Port, read_addr, read_decimal};
 
 /// Reads a command: words with one space between each two, compared exactly.
 ///
@@ -99,6 +98,6 @@ fn read_port(text: &[u8]) -> Option<Port>
     ensures read { IfSome result (λ p. IsPortText text.now p) }
     ensures only { IfNone result (IsNoPort text.now) }
 {
-    let number = u8::try_from(read_decimal(text)?).ok()?;
-    Port::new(number)
+    let number = read_decimal(text, PORTS_MOST as u64)?;
+    Port::new(number as u8)
 }

@@ -9,7 +9,6 @@
 
 mod ahead;
 mod command_line;
-mod decimal;
 mod kinds;
 mod laws;
 mod reader;

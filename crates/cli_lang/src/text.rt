@@ -2,10 +2,9 @@ ghost use Rattle.std.specs.Prelude.{◌≡◌, ◌≤◌, ◌<◌, ◌^◌, ◌�
 ghost use Rattle.cli_lang.specs.Arrivals.{Line, Says};
 ghost use Rattle.cli_lang.specs.Readers.{ReadsClock};
 
-use crate::decimal::read_decimal;
 use crate::words::first_word;
 use savi_ends::Clock;
-use savi_kinds::CONTROL_LINE_OCTETS;
+use savi_kinds::{CONTROL_LINE_OCTETS, read_decimal};
 
 /// No line ends past this place of its input: 2^62.
 pub(crate) const LAST_PLACE: u64 = 1 << 62;
@@ -39,7 +38,7 @@ pub(crate) fn read_text<C: Clock>(
         return Some(Said { stamp, len });
     }
     let (digits, command) = first_word(text)?;
-    let stamp = read_decimal(digits)?;
+    let stamp = read_decimal(digits, u64::MAX)?;
     let len = put_command(command, buf);
     Some(Said { stamp, len })
 }

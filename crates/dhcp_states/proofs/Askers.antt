@@ -8,7 +8,7 @@ use Rattle.std.proofs.lemmas.List.Folds.{find-append}
 use Rattle.savi_kinds.specs.declared.port.Port.{Port}
 use Rattle.dhcp_states.specs.declared.request.Request.{Request}
 use Rattle.dhcp_states.specs.Requests.{request_of, has_pair, without_pair, with_request, asker}
-use Rattle.dhcp_states.proofs.Filters.{find-filter_none, find-filter_same}
+use Rattle.savi_kinds.proofs.Filters.{find-filter_none, find-filter_same}
 use Rattle.dhcp_states.proofs.Counts.{has_pair-same}
 
 -- a request has the pair with which it was asked

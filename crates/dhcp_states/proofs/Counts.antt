@@ -1,15 +1,16 @@
 -- How many requests there are.
-use Rattle.std.proofs.Common.{ℕ, ◌≡◌, ◌≢◌, ◌+◌, ◌*◌, ◌≤◌, ◌<◌, ◌==◌, nat_le, zero, suc, Bool, true, false, not, List, [], ◌∷◌, ◌++◌, length, count_by, cond, refl, sym, ◌∙◌, ap, subst, arith, inl, inr, length-append, Some, None}
+use Rattle.std.proofs.Common.{ℕ, ◌≡◌, ◌+◌, ◌≤◌, ◌<◌, ◌==◌, nat_le, Bool, true, false, not, List, [], ◌∷◌, ◌++◌, length, count_by, cond, refl, sym, ◌∙◌, ap, subst, arith, inl, inr, length-append, Some, None}
 use Rattle.std.specs.Str.{bytes_eq}
 use Rattle.std.specs.Cmp.Lexicographic.{same_text}
-use Rattle.std.proofs.lemmas.Bool.{cases_Bool, cases_eq, and_parts, and_cases, not-false, not_from_true, ltb-true, lt-ltb, eqb-true, eq-eqb, leb-false, leb-true, le-leb, lt-leb}
+use Rattle.std.proofs.lemmas.Bool.{cases_Bool, and_parts, and_cases, not-false, not_from_true, ltb-true, lt-ltb, eqb-true, leb-false}
 use Rattle.std.proofs.lemmas.List.Elements.{filter_passes, All-filter, filter-append}
 use Rattle.savi_kinds.specs.Ports.{number_of}
 use Rattle.savi_kinds.specs.declared.verdict.Rule.TheVariants.{PendingFull}
 use Rattle.dhcp_states.specs.declared.request.Request.{Request}
 use Rattle.dhcp_states.specs.Requests.{is_open, open_at, is_at, has_pair, count_at, has_asked, is_full, refusal, without_pair, with_request}
 use Rattle.dhcp_states.specs.Limits.{IsWithinLimits, IsOnePerPair}
-use Rattle.dhcp_states.proofs.Filters.{filter-all, filter-wider, count_by-cons, count_by-push, count_by-filter-le, count_by-filter_none, count_by-filter_fewer}
+use Rattle.savi_kinds.proofs.Filters.{filter-all, filter-wider, count_by-push, count_by-filter-le, count_by-filter_none, count_by-filter_fewer}
+use Rattle.savi_kinds.proofs.PortCounts.{length-by_port}
 
 -- what is open at a later moment is open at an earlier one
 is_open-earlier : (t u : ℕ) → t ≤ u → (request : Request) → is_open u request ≡ true → is_open t request ≡ true
@@ -125,59 +126,9 @@ IsWithinLimits-with_request request {requests} within not_full = record {
   pairs = IsOnePerPair-with_request request requests within.pairs;
 }
 
--- how many requests the ports up to k have
-abbrev count_up_to : ℕ → List Request → ℕ
-count_up_to k requests = count_by (λ request. nat_le (number_of request.port) k) requests
-
--- a request at a port up to k + 1 is at one up to k or at k + 1
-up_to_suc : (n k : ℕ) → cond (nat_le n (suc k)) 1 0 ≤ cond (nat_le n k) 1 0 + cond (n == suc k) 1 0
-up_to_suc n k =
-    elim (cases_Bool (nat_le n (suc k))) [
-      | inl up ↦
-          let bound : n ≤ suc k = leb-true n (suc k) up in
-          elim (cases_eq n (suc k)) [
-            | inl same ↦ rw (up, eq-eqb n (suc k) same) (omega arith)
-            | inr other ↦
-                let ne : n ≢ suc k = other in
-                let below : n ≤ k = omega (arith, bound, ne) in
-                rw (up, le-leb n k below) (omega arith)
-          ]
-      | inr past ↦ rw past (omega arith)
-    ]
-
-count_up_to-suc : (k : ℕ) (requests : List Request) → count_up_to (suc k) requests ≤ count_up_to k requests + count_at (suc k) requests
-count_up_to-suc k [] = omega arith
-count_up_to-suc k (request ∷ requests) =
-    let n : ℕ = number_of request.port in
-    let wide : count_up_to (suc k) (request ∷ requests) ≡ cond (nat_le n (suc k)) 1 0 + count_up_to (suc k) requests = count_by-cons (λ other. nat_le (number_of other.port) (suc k)) request requests in
-    let narrow : count_up_to k (request ∷ requests) ≡ cond (nat_le n k) 1 0 + count_up_to k requests = count_by-cons (λ other. nat_le (number_of other.port) k) request requests in
-    let last : count_at (suc k) (request ∷ requests) ≡ cond (n == suc k) 1 0 + count_at (suc k) requests = count_by-cons (is_at (suc k)) request requests in
-    omega (arith, wide, narrow, last, up_to_suc n k, count_up_to-suc k requests)
-
-count_up_to-zero : (requests : List Request) → count_up_to 0 requests ≡ 0
-count_up_to-zero [] = refl
-count_up_to-zero (request ∷ requests) =
-    let n : ℕ = number_of request.port in
-    let low : 1 ≤ n = request.port.low in
-    let past : nat_le n 0 ≡ false = lt-leb n 0 (omega (arith, low)) in
-    let all : count_up_to 0 (request ∷ requests) ≡ cond (nat_le n 0) 1 0 + count_up_to 0 requests = count_by-cons (λ other. nat_le (number_of other.port) 0) request requests in
-    all ∙ rw past (omega (arith, count_up_to-zero requests))
-
-count_up_to-le : (k : ℕ) (requests : List Request) → IsWithinLimits requests → count_up_to k requests ≤ 16 * k
-count_up_to-le zero requests room = omega (arith, count_up_to-zero requests)
-count_up_to-le (suc k) requests within = omega (arith, count_up_to-suc k requests, within.room (suc k), count_up_to-le k requests within)
-
-count_up_to-all : (requests : List Request) → count_up_to 16 requests ≡ length requests
-count_up_to-all [] = refl
-count_up_to-all (request ∷ requests) =
-    let n : ℕ = number_of request.port in
-    let high : n ≤ 16 = request.port.high in
-    let all : count_up_to 16 (request ∷ requests) ≡ cond (nat_le n 16) 1 0 + count_up_to 16 requests = count_by-cons (λ other. nat_le (number_of other.port) 16) request requests in
-    all ∙ rw (le-leb n 16 high) (omega (arith, count_up_to-all requests))
-
 -- 16 requests for each of 16 ports are 256
 length-le : (requests : List Request) → IsWithinLimits requests → length requests ≤ 256
-length-le requests within = omega (arith, count_up_to-le 16 requests within, count_up_to-all requests)
+length-le requests within = length-by_port (λ request. request.port) 16 requests within.room
 
 -- there is room for one more request where one was asked that isn't refused
 pub length-without_pair-lt : (request : Request) (requests : List Request) → IsWithinLimits requests → is_full (number_of request.port) request.tid request.duid.items requests ≡ false → length (without_pair request.tid request.duid.items requests) < 256

@@ -1,3 +1,2 @@
-pub mod Filters
 pub mod Counts
 pub mod Askers

@@ -16,6 +16,12 @@ pub const REDIRECT: u8 = 137;
 /// The S flag of a neighbor advertisement: it answers a solicitation (RFC 4861 section 4.4).
 pub const SOLICITED_FLAG: u8 = 0x40;
 
+/// Hop limit of a message that no router has forwarded (RFC 4861 sections 4.3, 6.1.1 and 6.1.2).
+pub const ON_LINK_HOP_LIMIT: u8 = 255;
+
+/// ff02::1:ff00:0, the first of the solicited-node addresses (RFC 4291 section 2.7.1).
+pub const SOLICITED_NODE_FIRST: u128 = 0xff02_0000_0000_0000_0000_0001_ff00_0000;
+
 /// An ICMPv6 message by what neighbor discovery sees in it (RFC 4861 section 4).
 #[derive(Clone, Copy, PartialEq, Eq, Debug)]
 pub enum Nd {

@@ -8,20 +8,14 @@ ghost use Rattle.nd_read.specs.Messages.{IsRs, IsNs, IsNa, fixed_len, target_of}
 ghost use Rattle.nd_read.specs.Tests.{HasOptions, IsFirstFailed, NamesSource, PassesBefore, Reads, solicited_node};
 
 use crate::message::{
-    NEIGHBOR_ADVERTISEMENT, NEIGHBOR_SOLICITATION, Nd, NdFault, REDIRECT, ROUTER_ADVERTISEMENT,
-    ROUTER_SOLICITATION, SOLICITED_FLAG,
+    NEIGHBOR_ADVERTISEMENT, NEIGHBOR_SOLICITATION, Nd, NdFault, ON_LINK_HOP_LIMIT, REDIRECT,
+    ROUTER_ADVERTISEMENT, ROUTER_SOLICITATION, SOLICITED_FLAG, SOLICITED_NODE_FIRST,
 };
 use crate::options::names_source;
 use byteorder::{BigEndian, ByteOrder};
 use savi_kinds::Addr;
-use v6_chain::{Ip, is_multicast};
+use v6_chain::{ICMPV6, Ip, is_multicast};
 use v6_sum::sum_ok;
-
-/// Next-header value of ICMPv6 (RFC 4443 section 2.1).
-const ICMPV6: u8 = 58;
-
-/// Hop limit of a message that no router has forwarded (RFC 4861 section 6.1.1).
-const ON_LINK_HOP_LIMIT: u8 = 255;
 
 /// Where the code stands (RFC 4443 section 2.1).
 const CODE_AT: usize = 1;
@@ -35,9 +29,7 @@ const ROUTER_FIXED_LEN: usize = 8;
 /// Octets of a neighbor solicitation or advertisement before its options (RFC 4861 sections 4.3, 4.4).
 const NEIGHBOR_FIXED_LEN: usize = 24;
 
-/// ff02::1:ff00:0, the first of the solicited-node addresses (RFC 4291 section 2.7.1).
-const SOLICITED_NODE_FIRST: u128 = 0xff02_0000_0000_0000_0000_0001_ff00_0000;
-/// ff02::1:ffff:ffff, the last of them.
+/// ff02::1:ffff:ffff, the last of the solicited-node addresses (RFC 4291 section 2.7.1).
 const SOLICITED_NODE_LAST: u128 = 0xff02_0000_0000_0000_0000_0001_ffff_ffff;
 
 /// The type of an ICMPv6 message with what it names, or the fault of the first test that it fails. The

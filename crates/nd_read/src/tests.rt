@@ -3,10 +3,9 @@
 
 use crate::{Nd, NdFault, nd};
 use savi_kinds::Addr;
-use v6_chain::Ip;
+use v6_chain::{ICMPV6, Ip};
 use v6_sum::fill_sum;
 
-const ICMPV6: u8 = 58;
 
 const CHECKSUM_AT: usize = 2;
 

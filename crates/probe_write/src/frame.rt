@@ -5,9 +5,11 @@ ghost use Rattle.arrayvec.specs.ArrayVec.{array_vec_len};
 ghost use Rattle.v6_sum.specs.InternetChecksum.{checksum};
 ghost use Rattle.probe_write.specs.ProbeFrame.{no_address, solicited_node_of, probe_of};
 
-use crate::solicitation::{ICMPV6, SOLICITATION_LEN, UNSPECIFIED, solicitation, solicited_node};
+use crate::solicitation::{SOLICITATION_LEN, solicitation, solicited_node};
 use arrayvec::ArrayVec;
+use nd_read::ON_LINK_HOP_LIMIT;
 use savi_kinds::{Addr, Mac};
+use v6_chain::ICMPV6;
 
 /// Octets of a probe.
 pub const PROBE_LEN: usize = 78;
@@ -18,8 +20,6 @@ const ETHERTYPE_IPV6: u16 = 0x86dd;
 const GROUP_MAC: [u8; 2] = [0x33, 0x33];
 /// Version 6, traffic class 0, flow label 0 (RFC 8200 section 3).
 const VERSION_CLASS_FLOW: [u8; 4] = [0x60, 0, 0, 0];
-/// Hop limit of a message that no router forwards (RFC 4861 section 4.3).
-pub const HOP_LIMIT: u8 = 255;
 
 /// The frame of a probe: a neighbor solicitation for duplicate address detection of the target
 /// (RFC 4861 section 4.3, RFC 4862 section 5.4.2), from the unspecified address to the target's
@@ -36,8 +36,8 @@ pub fn probe(mac: Mac, target: Addr) -> [u8; PROBE_LEN]
     append(&mut frame, &ETHERTYPE_IPV6.to_be_bytes());
     append(&mut frame, &VERSION_CLASS_FLOW);
     append(&mut frame, &(SOLICITATION_LEN as u16).to_be_bytes());
-    append(&mut frame, &[ICMPV6, HOP_LIMIT]);
-    append(&mut frame, &UNSPECIFIED.0.to_be_bytes());
+    append(&mut frame, &[ICMPV6, ON_LINK_HOP_LIMIT]);
+    append(&mut frame, &Addr::UNSPECIFIED.0.to_be_bytes());
     append(&mut frame, &group);
     append(&mut frame, &solicitation(target));
     frame.into_inner().unwrap()

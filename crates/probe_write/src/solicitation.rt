@@ -4,15 +4,10 @@ ghost use Rattle.std.specs.Prelude.{◌≡◌};
 ghost use Rattle.v6_sum.specs.InternetChecksum.{checksum};
 ghost use Rattle.probe_write.specs.ProbeFrame.{no_address, solicited_node_of, solicitation_of};
 
-use nd_read::NEIGHBOR_SOLICITATION;
+use nd_read::{NEIGHBOR_SOLICITATION, SOLICITED_NODE_FIRST};
 use savi_kinds::Addr;
+use v6_chain::ICMPV6;
 use v6_sum::fill_sum;
-
-/// The unspecified address, :: (RFC 4291 section 2.5.2).
-pub const UNSPECIFIED: Addr = Addr(0);
-
-/// Next-header value of ICMPv6 (RFC 4443 section 2.1).
-pub const ICMPV6: u8 = 58;
 
 /// Octets of a neighbor solicitation without options (RFC 4861 section 4.3).
 pub const SOLICITATION_LEN: usize = 24;
@@ -22,8 +17,6 @@ const CHECKSUM_AT: usize = 2;
 /// Where the target stands (RFC 4861 section 4.3).
 const TARGET_AT: usize = 8;
 
-/// ff02::1:ff00:0, the first of the solicited-node addresses (RFC 4291 section 2.7.1).
-const SOLICITED_NODE_FIRST: u128 = 0xff02_0000_0000_0000_0000_0001_ff00_0000;
 /// The part of the target that a solicited-node address ends with: 24 bits.
 const LOW_24_BITS: u128 = 0xff_ffff;
 
@@ -43,7 +36,7 @@ pub fn solicitation(target: Addr) -> [u8; SOLICITATION_LEN]
     message[0] = NEIGHBOR_SOLICITATION;
     message[TARGET_AT..].copy_from_slice(&target.0.to_be_bytes());
     fill_sum(
-        UNSPECIFIED,
+        Addr::UNSPECIFIED,
         solicited_node(target),
         ICMPV6,
         &mut message,

@@ -5,7 +5,7 @@ use Rattle.savi_kinds.specs.declared.plan.Role.{Role}
 use Rattle.savi_kinds.specs.declared.verdict.Rule.{Rule}
 use Rattle.savi_kinds.specs.declared.verdict.Rule.TheVariants as rules
 use Rattle.savi_kinds.specs.Rules.{rule_number}
-use Rattle.savi_kinds.specs.ValidPlan.{is_group}
+use Rattle.savi_kinds.specs.Macs.{is_group}
 use Rattle.eth_frame.specs.declared.header.Eth.{Eth}
 use Rattle.frame_class.specs.declared.classes.Class.{Class}
 use Rattle.frame_class.specs.declared.classes.Class.TheVariants.{Runt, Tagged, Other, BadIp, Ip6}

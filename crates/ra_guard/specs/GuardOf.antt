@@ -6,7 +6,7 @@ use Rattle.savi_kinds.specs.declared.plan.Role.{Role}
 use Rattle.savi_kinds.specs.declared.plan.Role.TheVariants as roles
 use Rattle.savi_kinds.specs.declared.verdict.Rule.{Rule}
 use Rattle.savi_kinds.specs.declared.verdict.Rule.TheVariants as rules
-use Rattle.savi_kinds.specs.ValidPlan.{is_group}
+use Rattle.savi_kinds.specs.Macs.{is_group}
 use Rattle.eth_frame.specs.declared.header.Eth.{Eth}
 use Rattle.v6_chain.specs.declared.packet.Ip.{Ip}
 use Rattle.nd_read.specs.declared.message.Nd.{Nd}

@@ -1,7 +1,6 @@
 //! The rules on messages, in their order.
 
 ghost use Rattle.std.specs.Prelude.{◌≡◌, ◌≢◌, ◌↔◌, Option, IsTrue};
-ghost use Rattle.savi_kinds.specs.ValidPlan.{is_group};
 ghost use Rattle.savi_kinds.specs.Prefixes.{LiesIn};
 ghost use Rattle.savi_kinds.specs.declared.verdict.Rule.{Rule};
 ghost use Rattle.ra_guard.specs.Guard.{Applies, NoneBefore, IsFirst, IsRouterAdvert, IsDiscovery, IsValidated, IsFromServer, is_reserved, link_local_unicast};
@@ -9,20 +8,17 @@ ghost use Rattle.ra_guard.specs.Parts.{IsPacketRule, IsMessageRule};
 
 use frame_class::{Class, Read};
 use nd_read::{
-    NEIGHBOR_ADVERTISEMENT, NEIGHBOR_SOLICITATION, Nd, REDIRECT, ROUTER_ADVERTISEMENT,
-    ROUTER_SOLICITATION,
+    NEIGHBOR_ADVERTISEMENT, NEIGHBOR_SOLICITATION, Nd, ON_LINK_HOP_LIMIT, REDIRECT,
+    ROUTER_ADVERTISEMENT, ROUTER_SOLICITATION,
 };
 use savi_kinds::{Addr, Mac, Role, Rule};
 use v6_chain::Ip;
 
-/// Hop limit of a message that no router has forwarded (RFC 4861 section 6.1.2).
-const ON_LINK_HOP_LIMIT: u8 = 255;
-
-/// The first link-local address, fe80:: (RFC 4291 section 2.5.6).
-const LINK_LOCAL_FIRST: u128 = 0xfe80 << 112;
+/// The first link-local unicast address, fe80:: (RFC 4291 section 2.5.6).
+const LINK_LOCAL_UNICAST_FIRST: u128 = 0xfe80 << 112;
 
 /// The first address behind fe80::/10 (RFC 4291 section 2.5.6).
-const LINK_LOCAL_PAST: u128 = 0xfec0 << 112;
+const LINK_LOCAL_UNICAST_PAST: u128 = 0xfec0 << 112;
 
 /// The first five octets of the addresses that no bridge forwards (IEEE 802.1Q table 8-1).
 const RESERVED_GROUP: [u8; 5] = [0x01, 0x80, 0xc2, 0x00, 0x00];
@@ -55,7 +51,7 @@ pub fn guard(role: Role, drop_unknown: bool, class: &Class) -> Option<Rule>
     if is_reserved(eth.dst) {
         return Some(Rule::ReservedGroup);
     }
-    if is_group(eth.src) {
+    if eth.src.is_group() {
         return Some(Rule::SourceMac);
     }
     if role == Role::Trusted {
@@ -120,7 +116,7 @@ fn message_rule(ip: &Ip, kind: u8, fragmented: bool, nd: Option<Nd>) -> Option<R
 fn is_router_advert(ip: &Ip, kind: u8) -> bool
     ensures { IsTrue result ↔ IsRouterAdvert ip.now kind }
 {
-    kind == ROUTER_ADVERTISEMENT && is_link_local(ip.src) && ip.hop == ON_LINK_HOP_LIMIT
+    kind == ROUTER_ADVERTISEMENT && is_link_local_unicast(ip.src) && ip.hop == ON_LINK_HOP_LIMIT
 }
 
 /// Whether a type is one of neighbor discovery (RFC 4861 section 4).
@@ -149,10 +145,10 @@ fn is_from_server(to: u16, first: Option<u8>) -> bool
 }
 
 /// Whether an address is in fe80::/10 (RFC 4291 section 2.5.6).
-fn is_link_local(address: Addr) -> bool
+fn is_link_local_unicast(address: Addr) -> bool
     ensures { IsTrue result ↔ LiesIn address.0 link_local_unicast }
 {
-    address.0 >= LINK_LOCAL_FIRST && address.0 < LINK_LOCAL_PAST
+    address.0 >= LINK_LOCAL_UNICAST_FIRST && address.0 < LINK_LOCAL_UNICAST_PAST
 }
 
 /// Whether an address is from 01-80-C2-00-00-00 to 01-80-C2-00-00-0F (IEEE 802.1Q table 8-1).
@@ -161,11 +157,4 @@ fn is_reserved(mac: Mac) -> bool
 {
     let [first, second, third, fourth, fifth, last] = mac.0;
     [first, second, third, fourth, fifth] == RESERVED_GROUP && last < RESERVED_COUNT
-}
-
-/// Whether an address has the group bit (IEEE 802.3 section 3.2.3).
-fn is_group(mac: Mac) -> bool
-    ensures { result ≡ is_group mac }
-{
-    mac.0[0] % 2 == 1
 }

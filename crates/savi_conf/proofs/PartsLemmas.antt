@@ -8,7 +8,7 @@ use Rattle.toml.specs.View.{table_view}
 use Rattle.toml.specs.declared.value.Value.{Value}
 use Rattle.savi_kinds.specs.declared.address.Mac.{Mac}
 use Rattle.savi_kinds.specs.MacText.{IsMacText}
-use Rattle.savi_kinds.specs.ValidPlan.{is_group}
+use Rattle.savi_kinds.specs.Macs.{is_group}
 use Rattle.savi_kinds.proofs.MacGrammar.{one_mac}
 use Rattle.savi_conf.specs.Keys.{Keys}
 use Rattle.savi_conf.specs.Requirements.{IsSwitchMac}

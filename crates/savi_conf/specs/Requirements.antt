@@ -7,7 +7,8 @@ use Rattle.savi_kinds.specs.declared.address.Prefix.{Prefix}
 use Rattle.savi_kinds.specs.MacText.{IsMacText}
 use Rattle.savi_kinds.specs.PrefixText.{IsPrefixText}
 use Rattle.savi_kinds.specs.Prefixes.{AreApart}
-use Rattle.savi_kinds.specs.ValidPlan.{is_group, IsPlanPrefix}
+use Rattle.savi_kinds.specs.Macs.{is_group}
+use Rattle.savi_kinds.specs.ValidPlan.{IsPlanPrefix}
 use Rattle.savi_conf.specs.declared.fault.Fault.{Fault}
 use Rattle.savi_conf.specs.declared.fault.Fault.TheVariants.{UnknownKey, WrongKind, MissingKey, SwitchMac, SaviWord, NextHeaderWord, PerPort, Depth, Entries, Bytes, Times, PortCount, PortNumbers, RoleWord, FormatWord, PrefixTexts, PrefixRanges, MethodWord, StreamInReplay, NotBuilt}
 use Rattle.savi_conf.specs.Documents.{text_at, text_or, integer_at, integer_or, tables_at}

@@ -31,7 +31,6 @@ ghost use Rattle.savi_conf.specs.Requirements.{
 };
 ghost use Rattle.savi_kinds.specs.PlanWords.{format_word, method_word, role_word};
 ghost use Rattle.savi_conf.specs.Words.{HasWord};
-ghost use Rattle.savi_kinds.specs.ValidPlan.{is_group};
 ghost use Rattle.savi_conf.specs.declared.fault.Fault.{Fault};
 ghost use Rattle.toml.specs.View.{table_view};
 
@@ -289,16 +288,9 @@ fn is_switch_mac(text: &str) -> bool
     ensures { IsTrue result ↔ IsSwitchMac text.now }
 {
     match read_mac(text.as_bytes()) {
-        Some(mac) => !is_group(mac),
+        Some(mac) => !mac.is_group(),
         None => false,
     }
-}
-
-// Whether the address is one of a group: the lowest bit of its first octet (IEEE 802.3).
-fn is_group(mac: Mac) -> bool
-    ensures { result ≡ is_group mac }
-{
-    mac.0[0] % 2 == 1
 }
 
 // Whether nothing is asked for that isn't there yet.

@@ -30,7 +30,7 @@ ghost use Rattle.savi_kinds.specs.PlanWords.{format_word, method_word, role_word
 ghost use Rattle.savi_conf.specs.Words.{HasWord};
 ghost use Rattle.savi_kinds.specs.MacText.{IsMacText};
 ghost use Rattle.savi_kinds.specs.Ports.{number_of};
-ghost use Rattle.savi_kinds.specs.ValidPlan.{is_group};
+ghost use Rattle.savi_kinds.specs.Macs.{is_group};
 ghost use Rattle.toml.specs.View.{table_view};
 
 use crate::document::text_at;

@@ -5,33 +5,15 @@ ghost use Rattle.savi_kinds.specs.ValidPlan.{IsPlanPrefix};
 
 use savi_kinds::{Addr, Prefix};
 
-// fe80::/64, the link-local addresses (RFC 4291 section 2.5.6).
-const LINK_LOCAL: Prefix = Prefix {
-    net: Addr(0xfe80_0000_0000_0000_0000_0000_0000_0000),
-    len: 64,
-};
-
-// ff00::/8, the multicast addresses (RFC 4291 section 2.7).
-const MULTICAST: Prefix = Prefix {
-    net: Addr(0xff00_0000_0000_0000_0000_0000_0000_0000),
-    len: 8,
-};
-
-// :: (RFC 4291 section 2.5.2).
-const UNSPECIFIED: Addr = Addr(0);
-
-// ::1 (RFC 4291 section 2.5.3).
-const LOOPBACK: Addr = Addr(1);
-
 // Whether a plan may name the prefix.
 pub(crate) fn is_plan_prefix(prefix: Prefix) -> bool
     requires { IsPrefix prefix }
     ensures { IsTrue result ↔ IsPlanPrefix prefix }
 {
-    are_apart(prefix, LINK_LOCAL)
-        && are_apart(prefix, MULTICAST)
-        && !lies_in(UNSPECIFIED, prefix)
-        && !lies_in(LOOPBACK, prefix)
+    are_apart(prefix, Prefix::LINK_LOCAL)
+        && are_apart(prefix, Prefix::MULTICAST)
+        && !lies_in(Addr::UNSPECIFIED, prefix)
+        && !lies_in(Addr::LOOPBACK, prefix)
 }
 
 // Whether no address lies in both.

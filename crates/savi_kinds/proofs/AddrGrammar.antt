@@ -1,5 +1,5 @@
 -- The texts of addresses in the words of the library's grammar, which reads IPv4 tails too.
-use Rattle.std.proofs.Common.{ℕ, ◌≡◌, ◌≢◌, ◌+◌, ◌-◌, ◌≤◌, ◌==◌, Bool, true, false, List, [], ◌∷◌, ◌++◌, All, length, replicate, decimal, refl, sym, ap, ap₂, ◌∙◌, subst, arith, inl, inr, append-nil, eq-eqb, ne_eqb, length-append, true≢false, lit≤, Option, Some, None, Result, Ok, Err, if◌then◌else◌}
+use Rattle.std.proofs.Common.{ℕ, ◌≡◌, ◌≢◌, ◌+◌, ◌-◌, ◌≤◌, ◌==◌, Bool, true, false, List, [], ◌∷◌, ◌++◌, All, length, replicate, decimal, refl, sym, ap, ap₂, ◌∙◌, subst, arith, inl, inr, eq-eqb, ne_eqb, length-append, true≢false, lit≤, Option, Some, None, Result, Ok, Err, if◌then◌else◌}
 use Rattle.std.specs.List.{list_any}
 use Rattle.std.proofs.lemmas.Bool.{cases_eq}
 use Rattle.std.proofs.lemmas.List.{length-map, length-replicate}
@@ -16,6 +16,7 @@ use Rattle.std.proofs.NetLemmas.Arrays.{eight_items}
 use Rattle.std.proofs.NetLemmas.Theorems.{IsIpv6Text_unique}
 use Rattle.savi_kinds.specs.declared.address.Addr.{Addr}
 use Rattle.savi_kinds.specs.AddrText.{IsGroup, numbers_of, joined, number_of_groups, IsWhole, IsCompressed, IsAddrText}
+use Rattle.savi_kinds.proofs.Colons.{behind, joined-behind}
 
 -- how often a character stands in a text
 abbrev pub marks : ℕ → List ℕ → ℕ
@@ -66,15 +67,6 @@ dots-dotted text octets h =
     let dot = 46 ∷ [] in
     let three = decimal h.a ++ dot ++ decimal h.b ++ dot ++ decimal h.c in
     omega (arith, ap dots h.spelled, dots-append (three ++ dot) (decimal h.d), dots-append three dot)
-
--- each group behind a colon
-abbrev behind : List (List ℕ) → List ℕ
-behind [] = []
-behind (g ∷ gs) = 58 ∷ (g ++ behind gs)
-
-joined-behind : (g : List ℕ) (gs : List (List ℕ)) → joined (g ∷ gs) ≡ g ++ behind gs
-joined-behind g [] = sym (append-nil g)
-joined-behind g (h ∷ gs) = ap (λ t. g ++ (58 ∷ t)) (joined-behind h gs)
 
 marks-behind : (b : ℕ) → IsMark b → (gs : List (List ℕ)) → All IsGroup gs → marks b (behind gs) ≡ 0
 marks-behind b mark [] h = refl

@@ -1,7 +1,13 @@
 pub mod Members
+pub mod Colons
 pub mod AddrGrammar
 pub mod AddrSpelling
 pub mod MacGrammar
-pub mod LengthGrammar
+pub mod DecimalGrammar
 pub mod PrefixGrammar
 pub mod AddrWritten
+pub mod Filters
+pub mod Pairs
+pub mod PortCounts
+pub mod Lists
+pub mod PortNumbers

@@ -1,5 +1,5 @@
 -- The texts of MAC addresses, a pair at a time.
-use Rattle.std.proofs.Common.{ℕ, ◌≡◌, ◌≢◌, ◌==◌, Bool, true, false, true≢false, eq-eqb, ne_eqb, ◌-◌, ◌/◌, ◌%◌, ◌<◌, List, [], ◌∷◌, ◌++◌, All, Option, Some, None, IfNone, map, length, take, drop, refl, sym, ap, ap₂, ◌∙◌, subst, arith, append-nil}
+use Rattle.std.proofs.Common.{ℕ, ◌≡◌, ◌≢◌, ◌==◌, Bool, true, false, true≢false, eq-eqb, ne_eqb, ◌-◌, ◌/◌, ◌%◌, ◌<◌, List, [], ◌∷◌, ◌++◌, All, Option, Some, None, IfNone, map, length, take, drop, refl, sym, ap, ap₂, ◌∙◌, subst, arith}
 use Rattle.std.proofs.lemmas.List.{length-map, take_at, drop_at}
 use Rattle.std.proofs.lemmas.List.Elements.{All-nil, All-cons, All-head, All-tail}
 use Rattle.std.specs.List.{join_with_byte}
@@ -9,15 +9,7 @@ use Rattle.std.proofs.lemmas.Bool.Decides.{nat_tests}
 use Rattle.std.proofs.Math.Seq.{take-length}
 use Rattle.savi_kinds.specs.declared.address.Mac.{Mac}
 use Rattle.savi_kinds.specs.MacText.{colon, hex_digit, hex_pair, IsPair, IsMacText, mac_text, BeginsWithPair, BeginsWithNext}
-
--- each pair behind a colon
-abbrev behind : List (List ℕ) → List ℕ
-behind [] = []
-behind (p ∷ ps) = 58 ∷ (p ++ behind ps)
-
-joined-behind : (p : List ℕ) (ps : List (List ℕ)) → join_with_byte colon (p ∷ ps) ≡ p ++ behind ps
-joined-behind p [] = sym (append-nil p)
-joined-behind p (q ∷ ps) = ap (λ t. p ++ (58 ∷ t)) (joined-behind q ps)
+use Rattle.savi_kinds.proofs.Colons.{behind, joined-behind}
 
 -- what stands behind a pair, and behind a colon and a pair, is determined
 pub pair_rest : (text rest : List ℕ) (octet : ℕ) → BeginsWithPair text octet rest → rest ≡ drop 2 text

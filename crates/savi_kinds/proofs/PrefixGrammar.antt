@@ -12,7 +12,7 @@ use Rattle.savi_kinds.specs.declared.address.Prefix.{Prefix}
 use Rattle.savi_kinds.specs.AddrText.{IsAddrText}
 use Rattle.savi_kinds.specs.PrefixText.{IsPrefixText, IsLengthText}
 use Rattle.savi_kinds.proofs.AddrGrammar.{marks, no_mark, one_address}
-use Rattle.savi_kinds.proofs.LengthGrammar.{one_length}
+use Rattle.savi_kinds.proofs.DecimalGrammar.{one_length}
 
 -- the first slash stands behind the address
 first_slash : (front rest : List ℕ) → marks 47 front ≡ 0 → position_or_len (λ c. c == 47) (front ++ (47 ∷ rest)) ≡ length front

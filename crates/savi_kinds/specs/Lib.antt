@@ -2,6 +2,7 @@ pub mod Ports
 pub mod PortSets
 pub mod Rules
 pub mod Prefixes
+pub mod Macs
 pub mod MacText
 pub mod ValidPlan
 pub mod PlanWords

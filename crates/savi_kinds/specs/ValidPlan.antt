@@ -1,17 +1,13 @@
 -- A plan within the limits, with its ports and prefixes in order.
-use Rattle.std.specs.Prelude.{ℕ, ◌*◌, ◌<◌, ◌≤◌, ◌≡◌, ◌%◌, Bool, false, ◌==◌, List, map, length, slice_index, All, AllPairs}
+use Rattle.std.specs.Prelude.{ℕ, ◌*◌, ◌<◌, ◌≤◌, ◌≡◌, false, List, map, length, All, AllPairs}
 use Rattle.std.specs.List.Sorted.{IsStrictlyIncreasing}
 use Rattle.savi_kinds.specs.declared.plan.Plan.{Plan}
 use Rattle.savi_kinds.specs.declared.plan.PortPlan.{PortPlan}
 use Rattle.savi_kinds.specs.declared.plan.PrefixPlan.{PrefixPlan}
-use Rattle.savi_kinds.specs.declared.address.Mac.{Mac}
 use Rattle.savi_kinds.specs.declared.address.Prefix.{Prefix}
+use Rattle.savi_kinds.specs.Macs.{is_group}
 use Rattle.savi_kinds.specs.Ports.{number_of}
 use Rattle.savi_kinds.specs.Prefixes.{IsPrefix, AreApart, LiesIn, first_of, past_of, link_local, multicast, unspecified, loopback}
-
--- the group bit of a MAC address: the lowest bit of its first octet (IEEE 802.3)
-abbrev pub is_group : Mac → Bool
-is_group mac = slice_index mac.0 0 % 2 == 1
 
 -- the numbers of the ports, in the order of the plan
 abbrev pub numbers_of : List PortPlan → List ℕ

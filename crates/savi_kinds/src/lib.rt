@@ -9,7 +9,8 @@
 //!
 //! Addresses, prefixes and MAC addresses are read from texts and written (`specs/AddrText.antt`,
 //! `specs/PrefixText.antt`, `specs/MacText.antt`); what the texts come to is in the laws of
-//! `text_laws`: what is written is read again, and a text has one value.
+//! `text_laws`: what is written is read again, and a text has one value. `read_decimal` reads a number
+//! in decimal, for prefixes and for the crates above.
 //!
 //! Read for the texts: RFC 4291 sections 2.2 and 2.3 (addresses and prefixes), RFC 5952 section 4
 //! (the one spelling of an address), RFC 6991 section 3 (MAC addresses).
@@ -18,6 +19,7 @@
 mod addr_text;
 mod address;
 mod arrival;
+mod decimal;
 mod digit;
 mod entry;
 mod limits;
@@ -35,6 +37,7 @@ mod verdict;
 pub use addr_text::{put_addr, read_addr};
 pub use address::{Addr, Mac, Moment, Prefix};
 pub use arrival::Next;
+pub use decimal::read_decimal;
 pub use entry::{Act, Entry, How, Who};
 pub use limits::{
     BYTES_MOST, CONTROL_LINE_OCTETS, DEPTH_MOST, ENTRIES_LEAST, ENTRIES_MOST, ENTRIES_RESERVED,

@@ -1,10 +1,10 @@
-ghost use Rattle.std.specs.Prelude.{◌≡◌, ◌==◌, ◌≤◌, ◌↔◌, ℕ, IsTrue, IfSome, IfNone, position, slice_index};
+ghost use Rattle.std.specs.Prelude.{◌≡◌, ◌==◌, ℕ, IfSome, IfNone, position};
 ghost use Rattle.savi_kinds.specs.declared.address.Prefix.{Prefix};
 ghost use Rattle.savi_kinds.specs.PrefixText.{IsPrefixText, IsLengthText};
 
 use crate::addr_text::read_addr;
 use crate::address::Prefix;
-use std::str;
+use crate::decimal::read_decimal;
 
 // The most bits that a prefix has (RFC 4291 section 2.3).
 const PREFIX_BITS_MOST: u8 = 128;
@@ -37,21 +37,6 @@ fn read_len(digits: &[u8]) -> Option<u8>
     ensures read { IfSome result (IsLengthText digits.now) }
     ensures only { IfNone result ((n : ℕ) → ¬ IsLengthText digits.now n) }
 {
-    // No leading zero, and no sign, which `parse` would take.
-    if !begins_with_one_to_nine(digits) {
-        return None;
-    }
-    let len = str::from_utf8(digits).ok()?.parse().ok()?;
-    if len <= PREFIX_BITS_MOST {
-        Some(len)
-    } else {
-        None
-    }
-}
-
-// Whether the first character is a digit other than '0'.
-fn begins_with_one_to_nine(text: &[u8]) -> bool
-    ensures { IsTrue result ↔ ((49 ≤ slice_index text.now 0) × (slice_index text.now 0 ≤ 57)) }
-{
-    matches!(text, [b'1'..=b'9', ..])
+    let len = read_decimal(digits, u64::from(PREFIX_BITS_MOST))?;
+    if len > 0 { Some(len as u8) } else { None }
 }

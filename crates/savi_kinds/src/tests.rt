@@ -1,7 +1,7 @@
 // Texts of addresses, MAC addresses and prefixes, most of them from RFC 4291 sections 2.2 and 2.3 and from RFC 5952
 // sections 1, 2 and 4.
 
-use crate::{Addr, Mac, Prefix, put_addr, put_mac, read_addr, read_mac, read_prefix};
+use crate::{Addr, Mac, Prefix, put_addr, put_mac, read_addr, read_decimal, read_mac, read_prefix};
 
 /// An address as it is read, its number, and how it is written.
 const ADDRS: [(&str, u128, &str); 38] = [
@@ -280,6 +280,22 @@ const MACS: [(&str, Option<[u8; 6]>); 12] = [
     ("", None),
 ];
 
+/// A text, the most that is asked for, and the number that it is.
+const DECIMALS: [(&str, u64, Option<u64>); 12] = [
+    ("0", 0, Some(0)),
+    ("16", 16, Some(16)),
+    ("17", 16, None),
+    ("65535", 65_535, Some(65_535)),
+    ("65536", 65_535, None),
+    ("18446744073709551615", u64::MAX, Some(u64::MAX)),
+    ("18446744073709551616", u64::MAX, None),
+    ("00", 9, None),
+    ("01", 9, None),
+    ("+1", 9, None),
+    ("1 ", 9, None),
+    ("", 9, None),
+];
+
 #[test]
 fn addresses_are_read_and_written(rt: HostRuntime) {
     for (text, number, spelled) in ADDRS {
@@ -293,7 +309,10 @@ fn addresses_are_read_and_written(rt: HostRuntime) {
 }
 
 #[test]
-fn prefixes_and_mac_addresses_are_read(rt: HostRuntime) {
+fn prefixes_mac_addresses_and_numbers_are_read(rt: HostRuntime) {
+    for (text, most, want) in DECIMALS {
+        assert_eq!(rt; read_decimal(text.as_bytes(), most), want, "{text}");
+    }
     for (text, want) in PREFIXES {
         let prefix = want.map(|(net, len)| Prefix {
             net: Addr(net),

@@ -6,7 +6,7 @@ ghost use Rattle.v6_chain.specs.Packet.{Reads};
 
 use crate::packet::{Ip, IpFault};
 use byteorder::{BigEndian, ByteOrder};
-use savi_kinds::Addr;
+use savi_kinds::{Addr, Prefix};
 
 /// The octets of the fixed header (RFC 8200 section 3).
 pub const HEADER_LEN: usize = 40;
@@ -28,9 +28,6 @@ const SRC_AT: usize = 8;
 
 /// Where the destination begins.
 const DST_AT: usize = 24;
-
-/// The first of the multicast addresses, ff00:: (RFC 4291 section 2.7).
-const MULTICAST_FIRST: u128 = 0xff00 << 112;
 
 /// The fixed header of the packet that a frame carries, or the first of the four faults, in their order. Octets past the
 /// payload length are padding of the frame. O(1).
@@ -65,5 +62,5 @@ pub fn ip(payload: &[u8]) -> Result<Ip, IpFault>
 pub fn is_multicast(address: Addr) -> bool
     ensures { IsTrue result ↔ LiesIn address.0 multicast }
 {
-    address.0 >= MULTICAST_FIRST
+    address.0 >= Prefix::MULTICAST.net.0
 }

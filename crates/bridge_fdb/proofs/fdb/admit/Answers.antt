@@ -4,7 +4,7 @@ use Rattle.bridge_fdb.specs.declared.station.Station.{Station}
 use Rattle.bridge_fdb.specs.Stations.{is_at, is_live, live_at, count_at}
 use Rattle.bridge_fdb.specs.Learning.{with_station}
 use Rattle.bridge_fdb.specs.Kept.{listed}
-use Rattle.bridge_fdb.proofs.Filters.{count_by-filter-le}
+use Rattle.savi_kinds.proofs.Filters.{count_by-filter-le}
 use Rattle.bridge_fdb.proofs.Within.{learned-room, learned-full}
 use Rattle.bridge_fdb.proofs.Counting.{fewer_before}
 use Rattle.bridge_fdb.proofs.fdb.admit.Goals as goal

@@ -3,7 +3,7 @@ use Rattle.bridge_fdb.specs.declared.station.Station.{Station}
 use Rattle.bridge_fdb.specs.Stations.{mac_number, is_of, live_at}
 use Rattle.bridge_fdb.specs.Learning.{with_station}
 use Rattle.bridge_fdb.specs.Kept.{in_slot, listed, without}
-use Rattle.bridge_fdb.proofs.Rising.{find-none}
+use Rattle.savi_kinds.proofs.Filters.{find-none}
 use Rattle.bridge_fdb.proofs.Without.{none_left, live_without, with_without}
 use Rattle.bridge_fdb.proofs.Slots.{slot_read}
 use Rattle.bridge_fdb.proofs.fdb.put.Goals as goal

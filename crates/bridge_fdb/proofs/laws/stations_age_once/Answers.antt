@@ -2,7 +2,7 @@ use Rattle.std.proofs.Common.{◌≡◌, ◌≤◌, ℕ, true, arith}
 use Rattle.std.proofs.lemmas.Bool.{ltb-true, lt-ltb}
 use Rattle.bridge_fdb.specs.declared.station.Station.{Station}
 use Rattle.bridge_fdb.specs.Stations.{is_live, end_of}
-use Rattle.bridge_fdb.proofs.Filters.{filter-wider}
+use Rattle.savi_kinds.proofs.Filters.{filter-wider}
 use Rattle.bridge_fdb.proofs.laws.stations_age_once.Goals as goal
 
 earlier : (t u : ℕ) → t ≤ u → (s : Station) → is_live u s ≡ true → is_live t s ≡ true

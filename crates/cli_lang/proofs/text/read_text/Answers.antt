@@ -7,7 +7,7 @@ returns-in_err-digits-clause-none g c = rw c.from_residual.ensures (inr (one_wor
 
 pub returns-in_err-stamp-clause-none : goal.returns-in_err-stamp-clause-none
 returns-in_err-stamp-clause-none g c =
-    rw c.from_residual-in_err-stamp.ensures (inr (no_stamp_says c.args.live c.args.text.now c.in_ok-digits.digits.now c.in_ok-digits.command.now c.if-live.false c.in_ok-digits.ensures c.in_err-stamp.ensures.only))
+    rw c.from_residual-in_err-stamp.ensures (inr (no_stamp_says c.args.live c.args.text.now c.in_ok-digits.digits.now c.in_ok-digits.command.now c.if-live.false c.in_ok-digits.ensures (λ n small. c.in_err-stamp.ensures.only n (omega (arith, small)))))
 
 pub put_command-len-requires-2 : goal.put_command-len-requires-2
 put_command-len-requires-2 g c =
@@ -16,4 +16,4 @@ put_command-len-requires-2 g c =
 pub returns-clause-some : goal.returns-clause-some
 returns-clause-some g c =
     let short : length c.in_ok-digits.command.now ≤ 120 = omega (arith, c.requires, command_short c.args.text.now c.in_ok-digits.digits.now c.in_ok-digits.command.now c.in_ok-digits.ensures) in
-    (omega arith, omega (arith, short, c.put_command-len-2.ensures.len), stamp_says c.args.live c.args.text.now c.in_ok-digits.digits.now c.in_ok-digits.command.now _ c.in_ok-stamp.stamp c.if-live.false c.in_ok-digits.ensures c.in_ok-stamp.ensures.read.0 c.in_ok-stamp.ensures.read.1 c.put_command-len-2.ensures.octets)
+    (omega arith, omega (arith, short, c.put_command-len-2.ensures.len), stamp_says c.args.live c.args.text.now c.in_ok-digits.digits.now c.in_ok-digits.command.now _ c.in_ok-stamp.stamp c.if-live.false c.in_ok-digits.ensures c.in_ok-stamp.ensures.read.0 (omega (arith, c.in_ok-stamp.ensures.read.1)) c.put_command-len-2.ensures.octets)

@@ -1,5 +1,5 @@
 use Rattle.std.proofs.Common.{ap, ◌∙◌}
-use Rattle.savi_kinds.specs.ValidPlan.{is_group}
+use Rattle.savi_kinds.specs.Macs.{is_group}
 use Rattle.savi_kinds.proofs.MacGrammar.{one_mac}
 use Rattle.savi_conf.proofs.plan.mac_of.Goals as goal
 

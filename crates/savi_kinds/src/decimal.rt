@@ -2,10 +2,19 @@ ghost use Rattle.std.specs.Prelude.{◌≡◌, ◌≢◌, ℕ, ◌^◌, ◌<◌,
 
 use std::str;
 
-/// Reads a number in decimal without a sign and without a leading zero, 0 itself allowed.
+/// Reads a number from 0 to `most` in decimal, without a sign and without a leading zero.
 ///
-/// `None` for every other text, and for a number of 2^64 or more. O(n).
-pub(crate) fn read_decimal(text: &[u8]) -> Option<u64>
+/// `None` for every other text, and for a number past `most`. O(n).
+pub fn read_decimal(text: &[u8], most: u64) -> Option<u64>
+    ensures read { IfSome result (λ n. (text.now ≡ decimal n) × (n ≤ most)) }
+    ensures only { IfNone result ((n : ℕ) → n ≤ most → text.now ≢ decimal n) }
+{
+    let number = read_u64(text)?;
+    if number <= most { Some(number) } else { None }
+}
+
+// Reads a number below 2^64.
+fn read_u64(text: &[u8]) -> Option<u64>
     ensures read { IfSome result (λ n. (text.now ≡ decimal n) × (n < 2 ^ 64)) }
     ensures only { IfNone result ((n : ℕ) → n < 2 ^ 64 → text.now ≢ decimal n) }
 {

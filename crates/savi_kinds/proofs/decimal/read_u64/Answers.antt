@@ -1,7 +1,6 @@
 use Rattle.std.proofs.Common.{◌≡◌, refl, sym, true≢false}
-use Rattle.savi_kinds.proofs.LengthGrammar.{of_ok, not_err}
-use Rattle.cli_lang.proofs.DecimalRead.{decimal_begins, decimal_utf8, zero_text, some_read, none_read}
-use Rattle.cli_lang.proofs.decimal.read_decimal.Goals as goal
+use Rattle.savi_kinds.proofs.DecimalGrammar.{of_ok, not_err, decimal_begins, decimal_utf8, zero_text, some_read, none_read}
+use Rattle.savi_kinds.proofs.decimal.read_u64.Goals as goal
 
 pub returns-then-is_zero-clause-read : goal.returns-then-is_zero-clause-read
 returns-then-is_zero-clause-read c = zero_text _ (c.if-is_zero.ensures.0 refl)

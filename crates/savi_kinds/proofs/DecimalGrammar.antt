@@ -1,13 +1,22 @@
--- A number in decimal, as the library reads it.
-use Rattle.std.proofs.Common.{ℕ, ◌≡◌, ◌≢◌, ◌↔◌, ◌^◌, ◌<◌, ◌≤◌, List, [], ◌∷◌, Option, Some, None, IfSome, IfNone, IsSome, Result, Ok, Err, decimal, get_or, sym, ap, ◌∙◌, subst, true≢false, arith}
+-- A number in decimal, as the library reads it, and the length of a prefix.
+use Rattle.std.proofs.Common.{ℕ, ◌≡◌, ◌≢◌, ◌^◌, ◌<◌, ◌≤◌, List, [], ◌∷◌, Option, Some, None, IfSome, IfNone, Result, Ok, Err, MatchResult, decimal, get_or, sym, ap, ◌∙◌, subst, arith}
+use Rattle.std.proofs.lemmas.Option.{none-some}
 use Rattle.std.proofs.lemmas.Fmt.{decimal_is_IsNumeral, first_decimal, decimal_digit, decimal_injective, decimal-digits_value, parse-decimal, IsAscii-decimal}
 use Rattle.std.proofs.lemmas.Str.{IsUtf8-from_ascii}
 use Rattle.std.proofs.lemmas.Str.Parse.{numerals_by_value, tells_digits, without_leading_plus_none, digit_at}
-use Rattle.std.specs.Result.{result_ok, OkIff}
+use Rattle.std.specs.Result.{result_ok}
 use Rattle.std.specs.Str.{IsUtf8}
-use Rattle.savi_kinds.specs.declared.port.Port.{Port}
-use Rattle.cli_lang.specs.Commands.{IsNoPort}
 use Rattle.std.specs.Str.Parse.{AllDigits, IsNumeral, digits_value, ParsesUnsigned}
+use Rattle.savi_kinds.specs.PrefixText.{IsLengthText}
+
+-- what holds of the value, and of the error
+pub of_ok : {T E : Type 0} (P : T → Type 0) (Q : E → Type 0) (r : Result T E) (o : Option T) (x : T) → o ≡ result_ok r → o ≡ Some x → MatchResult r P Q → P x
+of_ok P Q (Ok y) o x is some h = let same : y ≡ x = cc in subst P same h
+of_ok P Q (Err e) o x is some h = absurd (none-some x (sym is ∙ some))
+
+pub not_err : {T E : Type 0} (P : T → Type 0) (Q : E → Type 0) (r : Result T E) (o : Option T) → o ≡ result_ok r → o ≡ None → MatchResult r P Q → ((e : E) → Q e → ⊥) → ⊥
+not_err P Q (Ok y) o is none h refuse = none-some y (sym none ∙ is)
+not_err P Q (Err e) o is none h refuse = refuse e h
 
 -- a number is '0', or its first digit is '1' to '9'
 pub decimal_begins : (text : List ℕ) (n : ℕ) → n < 2 ^ 64 → text ≡ decimal n → text ≢ 48 ∷ [] → (49 ≤ get_or text 0 0) × (get_or text 0 0 ≤ 57)
@@ -40,20 +49,17 @@ pub none_read : {E : Type 0} (text : List ℕ) (r : Result ℕ E) (o : Option �
 none_read text (Ok m) o parsed is = rw is tt
 none_read text (Err e) o parsed is = rw is (λ n small spelled. let read = parse-decimal 64 n text (Err e) small small spelled parsed in cc)
 
--- a number past those of ports is none of them
-pub no_port : (text : List ℕ) (m : ℕ) → m < 2 ^ 64 → text ≡ decimal m → (1 ≤ m → m ≤ 16 → ⊥) → IsNoPort text
-no_port text m small spelled none n low high other =
-    let same : m ≡ n = decimal_injective m n small (omega arith) (sym spelled ∙ other) in
-    none (omega arith) (omega arith)
+-- the text of one number is that of no other
+pub past_most : (text : List ℕ) (m most : ℕ) → text ≡ decimal m → m < 2 ^ 64 → most < m → (n : ℕ) → n ≤ most → text ≢ decimal n
+past_most text m most spelled small past n within other =
+    let same : m ≡ n = decimal_injective m n small (omega (arith, small, past, within)) (sym spelled ∙ other) in
+    omega (arith, same, past, within)
 
-pub too_great : {E : Type 0} (text : List ℕ) (m : ℕ) (r : Result ℕ E) (o : Option ℕ) → m < 2 ^ 64 → text ≡ decimal m → OkIff r (m < 256) m → o ≡ result_ok r → o ≡ None → IsNoPort text
-too_great text m (Ok n) o small spelled fits is none = absurd (let same : Some n ≡ None = sym is ∙ none in cc)
-too_great text m (Err e) o small spelled fits is none = no_port text m small spelled (λ low high. fits (omega arith))
+pub one_length : (text : List ℕ) (m n : ℕ) → IsLengthText text m → IsLengthText text n → m ≡ n
+one_length text m n h k = decimal_injective m n (omega (arith, h.2)) (omega (arith, k.2)) (sym h.0 ∙ k.0)
 
-pub fits_is : {E : Type 0} (m n : ℕ) (r : Result ℕ E) (o : Option ℕ) → OkIff r (m < 256) m → o ≡ result_ok r → o ≡ Some n → n ≡ m
-fits_is m n (Ok k) o fits is some = let same : Some k ≡ Some n = sym is ∙ some in let two : k ≡ n = cc in sym two ∙ fits.1
-fits_is m n (Err e) o fits is some = absurd (let same : None ≡ Some n = sym is ∙ some in cc)
-
-pub no_new_port : (text : List ℕ) (n : ℕ) (o : Option Port) → n < 2 ^ 64 → text ≡ decimal n → IsSome o ↔ ((1 ≤ n) × (n ≤ 16)) → IfNone o (IsNoPort text)
-no_new_port text n None small spelled some = no_port text n small spelled (λ low high. true≢false (sym (some.1 (low, high))))
-no_new_port text n (Some port) small spelled some = tt
+-- '0' is no length
+pub no_length : (text : List ℕ) (m : ℕ) → text ≡ decimal m → m ≤ 128 → m ≤ 0 → (n : ℕ) → ¬ IsLengthText text n
+no_length text m spelled within none n h =
+    let same : m ≡ n = decimal_injective m n (omega (arith, within)) (omega (arith, h.2)) (sym spelled ∙ h.0) in
+    omega (arith, same, none, h.1)

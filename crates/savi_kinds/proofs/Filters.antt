@@ -10,6 +10,15 @@ pub filter-all : {X : Type 0} (p : X → Bool) (xs : List X) → All (λ x. p x 
 filter-all p [] pass = refl
 filter-all p (x ∷ xs) pass = rw (All-head (λ y. p y ≡ true) x xs pass) (ap (λ ys. x ∷ ys) (filter-all p xs (All-tail (λ y. p y ≡ true) x xs pass)))
 
+-- a filter through which no item passes
+pub filter-none : {X : Type 0} (p : X → Bool) (xs : List X) → All (λ x. p x ≡ false) xs → filter p xs ≡ []
+filter-none p [] stop = refl
+filter-none p (x ∷ xs) stop = rw (All-head (λ y. p y ≡ false) x xs stop) (filter-none p xs (All-tail (λ y. p y ≡ false) x xs stop))
+
+pub find-none : {X : Type 0} (p : X → Bool) (xs : List X) → All (λ x. p x ≡ false) xs → find p xs ≡ None
+find-none p [] stop = refl
+find-none p (x ∷ xs) stop = rw (All-head (λ y. p y ≡ false) x xs stop) (find-none p xs (All-tail (λ y. p y ≡ false) x xs stop))
+
 -- what passes the narrower filter passes the wider one
 pub filter-wider : {X : Type 0} (p q : X → Bool) → ((x : X) → q x ≡ true → p x ≡ true) → (xs : List X) → filter q (filter p xs) ≡ filter q xs
 filter-wider p q wider [] = refl
