@@ -6,8 +6,8 @@ use Rattle.frame_class.proofs.reader.message_read.Goals as goal
 pub icmp_read-requires-clause-least : goal.icmp_read-requires-clause-least
 icmp_read-requires-clause-least c = icmpv6_least c.args.proto c.args.message.now c.in-58.is c.requires.whole
 
-pub udp_read-requires : goal.udp_read-requires
-udp_read-requires c = udp_least c.args.proto c.args.message.now c.in-17.is c.requires.whole
+pub udp_read-requires-clause-least : goal.udp_read-requires-clause-least
+udp_read-requires-clause-least c = udp_least c.args.proto c.args.message.now c.in-17.is c.requires.whole
 
 pub returns-in-17 : goal.returns-in-17
 returns-in-17 c =
