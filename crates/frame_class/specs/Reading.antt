@@ -97,6 +97,12 @@ IsPacketClass eth payload (BadIp header) = (header ≡ eth) × ((fault : IpFault
 IsPacketClass eth payload (Ip6 header ip read) = (header ≡ eth) × IsPacket payload ip × IsReadOf ip payload read
 IsPacketClass eth payload _ = ⊥
 
+-- what a frame with these headers is, by the message of its upper header
+abbrev pub IsUpperClass : Eth → Ip → ℕ → List ℕ → Bool → Class → Type 0
+IsUpperClass eth ip proto message fragmented (Ip6 header packet read) =
+    (header ≡ eth) × (packet ≡ ip) × IsMessageRead ip proto message fragmented read
+IsUpperClass eth ip proto message fragmented _ = ⊥
+
 -- what a frame is
 abbrev pub IsClassOf : List ℕ → Class → Type 0
 IsClassOf frame Runt = length frame < 14
