@@ -1,5 +1,6 @@
 -- What a message reads as: the same by each function that gives rows.
 use Rattle.std.proofs.Common.{◌≡◌, ℕ, ◌<◌, ◌≤◌, Bool, true, false, cond, Option, None, Result, Ok, Err, List, [], ◌++◌, length, drop, refl, sym, ap, ◌∙◌, subst}
+use Rattle.std.proofs.Math.Path.{fun_ext}
 use Rattle.std.proofs.lemmas.Bool.{lt-ltb, le-ltb}
 use Rattle.arrayvec.specs.ArrayVec.{ArrayVec}
 use Rattle.dhcp6_read.specs.declared.message.Lease.{Lease}
@@ -9,14 +10,15 @@ use Rattle.dhcp6_read.specs.declared.message.DhcpFault.TheVariants.{Short}
 use Rattle.dhcp6_read.specs.Options.{Row, GivesRows}
 use Rattle.dhcp6_read.specs.Levels.{Said, row_says, in_message}
 use Rattle.dhcp6_read.specs.Message.{kind_of, tid_of, is_relayed, duid_in, is_rapid, unless_fault, unread, read_whole, options_read, reading, Reads}
+use Rattle.dhcp6_read.specs.DhcpOf.{option_row, dhcp_of}
 use Rattle.dhcp6_read.specs.Steps.{Tells}
-use Rattle.dhcp6_read.proofs.Rows.{rows, gives_rows}
+use Rattle.dhcp6_read.proofs.Rows.{gives_rows, row_same}
 
 abbrev pub ReadsEach : List ℕ → Result Dhcp DhcpFault → Type 0
 ReadsEach message result = (row_of : List ℕ → Row) → GivesRows row_of → result ≡ reading row_of message
 
 pub reads_so : (message : List ℕ) (result : Result Dhcp DhcpFault) → ReadsEach message result → Reads message result
-reads_so message result each = (rows, gives_rows, each rows gives_rows)
+reads_so message result each = (option_row, gives_rows, each option_row gives_rows)
 
 pub reads_only : (message : List ℕ) (result : Result Dhcp DhcpFault) → ReadsEach message result → (other : Result Dhcp DhcpFault) → Reads message other → other ≡ result
 reads_only message result each other reads = reads.2 ∙ sym (each reads.0 reads.1)
@@ -88,3 +90,14 @@ whole_reads message octets d void before after long at e has told none leases ro
     let value = read_whole message options said in
     ap ok (same_dhcp d (kind_of message) (tid_of message) (duid_in options) (is_rapid options) (cond said.void [] said.leases) k.kind k.tid k.duid k.rapid kept)
     ∙ sym (headed row_of message false long e ∙ ap (λ (l : List DhcpFault). unless_fault l value) t.0)
+
+-- `dhcp_of` is a reading of each message
+pub dhcp_is : (message : List ℕ) → Reads message (dhcp_of message)
+unfolding dhcp_of
+dhcp_is message = (option_row, gives_rows, refl)
+
+-- a message has one reading
+pub same_dhcp_reading : (message : List ℕ) (a b : Result Dhcp DhcpFault) → Reads message a → Reads message b → a ≡ b
+same_dhcp_reading message a b p q =
+    let same : p.0 ≡ q.0 = fun_ext (λ octets. row_same octets (p.0 octets) (q.0 octets) (p.1 octets) (q.1 octets)) in
+    p.2 ∙ ap (λ (r : List ℕ → Row). reading r message) same ∙ sym q.2

@@ -1,11 +1,12 @@
 -- The row of octets: each list of octets has one, and only one.
-use Rattle.std.proofs.Common.{◌≡◌, ℕ, zero, suc, ◌+◌, ◌<◌, ◌≤◌, List, [], ◌∷◌, ◌++◌, length, take, drop, refl, sym, ap, ◌∙◌, subst, inl, inr, ◌⊎◌, arith}
+use Rattle.std.proofs.Common.{◌≡◌, ℕ, zero, suc, ◌+◌, ◌<◌, ◌≤◌, nat_le, List, [], ◌∷◌, ◌++◌, length, take, drop, refl, sym, ap, ◌∙◌, subst, inl, inr, ◌⊎◌, arith}
 use Rattle.std.specs.List.{flat_map, All}
-use Rattle.std.proofs.lemmas.Bool.{cases_lt}
+use Rattle.std.proofs.lemmas.Bool.{cases_lt, cond_both, both_ways, and_parts, and_from, leb-true, le-leb}
 use Rattle.std.proofs.lemmas.List.{append_assoc, take_at, drop_at, drop-drop, take-append-drop, length-append, length-take-le, length-drop, get_or-take, get_or_append_left}
 use Rattle.std.proofs.lemmas.List.Elements.{All-nil, All-cons, All-head, All-tail}
 use Rattle.byteorder.specs.Endian.{big_number}
 use Rattle.dhcp6_read.specs.Options.{DhcpOption, octets_of, IsWhole, BeginsNone, Row, IsRow, GivesRows}
+use Rattle.dhcp6_read.specs.DhcpOf.{front_len, begins_whole, front_option, behind_front, in_front, no_option, row_within, option_row}
 use Rattle.dhcp6_read.specs.Steps.{BeginsWith}
 
 append_same : (p q x y : List ℕ) → length p ≡ length q → p ++ x ≡ q ++ y → (p ≡ q) × (x ≡ y)
@@ -84,17 +85,13 @@ begins_none octets few option behind whole e =
     let l = begins_long octets option behind whole e in
     elim few [ inl h ↦ omega arith | inr h ↦ omega arith ]
 
--- the option that begins octets which are enough
-abbrev first_of : List ℕ → DhcpOption
-first_of octets = record { code = take 2 octets; len = take 2 (drop 2 octets); content = take (big_number 2 (drop 2 octets)) (drop 4 octets) }
-
 number_take : (xs : List ℕ) → big_number 2 (take 2 xs) ≡ big_number 2 xs
 number_take xs =
     let e = get_or-take 2 xs 0 0 (omega arith) in
     let f = get_or-take 2 xs 1 0 (omega arith) in
     omega arith
 
-pub first_whole : (octets : List ℕ) → 4 ≤ length octets → 4 + big_number 2 (drop 2 octets) ≤ length octets → IsWhole (first_of octets)
+pub first_whole : (octets : List ℕ) → 4 ≤ length octets → 4 + big_number 2 (drop 2 octets) ≤ length octets → IsWhole (front_option octets)
 first_whole octets long fits =
     let a = length-drop 2 octets in
     let b = length-drop 4 octets in
@@ -113,30 +110,31 @@ first_joined octets n =
     let o : DhcpOption = record { code = take 2 octets; len = take 2 (drop 2 octets); content = take n (drop 4 octets) } in
     sym (regroup o (drop n (drop 4 octets)) ∙ ap (λ (l : List ℕ). take 2 octets ++ (take 2 (drop 2 octets) ++ l)) c ∙ ap (λ (l : List ℕ). take 2 octets ++ (take 2 (drop 2 octets) ++ l)) (sym d) ∙ ap (λ (l : List ℕ). take 2 octets ++ l) b ∙ a)
 
-row_within : (most : ℕ) (octets : List ℕ) → length octets ≤ most → (row : Row) × IsRow octets row
-row_within zero octets h = (record { options = []; rest = octets }, row_none octets (begins_none octets (inl (omega arith))))
-row_within (suc most) octets h =
-    let n = big_number 2 (drop 2 octets) in
-    elim (cases_lt (length octets) 4) [
-      | inl few ↦ (record { options = []; rest = octets }, row_none octets (begins_none octets (inl few)))
-      | inr long ↦ elim (cases_lt (length octets) (4 + n)) [
-        | inl few ↦ (record { options = []; rest = octets }, row_none octets (begins_none octets (inr few)))
-        | inr fits ↦
-            let behind = drop n (drop 4 octets) in
-            let more = row_within most behind (omega (arith, length-drop n (drop 4 octets), length-drop 4 octets)) in (
-              record { options = first_of octets ∷ more.0.options; rest = more.0.rest },
-              row_cons octets behind (first_of octets) more.0 (first_whole octets long fits) (first_joined octets n) more.1,
-            )
+row_is : (most : ℕ) (octets : List ℕ) → length octets ≤ most → IsRow octets (row_within most octets)
+row_is zero octets h = row_none octets (begins_none octets (inl (omega arith)))
+row_is (suc most) octets h =
+    let behind = behind_front octets in
+    cond_both (begins_whole octets) (in_front (front_option octets) (row_within most behind)) (no_option octets) (IsRow octets)
+    (λ whole.
+    let parts = and_parts (nat_le 4 (length octets)) (nat_le (4 + front_len octets) (length octets)) whole in
+    let long = leb-true 4 (length octets) parts.0 in
+    let fits = leb-true (4 + front_len octets) (length octets) parts.1 in
+    let more = row_is most behind (omega (arith, length-drop (front_len octets) (drop 4 octets), length-drop 4 octets)) in
+    row_cons octets behind (front_option octets) (row_within most behind) (first_whole octets long fits) (first_joined octets (front_len octets)) more)
+    (λ cut.
+    row_none octets
+    (elim (cases_lt (length octets) 4) [
+      | inl few ↦ begins_none octets (inl few)
+      | inr long ↦ elim (cases_lt (length octets) (4 + front_len octets)) [
+        | inl few ↦ begins_none octets (inr few)
+        | inr fits ↦ absurd (both_ways (begins_whole octets) cut (and_from _ _ (le-leb 4 (length octets) long) (le-leb (4 + front_len octets) (length octets) fits)))
       ]
-    ]
+    ]))
 
 -- the row of octets
-pub rows : List ℕ → Row
-rows octets = (row_within (length octets) octets (omega arith)).0
-
-pub gives_rows : GivesRows rows
-unfolding rows
-gives_rows octets = (row_within (length octets) octets (omega arith)).1
+pub gives_rows : GivesRows option_row
+unfolding option_row
+gives_rows octets = row_is (length octets) octets (omega arith)
 
 -- the row of octets that begin with an option, and of octets that don't
 pub row_begins : (row_of : List ℕ → Row) → GivesRows row_of → (octets behind : List ℕ) (o : DhcpOption) → IsWhole o → octets ≡ octets_of o ++ behind → row_of octets ≡ record { options = o ∷ (row_of behind).options; rest = (row_of behind).rest }
@@ -148,7 +146,7 @@ row_ends row_of gives octets none = row_same octets (row_of octets) (record { op
 
 -- octets that are enough begin with an option
 begins_at : (octets : List ℕ) → 4 ≤ length octets → 4 + big_number 2 (drop 2 octets) ≤ length octets → BeginsWith octets (big_number 2 octets) (take (big_number 2 (drop 2 octets)) (drop 4 octets)) (drop (big_number 2 (drop 2 octets)) (drop 4 octets))
-begins_at octets long fits = (first_of octets, first_whole octets long fits, number_take octets, refl, first_joined octets (big_number 2 (drop 2 octets)))
+begins_at octets long fits = (front_option octets, first_whole octets long fits, number_take octets, refl, first_joined octets (big_number 2 (drop 2 octets)))
 
 pub begins_with : (octets content behind : List ℕ) (n code : ℕ) → 4 ≤ length octets → 4 + n ≤ length octets → n ≡ big_number 2 (drop 2 octets) → code ≡ big_number 2 octets → content ≡ take n (drop 4 octets) → behind ≡ drop n (drop 4 octets) → BeginsWith octets code content behind
 begins_with octets content behind n code long fits en ec ex eb =

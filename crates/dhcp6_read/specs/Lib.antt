@@ -1,4 +1,5 @@
 pub mod Options
 pub mod Levels
 pub mod Message
+pub mod DhcpOf
 pub mod Steps

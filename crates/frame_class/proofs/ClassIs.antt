@@ -1,8 +1,8 @@
 -- Each frame has a class, the one that `class_of` gives.
-use Rattle.std.proofs.Common.{◌≡◌, ℕ, ◌+◌, ◌≤◌, ◌==◌, nat_le, nat_lt, Bool, true, false, List, length, Result, Ok, Err, refl, inl, inr, cond}
+use Rattle.std.proofs.Common.{◌≡◌, ℕ, ◌+◌, ◌≤◌, ◌==◌, ◌||◌, nat_le, nat_lt, not, Bool, true, false, List, length, Option, None, Result, Ok, Err, refl, ◌⊎◌, inl, inr, cond}
 use Rattle.std.specs.Bool.{Decides}
 use Rattle.std.specs.Result.{result_ok}
-use Rattle.std.proofs.lemmas.Bool.{cond_both, cases_lt, cases_eq, eqb-true, eqb-false, ltb-true, ltb-false, cases_Bool}
+use Rattle.std.proofs.lemmas.Bool.{not-true, not_from_false, cond_both, cases_lt, cases_eq, eqb-true, eqb-false, ltb-true, ltb-false, cases_Bool}
 use Rattle.std.proofs.lemmas.Bool.Decides.{Decides-eqb, Decides-and, Decides-or, Decides-not, not_from_Decides}
 use Rattle.savi_kinds.specs.Prefixes.{LiesIn, multicast}
 use Rattle.eth_frame.specs.declared.header.Eth.{Eth}
@@ -24,14 +24,17 @@ use Rattle.nd_read.specs.InPrefix.{lies_in}
 use Rattle.nd_read.specs.NdOf.{nd_of}
 use Rattle.nd_read.proofs.InPrefix.{Decides-leb, Decides-lies_in}
 use Rattle.nd_read.proofs.ReadingOf.{nd_is}
+use Rattle.dhcp6_read.specs.declared.message.Dhcp.{Dhcp}
+use Rattle.dhcp6_read.specs.DhcpOf.{dhcp_of}
+use Rattle.dhcp6_read.proofs.Readings.{dhcp_is}
 use Rattle.frame_class.specs.declared.classes.Class.{Class}
 use Rattle.frame_class.specs.declared.classes.Class.TheVariants.{Runt, Tagged, Other, BadIp, Ip6}
 use Rattle.frame_class.specs.declared.classes.Read.{Read}
 use Rattle.frame_class.specs.declared.classes.Read.TheVariants.{Icmp, Udp, Plain}
-use Rattle.frame_class.specs.Reading.{ipv6_type, IsTag, HasHeader, destination_port, first_of_payload, IsNdOf, IsMessageRead, IsReadBy, IsReadOf, IsPacketClass, IsClassOf}
-use Rattle.frame_class.specs.ClassOf.{is_tag, is_packet, discovery_of, message_read_of, read_by, read_of, packet_class_of, typed_class_of, class_of}
+use Rattle.frame_class.specs.Reading.{ipv6_type, IsTag, HasHeader, destination_port, first_of_payload, IsNdOf, udp_length, udp_payload, IsForDhcp, IsDhcpOf, IsMessageRead, IsReadBy, IsReadOf, IsPacketClass, IsClassOf}
+use Rattle.frame_class.specs.ClassOf.{is_tag, is_packet, discovery_of, is_for_dhcp, dhcp_message_of, message_read_of, read_by, read_of, packet_class_of, typed_class_of, class_of}
 use Rattle.frame_class.proofs.OneClass.{one_class}
-use Rattle.frame_class.proofs.Layers.{packet_class_is}
+use Rattle.frame_class.proofs.Layers.{packet_class_is, whole_dhcp}
 
 -- a message that no fragment header stands before
 whole_nd : (ip : Ip) (message : List ℕ) (reading : Result Nd NdFault) → Reads ip message reading → IsNdOf ip message false (result_ok reading)
@@ -42,15 +45,32 @@ nd_of_is : (ip : Ip) (message : List ℕ) (fragmented : Bool) → IsNdOf ip mess
 nd_of_is ip message true = inl refl
 nd_of_is ip message false = whole_nd ip message (nd_of ip message) (nd_is ip message)
 
+for_dhcp_decided : (message : List ℕ) (fragmented : Bool) → Decides (is_for_dhcp message fragmented) (IsForDhcp message fragmented)
+for_dhcp_decided message fragmented =
+    let parts : Decides (is_for_dhcp message fragmented) ((fragmented ≡ false) × (((destination_port message ≡ 546) ⊎ (destination_port message ≡ 547)) × (udp_length message ≡ length message))) =
+    Decides-and (not fragmented) _ (not-true fragmented, not_from_false fragmented)
+    (Decides-and ((destination_port message == 546) || (destination_port message == 547)) _ (Decides-or (destination_port message == 546) _ (Decides-eqb (destination_port message) 546) (Decides-eqb (destination_port message) 547)) (Decides-eqb (udp_length message) (length message))) in (
+      (λ t. let p = parts.0 t in record { whole = p.0; port = p.1.0; len = p.1.1 }),
+      (λ is. parts.1 (is.whole, (is.port, is.len))),
+    )
+
+dhcp_message_is : (message : List ℕ) (fragmented : Bool) → IsDhcpOf message fragmented (dhcp_message_of message fragmented)
+dhcp_message_is message fragmented =
+    let decided : Decides (is_for_dhcp message fragmented) (IsForDhcp message fragmented) = for_dhcp_decided message fragmented in
+    let none : Option Dhcp = None in
+    cond_both (is_for_dhcp message fragmented) (result_ok (dhcp_of (udp_payload message))) none (IsDhcpOf message fragmented)
+    (λ is. whole_dhcp message fragmented (dhcp_of (udp_payload message)) (decided.0 is) (dhcp_is (udp_payload message)))
+    (λ other. inl (not_from_Decides (is_for_dhcp message fragmented) decided other))
+
 message_read_is : (ip : Ip) (proto : ℕ) (message : List ℕ) (fragmented : Bool) → IsMessageRead ip proto message fragmented (message_read_of ip proto message fragmented)
 message_read_is ip proto message fragmented =
     let icmp : Read = Icmp (kind_of message) fragmented (discovery_of ip message fragmented) in
-    let udp : Read = Udp (destination_port message) (first_of_payload message) fragmented in
+    let udp : Read = Udp (destination_port message) (first_of_payload message) fragmented (dhcp_message_of message fragmented) in
     cond_both (proto == 58) icmp (cond (proto == 17) udp Plain) (IsMessageRead ip proto message fragmented)
     (λ is. (eqb-true proto 58 is, refl, refl, nd_of_is ip message fragmented))
     (λ not_icmp.
     cond_both (proto == 17) udp Plain (IsMessageRead ip proto message fragmented)
-    (λ is. (eqb-true proto 17 is, refl, refl, refl))
+    (λ is. (eqb-true proto 17 is, refl, refl, refl, dhcp_message_is message fragmented))
     (λ not_udp. (eqb-false proto 58 not_icmp, eqb-false proto 17 not_udp)))
 
 read_by_is : (ip : Ip) (payload : List ℕ) (outcome : Chain) → IsReadBy ip payload outcome (read_by ip payload outcome)

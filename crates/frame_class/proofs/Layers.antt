@@ -1,15 +1,20 @@
 -- What each layer adds to the reading of a frame.
-use Rattle.std.proofs.Common.{◌≡◌, ℕ, ◌+◌, ◌-◌, List, length, take, drop, sym, ap, ◌∙◌, subst, arith}
+use Rattle.std.proofs.Common.{◌≡◌, ℕ, ◌+◌, ◌-◌, Bool, List, length, take, drop, Result, Ok, Err, sym, ap, ◌∙◌, subst, inr, arith}
+use Rattle.std.specs.Result.{result_ok}
 use Rattle.std.proofs.lemmas.List.{take_rest}
 use Rattle.eth_frame.specs.declared.header.Eth.{Eth}
 use Rattle.eth_frame.specs.Frame.{payload_of}
 use Rattle.v6_chain.specs.declared.packet.Ip.{Ip}
 use Rattle.v6_chain.specs.declared.packet.IpFault.{IpFault}
 use Rattle.v6_chain.specs.Packet.{IsPacket, IsRefused, body_of}
-use Rattle.v6_chain.specs.Outcome.{message_of}
+use Rattle.v6_chain.specs.declared.outcome.Chain.TheVariants.{Upper}
+use Rattle.v6_chain.specs.Outcome.{IsOutcome, message_of}
+use Rattle.dhcp6_read.specs.declared.message.Dhcp.{Dhcp}
+use Rattle.dhcp6_read.specs.declared.message.DhcpFault.{DhcpFault}
+use Rattle.dhcp6_read.specs.Message.{Reads as ReadsDhcp}
 use Rattle.frame_class.specs.declared.classes.Class.{Class}
 use Rattle.frame_class.specs.declared.classes.Class.TheVariants.{Runt, Tagged, Other, BadIp, Ip6}
-use Rattle.frame_class.specs.Reading.{ipv6_type, HasHeader, IsReadOf, IsPacketClass, IsClassOf}
+use Rattle.frame_class.specs.Reading.{ipv6_type, HasHeader, udp_payload, IsForDhcp, IsDhcpOf, IsReadOf, IsPacketClass, IsUpperClass, IsClassOf}
 
 -- the octets from a place of the body on are the message there
 pub message_is : (ip : Ip) (payload : List ℕ) (len place at : ℕ) → len ≡ ip.len → place ≡ at
@@ -20,6 +25,22 @@ message_is ip payload len place at len_is place_is =
     take_rest (take (40 + len - 40) (drop 40 payload)) place
     ∙ ap (λ (l : List ℕ). drop place l) body
     ∙ ap (λ (n : ℕ). drop n (body_of ip payload)) place_is
+
+-- a whole datagram for DHCPv6 says what is read of its payload
+pub whole_dhcp : (message : List ℕ) (fragmented : Bool) (reading : Result Dhcp DhcpFault) → IsForDhcp message fragmented → ReadsDhcp (udp_payload message) reading → IsDhcpOf message fragmented (result_ok reading)
+whole_dhcp message fragmented (Ok dhcp) is reads = (is, reads)
+whole_dhcp message fragmented (Err fault) is reads = inr (fault, reads)
+
+-- a packet with an upper header is what its message is
+pub upper_class_is : (eth : Eth) (ip : Ip) (payload : List ℕ) (proto at : ℕ) (fragmented : Bool) (class : Class) → IsPacket payload ip → IsOutcome ip payload (Upper proto at fragmented) → IsUpperClass eth ip proto (message_of ip payload at) fragmented class → IsPacketClass eth payload class
+upper_class_is eth ip payload proto at fragmented (Ip6 header packet read) has outcome is =
+    let P : Ip → Type 0 = λ i. IsPacket payload i × IsReadOf i payload read in
+    let both = subst P (sym is.1) (has, (Upper proto at fragmented, outcome, is.2)) in
+    (is.0, both.0, both.1)
+upper_class_is eth ip payload proto at fragmented Runt has outcome is = absurd is
+upper_class_is eth ip payload proto at fragmented (Tagged header) has outcome is = absurd is
+upper_class_is eth ip payload proto at fragmented (Other header) has outcome is = absurd is
+upper_class_is eth ip payload proto at fragmented (BadIp header) has outcome is = absurd is
 
 -- a frame with the EtherType of IPv6 is what its packet is
 pub packet_class_is : (frame : List ℕ) (eth : Eth) (class : Class) → HasHeader frame eth → eth.kind ≡ ipv6_type → IsPacketClass eth (payload_of frame) class → IsClassOf frame class

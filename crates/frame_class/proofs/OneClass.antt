@@ -13,11 +13,13 @@ use Rattle.v6_chain.specs.Outcome.{message_of}
 use Rattle.v6_chain.proofs.Unique.{one_outcome}
 use Rattle.nd_read.specs.declared.message.Nd.{Nd}
 use Rattle.nd_read.proofs.TestOrder.{same_reading}
+use Rattle.dhcp6_read.specs.declared.message.Dhcp.{Dhcp}
+use Rattle.dhcp6_read.proofs.Readings.{same_dhcp_reading}
 use Rattle.frame_class.specs.declared.classes.Class.{Class}
 use Rattle.frame_class.specs.declared.classes.Class.TheVariants.{Runt, Tagged, Other, BadIp, Ip6}
 use Rattle.frame_class.specs.declared.classes.Read.{Read}
 use Rattle.frame_class.specs.declared.classes.Read.TheVariants.{Icmp, Udp, Plain}
-use Rattle.frame_class.specs.Reading.{ipv6_type, IsTag, HasHeader, IsNdOf, IsMessageRead, IsReadBy, IsReadOf, IsClassOf}
+use Rattle.frame_class.specs.Reading.{ipv6_type, IsTag, HasHeader, IsNdOf, udp_payload, IsDhcpOf, IsMessageRead, IsReadBy, IsReadOf, IsClassOf}
 
 one_nd : (ip : Ip) (message : List ℕ) (fragmented : Bool) (a b : Option Nd) → IsNdOf ip message fragmented a → IsNdOf ip message fragmented b → a ≡ b
 one_nd ip message fragmented None None p q = refl
@@ -27,21 +29,33 @@ one_nd ip message fragmented (Some x) None p (inl behind) = cc (behind, p.0)
 one_nd ip message fragmented (Some x) None p (inr refused) = cc (same_reading ip message (Err refused.0) (Ok x) refused.1 p.1)
 one_nd ip message fragmented (Some x) (Some y) p q = cc (p.1.0, q.1.0)
 
+one_dhcp : (message : List ℕ) (fragmented : Bool) (a b : Option Dhcp) → IsDhcpOf message fragmented a → IsDhcpOf message fragmented b → a ≡ b
+one_dhcp message fragmented None None p q = refl
+one_dhcp message fragmented None (Some y) (inl not_for) q = absurd (not_for q.0)
+one_dhcp message fragmented None (Some y) (inr refused) q = cc (same_dhcp_reading (udp_payload message) (Err refused.0) (Ok y) refused.1 q.1)
+one_dhcp message fragmented (Some x) None p (inl not_for) = absurd (not_for p.0)
+one_dhcp message fragmented (Some x) None p (inr refused) = cc (same_dhcp_reading (udp_payload message) (Err refused.0) (Ok x) refused.1 p.1)
+one_dhcp message fragmented (Some x) (Some y) p q = cc (same_dhcp_reading (udp_payload message) (Ok x) (Ok y) p.1 q.1)
+
 one_message_read : (ip : Ip) (proto : ℕ) (message : List ℕ) (behind : Bool) (a b : Read) → IsMessageRead ip proto message behind a → IsMessageRead ip proto message behind b → a ≡ b
 one_message_read ip proto message behind (Icmp k f n) (Icmp l g o) p q =
     let same : g ≡ f = q.2 ∙ sym p.2 in
     let P : Bool → Type 0 = λ b. IsNdOf ip message b o in
     let nd : n ≡ o = one_nd ip message f n o p.3 (subst P same q.3) in
     cc (p.1, p.2, q.1, q.2)
-one_message_read ip proto message behind (Icmp k f n) (Udp to first g) p q = absurd (omega (arith, p.0, q.0))
+one_message_read ip proto message behind (Icmp k f n) (Udp to first g d) p q = absurd (omega (arith, p.0, q.0))
 one_message_read ip proto message behind (Icmp k f n) Plain p q = absurd (q.0 p.0)
 one_message_read ip proto message behind (Icmp k f n) _ p q = absurd q
-one_message_read ip proto message behind (Udp to first f) (Icmp l g o) p q = absurd (omega (arith, p.0, q.0))
-one_message_read ip proto message behind (Udp to first f) (Udp port second g) p q = cc (p.1, p.2, p.3, q.1, q.2, q.3)
-one_message_read ip proto message behind (Udp to first f) Plain p q = absurd (q.1 p.0)
-one_message_read ip proto message behind (Udp to first f) _ p q = absurd q
+one_message_read ip proto message behind (Udp to first f d) (Icmp l g o) p q = absurd (omega (arith, p.0, q.0))
+one_message_read ip proto message behind (Udp to first f d) (Udp port second g e) p q =
+    let same : g ≡ f = q.3 ∙ sym p.3 in
+    let P : Bool → Type 0 = λ b. IsDhcpOf message b e in
+    let dhcp : d ≡ e = one_dhcp message f d e p.4 (subst P same q.4) in
+    cc (p.1, p.2, p.3, q.1, q.2, q.3)
+one_message_read ip proto message behind (Udp to first f d) Plain p q = absurd (q.1 p.0)
+one_message_read ip proto message behind (Udp to first f d) _ p q = absurd q
 one_message_read ip proto message behind Plain (Icmp l g o) p q = absurd (p.0 q.0)
-one_message_read ip proto message behind Plain (Udp to first g) p q = absurd (p.1 q.0)
+one_message_read ip proto message behind Plain (Udp to first g d) p q = absurd (p.1 q.0)
 one_message_read ip proto message behind Plain Plain p q = refl
 one_message_read ip proto message behind Plain _ p q = absurd q
 one_message_read ip proto message behind _ b p q = absurd p

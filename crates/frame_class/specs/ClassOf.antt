@@ -15,11 +15,13 @@ use Rattle.nd_read.specs.declared.message.Nd.{Nd}
 use Rattle.nd_read.specs.Messages.{kind_of}
 use Rattle.nd_read.specs.InPrefix.{lies_in}
 use Rattle.nd_read.specs.NdOf.{nd_of}
+use Rattle.dhcp6_read.specs.declared.message.Dhcp.{Dhcp}
+use Rattle.dhcp6_read.specs.DhcpOf.{dhcp_of}
 use Rattle.frame_class.specs.declared.classes.Class.{Class}
 use Rattle.frame_class.specs.declared.classes.Class.TheVariants.{Runt, Tagged, Other, BadIp, Ip6}
 use Rattle.frame_class.specs.declared.classes.Read.{Read}
 use Rattle.frame_class.specs.declared.classes.Read.TheVariants.{Bad, Hidden, Unknown, Later, Icmp, Udp, Plain}
-use Rattle.frame_class.specs.Reading.{ipv6_type, destination_port, first_of_payload}
+use Rattle.frame_class.specs.Reading.{ipv6_type, destination_port, first_of_payload, udp_length, udp_payload}
 
 -- the EtherType of a customer tag or of a service tag (IEEE 802.1Q)
 abbrev pub is_tag : ℕ → Bool
@@ -34,10 +36,19 @@ is_packet payload =
 abbrev pub discovery_of : Ip → List ℕ → Bool → Option Nd
 discovery_of ip message fragmented = if fragmented then None else result_ok (nd_of ip message)
 
+-- a whole datagram for DHCPv6, at the port of clients (546) or at that of servers and relays (547)
+abbrev pub is_for_dhcp : List ℕ → Bool → Bool
+is_for_dhcp message fragmented =
+    not fragmented && (((destination_port message == 546) || (destination_port message == 547)) && (udp_length message == length message))
+
+-- what a datagram says for DHCPv6: nothing where it isn't a whole one for it, nor where it is refused
+abbrev pub dhcp_message_of : List ℕ → Bool → Option Dhcp
+dhcp_message_of message fragmented = if is_for_dhcp message fragmented then result_ok (dhcp_of (udp_payload message)) else None
+
 -- what a message of this protocol shows: ICMPv6 is 58 and UDP is 17
 abbrev pub message_read_of : Ip → ℕ → List ℕ → Bool → Read
 message_read_of ip proto message fragmented =
-    if proto == 58 then Icmp (kind_of message) fragmented (discovery_of ip message fragmented) else (if proto == 17 then Udp (destination_port message) (first_of_payload message) fragmented else Plain)
+    if proto == 58 then Icmp (kind_of message) fragmented (discovery_of ip message fragmented) else (if proto == 17 then Udp (destination_port message) (first_of_payload message) fragmented (dhcp_message_of message fragmented) else Plain)
 
 -- what is read of a packet whose header chain comes to this outcome
 abbrev pub read_by : Ip → List ℕ → Chain → Read

@@ -1,5 +1,5 @@
 -- What a frame is, in the terms of each layer: Ethernet (RFC 2464), the IPv6 header and the header chain (RFC 8200, RFC
--- 7112), ICMPv6 with neighbor discovery (RFC 4443, RFC 4861), and UDP (RFC 768).
+-- 7112), ICMPv6 with neighbor discovery (RFC 4443, RFC 4861), and UDP with DHCPv6 (RFC 768, RFC 8415).
 use Rattle.std.specs.Prelude.{◌≡◌, ◌≢◌, ℕ, ◌<◌, ◌≤◌, ◌⊎◌, Bool, true, false, List, length, drop, Option, Some, None, Ok, Err, slice_get}
 use Rattle.byteorder.specs.Endian.{big_number}
 use Rattle.eth_frame.specs.declared.header.Eth.{Eth}
@@ -14,6 +14,9 @@ use Rattle.nd_read.specs.declared.message.Nd.{Nd}
 use Rattle.nd_read.specs.declared.message.NdFault.{NdFault}
 use Rattle.nd_read.specs.Messages.{kind_of}
 use Rattle.nd_read.specs.Tests.{Reads}
+use Rattle.dhcp6_read.specs.declared.message.Dhcp.{Dhcp}
+use Rattle.dhcp6_read.specs.declared.message.DhcpFault.{DhcpFault}
+use Rattle.dhcp6_read.specs.Message.{Reads as ReadsDhcp}
 use Rattle.frame_class.specs.declared.classes.Class.{Class}
 use Rattle.frame_class.specs.declared.classes.Class.TheVariants.{Runt, Tagged, Other, BadIp, Ip6}
 use Rattle.frame_class.specs.declared.classes.Read.{Read}
@@ -45,12 +48,34 @@ abbrev pub IsNdOf : Ip → List ℕ → Bool → Option Nd → Type 0
 IsNdOf ip message fragmented (Some nd) = (fragmented ≡ false) × Reads ip message (Ok nd)
 IsNdOf ip message fragmented None = (fragmented ≡ true) ⊎ ((fault : NdFault) × Reads ip message (Err fault))
 
+-- the length of header and payload that a UDP header says (RFC 768)
+abbrev pub udp_length : List ℕ → ℕ
+udp_length message = big_number 2 (drop 4 message)
+
+-- what stands behind a UDP header of 8 octets
+abbrev pub udp_payload : List ℕ → List ℕ
+udp_payload message = drop 8 message
+
+-- A whole datagram for DHCPv6: no fragment header stands before it, it goes to the port of clients (546) or to that of servers
+-- and relays (547) (RFC 8415 section 7.2), and it is as long as its header says.
+pub record IsForDhcp (message : List ℕ) (fragmented : Bool) : Type 0 where
+  pub whole : fragmented ≡ false
+  pub port : (destination_port message ≡ 546) ⊎ (destination_port message ≡ 547)
+  pub len : udp_length message ≡ length message
+
+-- what a datagram says for DHCPv6: nothing where it isn't a whole one for it, nor where it is refused
+abbrev pub IsDhcpOf : List ℕ → Bool → Option Dhcp → Type 0
+IsDhcpOf message fragmented (Some dhcp) = IsForDhcp message fragmented × ReadsDhcp (udp_payload message) (Ok dhcp)
+IsDhcpOf message fragmented None =
+    (¬ IsForDhcp message fragmented) ⊎ ((fault : DhcpFault) × ReadsDhcp (udp_payload message) (Err fault))
+
 -- what a message of this protocol shows: ICMPv6 is 58 and UDP is 17
 abbrev pub IsMessageRead : Ip → ℕ → List ℕ → Bool → Read → Type 0
 IsMessageRead ip proto message behind_fragment (Icmp kind fragmented nd) =
     (proto ≡ 58) × (kind ≡ kind_of message) × (fragmented ≡ behind_fragment) × IsNdOf ip message fragmented nd
-IsMessageRead ip proto message behind_fragment (Udp to first fragmented) =
-    (proto ≡ 17) × (to ≡ destination_port message) × (first ≡ first_of_payload message) × (fragmented ≡ behind_fragment)
+IsMessageRead ip proto message behind_fragment (Udp to first fragmented dhcp) =
+    (proto ≡ 17) × (to ≡ destination_port message) × (first ≡ first_of_payload message)
+    × (fragmented ≡ behind_fragment) × IsDhcpOf message fragmented dhcp
 IsMessageRead ip proto message behind_fragment Plain = (proto ≢ 58) × (proto ≢ 17)
 IsMessageRead ip proto message behind_fragment _ = ⊥
 
@@ -71,6 +96,12 @@ abbrev pub IsPacketClass : Eth → List ℕ → Class → Type 0
 IsPacketClass eth payload (BadIp header) = (header ≡ eth) × ((fault : IpFault) × IsRefused payload fault)
 IsPacketClass eth payload (Ip6 header ip read) = (header ≡ eth) × IsPacket payload ip × IsReadOf ip payload read
 IsPacketClass eth payload _ = ⊥
+
+-- what a frame with these headers is, by the message of its upper header
+abbrev pub IsUpperClass : Eth → Ip → ℕ → List ℕ → Bool → Class → Type 0
+IsUpperClass eth ip proto message fragmented (Ip6 header packet read) =
+    (header ≡ eth) × (packet ≡ ip) × IsMessageRead ip proto message fragmented read
+IsUpperClass eth ip proto message fragmented _ = ⊥
 
 -- what a frame is
 abbrev pub IsClassOf : List ℕ → Class → Type 0

@@ -3,6 +3,7 @@
 ghost use Rattle.std.specs.Prelude.{◌≡◌};
 ghost use Rattle.frame_class.specs.Classes.{eth_of};
 
+use dhcp6_read::Dhcp;
 use eth_frame::Eth;
 use nd_read::Nd;
 use v6_chain::Ip;
@@ -63,6 +64,10 @@ pub enum Read {
         first: Option<u8>,
         /// A fragment header stands before it.
         fragmented: bool,
+        /// The message of DHCPv6 in it. `None` where it is refused, where the port is neither 546 nor 547, where the
+        /// datagram isn't as long as its header says, and behind a fragment header, since then its octets may not be all
+        /// here.
+        dhcp: Option<Dhcp>,
     },
     /// Another upper header that is known.
     Plain,

@@ -1,15 +1,14 @@
 //! Reading a frame, layer by layer.
 
-ghost use Rattle.std.specs.Prelude.{◌≡◌, ◌≤◌, length};
-ghost use Rattle.v6_chain.specs.declared.packet.Ip.{Ip};
-ghost use Rattle.v6_chain.specs.Packet.{IsPacket};
+ghost use Rattle.std.specs.Prelude.{◌≡◌, ◌+◌, ◌≤◌, ◌↔◌, IsTrue, length};
 ghost use Rattle.v6_chain.specs.Outcome.{IsWholeUpper};
 ghost use Rattle.v6_chain.specs.Kinds.{kind_of};
 ghost use Rattle.frame_class.specs.declared.classes.Class.{Class};
-ghost use Rattle.frame_class.specs.Reading.{IsClassOf, IsPacketClass, IsReadOf, IsMessageRead, IsNdOf};
+ghost use Rattle.frame_class.specs.Reading.{IsClassOf, IsPacketClass, IsUpperClass, IsNdOf, IsDhcpOf, IsForDhcp};
 
 use crate::classes::{Class, Read};
 use byteorder::{BigEndian, ByteOrder};
+use dhcp6_read::{Dhcp, MESSAGE_LEN_MOST, dhcp};
 use eth_frame::Eth;
 use nd_read::{Nd, nd};
 use savi_kinds::{FRAME_OCTETS_LEAST, FRAME_OCTETS_MOST};
@@ -30,85 +29,151 @@ const TYPE_AT: usize = 0;
 /// Where the destination port begins in a UDP header (RFC 768).
 const DESTINATION_PORT_AT: usize = 2;
 
+/// Where the length of header and payload begins in a UDP header (RFC 768).
+const UDP_LENGTH_AT: usize = 4;
+
 /// The octets of a UDP header (RFC 768).
 const UDP_HEADER_LEN: usize = 8;
 
-/// What a frame is. Its octets, without the check sequence, are at most 1,518. O(n): the headers are gone through once, and
-/// the octets of a message of neighbor discovery also for their checksum.
+/// The UDP port at which DHCPv6 clients listen (RFC 8415 section 7.2).
+const DHCP6_CLIENT_PORT: u16 = 546;
+
+/// The UDP port at which DHCPv6 servers and relays listen (RFC 8415 section 7.2).
+const DHCP6_SERVER_PORT: u16 = 547;
+
+/// What a frame is. Its octets, without the check sequence, are at most 1,518. O(n): the headers are gone through once, the
+/// octets of a message of neighbor discovery also for their checksum, and those of a message of DHCPv6 for its options.
 pub fn class(frame: &[u8]) -> Class
     requires { length frame.now ≤ FRAME_OCTETS_MOST }
     ensures reading { IsClassOf frame.now result }
     ensures only { (other : Class) → IsClassOf frame.now other → other ≡ result }
 {
+    let mut class = Class::Runt;
+    put_class(frame, &mut class);
+    class
+}
+
+/// Puts what a frame is in the place of `class`. A class is large: so it is made where it stays, and not handed on from
+/// layer to layer.
+fn put_class(frame: &[u8], class: &mut Class)
+    requires { length frame.now ≤ FRAME_OCTETS_MOST }
+    ensures { IsClassOf frame.now class.new }
+{
     let Ok(eth) = eth_frame::read(frame) else {
-        return Class::Runt;
+        *class = Class::Runt;
+        return;
     };
     match eth.kind {
-        CUSTOMER_TAG | SERVICE_TAG => Class::Tagged { eth },
-        IPV6_TYPE => packet_class(eth, &frame[FRAME_OCTETS_LEAST..]),
-        _ => Class::Other { eth },
+        CUSTOMER_TAG | SERVICE_TAG => *class = Class::Tagged { eth },
+        IPV6_TYPE => put_packet(eth, &frame[FRAME_OCTETS_LEAST..], class),
+        _ => *class = Class::Other { eth },
     }
 }
 
-/// What a frame is by what it carries, where that should be an IPv6 packet.
-fn packet_class(eth: Eth, payload: &[u8]) -> Class
-    ensures { IsPacketClass eth payload.now result }
+/// Puts what a frame is by what it carries, where that should be an IPv6 packet.
+fn put_packet(eth: Eth, payload: &[u8], class: &mut Class)
+    requires { FRAME_OCTETS_LEAST + length payload.now ≤ FRAME_OCTETS_MOST }
+    ensures { IsPacketClass eth payload.now class.new }
 {
-    match ip(payload) {
-        Ok(ip) => Class::Ip6 {
-            eth,
-            ip,
-            read: read(&ip, payload),
-        },
-        Err(_) => Class::BadIp { eth },
-    }
-}
-
-/// What a packet shows behind its fixed header.
-fn read(ip: &Ip, payload: &[u8]) -> Read
-    requires { IsPacket payload.now ip.now }
-    ensures { IsReadOf ip.now payload.now result }
-{
-    match chain(ip, payload) {
-        Chain::Bad(_) => Read::Bad,
-        Chain::Hidden => Read::Hidden,
-        Chain::Unknown(_) => Read::Unknown,
-        Chain::Later => Read::Later,
+    let Ok(ip) = ip(payload) else {
+        *class = Class::BadIp { eth };
+        return;
+    };
+    match chain(&ip, payload) {
+        Chain::Bad(_) => {
+            *class = Class::Ip6 {
+                eth,
+                ip,
+                read: Read::Bad,
+            }
+        }
+        Chain::Hidden => {
+            *class = Class::Ip6 {
+                eth,
+                ip,
+                read: Read::Hidden,
+            }
+        }
+        Chain::Unknown(_) => {
+            *class = Class::Ip6 {
+                eth,
+                ip,
+                read: Read::Unknown,
+            }
+        }
+        Chain::Later => {
+            *class = Class::Ip6 {
+                eth,
+                ip,
+                read: Read::Later,
+            }
+        }
         Chain::Upper {
             proto,
             at,
             fragmented,
         } => {
             let body = &payload[HEADER_LEN..HEADER_LEN + usize::from(ip.len)];
-            message_read(ip, proto, &body[usize::from(at)..], fragmented)
+            put_upper(eth, ip, proto, &body[usize::from(at)..], fragmented, class);
         }
     }
 }
 
-/// What the message of an upper header shows.
-fn message_read(ip: &Ip, proto: u8, message: &[u8], fragmented: bool) -> Read
+/// Puts what a frame is whose packet has a message of this protocol.
+fn put_upper(eth: Eth, ip: Ip, proto: u8, message: &[u8], fragmented: bool, class: &mut Class)
     requires whole { IsWholeUpper (kind_of proto) message.now }
-    requires most { length message.now ≤ 65535 }
-    ensures { IsMessageRead ip.now proto message.now fragmented result }
+    requires most { length message.now ≤ UDP_HEADER_LEN + MESSAGE_LEN_MOST }
+    ensures { IsUpperClass eth ip proto message.now fragmented class.new }
 {
     match proto {
-        ICMPV6 => icmp_read(ip, message, fragmented),
-        UDP => udp_read(message, fragmented),
-        _ => Read::Plain,
+        ICMPV6 => put_icmp(eth, ip, message, fragmented, class),
+        UDP => put_udp(eth, ip, message, fragmented, class),
+        _ => {
+            *class = Class::Ip6 {
+                eth,
+                ip,
+                read: Read::Plain,
+            }
+        }
     }
 }
 
-/// What an ICMPv6 message shows (RFC 4443 section 2.1, RFC 4861 section 4).
-fn icmp_read(ip: &Ip, message: &[u8], fragmented: bool) -> Read
+/// Puts what a frame with an ICMPv6 message is (RFC 4443 section 2.1, RFC 4861 section 4).
+fn put_icmp(eth: Eth, ip: Ip, message: &[u8], fragmented: bool, class: &mut Class)
     requires least { 4 ≤ length message.now }
     requires most { length message.now ≤ 65535 }
-    ensures { IsMessageRead ip.now 58 message.now fragmented result }
+    ensures { IsUpperClass eth ip 58 message.now fragmented class.new }
 {
-    Read::Icmp {
-        kind: message[TYPE_AT],
-        fragmented,
-        nd: nd_of(ip, message, fragmented),
-    }
+    let nd = nd_of(&ip, message, fragmented);
+    *class = Class::Ip6 {
+        eth,
+        ip,
+        read: Read::Icmp {
+            kind: message[TYPE_AT],
+            fragmented,
+            nd,
+        },
+    };
+}
+
+/// Puts what a frame with a UDP datagram is (RFC 768).
+fn put_udp(eth: Eth, ip: Ip, message: &[u8], fragmented: bool, class: &mut Class)
+    requires least { UDP_HEADER_LEN ≤ length message.now }
+    requires most { length message.now ≤ UDP_HEADER_LEN + MESSAGE_LEN_MOST }
+    ensures { IsUpperClass eth ip 17 message.now fragmented class.new }
+{
+    let to = BigEndian::read_u16(&message[DESTINATION_PORT_AT..]);
+    let first = message.get(UDP_HEADER_LEN).copied();
+    *class = Class::Ip6 {
+        eth,
+        ip,
+        read: Read::Udp {
+            to,
+            first,
+            fragmented,
+            dhcp: dhcp_of(message, fragmented),
+        },
+    };
 }
 
 /// What an ICMPv6 message says for neighbor discovery.
@@ -123,14 +188,26 @@ fn nd_of(ip: &Ip, message: &[u8], fragmented: bool) -> Option<Nd>
     nd(ip, message).ok()
 }
 
-/// What a UDP datagram shows (RFC 768).
-fn udp_read(message: &[u8], fragmented: bool) -> Read
-    requires { UDP_HEADER_LEN ≤ length message.now }
-    ensures { (ip : Ip) → IsMessageRead ip 17 message.now fragmented result }
+/// What a UDP datagram says for DHCPv6 (RFC 8415).
+fn dhcp_of(message: &[u8], fragmented: bool) -> Option<Dhcp>
+    requires least { UDP_HEADER_LEN ≤ length message.now }
+    requires most { length message.now ≤ UDP_HEADER_LEN + MESSAGE_LEN_MOST }
+    ensures { IsDhcpOf message.now fragmented result }
 {
-    Read::Udp {
-        to: BigEndian::read_u16(&message[DESTINATION_PORT_AT..]),
-        first: message.get(UDP_HEADER_LEN).copied(),
-        fragmented,
+    if !is_for_dhcp(message, fragmented) {
+        return None;
     }
+    dhcp(&message[UDP_HEADER_LEN..]).ok()
+}
+
+/// Whether a UDP datagram is a whole one for DHCPv6: to one of its ports, and as long as its header says. O(1).
+fn is_for_dhcp(message: &[u8], fragmented: bool) -> bool
+    requires { UDP_HEADER_LEN ≤ length message.now }
+    ensures { IsTrue result ↔ IsForDhcp message.now fragmented }
+{
+    let to = BigEndian::read_u16(&message[DESTINATION_PORT_AT..]);
+    let len = BigEndian::read_u16(&message[UDP_LENGTH_AT..]);
+    !fragmented
+        && matches!(to, DHCP6_CLIENT_PORT | DHCP6_SERVER_PORT)
+        && usize::from(len) == message.len()
 }

@@ -1,6 +1,7 @@
 //! A frame of each class, its octets written out by RFC 2464, RFC 8200, RFC 4861 and RFC 768.
 
 use crate::{Class, Read, class};
+use dhcp6_read::Dhcp;
 use eth_frame::Eth;
 use nd_read::Nd;
 use savi_kinds::{Addr, FRAME_OCTETS_MOST, Mac};
@@ -39,11 +40,12 @@ fn icmp(kind: u8, fragmented: bool, nd: Option<Nd>) -> Read {
     }
 }
 
-fn udp(to: u16, first: Option<u8>, fragmented: bool) -> Read {
+fn udp(to: u16, first: Option<u8>, fragmented: bool, dhcp: Option<Dhcp>) -> Read {
     Read::Udp {
         to,
         first,
         fragmented,
+        dhcp,
     }
 }
 
@@ -114,17 +116,17 @@ fn frames_have_their_class(rt: HostRuntime) -> Result<(), Fail> {
         (
             "UDP to 547 with payload",
             "33330000000102000000002286dd6000000000091140fe800000000000000000000000000022ff02000000000000000000000000000102220223000900000d",
-            packet(17, 64, 9, udp(547, Some(13), false)),
+            packet(17, 64, 9, udp(547, Some(13), false, None)),
         ),
         (
             "UDP to 546 with none",
             "33330000000102000000002286dd6000000000081140fe800000000000000000000000000022ff0200000000000000000000000000010223022200080000",
-            packet(17, 64, 8, udp(546, None, false)),
+            packet(17, 64, 8, udp(546, None, false, None)),
         ),
         (
             "UDP behind a fragment header",
             "33330000000102000000002286dd6000000000102c40fe800000000000000000000000000022ff02000000000000000000000000000111000000000000010222022300080000",
-            packet(44, 64, 16, udp(547, None, true)),
+            packet(44, 64, 16, udp(547, None, true, None)),
         ),
         (
             "no next header",

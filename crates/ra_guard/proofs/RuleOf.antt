@@ -76,7 +76,7 @@ icmp_decided is Is each (Ip6 eth ip (Icmp kind fragmented nd)) = each ip kind fr
 icmp_decided is Is each _ = never
 
 udp_decided : (is : ℕ → Option ℕ → Bool) (Is : ℕ → Option ℕ → Type 0) → ((to : ℕ) (first : Option ℕ) → Decides (is to first) (Is to first)) → (class : Class) → Decides (has_udp is class) (HasUdp Is class)
-udp_decided is Is each (Ip6 eth ip (Udp to first fragmented)) = each to first
+udp_decided is Is each (Ip6 eth ip (Udp to first fragmented dhcp)) = each to first
 udp_decided is Is each _ = never
 
 advert_decided : (ip : Ip) (kind : ℕ) → Decides (is_router_advert ip kind) (IsRouterAdvert ip kind)

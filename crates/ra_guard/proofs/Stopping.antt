@@ -66,7 +66,7 @@ hidden_applies role drop_unknown class eth ip read validating is hidden =
 -- the message that is read is a router advertisement
 advert_read : (role : Role) (drop_unknown : Bool) (eth : Eth) (ip : Ip) (read : Read) (message : List ℕ) (fragmented : Bool) → role ≢ Trusted → IsMessageRead ip 58 message fragmented read → slice_index message 0 ≡ 134 → LiesIn ip.src.0 link_local_unicast → ip.hop ≡ 255 → Applies role drop_unknown (Ip6 eth ip read) RouterAdvert
 advert_read role drop_unknown eth ip (Icmp kind behind nd) message fragmented validating is advert source hop = (validating, (is.1 ∙ advert, source, hop))
-advert_read role drop_unknown eth ip (Udp to first behind) message fragmented validating is advert source hop = absurd (omega (arith, is.0))
+advert_read role drop_unknown eth ip (Udp to first behind dhcp) message fragmented validating is advert source hop = absurd (omega (arith, is.0))
 advert_read role drop_unknown eth ip Plain message fragmented validating is advert source hop = absurd (is.0 refl)
 advert_read role drop_unknown eth ip _ message fragmented validating is advert source hop = absurd is
 

@@ -61,7 +61,7 @@ HasIcmp Is _ = ⊥
 
 -- a UDP datagram with this property, by its destination port and the first octet of its payload
 abbrev pub HasUdp : (ℕ → Option ℕ → Type 0) → Class → Type 0
-HasUdp Is (Ip6 eth ip (Udp to first fragmented)) = Is to first
+HasUdp Is (Ip6 eth ip (Udp to first fragmented dhcp)) = Is to first
 HasUdp Is _ = ⊥
 
 -- a router advertisement (type 134) with a source and a hop limit that hosts take: link-local, and 255 (RFC 4861 section

@@ -67,7 +67,7 @@ has_icmp is _ = false
 
 -- a UDP datagram with this property, by its destination port and the first octet of its payload
 abbrev pub has_udp : (ℕ → Option ℕ → Bool) → Class → Bool
-has_udp is (Ip6 eth ip (Udp to first fragmented)) = is to first
+has_udp is (Ip6 eth ip (Udp to first fragmented dhcp)) = is to first
 has_udp is _ = false
 
 -- a router advertisement (type 134) that hosts take: from a link-local address, with hop limit 255 (RFC 4861 section 6.1.2)
