@@ -35,7 +35,7 @@ use Rattle.port_worker.specs.declared.port_ends.PortEnds.{PortEnds}
 use Rattle.port_worker.specs.Replays.{ports_held, IsInputOf}
 use Rattle.port_worker.specs.SentFrames.{TookMore}
 use Rattle.switch_ports.specs.Openings.{ports_of, IsNextBehind, IsOff}
-use Rattle.run_config.specs.Lines.{cannot_open_line, journal_word, port_name}
+use Rattle.switch_report.specs.RunLines.{cannot_open_line, journal_word, port_name}
 use Rattle.switch_run.specs.Causes.{IsBack, IsUsed, Keeps, KeepsAll, IsOffPlanSame, HasReadFault, HasWriteFault}
 use Rattle.switch_run.specs.Session.{EachPort, FitsPort, FitsSent, GaveAt, IsJournalUnopened, IsPortUnopened, IsReplayOf, IsSessionOf, TookOrPart, TookSent}
 use Rattle.switch_run.specs.Played.{IsPlayed, IsPlayedOut, IsServed, JournalWas}

@@ -25,7 +25,7 @@ use Rattle.savi_history.specs.Journals.{IsJournalOf, IsSame}
 use Rattle.savi_history.specs.Summary.{summary_of, summary_text}
 use Rattle.savi_conf.specs.declared.fault.ConfFault.{ConfFault}
 use Rattle.run_config.specs.Configs.{HasFault, IsConfigured, IsReadFrom, IsRefused}
-use Rattle.run_config.specs.Lines.{cannot_open_line, config_line, write_failed_line, read_failed_line, port_name, journal_word}
+use Rattle.switch_report.specs.RunLines.{cannot_open_line, config_line, write_failed_line, read_failed_line, port_name, journal_word}
 use Rattle.port_worker.specs.Replays.{IsInputOf}
 use Rattle.switch_run.specs.Causes.{HasReadFault, HasWriteFault, IsUnserved, KeepsAll, IsOffPlanSame}
 
