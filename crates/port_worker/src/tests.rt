@@ -15,6 +15,7 @@ use savi_kinds::{
 };
 use std::alloc::{AllocError, Global};
 use std::test::Fail;
+use switch_report::{has_failed, has_failed_write};
 
 /// The header of a capture, little-endian with microseconds (the libpcap savefile format).
 const HEADER: &str = "d4c3b2a1020004000000000000000000ffff000001000000";
@@ -241,8 +242,8 @@ fn a_failed_read_ends_its_own_input(rt: HostRuntime) -> Result<(), Fail> {
         assert_eq!(rt; output_of(&closed, 0), octets_of(alloc, at_one)?.as_slice());
         assert_eq!(rt; output_of(&closed, 1), octets_of(alloc, at_two)?.as_slice());
         assert_eq!(rt; closed.core.len(), entries);
-        assert_eq!(rt; closed.core.has_failed(), failed);
-        assert!(rt; !closed.core.has_failed_write());
+        assert_eq!(rt; has_failed(closed.core.history()), failed);
+        assert!(rt; !has_failed_write(closed.core.history()));
     }
     Ok(())
 }
@@ -261,7 +262,7 @@ fn a_failed_write_ends_its_own_output(rt: HostRuntime) -> Result<(), Fail> {
             let sent = octets_of(alloc, &ADVERTS[..(*count).min(ADVERTS.len())])?;
             assert_eq!(rt; output_of(&closed, place), sent.as_slice());
         }
-        assert!(rt; !closed.core.has_failed());
+        assert!(rt; !has_failed(closed.core.history()));
     }
     Ok(())
 }

@@ -1,4 +1,3 @@
 pub mod Configured
-pub mod Extending
 pub mod Plans
 pub mod WordLists

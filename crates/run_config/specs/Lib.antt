@@ -1,3 +1,2 @@
 pub mod Words
 pub mod Configs
-pub mod Lines

@@ -5,8 +5,8 @@ ghost use Rattle.savi_ends.specs.Places.{HandedNothing};
 
 use super::*;
 use savi_conf::{ConfFault, OCTETS_MOST};
-use savi_ends::{Ends, MemClock, MemEnds, MemSink, MemSource, MemWorld, Put, Sink, Source, World};
-use savi_kinds::{Plan, Port, Text};
+use savi_ends::{Ends, MemClock, MemEnds, MemSink, MemSource, MemWorld, Source, World};
+use savi_kinds::{Plan, Text};
 use std::alloc::{AllocError, Global};
 use std::test::Fail;
 
@@ -32,22 +32,20 @@ input = \"2.pcap\"
 output = \"2.out\"
 ";
 
-// Changes of the plan, and the line that is told then.
-const CHANGES: [(&str, &str, &str); 7] = [
-    ("# format", "# none", ""),
-    ("02:00:00:00:00:01", "03:00:00:00:00:01", "config fault 5\n"),
-    ("savi = \"off\"", "savi = \"on\"", "config fault 21\n"),
-    ("savi = \"off\"\n", "", "config fault 21\n"),
-    ("journal = \"journal.txt\"\n", "", "config fault 4\n"),
-    ("# format", "format = \"stream\"", "config fault 20\n"),
-    ("mac = ", "mac ", "config is not TOML\n"),
+// Changes of the plan, and what is wrong with it then.
+const CHANGES: [(&str, &str, Option<ConfFault>); 7] = [
+    ("# format", "# none", None),
+    (
+        "02:00:00:00:00:01",
+        "03:00:00:00:00:01",
+        Some(ConfFault::Bad(5)),
+    ),
+    ("savi = \"off\"", "savi = \"on\"", Some(ConfFault::Bad(21))),
+    ("savi = \"off\"\n", "", Some(ConfFault::Bad(21))),
+    ("journal = \"journal.txt\"\n", "", Some(ConfFault::Bad(4))),
+    ("# format", "format = \"stream\"", Some(ConfFault::Bad(20))),
+    ("mac = ", "mac ", Some(ConfFault::NotToml)),
 ];
-
-// A name that is longer than a line that is written at once.
-const LONG_NAME: &str = "
-nnnnnnnnnnnnnnnnnnnnnnnnnnnnnnnnnnnnnnnnnnnnnnnnnnnnnnnnnnnnnnnnnnnnnnnnnnnnnnnnnnnnnnnnnnnnnnnnnnnn
-nnnnnnnnnnnnnnnnnnnnnnnnnnnnnnnnnnnnnnnnnnnnnnnnnnnnnnnnnnnnnnnnnnnnnnnnnnnnnnnnnnnnnnnnnnnnnnnnnnnn
-nnnnnnnnnnnnnnnnnnnnnnnnnnnnnnnnnnnnnnnnnnnnnnnnnnnnnnnnnnnnnnnnnnnnnnnnnnnnnnnnnnnnnnnnnnnnnnnnnnnn";
 
 // The text with the first `old` in it changed.
 fn changed(alloc: Global, text: &str, old: &str, new: &str) -> Result<String, AllocError> {
@@ -102,16 +100,6 @@ fn configured<W: World>(alloc: Global, file: &str, world: &mut W) -> Result<Plan
     configure(alloc, file, world)
 }
 
-// Writes what is told of a refusal, by way of the trait alone.
-fn tell<K: Sink>(sink: &mut K, file: &str, refusal: Refusal) -> Put {
-    match refusal {
-        Refusal::NoMemory => tell_memory(sink),
-        Refusal::CannotOpen => tell_unopened(sink, file),
-        Refusal::ReadFailed => tell_unread(sink, file),
-        Refusal::Refused(fault) => tell_config(sink, fault),
-    }
-}
-
 // How many reads of the input that is kept have failed.
 fn faults_of(world: &MemWorld) -> Option<u64> {
     match world.inputs.as_slice() {
@@ -121,18 +109,19 @@ fn faults_of(world: &MemWorld) -> Option<u64> {
 }
 
 #[test]
-fn a_plan_is_taken_or_its_fault_is_told(rt: HostRuntime) -> Result<(), Fail> {
+fn a_plan_is_taken_or_refused(rt: HostRuntime) -> Result<(), Fail> {
     let alloc = rt.alloc();
-    for (old, new, line) in &CHANGES {
+    for (old, new, fault) in &CHANGES {
         let text = changed(alloc, PLAN, old, new)?;
         let mut world = world_of(alloc, text.as_bytes(), 64, 0, 0)?;
-        let mut errors = MemSink::make(alloc, 64, [2].to_vec(alloc)?)?;
         assert!(rt; world.is_fresh());
         match configured(alloc, "plan", &mut world) {
-            Ok(plan) => assert_eq!(rt; plan.ports.as_slice().len(), 3),
-            Err(refusal) => assert_eq!(rt; tell(&mut errors, "plan", refusal), Put::Done),
+            Ok(plan) => {
+                assert_eq!(rt; plan.ports.as_slice().len(), 3);
+                assert_eq!(rt; *fault, None, "{new}");
+            }
+            Err(refusal) => assert_eq!(rt; Some(refusal), fault.map(Refusal::Refused), "{new}"),
         }
-        assert_eq!(rt; errors.written(), line.as_bytes(), "{new}");
         assert_eq!(rt; faults_of(&world), Some(0));
         assert_eq!(rt; (world.opened, world.faulty), (1, 0));
     }
@@ -216,52 +205,5 @@ fn words_name_a_file(rt: HostRuntime) -> Result<(), Fail> {
         }
         assert_eq!(rt; file_of(words.as_slice()), want, "{texts:?}");
     }
-    Ok(())
-}
-
-#[test]
-fn a_line_is_one_write(rt: HostRuntime) -> Result<(), Fail> {
-    let alloc = rt.alloc();
-    let port = Port::new(16).ok_or("no port")?;
-    let name = port_name(port);
-    let mut sink = MemSink::make(alloc, 512, [8].to_vec(alloc)?)?;
-    assert_eq!(rt; tell_usage(&mut sink), Put::Done);
-    assert_eq!(rt; tell_memory(&mut sink), Put::Done);
-    assert_eq!(rt; tell_config(&mut sink, ConfFault::NoMemory), Put::Done);
-    assert_eq!(rt; tell_unopened(&mut sink, name.as_str()), Put::Done);
-    assert_eq!(rt; tell_unopened(&mut sink, "journal"), Put::Done);
-    assert_eq!(rt; tell_unread(&mut sink, "a plan.toml"), Put::Done);
-    assert_eq!(rt; tell_unwritten(&mut sink, name.as_str()), Put::Done);
-    assert_eq!(rt; tell_unwritten(&mut sink, "journal"), Put::Failed);
-    assert_eq!(rt; tell_config(&mut sink, ConfFault::Bad(255)), Put::Done);
-    assert_eq!(rt;
-        sink.written(),
-        b"usage: savi_switch replay FILE, serve FILE, check FILE, gen SEED FRAMES
-out of memory
-out of memory
-cannot open port 16
-cannot open journal
-a plan.toml: read failed
-port 16: write failed
-config fault 255
-"
-            .as_slice()
-    );
-    Ok(())
-}
-
-#[test]
-fn a_long_name_is_written_in_pieces(rt: HostRuntime) -> Result<(), Fail> {
-    let alloc = rt.alloc();
-    let want = format!(in alloc; "cannot open {LONG_NAME}\n")?;
-    let fronts = ["", "cannot open ", &want.as_str()[..12 + LONG_NAME.len()]];
-    for (k, front) in fronts.iter().enumerate() {
-        let mut sink = MemSink::make(alloc, 512, [k as u64 + 1].to_vec(alloc)?)?;
-        assert_eq!(rt; tell_unopened(&mut sink, LONG_NAME), Put::Failed);
-        assert_eq!(rt; sink.written(), front.as_bytes(), "write {k}");
-    }
-    let mut sink = MemSink::make(alloc, 512, Vec::new(alloc))?;
-    assert_eq!(rt; tell_unopened(&mut sink, LONG_NAME), Put::Done);
-    assert_eq!(rt; sink.written(), want.as_bytes());
     Ok(())
 }

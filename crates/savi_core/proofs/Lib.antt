@@ -8,8 +8,3 @@ pub mod Remembering
 pub mod Stepping
 pub mod Moving
 pub mod FrameEntries
-pub mod Pieces
-pub mod Fronts
-pub mod Summing
-pub mod Finding
-pub mod EndLines

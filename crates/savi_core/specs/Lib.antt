@@ -4,6 +4,3 @@ pub mod Steps
 pub mod Waits
 pub mod Counts
 pub mod Remembers
-pub mod Buffers
-pub mod Written
-pub mod Sums

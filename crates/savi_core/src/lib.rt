@@ -8,26 +8,16 @@
 #![tactic(auto)]
 
 mod batch;
-mod buffer;
-mod end_lines;
-mod ending;
 mod entries;
 mod event;
-mod journal;
 mod machine;
 mod outs;
 mod passes;
 mod queues;
-mod summary;
-mod summary_text;
 
 pub use batch::Batch;
-pub use buffer::Buffer;
-pub use end_lines::{END_LINE_OCTETS, EndLine};
 pub use event::{Event, Stepped};
 pub use machine::Core;
-pub use summary::Summary;
-pub use summary_text::{SUMMARY_OCTETS, put_summary};
 
 #[cfg(test)]
 mod tests;

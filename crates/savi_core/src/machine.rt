@@ -2,14 +2,6 @@
 
 ghost use Rattle.std.specs.Prelude.{◌≡◌, ◌≤◌, ◌<◌, true, false, ◌&&◌, ◌||◌, ℕ, List, [], length, reverse, IfOk, IsSomeAnd, Some, ◌+◌, Option};
 ghost use Rattle.savi_kinds.specs.Ports.{number_of};
-ghost use Rattle.savi_ends.specs.declared.sink.Put.{Put};
-ghost use Rattle.savi_ends.specs.Faults.{Rose};
-ghost use Rattle.savi_ends.specs.Writes.{Extends};
-ghost use Rattle.hist_store.specs.JournalTexts.{address_text, journal_text};
-ghost use Rattle.savi_history.specs.Summary.{summary_of};
-ghost use Rattle.savi_history.specs.Endings.{has_malformed, has_failed, has_failed_write, has_full};
-ghost use Rattle.savi_history.specs.EndLines.{entry_line};
-ghost use Rattle.savi_core.specs.Sums.{sum_of};
 ghost use Rattle.savi_kinds.specs.PortSets.{is_member};
 ghost use Rattle.savi_kinds.specs.ValidPlan.{IsValidPlan, IsWithin};
 ghost use Rattle.savi_history.specs.Bases.{empty};
@@ -19,7 +11,6 @@ ghost use Rattle.savi_history.specs.Outs.{outs};
 ghost use Rattle.savi_history.specs.Events.{the_vlan};
 ghost use Rattle.savi_history.specs.Events as events;
 ghost use Rattle.savi_history.specs.Legal.{IsLegal};
-ghost use Rattle.savi_history.specs.Journals.{IsJournalOf};
 ghost use Rattle.savi_core.specs.Machines.{HasShortQueues, started, row_at, queue_at, number_at};
 ghost use Rattle.savi_core.specs.Counts.{open_below};
 ghost use Rattle.savi_core.specs.Waits.{takes_none, full_among};
@@ -27,21 +18,15 @@ ghost use Rattle.frame_class.specs.Reading.{IsClassOf};
 ghost use Rattle.savi_core.specs.Steps.{event_of, IsClassed, MayStep, Did, Drained, entry_of};
 
 use crate::batch::Batch;
-use crate::buffer::Buffer;
-use crate::end_lines::{EndLine, put_entry_line};
-use crate::ending::{has_failed, has_failed_write, has_full, has_malformed};
 use crate::entries::{moment_at, plain_entry, verdict_by};
 use crate::event::{Event, Stepped};
-use crate::journal::{know_addresses, write_journal};
 use crate::outs::ports_of;
 use crate::passes::{pass_of, place_of, role_of};
 use crate::queues::{end_queue, make_queues, move_frames, queue_frame};
-use crate::summary::{Summary, sum_up};
 use egress_ring::EgressRing;
 use frame_class::Class;
 use hist_store::Hist;
 use ra_guard::guard;
-use savi_ends::{Put, Sink};
 use savi_kinds::{
     Act, ENTRIES_RESERVED, Entry, FRAME_OCTETS_MOST, How, LAST_MOMENT, Moment, PORTS_MOST, Plan,
     Port, PortSet, Rule, Verdict, Who,
@@ -143,6 +128,17 @@ impl Core {
         &self.plan
     }
 
+    /// The history, as it is stored: its rows are those of the switch, the oldest first, and it is legal by the plan, which
+    /// is valid. What only reads the history takes it from here. O(1).
+    pub fn history(&self) -> &Hist
+        ensures rows { reverse result.now.rows ≡ self.now.past }
+        ensures few { length result.now.rows ≤ self.now.plan.entries }
+        ensures legal { IsLegal self.now.plan empty self.now.past }
+        ensures valid { IsValidPlan self.now.plan }
+    {
+        &self.hist
+    }
+
     /// How many entries the history has, which is legal; no queue is longer than the plan's depth. O(1).
     pub fn len(&self) -> u64
         ensures len { result ≡ length self.now.past }
@@ -196,68 +192,6 @@ impl Core {
             }
         }
         left
-    }
-
-    /// Writes the journal (`docs/FORMATS.md`): in pieces of the buffer's size, and the last one. Where a write fails, a
-    /// front of the journal was written. The journal tells this plan, but for its names, and this history, and no other
-    /// (`savi_history::journals_tell_one_history`). O(n) in the octets of the journal.
-    pub fn write_journal<K: Sink>(&self, sink: &mut K, buffer: &mut Buffer) -> Put
-        requires empty { buffer.old.octets ≡ [] }
-        requires room { 3401 ≤ buffer.old.room }
-        ensures extends { Extends result (K.written sink.old) (K.written sink.new) (journal_text address_text self.now.plan (reverse self.now.past)) }
-        ensures tells { IsJournalOf address_text self.now.plan self.now.past (journal_text address_text self.now.plan (reverse self.now.past)) }
-        ensures later { K.faults sink.old ≤ K.faults sink.new }
-        ensures cause { result ≡ Put.Failed → Rose (K.faults sink.old) (K.faults sink.new) }
-    {
-        // The two calls state what the law on journals asks of addresses and octets.
-        know_addresses(self.plan.prefixes.as_slice());
-        let _entries = self.hist.len();
-        write_journal(&self.plan, &self.hist, sink, buffer)
-    }
-
-    /// How many entries there are, of which kinds, and what was left out. O(n) in the entries.
-    pub fn summary(&self) -> Summary
-        ensures { sum_of result ≡ summary_of self.now.past }
-    {
-        sum_up(&self.hist)
-    }
-
-    /// Whether an input was malformed. O(n) in the entries.
-    pub fn has_malformed(&self) -> bool
-        ensures { result ≡ has_malformed self.now.past }
-    {
-        has_malformed(&self.hist)
-    }
-
-    /// Whether a read of an input failed. O(n) in the entries.
-    pub fn has_failed(&self) -> bool
-        ensures { result ≡ has_failed self.now.past }
-    {
-        has_failed(&self.hist)
-    }
-
-    /// Whether a write of an output failed, or of an answer to control. O(n) in the entries.
-    pub fn has_failed_write(&self) -> bool
-        ensures { result ≡ has_failed_write self.now.past }
-    {
-        has_failed_write(&self.hist)
-    }
-
-    /// Writes the line for the entry with this number, counted from 0, in place of what the buffer held: nothing, unless
-    /// it is an end of which an operator has to know. The lines of all entries in order are `end_lines` of the history
-    /// (`proofs/EndLines.antt`). O(1).
-    pub fn end_line(&self, n: u64, into: &mut EndLine)
-        requires { n < length self.now.past }
-        ensures { IsSomeAnd (row_at self.now n) (λ row. into.new.items ≡ entry_line row.entry.act) }
-    {
-        put_entry_line(self.hist.entry(n).act, into);
-    }
-
-    /// Whether an input ended for want of room. O(n) in the entries.
-    pub fn has_full(&self) -> bool
-        ensures { result ≡ has_full self.now.past }
-    {
-        has_full(&self.hist)
     }
 
     // Whether there is room for another input.

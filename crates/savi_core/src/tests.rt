@@ -8,9 +8,8 @@ ghost use Rattle.savi_history.specs.Bases.{empty};
 ghost use Rattle.savi_history.specs.Passes.{has_port, has_pass, control_pass, AllEnded};
 ghost use Rattle.savi_history.specs.Legal.{IsOpen, MayEnd, MayEndEgress};
 
-use crate::end_lines::put_entry_line;
 use crate::passes::place_of;
-use crate::{Batch, Core, EndLine, Event, Stepped};
+use crate::{Batch, Core, Event, Stepped};
 use frame_class::class;
 use savi_kinds::{
     Act, Entry, Format, How, Mac, Plan, Port, PortPlan, PortPlans, PortSet, PrefixPlans, Role,
@@ -346,114 +345,21 @@ fn drain(rt: &impl Abort, core: &mut Core, port: Port, batch: &mut Batch) -> Ste
     core.drain(port, 256, batch)
 }
 
-#[test]
-fn two_captures_make_eleven_entries(rt: HostRuntime) -> Result<(), Fail> {
-    let (one, two) = (port_at(1), port_at(2));
-    let plan = plan_of(rt.alloc(), &TWO, 262_144, 67_108_864)?;
-    let mut core = Core::make(rt.alloc(), plan)?;
-    let mut batch = Batch::make(rt.alloc())?;
-    let advert = hex::decode(rt.alloc(), ADVERT)?;
-    let packet = hex::decode(rt.alloc(), PACKET)?;
-    let passed = Some(Verdict::Pass(Scope::All));
-    let dropped = Some(Verdict::Drop(Rule::RouterAdvert));
-    let rows = [
-        (Put::End(Who::Control), 2, 0, end_act(Who::Control), None, 0),
-        (
-            Put::Advert(one, 1000),
-            0,
-            1000,
-            frame_act(one, 1000, 0, 70),
-            dropped,
-            0,
-        ),
-        (
-            Put::Packet(one, 1001),
-            0,
-            1001,
-            frame_act(one, 1001, 70, 54),
-            passed,
-            2,
-        ),
-        (Put::Drain(two), 5, 1001, drain_act(two), None, 0),
-        (
-            Put::End(Who::Ingress(one)),
-            0,
-            1001,
-            end_act(Who::Ingress(one)),
-            None,
-            0,
-        ),
-        (
-            Put::Advert(two, 1002),
-            1,
-            1002,
-            frame_act(two, 1002, 124, 70),
-            passed,
-            1,
-        ),
-        (Put::Drain(one), 4, 1002, drain_act(one), None, 0),
-        (
-            Put::End(Who::Ingress(two)),
-            1,
-            1002,
-            end_act(Who::Ingress(two)),
-            None,
-            0,
-        ),
-        (
-            Put::End(Who::Ticker),
-            3,
-            1002,
-            end_act(Who::Ticker),
-            None,
-            0,
-        ),
-        (
-            Put::End(Who::Egress(one)),
-            4,
-            1002,
-            end_act(Who::Egress(one)),
-            None,
-            0,
-        ),
-        (
-            Put::End(Who::Egress(two)),
-            5,
-            1002,
-            end_act(Who::Egress(two)),
-            None,
-            0,
-        ),
-    ];
-    for (what, by, moment, act, verdict, outs) in rows {
-        let want = Entry {
-            by,
-            moment,
-            act,
-            verdict,
-            outs: PortSet(outs),
-            cuts: PortSet(0),
-            probes: 0,
-            lost: 0,
-        };
-        let stepped = match what {
-            Put::Advert(port, stamp) => enter_frame(&rt, &mut core, port, stamp, &advert),
-            Put::Packet(port, stamp) => enter_frame(&rt, &mut core, port, stamp, &packet),
-            Put::Drain(port) => drain(&rt, &mut core, port, &mut batch),
-            Put::End(who) => enter_end(&rt, &mut core, who),
-        };
-        assert_eq!(rt; stepped, Stepped::Done(want));
-    }
-    assert_eq!(rt; core.len(), 11);
-    assert_eq!(rt; batch.len(), 1);
-    let (moment, octets) = batch.item(0);
-    assert_eq!(rt; moment, 1002);
-    assert_eq!(rt; octets, advert.as_slice());
-    Ok(())
+/// What is put to the switch, and of the entry that it makes the pass, the moment, what it is of, the verdict and the ports.
+type Step = (Put, u32, u64, Act, Option<Verdict>, u16);
+
+// An advertisement of a port whose ingress has this number comes in, behind so many octets.
+fn advert(port: Port, by: u32, stamp: u64, at: u64, verdict: Verdict, outs: u16) -> Step {
+    let act = frame_act(port, stamp, at, 70);
+    let what = Put::Advert(port, stamp);
+    (what, by, stamp, act, Some(verdict), outs)
 }
 
-fn end_act(who: Who) -> Act {
-    Act::End { who, how: How::End }
+// A packet comes in.
+fn packet(port: Port, by: u32, stamp: u64, at: u64, verdict: Verdict, outs: u16) -> Step {
+    let act = frame_act(port, stamp, at, 54);
+    let what = Put::Packet(port, stamp);
+    (what, by, stamp, act, Some(verdict), outs)
 }
 
 fn frame_act(port: Port, stamp: u64, at: u64, len: u32) -> Act {
@@ -465,8 +371,79 @@ fn frame_act(port: Port, stamp: u64, at: u64, len: u32) -> Act {
     }
 }
 
-fn drain_act(port: Port) -> Act {
-    Act::Drain { port, count: 1 }
+// The one frame that waits at a port is drained.
+fn drained(port: Port, by: u32, moment: u64) -> Step {
+    let act = Act::Drain { port, count: 1 };
+    (Put::Drain(port), by, moment, act, None, 0)
+}
+
+// A pass ends.
+fn ended(who: Who, by: u32, moment: u64) -> Step {
+    let act = Act::End { who, how: How::End };
+    (Put::End(who), by, moment, act, None, 0)
+}
+
+#[test]
+fn two_captures_make_eleven_entries(rt: HostRuntime) -> Result<(), Fail> {
+    let (one, two) = (port_at(1), port_at(2));
+    let passed = Verdict::Pass(Scope::All);
+    let rows = [
+        ended(Who::Control, 2, 0),
+        advert(one, 0, 1000, 0, Verdict::Drop(Rule::RouterAdvert), 0),
+        packet(one, 0, 1001, 70, passed, 2),
+        drained(two, 5, 1001),
+        ended(Who::Ingress(one), 0, 1001),
+        advert(two, 1, 1002, 124, passed, 1),
+        drained(one, 4, 1002),
+        ended(Who::Ingress(two), 1, 1002),
+        ended(Who::Ticker, 3, 1002),
+        ended(Who::Egress(one), 4, 1002),
+        ended(Who::Egress(two), 5, 1002),
+    ];
+    let plan = plan_of(rt.alloc(), &TWO, 262_144, 67_108_864)?;
+    let mut core = Core::make(rt.alloc(), plan)?;
+    let mut batch = Batch::make(rt.alloc())?;
+    for row in rows {
+        expect_step(rt.alloc(), &rt, &mut core, &mut batch, row)?;
+    }
+    assert_eq!(rt; core.len(), 11);
+    assert_eq!(rt; core.history().len(), 11);
+    assert_eq!(rt; batch.len(), 1);
+    let (moment, octets) = batch.item(0);
+    assert_eq!(rt; moment, 1002);
+    assert_eq!(rt; octets, hex::decode(rt.alloc(), ADVERT)?.as_slice());
+    Ok(())
+}
+
+// Does a step, and compares the entry that it makes.
+fn expect_step(
+    alloc: Global,
+    rt: &impl Abort,
+    core: &mut Core,
+    batch: &mut Batch,
+    row: Step,
+) -> Result<(), Fail> {
+    let (what, by, moment, act, verdict, outs) = row;
+    let want = Entry {
+        by,
+        moment,
+        act,
+        verdict,
+        outs: PortSet(outs),
+        cuts: PortSet(0),
+        probes: 0,
+        lost: 0,
+    };
+    let advert = hex::decode(alloc, ADVERT)?;
+    let packet = hex::decode(alloc, PACKET)?;
+    let stepped = match what {
+        Put::Advert(port, stamp) => enter_frame(rt, core, port, stamp, &advert),
+        Put::Packet(port, stamp) => enter_frame(rt, core, port, stamp, &packet),
+        Put::Drain(port) => drain(rt, core, port, batch),
+        Put::End(who) => enter_end(rt, core, who),
+    };
+    assert_eq!(rt; stepped, Stepped::Done(want));
+    Ok(())
 }
 
 #[test]
@@ -497,112 +474,5 @@ fn limits_are_exact(rt: HostRuntime) -> Result<(), Fail> {
         let ended = enter_end(&rt, &mut core, Who::Ingress(one));
         assert!(rt; matches!(ended, Stepped::Done(_)));
     }
-    Ok(())
-}
-
-#[test]
-fn each_end_has_its_line(rt: HostRuntime) {
-    let ways = [
-        (How::End, ""),
-        (How::Quit, ""),
-        (How::Malformed(0), "control: malformed at 0\n"),
-        (How::Overlong(81), "control: overlong line at 81\n"),
-        (How::Failed, "control: read failed\n"),
-        (How::Unwritten, "control: write failed\n"),
-        (How::Full(6), "control: history full at 6\n"),
-    ];
-    for (how, want) in ways {
-        expect_end_line(&rt, Who::Control, how, want.as_bytes());
-    }
-}
-
-#[test]
-fn a_line_says_whose_end_it_is(rt: HostRuntime) {
-    let (one, last) = (port_at(1), port_at(16));
-    let malformed = How::Malformed(164);
-    let full = How::Full(u64::MAX);
-    expect_end_line(
-        &rt,
-        Who::Ingress(one),
-        malformed,
-        b"port 1: malformed at 164\n",
-    );
-    expect_end_line(
-        &rt,
-        Who::Ingress(last),
-        How::Failed,
-        b"port 16: read failed\n",
-    );
-    expect_end_line(
-        &rt,
-        Who::Egress(one),
-        How::Failed,
-        b"port 1: write failed\n",
-    );
-    expect_end_line(&rt, Who::Egress(last), How::End, b"");
-    expect_end_line(
-        &rt,
-        Who::Ticker,
-        full,
-        b"ticker: history full at 18446744073709551615\n",
-    );
-}
-
-fn expect_end_line(rt: &impl Abort, who: Who, how: How, want: &[u8]) {
-    let mut line = EndLine::new();
-    put_entry_line(Act::End { who, how }, &mut line);
-    assert_eq!(rt; line.as_slice(), want);
-}
-
-// Enters the end of control at a line that is too long.
-fn enter_overlong(rt: &impl Abort, core: &mut Core, at: u64) {
-    assert!(rt; is_open(core, Who::Control));
-    let _entered = core.step(Event::End {
-        who: Who::Control,
-        how: How::Overlong(at),
-    });
-}
-
-// Enters the end of a port's input at a read that failed.
-fn enter_failed(rt: &impl Abort, core: &mut Core, port: Port) {
-    assert!(rt; is_open(core, Who::Ingress(port)));
-    let _entered = core.step(Event::End {
-        who: Who::Ingress(port),
-        how: How::Failed,
-    });
-}
-
-// Enters the end of a port's output at a write that failed.
-fn enter_failed_write(rt: &impl Abort, core: &mut Core, port: Port) {
-    assert!(rt; is_open(core, Who::Egress(port)));
-    let _entered = core.step(Event::End {
-        who: Who::Egress(port),
-        how: How::Failed,
-    });
-}
-
-fn expect_line_at(rt: &impl Abort, core: &Core, n: u64, want: &[u8]) {
-    assert!(rt; n < core.len());
-    let mut line = EndLine::new();
-    core.end_line(n, &mut line);
-    assert_eq!(rt; line.as_slice(), want);
-}
-
-#[test]
-fn bad_ends_are_told(rt: HostRuntime) -> Result<(), Fail> {
-    let plan = plan_of(rt.alloc(), &TWO, 5000, 4000)?;
-    let mut core = Core::make(rt.alloc(), plan)?;
-    enter_overlong(&rt, &mut core, 81);
-    assert!(rt; core.has_malformed());
-    assert!(rt; !core.has_failed());
-    enter_failed(&rt, &mut core, port_at(1));
-    assert!(rt; core.has_failed());
-    assert!(rt; !core.has_failed_write());
-    enter_failed_write(&rt, &mut core, port_at(2));
-    assert!(rt; core.has_failed_write());
-    assert!(rt; !core.has_full());
-    expect_line_at(&rt, &core, 0, b"control: overlong line at 81\n");
-    expect_line_at(&rt, &core, 1, b"port 1: read failed\n");
-    expect_line_at(&rt, &core, 2, b"port 2: write failed\n");
     Ok(())
 }

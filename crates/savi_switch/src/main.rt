@@ -14,7 +14,7 @@ mod spot;
 
 use file_ends::FileSink;
 use real_world::RealWorld;
-use run_config::{tell_memory, tell_usage};
+use switch_report::{tell_memory, tell_usage};
 use std::env;
 use std::process::ExitCode;
 use switch_run::{NO_MEMORY, USAGE, run};

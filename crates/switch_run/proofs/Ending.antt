@@ -10,7 +10,7 @@ use Rattle.savi_core.specs.Machines.{Machine}
 use Rattle.port_worker.specs.declared.port_ends.PortEnds.{PortEnds}
 use Rattle.port_worker.specs.Replays.{ports_held}
 use Rattle.switch_ports.specs.Openings.{ports_of}
-use Rattle.run_config.specs.Lines.{memory_line}
+use Rattle.switch_report.specs.RunLines.{memory_line}
 use Rattle.switch_run.specs.declared.session.Outcome.{Outcome}
 use Rattle.switch_run.specs.Causes.{IsBack, IsOffPlanSame, IsOneOf, IsUnused, KeepsAll, quiet_statuses, session_statuses, statuses, unused_statuses}
 use Rattle.switch_run.specs.Session.{IsSessionOf}

@@ -1,4 +1,3 @@
-pub mod WrittenLines
 pub mod Sessions
 pub mod Through
 pub mod Handling

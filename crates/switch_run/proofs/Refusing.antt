@@ -8,7 +8,7 @@ use Rattle.savi_ends.specs.Places.{Place, Book}
 use Rattle.run_config.specs.declared.refusal.Refusal.{Refusal}
 use Rattle.run_config.specs.declared.refusal.Refusal.TheVariants as refusal
 use Rattle.run_config.specs.Configs.{HasFault, IsReadFrom, IsRefused}
-use Rattle.run_config.specs.Lines.{memory_line}
+use Rattle.switch_report.specs.RunLines.{memory_line}
 use Rattle.switch_run.specs.Causes.{IsBack, IsOneOf, IsUnserved, IsUnused, session_statuses, statuses}
 use Rattle.switch_run.specs.Concluded.{refusal_line, refusal_status}
 use Rattle.switch_run.specs.Session.{IsNoPlan, IsUnopened, IsUnplayed, IsUnread}

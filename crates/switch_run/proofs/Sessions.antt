@@ -1,6 +1,7 @@
 -- From a session of the loop over ports to what was played.
-use Rattle.std.proofs.Common.{◌≡◌, ℕ, List, Bool, get_or, subst, arith, Option}
+use Rattle.std.proofs.Common.{◌≡◌, ℕ, List, Bool, get_or, sym, ap, ◌∙◌, subst, arith, Option}
 use Rattle.std.specs.Prelude.{All, reverse}
+use Rattle.std.proofs.lemmas.List.{reverse-reverse}
 use Rattle.savi_kinds.specs.declared.plan.Plan.{Plan}
 use Rattle.savi_kinds.specs.Ports.{number_of}
 use Rattle.pcap_io.specs.Readers.{State, Comes}
@@ -43,24 +44,30 @@ out_of {S} {K} {C} left written sink_faults plan past old new anew played = reco
   };
 }
 
-pub played_of : {S K C : Type 0} (left : S → Option (List ℕ)) (written : K → Option (List ℕ)) (source_faults : S → ℕ) (sink_faults : K → ℕ) (plan : Plan) (core : Machine) (old new : List (PortEnds S K C)) (journal journal' : K) (journal_written : Bool)
-    → All IsReadAnew old → IsSession left written source_faults sink_faults plan core old new → IsLegal core.plan empty core.past
-    → JournalWas sink_faults written journal_written journal journal' (journal_text address_text core.plan (reverse core.past))
-    → IsJournalOf address_text core.plan core.past (journal_text address_text core.plan (reverse core.past))
+pub played_of : {S K C : Type 0} (left : S → Option (List ℕ)) (written : K → Option (List ℕ)) (source_faults : S → ℕ) (sink_faults : K → ℕ) (plan lent : Plan) (rows : List Row) (core : Machine) (old new : List (PortEnds S K C)) (journal journal' : K) (journal_written : Bool)
+    → All IsReadAnew old → IsSession left written source_faults sink_faults plan core old new → lent ≡ core.plan → reverse rows ≡ core.past → IsLegal core.plan empty core.past
+    → JournalWas sink_faults written journal_written journal journal' (journal_text address_text lent rows)
+    → IsJournalOf address_text lent (reverse rows) (journal_text address_text lent rows)
     → IsPlayed left written source_faults sink_faults plan old new journal journal' core journal_written
-played_of left written source_faults sink_faults plan core old new journal journal' journal_written anew session legal was tells = record {
-  plan_is = session.plan_is;
-  legal = subst (λ (p : Plan). IsLegal p empty core.past) session.plan_is legal;
-  served = record {
-    size = session.later.size;
-    each = λ k d inside. record {
-      port = (session.later.each k d inside).port;
-      used = let later = session.later.each k d inside in record { gave = later.gave; took = later.took; clock = later.clock };
-      broken = λ failed. let rose = session.broken.each k d inside failed in omega (arith, rose);
-      broken_out = λ failed. let rose = session.played.broken_out.each k d inside failed in omega (arith, rose);
-    };
-  };
-  out = out_of left written sink_faults plan core.past old new anew session.played;
-  journal_was = subst (λ (p : Plan). JournalWas sink_faults written journal_written journal journal' (journal_text address_text p (reverse core.past))) session.plan_is was;
-  tells = subst (λ (p : Plan). IsJournalOf address_text p core.past (journal_text address_text p (reverse core.past))) session.plan_is tells;
-}
+played_of left written source_faults sink_faults plan lent rows core old new journal journal' journal_written anew session lent_is rows_are legal was tells =
+    let plan_is : lent ≡ plan = lent_is ∙ session.plan_is in
+    let text : List ℕ = journal_text address_text plan (reverse core.past) in
+    let text_is : journal_text address_text lent rows ≡ text =
+    ap (λ (p : Plan). journal_text address_text p rows) plan_is ∙ ap (journal_text address_text plan) (sym (reverse-reverse rows) ∙ ap reverse rows_are) in
+    record {
+      plan_is = session.plan_is;
+      legal = subst (λ (p : Plan). IsLegal p empty core.past) session.plan_is legal;
+      served = record {
+        size = session.later.size;
+        each = λ k d inside. record {
+          port = (session.later.each k d inside).port;
+          used = let later = session.later.each k d inside in record { gave = later.gave; took = later.took; clock = later.clock };
+          broken = λ failed. let rose = session.broken.each k d inside failed in omega (arith, rose);
+          broken_out = λ failed. let rose = session.played.broken_out.each k d inside failed in omega (arith, rose);
+        };
+      };
+      out = out_of left written sink_faults plan core.past old new anew session.played;
+      journal_was = subst (JournalWas sink_faults written journal_written journal journal') text_is was;
+      tells = subst (λ (past : List Row). IsJournalOf address_text plan past text) rows_are
+          (subst (λ (p : Plan). IsJournalOf address_text p (reverse rows) text) plan_is (subst (IsJournalOf address_text lent (reverse rows)) text_is tells));
+    }

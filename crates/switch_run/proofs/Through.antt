@@ -35,7 +35,7 @@ use Rattle.port_worker.specs.declared.port_ends.PortEnds.{PortEnds}
 use Rattle.port_worker.specs.Replays.{ports_held, IsInputOf}
 use Rattle.port_worker.specs.SentFrames.{TookMore}
 use Rattle.switch_ports.specs.Openings.{ports_of, IsNextBehind, IsOff}
-use Rattle.run_config.specs.Lines.{cannot_open_line, journal_word, port_name}
+use Rattle.switch_report.specs.RunLines.{cannot_open_line, journal_word, port_name}
 use Rattle.switch_run.specs.Causes.{IsBack, IsUsed, Keeps, KeepsAll, IsOffPlanSame, HasReadFault, HasWriteFault}
 use Rattle.switch_run.specs.Session.{EachPort, FitsPort, FitsSent, GaveAt, IsJournalUnopened, IsPortUnopened, IsReplayOf, IsSessionOf, TookOrPart, TookSent}
 use Rattle.switch_run.specs.Played.{IsPlayed, IsPlayedOut, IsServed, JournalWas}
@@ -234,9 +234,9 @@ replay_of {S} {K} {C} left written source_faults sink_faults plan Says held back
           at_port (λ n told kept. Fits (Arrive classic_kinds) (left told.source) (left kept.source) (arrived n past) (input_end n past))
           held back old.ports new.ports k d handled inside (out.each.each k d inside).fits);
       broken = broken_at left written source_faults sink_faults plan past held back old new ports handled played.served.each;
-      took = each_port (λ k n. TookSent written old new n past (out.stops n)) plan held ports (λ k d inside.
+      took = each_port (λ k n. TookSent written plan old new n past (out.stops n)) plan held ports (λ k d inside.
           at_port (λ n told kept. TookPieces (written told.sink) (written kept.sink) (pieces (sent plan empty n past)) (out.stops n)) held back old.ports new.ports k d handled inside (out.took k d inside));
-      fits_out = each_port (λ k n. FitsSent written old new n past) plan held ports (λ k d inside.
+      fits_out = each_port (λ k n. FitsSent written plan old new n past) plan held ports (λ k d inside.
           at_port (λ n told kept. FitsOutputAt plan empty (written told.sink) (written kept.sink) n past) held back old.ports new.ports k d handled inside (out.each.each k d inside).fits_out);
       broken_out = broken_out_at left written source_faults sink_faults plan past held back old new ports handled played.served.each;
       journal_written = journal_written;

@@ -6,7 +6,7 @@ use Rattle.savi_history.specs.EndLines.{end_lines}
 use Rattle.savi_history.specs.Summary.{summary_of, summary_text}
 use Rattle.run_config.specs.declared.refusal.Refusal.{Refusal}
 use Rattle.run_config.specs.declared.refusal.Refusal.TheVariants as refusal
-use Rattle.run_config.specs.Lines.{cannot_open_line, config_line, memory_line, read_failed_line}
+use Rattle.switch_report.specs.RunLines.{cannot_open_line, config_line, memory_line, read_failed_line}
 use Rattle.switch_run.specs.Session.{TookOrPart, journal_lines, status_of}
 
 -- the status of a run that has no plan

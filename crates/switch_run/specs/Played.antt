@@ -41,12 +41,12 @@ pub record IsServed {S K C : Type 0} (left : S → Option (List ℕ)) (written :
   pub broken_out : output_end (number_of old.port) past ≡ Some hows.Failed → 0 < sink_faults new.ends.sink
 
 -- the sink of a port took the pieces of what the history sends there, as these stops say
-abbrev pub TookOutput : {S K C : Type 0} → (K → Option (List ℕ)) → List Row → Stops → PortEnds S K C → PortEnds S K C → Type 0
-TookOutput written past stops old new =
+abbrev pub TookOutput : {S K C : Type 0} → (K → Option (List ℕ)) → Plan → List Row → Stops → PortEnds S K C → PortEnds S K C → Type 0
+TookOutput written plan past stops old new =
     TookPieces (written old.ends.sink) (written new.ends.sink) (pieces (sent plan empty (number_of old.port) past)) (stops (number_of old.port))
 
 -- what a source gave up and what a sink took fits what the history holds of both
-pub record IsFitting {S K C : Type 0} (left : S → Option (List ℕ)) (written : K → Option (List ℕ)) (past : List Row) (old new : PortEnds S K C) : Type 0 where
+pub record IsFitting {S K C : Type 0} (left : S → Option (List ℕ)) (written : K → Option (List ℕ)) (plan : Plan) (past : List Row) (old new : PortEnds S K C) : Type 0 where
   pub fits : Fits (Arrive classic_kinds) (left old.ends.source) (left new.ends.source) (arrived (number_of old.port) past) (input_end (number_of old.port) past)
   pub fits_out : FitsOutputAt plan empty (written old.ends.sink) (written new.ends.sink) (number_of old.port) past
 
@@ -57,10 +57,10 @@ pub record IsPlayedOut {S K C : Type 0} (left : S → Option (List ℕ)) (writte
   pub stops : Stops
   pub size : length inputs ≡ length old
   pub gave : (k : ℕ) (d : PortEnds S K C) (i : Input) → k < length old → GaveInput left past (slice_index_or old k d) (slice_index_or new k d) (slice_index_or inputs k i)
-  pub took : (k : ℕ) (d : PortEnds S K C) → k < length old → TookOutput written past stops (slice_index_or old k d) (slice_index_or new k d)
+  pub took : (k : ℕ) (d : PortEnds S K C) → k < length old → TookOutput written plan past stops (slice_index_or old k d) (slice_index_or new k d)
   pub replay : past ≡ replayed plan empty inputs stops
   pub finished : IsFinished plan empty past
-  pub each : EachPair (IsFitting left written past) old new
+  pub each : EachPair (IsFitting left written plan past) old new
 
 -- the journal took its text, or a front of it before a write failed
 abbrev pub JournalWas : {K : Type 0} → (K → ℕ) → (K → Option (List ℕ)) → Bool → K → K → List ℕ → Type 0

@@ -25,7 +25,7 @@ use Rattle.savi_history.specs.Journals.{IsJournalOf, IsSame}
 use Rattle.savi_history.specs.Summary.{summary_of, summary_text}
 use Rattle.savi_conf.specs.declared.fault.ConfFault.{ConfFault}
 use Rattle.run_config.specs.Configs.{HasFault, IsConfigured, IsReadFrom, IsRefused}
-use Rattle.run_config.specs.Lines.{cannot_open_line, config_line, write_failed_line, read_failed_line, port_name, journal_word}
+use Rattle.switch_report.specs.RunLines.{cannot_open_line, config_line, write_failed_line, read_failed_line, port_name, journal_word}
 use Rattle.port_worker.specs.Replays.{IsInputOf}
 use Rattle.switch_run.specs.Causes.{HasReadFault, HasWriteFault, IsUnserved, KeepsAll, IsOffPlanSame}
 
@@ -71,13 +71,13 @@ FitsPort left old new port past =
 
 -- A port's sink took the pieces of the capture of what the history sends there: all, or, where a write failed behind so
 -- many, those and a front of the next.
-abbrev pub TookSent : {S K C : Type 0} → (K → Option (List ℕ)) → Book S K C → Book S K C → ℕ → List Row → Option ℕ → Type 0
-TookSent written old new port past stop =
+abbrev pub TookSent : {S K C : Type 0} → (K → Option (List ℕ)) → Plan → Book S K C → Book S K C → ℕ → List Row → Option ℕ → Type 0
+TookSent written plan old new port past stop =
     IfSome (old.ports port).stands (λ told. IsSomeAnd (new.ports port).stands (λ kept. TookPieces (written told.sink) (written kept.sink) (pieces (sent plan empty port past)) stop))
 
 -- What a port's sink took fits how the history says that the output ended.
-abbrev pub FitsSent : {S K C : Type 0} → (K → Option (List ℕ)) → Book S K C → Book S K C → ℕ → List Row → Type 0
-FitsSent written old new port past =
+abbrev pub FitsSent : {S K C : Type 0} → (K → Option (List ℕ)) → Plan → Book S K C → Book S K C → ℕ → List Row → Type 0
+FitsSent written plan old new port past =
     IfSome (old.ports port).stands (λ told. IsSomeAnd (new.ports port).stands (λ kept. FitsOutputAt plan empty (written told.sink) (written kept.sink) port past))
 
 -- the line of a journal that couldn't be written
@@ -102,8 +102,8 @@ pub record IsReplayOf {S K C : Type 0} (left : S → Option (List ℕ)) (written
   pub finished : IsFinished plan empty past
   pub fits : EachPort plan (λ k port. FitsPort left old new port past)
   pub broken : EachPort plan (λ k port. input_end port past ≡ Some hows.Failed → HasReadFault source_faults new port)
-  pub took : EachPort plan (λ k port. TookSent written old new port past (stops port))
-  pub fits_out : EachPort plan (λ k port. FitsSent written old new port past)
+  pub took : EachPort plan (λ k port. TookSent written plan old new port past (stops port))
+  pub fits_out : EachPort plan (λ k port. FitsSent written plan old new port past)
   pub broken_out : EachPort plan (λ k port. output_end port past ≡ Some hows.Failed → HasWriteFault sink_faults new port)
   -- whether the journal was written, and the summary
   pub journal_written : Bool

@@ -7,7 +7,6 @@
 //! a front where a write failed (`specs/Session.antt`).
 #![tactic(auto)]
 
-mod end_lines;
 mod ends_told;
 #[cfg(test)]
 mod recording_world;

@@ -6,9 +6,9 @@ ghost use Rattle.savi_ends.specs.MemWorlds.{book_of};
 ghost use Rattle.savi_ends.specs.Places.{OthersStay};
 
 use arrayvec::ArrayVec;
-use run_config::port_name;
 use savi_ends::{MemClock, MemEnds, MemSink, MemSource, MemWorld, OpenFailed, Std, World};
 use savi_kinds::{Format, Port, PortPlan, Role};
+use switch_report::port_name;
 
 /// A world in memory, and a text with one line for each opening.
 #[derive(Drop)]

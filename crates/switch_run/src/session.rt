@@ -6,14 +6,19 @@ ghost use Rattle.port_worker.specs.Replays.{IsUnread, ports_held, ports_planned}
 ghost use Rattle.run_config.specs.Configs.{IsBuilt};
 ghost use Rattle.switch_ports.specs.Openings.{IsReadAnew};
 ghost use Rattle.hist_store.specs.JournalTexts.{address_text, journal_text};
+ghost use Rattle.savi_kinds.specs.ValidPlan.{IsValidPlan};
+ghost use Rattle.savi_history.specs.Bases.{empty};
+ghost use Rattle.savi_history.specs.Legal.{IsLegal};
 ghost use Rattle.savi_history.specs.Journals.{IsJournalOf};
 ghost use Rattle.switch_run.specs.Played.{IsPlayed, IsSamePort, JournalWas};
 
 use port_worker::{Closed, Ready, replay_session};
-use savi_core::{Buffer, Core};
+use hist_store::Hist;
+use savi_core::Core;
 use savi_ends::{Clock, Put, Sink, Source};
 use savi_kinds::Plan;
 use std::alloc::Global;
+use switch_report::{Buffer, write_journal};
 
 /// The octets of the pieces in which the journal is written.
 const JOURNAL_PIECE_OCTETS: usize = 131_072;
@@ -57,8 +62,7 @@ pub fn play<S: Source, K: Sink, C: Clock>(
         Ok(closed) => closed,
         Err(ready) => return unplayed(ready),
     };
-    let _legal = core.len();
-    let journal_written = finish_journal(&core, journal, &mut buffer);
+    let journal_written = finish_journal(core.plan(), core.history(), journal, &mut buffer);
     Played {
         ready,
         outcome: Some(Outcome {
@@ -80,13 +84,15 @@ fn unplayed<S, K, C>(ready: Ready<S, K, C>) -> Played<S, K, C>
 }
 
 // Writes the journal. The answer is whether it was written.
-fn finish_journal<K: Sink>(core: &Core, journal: &mut K, buffer: &mut Buffer) -> bool
+fn finish_journal<K: Sink>(plan: &Plan, hist: &Hist, journal: &mut K, buffer: &mut Buffer) -> bool
+    requires valid { IsValidPlan plan.now }
+    requires legal { IsLegal plan.now empty (reverse hist.now.rows) }
     requires empty { buffer.old.octets ≡ [] }
     requires room { 3401 ≤ buffer.old.room }
-    ensures was { JournalWas K.faults K.written result journal.old journal.new (journal_text address_text core.now.plan (reverse core.now.past)) }
-    ensures tells { IsJournalOf address_text core.now.plan core.now.past (journal_text address_text core.now.plan (reverse core.now.past)) }
+    ensures was { JournalWas K.faults K.written result journal.old journal.new (journal_text address_text plan.now hist.now.rows) }
+    ensures tells { IsJournalOf address_text plan.now (reverse hist.now.rows) (journal_text address_text plan.now hist.now.rows) }
 {
-    match core.write_journal(journal, buffer) {
+    match write_journal(plan, hist, journal, buffer) {
         Put::Done => true,
         Put::Failed => false,
     }

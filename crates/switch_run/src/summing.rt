@@ -1,20 +1,23 @@
 //! The end of a run: its summary, its lines on standard error and its status.
 
-ghost use Rattle.std.specs.Prelude.{◌≡◌, ◌<◌, Bool, IfNone, IfSome, true, false};
+ghost use Rattle.std.specs.Prelude.{◌≡◌, ◌<◌, Bool, IfNone, IfSome, true, false, reverse};
 ghost use Rattle.savi_ends.specs.declared.world.Std.{Std};
 ghost use Rattle.savi_ends.specs.Places.{IsReady, OthersStay};
 ghost use Rattle.savi_history.specs.Summary.{summary_text};
-ghost use Rattle.savi_core.specs.Sums.{sum_of};
-ghost use Rattle.run_config.specs.Lines.{memory_line};
+ghost use Rattle.switch_report.specs.Sums.{sum_of};
+ghost use Rattle.switch_report.specs.RunLines.{memory_line};
 ghost use Rattle.switch_run.specs.Concluded.{IsSummed};
 ghost use Rattle.switch_run.specs.Session.{ToldBy, TookOrPart, status_of};
 
 use crate::ends_told::tell_finished;
 use crate::session::Outcome;
 use crate::top::{MALFORMED, NO_MEMORY, READ_FAULT, TOO_LONG, WRITE_FAULT};
-use run_config::tell_memory;
-use savi_core::{Core, Summary, put_summary};
+use hist_store::Hist;
 use savi_ends::{Put, Sink, Std, World};
+use switch_report::{
+    Summary, has_failed, has_failed_write, has_full, has_malformed, put_summary, sum_up,
+    tell_memory,
+};
 
 /// Writes the summary, tells standard error how the run ended, and answers the status. `None` is that there was no memory.
 pub fn conclude<W: World>(outcome: Option<Outcome>, world: &mut W, errors: &mut W::K) -> u8
@@ -34,22 +37,23 @@ pub fn conclude<W: World>(outcome: Option<Outcome>, world: &mut W, errors: &mut 
         let _put = tell_memory(errors);
         return NO_MEMORY;
     };
-    let summary_written = write_summary(core.summary(), world);
-    tell_finished(&core, journal_written, errors);
-    status_by(&core, journal_written && summary_written)
+    let history = core.history();
+    let summary_written = write_summary(sum_up(history), world);
+    tell_finished(history, journal_written, errors);
+    status_by(history, journal_written && summary_written)
 }
 
 // The status of a history, and of whether all was written.
-fn status_by(core: &Core, written: bool) -> u8
-    ensures { result ≡ status_of written core.now.past }
+fn status_by(hist: &Hist, written: bool) -> u8
+    ensures { result ≡ status_of written (reverse hist.now.rows) }
 {
-    if core.has_failed() {
+    if has_failed(hist) {
         READ_FAULT
-    } else if core.has_failed_write() || !written {
+    } else if has_failed_write(hist) || !written {
         WRITE_FAULT
-    } else if core.has_malformed() {
+    } else if has_malformed(hist) {
         MALFORMED
-    } else if core.has_full() {
+    } else if has_full(hist) {
         TOO_LONG
     } else {
         0

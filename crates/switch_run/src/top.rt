@@ -6,7 +6,7 @@ ghost use Rattle.savi_ends.specs.declared.world.Std.{Std};
 ghost use Rattle.savi_ends.specs.Faults.{Rose};
 ghost use Rattle.savi_ends.specs.Places.{BothFresh, HandedNothing, IsReady, OthersStay};
 ghost use Rattle.run_config.specs.Configs.{IsBuilt};
-ghost use Rattle.run_config.specs.Lines.{memory_line, usage_line};
+ghost use Rattle.switch_report.specs.RunLines.{memory_line, usage_line};
 ghost use Rattle.run_config.specs.Words.{IsForm, IsReplay};
 ghost use Rattle.switch_run.specs.Causes.{HasSomeReadFault, HasSomeWriteFault, IsElsewhereSame, IsOffPlanSame, IsOneOf, IsUnserved, IsUnused, IsUntouched, KeepsAll, quiet_statuses, session_statuses, statuses, unused_statuses};
 ghost use Rattle.switch_run.specs.Session.{IsNoPlan, IsPartUnopened, IsSession, IsSessionOf, IsUnopened, IsUnplayed, IsUnread, Told, ToldBy};
@@ -15,11 +15,12 @@ use crate::ends_told::refuse;
 use crate::session::{Played, play};
 use crate::summing::conclude;
 use port_worker::{PortEnds, Ready};
-use run_config::{configure, file_of, port_name, tell_memory, tell_unopened, tell_usage};
+use run_config::{configure, file_of};
 use savi_ends::{Std, World};
 use savi_kinds::{Plan, Text};
 use std::alloc::Global;
 use switch_ports::{keep_all, open_all};
+use switch_report::{port_name, tell_memory, tell_unopened, tell_usage};
 
 /// There was no memory, before anything was read or written at a port.
 pub const NO_MEMORY: u8 = 1;

@@ -6,5 +6,5 @@ returns-clause-ports g c = same_of g.S.Source.left g.K.Sink.written g.S.Source.f
 
 pub returns-clause-played : goal.returns-clause-played
 returns-clause-played g c =
-    played_of g.S.Source.left g.K.Sink.written g.S.Source.faults g.K.Sink.faults c.args.plan c.in-Ok-replay_session.closed.core _ _ c.args.journal.now c.finish_journal-journal_written.new.journal c.finish_journal-journal_written.result
-    c.requires.anew c.in-Ok-replay_session.ensures.session c.len-legal.ensures.legal c.finish_journal-journal_written.ensures.was c.finish_journal-journal_written.ensures.tells
+    played_of g.S.Source.left g.K.Sink.written g.S.Source.faults g.K.Sink.faults c.args.plan c.plan.result.now c.history.result.now.rows c.in-Ok-replay_session.closed.core _ _ c.args.journal.now c.finish_journal-journal_written.new.journal c.finish_journal-journal_written.result
+    c.requires.anew c.in-Ok-replay_session.ensures.session c.plan.ensures c.history.ensures.rows c.history.ensures.legal c.finish_journal-journal_written.ensures.was c.finish_journal-journal_written.ensures.tells

@@ -5,7 +5,7 @@ use Rattle.savi_ends.specs.declared.world.Ends.{Ends}
 use Rattle.savi_ends.specs.Places.{Book, Place, BothFresh}
 use Rattle.port_worker.specs.Replays.{ports_held}
 use Rattle.switch_ports.specs.Openings.{ports_of, IsNextBehind}
-use Rattle.run_config.specs.Lines.{cannot_open_line, journal_word}
+use Rattle.switch_report.specs.RunLines.{cannot_open_line, journal_word}
 use Rattle.switch_run.specs.Session.{ToldBy}
 use Rattle.switch_run.proofs.Ending.{Closes, closes, stays_all, unused_by}
 use Rattle.switch_run.proofs.Through.{journal_unopened, port_unopened}

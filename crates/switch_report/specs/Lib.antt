@@ -1,0 +1,4 @@
+pub mod Buffers
+pub mod RunLines
+pub mod Sums
+pub mod Written

@@ -1,0 +1,27 @@
+//! What a run says: the journal and the summary of its history, and its lines on standard error.
+//!
+//! All that is told of a history is computed from the plan and the stored rows alone (`hist_store`), so the switch lends
+//! its history and knows of no text. A text is written to a sink (`savi_ends`) whole, or a front of it where a write fails.
+//! The texts are those of `savi_history` and `hist_store`; the lines that a run says itself stand in `specs/RunLines.antt`.
+#![tactic(auto)]
+
+mod buffer;
+mod end_line;
+mod end_lines;
+mod ending;
+mod journal;
+mod run_lines;
+mod summary;
+mod summary_text;
+#[cfg(test)]
+mod tests;
+
+pub use buffer::Buffer;
+pub use end_lines::tell_ends;
+pub use ending::{has_failed, has_failed_write, has_full, has_malformed};
+pub use journal::write_journal;
+pub use run_lines::{
+    port_name, tell_config, tell_memory, tell_unopened, tell_unread, tell_unwritten, tell_usage,
+};
+pub use summary::{Summary, sum_up};
+pub use summary_text::{SUMMARY_OCTETS, put_summary};
