@@ -1,10 +1,6 @@
 -- The entry of a frame.
 use Rattle.std.proofs.Common.{ℕ, ◌≡◌, ◌&&◌, Bool, false, List, [], length, Option, Some, sym, ap, ◌∙◌}
-use Rattle.std.specs.List.{filter}
-use Rattle.std.proofs.lemmas.List.Elements.{filter_agree}
-use Rattle.savi_kinds.specs.declared.plan.Plan.{Plan}
-use Rattle.savi_kinds.specs.PortSets.{is_member, no_ports, set_of}
-use Rattle.savi_kinds.specs.ValidPlan.{numbers_of}
+use Rattle.savi_kinds.specs.PortSets.{no_ports}
 use Rattle.savi_kinds.specs.declared.plan.Role.{Role}
 use Rattle.savi_kinds.specs.declared.verdict.Rule.{Rule}
 use Rattle.savi_kinds.specs.declared.verdict.Rule.TheVariants.{Malformed}
@@ -29,13 +25,12 @@ use Rattle.savi_history.specs.Bases.{empty}
 use Rattle.savi_history.specs.Passes.{pass_of}
 use Rattle.savi_history.specs.Moments.{moment_at}
 use Rattle.savi_history.specs.Outs.{outs}
-use Rattle.savi_history.specs.Queues.{is_closed, cuts, probes, lost}
-use Rattle.savi_history.proofs.Offered.{closed_off, probes_off, lost_off}
+use Rattle.savi_history.specs.Queues.{cuts, probes, lost}
+use Rattle.savi_history.proofs.Offered.{probes_off, lost_off}
 use Rattle.savi_history.specs.Events.{the_vlan, verdict_of}
 use Rattle.savi_history.specs.Events as events
 use Rattle.savi_core.specs.Machines.{Machine}
 use Rattle.savi_core.specs.Steps.{entry_of}
-use Rattle.savi_core.specs.Waits.{takes_none, full_among}
 
 abbrev pub long_made : Port → ℕ → ℕ → ℕ → ℕ → Entry
 long_made port stamp len by moment = record { by = by; moment = moment; act = acts.Long port stamp len; verdict = Some (Drop Malformed); outs = no_ports; cuts = no_ports; probes = 0; lost = 0 }
@@ -43,22 +38,15 @@ long_made port stamp len by moment = record { by = by; moment = moment; act = ac
 abbrev pub made : Port → ℕ → ℕ → ℕ → ℕ → ℕ → Verdict → PortSet → PortSet → Entry
 made port stamp len by moment at verdict out cut = record { by = by; moment = moment; act = acts.Frame port stamp at len; verdict = Some verdict; outs = out; cuts = cut; probes = 0; lost = 0 }
 
--- without validation a frame is cut where its port takes no item
-cuts_off : (plan : Plan) (past : List Row) (act : Act) (octets : List ℕ) (out : PortSet) → plan.savi ≡ false → full_among plan past out ≡ cuts plan empty past act octets out
-cuts_off plan past act octets out off =
-    ap set_of
-    (filter_agree (λ (q : ℕ). is_member out q && takes_none plan past q) (λ (q : ℕ). is_member out q && is_closed plan empty past act octets q)
-    (λ q. ap (λ (b : Bool). is_member out q && b) (sym (closed_off plan empty past act octets off q))) (numbers_of plan.ports))
-
 -- an entry whose parts are those of a frame's row is that row's
 pub frame_entry_is : (m : Machine) (port : Port) (stamp : ℕ) (octets : List ℕ) (by moment at : ℕ) (verdict : Verdict) (out cut : PortSet) → m.plan.savi ≡ false → by ≡ pass_of m.plan (Ingress port) → moment ≡ moment_at empty m.past stamp → at ≡ held m.past → verdict ≡ verdict_of m.plan empty m.past port stamp octets
-    → out ≡ outs the_vlan m.plan empty m.past (number_of port) (moment_at empty m.past stamp) octets verdict → cut ≡ full_among m.plan m.past out → made port stamp (length octets) by moment at verdict out cut ≡ entry_of m (events.Frame port stamp octets)
+    → out ≡ outs the_vlan m.plan empty m.past (number_of port) (moment_at empty m.past stamp) octets verdict → cut ≡ cuts m.plan empty m.past (events.frame_act m.past port stamp octets) octets out → made port stamp (length octets) by moment at verdict out cut ≡ entry_of m (events.Frame port stamp octets)
 frame_entry_is m port stamp octets by moment at verdict out cut off by_is moment_is at_is verdict_is out_is cut_is =
     let act = events.frame_act m.past port stamp octets in
     let goes : out ≡ events.outs_of m.plan empty m.past port stamp octets =
     out_is ∙ ap (λ (v : Verdict). outs the_vlan m.plan empty m.past (number_of port) (moment_at empty m.past stamp) octets v) verdict_is in
     let left_out : cut ≡ cuts m.plan empty m.past act octets (events.outs_of m.plan empty m.past port stamp octets) =
-    cut_is ∙ cuts_off m.plan m.past act octets out off ∙ ap (λ (o : PortSet). cuts m.plan empty m.past act octets o) goes in
+    cut_is ∙ ap (λ (o : PortSet). cuts m.plan empty m.past act octets o) goes in
     let queued : 0 ≡ probes m.plan empty m.past act octets = sym (probes_off m.plan empty m.past act octets off) in
     let missed : 0 ≡ lost m.plan empty m.past act octets = sym (lost_off m.plan empty m.past act octets off) in
     cc (by_is, moment_is, at_is, verdict_is, goes, left_out, queued, missed)

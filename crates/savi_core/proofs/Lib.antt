@@ -1,8 +1,7 @@
 pub mod Places
 pub mod Sets
 pub mod Frames
-pub mod Changes
-pub mod Holding
+pub mod Lanes
 pub mod Counting
 pub mod Remembering
 pub mod Stepping

@@ -1,9 +1,9 @@
 -- Ports of a plan by their places.
-use Rattle.std.proofs.Common.{ℕ, suc, ◌≡◌, ◌≢◌, ◌+◌, ◌<◌, ◌==◌, ◌||◌, true, false, List, [], ◌∷◌, length, drop, get_or, inl, inr, refl, sym, ap, subst, ◌∙◌, arith}
+use Rattle.std.proofs.Common.{ℕ, suc, ◌≡◌, ◌≢◌, ◌+◌, ◌<◌, ◌≤◌, ◌==◌, ◌||◌, true, false, List, [], ◌∷◌, length, map, drop, get_or, set, inl, inr, refl, sym, ap, subst, ◌∙◌, arith, length-set, get_or-set_same, get_or-set_other}
 use Rattle.std.specs.List.{list_any}
 use Rattle.std.specs.Prelude.{nat_lt}
 use Rattle.std.specs.List.Sorted.{IsStrictlyIncreasing}
-use Rattle.std.proofs.lemmas.List.{at_drop_more, length-map}
+use Rattle.std.proofs.lemmas.List.{at_drop_more, length-map, get_or-map, ext_get_or}
 use Rattle.std.proofs.lemmas.List.Folds.{list_any_at}
 use Rattle.std.proofs.lemmas.List.Kept.{AllPairs-from_increasing}
 use Rattle.std.proofs.lemmas.Bool.{cases_eq, cases_order, cases_Bool, or_parts, lt-ltb, le-ltb, eq-eqb, ne_eqb, cond-true, cond-false}
@@ -87,3 +87,33 @@ has_port-place plan number =
           let last : place_of plan number ≡ length (numbers_of plan.ports) = absent (numbers_of plan.ports) number unknown in
           le-ltb (place_of plan number) (length plan.ports) (omega (arith, last, length-numbers plan.ports)) ∙ sym unknown
     ]
+
+-- the elements below an index have changed, and the others have not
+pub record ChangedTo {X : Type 0} (change : X → X) (i : ℕ) (old new : List X) : Type 0 where
+  pub size : length new ≡ length old
+  pub done : (k : ℕ) (d : X) → k < i → k < length old → get_or new k d ≡ change (get_or old k d)
+  pub still : (k : ℕ) (d : X) → i ≤ k → get_or new k d ≡ get_or old k d
+
+pub changed_none : {X : Type 0} (change : X → X) (old : List X) → ChangedTo change 0 old old
+changed_none change old = record { size = refl; done = λ k d below inside. absurd (omega (arith, below)); still = λ k d _. refl }
+
+pub changed_more : {X : Type 0} (change : X → X) (i : ℕ) (old new : List X) (v : X) → i < length old → ((d : X) → v ≡ change (get_or old i d)) → ChangedTo change i old new → ChangedTo change (i + 1) old (set new i v)
+changed_more change i old new v within is was = record {
+  size = length-set new i v ∙ was.size;
+  done = λ k d below inside.
+      elim (cases_eq k i) [
+        | inl same ↦
+            ap (λ n. get_or (set new i v) n d) same ∙ get_or-set_same new i v d (omega (arith, within, was.size)) ∙ is d
+            ∙ ap (λ n. change (get_or old n d)) (sym same)
+        | inr other ↦ get_or-set_other new i k v d other ∙ was.done k d (omega (arith, below, other)) inside
+      ];
+  still = λ k d above. get_or-set_other new i k v d (omega (arith, above)) ∙ was.still k d (omega (arith, above));
+}
+
+changed_at : {X : Type 0} (change : X → X) (i : ℕ) (old new : List X) (d : X) → length old ≤ i → ChangedTo change i old new → (k : ℕ) → k < length new → get_or new k d ≡ get_or (map change old) k d
+changed_at change i old new d all was k inside =
+    let within : k < length old = omega (arith, inside, was.size) in
+    was.done k d (omega (arith, within, all)) within ∙ sym (get_or-map change old k d d within)
+
+pub changed_all : {X : Type 0} (change : X → X) (i : ℕ) (old new : List X) (d : X) → length old ≤ i → ChangedTo change i old new → new ≡ map change old
+changed_all change i old new d all was = ext_get_or d new (map change old) (was.size ∙ sym (length-map old change)) (changed_at change i old new d all was)

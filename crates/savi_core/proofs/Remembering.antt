@@ -1,33 +1,34 @@
--- What a core keeps, after one more row.
-use Rattle.std.proofs.Common.{ℕ, zero, suc, replicate, ◌≡◌, ◌+◌, ◌*◌, ◌<◌, ◌≤◌, ◌==◌, ◌&&◌, ◌||◌, nat_le, if◌then◌else◌, Bool, true, false, List, [], ◌∷◌, ◌++◌, length, get_or, inl, inr, refl, sym, ap, subst, ◌∙◌, arith, length-append}
+-- What a core keeps: how it begins, and after one more row.
+use Rattle.std.proofs.Common.{ℕ, zero, suc, replicate, ◌≡◌, ◌+◌, ◌*◌, ◌<◌, ◌≤◌, ◌==◌, ◌&&◌, ◌||◌, Bool, true, false, List, [], ◌∷◌, ◌++◌, length, map, get_or, inl, inr, refl, sym, ap, subst, ◌∙◌, arith, length-append}
 use Rattle.std.specs.Prelude.{All, reverse}
-use Rattle.std.proofs.lemmas.List.{length-reverse, length-map, reverse-append}
-use Rattle.std.proofs.lemmas.List.Elements.{All-nil}
-use Rattle.std.proofs.lemmas.Bool.{cases_lt, ltb-true, leb-true, le-leb, lt-leb, and_parts}
+use Rattle.std.proofs.lemmas.List.{length-reverse, length-map, reverse-append, get_or-map}
+use Rattle.std.proofs.lemmas.List.Elements.{All-nil, All-cons, All-map}
+use Rattle.std.proofs.lemmas.Bool.{cases_lt, ltb-true, leb-true, and_parts}
 use Rattle.savi_kinds.specs.declared.plan.Plan.{Plan}
+use Rattle.savi_kinds.specs.declared.plan.PortPlan.{PortPlan}
 use Rattle.savi_kinds.specs.declared.entry.Who.{Who}
+use Rattle.savi_kinds.specs.Ports.{number_of}
 use Rattle.savi_kinds.specs.ValidPlan.{IsValidPlan, numbers_of}
-use Rattle.egress_ring.specs.Waiting.{Waiting, nothing}
+use Rattle.egress_ring.specs.declared.item.Item.{Item as Queued}
 use Rattle.hist_store.specs.Rows.{Row, held}
 use Rattle.hist_store.proofs.StoreLemmas.{held-append}
 use Rattle.savi_history.specs.Bases.{empty}
-use Rattle.savi_history.specs.Passes.{has_ended, has_port, has_pass, pass_of, place_of, is_end, pass_count, egress_pass}
+use Rattle.savi_history.specs.Passes.{has_ended, has_port, has_pass, pass_of, place_of, is_end, pass_count}
 use Rattle.savi_history.specs.Limits.{has_room}
-use Rattle.savi_history.specs.Queues.{room_at, queue}
-use Rattle.savi_history.proofs.Joining.{room_low}
+use Rattle.savi_history.specs.Queues.{Item, queue}
 use Rattle.savi_history.specs.Events.{Event, row_of}
 use Rattle.savi_history.specs.Legal.{MayCome}
+use Rattle.savi_history.proofs.Depth.{queue_within}
 use Rattle.savi_core.specs.Machines.{number_at}
-use Rattle.savi_core.specs.Waits.{AreAfter, shown, IsFrameOf, takes_none}
+use Rattle.savi_core.specs.Lanes.{Lane, empty_lane, lane_of}
+use Rattle.savi_core.specs.Waits.{shown, shown_lane, IsFrameOf, HoldsFrames}
 use Rattle.savi_core.specs.Counts.{still_to_come, waiting_at}
-use Rattle.savi_core.specs.Remembers.{HoldsQueue, Remembers}
-use Rattle.savi_core.proofs.Places.{length-numbers, egress_at, placed, place_within, pass_within}
+use Rattle.savi_core.specs.Remembers.{Kept, Remembers}
+use Rattle.savi_core.proofs.Places.{length-numbers, placed, place_within, pass_within}
 use Rattle.savi_core.proofs.Counting.{open_below-le, waiting_at-le}
-use Rattle.savi_core.proofs.Holding.{reverse_push}
 
--- the length of what waits
-pub holds_length : (plan : Plan) (rows : List Row) (number : ℕ) (w : Waiting) → HoldsQueue plan rows number w → length (queue plan empty number (reverse rows)) ≡ length w.items
-holds_length plan rows number w holds = ap length (sym holds.items) ∙ length-map w.items (shown rows)
+pub reverse_push : (rows : List Row) (r : Row) → reverse (rows ++ r ∷ []) ≡ r ∷ reverse rows
+reverse_push rows r = reverse-append rows (r ∷ [])
 
 pub held-reverse : (rows : List Row) → held (reverse rows) ≡ held rows
 held-reverse [] = refl
@@ -40,39 +41,50 @@ none_ended zero pass = refl
 none_ended (suc n) zero = refl
 none_ended (suc n) (suc pass) = none_ended n pass
 
+-- at the start
+
+start_shown : (plan : Plan) (ports : List PortPlan) → map (shown_lane []) (map (empty_lane plan.depth) ports) ≡ map (lane_of plan []) (numbers_of ports)
+start_shown plan [] = refl
+start_shown plan (p ∷ ports) = ap (λ lanes. lane_of plan [] (number_of p.number) ∷ lanes) (start_shown plan ports)
+
+start_frames : (depth : ℕ) (ports : List PortPlan) → All (HoldsFrames []) (map (empty_lane depth) ports)
+start_frames depth [] = All-nil (HoldsFrames [])
+start_frames depth (p ∷ ports) = All-cons (HoldsFrames []) (empty_lane depth p) (map (empty_lane depth) ports) (All-nil (IsFrameOf [])) (start_frames depth ports)
+
 -- what a core keeps at its start
-pub remembers_start : (plan : Plan) (waiting : List Waiting) → IsValidPlan plan → plan.savi ≡ false → length waiting ≡ length plan.ports → All (λ w. w ≡ nothing plan.depth) waiting → Remembers plan [] 0 (replicate 34 false) waiting
-remembers_start plan waiting valid off count empty_all = record {
+pub remembers_start : (plan : Plan) (lanes : List (Lane Queued)) → IsValidPlan plan → plan.savi ≡ false → lanes ≡ map (empty_lane plan.depth) plan.ports
+    → Remembers (record { plan = plan; rows = []; moment = 0; ended = replicate 34 false; lanes = lanes })
+remembers_start plan lanes valid off are = record {
   valid = valid;
   off = off;
   legal = tt;
   last = refl;
   passes = λ pass below. none_ended 34 pass;
   marks = refl;
-  queue_count = count;
-  queues = λ k d within.
-      let in_waiting : k < length waiting = omega (arith, within, count) in
-      subst (λ (w : Waiting). HoldsQueue plan [] (number_at plan k) w) (sym (empty_all k d in_waiting))
-      (record { frames = All-nil (IsFrameOf []); items = refl; depth_is = refl; within = omega arith });
+  frames = subst (λ (ls : List (Lane Queued)). All (HoldsFrames []) ls) (sym are) (start_frames plan.depth plan.ports);
+  queues = ap (map (shown_lane [])) are ∙ start_shown plan plan.ports;
   octets = omega arith;
   room = λ near. absurd (omega (arith, near, valid.entries.0));
 }
 
 -- one more row, by the event that it is of
-pub record HasNext (plan : Plan) (rows : List Row) (r : Row) (ended ended' : List Bool) (waiting waiting' : List Waiting) : Type 0 where
-  pub change : ℕ → Waiting → Waiting
-  pub passes : (pass : ℕ) → pass < pass_count plan → get_or ended' pass false ≡ ((is_end r.entry.act && (r.entry.by == pass)) || get_or ended pass false)
-  pub marks : length ended' ≡ length ended
-  pub queues : AreAfter change (numbers_of plan.ports) waiting waiting'
-  pub holds : (k : ℕ) → k < length plan.ports → (w : Waiting) → HoldsQueue plan rows (number_at plan k) w → HoldsQueue plan (rows ++ r ∷ []) (number_at plan k) (change (number_at plan k) w)
-  pub octets : held rows + length r.octets ≤ plan.bytes
-  pub room : plan.entries < length rows + 1 + 4130 → length rows + 1 + still_to_come plan (r ∷ reverse rows) ≤ plan.entries
+pub record HasNext (k : Kept) (r : Row) (ended' : List Bool) (lanes' : List (Lane Queued)) : Type 0 where
+  pub passes : (pass : ℕ) → pass < pass_count k.plan → get_or ended' pass false ≡ ((is_end r.entry.act && (r.entry.by == pass)) || get_or k.ended pass false)
+  pub marks : length ended' ≡ length k.ended
+  pub frames : All (HoldsFrames (k.rows ++ r ∷ [])) lanes'
+  pub queues : map (shown_lane (k.rows ++ r ∷ [])) lanes' ≡ map (lane_of k.plan (r ∷ reverse k.rows)) (numbers_of k.plan.ports)
+  pub octets : held k.rows + length r.octets ≤ k.plan.bytes
+  pub room : k.plan.entries < length k.rows + 1 + 4130 → length k.rows + 1 + still_to_come k.plan (r ∷ reverse k.rows) ≤ k.plan.entries
 
-module _ (plan : Plan) (rows : List Row) (moment : ℕ) (ended : List Bool) (waiting : List Waiting) (was : Remembers plan rows moment ended waiting) where
-  pub remembers_next : (event : Event) (r : Row) (moment' : ℕ) (ended' : List Bool) (waiting' : List Waiting) → MayCome plan empty (reverse rows) event → r ≡ row_of plan empty (reverse rows) event → moment' ≡ r.entry.moment → HasNext plan rows r ended ended' waiting waiting' → Remembers plan (rows ++ r ∷ []) moment' ended' waiting'
-  remembers_next event r moment' ended' waiting' may is_row moment_is next =
-      let at : reverse (rows ++ r ∷ []) ≡ r ∷ reverse rows = reverse_push rows r in
-      let longer : length (rows ++ r ∷ []) ≡ length rows + 1 = omega (arith, length-append rows (r ∷ [])) in
+module _ {k : Kept} (was : Remembers k) where
+  abbrev pub past : List Row
+  past = reverse k.rows
+
+  pub remembers_next : (event : Event) (r : Row) (moment' : ℕ) (ended' : List Bool) (lanes' : List (Lane Queued)) → MayCome k.plan empty (reverse k.rows) event → r ≡ row_of k.plan empty (reverse k.rows) event → moment' ≡ r.entry.moment → HasNext k r ended' lanes'
+      → Remembers (record { plan = k.plan; rows = k.rows ++ r ∷ []; moment = moment'; ended = ended'; lanes = lanes' })
+  remembers_next event r moment' ended' lanes' may is_row moment_is next =
+      let at : reverse (k.rows ++ r ∷ []) ≡ r ∷ reverse k.rows = reverse_push k.rows r in
+      let longer : length (k.rows ++ r ∷ []) ≡ length k.rows + 1 = omega (arith, length-append k.rows (r ∷ [])) in
       record {
         valid = was.valid;
         off = was.off;
@@ -80,84 +92,73 @@ module _ (plan : Plan) (rows : List Row) (moment : ℕ) (ended : List Bool) (wai
         last = rw at moment_is;
         passes = λ pass below. rw at (next.passes pass below ∙ ap (λ b. (is_end r.entry.act && (r.entry.by == pass)) || b) (was.passes pass below));
         marks = next.marks ∙ was.marks;
-        queue_count = next.queues.size ∙ was.queue_count;
-        queues = λ k d within.
-            let in_waiting : k < length waiting = omega (arith, within, was.queue_count) in
-            subst (λ (w : Waiting). HoldsQueue plan (rows ++ r ∷ []) (number_at plan k) w) (sym (next.queues.each k d in_waiting))
-            (next.holds k within (get_or waiting k d) (was.queues k d within));
-        octets = omega (arith, held-append rows (r ∷ []), next.octets);
+        frames = next.frames;
+        queues = rw at next.queues;
+        octets = omega (arith, held-append k.rows (r ∷ []), next.octets);
         room = rw (at, longer) next.room;
       }
 
-  -- no queue is longer than it may be
-  pub queue_within : (k : ℕ) → k < length plan.ports → length (queue plan empty (number_at plan k) (reverse rows)) ≤ plan.depth
-  queue_within k within =
-      let holds = was.queues k (nothing 0) within in
-      omega (arith, holds_length plan rows (number_at plan k) (get_or waiting k (nothing 0)) holds, holds.within)
+  pub lane_count : length k.lanes ≡ length k.plan.ports
+  lane_count =
+      omega (
+        arith,
+        ap (λ (lanes : List (Lane Item)). length lanes) was.queues,
+        length-map k.lanes (shown_lane k.rows),
+        length-map (numbers_of k.plan.ports) (lane_of k.plan (reverse k.rows)),
+        length-numbers k.plan.ports,
+      )
 
-  pub few_to_come : still_to_come plan (reverse rows) ≤ 4130
+  -- the lane at a place shows that of its port
+  pub lane_is : (p : ℕ) (d : Lane Queued) → p < length k.plan.ports → shown_lane k.rows (get_or k.lanes p d) ≡ lane_of k.plan (reverse k.rows) (number_at k.plan p)
+  lane_is p d within =
+      let count = lane_count in
+      let size = length-numbers k.plan.ports in
+      let e : Lane Item = shown_lane k.rows d in
+      sym (get_or-map (shown_lane k.rows) k.lanes p d e (omega (arith, within, count)))
+      ∙ ap (λ (lanes : List (Lane Item)). get_or lanes p e) was.queues
+      ∙ get_or-map (lane_of k.plan (reverse k.rows)) (numbers_of k.plan.ports) p 0 e (omega (arith, within, size))
+
+  -- the same by the number of a port
+  pub lane_at : (number p : ℕ) (d : Lane Queued) → has_port k.plan number ≡ true → p ≡ place_of k.plan number → shown_lane k.rows (get_or k.lanes p d) ≡ lane_of k.plan (reverse k.rows) number
+  lane_at number p d known place_is =
+      let place = placed k.plan number known in
+      lane_is p d (omega (arith, place_is, place_within k.plan number known))
+      ∙ ap (lane_of k.plan (reverse k.rows)) (ap (number_at k.plan) place_is ∙ place.number_is)
+
+  -- how many items wait there
+  pub waits_at : (number p : ℕ) (d : Lane Queued) → has_port k.plan number ≡ true → p ≡ place_of k.plan number → length (queue k.plan empty number (reverse k.rows)) ≡ length (get_or k.lanes p d).items
+  waits_at number p d known place_is =
+      ap (λ (lane : Lane Item). length lane.items) (sym (lane_at number p d known place_is)) ∙ length-map (get_or k.lanes p d).items (shown k.rows)
+
+  pub few_to_come : still_to_come k.plan (reverse k.rows) ≤ 4130
   few_to_come =
-      let wait : waiting_at plan (reverse rows) (numbers_of plan.ports) ≤ 256 * length (numbers_of plan.ports) =
-      waiting_at-le plan (reverse rows) 256 (numbers_of plan.ports) (λ k within. omega (arith, queue_within k (omega (arith, within, length-numbers plan.ports)), was.valid.depth.1)) in
-      omega (arith, wait, length-numbers plan.ports, open_below-le (reverse rows) (pass_count plan), was.valid.port_count.1)
+      let wait : waiting_at k.plan (reverse k.rows) (numbers_of k.plan.ports) ≤ 256 * length (numbers_of k.plan.ports) =
+      waiting_at-le k.plan (reverse k.rows) 256 (numbers_of k.plan.ports) (λ n within. omega (arith, queue_within k.plan empty (get_or (numbers_of k.plan.ports) n 0) (reverse k.rows), was.valid.depth.1)) in
+      omega (arith, wait, length-numbers k.plan.ports, open_below-le (reverse k.rows) (pass_count k.plan), was.valid.port_count.1)
 
   -- a drain or an end fits
-  pub fits : 0 < still_to_come plan (reverse rows) → length rows < plan.entries
+  pub fits : 0 < still_to_come k.plan (reverse k.rows) → length k.rows < k.plan.entries
   fits some =
-      elim (cases_lt plan.entries (length rows + 4130)) [
+      elim (cases_lt k.plan.entries (length k.rows + 4130)) [
         | inl near ↦ omega (arith, was.room near, some)
         | inr far ↦ omega (arith, far)
       ]
 
   -- a drain or an end leaves room for what is still to come
-  pub room_less : (r : Row) → still_to_come plan (r ∷ reverse rows) + 1 ≤ still_to_come plan (reverse rows) → plan.entries < length rows + 1 + 4130 → length rows + 1 + still_to_come plan (r ∷ reverse rows) ≤ plan.entries
+  pub room_less : (r : Row) → still_to_come k.plan (r ∷ reverse k.rows) + 1 ≤ still_to_come k.plan (reverse k.rows) → k.plan.entries < length k.rows + 1 + 4130 → length k.rows + 1 + still_to_come k.plan (r ∷ reverse k.rows) ≤ k.plan.entries
   room_less r less near =
-      elim (cases_lt plan.entries (length rows + 4130)) [
+      elim (cases_lt k.plan.entries (length k.rows + 4130)) [
         | inl before ↦ omega (arith, was.room before, less)
         | inr at ↦ omega (arith, at, few_to_come, less)
       ]
 
   -- what room for an input means
-  pub room_for : has_room plan (reverse rows) ≡ true → (length rows + 4130 < plan.entries) × (held rows + 1518 ≤ plan.bytes)
+  pub room_for : has_room k.plan (reverse k.rows) ≡ true → (length k.rows + 4130 < k.plan.entries) × (held k.rows + 1518 ≤ k.plan.bytes)
   room_for room =
       let both = and_parts _ _ room in
-      let entries : length (reverse rows) + 4130 < plan.entries = ltb-true _ _ both.0 in
-      let octets : held (reverse rows) + 1518 ≤ plan.bytes = leb-true _ _ both.1 in
-      (omega (arith, entries, length-reverse rows), omega (arith, octets, held-reverse rows))
+      let entries : length (reverse k.rows) + 4130 < k.plan.entries = ltb-true _ _ both.0 in
+      let octets : held (reverse k.rows) + 1518 ≤ k.plan.bytes = leb-true _ _ both.1 in
+      (omega (arith, entries, length-reverse k.rows), omega (arith, octets, held-reverse k.rows))
 
-  -- the port at a place takes nothing
-  pub closed_full : (k : ℕ) (d : Waiting) → k < length plan.ports → plan.depth ≤ length (get_or waiting k d).items → takes_none plan (reverse rows) (number_at plan k) ≡ true
-  closed_full k d within full =
-      let n = number_at plan k in
-      let size = holds_length plan rows n (get_or waiting k d) (was.queues k d within) in
-      le-leb (room_at plan empty (reverse rows) n) (length (queue plan empty n (reverse rows))) (omega (arith, size, full, room_low plan empty (reverse rows) n))
-
-  none_at : (n size : ℕ) (b : Bool) → size < n → nat_le (if b then 0 else n) size ≡ b
-  none_at n size true room = le-leb 0 size (omega arith)
-  none_at n size false room = lt-leb n size room
-
-  pub closed_else : (k : ℕ) (d : Waiting) → k < length plan.ports → length (get_or waiting k d).items < plan.depth → takes_none plan (reverse rows) (number_at plan k) ≡ get_or ended (length plan.ports + 2 + k) false
-  closed_else k d within room =
-      let n = number_at plan k in
-      let size = holds_length plan rows n (get_or waiting k d) (was.queues k d within) in
-      none_at plan.depth (length (queue plan empty n (reverse rows))) (has_ended empty (egress_pass plan n) (reverse rows)) (omega (arith, size, room))
-      ∙ ap (λ m. has_ended empty m (reverse rows)) (egress_at plan k was.valid within)
-      ∙ sym (was.passes (length plan.ports + 2 + k) (omega (arith, within)))
-
-  -- what is kept of a port's queue
-  pub holds_at : (number place : ℕ) (w : Waiting) → has_port plan number ≡ true → place ≡ place_of plan number → w ≡ get_or waiting place w → HoldsQueue plan rows number w
-  holds_at number place w known place_is is =
-      let place_in = placed plan number known in
-      let within : place < length plan.ports = omega (arith, place_is, place_within plan number known) in
-      let number_is : number_at plan place ≡ number = ap (number_at plan) place_is ∙ place_in.number_is in
-      subst (λ (v : Waiting). HoldsQueue plan rows number v) (sym is)
-      (subst (λ (n : ℕ). HoldsQueue plan rows n (get_or waiting place w)) number_is (was.queues place w within))
-
-  pub pass_small : (who : Who) → has_pass plan who ≡ true → pass_of plan who < 34
-  pass_small who known = omega (arith, pass_within plan who known, was.valid.port_count.1)
-
-  -- no queue of a port of the plan is longer than it may be
-  pub waits_within : (number : ℕ) → has_port plan number ≡ true → length (queue plan empty number (reverse rows)) ≤ plan.depth
-  waits_within number known =
-      let place = placed plan number known in
-      subst (λ n. length (queue plan empty n (reverse rows)) ≤ plan.depth) place.number_is (queue_within (place_of plan number) (place_within plan number known))
+  pub pass_small : (who : Who) → has_pass k.plan who ≡ true → pass_of k.plan who < 34
+  pass_small who known = omega (arith, pass_within k.plan who known, was.valid.port_count.1)

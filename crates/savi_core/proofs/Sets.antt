@@ -1,16 +1,11 @@
 -- Sets of ports, member by member.
-use Rattle.std.proofs.Common.{ℕ, zero, suc, ◌≡◌, ◌+◌, ◌-◌, ◌^◌, ◌<◌, ◌≤◌, ◌==◌, max, true, false, Bool, List, [], ◌∷◌, length, drop, get_or, inl, inr, refl, sym, ap, ◌∙◌, arith, bit_or}
+use Rattle.std.proofs.Common.{ℕ, ◌≡◌, ◌+◌, ◌-◌, ◌^◌, ◌<◌, max, true, false, Bool, List, ◌∷◌, length, map, drop, get_or, sym, ap, ◌∙◌, arith, bit_or}
 use Rattle.std.specs.List.{filter}
 use Rattle.std.specs.Int.{bit_at}
 use Rattle.std.proofs.lemmas.Nat.Bits.{bit_at_or, bit_at-zero, same_from_bits}
-use Rattle.std.proofs.lemmas.Bool.{cases_Bool, cond-true, cond-false, eq-eqb, or_left, or_right}
-use Rattle.savi_kinds.specs.declared.plan.PortPlan.{PortPlan}
+use Rattle.std.proofs.lemmas.Bool.{cond-true, cond-false}
 use Rattle.savi_kinds.specs.declared.port.PortSet.{PortSet}
-use Rattle.savi_kinds.specs.Ports.{number_of}
-use Rattle.savi_kinds.specs.PortSets.{is_member, with_member, set_of, no_ports}
-use Rattle.savi_kinds.specs.ValidPlan.{numbers_of}
-use Rattle.savi_kinds.proofs.Members.{is_member-with}
-pub use Rattle.savi_history.proofs.PortMembers.{least, member_chosen}
+use Rattle.savi_kinds.specs.PortSets.{with_member, set_of, no_ports}
 use Rattle.savi_core.proofs.Places.{at_item}
 
 -- all members of both
@@ -31,41 +26,29 @@ union-with s t n = ap (λ (k : ℕ). let set : PortSet = record { 0 = k } in set
 or_zero : (s : ℕ) → bit_or s 0 ≡ s
 or_zero s = same_from_bits _ _ (λ i. let e : bit_at (bit_or s 0) i ≡ max (bit_at s i) (bit_at 0 i) = bit_at_or s 0 i in let z : bit_at 0 i ≡ 0 = bit_at-zero i in omega (arith, e, z))
 
+zero_or : (s : ℕ) → bit_or 0 s ≡ s
+zero_or s = same_from_bits _ _ (λ i. let e : bit_at (bit_or 0 s) i ≡ max (bit_at 0 i) (bit_at s i) = bit_at_or 0 s i in let z : bit_at 0 i ≡ 0 = bit_at-zero i in omega (arith, e, z))
+
+pub none-union : (s : PortSet) → union no_ports s ≡ s
+none-union s = ap (λ (k : ℕ). let set : PortSet = record { 0 = k } in set) (zero_or s.0)
+
 pub union-none : (s : PortSet) → union s no_ports ≡ s
 union-none s = ap (λ (k : ℕ). let set : PortSet = record { 0 = k } in set) (or_zero s.0)
 
--- the set of those ports that pass a test
-abbrev pub chosen : (PortPlan → Bool) → List PortPlan → PortSet
-chosen test ports = set_of (numbers_of (filter test ports))
+-- the set of the numbers of those that pass a test
+abbrev pub chosen : {X : Type 0} → (X → ℕ) → (X → Bool) → List X → PortSet
+chosen number test xs = set_of (map number (filter test xs))
 
-module _ (test : PortPlan → Bool) (ports : List PortPlan) (i : ℕ) (p : PortPlan) (so_far all : PortSet) (within : i < length ports) (is : p ≡ get_or ports i p) where
-  rest_taken : test p ≡ true → chosen test (drop i ports) ≡ with_member (chosen test (drop (i + 1) ports)) (number_of p.number)
-  rest_taken passes = at_item (chosen test) ports i p within is ∙ ap (λ ps. set_of (numbers_of ps)) (cond-true (test p) (p ∷ filter test (drop (i + 1) ports)) (filter test (drop (i + 1) ports)) passes)
+module _ {X : Type 0} (number : X → ℕ) (test : X → Bool) (ports : List X) (i : ℕ) (p : X) (so_far all : PortSet) (within : i < length ports) (is : p ≡ get_or ports i p) where
+  rest_taken : test p ≡ true → chosen number test (drop i ports) ≡ with_member (chosen number test (drop (i + 1) ports)) (number p)
+  rest_taken passes = at_item (chosen number test) ports i p within is ∙ ap (λ ps. set_of (map number ps)) (cond-true (test p) (p ∷ filter test (drop (i + 1) ports)) (filter test (drop (i + 1) ports)) passes)
 
-  rest_left : test p ≡ false → chosen test (drop i ports) ≡ chosen test (drop (i + 1) ports)
-  rest_left fails = at_item (chosen test) ports i p within is ∙ ap (λ ps. set_of (numbers_of ps)) (cond-false (test p) (p ∷ filter test (drop (i + 1) ports)) (filter test (drop (i + 1) ports)) fails)
+  rest_left : test p ≡ false → chosen number test (drop i ports) ≡ chosen number test (drop (i + 1) ports)
+  rest_left fails = at_item (chosen number test) ports i p within is ∙ ap (λ ps. set_of (map number ps)) (cond-false (test p) (p ∷ filter test (drop (i + 1) ports)) (filter test (drop (i + 1) ports)) fails)
 
   -- one more port of a set that a loop makes
-  pub chosen_taken : test p ≡ true → union so_far (chosen test (drop i ports)) ≡ all → union (with_member so_far (number_of p.number)) (chosen test (drop (i + 1) ports)) ≡ all
-  chosen_taken passes was = union-with so_far (chosen test (drop (i + 1) ports)) (number_of p.number) ∙ ap (union so_far) (sym (rest_taken passes)) ∙ was
+  pub chosen_taken : test p ≡ true → union so_far (chosen number test (drop i ports)) ≡ all → union (with_member so_far (number p)) (chosen number test (drop (i + 1) ports)) ≡ all
+  chosen_taken passes was = union-with so_far (chosen number test (drop (i + 1) ports)) (number p) ∙ ap (union so_far) (sym (rest_taken passes)) ∙ was
 
-  pub chosen_left : test p ≡ false → union so_far (chosen test (drop i ports)) ≡ all → union so_far (chosen test (drop (i + 1) ports)) ≡ all
+  pub chosen_left : test p ≡ false → union so_far (chosen number test (drop i ports)) ≡ all → union so_far (chosen number test (drop (i + 1) ports)) ≡ all
   chosen_left fails was = ap (union so_far) (sym (rest_left fails)) ∙ was
-
-numbers_filter : (test : ℕ → Bool) (ports : List PortPlan) → numbers_of (filter (λ p. test (number_of p.number)) ports) ≡ filter test (numbers_of ports)
-numbers_filter test [] = refl
-numbers_filter test (p ∷ ports) =
-    elim (cases_Bool (test (number_of p.number))) [
-      | inl passes ↦
-          ap numbers_of (cond-true _ (p ∷ filter (λ q. test (number_of q.number)) ports) (filter (λ q. test (number_of q.number)) ports) passes)
-          ∙ ap (λ ns. number_of p.number ∷ ns) (numbers_filter test ports)
-          ∙ sym (cond-true _ (number_of p.number ∷ filter test (numbers_of ports)) (filter test (numbers_of ports)) passes)
-      | inr fails ↦
-          ap numbers_of (cond-false _ (p ∷ filter (λ q. test (number_of q.number)) ports) (filter (λ q. test (number_of q.number)) ports) fails)
-          ∙ numbers_filter test ports
-          ∙ sym (cond-false _ (number_of p.number ∷ filter test (numbers_of ports)) (filter test (numbers_of ports)) fails)
-    ]
-
--- a test on numbers chooses the same ports as one on plans of ports
-pub chosen_numbers : (test : ℕ → Bool) (ports : List PortPlan) → chosen (λ p. test (number_of p.number)) ports ≡ set_of (filter test (numbers_of ports))
-chosen_numbers test ports = ap set_of (numbers_filter test ports)

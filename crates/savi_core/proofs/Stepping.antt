@@ -1,6 +1,9 @@
 -- What a core keeps after each kind of event.
-use Rattle.std.proofs.Common.{ℕ, ◌≡◌, ◌+◌, ◌^◌, ◌<◌, ◌≤◌, ◌==◌, ◌&&◌, ◌||◌, not, Bool, true, false, List, [], ◌∷◌, ◌++◌, length, get_or, set, drop, cond, inl, inr, refl, sym, ap, subst, ◌∙◌, arith, length-drop, length-set, get_or-set_same, get_or-set_other}
-use Rattle.std.specs.Prelude.{reverse}
+use Rattle.std.proofs.Common.{ℕ, ◌≡◌, ◌≢◌, ◌+◌, ◌^◌, ◌<◌, ◌≤◌, ◌==◌, ◌&&◌, ◌||◌, not, Bool, true, false, List, [], ◌∷◌, ◌++◌, length, map, get_or, set, drop, cond, inl, inr, refl, sym, ap, subst, ◌∙◌, arith, length-drop, length-set, get_or-set_same, get_or-set_other}
+use Rattle.std.specs.Prelude.{All, reverse}
+use Rattle.std.specs.List.{filter}
+use Rattle.std.proofs.lemmas.List.{map-set}
+use Rattle.std.proofs.lemmas.List.Elements.{All-weaker, All-map, All-set, filter_agree}
 use Rattle.std.proofs.lemmas.Bool.{cases_lt, cases_eq, cases_Bool, eq-eqb, ne_eqb, and_parts, not-true, leb-false, or_left, or_right, cond-true, cond-false}
 use Rattle.savi_kinds.specs.declared.plan.Plan.{Plan}
 use Rattle.savi_kinds.specs.declared.port.Port.{Port}
@@ -12,31 +15,32 @@ use Rattle.savi_kinds.specs.declared.entry.Who.TheVariants.{Ingress, Control, Ti
 use Rattle.savi_kinds.specs.declared.entry.How.{How}
 use Rattle.savi_kinds.specs.declared.entry.How.TheVariants as hows
 use Rattle.savi_kinds.specs.Ports.{number_of}
-use Rattle.savi_kinds.specs.PortSets.{is_member}
+use Rattle.savi_kinds.specs.declared.port.PortSet.{PortSet}
+use Rattle.savi_kinds.specs.PortSets.{is_member, set_of}
 use Rattle.savi_kinds.specs.ValidPlan.{numbers_of}
-use Rattle.egress_ring.specs.Waiting.{Waiting}
+use Rattle.egress_ring.specs.declared.item.Item.{Item as Queued}
+use Rattle.egress_ring.specs.declared.item.Item.TheVariants as queued
 use Rattle.hist_store.specs.Rows.{Row, held}
 use Rattle.savi_history.specs.Bases.{empty}
-use Rattle.savi_history.specs.Passes.{has_ended, has_port, pass_of, place_of, pass_count, is_end}
+use Rattle.savi_history.specs.Passes.{has_ended, has_port, pass_of, egress_pass, place_of, pass_count, is_end}
 use Rattle.savi_history.specs.Limits.{has_room}
-use Rattle.savi_history.specs.Queues.{room_at, queue, waiting_after, is_closed}
-use Rattle.savi_history.proofs.Joining.{room_low}
+use Rattle.savi_history.specs.Queues.{Item, item_of, queue, waiting_after, is_closed, cuts}
+use Rattle.savi_history.proofs.PassNumbers.{known_at}
 use Rattle.savi_history.proofs.Depth.{ended_fewer}
-use Rattle.savi_history.proofs.Offered.{probed_off, closed_off}
-use Rattle.savi_history.proofs.PortMembers.{member_is}
+use Rattle.savi_history.proofs.Offered.{closed_off}
 use Rattle.savi_history.specs.Events as events
 use Rattle.savi_history.specs.Events.{Event, row_of}
 use Rattle.savi_history.specs.Legal.{IsOpen, MayCome}
 use Rattle.savi_core.specs.Machines.{Machine, number_at, with_event}
 use Rattle.savi_core.specs.Steps.{MayStep}
 use Rattle.savi_core.specs.Counts.{still_to_come, open_below}
-use Rattle.savi_core.specs.Waits.{AreAfter, goes_to, takes_none, after_frame, after_end, after_drain}
-use Rattle.savi_core.specs.Remembers.{HoldsQueue, Remembers}
-use Rattle.savi_core.proofs.Places.{placed, pass_within}
-use Rattle.savi_core.proofs.Changes.{after_none}
-use Rattle.savi_core.proofs.Holding.{reverse_push, holds_kept, holds_frame, holds_drain, holds_end}
+use Rattle.savi_core.specs.Lanes.{Lane, with_frame, is_cut, cut_at, with_drained, with_ended, no_lane, lane_of, AreEnded}
+use Rattle.savi_core.specs.Waits.{shown_lane, HoldsFrames}
+use Rattle.savi_core.specs.Remembers.{Kept, Remembers}
+use Rattle.savi_core.proofs.Places.{placed, place_within, length-numbers, pass_within, apart}
+use Rattle.savi_core.proofs.Lanes.{across, same_at, map_all, map_twice, one_changed, shown_more, frames_still, shown_framed, frames_framed, shown_drained, frames_drained, shown_ended, frames_ended, cuts_shown, cuts_numbers, lane_framed, lane_long, lane_drained, lane_elsewhere, IsNoEgress, lane_behind_input, lane_ended, lane_apart}
 use Rattle.savi_core.proofs.Counting.{open_below-later, open_below-ended, open_below-some, waiting_at-later, waiting_at-taken, waiting_at-some}
-use Rattle.savi_core.proofs.Remembering.{holds_length, remembers_next, fits, room_less, room_for}
+use Rattle.savi_core.proofs.Remembering.{reverse_push, remembers_next, lane_count, lane_at, fits, room_less, room_for}
 
 -- a row of an entry and its octets
 abbrev pub row : Entry → List ℕ → Row
@@ -57,143 +61,220 @@ pub stepped_view : (plan : Plan) (rows : List Row) (e : Entry) (octets : List �
 stepped_view plan rows e octets event m view is_row =
     ap (machine plan) (reverse_push rows (row e octets) ∙ ap (λ (r : Row). r ∷ reverse rows) is_row) ∙ ap (λ (x : Machine). with_event x event) view
 
-module _ (plan : Plan) (rows : List Row) (moment : ℕ) (ended : List Bool) (waiting : List Waiting) (was : Remembers plan rows moment ended waiting) where
-  pub remembers_long : (port : Port) (stamp len : ℕ) (e : Entry) → MayCome plan empty (reverse rows) (events.Long port stamp len) → e ≡ (row_of plan empty (reverse rows) (events.Long port stamp len)).entry → Remembers plan (rows ++ row e [] ∷ []) e.moment ended waiting
+module _ {k : Kept} (was : Remembers k) where
+  pub remembers_long : (port : Port) (stamp len : ℕ) (e : Entry) → MayCome k.plan empty (reverse k.rows) (events.Long port stamp len) → e ≡ (row_of k.plan empty (reverse k.rows) (events.Long port stamp len)).entry
+      → Remembers (record k { rows = k.rows ++ row e [] ∷ []; moment = e.moment })
   remembers_long port stamp len e may e_is =
+      let r = row e [] in
       let act_is : e.act ≡ acts.Long port stamp len = ap (λ (x : Entry). x.act) e_is in
-      remembers_next plan rows moment ended waiting was (events.Long port stamp len) (row e []) e.moment ended waiting may (ap (λ (x : Entry). row x []) e_is) refl (record {
-        change = λ number w. w;
-        passes = λ pass below. ap (λ (a : Act). (is_end a && (e.by == pass)) || get_or ended pass false) (sym act_is);
+      remembers_next was (events.Long port stamp len) (row e []) e.moment k.ended k.lanes may (ap (λ (x : Entry). row x []) e_is) refl (record {
+        passes = λ pass below. ap (λ (a : Act). (is_end a && (e.by == pass)) || get_or k.ended pass false) (sym act_is);
         marks = refl;
-        queues = after_none (λ number w. w) (numbers_of plan.ports) waiting (λ number w. refl);
-        holds = λ k within w holds. holds_kept plan rows (row e []) (number_at plan k) w holds (ap (λ (a : Act). waiting_after plan empty (reverse rows) (number_at plan k) (row e []) a (queue plan empty (number_at plan k) (reverse rows))) act_is
-            ∙ probed_off plan empty (reverse rows) (acts.Long port stamp len) [] was.off (number_at plan k) (queue plan empty (number_at plan k) (reverse rows)));
+        frames = All-weaker (HoldsFrames k.rows) (HoldsFrames (k.rows ++ row e [] ∷ [])) (λ lane frames. frames_still k.rows (row e []) lane frames) k.lanes was.frames;
+        queues =
+            same_at (HoldsFrames k.rows) (shown_lane k.rows) (shown_lane (k.rows ++ row e [] ∷ [])) (λ lane frames. shown_more k.rows (row e []) lane frames) k.lanes was.frames
+            ∙ was.queues
+            ∙ map_all (lane_of k.plan (reverse k.rows)) (lane_of k.plan (row e [] ∷ reverse k.rows)) (numbers_of k.plan.ports)
+            (λ n within. lane_long k.plan (reverse k.rows) (row e []) (get_or (numbers_of k.plan.ports) n 0) was.off port stamp len act_is);
         octets = omega (arith, was.octets);
-        room = λ near. absurd (omega (arith, near, (room_for plan rows moment ended waiting was may.0.room).0));
+        room = λ near. absurd (omega (arith, near, (room_for was may.0.room).0));
       })
 
-  -- a frame is cut at a port of its outs exactly where that takes no item
-  frame_cut : (port : Port) (stamp : ℕ) (octets : List ℕ) (e : Entry) → e ≡ (row_of plan empty (reverse rows) (events.Frame port stamp octets)).entry → (k : ℕ) → k < length plan.ports
-      → is_member e.outs (number_at plan k) ≡ true → is_member e.cuts (number_at plan k) ≡ takes_none plan (reverse rows) (number_at plan k)
-  frame_cut port stamp octets e e_is k within goes =
-      let n = number_at plan k in
-      let act = events.frame_act (reverse rows) port stamp octets in
-      let past = reverse rows in
-      let out = events.outs_of plan empty past port stamp octets in
-      let test : ℕ → Bool = λ q. is_member out q && is_closed plan empty past act octets q in
-      let member : is_member out n ≡ true = sym (ap (λ (x : Entry). is_member x.outs n) e_is) ∙ goes in
-      ap (λ (x : Entry). is_member x.cuts n) e_is
-      ∙ member_is test plan.ports k within
-      ∙ ap (λ (b : Bool). b && is_closed plan empty past act octets n) member
-      ∙ closed_off plan empty past act octets was.off n
+  -- the ports where a frame is left out
+  pub cuts_are : (port : Port) (stamp : ℕ) (octets : List ℕ) (outs : PortSet) → cut_at outs k.lanes ≡ cuts k.plan empty (reverse k.rows) (events.frame_act (reverse k.rows) port stamp octets) octets outs
+  cuts_are port stamp octets outs =
+      let act = events.frame_act (reverse k.rows) port stamp octets in
+      ap set_of
+      (cuts_shown k.rows outs k.lanes
+      ∙ ap (λ (lanes : List (Lane Item)). map (λ (x : Lane Item). x.number) (filter (is_cut outs) lanes)) was.queues
+      ∙ cuts_numbers k.plan (reverse k.rows) outs (numbers_of k.plan.ports)
+      ∙ filter_agree (λ (q : ℕ). is_cut outs (lane_of k.plan (reverse k.rows) q)) (λ (q : ℕ). is_member outs q && is_closed k.plan empty (reverse k.rows) (events.frame_act (reverse k.rows) port stamp octets) octets q)
+      (λ q. ap (λ (b : Bool). is_member outs q && b) (sym (closed_off k.plan empty (reverse k.rows) (events.frame_act (reverse k.rows) port stamp octets) octets was.off q))) (numbers_of k.plan.ports))
 
-  -- where a frame is queued there is room
-  pub queue_room : (port : Port) (stamp : ℕ) (octets : List ℕ) (e : Entry) → e ≡ (row_of plan empty (reverse rows) (events.Frame port stamp octets)).entry → (k : ℕ) → k < length plan.ports → (w : Waiting) → HoldsQueue plan rows (number_at plan k) w
-      → goes_to e.outs e.cuts (number_at plan k) ≡ true → length w.items < plan.depth
-  queue_room port stamp octets e e_is k within w holds goes =
-      let n = number_at plan k in
-      let both = and_parts (is_member e.outs n) (not (is_member e.cuts n)) goes in
-      let opened : takes_none plan (reverse rows) n ≡ false = sym (frame_cut port stamp octets e e_is k within both.0) ∙ not-true (is_member e.cuts n) both.1 in
-      let short = leb-false (room_at plan empty (reverse rows) n) (length (queue plan empty n (reverse rows))) opened in
-      omega (arith, short, room_low plan empty (reverse rows) n, holds_length plan rows n w holds)
-
-  pub remembers_frame : (port : Port) (stamp : ℕ) (octets : List ℕ) (e : Entry) (waiting' : List Waiting) → MayCome plan empty (reverse rows) (events.Frame port stamp octets) → e ≡ (row_of plan empty (reverse rows) (events.Frame port stamp octets)).entry → AreAfter (after_frame e.outs e.cuts (length rows)) (numbers_of plan.ports) waiting waiting' → Remembers plan (rows ++ row e octets ∷ []) e.moment ended waiting'
-  remembers_frame port stamp octets e waiting' may e_is after =
-      let act_is : e.act ≡ acts.Frame port stamp (held (reverse rows)) (length octets) = ap (λ (x : Entry). x.act) e_is in
-      let room = room_for plan rows moment ended waiting was may.0.room in
-      remembers_next plan rows moment ended waiting was (events.Frame port stamp octets) (row e octets) e.moment ended waiting' may (ap (λ (x : Entry). row x octets) e_is) refl (record {
-        change = after_frame e.outs e.cuts (length rows);
-        passes = λ pass below. ap (λ (a : Act). (is_end a && (e.by == pass)) || get_or ended pass false) (sym act_is);
+  pub remembers_frame : (port : Port) (stamp : ℕ) (octets : List ℕ) (e : Entry) (lanes' : List (Lane Queued)) → MayCome k.plan empty (reverse k.rows) (events.Frame port stamp octets) → e ≡ (row_of k.plan empty (reverse k.rows) (events.Frame port stamp octets)).entry
+      → lanes' ≡ map (with_frame (queued.Frame (length k.rows)) e.outs) k.lanes → Remembers (record k { rows = k.rows ++ row e octets ∷ []; moment = e.moment; lanes = lanes' })
+  remembers_frame port stamp octets e lanes' may e_is are =
+      let r = row e octets in
+      let act_is : e.act ≡ acts.Frame port stamp (held (reverse k.rows)) (length octets) = ap (λ (x : Entry). x.act) e_is in
+      let room = room_for was may.0.room in
+      let change : Lane Queued → Lane Queued = with_frame (queued.Frame (length k.rows)) e.outs in
+      remembers_next was (events.Frame port stamp octets) (row e octets) e.moment k.ended lanes' may (ap (λ (x : Entry). row x octets) e_is) refl (record {
+        passes = λ pass below. ap (λ (a : Act). (is_end a && (e.by == pass)) || get_or k.ended pass false) (sym act_is);
         marks = refl;
-        queues = after;
-        holds = λ k within w holds. holds_frame plan rows (row e octets) (number_at plan k) w holds was.off port stamp (held (reverse rows)) (length octets) act_is may.1 (frame_cut port stamp octets e e_is k within);
+        frames =
+            subst (λ (lanes : List (Lane Queued)). All (HoldsFrames (k.rows ++ row e octets ∷ [])) lanes) (sym are)
+            (All-map (HoldsFrames (k.rows ++ row e octets ∷ [])) (with_frame (queued.Frame (length k.rows)) e.outs) k.lanes
+            (All-weaker (HoldsFrames k.rows) (λ (lane : Lane Queued). HoldsFrames (k.rows ++ row e octets ∷ []) (with_frame (queued.Frame (length k.rows)) e.outs lane)) (λ lane frames. frames_framed k.rows (row e octets) e.outs lane frames may.1) k.lanes was.frames));
+        queues =
+            ap (map (shown_lane (k.rows ++ row e octets ∷ []))) are
+            ∙ across (HoldsFrames k.rows) (shown_lane k.rows) (shown_lane (k.rows ++ row e octets ∷ [])) (with_frame (queued.Frame (length k.rows)) e.outs) (with_frame (item_of (row e octets)) e.outs)
+            (λ lane frames. shown_framed k.rows (row e octets) e.outs lane frames) k.lanes was.frames
+            ∙ ap (map (with_frame (item_of (row e octets)) e.outs)) was.queues
+            ∙ map_twice (lane_of k.plan (reverse k.rows)) (with_frame (item_of (row e octets)) e.outs) (lane_of k.plan (row e octets ∷ reverse k.rows))
+            (λ q. lane_framed k.plan (reverse k.rows) (row e octets) q was.off port stamp (held (reverse k.rows)) (length octets) act_is) (numbers_of k.plan.ports);
         octets = omega (arith, room.1, may.1);
         room = λ near. absurd (omega (arith, near, room.0));
       })
 
-  drained_fewer : (r : Row) (port : Port) (count : ℕ) → r.entry.act ≡ acts.Drain port count → (number : ℕ) → length (queue plan empty number (r ∷ reverse rows)) ≤ length (queue plan empty number (reverse rows))
+  -- one lane has changed to that of the new row, and the others are as they were
+  one_lane : (r : Row) (number p : ℕ) (v : Lane Queued) → has_port k.plan number ≡ true → p ≡ place_of k.plan number
+      → shown_lane (k.rows ++ r ∷ []) v ≡ lane_of k.plan (r ∷ reverse k.rows) number
+      → ((q : ℕ) → has_port k.plan q ≡ true → q ≢ number → lane_of k.plan (reverse k.rows) q ≡ lane_of k.plan (r ∷ reverse k.rows) q)
+      → map (shown_lane (k.rows ++ r ∷ [])) (set k.lanes p v) ≡ map (lane_of k.plan (r ∷ reverse k.rows)) (numbers_of k.plan.ports)
+  one_lane r number p v known place_is here others =
+      let numbers = numbers_of k.plan.ports in
+      let place = placed k.plan number known in
+      let within : p < length (numbers_of k.plan.ports) = omega (arith, place_is, place.within) in
+      let at : get_or (numbers_of k.plan.ports) p 0 ≡ number = ap (λ n. get_or (numbers_of k.plan.ports) n 0) place_is ∙ place.number_is in
+      map-set (shown_lane (k.rows ++ r ∷ [])) k.lanes p v
+      ∙ ap (λ (lanes : List (Lane Item)). set lanes p (shown_lane (k.rows ++ r ∷ []) v))
+      (same_at (HoldsFrames k.rows) (shown_lane k.rows) (shown_lane (k.rows ++ r ∷ [])) (λ lane frames. shown_more k.rows r lane frames) k.lanes was.frames ∙ was.queues)
+      ∙ ap (λ (lane : Lane Item). set (map (lane_of k.plan (reverse k.rows)) (numbers_of k.plan.ports)) p lane) (here ∙ ap (lane_of k.plan (r ∷ reverse k.rows)) (sym at))
+      ∙ one_changed (lane_of k.plan (reverse k.rows)) (lane_of k.plan (r ∷ reverse k.rows)) (numbers_of k.plan.ports) p within
+      (λ n inside other. others (get_or (numbers_of k.plan.ports) n 0) (known_at k.plan n (omega (arith, inside, length-numbers k.plan.ports))) (λ same. apart (numbers_of k.plan.ports) n p was.valid.ports inside within other (same ∙ sym at)))
+
+  frames_set : (r : Row) (p : ℕ) (v : Lane Queued) → HoldsFrames (k.rows ++ r ∷ []) v → All (HoldsFrames (k.rows ++ r ∷ [])) (set k.lanes p v)
+  frames_set r p v frames =
+      All-set (HoldsFrames (k.rows ++ r ∷ [])) k.lanes p v frames
+      (All-weaker (HoldsFrames k.rows) (HoldsFrames (k.rows ++ r ∷ [])) (λ lane held_there. frames_still k.rows r lane held_there) k.lanes was.frames)
+
+  pub lane_in : (number p : ℕ) → has_port k.plan number ≡ true → p ≡ place_of k.plan number → p < length k.lanes
+  lane_in number p known place_is = omega (arith, place_is, place_within k.plan number known, lane_count was)
+
+  pub frames_in : (number p : ℕ) (d : Lane Queued) → has_port k.plan number ≡ true → p ≡ place_of k.plan number → HoldsFrames k.rows (get_or k.lanes p d)
+  frames_in number p d known place_is = was.frames p d (lane_in number p known place_is)
+
+  drained_fewer : (r : Row) (port : Port) (count : ℕ) → r.entry.act ≡ acts.Drain port count → (number : ℕ) → length (queue k.plan empty number (r ∷ reverse k.rows)) ≤ length (queue k.plan empty number (reverse k.rows))
   drained_fewer r port count act_is number =
-      let waited = queue plan empty number (reverse rows) in
-      let step : queue plan empty number (r ∷ reverse rows) ≡ cond (number_of port == number) (drop count waited) waited = ap (λ (a : Act). waiting_after plan empty (reverse rows) number r a waited) act_is in
+      let waited = queue k.plan empty number (reverse k.rows) in
+      let step : queue k.plan empty number (r ∷ reverse k.rows) ≡ cond (number_of port == number) (drop count waited) waited = ap (λ (a : Act). waiting_after k.plan empty (reverse k.rows) number r a waited) act_is in
       elim (cases_Bool (number_of port == number)) [
         | inl here ↦ omega (arith, ap length (step ∙ cond-true _ _ _ here), length-drop count waited)
         | inr elsewhere ↦ omega (arith, ap length (step ∙ cond-false _ _ _ elsewhere))
       ]
 
-  pub drain_less : (r : Row) (port : Port) (count : ℕ) → r.entry.act ≡ acts.Drain port count → has_port plan (number_of port) ≡ true → 1 ≤ count → count ≤ length (queue plan empty (number_of port) (reverse rows)) → still_to_come plan (r ∷ reverse rows) + 1 ≤ still_to_come plan (reverse rows)
+  pub drain_less : (r : Row) (port : Port) (count : ℕ) → r.entry.act ≡ acts.Drain port count → has_port k.plan (number_of port) ≡ true → 1 ≤ count → count ≤ length (queue k.plan empty (number_of port) (reverse k.rows)) → still_to_come k.plan (r ∷ reverse k.rows) + 1 ≤ still_to_come k.plan (reverse k.rows)
   drain_less r port count act_is known least most =
-      let place = placed plan (number_of port) known in
+      let place = placed k.plan (number_of port) known in
       let number = number_of port in
-      let waited = queue plan empty number (reverse rows) in
-      let step : queue plan empty number (r ∷ reverse rows) ≡ drop count waited = ap (λ (a : Act). waiting_after plan empty (reverse rows) number r a waited) act_is ∙ cond-true _ _ _ (eq-eqb number number refl) in
-      let fewer : length (queue plan empty number (r ∷ reverse rows)) < length waited = omega (arith, ap length step, length-drop count waited, least, most) in
-      let at_place : length (queue plan empty (get_or (numbers_of plan.ports) (place_of plan number) 0) (r ∷ reverse rows)) < length (queue plan empty (get_or (numbers_of plan.ports) (place_of plan number) 0) (reverse rows)) =
-      subst (λ n. length (queue plan empty n (r ∷ reverse rows)) < length (queue plan empty n (reverse rows))) (sym place.number_is) fewer in
-      let opened : open_below (r ∷ reverse rows) (pass_count plan) ≤ open_below (reverse rows) (pass_count plan) =
-      open_below-later (reverse rows) (r ∷ reverse rows) (λ pass before. or_right _ _ before) (pass_count plan) in
-      omega (arith, opened, waiting_at-taken plan (reverse rows) (r ∷ reverse rows) (drained_fewer r port count act_is) (numbers_of plan.ports) (place_of plan number) place.within at_place)
+      let waited = queue k.plan empty number (reverse k.rows) in
+      let step : queue k.plan empty number (r ∷ reverse k.rows) ≡ drop count waited = ap (λ (a : Act). waiting_after k.plan empty (reverse k.rows) number r a waited) act_is ∙ cond-true _ _ _ (eq-eqb number number refl) in
+      let fewer : length (queue k.plan empty number (r ∷ reverse k.rows)) < length waited = omega (arith, ap length step, length-drop count waited, least, most) in
+      let at_place : length (queue k.plan empty (get_or (numbers_of k.plan.ports) (place_of k.plan number) 0) (r ∷ reverse k.rows)) < length (queue k.plan empty (get_or (numbers_of k.plan.ports) (place_of k.plan number) 0) (reverse k.rows)) =
+      subst (λ n. length (queue k.plan empty n (r ∷ reverse k.rows)) < length (queue k.plan empty n (reverse k.rows))) (sym place.number_is) fewer in
+      let opened : open_below (r ∷ reverse k.rows) (pass_count k.plan) ≤ open_below (reverse k.rows) (pass_count k.plan) =
+      open_below-later (reverse k.rows) (r ∷ reverse k.rows) (λ pass before. or_right _ _ before) (pass_count k.plan) in
+      omega (arith, opened, waiting_at-taken k.plan (reverse k.rows) (r ∷ reverse k.rows) (drained_fewer r port count act_is) (numbers_of k.plan.ports) (place_of k.plan number) place.within at_place)
 
-  pub remembers_drain : (port : Port) (count : ℕ) (e : Entry) (waiting' : List Waiting) → MayCome plan empty (reverse rows) (events.Drain port count) → e ≡ (row_of plan empty (reverse rows) (events.Drain port count)).entry → AreAfter (after_drain (number_of port) count) (numbers_of plan.ports) waiting waiting' → Remembers plan (rows ++ row e [] ∷ []) e.moment ended waiting'
-  remembers_drain port count e waiting' may e_is after =
+  pub remembers_drain : (port : Port) (count p : ℕ) (d : Lane Queued) (e : Entry) (lanes' : List (Lane Queued)) → MayCome k.plan empty (reverse k.rows) (events.Drain port count) → e ≡ (row_of k.plan empty (reverse k.rows) (events.Drain port count)).entry → p ≡ place_of k.plan (number_of port)
+      → lanes' ≡ set k.lanes p (with_drained count (get_or k.lanes p d)) → Remembers (record k { rows = k.rows ++ row e [] ∷ []; moment = e.moment; lanes = lanes' })
+  remembers_drain port count p d e lanes' may e_is place_is are =
+      let number = number_of port in
+      let lane = get_or k.lanes p d in
       let act_is : e.act ≡ acts.Drain port count = ap (λ (x : Entry). x.act) e_is in
-      remembers_next plan rows moment ended waiting was (events.Drain port count) (row e []) e.moment ended waiting' may (ap (λ (x : Entry). row x []) e_is) refl (record {
-        change = after_drain (number_of port) count;
-        passes = λ pass below. ap (λ (a : Act). (is_end a && (e.by == pass)) || get_or ended pass false) (sym act_is);
+      let frames = frames_in (number_of port) p d may.0.known place_is in
+      remembers_next was (events.Drain port count) (row e []) e.moment k.ended lanes' may (ap (λ (x : Entry). row x []) e_is) refl (record {
+        passes = λ pass below. ap (λ (a : Act). (is_end a && (e.by == pass)) || get_or k.ended pass false) (sym act_is);
         marks = refl;
-        queues = after;
-        holds = λ k within w holds. holds_drain plan rows (row e []) (number_at plan k) w holds port count act_is;
+        frames = subst (λ (lanes : List (Lane Queued)). All (HoldsFrames (k.rows ++ row e [] ∷ [])) lanes) (sym are) (frames_set (row e []) p (with_drained count (get_or k.lanes p d)) (frames_drained k.rows (row e []) count (get_or k.lanes p d) frames));
+        queues =
+            ap (map (shown_lane (k.rows ++ row e [] ∷ []))) are
+            ∙ one_lane (row e []) (number_of port) p (with_drained count (get_or k.lanes p d)) may.0.known place_is
+            (shown_drained k.rows (row e []) count (get_or k.lanes p d) frames
+            ∙ ap (with_drained count) (lane_at was (number_of port) p d may.0.known place_is)
+            ∙ lane_drained k.plan (reverse k.rows) (row e []) port count act_is)
+            (λ q known other. lane_elsewhere k.plan (reverse k.rows) (row e []) q port count act_is (λ same. other (sym same)));
         octets = omega (arith, was.octets);
-        room = room_less plan rows moment ended waiting was (row e []) (drain_less (row e []) port count act_is may.0.known may.1 may.2);
+        room = room_less was (row e []) (drain_less (row e []) port count act_is may.0.known may.1 may.2);
       })
 
-  pub end_less : (r : Row) (who : Who) (how : How) → r.entry.act ≡ acts.End who how → r.entry.by ≡ pass_of plan who → pass_of plan who < pass_count plan → has_ended empty (pass_of plan who) (reverse rows) ≡ false → still_to_come plan (r ∷ reverse rows) + 1 ≤ still_to_come plan (reverse rows)
+  pub end_less : (r : Row) (who : Who) (how : How) → r.entry.act ≡ acts.End who how → r.entry.by ≡ pass_of k.plan who → pass_of k.plan who < pass_count k.plan → has_ended empty (pass_of k.plan who) (reverse k.rows) ≡ false → still_to_come k.plan (r ∷ reverse k.rows) + 1 ≤ still_to_come k.plan (reverse k.rows)
   end_less r who how act_is by_is within runs =
-      let pass = pass_of plan who in
-      let now_ended : has_ended empty pass (r ∷ reverse rows) ≡ true =
+      let pass = pass_of k.plan who in
+      let now_ended : has_ended empty pass (r ∷ reverse k.rows) ≡ true =
       or_left _ _ (ap (λ (a : Act). is_end a && (r.entry.by == pass)) act_is ∙ eq-eqb r.entry.by pass by_is) in
-      let fewer : (number : ℕ) → length (queue plan empty number (r ∷ reverse rows)) ≤ length (queue plan empty number (reverse rows)) =
-      λ number. omega (arith, ap length (ap (λ (a : Act). waiting_after plan empty (reverse rows) number r a (queue plan empty number (reverse rows))) act_is), ended_fewer plan empty (reverse rows) number r who how (queue plan empty number (reverse rows))) in
+      let fewer : (number : ℕ) → length (queue k.plan empty number (r ∷ reverse k.rows)) ≤ length (queue k.plan empty number (reverse k.rows)) =
+      λ number. omega (arith, ap length (ap (λ (a : Act). waiting_after k.plan empty (reverse k.rows) number r a (queue k.plan empty number (reverse k.rows))) act_is), ended_fewer k.plan empty (reverse k.rows) number r who how (queue k.plan empty number (reverse k.rows))) in
       omega (
         arith,
-        waiting_at-later plan (reverse rows) (r ∷ reverse rows) fewer (numbers_of plan.ports),
-        open_below-ended (reverse rows) (r ∷ reverse rows) (λ q before. or_right _ _ before) pass (pass_count plan) within runs now_ended,
+        waiting_at-later k.plan (reverse k.rows) (r ∷ reverse k.rows) fewer (numbers_of k.plan.ports),
+        open_below-ended (reverse k.rows) (r ∷ reverse k.rows) (λ q before. or_right _ _ before) pass (pass_count k.plan) within runs now_ended,
       )
 
   -- the end of a pass that is open fits
-  pub end_fits : (who : Who) → IsOpen plan empty (reverse rows) who → length rows < plan.entries
+  pub end_fits : (who : Who) → IsOpen k.plan empty (reverse k.rows) who → length k.rows < k.plan.entries
   end_fits who open_pass =
-      fits plan rows moment ended waiting was
-      (omega (arith, open_below-some (reverse rows) (pass_of plan who) (pass_count plan) (pass_within plan who open_pass.known) open_pass.running))
+      fits was
+      (omega (arith, open_below-some (reverse k.rows) (pass_of k.plan who) (pass_count k.plan) (pass_within k.plan who open_pass.known) open_pass.running))
 
   -- a drain of something fits
-  pub drain_fits : (number : ℕ) → has_port plan number ≡ true → 0 < length (queue plan empty number (reverse rows)) → length rows < plan.entries
+  pub drain_fits : (number : ℕ) → has_port k.plan number ≡ true → 0 < length (queue k.plan empty number (reverse k.rows)) → length k.rows < k.plan.entries
   drain_fits number known some =
-      let place = placed plan number known in
-      let there : 0 < length (queue plan empty (get_or (numbers_of plan.ports) (place_of plan number) 0) (reverse rows)) =
-      subst (λ n. 0 < length (queue plan empty n (reverse rows))) (sym place.number_is) some in
-      fits plan rows moment ended waiting was (omega (arith, waiting_at-some plan (reverse rows) (numbers_of plan.ports) (place_of plan number) place.within there))
+      let place = placed k.plan number known in
+      let there : 0 < length (queue k.plan empty (get_or (numbers_of k.plan.ports) (place_of k.plan number) 0) (reverse k.rows)) =
+      subst (λ n. 0 < length (queue k.plan empty n (reverse k.rows))) (sym place.number_is) some in
+      fits was (omega (arith, waiting_at-some k.plan (reverse k.rows) (numbers_of k.plan.ports) (place_of k.plan number) place.within there))
 
-  pub remembers_end : (who : Who) (how : How) (e : Entry) (ended' : List Bool) (waiting' : List Waiting) → MayCome plan empty (reverse rows) (events.End who how) → e ≡ (row_of plan empty (reverse rows) (events.End who how)).entry → ended' ≡ set ended e.by true → AreAfter (after_end who how) (numbers_of plan.ports) waiting waiting' → Remembers plan (rows ++ row e [] ∷ []) e.moment ended' waiting'
-  remembers_end who how e ended' waiting' may e_is ended_is after =
+  -- an end of a pass, and the lanes behind it
+  remembers_end : (who : Who) (how : How) (e : Entry) (ended' : List Bool) (lanes' : List (Lane Queued)) → MayCome k.plan empty (reverse k.rows) (events.End who how) → e ≡ (row_of k.plan empty (reverse k.rows) (events.End who how)).entry → ended' ≡ set k.ended e.by true
+      → All (HoldsFrames (k.rows ++ row e [] ∷ [])) lanes' → map (shown_lane (k.rows ++ row e [] ∷ [])) lanes' ≡ map (lane_of k.plan (row e [] ∷ reverse k.rows)) (numbers_of k.plan.ports)
+      → Remembers (record k { rows = k.rows ++ row e [] ∷ []; moment = e.moment; ended = ended'; lanes = lanes' })
+  remembers_end who how e ended' lanes' may e_is ended_is frames_now queues_now =
       let act_is : e.act ≡ acts.End who how = ap (λ (x : Entry). x.act) e_is in
-      let by_is : e.by ≡ pass_of plan who = ap (λ (x : Entry). x.by) e_is in
-      let within : pass_of plan who < pass_count plan = pass_within plan who may.0.known in
-      let in_ended : e.by < length ended = omega (arith, by_is, within, was.marks, was.valid.port_count.1) in
-      let mark : (pass : ℕ) → get_or ended' pass false ≡ ((is_end e.act && (e.by == pass)) || get_or ended pass false) =
+      let by_is : e.by ≡ pass_of k.plan who = ap (λ (x : Entry). x.by) e_is in
+      let within : pass_of k.plan who < pass_count k.plan = pass_within k.plan who may.0.known in
+      let in_ended : e.by < length k.ended = omega (arith, by_is, within, was.marks, was.valid.port_count.1) in
+      let mark : (pass : ℕ) → get_or ended' pass false ≡ ((is_end e.act && (e.by == pass)) || get_or k.ended pass false) =
       λ pass. elim (cases_eq e.by pass) [
         | inl here ↦
-            ap (λ l. get_or l pass false) ended_is ∙ ap (λ p. get_or (set ended e.by true) p false) (sym here) ∙ get_or-set_same ended e.by true false in_ended
-            ∙ sym (ap (λ (a : Act). (is_end a && (e.by == pass)) || get_or ended pass false) act_is ∙ or_left _ _ (eq-eqb e.by pass here))
+            ap (λ l. get_or l pass false) ended_is ∙ ap (λ p. get_or (set k.ended e.by true) p false) (sym here) ∙ get_or-set_same k.ended e.by true false in_ended
+            ∙ sym (ap (λ (a : Act). (is_end a && (e.by == pass)) || get_or k.ended pass false) act_is ∙ or_left _ _ (eq-eqb e.by pass here))
         | inr other ↦
-            ap (λ l. get_or l pass false) ended_is ∙ get_or-set_other ended e.by pass true false (λ same. other (sym same))
-            ∙ sym (ap (λ (a : Act). (is_end a && (e.by == pass)) || get_or ended pass false) act_is ∙ ap (λ b. b || get_or ended pass false) (ne_eqb e.by pass other))
+            ap (λ l. get_or l pass false) ended_is ∙ get_or-set_other k.ended e.by pass true false (λ same. other (sym same))
+            ∙ sym (ap (λ (a : Act). (is_end a && (e.by == pass)) || get_or k.ended pass false) act_is ∙ ap (λ b. b || get_or k.ended pass false) (ne_eqb e.by pass other))
       ] in
-      remembers_next plan rows moment ended waiting was (events.End who how) (row e []) e.moment ended' waiting' may (ap (λ (x : Entry). row x []) e_is) refl (record {
-        change = after_end who how;
+      remembers_next was (events.End who how) (row e []) e.moment ended' lanes' may (ap (λ (x : Entry). row x []) e_is) refl (record {
         passes = λ pass below. mark pass;
-        marks = ap length ended_is ∙ length-set ended e.by true;
-        queues = after;
-        holds = λ k in_ports w holds. holds_end plan rows (row e []) (number_at plan k) w holds who how act_is;
+        marks = ap length ended_is ∙ length-set k.ended e.by true;
+        frames = frames_now;
+        queues = queues_now;
         octets = omega (arith, was.octets);
-        room = room_less plan rows moment ended waiting was (row e []) (end_less (row e []) who how act_is by_is within may.0.running);
+        room = room_less was (row e []) (end_less (row e []) who how act_is by_is within may.0.running);
       })
+
+  -- the end of an input or of the ticker leaves the lanes
+  remembers_input : (who : Who) (how : How) (e : Entry) (ended' : List Bool) → MayCome k.plan empty (reverse k.rows) (events.End who how) → e ≡ (row_of k.plan empty (reverse k.rows) (events.End who how)).entry → ended' ≡ set k.ended e.by true → IsNoEgress who
+      → Remembers (record k { rows = k.rows ++ row e [] ∷ []; moment = e.moment; ended = ended' })
+  remembers_input who how e ended' may e_is ended_is no_egress =
+      let act_is : e.act ≡ acts.End who how = ap (λ (x : Entry). x.act) e_is in
+      let by_is : e.by ≡ pass_of k.plan who = ap (λ (x : Entry). x.by) e_is in
+      remembers_end who how e ended' k.lanes may e_is ended_is
+      (All-weaker (HoldsFrames k.rows) (HoldsFrames (k.rows ++ row e [] ∷ [])) (λ lane frames. frames_still k.rows (row e []) lane frames) k.lanes was.frames)
+      (same_at (HoldsFrames k.rows) (shown_lane k.rows) (shown_lane (k.rows ++ row e [] ∷ [])) (λ lane frames. shown_more k.rows (row e []) lane frames) k.lanes was.frames
+      ∙ was.queues
+      ∙ map_all (lane_of k.plan (reverse k.rows)) (lane_of k.plan (row e [] ∷ reverse k.rows)) (numbers_of k.plan.ports)
+      (λ n within. lane_behind_input k.plan (reverse k.rows) (row e []) (get_or (numbers_of k.plan.ports) n 0) who how act_is by_is no_egress may.0.known))
+
+  -- the end of an egress ends its lane
+  remembers_egress : (port : Port) (how : How) (p : ℕ) (d : Lane Queued) (e : Entry) (ended' : List Bool) (lanes' : List (Lane Queued)) → MayCome k.plan empty (reverse k.rows) (events.End (Egress port) how) → e ≡ (row_of k.plan empty (reverse k.rows) (events.End (Egress port) how)).entry
+      → ended' ≡ set k.ended e.by true → p ≡ place_of k.plan (number_of port) → lanes' ≡ set k.lanes p (with_ended how (get_or k.lanes p d)) → Remembers (record k { rows = k.rows ++ row e [] ∷ []; moment = e.moment; ended = ended'; lanes = lanes' })
+  remembers_egress port how p d e ended' lanes' may e_is ended_is place_is are =
+      let act_is : e.act ≡ acts.End (Egress port) how = ap (λ (x : Entry). x.act) e_is in
+      let by_is : e.by ≡ egress_pass k.plan (number_of port) = ap (λ (x : Entry). x.by) e_is in
+      let frames = frames_in (number_of port) p d may.0.known place_is in
+      remembers_end (Egress port) how e ended' lanes' may e_is ended_is
+      (subst (λ (lanes : List (Lane Queued)). All (HoldsFrames (k.rows ++ row e [] ∷ [])) lanes) (sym are) (frames_set (row e []) p (with_ended how (get_or k.lanes p d)) (frames_ended k.rows (row e []) how (get_or k.lanes p d) frames)))
+      (ap (map (shown_lane (k.rows ++ row e [] ∷ []))) are
+      ∙ one_lane (row e []) (number_of port) p (with_ended how (get_or k.lanes p d)) may.0.known place_is
+      (shown_ended k.rows (row e []) how (get_or k.lanes p d) frames
+      ∙ ap (with_ended how) (lane_at was (number_of port) p d may.0.known place_is)
+      ∙ lane_ended k.plan (reverse k.rows) (row e []) port how act_is by_is)
+      (λ q known other. lane_apart k.plan (reverse k.rows) (row e []) q port how act_is by_is may.0.known known (λ same. other (sym same))))
+
+  -- the end of a pass ends the lane of a port whose egress it is
+  pub remembers_pass : (who : Who) (how : How) (e : Entry) (ended' : List Bool) (lanes' : List (Lane Queued)) → MayCome k.plan empty (reverse k.rows) (events.End who how) → e ≡ (row_of k.plan empty (reverse k.rows) (events.End who how)).entry
+      → ended' ≡ set k.ended e.by true → AreEnded k.plan who how k.lanes lanes' → Remembers (record k { rows = k.rows ++ row e [] ∷ []; moment = e.moment; ended = ended'; lanes = lanes' })
+  remembers_pass (Ingress port) how e ended' lanes' may e_is ended_is are = rw are (remembers_input (Ingress port) how e ended' may e_is ended_is tt)
+  remembers_pass Control how e ended' lanes' may e_is ended_is are = rw are (remembers_input Control how e ended' may e_is ended_is tt)
+  remembers_pass Ticker how e ended' lanes' may e_is ended_is are = rw are (remembers_input Ticker how e ended' may e_is ended_is tt)
+  remembers_pass (Egress port) how e ended' lanes' may e_is ended_is are = remembers_egress port how (place_of k.plan (number_of port)) no_lane e ended' lanes' may e_is ended_is refl are

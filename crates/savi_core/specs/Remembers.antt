@@ -1,35 +1,35 @@
--- What a core keeps beside its plan and its rows, which are given with the oldest first.
+-- What a core keeps, and how it stands with its history.
 use Rattle.std.specs.Prelude.{◌≡◌, ℕ, ◌+◌, ◌<◌, ◌≤◌, Bool, false, List, length, map, reverse, slice_index_or, All}
 use Rattle.savi_kinds.specs.declared.plan.Plan.{Plan}
-use Rattle.savi_kinds.specs.ValidPlan.{IsValidPlan}
-use Rattle.egress_ring.specs.Waiting.{Waiting}
+use Rattle.savi_kinds.specs.ValidPlan.{IsValidPlan, numbers_of}
+use Rattle.egress_ring.specs.declared.item.Item.{Item as Queued}
 use Rattle.hist_store.specs.Rows.{Row, held}
 use Rattle.savi_history.specs.Bases.{empty}
 use Rattle.savi_history.specs.Moments.{last_moment}
 use Rattle.savi_history.specs.Passes.{has_ended, pass_count}
-use Rattle.savi_history.specs.Queues.{queue}
 use Rattle.savi_history.specs.Legal.{IsLegal}
-use Rattle.savi_core.specs.Machines.{number_at}
-use Rattle.savi_core.specs.Waits.{IsFrameOf, shown}
+use Rattle.savi_core.specs.Lanes.{Lane, lane_of}
+use Rattle.savi_core.specs.Waits.{HoldsFrames, shown_lane}
 use Rattle.savi_core.specs.Counts.{still_to_come}
 
--- the numbers of entries that wait are those of the queue's frames
-pub record HoldsQueue (plan : Plan) (rows : List Row) (number : ℕ) (waiting : Waiting) : Type 0 where
-  pub frames : All (IsFrameOf rows) waiting.items
-  pub items : map (shown rows) waiting.items ≡ queue plan empty number (reverse rows)
-  pub depth_is : waiting.depth ≡ plan.depth
-  pub within : length waiting.items ≤ plan.depth
+-- the plan, the rows with the oldest first, the moment of the last one, which passes have ended, and the queues
+pub record Kept : Type 0 where
+  pub plan : Plan
+  pub rows : List Row
+  pub moment : ℕ
+  pub ended : List Bool
+  pub lanes : List (Lane Queued)
 
-pub record Remembers (plan : Plan) (rows : List Row) (moment : ℕ) (ended : List Bool) (waiting : List Waiting) : Type 0 where
-  pub valid : IsValidPlan plan
+pub record Remembers (k : Kept) : Type 0 where
+  pub valid : IsValidPlan k.plan
   -- no source is validated yet
-  pub off : plan.savi ≡ false
-  pub legal : IsLegal plan empty (reverse rows)
-  pub last : moment ≡ last_moment empty (reverse rows)
-  pub passes : (pass : ℕ) → pass < pass_count plan → slice_index_or ended pass false ≡ has_ended empty pass (reverse rows)
-  pub marks : length ended ≡ 34
-  pub queue_count : length waiting ≡ length plan.ports
-  pub queues : (k : ℕ) (d : Waiting) → k < length plan.ports → HoldsQueue plan rows (number_at plan k) (slice_index_or waiting k d)
-  pub octets : held rows ≤ plan.bytes
+  pub off : k.plan.savi ≡ false
+  pub legal : IsLegal k.plan empty (reverse k.rows)
+  pub last : k.moment ≡ last_moment empty (reverse k.rows)
+  pub passes : (pass : ℕ) → pass < pass_count k.plan → slice_index_or k.ended pass false ≡ has_ended empty pass (reverse k.rows)
+  pub marks : length k.ended ≡ 34
+  pub frames : All (HoldsFrames k.rows) k.lanes
+  pub queues : map (shown_lane k.rows) k.lanes ≡ map (lane_of k.plan (reverse k.rows)) (numbers_of k.plan.ports)
+  pub octets : held k.rows ≤ k.plan.bytes
   -- a drain or an end always fits
-  pub room : plan.entries < length rows + 4130 → length rows + still_to_come plan (reverse rows) ≤ plan.entries
+  pub room : k.plan.entries < length k.rows + 4130 → length k.rows + still_to_come k.plan (reverse k.rows) ≤ k.plan.entries

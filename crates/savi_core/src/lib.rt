@@ -13,6 +13,7 @@ mod event;
 mod machine;
 mod outs;
 mod passes;
+mod port_queue;
 mod queues;
 
 pub use batch::Batch;

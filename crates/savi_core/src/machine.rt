@@ -5,7 +5,8 @@ ghost use Rattle.savi_kinds.specs.Ports.{number_of};
 ghost use Rattle.savi_kinds.specs.PortSets.{is_member};
 ghost use Rattle.savi_kinds.specs.ValidPlan.{IsValidPlan, IsWithin};
 ghost use Rattle.savi_history.specs.Bases.{empty};
-ghost use Rattle.savi_history.specs.Passes.{has_port, has_pass, pass_of, control_pass, has_ended};
+ghost use Rattle.savi_history.specs.Judged.{verdict_by};
+ghost use Rattle.savi_history.specs.Passes.{role_of, has_port, has_pass, pass_of, control_pass, has_ended};
 ghost use Rattle.savi_history.specs.Limits.{has_room};
 ghost use Rattle.savi_history.specs.Outs.{outs};
 ghost use Rattle.savi_history.specs.Events.{the_vlan};
@@ -13,8 +14,9 @@ ghost use Rattle.savi_history.specs.Events as events;
 ghost use Rattle.savi_history.specs.Legal.{IsLegal};
 ghost use Rattle.savi_core.specs.Machines.{HasShortQueues, started, row_at, queue_at, number_at};
 ghost use Rattle.savi_core.specs.Counts.{open_below};
-ghost use Rattle.savi_core.specs.Waits.{takes_none, full_among};
 ghost use Rattle.frame_class.specs.Reading.{IsClassOf};
+ghost use Rattle.frame_class.specs.ClassOf.{class_of};
+ghost use Rattle.ra_guard.specs.GuardOf.{guard_of};
 ghost use Rattle.savi_core.specs.Steps.{event_of, IsClassed, MayStep, Did, Drained, entry_of};
 
 use crate::batch::Batch;
@@ -22,8 +24,7 @@ use crate::entries::{moment_at, plain_entry, verdict_by};
 use crate::event::{Event, Stepped};
 use crate::outs::ports_of;
 use crate::passes::{pass_of, place_of, role_of};
-use crate::queues::{end_queue, make_queues, move_frames, queue_frame};
-use egress_ring::EgressRing;
+use crate::queues::Queues;
 use frame_class::Class;
 use hist_store::Hist;
 use ra_guard::guard;
@@ -45,7 +46,7 @@ pub struct Core {
     hist: Hist,
     moment: Moment,
     closed: [bool; PASSES_MOST],
-    queues: Vec<EgressRing>,
+    queues: Queues,
 }
 
 impl Model for Core {
@@ -57,7 +58,7 @@ impl Model for Core {
 
     ghost view = { λ c. record { plan = c.plan; past = reverse c.hist.rows } };
 
-    ghost invariant = { λ c. Remembers c.plan c.hist.rows c.moment c.closed c.queues.items
+    ghost invariant = { λ c. Remembers (record { plan = c.plan; rows = c.hist.rows; moment = c.moment; ended = c.closed; lanes = c.queues })
         × (c.hist.entry_room ≡ c.plan.entries)
         × (c.hist.byte_room ≡ c.plan.bytes) };
 }
@@ -70,7 +71,7 @@ impl Core {
         ensures { IfOk result (λ core. core ≡ started plan) }
     {
         let hist = Hist::make(alloc, plan.entries, plan.bytes)?;
-        let queues = make_queues(alloc, plan.ports.as_slice().len(), plan.depth)?;
+        let queues = Queues::make(alloc, plan.ports.as_slice(), plan.depth)?;
         Ok(Core {
             plan,
             hist,
@@ -110,12 +111,12 @@ impl Core {
     {
         into.clear();
         let place = place_of(&self.plan, port);
-        let count = most.min(self.queues[place].len());
+        let count = most.min(self.queues.len(place));
         if count == 0 {
             return Stepped::Nothing;
         }
         let entry = self.drain_entry(port, count);
-        move_frames(&mut self.queues[place], &self.hist, count, into);
+        self.queues.drain(place, &self.hist, count, into);
         self.moment = entry.moment;
         self.hist.append(entry, &[]);
         Stepped::Done(entry)
@@ -170,7 +171,7 @@ impl Core {
         requires { has_port self.now.plan (number_of port) ≡ true }
         ensures { result ≡ length (queue_at self.now port) }
     {
-        self.queues[place_of(&self.plan, port)].len()
+        self.queues.len(place_of(&self.plan, port))
     }
 
     /// Whether a pass of the plan has ended. O(ports), at most 16.
@@ -213,31 +214,12 @@ impl Core {
                 len: self.hist.len(),
             };
         }
-        let entry = self.frame_entry(port, stamp, octets, class);
-        let n = self.hist.len();
-        queue_frame(
-            &mut self.queues,
-            self.plan.ports.as_slice(),
-            entry.outs,
-            entry.cuts,
-            n,
-        );
-        self.moment = entry.moment;
-        self.hist.append(entry, octets);
-        Stepped::Done(entry)
-    }
-
-    // The entry of a frame.
-    fn frame_entry(&self, port: Port, stamp: u64, octets: &[u8], class: &Class) -> Entry
-        requires may { MayStep self.now (events.Frame port stamp octets.now) }
-        requires class { IsClassOf octets.now class.now }
-        ensures { result ≡ entry_of self.now (events.Frame port stamp octets.now) }
-    {
-        let role = role_of(&self.plan, port);
-        let verdict = verdict_by(guard(role, self.plan.drop_unknown, class));
+        let by = pass_of(&self.plan, Who::Ingress(port));
+        let verdict = self.judge(port, class);
         let outs = self.outs(port, verdict);
-        Entry {
-            by: pass_of(&self.plan, Who::Ingress(port)),
+        let cuts = self.queues.offer_frame(outs, self.hist.len());
+        let entry = Entry {
+            by,
             moment: moment_at(self.moment, stamp),
             act: Act::Frame {
                 port,
@@ -247,10 +229,21 @@ impl Core {
             },
             verdict: Some(verdict),
             outs,
-            cuts: self.cuts(outs),
+            cuts,
             probes: 0,
             lost: 0,
-        }
+        };
+        self.moment = entry.moment;
+        self.hist.append(entry, octets);
+        Stepped::Done(entry)
+    }
+
+    // The verdict on a frame of this class at a port.
+    fn judge(&self, port: Port, class: &Class) -> Verdict
+        ensures { (octets : List ℕ) → IsClassOf octets class.now → result ≡ verdict_by (guard_of (role_of self.now.plan (number_of port)) self.now.plan.drop_unknown (class_of octets)) }
+    {
+        let role = role_of(&self.plan, port);
+        verdict_by(guard(role, self.plan.drop_unknown, class))
     }
 
     // The entry of a drain.
@@ -296,7 +289,7 @@ impl Core {
     {
         let entry = self.end_entry(who, how);
         self.closed[entry.by as usize] = true;
-        end_queue(&mut self.queues, &self.plan, who, how);
+        self.queues.end(&self.plan, who, how);
         self.moment = entry.moment;
         self.hist.append(entry, &[]);
         Stepped::Done(entry)
@@ -318,37 +311,5 @@ impl Core {
             Verdict::Pass(scope) => ports_of(&self.plan, scope, port),
             Verdict::Drop(_) => PortSet::empty(),
         }
-    }
-
-    // Those of these ports whose queue takes nothing.
-    fn cuts(&self, outs: PortSet) -> PortSet
-        ensures { result ≡ full_among self.now.plan self.now.past outs }
-    {
-        let mut cuts = PortSet::empty();
-        for (place, port) in self.plan.ports.as_slice().iter().enumerate() {
-            if self.is_cut(outs, place, port.number) {
-                cuts = cuts.with(port.number);
-            }
-        }
-        cuts
-    }
-
-    // Whether a frame to these ports is left out at the port at this place.
-    fn is_cut(&self, outs: PortSet, place: usize, port: Port) -> bool
-        requires within { place < length self.now.plan.ports }
-        requires port { number_at self.now.plan place ≡ number_of port }
-        ensures { let n = number_of port in
-            result ≡ (is_member outs n && takes_none self.now.plan self.now.past n) }
-    {
-        outs.contains(port) && self.is_closed(place)
-    }
-
-    // Whether the port at this place takes nothing: its queue is full, or its egress has ended.
-    fn is_closed(&self, place: usize) -> bool
-        requires { place < length self.now.plan.ports }
-        ensures { result ≡ takes_none self.now.plan self.now.past (number_at self.now.plan place) }
-    {
-        self.queues[place].len() >= self.plan.depth
-            || self.closed[self.plan.ports.as_slice().len() + 2 + place]
     }
 }

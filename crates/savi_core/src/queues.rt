@@ -1,76 +1,95 @@
 //! The queues of all ports, in the order of the plan.
 
-ghost use Rattle.std.specs.Prelude.{◌≡◌, ◌≤◌, true, [], length, map, take, drop, All, IfOk, vec_len};
-ghost use Rattle.savi_kinds.specs.ValidPlan.{IsValidPlan, numbers_of};
+ghost use Rattle.std.specs.Prelude.{◌≡◌, ◌<◌, ◌≤◌, true, [], length, map, take, IfOk, slice_index_or, slice_set};
+ghost use Rattle.egress_ring.specs.declared.item.Item.TheVariants as entries;
+ghost use Rattle.savi_core.specs.Lanes.{cut_at, empty_lane, with_frame, with_drained, no_lane, AreEnded};
 ghost use Rattle.savi_history.specs.Passes.{has_pass};
-ghost use Rattle.egress_ring.specs.Waiting.{nothing};
-ghost use Rattle.savi_core.specs.Waits.{AreAfter, HaveRoom, IsFrameOf, shown, after_frame, after_end};
+ghost use Rattle.savi_core.specs.Waits.{HoldsFrames, shown};
 
 use crate::batch::Batch;
 use crate::passes::place_of;
-use egress_ring::{EgressRing, Item};
+use crate::port_queue::PortQueue;
+use egress_ring::Item;
 use hist_store::Hist;
 use savi_kinds::{How, Plan, PortPlan, PortSet, Who};
 use std::alloc::{AllocError, Global};
+use std::marker::Model;
 
-/// So many empty queues, each for `depth` items.
-pub fn make_queues(alloc: Global, count: usize, depth: u32) -> Result<Vec<EgressRing>, AllocError>
-    ensures count { IfOk result (λ queues. vec_len queues ≡ count) }
-    ensures empty { IfOk result (λ queues. All (λ waiting. waiting ≡ nothing depth) queues.items) }
-{
-    let mut queues = Vec::with_capacity(alloc, count)?;
-    while queues.len() < count {
-        queues.push(EgressRing::make(alloc, depth)?)?;
-    }
-    Ok(queues)
+/// The queue of each port of a plan, in its order. Contracts see the list of their lanes.
+#[derive(Drop)]
+pub struct Queues {
+    ports: Vec<PortQueue>,
 }
 
-/// Puts the frame of the entry with this number into the queue of each of these ports, but for those where it is cut.
-/// O(ports), at most 16.
-pub fn queue_frame(
-    queues: &mut Vec<EgressRing>,
-    ports: &[PortPlan],
-    outs: PortSet,
-    cuts: PortSet,
-    n: u64,
-)
-    requires count { vec_len queues.old ≡ length ports.now }
-    requires room { HaveRoom outs cuts (numbers_of ports.now) queues.old.items }
-    ensures { AreAfter (after_frame outs cuts n) (numbers_of ports.now) queues.old.items queues.new.items }
-{
-    for (i, port) in ports.iter().enumerate() {
-        if outs.contains(port.number) && !cuts.contains(port.number) {
-            let _queued = queues[i].queue(Item::Frame(n));
+impl Model for Queues {
+    ghost use Rattle.std.specs.Prelude.{List};
+    ghost use Rattle.egress_ring.specs.declared.item.Item.{Item as Queued};
+    ghost use Rattle.savi_core.specs.Lanes.{Lane};
+
+    ghost Value = { List (Lane Queued) };
+
+    ghost view = { λ q. q.ports.items };
+}
+
+impl Queues {
+    /// Empty queues for these ports, each for `depth` items. They take all their memory here.
+    pub fn make(alloc: Global, ports: &[PortPlan], depth: u32) -> Result<Queues, AllocError>
+        ensures { IfOk result (λ queues. queues ≡ map (empty_lane depth) ports.now) }
+    {
+        let mut queues = Vec::with_capacity(alloc, ports.len())?;
+        for port in ports {
+            queues.push(PortQueue::make(alloc, port, depth)?)?;
         }
+        Ok(Queues { ports: queues })
     }
-}
 
-/// Wipes the queue of an egress that failed. O(ports), at most 16.
-pub fn end_queue(queues: &mut Vec<EgressRing>, plan: &Plan, who: Who, how: How)
-    requires valid { IsValidPlan plan.now }
-    requires known { has_pass plan.now who ≡ true }
-    requires count { vec_len queues.old ≡ length plan.now.ports }
-    ensures { AreAfter (after_end who how) (numbers_of plan.now.ports) queues.old.items queues.new.items }
-{
-    if let (Who::Egress(port), How::Failed) = (who, how) {
-        queues[place_of(plan, port)].wipe();
+    /// How many items wait at the port at this place of the plan. O(1).
+    pub fn len(&self, place: usize) -> u32
+        requires { place < length self.now }
+        ensures { result ≡ length (slice_index_or self.now place no_lane).items }
+    {
+        self.ports[place].len()
     }
-}
 
-/// Moves so many frames from the front of a queue into an empty batch. O(count) beside the copies.
-pub fn move_frames(queue: &mut EgressRing, hist: &Hist, count: u32, into: &mut Batch)
-    requires frames { All (IsFrameOf hist.now.rows) queue.old.items }
-    requires count { count ≤ length queue.old.items }
-    requires most { count ≤ 256 }
-    requires empty { into.old ≡ [] }
-    ensures left { queue.new ≡ record queue.old { items = drop count queue.old.items } }
-    ensures taken { into.new ≡ take count (map (shown hist.now.rows) queue.old.items) }
-{
-    while into.len() < count {
-        match queue.take() {
-            Some(Item::Frame(n)) => into.put(hist.entry(n).moment, hist.octets(n)),
-            Some(Item::Probe { .. }) => unreachable!(),
-            None => unreachable!(),
+    /// Offers the frame of the entry with this number to each of these ports. The answer is the ports where there is no room
+    /// for it. O(ports), at most 16.
+    pub fn offer_frame(&mut self, outs: PortSet, n: u64) -> PortSet
+        ensures lanes { self.new ≡ map (with_frame (entries.Frame n) outs) self.old }
+        ensures cuts { result ≡ cut_at outs self.old }
+    {
+        let mut cuts = PortSet::empty();
+        for place in 0..self.ports.len() {
+            let port = self.ports[place].port();
+            if self.ports[place].offer_frame(outs, n) {
+                cuts = cuts.with(port);
+            }
+        }
+        cuts
+    }
+
+    /// Moves so many frames from the front of the queue at this place of the plan into an empty batch. O(count) beside the
+    /// copies of their octets.
+    pub fn drain(&mut self, place: usize, hist: &Hist, count: u32, into: &mut Batch)
+        requires place { place < length self.old }
+        requires frames { HoldsFrames hist.now.rows (slice_index_or self.old place no_lane) }
+        requires count { count ≤ length (slice_index_or self.old place no_lane).items }
+        requires most { count ≤ 256 }
+        requires empty { into.old ≡ [] }
+        ensures left { self.new ≡ slice_set self.old place (with_drained count (slice_index_or self.old place no_lane)) }
+        ensures taken { into.new ≡ take count (map (shown hist.now.rows) (slice_index_or self.old place no_lane).items) }
+    {
+        self.ports[place].drain(hist, count, into);
+    }
+
+    /// A pass of the plan has ended for this reason. Where it is an egress nothing joins at its port any more, and after a
+    /// failed write what waits there is given up. O(ports), at most 16, and O(n) in what is given up.
+    pub fn end(&mut self, plan: &Plan, who: Who, how: How)
+        requires known { has_pass plan.now who ≡ true }
+        requires count { length self.old ≡ length plan.now.ports }
+        ensures { AreEnded plan.now who how self.old self.new }
+    {
+        if let Who::Egress(port) = who {
+            self.ports[place_of(plan, port)].end(how);
         }
     }
 }

@@ -15,11 +15,11 @@ loop-other-preserved c =
     let within : i < length items = omega arith in
     elim c.if-is_target.branch [
       | then-is_target w ↦
-          ap (λ set. union set (chosen test (drop (i + 1) items))) (w.ports-is ∙ w.with-ports.ensures.value)
-          ∙ chosen_taken test items i c.other-item.result c.loop-other.ports (chosen test items) within c.other-item.is (sym c.is_target.ensures ∙ w.if-is_target.true) c.loop-other.invariant
+          ap (λ set. union set (chosen (λ (q : PortPlan). number_of q.number) test (drop (i + 1) items))) (w.ports-is ∙ w.with-ports.ensures.value)
+          ∙ chosen_taken (λ (q : PortPlan). number_of q.number) test items i c.other-item.result c.loop-other.ports (chosen (λ (q : PortPlan). number_of q.number) test items) within c.other-item.is (sym c.is_target.ensures ∙ w.if-is_target.true) c.loop-other.invariant
       | else-is_target w ↦
-          ap (λ set. union set (chosen test (drop (i + 1) items))) w.ports-is
-          ∙ chosen_left test items i c.other-item.result c.loop-other.ports (chosen test items) within c.other-item.is (sym c.is_target.ensures ∙ w.if-is_target.false) c.loop-other.invariant
+          ap (λ set. union set (chosen (λ (q : PortPlan). number_of q.number) test (drop (i + 1) items))) w.ports-is
+          ∙ chosen_left (λ (q : PortPlan). number_of q.number) test items i c.other-item.result c.loop-other.ports (chosen (λ (q : PortPlan). number_of q.number) test items) within c.other-item.is (sym c.is_target.ensures ∙ w.if-is_target.false) c.loop-other.invariant
     ]
 
 pub returns : goal.returns
@@ -27,6 +27,6 @@ returns c =
     let test : PortPlan → Bool = λ q. is_in_scope c.args.scope q && not (number_of q.number == number_of c.args.port) in
     let items = c.as_slice-other-items.result.now in
     sym (union-none c.loop-other.ports)
-    ∙ ap (union c.loop-other.ports) (sym (at_drop_all (chosen test) items c.loop-other.other-index (omega arith)))
+    ∙ ap (union c.loop-other.ports) (sym (at_drop_all (chosen (λ (q : PortPlan). number_of q.number) test) items c.loop-other.other-index (omega arith)))
     ∙ c.loop-other.invariant
-    ∙ ap (chosen test) c.as_slice-other-items.ensures
+    ∙ ap (chosen (λ (q : PortPlan). number_of q.number) test) c.as_slice-other-items.ensures

@@ -8,4 +8,4 @@ use Rattle.savi_core.proofs.outs.ports_of.Given as goal
 abbrev pub invariant-loop-other : goal.invariant-loop-other
 invariant-loop-other l =
     let test : PortPlan → Bool = λ q. is_in_scope l.scope q && not (number_of q.number == number_of l.port) in
-    union l.ports (chosen test (drop l.other-index l.other-items)) ≡ chosen test l.other-items
+    union l.ports (chosen (λ (q : PortPlan). number_of q.number) test (drop l.other-index l.other-items)) ≡ chosen (λ (q : PortPlan). number_of q.number) test l.other-items

@@ -9,7 +9,7 @@ pub bounds-self-inside-pass_of : goal.bounds-self-inside-pass_of
 bounds-self-inside-pass_of c =
     let inside = c.self.inside in
     let known : has_pass inside.plan c.args.who ≡ true = ap (λ (m : Machine). has_pass m.plan c.args.who) c.self.view_is ∙ c.requires in
-    omega (arith, c.pass_of.ensures, pass_small inside.plan inside.hist.rows inside.moment inside.closed inside.queues.items c.self.invariant.0 c.args.who known)
+    omega (arith, c.pass_of.ensures, pass_small c.self.invariant.0 c.args.who known)
 
 pub returns : goal.returns
 returns c =

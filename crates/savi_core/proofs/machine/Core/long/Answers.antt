@@ -15,7 +15,7 @@ invariant_of-self c =
     let may = subst (λ (m : Machine). MayCome m.plan empty m.past event) (sym c.self.view_is) (may_long c.args.self.now c.args.port c.args.stamp c.args.len c.requires (sym c.has_room.ensures ∙ c.if-not-has_room.false) c.ranges.stamp.fits c.ranges.len.fits) in
     let e_is = subst (λ (m : Machine). e ≡ entry_of m event) (sym c.self.view_is) c.long_entry-entry.ensures in
     rw c.append.ensures (
-      remembers_long inside.plan inside.hist.rows inside.moment inside.closed inside.queues.items c.self.invariant.0 c.args.port c.args.stamp c.args.len e may e_is,
+      remembers_long c.self.invariant.0 c.args.port c.args.stamp c.args.len e may e_is,
       c.self.invariant.1,
       c.self.invariant.2,
     )

@@ -1,4 +1,5 @@
-use Rattle.std.proofs.Common.{length, refl, ap, arith}
+use Rattle.std.proofs.Common.{refl, ap, ◌∙◌, map}
+use Rattle.savi_core.specs.Lanes.{empty_lane}
 use Rattle.savi_core.proofs.Remembering.{remembers_start}
 use Rattle.savi_core.proofs.machine.Core.make.Goals as goal
 
@@ -6,7 +7,7 @@ pub invariant_of-result : goal.invariant_of-result
 invariant_of-result c =
     let plan = c.args.plan in
     rw c.in_ok-hist.ensures (
-      remembers_start plan c.in_ok-queues.queues.items c.requires.valid c.requires.guard_only (omega (arith, c.in_ok-queues.queues.ok.0, c.in_ok-queues.ensures.count, ap length c.as_slice.ensures)) c.in_ok-queues.ensures.empty,
+      remembers_start plan c.in_ok-queues.queues c.requires.valid c.requires.guard_only (c.in_ok-queues.ensures ∙ ap (map (empty_lane plan.depth)) c.as_slice.ensures),
       refl,
       refl,
     )

@@ -7,7 +7,7 @@ use Rattle.savi_core.specs.Batches.{sent_item}
 use Rattle.savi_core.specs.Waits.{frame_of, shown}
 use Rattle.savi_core.proofs.Frames.{frame_read}
 use Rattle.savi_core.proofs.Moving.{is_frame, rest_is, taken_more, none_left}
-use Rattle.savi_core.proofs.queues.move_frames.Goals as goal
+use Rattle.savi_core.proofs.port_queue.move_frames.Goals as goal
 
 pub entry-requires : goal.entry-requires
 entry-requires c =

@@ -1,6 +1,6 @@
 use Rattle.std.proofs.Common.{◌≡◌, ◌-◌, ◌≤◌, length, take, drop, map}
 use Rattle.savi_core.specs.Waits.{shown}
-use Rattle.savi_core.proofs.queues.move_frames.Given as goal
+use Rattle.savi_core.proofs.port_queue.move_frames.Given as goal
 
 abbrev pub invariant-loop-queue : goal.invariant-loop-queue
 invariant-loop-queue l = record {

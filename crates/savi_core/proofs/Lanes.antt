@@ -1,0 +1,289 @@
+-- Lanes that all change alike, or one of them, and what they show.
+use Rattle.std.proofs.Common.{ℕ, zero, suc, ◌≡◌, ◌≢◌, ◌<◌, ◌≤◌, ◌==◌, ◌&&◌, ◌||◌, nat_lt, nat_le, Bool, true, false, if◌then◌else◌, List, [], ◌∷◌, ◌++◌, length, map, get_or, set, drop, refl, sym, ap, ◌∙◌, arith}
+use Rattle.std.specs.Prelude.{All}
+use Rattle.std.specs.List.{filter}
+use Rattle.std.proofs.lemmas.Bool.{eq-eqb, ne_eqb}
+use Rattle.std.proofs.lemmas.List.{map-append, length-map, drop-map}
+use Rattle.std.proofs.lemmas.List.Elements.{All-nil, All-head, All-tail, All-push, All-drop}
+use Rattle.savi_kinds.specs.declared.port.Port.{Port}
+use Rattle.savi_kinds.specs.declared.port.PortSet.{PortSet}
+use Rattle.savi_kinds.specs.declared.plan.Plan.{Plan}
+use Rattle.savi_kinds.specs.declared.entry.Act.{Act}
+use Rattle.savi_kinds.specs.declared.entry.Act.TheVariants as acts
+use Rattle.savi_kinds.specs.declared.entry.Who.{Who}
+use Rattle.savi_kinds.specs.declared.entry.Who.TheVariants.{Ingress, Control, Ticker, Egress}
+use Rattle.savi_kinds.specs.declared.entry.How.{How}
+use Rattle.savi_kinds.specs.declared.entry.How.TheVariants as hows
+use Rattle.savi_kinds.specs.Ports.{number_of}
+use Rattle.savi_kinds.specs.PortSets.{is_member}
+use Rattle.egress_ring.specs.declared.item.Item.{Item as Queued}
+use Rattle.egress_ring.specs.declared.item.Item.TheVariants as queued
+use Rattle.hist_store.specs.Rows.{Row}
+use Rattle.savi_history.specs.Bases.{empty}
+use Rattle.savi_history.specs.Passes.{has_ended, has_port, has_pass, pass_of, egress_pass, is_end}
+use Rattle.savi_history.specs.Queues.{Item, item_of, room_at, framed, waiting_after, queue}
+use Rattle.savi_history.proofs.Offered.{probed_off}
+use Rattle.savi_history.proofs.Closed.{same_port}
+use Rattle.savi_history.proofs.PortPlaces.{place_within}
+use Rattle.savi_core.specs.Lanes.{Lane, with_frame, is_cut, with_drained, with_ended, lane_of}
+use Rattle.savi_core.specs.Waits.{shown, shown_lane, IsFrameOf, HoldsFrames}
+use Rattle.savi_core.proofs.Frames.{frame_of-last, shown_all, frames_more, is_frame-last}
+
+and_false : (b : Bool) → (b && false) ≡ false
+and_false true = refl
+and_false false = refl
+
+-- lists
+
+pub across : {A B : Type 0} (P : A → Type 0) (show later : A → B) (change : A → A) (change_shown : B → B) → ((x : A) → P x → later (change x) ≡ change_shown (show x)) → (xs : List A) → All P xs → map later (map change xs) ≡ map change_shown (map show xs)
+across P show later change change_shown same [] all = refl
+across P show later change change_shown same (x ∷ xs) all =
+    ap (λ y. y ∷ map later (map change xs)) (same x (All-head P x xs all))
+    ∙ ap (λ ys. change_shown (show x) ∷ ys) (across P show later change change_shown same xs (All-tail P x xs all))
+
+pub same_at : {A B : Type 0} (P : A → Type 0) (show later : A → B) → ((x : A) → P x → later x ≡ show x) → (xs : List A) → All P xs → map later xs ≡ map show xs
+same_at P show later same [] all = refl
+same_at P show later same (x ∷ xs) all =
+    ap (λ y. y ∷ map later xs) (same x (All-head P x xs all)) ∙ ap (λ ys. show x ∷ ys) (same_at P show later same xs (All-tail P x xs all))
+
+pub map_all : {A : Type 0} (f g : ℕ → A) → (ns : List ℕ) → ((k : ℕ) → k < length ns → f (get_or ns k 0) ≡ g (get_or ns k 0)) → map f ns ≡ map g ns
+map_all f g [] same = refl
+map_all f g (n ∷ ns) same =
+    ap (λ x. x ∷ map f ns) (same 0 (omega arith)) ∙ ap (λ xs. g n ∷ xs) (map_all f g ns (λ k within. same (suc k) (omega (arith, within))))
+
+pub map_twice : {A B : Type 0} (f : A → B) (h : B → B) (g : A → B) → ((x : A) → h (f x) ≡ g x) → (xs : List A) → map h (map f xs) ≡ map g xs
+map_twice f h g same [] = refl
+map_twice f h g same (x ∷ xs) = ap (λ y. y ∷ map h (map f xs)) (same x) ∙ ap (λ ys. g x ∷ ys) (map_twice f h g same xs)
+
+-- one element has changed
+pub one_changed : {A : Type 0} (f g : ℕ → A) (ns : List ℕ) (p : ℕ) → p < length ns → ((k : ℕ) → k < length ns → k ≢ p → f (get_or ns k 0) ≡ g (get_or ns k 0)) → set (map f ns) p (g (get_or ns p 0)) ≡ map g ns
+one_changed f g [] p within others = absurd (omega (arith, within))
+one_changed f g (n ∷ ns) zero within others = ap (λ xs. g n ∷ xs) (map_all f g ns (λ k inside. others (suc k) (omega (arith, inside)) (omega arith)))
+one_changed f g (n ∷ ns) (suc p) within others =
+    ap (λ x. x ∷ set (map f ns) p (g (get_or ns p 0))) (others 0 (omega arith) (omega arith))
+    ∙ ap (λ xs. g n ∷ xs) (one_changed f g ns p (omega (arith, within)) (λ k inside other. others (suc k) (omega (arith, inside)) (omega (arith, other))))
+
+-- what lanes show
+
+abbrev laned : {A : Type 0} → ℕ → ℕ → List A → Lane A
+laned number room items = record { number = number; room = room; items = items }
+
+-- a lane shows the same in a longer history
+pub shown_more : (rows : List Row) (r : Row) (lane : Lane Queued) → HoldsFrames rows lane → shown_lane (rows ++ r ∷ []) lane ≡ shown_lane rows lane
+shown_more rows r lane frames = ap (λ (items : List Item). laned lane.number lane.room items) (shown_all rows (r ∷ []) lane.items frames)
+
+pub frames_still : (rows : List Row) (r : Row) (lane : Lane Queued) → HoldsFrames rows lane → HoldsFrames (rows ++ r ∷ []) lane
+frames_still rows r lane frames = frames_more rows (r ∷ []) lane.items frames
+
+module _ (rows : List Row) (r : Row) (outs : PortSet) (lane : Lane Queued) (frames : HoldsFrames rows lane) where
+  abbrev item : Queued
+  item = queued.Frame (length rows)
+
+  pushed : map (shown (rows ++ r ∷ [])) (lane.items ++ queued.Frame (length rows) ∷ []) ≡ map (shown rows) lane.items ++ item_of r ∷ []
+  pushed =
+      map-append (shown (rows ++ r ∷ [])) lane.items (queued.Frame (length rows) ∷ [])
+      ∙ ap (λ front. front ++ shown (rows ++ r ∷ []) (queued.Frame (length rows)) ∷ []) (shown_all rows (r ∷ []) lane.items frames)
+      ∙ ap (λ last. map (shown rows) lane.items ++ last ∷ []) (frame_of-last rows r)
+
+  framed_at : (b c : Bool) → shown_lane (rows ++ r ∷ []) (if b then (if c then record lane { items = lane.items ++ queued.Frame (length rows) ∷ [] } else lane) else lane)
+      ≡ (if b then (if c then record (shown_lane rows lane) { items = map (shown rows) lane.items ++ item_of r ∷ [] } else shown_lane rows lane) else shown_lane rows lane)
+  framed_at true true = ap (λ (items : List Item). laned lane.number lane.room items) pushed
+  framed_at true false = shown_more rows r lane frames
+  framed_at false c = shown_more rows r lane frames
+
+  -- a frame of a new row, offered, shows as that frame offered
+  pub shown_framed : shown_lane (rows ++ r ∷ []) (with_frame (queued.Frame (length rows)) outs lane) ≡ with_frame (item_of r) outs (shown_lane rows lane)
+  shown_framed =
+      framed_at (is_member outs lane.number) (nat_lt (length lane.items) lane.room)
+      ∙ ap (λ (n : ℕ). if is_member outs lane.number then (if nat_lt n lane.room then record (shown_lane rows lane) { items = map (shown rows) lane.items ++ item_of r ∷ [] } else shown_lane rows lane) else shown_lane rows lane) (sym (length-map lane.items (shown rows)))
+
+  frames_at : length r.octets ≤ 1518 → (b c : Bool) → HoldsFrames (rows ++ r ∷ []) (if b then (if c then record lane { items = lane.items ++ queued.Frame (length rows) ∷ [] } else lane) else lane)
+  frames_at short true true = All-push (IsFrameOf (rows ++ r ∷ [])) lane.items (queued.Frame (length rows)) (frames_more rows (r ∷ []) lane.items frames) (is_frame-last rows r short)
+  frames_at short true false = frames_still rows r lane frames
+  frames_at short false c = frames_still rows r lane frames
+
+  pub frames_framed : length r.octets ≤ 1518 → HoldsFrames (rows ++ r ∷ []) (with_frame (queued.Frame (length rows)) outs lane)
+  frames_framed short = frames_at short (is_member outs lane.number) (nat_lt (length lane.items) lane.room)
+
+pub shown_drained : (rows : List Row) (r : Row) (count : ℕ) (lane : Lane Queued) → HoldsFrames rows lane → shown_lane (rows ++ r ∷ []) (with_drained count lane) ≡ with_drained count (shown_lane rows lane)
+shown_drained rows r count lane frames =
+    ap (λ (items : List Item). laned lane.number lane.room items)
+    (sym (drop-map (shown (rows ++ r ∷ [])) count lane.items) ∙ ap (drop count) (shown_all rows (r ∷ []) lane.items frames))
+
+pub frames_drained : (rows : List Row) (r : Row) (count : ℕ) (lane : Lane Queued) → HoldsFrames rows lane → HoldsFrames (rows ++ r ∷ []) (with_drained count lane)
+frames_drained rows r count lane frames = All-drop (IsFrameOf (rows ++ r ∷ [])) count lane.items (frames_more rows (r ∷ []) lane.items frames)
+
+closed_shown : (rows : List Row) (r : Row) (lane : Lane Queued) → HoldsFrames rows lane → shown_lane (rows ++ r ∷ []) (record lane { room = 0 }) ≡ record (shown_lane rows lane) { room = 0 }
+closed_shown rows r lane frames = ap (λ (items : List Item). laned lane.number 0 items) (shown_all rows (r ∷ []) lane.items frames)
+
+pub shown_ended : (rows : List Row) (r : Row) (how : How) (lane : Lane Queued) → HoldsFrames rows lane → shown_lane (rows ++ r ∷ []) (with_ended how lane) ≡ with_ended how (shown_lane rows lane)
+shown_ended rows r hows.Failed lane frames = refl
+shown_ended rows r hows.End lane frames = closed_shown rows r lane frames
+shown_ended rows r hows.Quit lane frames = closed_shown rows r lane frames
+shown_ended rows r (hows.Malformed at) lane frames = closed_shown rows r lane frames
+shown_ended rows r (hows.Overlong at) lane frames = closed_shown rows r lane frames
+shown_ended rows r hows.Unwritten lane frames = closed_shown rows r lane frames
+shown_ended rows r (hows.Full len) lane frames = closed_shown rows r lane frames
+
+pub frames_ended : (rows : List Row) (r : Row) (how : How) (lane : Lane Queued) → HoldsFrames rows lane → HoldsFrames (rows ++ r ∷ []) (with_ended how lane)
+frames_ended rows r hows.Failed lane frames = All-nil (IsFrameOf (rows ++ r ∷ []))
+frames_ended rows r hows.End lane frames = frames_still rows r lane frames
+frames_ended rows r hows.Quit lane frames = frames_still rows r lane frames
+frames_ended rows r (hows.Malformed at) lane frames = frames_still rows r lane frames
+frames_ended rows r (hows.Overlong at) lane frames = frames_still rows r lane frames
+frames_ended rows r hows.Unwritten lane frames = frames_still rows r lane frames
+frames_ended rows r (hows.Full len) lane frames = frames_still rows r lane frames
+
+-- cuts
+
+module _ (rows : List Row) (outs : PortSet) where
+  cut_shown : (lane : Lane Queued) → is_cut outs (shown_lane rows lane) ≡ is_cut outs lane
+  cut_shown lane = ap (λ (n : ℕ). is_member outs lane.number && nat_le lane.room n) (length-map lane.items (shown rows))
+
+  cuts_at : (lane : Lane Queued) (lanes : List (Lane Queued)) (b : Bool) → map (λ (x : Lane Queued). x.number) (filter (is_cut outs) lanes) ≡ map (λ (x : Lane Item). x.number) (filter (is_cut outs) (map (shown_lane rows) lanes))
+      → map (λ (x : Lane Queued). x.number) (if b then lane ∷ filter (is_cut outs) lanes else filter (is_cut outs) lanes)
+      ≡ map (λ (x : Lane Item). x.number) (if b then shown_lane rows lane ∷ filter (is_cut outs) (map (shown_lane rows) lanes) else filter (is_cut outs) (map (shown_lane rows) lanes))
+  cuts_at lane lanes true same = ap (λ ns. lane.number ∷ ns) same
+  cuts_at lane lanes false same = same
+
+  pub cuts_shown : (lanes : List (Lane Queued)) → map (λ (x : Lane Queued). x.number) (filter (is_cut outs) lanes) ≡ map (λ (x : Lane Item). x.number) (filter (is_cut outs) (map (shown_lane rows) lanes))
+  cuts_shown [] = refl
+  cuts_shown (lane ∷ lanes) = rw (cut_shown lane) (cuts_at lane lanes (is_cut outs lane) (cuts_shown lanes))
+
+module _ (plan : Plan) (past : List Row) (outs : PortSet) where
+  numbers_at : (n : ℕ) (ns : List ℕ) (b : Bool) → map (λ (x : Lane Item). x.number) (filter (is_cut outs) (map (lane_of plan past) ns)) ≡ filter (λ (q : ℕ). is_cut outs (lane_of plan past q)) ns
+      → map (λ (x : Lane Item). x.number) (if b then lane_of plan past n ∷ filter (is_cut outs) (map (lane_of plan past) ns) else filter (is_cut outs) (map (lane_of plan past) ns))
+      ≡ (if b then n ∷ filter (λ (q : ℕ). is_cut outs (lane_of plan past q)) ns else filter (λ (q : ℕ). is_cut outs (lane_of plan past q)) ns)
+  numbers_at n ns true same = ap (λ ms. n ∷ ms) same
+  numbers_at n ns false same = same
+
+  pub cuts_numbers : (ns : List ℕ) → map (λ (x : Lane Item). x.number) (filter (is_cut outs) (map (lane_of plan past) ns)) ≡ filter (λ (q : ℕ). is_cut outs (lane_of plan past q)) ns
+  cuts_numbers [] = refl
+  cuts_numbers (n ∷ ns) = numbers_at n ns (is_cut outs (lane_of plan past n)) (cuts_numbers ns)
+
+-- lanes by the history
+
+module _ (plan : Plan) (past : List Row) (r : Row) (q : ℕ) where
+  -- an entry that ends no pass leaves the room as it is
+  room_kept : is_end r.entry.act ≡ false → room_at plan empty (r ∷ past) q ≡ room_at plan empty past q
+  room_kept none = rw none refl
+
+  lane_at : (b c : Bool) (waiting : List Item) → (if b then (if c then laned q (room_at plan empty past q) (waiting ++ item_of r ∷ []) else laned q (room_at plan empty past q) waiting) else laned q (room_at plan empty past q) waiting)
+      ≡ laned q (room_at plan empty past q) (if b then (if c then waiting ++ item_of r ∷ [] else waiting) else waiting)
+  lane_at true true waiting = refl
+  lane_at true false waiting = refl
+  lane_at false c waiting = refl
+
+  pub lane_framed : plan.savi ≡ false → (port : Port) (stamp at len : ℕ) → r.entry.act ≡ acts.Frame port stamp at len → with_frame (item_of r) r.entry.outs (lane_of plan past q) ≡ lane_of plan (r ∷ past) q
+  lane_framed off port stamp at len act_is =
+      let waiting = queue plan empty q past in
+      let act = acts.Frame port stamp at len in
+      let items_are : queue plan empty q (r ∷ past) ≡ framed (room_at plan empty past q) q r (queue plan empty q past) =
+      ap (λ (a : Act). waiting_after plan empty past q r a (queue plan empty q past)) act_is
+      ∙ ap (λ (items : List Item). framed (room_at plan empty past q) q r items) (probed_off plan empty past (acts.Frame port stamp at len) r.octets off q (queue plan empty q past)) in
+      let room_is = room_kept (ap is_end act_is) in
+      lane_at (is_member r.entry.outs q) (nat_lt (length (queue plan empty q past)) (room_at plan empty past q)) (queue plan empty q past)
+      ∙ ap (λ (items : List Item). laned q (room_at plan empty past q) items) (sym items_are)
+      ∙ ap (λ (room : ℕ). laned q room (queue plan empty q (r ∷ past))) (sym room_is)
+
+  -- an entry that leaves what waits and the room leaves the lane
+  pub lane_kept : queue plan empty q (r ∷ past) ≡ queue plan empty q past → room_at plan empty (r ∷ past) q ≡ room_at plan empty past q → lane_of plan past q ≡ lane_of plan (r ∷ past) q
+  lane_kept items_are room_is =
+      ap (λ (items : List Item). laned q (room_at plan empty past q) items) (sym items_are) ∙ ap (λ (room : ℕ). laned q room (queue plan empty q (r ∷ past))) (sym room_is)
+
+  pub lane_long : plan.savi ≡ false → (port : Port) (stamp len : ℕ) → r.entry.act ≡ acts.Long port stamp len → lane_of plan past q ≡ lane_of plan (r ∷ past) q
+  lane_long off port stamp len act_is =
+      lane_kept
+      (ap (λ (a : Act). waiting_after plan empty past q r a (queue plan empty q past)) act_is ∙ probed_off plan empty past (acts.Long port stamp len) r.octets off q (queue plan empty q past))
+      (room_kept (ap is_end act_is))
+
+  -- a drain
+
+  pub lane_elsewhere : (port : Port) (count : ℕ) → r.entry.act ≡ acts.Drain port count → number_of port ≢ q → lane_of plan past q ≡ lane_of plan (r ∷ past) q
+  lane_elsewhere port count act_is other =
+      lane_kept
+      (ap (λ (a : Act). waiting_after plan empty past q r a (queue plan empty q past)) act_is
+      ∙ ap (λ (b : Bool). if b then drop count (queue plan empty q past) else queue plan empty q past) (ne_eqb (number_of port) q other))
+      (room_kept (ap is_end act_is))
+
+  -- an end of another pass
+
+  pub room_apart : r.entry.by ≢ egress_pass plan q → room_at plan empty (r ∷ past) q ≡ room_at plan empty past q
+  room_apart other =
+      let parts : (is_end r.entry.act && (r.entry.by == egress_pass plan q)) ≡ false = ap (λ (b : Bool). is_end r.entry.act && b) (ne_eqb r.entry.by (egress_pass plan q) other) ∙ and_false (is_end r.entry.act) in
+      ap (λ (b : Bool). if (b || has_ended empty (egress_pass plan q) past) then 0 else plan.depth) parts
+
+  pub room_now : r.entry.by ≡ egress_pass plan q → is_end r.entry.act ≡ true → room_at plan empty (r ∷ past) q ≡ 0
+  room_now here is =
+      ap (λ (b : Bool). if ((b && (r.entry.by == egress_pass plan q)) || has_ended empty (egress_pass plan q) past) then 0 else plan.depth) is
+      ∙ ap (λ (b : Bool). if (b || has_ended empty (egress_pass plan q) past) then 0 else plan.depth) (eq-eqb r.entry.by (egress_pass plan q) here)
+
+abbrev pub IsNoEgress : Who → Type 0
+IsNoEgress (Ingress port) = Unit {0}
+IsNoEgress Control = Unit {0}
+IsNoEgress Ticker = Unit {0}
+IsNoEgress (Egress port) = ⊥
+
+input_apart : (plan : Plan) (q : ℕ) (who : Who) → IsNoEgress who → has_pass plan who ≡ true → pass_of plan who ≢ egress_pass plan q
+input_apart plan q (Ingress port) inward known = let within = place_within plan (number_of port) known in λ same. absurd (omega (arith, within, same))
+input_apart plan q Control inward known = λ same. absurd (omega (arith, same))
+input_apart plan q Ticker inward known = λ same. absurd (omega (arith, same))
+input_apart plan q (Egress port) inward known = absurd inward
+
+input_waits : (plan : Plan) (past : List Row) (q : ℕ) (r : Row) (who : Who) (how : How) (waiting : List Item) → IsNoEgress who → waiting_after plan empty past q r (acts.End who how) waiting ≡ waiting
+input_waits plan past q r (Ingress port) how waiting inward = refl
+input_waits plan past q r Control how waiting inward = refl
+input_waits plan past q r Ticker how waiting inward = refl
+input_waits plan past q r (Egress port) how waiting inward = absurd inward
+
+pub lane_behind_input : (plan : Plan) (past : List Row) (r : Row) (q : ℕ) (who : Who) (how : How) → r.entry.act ≡ acts.End who how → r.entry.by ≡ pass_of plan who → IsNoEgress who → has_pass plan who ≡ true → lane_of plan past q ≡ lane_of plan (r ∷ past) q
+lane_behind_input plan past r q who how act_is by_is inward known =
+    lane_kept plan past r q
+    (ap (λ (a : Act). waiting_after plan empty past q r a (queue plan empty q past)) act_is ∙ input_waits plan past q r who how (queue plan empty q past) inward)
+    (room_apart plan past r q (λ same. input_apart plan q who inward known (sym by_is ∙ same)))
+
+-- the lane of a drain's port
+pub lane_drained : (plan : Plan) (past : List Row) (r : Row) (port : Port) (count : ℕ) → r.entry.act ≡ acts.Drain port count → with_drained count (lane_of plan past (number_of port)) ≡ lane_of plan (r ∷ past) (number_of port)
+lane_drained plan past r port count act_is =
+    let q = number_of port in
+    let items_are : queue plan empty (number_of port) (r ∷ past) ≡ drop count (queue plan empty (number_of port) past) =
+    ap (λ (a : Act). waiting_after plan empty past (number_of port) r a (queue plan empty (number_of port) past)) act_is
+    ∙ ap (λ (b : Bool). if b then drop count (queue plan empty (number_of port) past) else queue plan empty (number_of port) past) (eq-eqb (number_of port) (number_of port) refl) in
+    ap (λ (items : List Item). laned (number_of port) (room_at plan empty past (number_of port)) items) (sym items_are)
+    ∙ ap (λ (room : ℕ). laned (number_of port) room (queue plan empty (number_of port) (r ∷ past))) (sym (room_kept plan past r (number_of port) (ap is_end act_is)))
+
+-- the lane of an egress that ended
+
+failed_waits : (plan : Plan) (past : List Row) (r : Row) (port : Port) (waiting : List Item) → [] ≡ waiting_after plan empty past (number_of port) r (acts.End (Egress port) hows.Failed) waiting
+failed_waits plan past r port waiting = sym (ap (λ (b : Bool). if b then [] else waiting) (eq-eqb (number_of port) (number_of port) refl))
+
+ended_at : (plan : Plan) (past : List Row) (r : Row) (port : Port) (how : How) → with_ended how (lane_of plan past (number_of port)) ≡ laned (number_of port) 0 (waiting_after plan empty past (number_of port) r (acts.End (Egress port) how) (queue plan empty (number_of port) past))
+ended_at plan past r port hows.Failed = ap (λ (items : List Item). laned (number_of port) 0 items) (failed_waits plan past r port (queue plan empty (number_of port) past))
+ended_at plan past r port hows.End = refl
+ended_at plan past r port hows.Quit = refl
+ended_at plan past r port (hows.Malformed at) = refl
+ended_at plan past r port (hows.Overlong at) = refl
+ended_at plan past r port hows.Unwritten = refl
+ended_at plan past r port (hows.Full len) = refl
+
+pub lane_ended : (plan : Plan) (past : List Row) (r : Row) (port : Port) (how : How) → r.entry.act ≡ acts.End (Egress port) how → r.entry.by ≡ egress_pass plan (number_of port) → with_ended how (lane_of plan past (number_of port)) ≡ lane_of plan (r ∷ past) (number_of port)
+lane_ended plan past r port how act_is by_is =
+    ended_at plan past r port how
+    ∙ ap (λ (a : Act). laned (number_of port) 0 (waiting_after plan empty past (number_of port) r a (queue plan empty (number_of port) past))) (sym act_is)
+    ∙ ap (λ (room : ℕ). laned (number_of port) room (queue plan empty (number_of port) (r ∷ past))) (sym (room_now plan past r (number_of port) by_is (ap is_end act_is)))
+
+apart_waits : (plan : Plan) (past : List Row) (q : ℕ) (r : Row) (port : Port) (how : How) (waiting : List Item) → number_of port ≢ q → waiting_after plan empty past q r (acts.End (Egress port) how) waiting ≡ waiting
+apart_waits plan past q r port hows.Failed waiting other = ap (λ (b : Bool). if b then [] else waiting) (ne_eqb (number_of port) q other)
+apart_waits plan past q r port hows.End waiting other = refl
+apart_waits plan past q r port hows.Quit waiting other = refl
+apart_waits plan past q r port (hows.Malformed at) waiting other = refl
+apart_waits plan past q r port (hows.Overlong at) waiting other = refl
+apart_waits plan past q r port hows.Unwritten waiting other = refl
+apart_waits plan past q r port (hows.Full len) waiting other = refl
+
+-- the lanes of the other ports
+pub lane_apart : (plan : Plan) (past : List Row) (r : Row) (q : ℕ) (port : Port) (how : How) → r.entry.act ≡ acts.End (Egress port) how → r.entry.by ≡ egress_pass plan (number_of port) → has_port plan (number_of port) ≡ true → has_port plan q ≡ true → number_of port ≢ q → lane_of plan past q ≡ lane_of plan (r ∷ past) q
+lane_apart plan past r q port how act_is by_is known known_q other =
+    lane_kept plan past r q
+    (ap (λ (a : Act). waiting_after plan empty past q r a (queue plan empty q past)) act_is ∙ apart_waits plan past q r port how (queue plan empty q past) other)
+    (room_apart plan past r q (λ same. other (same_port plan port q known known_q (sym by_is ∙ same))))

@@ -1,0 +1,74 @@
+-- The queues of all ports: a lane for each, in the order of the plan. A lane's items are what its port keeps of them, or what
+-- they stand for.
+use Rattle.std.specs.Prelude.{◌≡◌, ℕ, ◌&&◌, nat_lt, nat_le, Bool, if◌then◌else◌, List, [], ◌∷◌, ◌++◌, length, map, drop, slice_set, slice_index_or}
+use Rattle.std.specs.List.{filter}
+use Rattle.savi_kinds.specs.declared.port.PortSet.{PortSet}
+use Rattle.savi_kinds.specs.declared.plan.Plan.{Plan}
+use Rattle.savi_kinds.specs.declared.plan.PortPlan.{PortPlan}
+use Rattle.savi_kinds.specs.declared.entry.Who.{Who}
+use Rattle.savi_kinds.specs.declared.entry.Who.TheVariants.{Ingress, Control, Ticker, Egress}
+use Rattle.savi_kinds.specs.declared.entry.How.{How}
+use Rattle.savi_kinds.specs.declared.entry.How.TheVariants as hows
+use Rattle.savi_kinds.specs.Ports.{number_of}
+use Rattle.savi_kinds.specs.PortSets.{is_member, set_of}
+use Rattle.hist_store.specs.Rows.{Row}
+use Rattle.savi_history.specs.Bases.{empty}
+use Rattle.savi_history.specs.Passes.{place_of}
+use Rattle.savi_history.specs.Queues.{Item, room_at, queue}
+
+pub record Lane (A : Type 0) : Type 0 where
+  -- of its port
+  pub number : ℕ
+  -- how many items may wait
+  pub room : ℕ
+  -- those that wait, the oldest first
+  pub items : List A
+
+-- the lane of a port at the start of a switch
+abbrev pub empty_lane : {A : Type 0} → ℕ → PortPlan → Lane A
+empty_lane depth p = record { number = number_of p.number; room = depth; items = [] }
+
+-- as many items wait as may
+abbrev pub takes_none : {A : Type 0} → Lane A → Bool
+takes_none lane = nat_le lane.room (length lane.items)
+
+-- the lane once an item was offered: it joins where there is room
+abbrev pub with_offered : {A : Type 0} → A → Lane A → Lane A
+with_offered item lane = if nat_lt (length lane.items) lane.room then record lane { items = lane.items ++ item ∷ [] } else lane
+
+-- the lane once a frame was offered to these ports
+abbrev pub with_frame : {A : Type 0} → A → PortSet → Lane A → Lane A
+with_frame item outs lane = if is_member outs lane.number then with_offered item lane else lane
+
+-- a frame that goes to these ports is left out at the lane
+abbrev pub is_cut : {A : Type 0} → PortSet → Lane A → Bool
+is_cut outs lane = is_member outs lane.number && takes_none lane
+
+-- the ports where it is left out
+abbrev pub cut_at : {A : Type 0} → PortSet → List (Lane A) → PortSet
+cut_at outs lanes = set_of (map (λ lane. lane.number) (filter (is_cut outs) lanes))
+
+-- the lane once so many items were taken from its front
+abbrev pub with_drained : {A : Type 0} → ℕ → Lane A → Lane A
+with_drained count lane = record lane { items = drop count lane.items }
+
+-- the lane once its egress has ended: nothing joins any more, and after a failed write nothing waits
+abbrev pub with_ended : {A : Type 0} → How → Lane A → Lane A
+with_ended hows.Failed lane = record lane { room = 0; items = [] }
+with_ended how lane = record lane { room = 0 }
+
+-- the lane of a port by the history
+abbrev pub lane_of : Plan → List Row → ℕ → Lane Item
+lane_of plan past q = record { number = q; room = room_at plan empty past q; items = queue plan empty q past }
+
+-- a lane of no port, as what stands outside of a list of lanes
+abbrev pub no_lane : {A : Type 0} → Lane A
+no_lane = record { number = 0; room = 0; items = [] }
+
+-- the lanes once a pass has ended for this reason: the lane of a port whose egress it is has ended
+abbrev pub AreEnded : {A : Type 0} → Plan → Who → How → List (Lane A) → List (Lane A) → Type 0
+AreEnded plan (Ingress port) how old new = new ≡ old
+AreEnded plan Control how old new = new ≡ old
+AreEnded plan Ticker how old new = new ≡ old
+AreEnded plan (Egress port) how old new =
+    let place = place_of plan (number_of port) in new ≡ slice_set old place (with_ended how (slice_index_or old place no_lane))

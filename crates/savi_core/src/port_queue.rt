@@ -1,0 +1,126 @@
+//! The queue of one port, with all that decides on what joins it.
+
+ghost use Rattle.std.specs.Prelude.{◌≡◌, ◌≤◌, not, [], length, map, take, drop, All, IfOk};
+ghost use Rattle.savi_kinds.specs.Ports.{number_of};
+ghost use Rattle.savi_core.specs.Lanes.{empty_lane, takes_none, is_cut, with_offered, with_frame, with_drained, with_ended};
+ghost use Rattle.egress_ring.specs.declared.item.Item.TheVariants as entries;
+ghost use Rattle.savi_core.specs.Waits.{HoldsFrames, IsFrameOf, shown};
+
+use crate::batch::Batch;
+use egress_ring::{EgressRing, Item};
+use hist_store::Hist;
+use savi_kinds::{How, Port, PortPlan, PortSet};
+use std::alloc::{AllocError, Global};
+use std::marker::Model;
+
+/// What waits at a port, and how much may wait there. Contracts see a lane.
+#[derive(Drop)]
+pub struct PortQueue {
+    port: Port,
+    room: u32,
+    ring: EgressRing,
+}
+
+impl Model for PortQueue {
+    ghost use Rattle.std.specs.Prelude.{◌≤◌};
+    ghost use Rattle.savi_kinds.specs.Ports.{number_of};
+    ghost use Rattle.egress_ring.specs.declared.item.Item.{Item as Queued};
+    ghost use Rattle.savi_core.specs.Lanes.{Lane};
+
+    ghost Value = { Lane Queued };
+
+    ghost view = { λ q. record { number = number_of q.port; room = q.room; items = q.ring.items } };
+
+    ghost invariant = { λ q. q.room ≤ q.ring.depth };
+}
+
+impl PortQueue {
+    /// The empty queue of a port, for `depth` items.
+    pub fn make(alloc: Global, plan: &PortPlan, depth: u32) -> Result<PortQueue, AllocError>
+        ensures { IfOk result (λ queue. queue ≡ empty_lane depth plan.now) }
+    {
+        Ok(PortQueue {
+            port: plan.number,
+            room: depth,
+            ring: EgressRing::make(alloc, depth)?,
+        })
+    }
+
+    /// The port. O(1).
+    pub fn port(&self) -> Port
+        ensures { number_of result ≡ self.now.number }
+    {
+        self.port
+    }
+
+    /// How many items wait. O(1).
+    pub fn len(&self) -> u32
+        ensures { result ≡ length self.now.items }
+    {
+        self.ring.len()
+    }
+
+    // Offers an item, which joins where there is room. The answer is whether it did.
+    fn offer(&mut self, item: Item) -> bool
+        ensures lane { self.new ≡ with_offered item self.old }
+        ensures joined { result ≡ not (takes_none self.old) }
+    {
+        if self.ring.len() >= self.room {
+            return false;
+        }
+        self.ring.queue(item)
+    }
+
+    /// Offers the frame of the entry with this number, where it goes to this port. The answer is whether it is left out. O(1).
+    pub fn offer_frame(&mut self, outs: PortSet, n: u64) -> bool
+        ensures lane { self.new ≡ with_frame (entries.Frame n) outs self.old }
+        ensures cut { result ≡ is_cut outs self.old }
+    {
+        if !outs.contains(self.port) {
+            return false;
+        }
+        !self.offer(Item::Frame(n))
+    }
+
+    /// Moves so many frames from the front into an empty batch. O(count) beside the copies of their octets.
+    pub fn drain(&mut self, hist: &Hist, count: u32, into: &mut Batch)
+        requires frames { HoldsFrames hist.now.rows self.old }
+        requires count { count ≤ length self.old.items }
+        requires most { count ≤ 256 }
+        requires empty { into.old ≡ [] }
+        ensures left { self.new ≡ with_drained count self.old }
+        ensures taken { into.new ≡ take count (map (shown hist.now.rows) self.old.items) }
+    {
+        move_frames(&mut self.ring, hist, count, into);
+    }
+
+    /// Nothing joins any more, since the port's egress has ended for this reason; after a failed write what waits is given up.
+    /// O(n) in what is given up.
+    pub fn end(&mut self, how: How)
+        ensures { self.new ≡ with_ended how self.old }
+    {
+        self.room = 0;
+        match how {
+            How::Failed => self.ring.wipe(),
+            _ => {}
+        }
+    }
+}
+
+// Moves so many frames from the front of a ring into an empty batch.
+fn move_frames(queue: &mut EgressRing, hist: &Hist, count: u32, into: &mut Batch)
+    requires frames { All (IsFrameOf hist.now.rows) queue.old.items }
+    requires count { count ≤ length queue.old.items }
+    requires most { count ≤ 256 }
+    requires empty { into.old ≡ [] }
+    ensures left { queue.new ≡ record queue.old { items = drop count queue.old.items } }
+    ensures taken { into.new ≡ take count (map (shown hist.now.rows) queue.old.items) }
+{
+    while into.len() < count {
+        match queue.take() {
+            Some(Item::Frame(n)) => into.put(hist.entry(n).moment, hist.octets(n)),
+            Some(Item::Probe { .. }) => unreachable!(),
+            None => unreachable!(),
+        }
+    }
+}
