@@ -6,7 +6,6 @@ use savi_kinds::Addr;
 use v6_chain::{ICMPV6, Ip};
 use v6_sum::fill_sum;
 
-
 const CHECKSUM_AT: usize = 2;
 
 const UNSPECIFIED: u128 = 0;

@@ -9,3 +9,5 @@ pub mod FaultOrder
 pub mod Pairs
 pub mod InOrder
 pub mod MetLemmas
+pub mod OneOrder
+pub mod OneAnswer

@@ -9,3 +9,4 @@ pub mod Parts
 pub mod PlanOf
 pub mod Told
 pub mod Answers
+pub mod Laws

@@ -4,6 +4,7 @@
 mod document;
 mod fault;
 mod keys;
+mod laws;
 mod lists;
 mod numbers;
 mod parts;
@@ -15,6 +16,7 @@ mod read;
 mod words;
 
 pub use fault::{ConfFault, Fault};
+pub use laws::a_text_has_one_answer;
 pub use read::{OCTETS_MOST, read_plan};
 
 #[cfg(test)]
