@@ -15,9 +15,9 @@ use std::rt::Files;
 use v6_chain::{Chain, HEADER_LEN, ICMPV6, Ip, chain, ip};
 
 /// The EtherType of IPv6 (RFC 2464 section 3).
-pub const ETHERTYPE_IPV6: u16 = 0x86dd;
+const ETHERTYPE_IPV6: u16 = 0x86dd;
 /// Octets of an Ethernet header.
-pub const ETHERNET_LEN: usize = 14;
+const ETHERNET_LEN: usize = 14;
 
 /// Prints a line for each frame of a capture.
 pub fn print_messages<R: Files + AllocGlobal + Print>(rt: &R, name: &str) -> io::Result<()> {

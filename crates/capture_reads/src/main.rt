@@ -4,7 +4,7 @@
 //! solicitation, target of an advertisement, with a tab between each.
 //!
 //! For DHCPv6 they are what tshark shows of number, type, transaction id, client's DUID, addresses and valid
-//! lifetimes, and of the options a 14 for rapid commit.
+//! lifetimes, and of the options a 14 for rapid commit. What is printed is the message in the class of each frame.
 //!
 //! For each classic header it is the capture's name, the count of the lines that `tcpdump -tt -nn -r FILE`
 //! prints, and the stamp at the head of each line in ms, which are the seconds and the first three digits

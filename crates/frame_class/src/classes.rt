@@ -8,7 +8,8 @@ use eth_frame::Eth;
 use nd_read::Nd;
 use v6_chain::Ip;
 
-/// What a frame of at most 1,518 octets is.
+/// What a frame of at most 1,518 octets is. It takes 1,952 octets in memory, as much as the longest message of DHCPv6 may
+/// say: so it is read once, and then lent.
 #[derive(PartialEq, Eq, Debug, Drop)]
 pub enum Class {
     /// Fewer than 14 octets: no frame (IEEE 802.3 section 3.1.1).

@@ -1,12 +1,18 @@
 //! A frame of each class, its octets written out by RFC 2464, RFC 8200, RFC 4861 and RFC 768.
 
 use crate::{Class, Read, class};
-use dhcp6_read::Dhcp;
+use dhcp6_read::{Dhcp, Duid, Lease, Leases};
 use eth_frame::Eth;
 use nd_read::Nd;
 use savi_kinds::{Addr, FRAME_OCTETS_MOST, Mac};
 use std::test::Fail;
 use v6_chain::Ip;
+
+/// The Ethernet header of a frame that carries IPv6.
+const ETHERNET: &str = "33330000000102000000002286dd";
+
+/// fe80::22 and ff02::1.
+const ADDRESSES: &str = "fe800000000000000000000000000022ff020000000000000000000000000001";
 
 /// The header that each frame has, with its EtherType.
 fn eth(kind: u16) -> Eth {
@@ -47,6 +53,79 @@ fn udp(to: u16, first: Option<u8>, fragmented: bool, dhcp: Option<Dhcp>) -> Read
         fragmented,
         dhcp,
     }
+}
+
+/// A message of DHCPv6 from the client with the DUID 00-03-00-01.
+fn dhcp(kind: u8, leases: &[Lease]) -> Dhcp {
+    let mut message = Dhcp {
+        kind,
+        tid: 0x000a_0b0c,
+        duid: Duid::try_from(&[0, 3, 0, 1][..]).ok(),
+        rapid: false,
+        leases: Leases::new(),
+    };
+    for lease in leases {
+        let _left = message.leases.try_push(*lease);
+    }
+    message
+}
+
+#[test]
+fn datagrams_have_their_message(rt: HostRuntime) -> Result<(), Fail> {
+    let lease = Lease {
+        address: Addr(0x2001_0db8_0000_0000_0000_0000_0000_0001),
+        valid: 120,
+    };
+    for (name, headers, body, want) in [
+        (
+            "a Solicit",
+            "6000000000141140",
+            "0222022300140000010a0b0c0001000400030001",
+            packet(17, 64, 20, udp(547, Some(1), false, Some(dhcp(1, &[])))),
+        ),
+        (
+            "a Reply with a lease",
+            "6000000000401140",
+            "0223022200400000070a0b0c00010004000300010003002800000001000000000000000000050018\
+             20010db80000000000000000000000010000003c00000078",
+            packet(
+                17,
+                64,
+                64,
+                udp(546, Some(7), false, Some(dhcp(7, &[lease]))),
+            ),
+        ),
+        (
+            "a Reply whose DUID has 2 octets",
+            "6000000000121140",
+            "0223022200120000070a0b0c000100020003",
+            packet(17, 64, 18, udp(546, Some(7), false, None)),
+        ),
+        (
+            "a Solicit whose header says one octet less",
+            "6000000000141140",
+            "0222022300130000010a0b0c0001000400030001",
+            packet(17, 64, 20, udp(547, Some(1), false, None)),
+        ),
+        (
+            "a Solicit to port 548",
+            "6000000000141140",
+            "0222022400140000010a0b0c0001000400030001",
+            packet(17, 64, 20, udp(548, Some(1), false, None)),
+        ),
+        (
+            "a whole Solicit behind a fragment header",
+            "60000000001c2c40",
+            "11000000000000010222022300140000010a0b0c0001000400030001",
+            packet(44, 64, 28, udp(547, Some(1), true, None)),
+        ),
+    ] {
+        let octets = format!(in rt.alloc(); "{ETHERNET}{headers}{ADDRESSES}{body}")?;
+        let frame = hex::decode(rt.alloc(), &octets)?;
+        assert!(rt; frame.len() <= FRAME_OCTETS_MOST, "{name}");
+        assert_eq!(rt; class(&frame), want, "{name}");
+    }
+    Ok(())
 }
 
 #[test]
