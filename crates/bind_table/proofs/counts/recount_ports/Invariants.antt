@@ -1,6 +1,6 @@
 use Rattle.std.proofs.Common.{◌≡◌, ◌≤◌, ◌<◌, ◌+◌, ◌-◌, ℕ, get_or}
 use Rattle.bind_table.specs.Counts.{held_once}
-use Rattle.bind_table.proofs.counts.recount.Given as goal
+use Rattle.bind_table.proofs.counts.recount_ports.Given as goal
 
 abbrev pub invariant-loop-place : goal.invariant-loop-place
 invariant-loop-place l =
