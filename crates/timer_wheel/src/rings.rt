@@ -26,6 +26,7 @@ impl Rings {
     }
 
     // Puts a node in behind another one.
+    #[inline(always)]
     pub(crate) fn link(&mut self, node: u32, before: u32)
         requires node { (node < length self.old.later.items) × (node < length self.old.earlier.items) }
         requires before { before < length self.old.later.items }
@@ -41,6 +42,7 @@ impl Rings {
     }
 
     // Takes a node out.
+    #[inline(always)]
     pub(crate) fn unlink(&mut self, node: u32)
         requires node { (node < length self.old.later.items) × (node < length self.old.earlier.items) }
         requires before { slice_index self.old.earlier.items node < length self.old.later.items }

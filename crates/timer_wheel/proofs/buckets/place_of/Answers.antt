@@ -1,9 +1,10 @@
 use Rattle.std.proofs.Common.{◌≡◌, ◌≢◌, ◌+◌, ◌-◌, ◌%◌, ◌^◌, ◌<◌, ◌≤◌, ap, sym, ◌∙◌, subst, length, get_or, Some, arith}
 use Rattle.std.proofs.lemmas.List.{get_or_default}
-use Rattle.timer_wheel.specs.Rows.{row_at}
-use Rattle.timer_wheel.specs.Rings.{row_of, bucket_of, rank_of, rank_at}
+use Rattle.timer_wheel.specs.Rows.{row_at, others_than}
+use Rattle.timer_wheel.specs.Rings.{row_of, bucket_of, rank_of, rank_in, rank_at}
 use Rattle.timer_wheel.proofs.Nodes.{node_within, row_key}
-use Rattle.timer_wheel.proofs.Walks.{IsBelow, starts, goes_back, ranks_fall, later_rank, same_rank}
+use Rattle.timer_wheel.proofs.Walks.{IsBelow, starts, goes_back, ranks_fall, sooner_rank, later_rank, same_rank}
+use Rattle.timer_wheel.proofs.Renewing.{address_others, shown}
 use Rattle.timer_wheel.proofs.buckets.place_of.Goals as goal
 
 pub loop-row-init : goal.loop-row-init
@@ -13,28 +14,42 @@ loop-row-init c =
     let low : c.slice.result % c.from.result < 1024 = omega (arith, bucket, bound) in
     let within : c.slice.result % c.from.result < length c.args.rings.now.earlier.items = omega (arith, low, c.requires.wired.earlier_nodes) in
     let read : c.index-at.result.now ≡ get_or c.args.rings.now.earlier.items (c.slice.result % c.from.result) 0 = c.index-at.ensures ∙ get_or_default c.args.rings.now.earlier.items (c.slice.result % c.from.result) c.index-at.result.now 0 within in
-    subst (IsBelow c.args.rows.now.slots c.args.rings.now.later.items c.args.armed) (sym read)
-    (starts c.args.rows.now.slots c.args.rings.now.later.items c.args.rings.now.earlier.items c.args.armed (c.slice.result % c.from.result) c.requires.wired.ringed bucket low)
+    subst (IsBelow (others_than c.args.armed.address.0 c.args.rows.now).slots c.args.rings.now.later.items c.args.armed) (sym read)
+    (starts (others_than c.args.armed.address.0 c.args.rows.now).slots c.args.rings.now.later.items c.args.rings.now.earlier.items c.args.armed (c.slice.result % c.from.result) c.requires.wired.ringed bucket low)
+
+-- the node's row
+found : (c : goal.After-row_known-in-Some-2-1) → row_of (others_than c.args.armed.address.0 c.args.rows.now).slots c.loop-row.at ≡ Some c.in-Some.row
+found c = sym (shown c.args.armed.address.0 c.args.rows.now.slots c.loop-row.at c.loop-row.invariant.there) ∙ sym c.in-Some.ensures
 
 -- the node that is read
 read : (c : goal.After-row_known-in-Some-2-1) → c.index-at-in-Some.result.now ≡ get_or c.args.rings.now.earlier.items c.loop-row.at 0
 read c =
-    let node : c.loop-row.at < 1024 + c.args.rows.now.capacity = node_within c.args.rows.now c.args.rings.now.later.items c.args.rings.now.earlier.items c.loop-row.at c.requires.wired c.loop-row.invariant.there in
+    let node : c.loop-row.at < 1024 + c.args.rows.now.capacity = node_within (others_than c.args.armed.address.0 c.args.rows.now) c.args.rings.now.later.items c.args.rings.now.earlier.items c.loop-row.at c.requires.wired c.loop-row.invariant.there in
     c.index-at-in-Some.ensures ∙ get_or_default c.args.rings.now.earlier.items c.loop-row.at c.index-at-in-Some.result.now 0 (omega (arith, node, c.requires.wired.earlier_nodes))
 
-found : (c : goal.After-row_known-in-Some-2-1) → row_of c.args.rows.now.slots c.loop-row.at ≡ Some c.in-Some.row
-found c = sym c.in-Some.ensures
+pub index-at-requires-in-Some : goal.index-at-requires-in-Some
+index-at-requires-in-Some c =
+    let node : c.loop-row.at < 1024 + c.args.rows.now.capacity = node_within (others_than c.args.armed.address.0 c.args.rows.now) c.args.rings.now.later.items c.args.rings.now.earlier.items c.loop-row.at c.requires.wired c.loop-row.invariant.there in
+    omega (arith, node, c.requires.wired.earlier_nodes)
+
+pub returns-then-is_before : goal.returns-then-is_before
+returns-then-is_before c =
+    let found : row_of (others_than c.args.armed.address.0 c.args.rows.now).slots c.loop-row.at ≡ Some c.in-Some.row = sym (shown c.args.armed.address.0 c.args.rows.now.slots c.loop-row.at c.loop-row.invariant.there) ∙ sym c.in-Some.ensures in
+    let there : row_at (others_than c.args.armed.address.0 c.args.rows.now).slots (c.loop-row.at - 1024) ≡ Some c.in-Some.row = (row_key (others_than c.args.armed.address.0 c.args.rows.now).slots c.loop-row.at c.in-Some.row found).1 in
+    let row_fits : c.in-Some.row.address.0 < 2 ^ 128 = c.requires.wired.fits (c.loop-row.at - 1024) c.in-Some.row there in
+    let lower : rank_of c.in-Some.row < rank_of c.args.armed = sooner_rank c.in-Some.row c.args.armed row_fits (sym c.if-is_before.ensures) in
+    record { there = c.loop-row.invariant.there; bucket = c.loop-row.invariant.bucket; above = omega (arith, lower, ap rank_in found); below = c.loop-row.invariant.below }
 
 pub loop-row-smaller : goal.loop-row-smaller
 loop-row-smaller c =
-    subst (λ node. rank_at c.args.rows.now.slots node < rank_at c.args.rows.now.slots c.loop-row.at) (sym (read c))
-    (ranks_fall c.args.rows.now.slots c.args.rings.now.later.items c.args.rings.now.earlier.items c.in-Some.row c.loop-row.at c.requires.wired.ringed c.loop-row.invariant.there (found c))
+    subst (λ node. rank_at (others_than c.args.armed.address.0 c.args.rows.now).slots node < rank_at (others_than c.args.armed.address.0 c.args.rows.now).slots c.loop-row.at) (sym (read c))
+    (ranks_fall (others_than c.args.armed.address.0 c.args.rows.now).slots c.args.rings.now.later.items c.args.rings.now.earlier.items c.in-Some.row c.loop-row.at c.requires.wired.ringed c.loop-row.invariant.there (found c))
 
 pub loop-row-preserved : goal.loop-row-preserved
 loop-row-preserved c =
-    let there : row_at c.args.rows.now.slots (c.loop-row.at - 1024) ≡ Some c.in-Some.row = (row_key c.args.rows.now.slots c.loop-row.at c.in-Some.row (found c)).1 in
+    let there : row_at (others_than c.args.armed.address.0 c.args.rows.now).slots (c.loop-row.at - 1024) ≡ Some c.in-Some.row = (row_key (others_than c.args.armed.address.0 c.args.rows.now).slots c.loop-row.at c.in-Some.row (found c)).1 in
     let row_fits : c.in-Some.row.address.0 < 2 ^ 128 = c.requires.wired.fits (c.loop-row.at - 1024) c.in-Some.row there in
     let le : rank_of c.args.armed ≤ rank_of c.in-Some.row = later_rank c.in-Some.row c.args.armed c.requires.fits (sym c.if-is_before.ensures) in
-    let ne : rank_of c.args.armed ≢ rank_of c.in-Some.row = λ same. c.requires.absent (c.loop-row.at - 1024) c.in-Some.row there (sym (same_rank c.args.armed c.in-Some.row c.requires.fits row_fits same)) in
-    subst (IsBelow c.args.rows.now.slots c.args.rings.now.later.items c.args.armed) (sym (read c))
-    (goes_back c.args.rows.now.slots c.args.rings.now.later.items c.args.rings.now.earlier.items c.args.armed c.in-Some.row c.loop-row.at c.requires.wired.ringed c.loop-row.invariant (found c) (omega (arith, le, ne)))
+    let ne : rank_of c.args.armed ≢ rank_of c.in-Some.row = λ same. address_others c.args.armed.address.0 c.args.rows.now.slots (c.loop-row.at - 1024) c.in-Some.row there (sym (same_rank c.args.armed c.in-Some.row c.requires.fits row_fits same)) in
+    subst (IsBelow (others_than c.args.armed.address.0 c.args.rows.now).slots c.args.rings.now.later.items c.args.armed) (sym (read c))
+    (goes_back (others_than c.args.armed.address.0 c.args.rows.now).slots c.args.rings.now.later.items c.args.rings.now.earlier.items c.args.armed c.in-Some.row c.loop-row.at c.requires.wired.ringed c.loop-row.invariant (found c) (omega (arith, le, ne)))
