@@ -4,7 +4,7 @@ ghost use Rattle.std.specs.Prelude.{◌≡◌, ◌≤◌, ◌<◌, ◌-◌, ◌^
 ghost use Rattle.savi_kinds.specs.Ports.{number_of};
 ghost use Rattle.savi_kinds.specs.PortSets.{is_member};
 ghost use Rattle.mix_rules.specs.States.{is_fixed_to, is_bound_to, is_held_in, is_held_at};
-ghost use Rattle.bind_table.specs.Counts.{held_once, IsRecounted};
+ghost use Rattle.bind_table.specs.Counts.{held_once, IsRecounted, once_in, AreMoved};
 
 use dhcp_states::Bound;
 use fcfs_states::Fcfs;
@@ -26,20 +26,20 @@ pub(crate) fn recount(counts: &mut [u32; PORTS_MOST], before: &AddrState, after:
     requires most { (port : ℕ) → 1 ≤ port → port ≤ 16 → slice_index counts.old (port - 1) ≤ 2 ^ 20 }
     ensures { IsRecounted before.now after.now counts.old counts.new }
 {
-    if holders(before).0 != holders(after).0 {
-        recount_ports(counts, before, after);
+    let left = holders(before);
+    let came = holders(after);
+    if left.0 != came.0 {
+        count_ports(counts, left, came);
     }
 }
 
-// The same, over the 16 ports.
+// Takes an address from the ports of one set, and gives it to those of another one.
 #[inline(never)]
-fn recount_ports(counts: &mut [u32; PORTS_MOST], before: &AddrState, after: &AddrState)
-    requires least { (port : ℕ) → 1 ≤ port → port ≤ 16 → held_once port before.now ≤ slice_index counts.old (port - 1) }
+fn count_ports(counts: &mut [u32; PORTS_MOST], left: PortSet, came: PortSet)
+    requires least { (port : ℕ) → 1 ≤ port → port ≤ 16 → once_in left port ≤ slice_index counts.old (port - 1) }
     requires most { (port : ℕ) → 1 ≤ port → port ≤ 16 → slice_index counts.old (port - 1) ≤ 2 ^ 20 }
-    ensures { IsRecounted before.now after.now counts.old counts.new }
+    ensures { AreMoved left came counts.old counts.new }
 {
-    let left = holders(before);
-    let came = holders(after);
     for place in 0..PORTS_MOST {
         let Some(port) = Port::new(place as u8 + 1) else {
             unreachable!();

@@ -83,7 +83,7 @@ impl BindTable {
     /// Gives an address a state, which isn't `AddrState::none()`; there has to be room for its row, where it has none yet.
     /// O(1) on average where it has one; else O(n), since the keys of the rows of higher addresses move: 4 octets each.
     /// Where other ports hold the address than before, the 16 ports are gone over.
-    #[inline]
+    #[inline(always)]
     pub fn put(&mut self, a: Addr, s: AddrState)
         requires state { has_state s ≡ true }
         requires room { (has_state (state_in self.old.rows a.0) ≡ true) ⊎ (length self.old.rows < self.old.most) }

@@ -61,7 +61,7 @@ impl TimerWheel {
     /// The address is due at this moment (ms), in place of what was armed for it. It is one look-up of the address, O(1) on
     /// average, and a walk over those rows of the new bucket that are due later. A renewal is due after all that were
     /// renewed before it for as long, so that it walks over none but those that were armed for longer.
-    #[inline]
+    #[inline(always)]
     pub fn arm(&mut self, a: Addr, due: Moment)
         requires { IsSome (due_in self.old.arms a.0) ⊎ (length self.old.arms < self.old.most) }
         ensures { self.new ≡ record self.old { arms = with_due a.0 (Some due) self.old.arms } }

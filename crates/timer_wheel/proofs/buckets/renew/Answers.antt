@@ -8,8 +8,8 @@ use Rattle.timer_wheel.proofs.buckets.renew.Goals as goal
 pub unlink-requires-clause-after : goal.unlink-requires-clause-after
 unlink-requires-clause-after c = (row_in c.args.rows.now c.args.rings.now.later.items c.args.rings.now.earlier.items c.args.key c.requires.there.armed c.requires.wired c.requires.there.there).behind
 
-pub place_of-before-requires-clause-wired : goal.place_of-before-requires-clause-wired
-place_of-before-requires-clause-wired c =
+pub gap_for-gap-requires-clause-wired : goal.gap_for-gap-requires-clause-wired
+gap_for-gap-requires-clause-wired c =
     let wired = wired_others c.args.rows.now c.args.rings.now.later.items c.args.rings.now.earlier.items c.args.key c.args.armed.address.0 (record { row = c.requires.there; alone = c.requires.alone }) c.requires.wired in
     rw (c.unlink.ensures.later, c.unlink.ensures.earlier) wired
 
@@ -34,10 +34,10 @@ link-requires-clause-node c =
     (omega (arith, within, (linked c).later_nodes), omega (arith, within, (linked c).earlier_nodes))
 
 pub link-requires-clause-before : goal.link-requires-clause-before
-link-requires-clause-before c = (node_in (others_than c.args.armed.address.0 c.args.rows.now) c.unlink.new.self.later.items c.unlink.new.self.earlier.items c.place_of-before.result (linked c) c.place_of-before.ensures.there).in_later
+link-requires-clause-before c = (node_in (others_than c.args.armed.address.0 c.args.rows.now) c.unlink.new.self.later.items c.unlink.new.self.earlier.items c.gap_for-gap.result.before (linked c) c.gap_for-gap.ensures.before.there).in_later
 
-pub link-requires-clause-after : goal.link-requires-clause-after
-link-requires-clause-after c = (node_in (others_than c.args.armed.address.0 c.args.rows.now) c.unlink.new.self.later.items c.unlink.new.self.earlier.items c.place_of-before.result (linked c) c.place_of-before.ensures.there).behind
+pub link-requires-clause-behind : goal.link-requires-clause-behind
+link-requires-clause-behind c = rw c.gap_for-gap.ensures.behind ((node_in (others_than c.args.armed.address.0 c.args.rows.now) c.unlink.new.self.later.items c.unlink.new.self.earlier.items c.gap_for-gap.result.before (linked c) c.gap_for-gap.ensures.before.there).behind)
 
 pub returns-clause-wired : goal.returns-clause-wired
 returns-clause-wired c =
@@ -47,5 +47,5 @@ returns-clause-wired c =
     let added : IsAdded (left_by c.args.rows.now c.args.key) c.replace.new.rows c.args.key c.args.armed = added_left c.args.rows.now c.replace.new.rows c.args.key c.requires.there.armed c.args.armed c.requires.there.there c.replace.ensures.updates c.replace.ensures.len c.replace.ensures.capacity c.requires.alone in
     let within : c.args.key < c.args.rows.now.capacity = c.requires.wired.within c.args.key c.requires.there.armed c.requires.there.there in
     let low : c.args.key < c.replace.new.rows.capacity = omega (arith, within, c.replace.ensures.capacity) in
-    let wired = wired_renewed c.args.rows.now c.replace.new.rows c.unlink.new.self.later.items c.unlink.new.self.earlier.items c.args.key c.place_of-before.result c.args.armed row added low c.requires.fits c.place_of-before.ensures linked in
-    rw (c.link.ensures.later, c.link.ensures.earlier) wired
+    let wired = wired_renewed c.args.rows.now c.replace.new.rows c.unlink.new.self.later.items c.unlink.new.self.earlier.items c.args.key c.gap_for-gap.result.before c.args.armed row added low c.requires.fits c.gap_for-gap.ensures.before linked in
+    rw (c.link.ensures.later, c.link.ensures.earlier, c.gap_for-gap.ensures.behind) wired
