@@ -5,6 +5,7 @@ ghost use Rattle.addr_index.specs.Homes.{folded, mixed, home_of};
 
 // The first 64 bits of the fraction of pi, and those of the golden ratio.
 const HIGH_MASK: u64 = 0x243f_6a88_85a3_08d3;
+
 const LOW_MASK: u64 = 0x9e37_79b9_7f4a_7c15;
 
 // The first multiplier of SplitMix64's last step (David Stafford's variant 13).
