@@ -20,8 +20,8 @@ fn folded_product(a: u64, b: u64) -> u64
     (product % (1 << 64)) as u64 ^ (product >> 64) as u64
 }
 
-// 32 bits that depend on all 128 of an address. The multiplication of the halves alone leaves counted addresses in clusters
-// where one half is nearly constant, and the second one undoes that.
+// 32 bits that depend on all 128 of an address. The low bits of the folded product of both halves rise almost evenly where
+// one half is counted up, which can put many homes side by side. The second product scatters them.
 #[inline(always)]
 fn mix(address: u128) -> u64
     ensures { result ≡ mixed address }

@@ -1,7 +1,7 @@
 -- The rows of other addresses, and a row that gets another moment under its key.
-use Rattle.std.proofs.Common.{◌≡◌, ◌≢◌, ◌⊎◌, ℕ, zero, suc, ◌+◌, ◌-◌, ◌^◌, ◌<◌, ◌≤◌, true, false, cond, is_some, count_by, List, [], ◌∷◌, length, map, get_or, Option, None, Some, refl, sym, ap, ◌∙◌, subst, arith, inl, inr, get_or-set_same, get_or-set_other}
+use Rattle.std.proofs.Common.{◌≡◌, ◌≢◌, ◌⊎◌, ℕ, zero, suc, ◌+◌, ◌-◌, ◌^◌, ◌<◌, ◌≤◌, true, cond, is_some, count_by, List, [], ◌∷◌, length, map, get_or, Option, None, Some, refl, sym, ap, ◌∙◌, subst, arith, inl, inr, get_or-set_same, get_or-set_other}
 use Rattle.std.proofs.Math.ListN.{set}
-use Rattle.std.proofs.lemmas.Bool.{cases_Bool, cases_eq, cases_lt, false≢true, eq-eqb, le-ltb}
+use Rattle.std.proofs.lemmas.Bool.{cases_Bool, cases_eq, eq-eqb, le-ltb}
 use Rattle.std.proofs.lemmas.List.Sums.{sum_by-set}
 use Rattle.slab.specs.Slab.{Slab, slab_len, Updates}
 use Rattle.timer_wheel.specs.declared.armed.Armed.{Armed}
@@ -12,7 +12,7 @@ use Rattle.timer_wheel.specs.Kept.{HasRow, IsWired}
 use Rattle.timer_wheel.specs.Searches.{GoesBehind}
 use Rattle.timer_wheel.proofs.Rising.{is_of-other}
 use Rattle.timer_wheel.proofs.Pointwise.{none-some, some-same}
-use Rattle.timer_wheel.proofs.Nodes.{IsEnd, node_cases, row_of-end, row_key}
+use Rattle.timer_wheel.proofs.Nodes.{node_cases, row_of-end, row_key}
 use Rattle.timer_wheel.proofs.Keeping.{IsDropped, IsAdded, wired_dropped, wired_added}
 
 -- a row of another address is a row

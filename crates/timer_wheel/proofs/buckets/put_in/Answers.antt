@@ -1,7 +1,6 @@
-use Rattle.std.proofs.Common.{◌≡◌, sym, subst}
+use Rattle.std.proofs.Common.{sym, subst}
 use Rattle.slab.specs.Slab.{Slab}
 use Rattle.timer_wheel.specs.declared.armed.Armed.{Armed}
-use Rattle.timer_wheel.specs.Rows.{others_than}
 use Rattle.timer_wheel.specs.Kept.{IsWired}
 use Rattle.timer_wheel.specs.Searches.{GoesBehind}
 use Rattle.timer_wheel.proofs.Keeping.{IsAdded, wired_added, node_in}

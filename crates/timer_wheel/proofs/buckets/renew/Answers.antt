@@ -1,4 +1,4 @@
-use Rattle.std.proofs.Common.{◌≡◌, ◌+◌, ◌<◌, length, arith}
+use Rattle.std.proofs.Common.{◌<◌, arith}
 use Rattle.timer_wheel.specs.Rows.{others_than}
 use Rattle.timer_wheel.specs.Kept.{IsWired}
 use Rattle.timer_wheel.proofs.Keeping.{IsAdded, node_in, row_in}

@@ -1,7 +1,5 @@
-use Rattle.std.proofs.Common.{◌≡◌, min, IsSome, Some, sym, subst, ap, ◌∙◌, refl, arith}
-use Rattle.slab.specs.Slab.{Updates}
+use Rattle.std.proofs.Common.{◌≡◌, min, Some, sym, subst, ap, ◌∙◌, arith}
 use Rattle.timer_wheel.specs.Arms.{Wheel, with_due}
-use Rattle.timer_wheel.specs.Rows.{row_at}
 use Rattle.timer_wheel.specs.Rings.{slice_of}
 use Rattle.timer_wheel.specs.Kept.{IsKept, HasRow}
 use Rattle.timer_wheel.proofs.Slots.{arms_added}
