@@ -1,17 +1,17 @@
 -- The home of an address: the place at which a search for it begins.
 use Rattle.std.specs.Prelude.{ℕ, ◌-◌, ◌*◌, ◌/◌, ◌%◌, ◌^◌, bit_and, bit_xor}
 
--- a 64-bit word with its high bits folded down by k places, times m
-abbrev pub folded : ℕ → ℕ → ℕ → ℕ
-folded word k m = bit_xor word (word / 2 ^ k) * m % 2 ^ 64
+-- the halves of a product of two 64-bit words, laid over each other
+abbrev pub folded : ℕ → ℕ
+folded product = bit_xor (product % 2 ^ 64) (product / 2 ^ 64)
 
--- a 64-bit word, each bit of which depends on each bit of the one given: the last step of SplitMix64 (Steele, Lea and Flood,
--- 2014)
+-- 32 bits that depend on all of an address: the folded product of both its halves, each under a mask so that one that is 0
+-- doesn't make it 0, and of the product of that with an odd number the upper half
 abbrev pub mixed : ℕ → ℕ
-mixed word =
-    let last = folded (folded word 30 0xbf58476d1ce4e5b9) 27 0x94d049bb133111eb in
-    bit_xor last (last / 2 ^ 31)
+mixed address =
+    let word = folded (bit_xor (address / 2 ^ 64) 0x243f6a8885a308d3 * bit_xor (address % 2 ^ 64) 0x9e3779b97f4a7c15) in
+    word * 0xbf58476d1ce4e5b9 % 2 ^ 64 / 2 ^ 32
 
--- the home of an address among so many places, a power of two: of both its halves mixed, as many bits as number the places
+-- the home of an address among so many places, a power of two: as many of its mixed bits as number the places
 unfoldable pub home_of : ℕ → ℕ → ℕ
-home_of address places = bit_and (mixed (bit_xor (mixed (address / 2 ^ 64)) (address % 2 ^ 64))) (places - 1)
+home_of address places = bit_and (mixed address) (places - 1)

@@ -53,6 +53,7 @@ impl AddrIndex {
     }
 
     /// The key of an address: None exactly where the index doesn't hold it. O(1) on average.
+    #[inline(always)]
     pub fn get(&self, a: Addr) -> Option<u32>
         ensures { result ≡ key_in self.now a.0 }
     {

@@ -11,6 +11,7 @@ use crate::ring::{is_on_way, round};
 
 // The place of an address, or the empty place where it would stand. It goes from the home of the address on to the first
 // empty place.
+#[inline(always)]
 pub(crate) fn search(places: &[Option<Entry>], address: u128) -> Result<usize, usize>
     requires reached { IsReached (length places.now) places.now }
     requires sparse { length (entries_of places.now) < length places.now }

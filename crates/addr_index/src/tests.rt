@@ -16,73 +16,45 @@ fn address_at(place: usize, n: usize) -> Result<Addr, Fail> {
     Ok(Addr(address.ok_or("no such address")?))
 }
 
+// Takes an address in under a key, or gives it up where the key is 0.
+fn set(index: &mut AddrIndex, a: Addr, key: u32) {
+    if key == 0 {
+        index.remove(a);
+    } else if !index.is_full() && index.get(a).is_none() {
+        index.insert(a, key);
+    }
+}
+
+// The key of an address, or 0.
+fn key(index: &AddrIndex, a: Addr) -> u32 {
+    index.get(a).unwrap_or(0)
+}
+
 #[test]
 fn entries_move_back_round_the_last_place(rt: HostRuntime) -> Result<(), Fail> {
-    let a = address_at(7, 0)?;
-    let b = address_at(7, 1)?;
-    let c = address_at(7, 2)?;
+    let (a, b, c) = (address_at(7, 0)?, address_at(7, 1)?, address_at(7, 2)?);
     let d = address_at(0, 0)?;
     let mut index = AddrIndex::make(rt.alloc(), MOST)?;
     let steps = [
-        (
-            "into the last place",
-            a,
-            Some(1),
-            [Some(1), None, None, None],
-        ),
-        ("into the first", b, Some(2), [Some(1), Some(2), None, None]),
-        (
-            "into the second",
-            c,
-            Some(3),
-            [Some(1), Some(2), Some(3), None],
-        ),
-        (
-            "from its home to the third",
-            d,
-            Some(4),
-            [Some(1), Some(2), Some(3), Some(4)],
-        ),
-        (
-            "the others move back",
-            a,
-            None,
-            [None, Some(2), Some(3), Some(4)],
-        ),
-        (
-            "behind them",
-            a,
-            Some(5),
-            [Some(5), Some(2), Some(3), Some(4)],
-        ),
-        (
-            "those behind it move back",
-            c,
-            None,
-            [Some(5), Some(2), None, Some(4)],
-        ),
-        (
-            "one that isn't there",
-            c,
-            None,
-            [Some(5), Some(2), None, Some(4)],
-        ),
-        ("at its home", d, None, [Some(5), Some(2), None, None]),
+        ("into the last place", a, 1, [1, 0, 0, 0]),
+        ("into the first", b, 2, [1, 2, 0, 0]),
+        ("into the second", c, 3, [1, 2, 3, 0]),
+        ("from its home to the third", d, 4, [1, 2, 3, 4]),
+        ("the others move back", a, 0, [0, 2, 3, 4]),
+        ("behind them", a, 5, [5, 2, 3, 4]),
+        ("those behind it move back", c, 0, [5, 2, 0, 4]),
+        ("one that isn't there", c, 0, [5, 2, 0, 4]),
+        ("at its home", d, 0, [5, 2, 0, 0]),
     ];
-    for (name, address, key, wanted) in steps {
-        match key {
-            Some(key) => {
-                assert!(rt; !index.is_full());
-                assert_eq!(rt; index.get(address), None);
-                index.insert(address, key);
-            }
-            None => index.remove(address),
-        }
-        assert_eq!(rt;
-            [index.get(a), index.get(b), index.get(c), index.get(d)],
-            wanted,
-            "{name}"
-        );
+    for (name, address, given, wanted) in steps {
+        set(&mut index, address, given);
+        let keys = [
+            key(&index, a),
+            key(&index, b),
+            key(&index, c),
+            key(&index, d),
+        ];
+        assert_eq!(rt; keys, wanted, "{name}");
     }
     Ok(())
 }

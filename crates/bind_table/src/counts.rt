@@ -4,7 +4,7 @@ ghost use Rattle.std.specs.Prelude.{◌≡◌, ◌≤◌, ◌<◌, ◌-◌, ◌^
 ghost use Rattle.savi_kinds.specs.Ports.{number_of};
 ghost use Rattle.savi_kinds.specs.PortSets.{is_member};
 ghost use Rattle.mix_rules.specs.States.{is_fixed_to, is_bound_to, is_held_in, is_held_at};
-ghost use Rattle.bind_table.specs.Counts.{held_once, IsRecounted};
+ghost use Rattle.bind_table.specs.Counts.{held_once, IsRecounted, once_in, AreMoved};
 
 use dhcp_states::Bound;
 use fcfs_states::Fcfs;
@@ -20,6 +20,7 @@ pub(crate) fn count(counts: &[u32; PORTS_MOST], q: Port) -> u32
 
 // Counts an address anew that had the state `before` and has the state `after`. O(1) where the same ports hold it as before,
 // which is the common case; else it goes over the 16 ports.
+#[inline(always)]
 pub(crate) fn recount(counts: &mut [u32; PORTS_MOST], before: &AddrState, after: &AddrState)
     requires least { (port : ℕ) → 1 ≤ port → port ≤ 16 → held_once port before.now ≤ slice_index counts.old (port - 1) }
     requires most { (port : ℕ) → 1 ≤ port → port ≤ 16 → slice_index counts.old (port - 1) ≤ 2 ^ 20 }
@@ -27,9 +28,18 @@ pub(crate) fn recount(counts: &mut [u32; PORTS_MOST], before: &AddrState, after:
 {
     let left = holders(before);
     let came = holders(after);
-    if left.0 == came.0 {
-        return;
+    if left.0 != came.0 {
+        count_ports(counts, left, came);
     }
+}
+
+// Takes an address from the ports of one set, and gives it to those of another one.
+#[inline(never)]
+fn count_ports(counts: &mut [u32; PORTS_MOST], left: PortSet, came: PortSet)
+    requires least { (port : ℕ) → 1 ≤ port → port ≤ 16 → once_in left port ≤ slice_index counts.old (port - 1) }
+    requires most { (port : ℕ) → 1 ≤ port → port ≤ 16 → slice_index counts.old (port - 1) ≤ 2 ^ 20 }
+    ensures { AreMoved left came counts.old counts.new }
+{
     for place in 0..PORTS_MOST {
         let Some(port) = Port::new(place as u8 + 1) else {
             unreachable!();
@@ -40,6 +50,7 @@ pub(crate) fn recount(counts: &mut [u32; PORTS_MOST], before: &AddrState, after:
 }
 
 // The ports that hold an address of this state.
+#[inline(always)]
 fn holders(state: &AddrState) -> PortSet
     ensures { (port : ℕ) → 1 ≤ port → is_member result port ≡ is_held_at port state.now }
 {
@@ -49,6 +60,7 @@ fn holders(state: &AddrState) -> PortSet
     )
 }
 
+#[inline(always)]
 fn with_fixed(ports: PortSet, fixed: Option<Port>) -> PortSet
     ensures { (port : ℕ) → 1 ≤ port → is_member result port ≡ (is_fixed_to port fixed || is_member ports port) }
 {
@@ -58,6 +70,7 @@ fn with_fixed(ports: PortSet, fixed: Option<Port>) -> PortSet
     }
 }
 
+#[inline(always)]
 fn with_bound(ports: PortSet, dhcp: Option<Bound>) -> PortSet
     ensures { (port : ℕ) → 1 ≤ port → is_member result port ≡ (is_bound_to port dhcp || is_member ports port) }
 {
@@ -67,6 +80,7 @@ fn with_bound(ports: PortSet, dhcp: Option<Bound>) -> PortSet
     }
 }
 
+#[inline(always)]
 fn with_first_come(ports: PortSet, fcfs: Fcfs) -> PortSet
     ensures { (port : ℕ) → 1 ≤ port → is_member result port ≡ (is_held_in port fcfs || is_member ports port) }
 {

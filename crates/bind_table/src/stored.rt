@@ -5,9 +5,9 @@ ghost use Rattle.slab.specs.Slab.{get, slab_len, Updates};
 
 use crate::row::Row;
 use slab::Slab;
-use std::mem;
 
 // The row under a key that has one. O(1).
+#[inline(always)]
 pub(crate) fn row_under(rows: &Slab<Row>, key: u32) -> &Row
     requires { IsSome (get rows.now key) }
     ensures { get rows.now key ≡ Some result.now }
@@ -18,16 +18,16 @@ pub(crate) fn row_under(rows: &Slab<Row>, key: u32) -> &Row
     }
 }
 
-// Puts a row in place of the one under a key, which it returns. O(1).
-pub(crate) fn replace(rows: &mut Slab<Row>, key: u32, row: Row) -> Row
+// Puts a row in place of the one under a key. O(1).
+#[inline(always)]
+pub(crate) fn replace(rows: &mut Slab<Row>, key: u32, row: Row)
     requires { IsSome (get rows.old key) }
-    ensures value { get rows.old key ≡ Some result }
     ensures updates { Updates rows.old rows.new key (Some row) }
     ensures len { slab_len rows.new ≡ slab_len rows.old }
     ensures capacity { rows.new.capacity ≡ rows.old.capacity }
 {
     match rows.get_mut(key as usize) {
-        Some(place) => mem::replace(place, row),
+        Some(place) => *place = row,
         None => unreachable!(),
     }
 }

@@ -70,6 +70,7 @@ impl BindTable {
     }
 
     /// The state of an address: `AddrState::none()` exactly where it has no row. O(1) on average.
+    #[inline(always)]
     pub fn get(&self, a: Addr) -> AddrState
         ensures { result ≡ state_in self.now.rows a.0 }
     {
@@ -82,6 +83,7 @@ impl BindTable {
     /// Gives an address a state, which isn't `AddrState::none()`; there has to be room for its row, where it has none yet.
     /// O(1) on average where it has one; else O(n), since the keys of the rows of higher addresses move: 4 octets each.
     /// Where other ports hold the address than before, the 16 ports are gone over.
+    #[inline(always)]
     pub fn put(&mut self, a: Addr, s: AddrState)
         requires state { has_state s ≡ true }
         requires room { (has_state (state_in self.old.rows a.0) ≡ true) ⊎ (length self.old.rows < self.old.most) }
@@ -93,8 +95,8 @@ impl BindTable {
         };
         match self.index.get(a) {
             Some(key) => {
-                let before = replace(&mut self.rows, key, row);
-                recount(&mut self.counts, &before.state, &s);
+                recount(&mut self.counts, &row_under(&self.rows, key).state, &s);
+                replace(&mut self.rows, key, row);
             }
             None => {
                 let at = count_lower(&self.rows, self.order.as_slice(), a);

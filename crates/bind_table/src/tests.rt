@@ -23,6 +23,40 @@ fn by_first_come(fcfs: Fcfs) -> AddrState {
     }
 }
 
+fn leased_to(p: Port, fcfs: Fcfs) -> AddrState {
+    let until = Some(9_000);
+    AddrState {
+        fixed: None,
+        fcfs,
+        dhcp: Some(Bound { p, until }),
+    }
+}
+
+fn fixed_to(p: Port) -> AddrState {
+    AddrState {
+        fixed: Some(p),
+        fcfs: Fcfs::NoBind,
+        dhcp: None,
+    }
+}
+
+// The host at the first port claims the address.
+fn claimed_by(p: Port) -> Fcfs {
+    let (since, two) = (1_000, true);
+    Fcfs::Tentative { p, since, two }
+}
+
+// The host at the second port claims the address that the first one has.
+fn tested_for(p: Port, q: Port) -> Fcfs {
+    let (since, two) = (2_000, true);
+    Fcfs::TestVp { p, q, since, two }
+}
+
+fn valid_at(p: Port) -> Fcfs {
+    let until = 303_000;
+    Fcfs::Valid { p, until }
+}
+
 // Gives the address this state, or takes its state away; where there is no room, nothing.
 fn set(table: &mut BindTable, a: Addr, state: AddrState)
     requires { table.old.most ≡ ROWS }
@@ -38,77 +72,39 @@ fn set(table: &mut BindTable, a: Addr, state: AddrState)
 #[test]
 fn rows_come_and_go(rt: HostRuntime) -> Result<(), Fail> {
     let mut table = BindTable::make(rt.alloc(), ROWS)?;
-    let (p1, p2) = (port(1)?, port(2)?);
-    let claimed = by_first_come(Fcfs::Tentative {
-        p: p1,
-        since: 1_000,
-        two: true,
-    });
-    let tested = by_first_come(Fcfs::TestVp {
-        p: p1,
-        q: p2,
-        since: 2_000,
-        two: true,
-    });
-    let moved = by_first_come(Fcfs::Valid {
-        p: p2,
-        until: 303_000,
-    });
-    let bound = Some(Bound {
-        p: p2,
-        until: Some(9_000),
-    });
-    let leased = AddrState {
-        fixed: None,
-        fcfs: Fcfs::NoBind,
-        dhcp: bound,
-    };
-    let both = AddrState {
-        fixed: None,
-        fcfs: Fcfs::Valid {
-            p: p2,
-            until: 303_000,
-        },
-        dhcp: bound,
-    };
-    let fixed = AddrState {
-        fixed: Some(p1),
-        fcfs: Fcfs::NoBind,
-        dhcp: None,
-    };
+    let (p, q) = (port(1)?, port(2)?);
     let (low, middle, high) = (Addr(0x11), Addr(0x12), Addr(1 << 127));
+    let (none, fixed) = (AddrState::none(), fixed_to(p));
+    let (claimed, tested) = (
+        by_first_come(claimed_by(p)),
+        by_first_come(tested_for(p, q)),
+    );
+    let (moved, both) = (by_first_come(valid_at(q)), leased_to(q, valid_at(q)));
+    let leased = leased_to(q, Fcfs::NoBind);
     let steps = [
         ("the first", middle, claimed, 1, 1, 0),
         ("a higher one", high, fixed, 2, 2, 0),
-        (
-            "a port that claims it holds it too",
-            middle,
-            tested,
-            2,
-            2,
-            1,
-        ),
+        ("a claimant holds it too", middle, tested, 2, 2, 1),
         ("a lower one", low, leased, 3, 2, 2),
         ("one port by both methods", low, both, 3, 2, 2),
-        ("taken away", middle, AddrState::none(), 2, 1, 1),
-        ("which it was", middle, AddrState::none(), 2, 1, 1),
+        ("taken away", middle, none, 2, 1, 1),
+        ("which it was", middle, none, 2, 1, 1),
         ("again, at another port", middle, moved, 3, 1, 2),
     ];
     for (name, a, state, size, first, second) in steps {
         set(&mut table, a, state);
         assert_eq!(rt; table.get(a), state, "{name}");
         assert_eq!(rt; table.size(), size, "{name}");
-        assert_eq!(rt; table.count(p1), first, "{name}");
-        assert_eq!(rt; table.count(p2), second, "{name}");
+        assert_eq!(rt; (table.count(p), table.count(q)), (first, second), "{name}");
     }
     let rows = [
-        (0, Some((low, both))),
-        (1, Some((middle, moved))),
-        (2, Some((high, fixed))),
-        (3, None),
+        Some((low, both)),
+        Some((middle, moved)),
+        Some((high, fixed)),
+        None,
     ];
-    for (i, wanted) in rows {
-        assert_eq!(rt; table.row(i), wanted, "row {i}");
+    for i in 0..=ROWS {
+        assert_eq!(rt; table.row(i), rows[i as usize], "row {i}");
     }
     Ok(())
 }

@@ -59,7 +59,9 @@ fn all_timed<R: CpuClock>(rt: &R, alloc: Global, addresses: u32) -> io::Result<V
 {
     let mut times = Vec::new(alloc);
     times.push(timed::walk(rt, alloc, addresses)?)?;
+    times.push(timed::clock(rt, addresses)?)?;
     times.push(timed::hash_map_get(rt, alloc, addresses)?)?;
+    times.push(timed::hash_map_state(rt, alloc, addresses)?)?;
     times.push(timed::btree_map_get(rt, alloc, addresses)?)?;
     times.push(timed::index_get(rt, alloc, addresses)?)?;
     times.push(timed::bind_table_get(rt, alloc, addresses)?)?;

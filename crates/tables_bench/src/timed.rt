@@ -97,7 +97,17 @@ fn table(alloc: Global, addresses: u32) -> Result<BindTable, AllocError>
     Ok(table)
 }
 
-/// `get` of std's `HashMap`.
+/// The readings of the clock that are in the times of `wheel_arm`: two a round.
+pub fn clock<R: CpuClock>(rt: &R, addresses: u32) -> io::Result<Timed> {
+    let mut took = Duration::ZERO;
+    for _ in 0..ROUNDS {
+        let start = rt.thread_cpu_time()?;
+        took = took.saturating_add(rt.thread_cpu_time()?.saturating_sub(start));
+    }
+    Ok(in_rounds("clock", addresses, took, 0))
+}
+
+/// `get` of std's `HashMap`: whether it has the key.
 pub fn hash_map_get<R: CpuClock>(rt: &R, alloc: Global, addresses: u32) -> io::Result<Timed>
     requires { 1 ≤ addresses }
 {
@@ -114,7 +124,25 @@ pub fn hash_map_get<R: CpuClock>(rt: &R, alloc: Global, addresses: u32) -> io::R
     Ok(in_rounds("hash_map_get", addresses, took, answers))
 }
 
-/// `get` of std's `BTreeMap`.
+/// `get` of std's `HashMap`, and whether what it gives is a state, as `bind_table_get` asks.
+pub fn hash_map_state<R: CpuClock>(rt: &R, alloc: Global, addresses: u32) -> io::Result<Timed>
+    requires { 1 ≤ addresses }
+{
+    let map = hash_map(alloc, addresses)?;
+    let asked = asked_addresses(alloc, addresses)?;
+    let start = rt.thread_cpu_time()?;
+    let mut answers = 0u64;
+    for _ in 0..ROUNDS {
+        for a in &asked {
+            let state = map.get(&a.0).copied().unwrap_or(AddrState::none());
+            answers = answers.wrapping_add(u64::from(!state.is_none()));
+        }
+    }
+    let took = rt.thread_cpu_time()?.saturating_sub(start);
+    Ok(in_rounds("hash_map_state", addresses, took, answers))
+}
+
+/// `get` of std's `BTreeMap`: whether it has the key.
 pub fn btree_map_get<R: CpuClock>(rt: &R, alloc: Global, addresses: u32) -> io::Result<Timed>
     requires { 1 ≤ addresses }
 {

@@ -20,6 +20,7 @@ impl Armed {
     ghost use Rattle.timer_wheel.specs.Rings.{slice_of, is_sooner};
 
     // The slice of time in which it is due.
+    #[inline(always)]
     pub(crate) fn slice(&self) -> u64
         ensures { result ≡ slice_of self.now }
     {
@@ -27,6 +28,7 @@ impl Armed {
     }
 
     // Whether it is due sooner than another one, or at the same moment and of a lower address.
+    #[inline(always)]
     pub(crate) fn is_before(&self, other: Armed) -> bool
         ensures { result ≡ is_sooner self.now other }
     {

@@ -1,15 +1,15 @@
 //! The buckets: rows in a slab, those of a bucket linked by a ring.
 
-ghost use Rattle.std.specs.Prelude.{◌≡◌, ◌≢◌, ◌≤◌, ◌<◌, ◌+◌, ◌^◌, ℕ, None, Some, IsSome};
+ghost use Rattle.std.specs.Prelude.{◌≡◌, ◌≢◌, ◌≤◌, ◌<◌, ◌+◌, ◌^◌, ℕ, None, Some, IsSome, slice_index};
 ghost use Rattle.slab.specs.Slab.{Updates, HasRoomFor, slab_len};
-ghost use Rattle.timer_wheel.specs.Rows.{row_at};
+ghost use Rattle.timer_wheel.specs.Rows.{row_at, others_than};
 ghost use Rattle.timer_wheel.specs.Rings.{row_of as row_of_node, slice_of, bucket_of, sooner_of, is_in as is_in_slice};
-ghost use Rattle.timer_wheel.specs.Kept.{IsWired, IsEarly};
+ghost use Rattle.timer_wheel.specs.Kept.{IsWired, HasRow, IsEarly};
 ghost use Rattle.timer_wheel.specs.Searches.{GoesBehind, LeastOf};
 ghost use Rattle.timer_wheel.specs.declared.armed.Armed.{Armed};
 
 use crate::armed::Armed;
-use crate::rings::Rings;
+use crate::rings::{Gap, Rings};
 use slab::Slab;
 
 /// How many buckets there are, one for each slice of 64 ms: a turn of them is 65,536 ms.
@@ -25,6 +25,7 @@ pub(crate) struct Found {
 }
 
 // The row of a node, or None at an end.
+#[inline(always)]
 fn row_of(rows: &Slab<Armed>, node: u32) -> Option<Armed>
     ensures { result ≡ row_of_node rows.now.slots node }
 {
@@ -35,22 +36,25 @@ fn row_of(rows: &Slab<Armed>, node: u32) -> Option<Armed>
     }
 }
 
-// The node behind which a pair belongs whose address no row has. It goes back from the end of the pair's bucket over the
-// rows that are due later.
-fn place_of(rows: &Slab<Armed>, rings: &Rings, armed: Armed) -> u32
-    requires wired { IsWired rows.now rings.now.later.items rings.now.earlier.items }
+// The gap into which a pair belongs among the rows of other addresses, where these alone are linked. It goes back from the end
+// of the pair's bucket over the rows that are due later.
+#[inline(always)]
+fn gap_for(rows: &Slab<Armed>, rings: &Rings, armed: Armed) -> Gap
+    requires wired { IsWired (others_than armed.address.0 rows.now) rings.now.later.items rings.now.earlier.items }
     requires fits { armed.address.0 < 2 ^ 128 }
-    requires absent { (key : ℕ) (row : Armed) → row_at rows.now.slots key ≡ Some row → row.address.0 ≢ armed.address.0 }
-    ensures { GoesBehind rows.now.slots rings.now.later.items armed result }
+    ensures before { GoesBehind (others_than armed.address.0 rows.now).slots rings.now.later.items armed result.before }
+    ensures behind { result.behind ≡ slice_index rings.now.later.items result.before }
 {
-    let mut at = rings.earlier[(armed.slice() % u64::from(BUCKETS)) as usize];
-    while let Some(row) = row_of(rows, at) {
+    let mut behind = (armed.slice() % u64::from(BUCKETS)) as u32;
+    let mut before = rings.earlier[behind as usize];
+    while let Some(row) = row_of(rows, before) {
         if row.is_before(armed) {
-            return at;
+            break;
         }
-        at = rings.earlier[at as usize];
+        behind = before;
+        before = rings.earlier[behind as usize];
     }
-    at
+    Gap { before, behind }
 }
 
 // The least row of a bucket.
@@ -133,9 +137,9 @@ pub(crate) fn put_in(rows: &mut Slab<Armed>, rings: &mut Rings, armed: Armed) ->
     ensures len { slab_len rows.new ≡ slab_len rows.old + 1 }
     ensures capacity { rows.new.capacity ≡ rows.old.capacity }
 {
-    let before = place_of(rows, rings, armed);
+    let gap = gap_for(rows, rings, armed);
     let key = rows.insert_reserved(armed) as u32;
-    rings.link(BUCKETS + key, before);
+    rings.link(BUCKETS + key, gap);
     key
 }
 
@@ -152,4 +156,36 @@ pub(crate) fn take_out(rows: &mut Slab<Armed>, rings: &mut Rings, key: u32)
 {
     rings.unlink(BUCKETS + key);
     rows.try_remove(key as usize);
+}
+
+// Gives the row under a key another moment. It stays under its key, and moves to its place in the order.
+#[inline(always)]
+pub(crate) fn renew(rows: &mut Slab<Armed>, rings: &mut Rings, key: u32, armed: Armed)
+    requires wired { IsWired rows.old rings.old.later.items rings.old.earlier.items }
+    requires fits { armed.address.0 < 2 ^ 128 }
+    requires there { HasRow rows.old.slots key armed.address.0 }
+    requires alone { (other : ℕ) (row : Armed) → row_at rows.old.slots other ≡ Some row → row.address.0 ≡ armed.address.0 → other ≡ key }
+    ensures wired { IsWired rows.new rings.new.later.items rings.new.earlier.items }
+    ensures updates { Updates rows.old rows.new key (Some armed) }
+    ensures len { slab_len rows.new ≡ slab_len rows.old }
+    ensures capacity { rows.new.capacity ≡ rows.old.capacity }
+{
+    rings.unlink(BUCKETS + key);
+    let gap = gap_for(rows, rings, armed);
+    replace(rows, key, armed);
+    rings.link(BUCKETS + key, gap);
+}
+
+// Puts a row in place of the one under a key. O(1).
+#[inline(always)]
+fn replace(rows: &mut Slab<Armed>, key: u32, armed: Armed)
+    requires { IsSome (row_at rows.old.slots key) }
+    ensures updates { Updates rows.old rows.new key (Some armed) }
+    ensures len { slab_len rows.new ≡ slab_len rows.old }
+    ensures capacity { rows.new.capacity ≡ rows.old.capacity }
+{
+    match rows.get_mut(key as usize) {
+        Some(row) => *row = armed,
+        None => unreachable!(),
+    }
 }

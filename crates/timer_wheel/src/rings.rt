@@ -11,6 +11,13 @@ pub(crate) struct Rings {
     pub(crate) earlier: Vec<u32>,
 }
 
+// A node and the one that follows it, between which another one is to come.
+#[derive(Clone, Copy)]
+pub(crate) struct Gap {
+    pub(crate) before: u32,
+    pub(crate) behind: u32,
+}
+
 impl Rings {
     // So many nodes, each its own neighbor.
     pub(crate) fn make(alloc: Global, nodes: u32) -> Result<Rings, AllocError>
@@ -25,22 +32,23 @@ impl Rings {
         })
     }
 
-    // Puts a node in behind another one.
-    pub(crate) fn link(&mut self, node: u32, before: u32)
+    // Puts a node in between two neighbors.
+    #[inline(always)]
+    pub(crate) fn link(&mut self, node: u32, gap: Gap)
         requires node { (node < length self.old.later.items) × (node < length self.old.earlier.items) }
-        requires before { before < length self.old.later.items }
-        requires after { slice_index self.old.later.items before < length self.old.earlier.items }
-        ensures later { self.new.later.items ≡ slice_set (slice_set self.old.later.items node (slice_index self.old.later.items before)) before node }
-        ensures earlier { self.new.earlier.items ≡ slice_set (slice_set self.old.earlier.items (slice_index self.old.later.items before) node) node before }
+        requires before { gap.before < length self.old.later.items }
+        requires behind { gap.behind < length self.old.earlier.items }
+        ensures later { self.new.later.items ≡ slice_set (slice_set self.old.later.items node gap.behind) gap.before node }
+        ensures earlier { self.new.earlier.items ≡ slice_set (slice_set self.old.earlier.items gap.behind node) node gap.before }
     {
-        let after = self.later[before as usize];
-        self.later[node as usize] = after;
-        self.later[before as usize] = node;
-        self.earlier[after as usize] = node;
-        self.earlier[node as usize] = before;
+        self.later[node as usize] = gap.behind;
+        self.later[gap.before as usize] = node;
+        self.earlier[gap.behind as usize] = node;
+        self.earlier[node as usize] = gap.before;
     }
 
     // Takes a node out.
+    #[inline(always)]
     pub(crate) fn unlink(&mut self, node: u32)
         requires node { (node < length self.old.later.items) × (node < length self.old.earlier.items) }
         requires before { slice_index self.old.earlier.items node < length self.old.later.items }

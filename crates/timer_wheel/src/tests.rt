@@ -2,11 +2,12 @@
 
 use crate::TimerWheel;
 use savi_kinds::Addr;
+use std::alloc::{AllocError, Global};
 use std::test::Fail;
 
-#[test]
-fn pairs_are_taken_in_order(rt: HostRuntime) -> Result<(), Fail> {
-    let mut wheel = TimerWheel::make(rt.alloc(), 9)?;
+// Nine moments, one of them in place of another, of eight addresses.
+fn armed_wheel(alloc: Global) -> Result<TimerWheel, AllocError> {
+    let mut wheel = TimerWheel::make(alloc, 9)?;
     let arms = [
         (3, 200),
         (1, 200),
@@ -21,6 +22,12 @@ fn pairs_are_taken_in_order(rt: HostRuntime) -> Result<(), Fail> {
     for (a, due) in arms {
         wheel.arm(Addr(a), due);
     }
+    Ok(wheel)
+}
+
+#[test]
+fn pairs_are_taken_in_order(rt: HostRuntime) -> Result<(), Fail> {
+    let mut wheel = armed_wheel(rt.alloc())?;
     wheel.cancel(Addr(8));
     let takes = [
         ("nothing yet", 9, None),
@@ -33,20 +40,13 @@ fn pairs_are_taken_in_order(rt: HostRuntime) -> Result<(), Fail> {
         ("at its new moment", 300, Some((300, 7))),
         ("one turn later, too early", 65_735, None),
         ("one turn later", 65_736, Some((65_736, 2))),
-        (
-            "two turns later, long after",
-            10_000_000,
-            Some((131_272, 4)),
-        ),
+        ("long after two turns", 10_000_000, Some((131_272, 4))),
         ("nothing is left", u64::MAX, None),
     ];
     for (name, t, wanted) in takes {
         assert_eq!(rt; wheel.is_due(t), wanted.is_some(), "{name}");
-        assert_eq!(rt;
-            wheel.next_due(t),
-            wanted.map(|(due, a)| (due, Addr(a))),
-            "{name}"
-        );
+        let taken = wheel.next_due(t).map(|(due, a)| (due, a.0));
+        assert_eq!(rt; taken, wanted, "{name}");
     }
     Ok(())
 }

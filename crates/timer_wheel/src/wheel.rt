@@ -4,7 +4,7 @@ ghost use Rattle.std.specs.Prelude.{◌≡◌, ◌^◌, ◌≤◌, ◌<◌, ◌�
 ghost use Rattle.timer_wheel.specs.Arms.{IsRising, due_in, with_due, first_armed, due_by, without};
 
 use crate::armed::{Armed, SLICE_MS};
-use crate::buckets::{BUCKETS, put_in, seek, take_out};
+use crate::buckets::{BUCKETS, put_in, renew, seek, take_out};
 use crate::rings::Rings;
 use addr_index::AddrIndex;
 use savi_kinds::{Addr, Moment};
@@ -61,6 +61,7 @@ impl TimerWheel {
     /// The address is due at this moment (ms), in place of what was armed for it. It is one look-up of the address, O(1) on
     /// average, and a walk over those rows of the new bucket that are due later. A renewal is due after all that were
     /// renewed before it for as long, so that it walks over none but those that were armed for longer.
+    #[inline(always)]
     pub fn arm(&mut self, a: Addr, due: Moment)
         requires { IsSome (due_in self.old.arms a.0) ⊎ (length self.old.arms < self.old.most) }
         ensures { self.new ≡ record self.old { arms = with_due a.0 (Some due) self.old.arms } }
@@ -68,11 +69,7 @@ impl TimerWheel {
         let armed = Armed { address: a, due };
         self.cursor = self.cursor.min(armed.slice());
         match self.index.get(a) {
-            Some(key) => {
-                take_out(&mut self.rows, &mut self.rings, key);
-                // Under the same key, which is the next one.
-                put_in(&mut self.rows, &mut self.rings, armed);
-            }
+            Some(key) => renew(&mut self.rows, &mut self.rings, key, armed),
             None => {
                 let key = put_in(&mut self.rows, &mut self.rings, armed);
                 self.index.insert(a, key);

@@ -4,4 +4,4 @@ use Rattle.addr_index.proofs.home.home.Goals as goal
 
 pub returns-clause-home : goal.returns-clause-home
 unfolding home_of
-returns-clause-home c = rw (c.mix-2.ensures, c.mix.ensures) refl
+returns-clause-home c = rw c.mix.ensures refl

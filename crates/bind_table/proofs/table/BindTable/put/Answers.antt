@@ -11,21 +11,21 @@ use Rattle.bind_table.proofs.KeptChanges.{row_by_key, renewed, inserted}
 use Rattle.bind_table.proofs.Tables.{whole_kept, whole_view, counts_least, state_under, room_left, place_within}
 use Rattle.bind_table.proofs.table.BindTable.put.Goals as goal
 
-pub replace-before-requires : goal.replace-before-requires
-replace-before-requires c = rw (row_by_key c.self.inside.rows c.self.inside.index c.self.inside.order.items c.self.inside.counts (rows_under c.self.inside.rows c.self.inside.order.items) c.args.a.0 c.in-Some.key c.self.invariant.0 (sym c.in-Some.ensures)) refl
+pub row_under-requires : goal.row_under-requires
+row_under-requires c = rw (row_by_key c.self.inside.rows c.self.inside.index c.self.inside.order.items c.self.inside.counts (rows_under c.self.inside.rows c.self.inside.order.items) c.args.a.0 c.in-Some.key c.self.invariant.0 (sym c.in-Some.ensures)) refl
 
 pub recount-requires-clause-least : goal.recount-requires-clause-least
 recount-requires-clause-least c = λ port low high.
     let rows : List Row = rows_under c.self.inside.rows c.self.inside.order.items in
-    let same : c.replace-before.result.state ≡ state_in rows c.args.a.0 = state_under c.self.inside.rows c.self.inside.index c.self.inside.order.items c.self.inside.counts rows c.args.a.0 c.in-Some.key c.replace-before.result c.self.invariant.0 (sym c.in-Some.ensures) c.replace-before.ensures.value in
+    let same : c.row_under.result.now.state ≡ state_in rows c.args.a.0 = state_under c.self.inside.rows c.self.inside.index c.self.inside.order.items c.self.inside.counts rows c.args.a.0 c.in-Some.key c.row_under.result.now c.self.invariant.0 (sym c.in-Some.ensures) c.row_under.ensures in
     subst (λ state. held_once port state ≤ get_or c.self.inside.counts (port - 1) 0) (sym same) (counts_least c.self.inside.rows c.self.inside.index c.self.inside.order.items c.self.inside.counts rows c.args.a.0 c.self.invariant.0 port low high)
 
-renewed_here : (c : goal.After-recount) → IsKept c.replace-before.new.rows c.self.inside.index c.self.inside.order.items c.recount.new.counts (with_state c.args.a.0 c.args.s (rows_under c.self.inside.rows c.self.inside.order.items))
+renewed_here : (c : goal.After-replace) → IsKept c.replace.new.rows c.self.inside.index c.self.inside.order.items c.recount.new.counts (with_state c.args.a.0 c.args.s (rows_under c.self.inside.rows c.self.inside.order.items))
 renewed_here c =
     let rows : List Row = rows_under c.self.inside.rows c.self.inside.order.items in
     let is : key_in c.self.inside.index c.args.a.0 ≡ Some c.in-Some.key = sym c.in-Some.ensures in
-    let same : c.replace-before.result.state ≡ state_in rows c.args.a.0 = state_under c.self.inside.rows c.self.inside.index c.self.inside.order.items c.self.inside.counts rows c.args.a.0 c.in-Some.key c.replace-before.result c.self.invariant.0 is c.replace-before.ensures.value in
-    renewed c.self.inside.rows c.replace-before.new.rows c.self.inside.index c.self.inside.order.items c.self.inside.counts c.recount.new.counts rows c.args.a.0 c.in-Some.key c.args.s c.self.invariant.0 is c.requires.state c.replace-before.ensures.updates c.replace-before.ensures.len
+    let same : c.row_under.result.now.state ≡ state_in rows c.args.a.0 = state_under c.self.inside.rows c.self.inside.index c.self.inside.order.items c.self.inside.counts rows c.args.a.0 c.in-Some.key c.row_under.result.now c.self.invariant.0 is c.row_under.ensures in
+    renewed c.self.inside.rows c.replace.new.rows c.self.inside.index c.self.inside.order.items c.self.inside.counts c.recount.new.counts rows c.args.a.0 c.in-Some.key c.args.s c.self.invariant.0 is c.requires.state c.replace.ensures.updates c.replace.ensures.len
     (subst (λ before. IsRecounted before c.args.s c.self.inside.counts c.recount.new.counts) same c.recount.ensures)
 
 pub invariant_of-self : goal.invariant_of-self
@@ -33,14 +33,14 @@ invariant_of-self c =
     let rows : List Row = rows_under c.self.inside.rows c.self.inside.order.items in
     let now : List Row = with_state c.args.a.0 c.args.s rows in
     let size : length now ≡ length rows = sym (renewed_here c).index_size ∙ c.self.invariant.0.index_size in
-    whole_kept c.replace-before.new.rows c.self.inside.index c.self.inside.order.items c.recount.new.counts now (vec_capacity c.self.inside.order) c.self.inside.most (renewed_here c)
+    whole_kept c.replace.new.rows c.self.inside.index c.self.inside.order.items c.recount.new.counts now (vec_capacity c.self.inside.order) c.self.inside.most (renewed_here c)
     (record {
       within = omega (arith, size, c.self.invariant.1.within);
-      slab_room = omega (arith, c.replace-before.ensures.capacity, c.self.invariant.1.slab_room);
+      slab_room = omega (arith, c.replace.ensures.capacity, c.self.invariant.1.slab_room);
       index_room = c.self.invariant.1.index_room;
       order_room = c.self.invariant.1.order_room;
       limit = c.self.invariant.1.limit;
-      narrow = omega (arith, c.replace-before.ensures.capacity, c.self.invariant.1.narrow);
+      narrow = omega (arith, c.replace.ensures.capacity, c.self.invariant.1.narrow);
     })
 
 pub insert_reserved-key-requires : goal.insert_reserved-key-requires
@@ -92,7 +92,7 @@ invariant_of-self-in-None c =
 pub returns-in-Some : goal.returns-in-Some
 returns-in-Some c =
     rw (← c.self.view_is)
-    (whole_view c.replace-before.new.rows c.self.inside.index c.self.inside.order.items c.recount.new.counts (with_state c.args.a.0 c.args.s (rows_under c.self.inside.rows c.self.inside.order.items)) c.self.inside.most (renewed_here c))
+    (whole_view c.replace.new.rows c.self.inside.index c.self.inside.order.items c.recount.new.counts (with_state c.args.a.0 c.args.s (rows_under c.self.inside.rows c.self.inside.order.items)) c.self.inside.most (renewed_here c))
 
 pub returns-in-None : goal.returns-in-None
 returns-in-None c =

@@ -1,48 +1,44 @@
-use Rattle.std.proofs.Common.{◌≡◌, min, IsSome, Some, sym, subst, ap, ◌∙◌, refl, arith}
-use Rattle.slab.specs.Slab.{Updates}
+use Rattle.std.proofs.Common.{◌≡◌, min, Some, sym, subst, ap, ◌∙◌, arith}
 use Rattle.timer_wheel.specs.Arms.{Wheel, with_due}
-use Rattle.timer_wheel.specs.Rows.{row_at}
 use Rattle.timer_wheel.specs.Rings.{slice_of}
 use Rattle.timer_wheel.specs.Kept.{IsKept, HasRow}
 use Rattle.timer_wheel.proofs.Slots.{arms_added}
-use Rattle.timer_wheel.proofs.Keeping.{IsDropped, IsAdded, adds_row, kept_added, kept_renewed, arms_renewed, absent_left, one_each, no_row, none_due, room_for}
-use Rattle.timer_wheel.proofs.wheel.TimerWheel.arm.Goals.{After-put_in, After-insert}
+use Rattle.timer_wheel.proofs.Keeping.{IsDropped, IsAdded, adds_row, kept_added, kept_renewed, arms_renewed, one_each, no_row, none_due, room_for}
+use Rattle.timer_wheel.proofs.Renewing.{IsRowOf, left_by, dropped_left, added_left}
+use Rattle.timer_wheel.proofs.wheel.TimerWheel.arm.Goals.{After-renew, After-insert}
 use Rattle.timer_wheel.proofs.wheel.TimerWheel.arm.Goals as goal
 
-pub take_out-requires-clause-there : goal.take_out-requires-clause-there
-take_out-requires-clause-there c = subst IsSome (sym (c.self.invariant.indexed.told c.args.a.0 c.in-Some.key (sym c.in-Some.ensures)).there) refl
+pub renew-requires-clause-there : goal.renew-requires-clause-there
+renew-requires-clause-there c = c.self.invariant.indexed.told c.args.a.0 c.in-Some.key (sym c.in-Some.ensures)
+
+pub renew-requires-clause-alone : goal.renew-requires-clause-alone
+renew-requires-clause-alone c other x found same =
+    let has : HasRow c.self.inside.rows.slots c.in-Some.key c.args.a.0 = c.self.invariant.indexed.told c.args.a.0 c.in-Some.key (sym c.in-Some.ensures) in
+    one_each c.self.inside.rows c.self.inside.index c.self.invariant.indexed other c.in-Some.key x has.armed found has.there (same ∙ sym has.address)
 
 -- the row that was armed for the address
-row : (c : After-put_in) → HasRow c.self.inside.rows.slots c.in-Some.key c.args.a.0
-row c = c.self.invariant.indexed.told c.args.a.0 c.in-Some.key (sym c.in-Some.ensures)
+row : (c : After-renew) → IsRowOf c.self.inside.rows c.in-Some.key c.args.a.0
+row c =
+    let has : HasRow c.self.inside.rows.slots c.in-Some.key c.args.a.0 = c.self.invariant.indexed.told c.args.a.0 c.in-Some.key (sym c.in-Some.ensures) in
+    record { row = has; alone = λ k x found same. one_each c.self.inside.rows c.self.inside.index c.self.invariant.indexed k c.in-Some.key x has.armed found has.there (same ∙ sym has.address) }
 
-dropped : (c : After-put_in) → IsDropped c.self.inside.rows c.take_out.new.rows c.in-Some.key (row c).armed
-dropped c = record { there = (row c).there; updates = c.take_out.ensures.updates; len = c.take_out.ensures.len; capacity = c.take_out.ensures.capacity }
+dropped : (c : After-renew) → IsDropped c.self.inside.rows (left_by c.self.inside.rows c.in-Some.key) c.in-Some.key (row c).row.armed
+dropped c = dropped_left c.self.inside.rows c.in-Some.key (row c).row.armed (row c).row.there
 
--- the new row has the key of the old one
-same_key : (c : After-put_in) → c.put_in.result ≡ c.in-Some.key
-same_key c = c.put_in.ensures.key ∙ c.take_out.ensures.next
-
-renewed : (c : After-put_in) → IsAdded c.take_out.new.rows c.put_in.new.rows c.in-Some.key (record { address = c.args.a; due = c.args.due })
-renewed c = record {
-  empty = ap (row_at c.take_out.new.rows.slots) (sym (same_key c)) ∙ c.put_in.ensures.vacant;
-  updates = subst (λ k. Updates c.take_out.new.rows c.put_in.new.rows k (Some (record { address = c.args.a; due = c.args.due }))) (same_key c) c.put_in.ensures.updates;
-  len = c.put_in.ensures.len;
-  capacity = c.put_in.ensures.capacity;
-  absent = λ k x there same. absent_left c.self.inside.rows c.take_out.new.rows c.self.inside.index c.in-Some.key (row c).armed (dropped c) c.self.invariant.indexed k x there (same ∙ sym (row c).address);
-}
+renewed : (c : After-renew) → IsAdded (left_by c.self.inside.rows c.in-Some.key) c.renew.new.rows c.in-Some.key (record { address = c.args.a; due = c.args.due })
+renewed c = added_left c.self.inside.rows c.renew.new.rows c.in-Some.key (row c).row.armed (record { address = c.args.a; due = c.args.due }) (row c).row.there c.renew.ensures.updates c.renew.ensures.len c.renew.ensures.capacity (row c).alone
 
 pub invariant_of-self : goal.invariant_of-self
 invariant_of-self c =
     let cursor : c.min-self-inside.result ≡ min c.self.inside.cursor (slice_of (record { address = c.args.a; due = c.args.due })) = c.min-self-inside.ensures ∙ ap (min c.self.inside.cursor) c.slice.ensures in
-    subst (λ n. IsKept c.put_in.new.rows c.self.inside.index c.put_in.new.rings.later.items c.put_in.new.rings.earlier.items n c.self.inside.most) (sym cursor)
-    (kept_renewed c.self.inside.rows c.take_out.new.rows c.put_in.new.rows c.self.inside.index c.self.inside.rings.later.items c.put_in.new.rings.later.items c.self.inside.rings.earlier.items c.put_in.new.rings.earlier.items c.self.inside.cursor c.self.inside.most c.in-Some.key (row c).armed (record { address = c.args.a; due = c.args.due }) (dropped c) (renewed c)
-    (row c).address c.put_in.ensures.wired c.self.invariant)
+    subst (λ n. IsKept c.renew.new.rows c.self.inside.index c.renew.new.rings.later.items c.renew.new.rings.earlier.items n c.self.inside.most) (sym cursor)
+    (kept_renewed c.self.inside.rows (left_by c.self.inside.rows c.in-Some.key) c.renew.new.rows c.self.inside.index c.self.inside.rings.later.items c.renew.new.rings.later.items c.self.inside.rings.earlier.items c.renew.new.rings.earlier.items c.self.inside.cursor c.self.inside.most c.in-Some.key (row c).row.armed (record { address = c.args.a; due = c.args.due }) (dropped c) (renewed c)
+    (row c).row.address c.renew.ensures.wired c.self.invariant)
 
 pub returns-in-Some : goal.returns-in-Some
 returns-in-Some c =
     ap (λ xs. record { arms = xs; most = c.self.inside.most })
-    (arms_renewed c.self.inside.rows c.take_out.new.rows c.put_in.new.rows c.self.inside.index c.in-Some.key (row c).armed (record { address = c.args.a; due = c.args.due }) (dropped c) (renewed c) (row c).address c.self.invariant.indexed)
+    (arms_renewed c.self.inside.rows (left_by c.self.inside.rows c.in-Some.key) c.renew.new.rows c.self.inside.index c.in-Some.key (row c).row.armed (record { address = c.args.a; due = c.args.due }) (dropped c) (renewed c) (row c).row.address c.self.invariant.indexed)
     ∙ ap (λ (w : Wheel). record { arms = with_due c.args.a.0 (Some c.args.due) w.arms; most = w.most }) c.self.view_is
 
 pub put_in-key-requires-clause-room : goal.put_in-key-requires-clause-room
