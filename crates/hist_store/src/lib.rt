@@ -15,7 +15,8 @@ mod port_fields;
 mod read_end;
 mod read_fields;
 mod read_hex;
-mod read_line;
+mod reading;
+mod read_ports;
 mod read_verdict;
 #[cfg(test)]
 mod tests;
@@ -26,4 +27,4 @@ pub use hist::Hist;
 pub use line::put_line;
 pub use pieces::{JOURNAL_LINE_OCTETS, JournalLine};
 pub use read_hex::LineOctets;
-pub use read_line::read_line;
+pub use reading::read_line;

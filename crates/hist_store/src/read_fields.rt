@@ -1,19 +1,43 @@
+ghost use Rattle.std.specs.Prelude.{◌≡◌, ◌==◌, ◌^◌, ◌<◌, ◌≤◌, ◌∷◌, ◌++◌, ℕ, List, Option, Some, IfSome, IsSomeAnd, decimal, length};
+ghost use Rattle.std.specs.List.{position, position_or_len};
+ghost use Rattle.savi_kinds.specs.declared.port.Port.{Port};
+ghost use Rattle.hist_store.specs.TextOfLines.{space, spaced, HasNoSpace};
+ghost use Rattle.hist_store.specs.PortTexts.{port_text};
+
 use crate::decimal::read_decimal;
-use savi_kinds::{Port, PortSet};
+use savi_kinds::{PORTS_MOST, Port};
+
+// The greatest number of 32 bits.
+const COUNT_MOST: u64 = 0xffff_ffff;
 
 // The field at the front of a text, and the fields behind it, each with a space in front.
-pub fn cut_field(text: &[u8]) -> (&[u8], &[u8]) {
-    let end = end_of_field(text);
-    (&text[..end], &text[end..])
+pub fn cut_field(text: &[u8]) -> (&[u8], &[u8])
+    ensures read { text.now ≡ result.0.now ++ result.1.now }
+    ensures whole { (field : List ℕ) (fields : List (List ℕ)) → HasNoSpace field → text.now ≡ field ++ spaced fields → (result.0.now ≡ field) × (result.1.now ≡ spaced fields) }
+{
+    text.split_at(end_of_field(text))
 }
 
 // Where the first space stands, or how long the text is.
-fn end_of_field(text: &[u8]) -> usize {
-    text.iter().position(|c| *c == b' ').unwrap_or(text.len())
+fn end_of_field(text: &[u8]) -> usize
+    ensures place { result ≡ position_or_len (λ c. c == space) text.now }
+    ensures inside { result ≤ length text.now }
+{
+    space_in(text).unwrap_or(text.len())
+}
+
+// Where the first space stands.
+fn space_in(text: &[u8]) -> Option<usize>
+    ensures { result ≡ position (λ c. c == space) text.now }
+{
+    text.iter().position(|c| *c == b' ')
 }
 
 // The field behind the space at the front, and the fields behind it.
-pub fn take_field(text: &[u8]) -> Option<(&[u8], &[u8])> {
+pub fn take_field(text: &[u8]) -> Option<(&[u8], &[u8])>
+    ensures read { IfSome result (λ r. text.now ≡ space ∷ r.0.now ++ r.1.now) }
+    ensures whole { (field : List ℕ) (fields : List (List ℕ)) → HasNoSpace field → text.now ≡ spaced (field ∷ fields) → IsSomeAnd result (λ r. (r.0.now ≡ field) × (r.1.now ≡ spaced fields)) }
+{
     match text {
         [b' ', fields @ ..] => Some(cut_field(fields)),
         _ => None,
@@ -21,58 +45,51 @@ pub fn take_field(text: &[u8]) -> Option<(&[u8], &[u8])> {
 }
 
 // A number of 64 bits as the first field.
-pub fn take_number(text: &[u8]) -> Option<(u64, &[u8])> {
+pub fn take_number(text: &[u8]) -> Option<(u64, &[u8])>
+    ensures read { IfSome result (λ r. (text.now ≡ space ∷ decimal r.0 ++ r.1.now) × (r.0 < 2 ^ 64)) }
+    ensures whole { (n : ℕ) (fields : List (List ℕ)) → n < 2 ^ 64 → text.now ≡ spaced (decimal n ∷ fields) → IsSomeAnd result (λ r. (r.0 ≡ n) × (r.1.now ≡ spaced fields)) }
+{
     let (field, rest) = take_field(text)?;
-    Some((read_decimal(field)?, rest))
+    Some((read_number(field)?, rest))
+}
+
+// A number of 64 bits.
+pub fn read_number(field: &[u8]) -> Option<u64>
+    ensures read { IfSome result (λ n. (field.now ≡ decimal n) × (n < 2 ^ 64)) }
+    ensures whole { (n : ℕ) → n < 2 ^ 64 → field.now ≡ decimal n → result ≡ Some n }
+{
+    read_decimal(field)
 }
 
 // A number of 32 bits as the first field.
-pub fn take_count(text: &[u8]) -> Option<(u32, &[u8])> {
+pub fn take_count(text: &[u8]) -> Option<(u32, &[u8])>
+    ensures read { IfSome result (λ r. (text.now ≡ space ∷ decimal r.0 ++ r.1.now) × (r.0 < 2 ^ 32)) }
+    ensures whole { (n : ℕ) (fields : List (List ℕ)) → n < 2 ^ 32 → text.now ≡ spaced (decimal n ∷ fields) → IsSomeAnd result (λ r. (r.0 ≡ n) × (r.1.now ≡ spaced fields)) }
+{
     let (number, rest) = take_number(text)?;
-    Some((u32::try_from(number).ok()?, rest))
+    if number > COUNT_MOST {
+        return None;
+    }
+    Some((number as u32, rest))
 }
 
 // A port as the first field.
-pub fn take_port(text: &[u8]) -> Option<(Port, &[u8])> {
+pub fn take_port(text: &[u8]) -> Option<(Port, &[u8])>
+    ensures read { IfSome result (λ r. text.now ≡ space ∷ port_text r.0 ++ r.1.now) }
+    ensures whole { (port : Port) (fields : List (List ℕ)) → text.now ≡ spaced (port_text port ∷ fields) → IsSomeAnd result (λ r. (r.0 ≡ port) × (r.1.now ≡ spaced fields)) }
+{
     let (field, rest) = take_field(text)?;
     Some((read_port(field)?, rest))
 }
 
 // A port, by its number.
-pub fn read_port(field: &[u8]) -> Option<Port> {
-    let number = read_decimal(field)?;
-    Port::new(u8::try_from(number).ok()?)
-}
-
-// A set of ports as the first field.
-pub fn take_ports(text: &[u8]) -> Option<(PortSet, &[u8])> {
-    let (field, rest) = take_field(text)?;
-    Some((read_ports(field)?, rest))
-}
-
-// A set of ports: its members in rising order, or `-` for none.
-fn read_ports(field: &[u8]) -> Option<PortSet> {
-    if field == b"-".as_slice() {
-        return Some(PortSet::empty());
-    }
-    read_members(field, PortSet::empty(), 0)
-}
-
-// The set with these members too, each of them above `last`.
-fn read_members(text: &[u8], set: PortSet, last: u8) -> Option<PortSet> {
-    let (number, rest) = cut_member(text);
-    let port = read_port(number)?;
-    if port.get() <= last {
+pub fn read_port(field: &[u8]) -> Option<Port>
+    ensures read { IfSome result (λ port. field.now ≡ port_text port) }
+    ensures whole { (port : Port) → field.now ≡ port_text port → result ≡ Some port }
+{
+    let number = read_number(field)?;
+    if number > PORTS_MOST as u64 {
         return None;
     }
-    match rest {
-        [] => Some(set.with(port)),
-        [_, more @ ..] => read_members(more, set.with(port), port.get()),
-    }
-}
-
-// What stands in front of the first comma, and the rest.
-fn cut_member(text: &[u8]) -> (&[u8], &[u8]) {
-    let end = text.iter().position(|c| *c == b',').unwrap_or(text.len());
-    (&text[..end], &text[end..])
+    Port::new(number as u8)
 }

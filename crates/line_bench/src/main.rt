@@ -10,7 +10,7 @@ fn main(rt: HostRuntime) -> io::Result<()> {
     let Some(name) = env::args(&rt)?.nth(1) else {
         return Ok(());
     };
-    let text = fs::read(&rt, rt.alloc(), name.as_str())?;
+    let text = fs::read(&rt, name.as_str())?;
     let (entries, octets) = count(text.as_slice());
     println!(rt; "{entries} entries, {octets} octets")
 }

@@ -11,7 +11,6 @@ pub mod PortMembers
 pub mod Closed
 pub mod Waiting
 pub mod Lines
-pub mod Words
 pub mod Fields
 pub mod OneValue
 pub mod Headers

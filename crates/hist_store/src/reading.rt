@@ -1,7 +1,7 @@
-use crate::decimal::read_decimal;
 use crate::read_end::{is_reason_of, read_how, take_who};
-use crate::read_fields::{cut_field, take_count, take_number, take_port, take_ports};
+use crate::read_fields::{cut_field, read_number, take_count, take_number, take_port};
 use crate::read_hex::{LineOctets, take_hex};
+use crate::read_ports::take_ports;
 use crate::read_verdict::take_verdict;
 use savi_kinds::{Act, CONTROL_LINE_OCTETS, Entry, FRAME_OCTETS_MOST, Moment, PortSet};
 
@@ -22,7 +22,7 @@ pub fn read_line(line: &[u8], octets: &mut LineOctets) -> Option<(u64, Entry)> {
 // The same for an empty buffer. Where the line isn't that of an entry the buffer holds anything.
 fn read_entry(line: &[u8], octets: &mut LineOctets) -> Option<(u64, Entry)> {
     let (number, rest) = cut_field(line);
-    let n = read_decimal(number)?;
+    let n = read_number(number)?;
     let (by, rest) = take_count(rest)?;
     let (moment, rest) = take_number(rest)?;
     Some((n, read_act(by, moment, rest, octets)?))
