@@ -8,3 +8,6 @@ pub mod OnePort
 pub mod DecimalRead
 pub mod FieldsRead
 pub mod HexRead
+pub mod VerdictRead
+pub mod EndRead
+pub mod PortsRead

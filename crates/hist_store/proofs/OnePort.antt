@@ -1,12 +1,16 @@
--- A port is told by its number, and so by its text.
-use Rattle.std.proofs.Common.{◌≡◌, ℕ, ◌^◌, ◌<◌, ◌≤◌, decimal, ap, ◌∙◌, subst, arith}
+-- A port is told by its number, and so by its text; a pass by its text.
+use Rattle.std.proofs.Common.{◌≡◌, ◌≢◌, ◌==◌, false, List, ◌∷◌, refl, ℕ, ◌^◌, ◌<◌, ◌≤◌, decimal, ap, ◌∙◌, subst, arith}
+use Rattle.std.proofs.lemmas.Bool.Decides.{nat_tests}
 use Rattle.std.proofs.lemmas.Fmt.{decimal_injective}
 use Rattle.std.proofs.Math.Bridge.{le_prop}
 use Rattle.savi_kinds.specs.declared.port.Port.{Port}
 use Rattle.savi_kinds.specs.Ports.{number_of}
+use Rattle.savi_kinds.specs.declared.entry.Who.{Who}
+use Rattle.savi_kinds.specs.declared.entry.Who.TheVariants.{Ingress, Control, Ticker, Egress}
 use Rattle.hist_store.specs.PortTexts.{port_text}
+use Rattle.hist_store.specs.EndTexts.{who_text}
 
-abbrev the_port : (n : ℕ) → 1 ≤ n → n ≤ 16 → Port
+abbrev pub the_port : (n : ℕ) → 1 ≤ n → n ≤ 16 → Port
 the_port n low high = record { number = n; low = low; high = high }
 
 one_bound : (a b : ℕ) (p q : a ≤ b) → p ≡ q
@@ -25,3 +29,14 @@ port_by_text p q same =
     let first : p.number ≤ 16 = p.high in
     let second : q.number ≤ 16 = q.high in
     port_same p q (decimal_injective p.number q.number (omega arith) (omega arith) same)
+
+-- texts that begin with different octets
+pub first_apart : {x y : ℕ} {s t : List ℕ} → x ∷ s ≡ y ∷ t → (x == y) ≡ false → ⊥
+first_apart {x} {y} e other = let same : x ≡ y = cc in let apart : x ≢ y = grind (arith, nat_tests) in apart same
+
+pub who_by_text : (a b : Who) → who_text a ≡ who_text b → a ≡ b
+who_by_text (Ingress p) (Ingress q) e = let text : port_text p ≡ port_text q = cc in ap Ingress (port_by_text p q text)
+who_by_text (Egress p) (Egress q) e = let text : port_text p ≡ port_text q = cc in ap Egress (port_by_text p q text)
+who_by_text Control Control e = refl
+who_by_text Ticker Ticker e = refl
+who_by_text a b e = absurd (first_apart e refl)

@@ -1,4 +1,4 @@
-ghost use Rattle.std.specs.Prelude.{◌≡◌, ◌==◌, ◌^◌, ◌<◌, ◌≤◌, ◌∷◌, ◌++◌, ℕ, List, Option, Some, IfSome, IsSomeAnd, decimal, length};
+ghost use Rattle.std.specs.Prelude.{IsTrue, ◌↔◌, ◌≡◌, ◌==◌, ◌^◌, ◌<◌, ◌≤◌, ◌∷◌, ◌++◌, ℕ, List, Option, Some, IfSome, IsSomeAnd, decimal, length};
 ghost use Rattle.std.specs.List.{position, position_or_len};
 ghost use Rattle.savi_kinds.specs.declared.port.Port.{Port};
 ghost use Rattle.hist_store.specs.TextOfLines.{space, spaced, HasNoSpace};
@@ -15,22 +15,21 @@ pub fn cut_field(text: &[u8]) -> (&[u8], &[u8])
     ensures read { text.now ≡ result.0.now ++ result.1.now }
     ensures whole { (field : List ℕ) (fields : List (List ℕ)) → HasNoSpace field → text.now ≡ field ++ spaced fields → (result.0.now ≡ field) × (result.1.now ≡ spaced fields) }
 {
-    text.split_at(end_of_field(text))
+    text.split_at(end_at(text, b' '))
 }
 
-// Where the first space stands, or how long the text is.
-fn end_of_field(text: &[u8]) -> usize
-    ensures place { result ≡ position_or_len (λ c. c == space) text.now }
+// Where this octet stands first, or how long the text is.
+pub fn end_at(text: &[u8], stop: u8) -> usize
+    ensures place { result ≡ position_or_len (λ c. c == stop) text.now }
     ensures inside { result ≤ length text.now }
 {
-    space_in(text).unwrap_or(text.len())
+    first_place(text, stop).unwrap_or(text.len())
 }
 
-// Where the first space stands.
-fn space_in(text: &[u8]) -> Option<usize>
-    ensures { result ≡ position (λ c. c == space) text.now }
+fn first_place(text: &[u8], stop: u8) -> Option<usize>
+    ensures { result ≡ position (λ c. c == stop) text.now }
 {
-    text.iter().position(|c| *c == b' ')
+    text.iter().position(|c| *c == stop)
 }
 
 // The field behind the space at the front, and the fields behind it.
@@ -42,6 +41,24 @@ pub fn take_field(text: &[u8]) -> Option<(&[u8], &[u8])>
         [b' ', fields @ ..] => Some(cut_field(fields)),
         _ => None,
     }
+}
+
+// What stands behind this word at the front.
+pub fn behind<'a>(text: &'a [u8], word: &str) -> Option<&'a [u8]>
+    ensures read { IfSome result (λ rest. text.now ≡ word.now ++ rest.now) }
+    ensures whole { (rest : List ℕ) → text.now ≡ word.now ++ rest → IsSomeAnd result (λ r. r.now ≡ rest) }
+{
+    if text.len() < word.len() {
+        return None;
+    }
+    let (front, rest) = text.split_at(word.len());
+    if is_word(front, word) { Some(rest) } else { None }
+}
+
+pub fn is_word(text: &[u8], word: &str) -> bool
+    ensures { IsTrue result ↔ (text.now ≡ word.now) }
+{
+    text == word.as_bytes()
 }
 
 // A number of 64 bits as the first field.

@@ -1,4 +1,11 @@
-use crate::read_fields::{read_port, take_field};
+ghost use Rattle.std.specs.Prelude.{◌≡◌, ◌∷◌, ◌++◌, ℕ, List, Option, Some, IfSome, IsSomeAnd};
+ghost use Rattle.savi_kinds.specs.declared.verdict.Rule.{Rule};
+ghost use Rattle.savi_kinds.specs.declared.verdict.Scope.{Scope};
+ghost use Rattle.savi_kinds.specs.declared.verdict.Verdict.{Verdict};
+ghost use Rattle.hist_store.specs.TextOfLines.{space, spaced};
+ghost use Rattle.hist_store.specs.VerdictTexts.{rule_name, scope_text, verdict_text};
+
+use crate::read_fields::{behind, is_word, read_port, take_field};
 use crate::verdict_fields::name_of;
 use savi_kinds::{Rule, Scope, Verdict};
 
@@ -30,37 +37,46 @@ const RULES: [Rule; 23] = [
 ];
 
 // A verdict as the first field.
-pub fn take_verdict(text: &[u8]) -> Option<(Verdict, &[u8])> {
+pub fn take_verdict(text: &[u8]) -> Option<(Verdict, &[u8])>
+    ensures read { IfSome result (λ r. text.now ≡ space ∷ verdict_text r.0 ++ r.1.now) }
+    ensures whole { (verdict : Verdict) (fields : List (List ℕ)) → text.now ≡ spaced (verdict_text verdict ∷ fields) → IsSomeAnd result (λ r. (r.0 ≡ verdict) × (r.1.now ≡ spaced fields)) }
+{
     let (field, rest) = take_field(text)?;
     Some((read_verdict(field)?, rest))
 }
 
-fn read_verdict(field: &[u8]) -> Option<Verdict> {
-    match field {
-        [b'p', b'a', b's', b's', b'-', scope @ ..] => Some(Verdict::Pass(read_scope(scope)?)),
-        [b'd', b'r', b'o', b'p', b'-', name @ ..] => Some(Verdict::Drop(read_rule(name)?)),
-        _ => None,
+fn read_verdict(field: &[u8]) -> Option<Verdict>
+    ensures read { IfSome result (λ verdict. field.now ≡ verdict_text verdict) }
+    ensures whole { (verdict : Verdict) → field.now ≡ verdict_text verdict → result ≡ Some verdict }
+{
+    match behind(field, "pass-") {
+        Some(scope) => Some(Verdict::Pass(read_scope(scope)?)),
+        None => Some(Verdict::Drop(read_rule(behind(field, "drop-")?)?)),
     }
 }
 
-fn read_scope(text: &[u8]) -> Option<Scope> {
-    if text == b"all".as_slice() {
+fn read_scope(text: &[u8]) -> Option<Scope>
+    ensures read { IfSome result (λ scope. text.now ≡ scope_text scope) }
+    ensures whole { (scope : Scope) → text.now ≡ scope_text scope → result ≡ Some scope }
+{
+    if is_word(text, "all") {
         return Some(Scope::All);
     }
-    if text == b"trusted".as_slice() {
+    if is_word(text, "trusted") {
         return Some(Scope::TrustedOnly);
     }
-    match text {
-        [b't', b'r', b'u', b's', b't', b'e', b'd', b'+', port @ ..] => Some(Scope::TrustedAnd(read_port(port)?)),
-        _ => None,
-    }
+    let port = behind(text, "trusted+")?;
+    Some(Scope::TrustedAnd(read_port(port)?))
 }
 
 // The rule of this name.
-fn read_rule(name: &[u8]) -> Option<Rule> {
-    for rule in RULES {
-        if name == name_of(rule).as_bytes() {
-            return Some(rule);
+fn read_rule(name: &[u8]) -> Option<Rule>
+    ensures read { IfSome result (λ rule. name.now ≡ rule_name rule) }
+    ensures whole { (rule : Rule) → name.now ≡ rule_name rule → result ≡ Some rule }
+{
+    for rule in RULES.iter() {
+        if is_word(name, name_of(*rule)) {
+            return Some(*rule);
         }
     }
     None

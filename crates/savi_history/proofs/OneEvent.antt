@@ -23,8 +23,8 @@ use Rattle.savi_history.specs.Limits.{has_room}
 use Rattle.savi_history.specs.Queues.{Item, item_of, is_queued, waiting_after, queue}
 use Rattle.savi_history.specs.Events.{Event, Frame, Long, Drain, End, row_of}
 use Rattle.savi_history.specs.Legal.{MayEndIngress, MayEndControl, MayEndTicker, MayEndEgress, MayEnd, MayCome, IsLegal}
-use Rattle.hist_store.proofs.OnePort.{port_by_text}
-use Rattle.savi_history.proofs.OneValue.{octets_by_text, who_by_text, how_by_text, IsReasonAt, first_apart}
+use Rattle.hist_store.proofs.OnePort.{first_apart, port_by_text, who_by_text}
+use Rattle.savi_history.proofs.OneValue.{octets_by_text, how_by_text, IsReasonAt}
 
 -- how many items wait
 

@@ -25,7 +25,7 @@ use Rattle.hist_store.specs.PortTexts.{port_text}
 use Rattle.hist_store.specs.EndTexts.{who_text, how_fields}
 use Rattle.hist_store.specs.LineTexts.{hex_text}
 use Rattle.savi_kinds.specs.PlanWords.{role_word, method_word, format_word}
-use Rattle.hist_store.proofs.OnePort.{port_by_text}
+use Rattle.hist_store.proofs.OnePort.{first_apart}
 
 -- octets
 
@@ -81,10 +81,6 @@ mac_by_text m n same = ap the_mac (pairs_same m.0 n.0 same)
 
 -- names
 
--- texts that begin with different octets
-pub first_apart : {x y : ℕ} {s t : List ℕ} → x ∷ s ≡ y ∷ t → (x == y) ≡ false → ⊥
-first_apart {x} {y} e other = let same : x ≡ y = cc in let apart : x ≢ y = grind (arith, nat_tests) in apart same
-
 pub role_by_text : (a b : Role) → role_word a ≡ role_word b → a ≡ b
 role_by_text Host Host e = refl
 role_by_text Server Server e = refl
@@ -107,13 +103,6 @@ switch_by_text true true on off apart e = refl
 switch_by_text true false on off apart e = absurd (apart e)
 switch_by_text false true on off apart e = absurd (apart (sym e))
 switch_by_text false false on off apart e = refl
-
-pub who_by_text : (a b : Who) → who_text a ≡ who_text b → a ≡ b
-who_by_text (Ingress p) (Ingress q) e = let text : port_text p ≡ port_text q = cc in ap Ingress (port_by_text p q text)
-who_by_text (Egress p) (Egress q) e = let text : port_text p ≡ port_text q = cc in ap Egress (port_by_text p q text)
-who_by_text Control Control e = refl
-who_by_text Ticker Ticker e = refl
-who_by_text a b e = absurd (first_apart e refl)
 
 -- a reason whose place is a number of 64 bits, and whose length is this one
 abbrev pub IsReasonAt : ℕ → How → Type 0
