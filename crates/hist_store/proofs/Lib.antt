@@ -11,3 +11,4 @@ pub mod HexRead
 pub mod VerdictRead
 pub mod EndRead
 pub mod PortsRead
+pub mod EntryRead

@@ -1,11 +1,12 @@
 -- Which entry a line of the journal says: the entry, each number of which fits its field, of which the line is the text.
-use Rattle.std.specs.Prelude.{ℕ, ◌≡◌, ◌^◌, ◌<◌, List, None}
+use Rattle.std.specs.Prelude.{ℕ, ◌≡◌, ◌^◌, ◌<◌, List, Option}
 use Rattle.hex.specs.Hex.{IsBytes}
 use Rattle.savi_kinds.specs.declared.entry.Entry.{Entry}
 use Rattle.savi_kinds.specs.declared.entry.Act.{Act}
 use Rattle.savi_kinds.specs.declared.entry.Act.TheVariants.{Frame, Long, Tick, Command, Drain, End}
 use Rattle.savi_kinds.specs.declared.entry.How.{How}
 use Rattle.savi_kinds.specs.declared.entry.How.TheVariants as hows
+use Rattle.savi_kinds.specs.declared.verdict.Verdict.{Verdict}
 use Rattle.savi_kinds.specs.PortSets.{no_ports}
 use Rattle.hist_store.specs.Rows.{Row}
 use Rattle.hist_store.specs.TextOfLines.{spaced}
@@ -57,6 +58,7 @@ pub record SaysAct (text : List ℕ) (by moment : ℕ) (row : Row) : Type 0 wher
   pub fits : FitsLine row
   pub text_is : text ≡ spaced (act_fields row.entry row.octets row.entry.act)
 
--- an entry with neither verdict, outs nor probes
-abbrev pub plain_entry : ℕ → ℕ → Act → Entry
-plain_entry by moment act = record { by = by; moment = moment; act = act; verdict = None; outs = no_ports; cuts = no_ports; probes = 0; lost = 0 }
+-- an entry for which no frame was queued
+abbrev pub entry_without_outs : ℕ → ℕ → Act → Option Verdict → ℕ → ℕ → Entry
+entry_without_outs by moment act verdict probes lost =
+    record { by = by; moment = moment; act = act; verdict = verdict; outs = no_ports; cuts = no_ports; probes = probes; lost = lost }

@@ -4,14 +4,14 @@ ghost use Rattle.savi_kinds.specs.declared.port.PortSet.{PortSet};
 ghost use Rattle.hist_store.specs.Rows.{Row};
 ghost use Rattle.hist_store.specs.TextOfLines.{space, spaced};
 ghost use Rattle.hist_store.specs.PortTexts.{port_text, ports_text};
-ghost use Rattle.hist_store.specs.EntryLines.{SaysEntry, SaysAct, plain_entry};
+ghost use Rattle.hist_store.specs.EntryLines.{SaysEntry, SaysAct, entry_without_outs};
 
 use crate::read_end::{is_reason_of, read_how, take_who};
 use crate::read_fields::{cut_field, is_word, read_number, take_count, take_field, take_number, take_port};
 use crate::read_hex::{LineOctets, take_hex};
 use crate::read_ports::take_ports;
 use crate::read_verdict::take_verdict;
-use savi_kinds::{Act, CONTROL_LINE_OCTETS, Entry, FRAME_OCTETS_MOST, Moment, Port, PortSet};
+use savi_kinds::{Act, CONTROL_LINE_OCTETS, Entry, FRAME_OCTETS_MOST, Moment, Port, PortSet, Verdict};
 
 /// Reads the journal's line of an entry, without its line feed: the entry's number, and the entry. The octets of a
 /// frame or a command are put into the buffer, in place of what it held; a line doesn't say where they are kept, and
@@ -105,12 +105,8 @@ fn read_long(by: u32, moment: Moment, text: &[u8]) -> Option<Entry>
     let (len, rest) = take_count(rest)?;
     let (verdict, rest) = take_verdict(rest)?;
     let (probes, lost) = read_probes(rest)?;
-    Some(Entry {
-        verdict: Some(verdict),
-        probes,
-        lost,
-        ..plain(by, moment, Act::Long { port, stamp, len })
-    })
+    let act = Act::Long { port, stamp, len };
+    Some(entry_of(by, moment, act, Some(verdict), probes, lost))
 }
 
 fn read_tick(by: u32, moment: Moment, text: &[u8]) -> Option<Entry>
@@ -119,11 +115,8 @@ fn read_tick(by: u32, moment: Moment, text: &[u8]) -> Option<Entry>
 {
     let (stamp, rest) = take_number(text)?;
     let (probes, lost) = read_probes(rest)?;
-    Some(Entry {
-        probes,
-        lost,
-        ..plain(by, moment, Act::Tick { stamp })
-    })
+    let act = Act::Tick { stamp };
+    Some(entry_of(by, moment, act, None, probes, lost))
 }
 
 fn read_command(by: u32, moment: Moment, text: &[u8], octets: &mut LineOctets) -> Option<Entry>
@@ -135,11 +128,8 @@ fn read_command(by: u32, moment: Moment, text: &[u8], octets: &mut LineOctets) -
     let rest = take_hex(rest, CONTROL_LINE_OCTETS, octets)?;
     let (probes, lost) = read_probes(rest)?;
     let len = octets.len() as u32;
-    Some(Entry {
-        probes,
-        lost,
-        ..plain(by, moment, Act::Command { stamp, at: 0, len })
-    })
+    let act = Act::Command { stamp, at: 0, len };
+    Some(entry_of(by, moment, act, None, probes, lost))
 }
 
 fn read_drain(by: u32, moment: Moment, text: &[u8]) -> Option<Entry>
@@ -149,7 +139,8 @@ fn read_drain(by: u32, moment: Moment, text: &[u8]) -> Option<Entry>
     let (port, rest) = take_port(text)?;
     let (count, rest) = take_count(rest)?;
     if rest.is_empty() {
-        Some(plain(by, moment, Act::Drain { port, count }))
+        let act = Act::Drain { port, count };
+        Some(entry_of(by, moment, act, None, 0, 0))
     } else {
         None
     }
@@ -162,7 +153,8 @@ fn read_end(by: u32, moment: Moment, text: &[u8]) -> Option<Entry>
     let (who, rest) = take_who(text)?;
     let how = read_how(rest)?;
     if is_reason_of(who, how) {
-        Some(plain(by, moment, Act::End { who, how }))
+        let act = Act::End { who, how };
+        Some(entry_of(by, moment, act, None, 0, 0))
     } else {
         None
     }
@@ -202,18 +194,18 @@ fn read_probes(text: &[u8]) -> Option<(u32, u32)>
     }
 }
 
-// An entry with neither verdict, outs nor probes.
-fn plain(by: u32, moment: Moment, act: Act) -> Entry
-    ensures { result ≡ plain_entry by moment act }
+// An entry without outs.
+fn entry_of(by: u32, moment: Moment, act: Act, verdict: Option<Verdict>, probes: u32, lost: u32) -> Entry
+    ensures { result ≡ entry_without_outs by moment act verdict probes lost }
 {
     Entry {
         by,
         moment,
         act,
-        verdict: None,
+        verdict,
         outs: PortSet::empty(),
         cuts: PortSet::empty(),
-        probes: 0,
-        lost: 0,
+        probes,
+        lost,
     }
 }
