@@ -42,7 +42,8 @@ fn read_entry(line: &[u8], octets: &mut LineOctets) -> Option<(u64, Entry)>
     let n = read_number(number)?;
     let (by, rest) = take_count(rest)?;
     let (moment, rest) = take_number(rest)?;
-    Some((n, read_act(by, moment, rest, octets)?))
+    let entry = read_act(by, moment, rest, octets)?;
+    Some((n, entry))
 }
 
 // An entry of this pass and moment, by the fields of its act.

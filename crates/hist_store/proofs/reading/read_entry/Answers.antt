@@ -40,14 +40,14 @@ returns-in_err-moment-clause-whole c = rw c.from_residual-in_err-moment.ensures 
     let by = c.in_ok-by.ensures.whole row.entry.by (decimal row.entry.moment ∷ act_fields row.entry row.octets row.entry.act) says.numbers.by number.1 in
     absurd (c.in_err-moment.ensures.whole row.entry.moment (act_fields row.entry row.octets row.entry.act) says.numbers.moment by.1))
 
-pub returns-in_err-read_act-clause-whole : goal.returns-in_err-read_act-clause-whole
-returns-in_err-read_act-clause-whole c = rw c.from_residual-in_err-read_act.ensures (λ n row says.
+pub returns-in_err-entry-clause-whole : goal.returns-in_err-entry-clause-whole
+returns-in_err-entry-clause-whole c = rw c.from_residual-in_err-entry.ensures (λ n row says.
     let line = says.text ∙ joined-spaced (decimal n) (decimal row.entry.by ∷ decimal row.entry.moment ∷ act_fields row.entry row.octets row.entry.act) in
     let number = c.cut_field.ensures.whole (decimal n) (decimal row.entry.by ∷ decimal row.entry.moment ∷ act_fields row.entry row.octets row.entry.act) (spaceless (decimal n) (word_decimal n)) line in
     let by = c.in_ok-by.ensures.whole row.entry.by (decimal row.entry.moment ∷ act_fields row.entry row.octets row.entry.act) says.numbers.by number.1 in
     let moment = c.in_ok-moment.ensures.whole row.entry.moment (act_fields row.entry row.octets row.entry.act) says.numbers.moment by.1 in
     let act : SaysAct c.in_ok-moment.rest.now c.in_ok-by.by c.in_ok-moment.moment row = record { by_is = sym by.0; moment_is = sym moment.0; numbers = says.numbers; octets = says.octets; fits = says.fits; text_is = moment.1; } in
-    absurd (none-some row.entry (c.in_err-read_act.ensures.whole row act).0))
+    absurd (none-some row.entry (c.in_err-entry.ensures.whole row act).0))
 
 -- a line, field by field
 line_is : (line number first second third : List ℕ) (n by moment : ℕ) (fields : List (List ℕ)) → line ≡ number ++ first → number ≡ decimal n → first ≡ 32 ∷ decimal by ++ second → second ≡ 32 ∷ decimal moment ++ third → third ≡ spaced fields → line ≡ joined (decimal n ∷ decimal by ∷ decimal moment ∷ fields)
@@ -57,8 +57,8 @@ line_is line number first second third n by moment fields a b d e f =
 
 pub returns-clause-read : goal.returns-clause-read
 returns-clause-read c =
-    let says = c.in_ok-read_act.ensures.read in
-    let entry = c.in_ok-read_act.read_act in
+    let says = c.in_ok-entry.ensures.read in
+    let entry = c.in_ok-entry.entry in
     record {
       number = c.in_ok-n.ensures.read.1;
       numbers = says.numbers;
@@ -78,7 +78,7 @@ returns-clause-whole c = λ n row says.
     let by = c.in_ok-by.ensures.whole row.entry.by (decimal row.entry.moment ∷ act_fields row.entry row.octets row.entry.act) says.numbers.by number.1 in
     let moment = c.in_ok-moment.ensures.whole row.entry.moment (act_fields row.entry row.octets row.entry.act) says.numbers.moment by.1 in
     let act : SaysAct c.in_ok-moment.rest.now c.in_ok-by.by c.in_ok-moment.moment row = record { by_is = sym by.0; moment_is = sym moment.0; numbers = says.numbers; octets = says.octets; fits = says.fits; text_is = moment.1; } in
-    let told = c.in_ok-read_act.ensures.whole row act in
+    let told = c.in_ok-entry.ensures.whole row act in
     let same : c.in_ok-n.n ≡ n = cc one in
-    let entry : c.in_ok-read_act.read_act ≡ row.entry = cc told.0 in
+    let entry : c.in_ok-entry.entry ≡ row.entry = cc told.0 in
     (ap₂ (λ (a : ℕ) (e : Entry). Some (a, e)) same entry, told.1)
