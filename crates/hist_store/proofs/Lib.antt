@@ -2,3 +2,13 @@ pub mod StoreLemmas
 pub mod MemberLemmas
 pub mod LineLemmas
 pub mod JournalLemmas
+pub mod Words
+pub mod FieldWords
+pub mod OnePort
+pub mod DecimalRead
+pub mod FieldsRead
+pub mod HexRead
+pub mod VerdictRead
+pub mod EndRead
+pub mod PortsRead
+pub mod EntryRead

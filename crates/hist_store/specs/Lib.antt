@@ -6,3 +6,4 @@ pub mod VerdictTexts
 pub mod EndTexts
 pub mod LineTexts
 pub mod JournalTexts
+pub mod EntryLines

@@ -1,5 +1,5 @@
 -- The texts of ports and sets of ports.
-use Rattle.std.specs.Prelude.{ℕ, List, map, filter, decimal}
+use Rattle.std.specs.Prelude.{ℕ, ◌≡◌, ◌+◌, ◌-◌, ◌^◌, ◌<◌, ◌≤◌, List, map, filter, decimal, length}
 use Rattle.std.specs.List.{join_with_byte, range_with_len}
 use Rattle.savi_kinds.specs.declared.port.Port.{Port}
 use Rattle.savi_kinds.specs.declared.port.PortSet.{PortSet}
@@ -22,3 +22,14 @@ members set = filter (is_member set) port_numbers
 -- the members with commas between, or `-` for none
 abbrev pub ports_text : PortSet → List ℕ
 ports_text set = or_dash (join_with_byte comma (map decimal (members set)))
+
+-- the members above a port
+abbrev pub members_above : ℕ → PortSet → List ℕ
+members_above last set = filter (is_member set) (range_with_len (last + 1) (16 - last))
+
+-- the text is that of a set's members above a port, of which there are some; up to the port the set is the same as another
+pub record GoesOn (last : ℕ) (before set : PortSet) (text : List ℕ) : Type 0 where
+  pub same : (n : ℕ) → 1 ≤ n → n ≤ last → is_member set n ≡ is_member before n
+  pub size : set.0 < 2 ^ 16
+  pub text_is : text ≡ join_with_byte comma (map decimal (members_above last set))
+  pub some : 0 < length (members_above last set)

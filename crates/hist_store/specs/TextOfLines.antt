@@ -1,5 +1,5 @@
 -- A text of lines: the fields of a line are parted by one space each, and each line ends with a line feed.
-use Rattle.std.specs.Prelude.{ℕ, List, [], ◌∷◌, ◌++◌}
+use Rattle.std.specs.Prelude.{ℕ, ◌≢◌, List, [], ◌∷◌, ◌++◌}
 use Rattle.std.specs.List.{join_with_byte}
 
 -- ' '
@@ -35,3 +35,8 @@ or_dash (octet ∷ octets) = octet ∷ octets
 abbrev pub spaced : List (List ℕ) → List ℕ
 spaced [] = []
 spaced (field ∷ fields) = space ∷ field ++ spaced fields
+
+-- a field that doesn't end before its end
+abbrev pub HasNoSpace : List ℕ → Type 0
+HasNoSpace [] = Unit {0}
+HasNoSpace (octet ∷ octets) = (octet ≢ space) × HasNoSpace octets

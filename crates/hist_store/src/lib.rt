@@ -5,12 +5,19 @@
 //! `put_header`, `put_line` and `put_end` write is that text, octet by octet. Nothing takes memory but `Hist::make`.
 #![tactic(auto)]
 
+mod decimal;
 mod end_fields;
 mod header;
 mod hist;
 mod line;
 mod pieces;
 mod port_fields;
+mod read_end;
+mod read_fields;
+mod read_hex;
+mod reading;
+mod read_ports;
+mod read_verdict;
 #[cfg(test)]
 mod tests;
 mod verdict_fields;
@@ -19,3 +26,5 @@ pub use header::{put_end, put_header};
 pub use hist::Hist;
 pub use line::put_line;
 pub use pieces::{JOURNAL_LINE_OCTETS, JournalLine};
+pub use read_hex::LineOctets;
+pub use reading::read_line;

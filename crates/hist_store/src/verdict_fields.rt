@@ -55,7 +55,7 @@ fn put_scope(into: &mut JournalLine, scope: Scope)
 }
 
 // The name of a rule, as the journal writes it.
-fn name_of(rule: Rule) -> &'static str
+pub fn name_of(rule: Rule) -> &'static str
     ensures name { result.now ≡ rule_name rule }
     ensures short { length result.now ≤ 17 }
 {

@@ -18,8 +18,9 @@ use Rattle.hist_store.specs.PortTexts.{port_text}
 use Rattle.savi_kinds.specs.PlanWords.{role_word, method_word, format_word}
 use Rattle.hist_store.specs.JournalTexts.{prefix_text, port_fields, prefix_fields, word_lines, limit_lines, time_lines, begin_line, header_lines}
 use Rattle.savi_history.specs.Journals.{without_port_names, without_names, IsAddress, IsAddressText}
-use Rattle.savi_history.proofs.Words.{avoids_all, parted}
-use Rattle.savi_history.proofs.OneValue.{port_by_text, mac_by_text, role_by_text, method_by_text, format_by_text, switch_by_text, first_apart}
+use Rattle.hist_store.proofs.Words.{avoids_all, parted}
+use Rattle.hist_store.proofs.OnePort.{first_apart, port_by_text}
+use Rattle.savi_history.proofs.OneValue.{mac_by_text, role_by_text, method_by_text, format_by_text, switch_by_text}
 
 abbrev Line : Type 0
 Line = List (List ℕ)

@@ -14,7 +14,6 @@ pub mod Offered
 pub mod Closed
 pub mod Waiting
 pub mod Lines
-pub mod Words
 pub mod Fields
 pub mod OneValue
 pub mod Headers

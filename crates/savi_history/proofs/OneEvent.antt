@@ -20,8 +20,9 @@ use Rattle.hist_store.specs.LineTexts.{hex_text, line_fields}
 use Rattle.savi_history.specs.Bases.{Base}
 use Rattle.savi_history.specs.Events.{Event, Frame, Long, Drain, End, row_of}
 use Rattle.savi_history.specs.Legal.{MayEndIngress, MayEndControl, MayEndTicker, MayEndEgress, MayEnd, MayCome, IsLegal}
+use Rattle.hist_store.proofs.OnePort.{first_apart, port_by_text, who_by_text}
 use Rattle.savi_history.proofs.Depth.{queue_within}
-use Rattle.savi_history.proofs.OneValue.{port_by_text, octets_by_text, who_by_text, how_by_text, IsReasonAt, first_apart}
+use Rattle.savi_history.proofs.OneValue.{octets_by_text, how_by_text, IsReasonAt}
 
 -- events
 

@@ -12,8 +12,9 @@ use Rattle.savi_history.specs.Bases.{Base, empty}
 use Rattle.savi_history.specs.Events.{Event, row_of}
 use Rattle.savi_history.specs.Legal.{IsLegal}
 use Rattle.savi_history.specs.Journals.{without_names, IsAddressText, IsJournalOf, IsSame}
-use Rattle.savi_history.proofs.Words.{IsLines, lines_append, lines_same}
-use Rattle.savi_history.proofs.Fields.{lines_rows, lines_header, lines_end}
+use Rattle.hist_store.proofs.Words.{IsLines, lines_append, lines_same}
+use Rattle.hist_store.proofs.FieldWords.{lines_rows}
+use Rattle.savi_history.proofs.Fields.{lines_header, lines_end}
 use Rattle.savi_history.proofs.Headers.{header_by_lines}
 use Rattle.savi_history.proofs.WithoutNames.{row_kept}
 use Rattle.savi_history.proofs.OneEvent.{event_by_line}
