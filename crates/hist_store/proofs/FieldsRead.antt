@@ -1,5 +1,5 @@
 -- The field at the front of a text, and what is read of it.
-use Rattle.std.proofs.Common.{ℕ, ◌≡◌, ◌≢◌, ◌^◌, ◌<◌, ◌≤◌, ◌==◌, ◌+◌, ◌↔◌, List, [], ◌∷◌, ◌++◌, Option, Some, None, IfSome, IfNone, IsSome, decimal, length, unwrap_or, refl, sym, ap, ◌∙◌, arith, ne_eqb, le-ltb, lt-ltb, true≢false, inl, inr, Bool, true, false, not}
+use Rattle.std.proofs.Common.{ℕ, ◌≡◌, ◌≢◌, ◌^◌, ◌<◌, ◌≤◌, ◌==◌, ◌+◌, ◌-◌, ◌↔◌, List, [], ◌∷◌, ◌++◌, Option, Some, None, IfSome, IfNone, IsSome, decimal, length, unwrap_or, refl, sym, ap, ◌∙◌, arith, ne_eqb, le-ltb, lt-ltb, true≢false, inl, inr, Bool, true, false, not}
 use Rattle.std.proofs.lemmas.Bool.{cases_lt}
 use Rattle.std.proofs.lemmas.List.Sums.{prefix_len-le-length}
 use Rattle.std.proofs.lemmas.Fmt.{decimal_injective}
@@ -33,9 +33,9 @@ place_is p xs =
     ]
 
 -- what the text of a number is read as
-pub number_is : (text : List ℕ) (o : Option ℕ) → IfSome o (λ n. (text ≡ decimal n) × (n < 2 ^ 64)) → IfNone o ((n : ℕ) → n < 2 ^ 64 → text ≢ decimal n) → (n : ℕ) → n < 2 ^ 64 → text ≡ decimal n → o ≡ Some n
-number_is text None read only n small is = absurd (only n small is)
-number_is text (Some m) read only n small is = ap Some (decimal_injective m n read.1 small (sym read.0 ∙ is))
+pub number_is : (text : List ℕ) (o : Option ℕ) → IfSome o (λ n. (text ≡ decimal n) × (n ≤ 2 ^ 64 - 1)) → IfNone o ((n : ℕ) → n ≤ 2 ^ 64 - 1 → text ≢ decimal n) → (n : ℕ) → n < 2 ^ 64 → text ≡ decimal n → o ≡ Some n
+number_is text None read only n small is = absurd (only n (omega (arith, small)) is)
+number_is text (Some m) read only n small is = ap Some (let below : m < 2 ^ 64 = omega (arith, read.1) in decimal_injective m n below small (sym read.0 ∙ is))
 
 -- the port of a number
 pub port_is : (o : Option Port) (n : ℕ) (port : Port) → IsSome o ↔ ((1 ≤ n) × (n ≤ 16)) → IfSome o (λ p. number_of p ≡ n) → n ≡ number_of port → o ≡ Some port

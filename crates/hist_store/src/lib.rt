@@ -5,7 +5,6 @@
 //! `put_header`, `put_line` and `put_end` write is that text, octet by octet. Nothing takes memory but `Hist::make`.
 #![tactic(auto)]
 
-mod decimal;
 mod end_fields;
 mod header;
 mod hist;

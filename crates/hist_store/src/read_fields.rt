@@ -4,8 +4,7 @@ ghost use Rattle.savi_kinds.specs.declared.port.Port.{Port};
 ghost use Rattle.hist_store.specs.TextOfLines.{space, spaced, HasNoSpace};
 ghost use Rattle.hist_store.specs.PortTexts.{port_text};
 
-use crate::decimal::read_decimal;
-use savi_kinds::{PORTS_MOST, Port};
+use savi_kinds::{PORTS_MOST, Port, read_decimal};
 
 // The greatest number of 32 bits.
 const COUNT_MOST: u64 = 0xffff_ffff;
@@ -75,7 +74,7 @@ pub fn read_number(field: &[u8]) -> Option<u64>
     ensures read { IfSome result (λ n. (field.now ≡ decimal n) × (n < 2 ^ 64)) }
     ensures whole { (n : ℕ) → n < 2 ^ 64 → field.now ≡ decimal n → result ≡ Some n }
 {
-    read_decimal(field)
+    read_decimal(field, u64::MAX)
 }
 
 // A number of 32 bits as the first field.
