@@ -24,8 +24,8 @@ plan: build/plan_check
 	build/plan_check "$(PLAN)"
 
 # The program beside a C program that does the same octet work without judging, with 2 ports and with 5; the reader of
-# captures beside tcpdump; the pass lock beside a mutex; the stations, the bindings and the timers beside hash maps. The first
-# time takes the builds, and then about two minutes.
+# captures beside tcpdump; the pass lock beside a mutex; the stations, the bindings and the timers beside hash maps. The
+# first time takes the builds, and then about two minutes.
 bench: build build/capture_bench build/lock_bench build/fdb_bench build/tables_bench
 	bench/run build/savi_switch
 	bench/captures.py build/capture_bench
