@@ -4,3 +4,6 @@ pub mod Rooms
 pub mod Keeps
 pub mod Addresses
 pub mod Gives
+pub mod Turns
+pub mod Passes
+pub mod Armed

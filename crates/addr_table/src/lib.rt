@@ -7,6 +7,13 @@
 //! RFC 6620 section 3.2 and RFC 7513 section 5 say what the states mean, RFC 8074 how the methods stand together.
 #![tactic(auto)]
 
+mod ageing;
+mod passed;
+mod room;
 mod sent;
+mod stored;
+mod table;
 
+pub use ageing::{ProbeSink, age_to};
 pub use sent::SentProbe;
+pub use table::{AddrTable, PER_PORT_MOST};
