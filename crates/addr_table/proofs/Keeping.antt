@@ -1,6 +1,6 @@
 -- What holds of the rows goes on to hold.
 use Rattle.std.proofs.Common.{◌≡◌, ◌⊎◌, ℕ, ◌+◌, ◌*◌, ◌<◌, ◌≤◌, ◌==◌, Bool, true, false, Option, Some, None, IsSome, List, length, refl, sym, ◌∙◌, ap, subst, inl, inr, arith, rules}
-use Rattle.std.proofs.lemmas.Bool.{cases_Bool, true≢false, ltb-true}
+use Rattle.std.proofs.lemmas.Bool.{cases_Bool, true≢false, ltb-true, eqb-true}
 use Rattle.savi_kinds.specs.declared.port.Port.{Port}
 use Rattle.savi_kinds.specs.declared.plan.Method.{Method}
 use Rattle.savi_kinds.specs.Ports.{number_of}
@@ -11,10 +11,11 @@ use Rattle.fcfs_states.specs.Premises.{AreTimes}
 use Rattle.fcfs_states.specs.States.{Same}
 use Rattle.mix_rules.specs.declared.state.AddrState.{AddrState}
 use Rattle.mix_rules.specs.States.{nobody, has_state, IsHeldAt, is_held_at}
-use Rattle.mix_rules.specs.Ageing.{aged_state, due_in as due_of}
+use Rattle.mix_rules.specs.Ageing.{AgedAddr, aged_state, due_in as due_of}
 use Rattle.mix_rules.specs.Premises.{AllMomentsFit}
 use Rattle.mix_rules.specs.Next.{next_state}
 use Rattle.mix_rules.specs.Holders.{MakesHolder}
+use Rattle.mix_rules.proofs.AgeingLemmas.{aged-sound}
 use Rattle.mix_rules.proofs.HolderLemmas.{next-held, aged-held}
 use Rattle.bind_table.specs.declared.row.Row.{Row}
 use Rattle.bind_table.specs.Rows.{state_in, rows_of, with_state, count_at, IsTable}
@@ -24,9 +25,10 @@ use Rattle.bind_table.proofs.Pointwise.{changed_at}
 use Rattle.bind_table.proofs.Held.{recounted}
 use Rattle.timer_wheel.specs.Arms.{due_in, with_due}
 use Rattle.addr_table.specs.Ages.{dues}
-use Rattle.addr_table.specs.Keeps.{IsWithinPorts, IsKept}
+use Rattle.addr_table.specs.Keeps.{IsWithinPorts, IsKept, IsSoundBy, AreSound}
 use Rattle.addr_table.specs.Rooms.{room_for, has_room, IsFixable}
 use Rattle.addr_table.proofs.Arms.{arms-with, length-others, dues-at}
+use Rattle.addr_table.proofs.States.{nobody-aged}
 use Rattle.addr_table.proofs.Rooms.{held-test, test-held, rows_most}
 use Rattle.addr_table.proofs.Splits.{lower, higher, own_parts, length-with, gone_is}
 
@@ -36,6 +38,20 @@ each_with P a state rows others mine b =
     elim (cases_Bool (a == b)) [
       | inl here ↦ subst P (sym (rw here at (changed_at a b state rows))) mine
       | inr other ↦ subst P (sym (rw other at (changed_at a b state rows))) (others b)
+    ]
+
+-- sound states stay so
+pub aged-sound_by : (k : Times) (t : ℕ) → AreTimes k → (o : Option Method) (s : AddrState) → IsSoundBy o s → IsSoundBy o (aged_state k t s).state
+aged-sound_by k t times None s none = ap (λ x. (aged_state k t x).state) none ∙ ap (λ (x : AgedAddr). x.state) (nobody-aged k times t)
+aged-sound_by k t times (Some m) s sound = aged-sound k times t m s sound
+
+pub sound_with : (method_of : ℕ → Option Method) (a : ℕ) (state : AddrState) (rows : List Row) → AreSound method_of rows → IsSoundBy (method_of a) state → AreSound method_of (with_state a state rows)
+sound_with method_of a state rows others mine b =
+    elim (cases_Bool (a == b)) [
+      | inl here ↦
+          let own : IsSoundBy (method_of b) state = subst (λ n. IsSoundBy (method_of n) state) (eqb-true a b here) mine in
+          subst (IsSoundBy (method_of b)) (sym (rw here at (changed_at a b state rows))) own
+      | inr other ↦ subst (IsSoundBy (method_of b)) (sym (rw other at (changed_at a b state rows))) (others b)
     ]
 
 known : (state : AddrState) → (has_state state ≡ true) ⊎ (state ≡ nobody)

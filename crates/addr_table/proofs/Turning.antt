@@ -9,7 +9,7 @@ use Rattle.fcfs_states.specs.declared.event.Ev.{Ev}
 use Rattle.fcfs_states.specs.declared.times.Times.{Times}
 use Rattle.fcfs_states.specs.Ageing.{behind}
 use Rattle.mix_rules.specs.declared.state.AddrState.{AddrState}
-use Rattle.mix_rules.specs.States.{has_state}
+use Rattle.mix_rules.specs.States.{has_state, IsSoundFor}
 use Rattle.mix_rules.specs.Ageing.{aged_state, due_in as due_of, IsStill}
 use Rattle.mix_rules.specs.Premises.{AllMomentsFit}
 use Rattle.mix_rules.specs.Next.{Outcome, next_state}
@@ -22,12 +22,12 @@ use Rattle.timer_wheel.specs.Arms.{Wheel, due_in, with_due, first_armed, due_by}
 use Rattle.addr_table.specs.Addresses.{Addresses}
 use Rattle.addr_table.specs.Ages.{dues, first_due, AllStill}
 use Rattle.addr_table.specs.Armed.{IsArmed}
-use Rattle.addr_table.specs.Keeps.{IsKept}
+use Rattle.addr_table.specs.Keeps.{IsKept, IsSoundBy, AreSound, StaySound}
 use Rattle.addr_table.specs.Passes.{Passes, IsQuiet}
 use Rattle.addr_table.specs.Rooms.{room_for, IsFixable}
 use Rattle.addr_table.proofs.Arms.{due_again, arms-with}
 use Rattle.addr_table.proofs.Firsts.{IsFirst, first_is, first_by}
-use Rattle.addr_table.proofs.Keeping.{IsAllowed, each_with, kept_with, aged-allowed, event-allowed, row_place, pair_place, taken_place}
+use Rattle.addr_table.proofs.Keeping.{IsAllowed, each_with, kept_with, aged-allowed, event-allowed, row_place, pair_place, taken_place, sound_with, aged-sound_by}
 use Rattle.addr_table.proofs.Quiet.{quiet}
 use Rattle.addr_table.proofs.Splits.{gone_is, own_parts}
 use Rattle.addr_table.proofs.Steps.{step_rows, step_sends, step_turns}
@@ -85,6 +85,9 @@ module _ (k : Times) (per_port t : ℕ) (table : Bindings) (wheel : Wheel) (due 
   module _ (state : AddrState) (aged : state ≡ (aged_state k due (state_in table.rows address.0)).state) (fits : AllMomentsFit state) where
     pub kept_turn : IsKept k per_port (with_state address.0 state table.rows)
     kept_turn = kept_with k per_port table.rows address.0 state kept fits (subst (IsAllowed per_port table.rows address.0) (sym aged) (aged-allowed k per_port table.rows address.0 due kept.times))
+
+    pub turn_sound : StaySound table.rows (with_state address.0 state table.rows)
+    turn_sound = λ method_of sound. sound_with method_of address.0 state table.rows sound (subst (IsSoundBy (method_of address.0)) (sym aged) (aged-sound_by k due kept.times (method_of address.0) (state_in table.rows address.0) (sound address.0)))
 
     pub turn_pair : (between : Wheel) → between ≡ record wheel { arms = with_due address.0 None wheel.arms } → IsSome (due_in between.arms address.0) ⊎ (length between.arms < between.most)
     turn_pair between taken =
@@ -150,6 +153,12 @@ module _ (m : Method) (k : Times) (per_port t : ℕ) (table : Bindings) (wheel :
       let others : AllStill k t table.rows = subst (λ (all : Addresses). AllStill all.times t all.rows) (sym view) still in
       let each : AllStill k t (with_state a state table.rows) = each_with (IsStill k t) a state table.rows others mine in
       subst (λ (kk : Times). AllStill kk t table_new.rows) times (subst (λ (b : Bindings). AllStill k t b.rows) (sym is) each)
+
+  pub event_sound : IsSoundFor m state → (method_of : ℕ → Option Method) → method_of a ≡ Some m → AreSound method_of now.rows → (table_new : Bindings) → table_new ≡ record table { rows = with_state a state table.rows } → AreSound method_of table_new.rows
+  event_sound mine method_of is sound table_new rows_new =
+      let others : AreSound method_of table.rows = subst (λ (all : Addresses). AreSound method_of all.rows) (sym view) sound in
+      let own : IsSoundBy (method_of a) state = subst (λ (o : Option Method). IsSoundBy o state) (sym is) mine in
+      subst (λ (b : Bindings). AreSound method_of b.rows) (sym rows_new) (sound_with method_of a state table.rows others own)
 
   -- one that leaves the state as it is leaves all
   pub event_same : state ≡ before → now ≡ record now { rows = with_state a (next_state m now.times t (room_for now.per_port now.rows event) (state_in now.rows a) event).1 now.rows }

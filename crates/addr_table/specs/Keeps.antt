@@ -34,3 +34,7 @@ IsSoundBy (Some m) state = IsSoundFor m state
 -- each address has such a state, where this is the method of each that is on-link
 abbrev pub AreSound : (ℕ → Option Method) → List Row → Type 0
 AreSound method_of rows = (a : ℕ) → IsSoundBy (method_of a) (state_in rows a)
+
+-- states that are sound stay so, whatever the method of each address is
+abbrev pub StaySound : List Row → List Row → Type 0
+StaySound old new = (method_of : ℕ → Option Method) → AreSound method_of old → AreSound method_of new

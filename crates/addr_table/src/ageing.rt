@@ -4,6 +4,7 @@ ghost use Rattle.std.specs.Prelude.{◌≡◌, ◌^◌, ◌≤◌, fold};
 ghost use Rattle.addr_table.specs.declared.sent.SentProbe.{SentProbe};
 ghost use Rattle.addr_table.specs.Ages.{aged_rows, AllStill};
 ghost use Rattle.addr_table.specs.Sends.{sends};
+ghost use Rattle.addr_table.specs.Keeps.{StaySound};
 
 use crate::sent::SentProbe;
 use crate::table::AddrTable;
@@ -26,6 +27,7 @@ pub fn age_to<S: ProbeSink>(table: &mut AddrTable, t: Moment, sink: &mut S)
     ensures rows { table.new ≡ record table.old { rows = aged_rows table.old.times t table.old.rows } }
     ensures sent { sink.new ≡ fold S.after sink.old (sends table.old.times t table.old.rows) }
     ensures still { AllStill table.old.times t table.new.rows }
+    ensures sound { StaySound table.old.rows table.new.rows }
 {
     while let Some(sent) = table.next_probe(t) {
         sink.take(sent);

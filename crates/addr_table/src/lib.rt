@@ -16,4 +16,4 @@ mod table;
 
 pub use ageing::{ProbeSink, age_to};
 pub use sent::SentProbe;
-pub use table::{AddrTable, PER_PORT_MOST};
+pub use table::AddrTable;

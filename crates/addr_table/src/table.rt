@@ -1,16 +1,18 @@
 //! The table of all addresses.
 
-ghost use Rattle.std.specs.Prelude.{◌≡◌, ◌≢◌, ◌^◌, ◌*◌, ◌≤◌, ◌↔◌, [], IfOk, IsTrue, false, length, slice_get};
+ghost use Rattle.std.specs.Prelude.{◌≡◌, ◌≢◌, ◌^◌, ◌*◌, ◌≤◌, ◌↔◌, ℕ, [], Option, Some, IfOk, IsTrue, false, length, slice_get};
 ghost use Rattle.std.specs.Option.{option_map};
 ghost use Rattle.savi_kinds.specs.Ports.{number_of};
+ghost use Rattle.savi_kinds.specs.declared.plan.Method.{Method};
 ghost use Rattle.fcfs_states.specs.Premises.{AreTimes};
 ghost use Rattle.mix_rules.specs.States.{IsSoundFor, IsLiveAt};
 ghost use Rattle.mix_rules.specs.Next.{next_state};
-ghost use Rattle.bind_table.specs.Rows.{state_in, with_state, count_at, pair_of, IsTable};
+ghost use Rattle.bind_table.specs.Rows.{state_in, with_state, count_at, pair_of};
 ghost use Rattle.addr_table.specs.Ages.{aged_rows, AllStill};
 ghost use Rattle.addr_table.specs.Sends.{sends};
 ghost use Rattle.addr_table.specs.Rooms.{has_room, room_for, IsFixable};
 ghost use Rattle.addr_table.specs.Gives.{Gives};
+ghost use Rattle.addr_table.specs.Keeps.{IsKept, AreSound, StaySound};
 ghost use Rattle.addr_table.specs.Passes.{Turns};
 
 use crate::passed::Passed;
@@ -24,9 +26,6 @@ use savi_kinds::{Addr, Method, Moment, PORTS_MOST, Port};
 use std::alloc::{AllocError, Global};
 use std::marker::Model;
 use timer_wheel::TimerWheel;
-
-/// The most addresses that a port may hold in a table.
-pub const PER_PORT_MOST: u32 = 1 << 16;
 
 /// The states of all addresses, and for each address the moment at which something is due first in its state.
 ///
@@ -120,7 +119,7 @@ impl AddrTable {
     /// one. O(1).
     pub fn row(&self, i: u32) -> Option<(Addr, AddrState)>
         ensures row { result ≡ option_map pair_of (slice_get self.now.rows i) }
-        ensures table { IsTable self.now.rows }
+        ensures kept { IsKept self.now.times self.now.per_port self.now.rows }
     {
         self.table.row(i)
     }
@@ -144,7 +143,8 @@ impl AddrTable {
     /// that no event touches.
     pub fn next_probe(&mut self, t: Moment) -> Option<SentProbe>
         requires { t ≤ 2 ^ 62 }
-        ensures { Gives t self.old self.new result }
+        ensures given { Gives t self.old self.new result }
+        ensures sound { StaySound self.old.rows self.new.rows }
     {
         while let Some(passed) = self.pass_first(t) {
             if let Some(probe) = passed.probe {
@@ -170,6 +170,7 @@ impl AddrTable {
         ensures answer { result ≡ (next_state m self.old.times t (room_for self.old.per_port self.old.rows ev) (state_in self.old.rows a.0) ev).0 }
         ensures rows { self.new ≡ record self.old { rows = with_state a.0 (next_state m self.old.times t (room_for self.old.per_port self.old.rows ev) (state_in self.old.rows a.0) ev).1 self.old.rows } }
         ensures still { AllStill self.old.times t self.new.rows }
+        ensures sound { (method_of : ℕ → Option Method) → method_of a.0 ≡ Some m → AreSound method_of self.old.rows → AreSound method_of self.new.rows }
     {
         let room = self.room_for(ev);
         let before = self.table.get(a);
@@ -184,7 +185,8 @@ impl AddrTable {
     // Ages the state in which something is due first to the moment at which it is due, if that isn't after t.
     fn pass_first(&mut self, t: Moment) -> Option<Passed>
         requires { t ≤ 2 ^ 62 }
-        ensures { Turns t self.old self.new result }
+        ensures turn { Turns t self.old self.new result }
+        ensures sound { StaySound self.old.rows self.new.rows }
     {
         let (due, address) = self.wheel.next_due(t)?;
         let mut state = self.table.get(address);

@@ -2,7 +2,7 @@ use Rattle.std.proofs.Common.{◌≡◌, ◌≢◌, sym, subst}
 use Rattle.std.proofs.lemmas.Bool.{both_ways}
 use Rattle.bind_table.specs.Bindings.{Bindings}
 use Rattle.addr_table.specs.Keeps.{IsKept}
-use Rattle.addr_table.proofs.Turning.{kept_event, event_row, event_pair, event_still, event_same, armed_with}
+use Rattle.addr_table.proofs.Turning.{kept_event, event_row, event_pair, event_still, event_sound, event_same, armed_with}
 use Rattle.addr_table.proofs.table.AddrTable.event.Goals as goal
 
 pub set-requires-clause-row : goal.set-requires-clause-row
@@ -29,3 +29,6 @@ pub returns-else-not-is_same_state-clause-rows : goal.returns-else-not-is_same_s
 returns-else-not-is_same_state-clause-rows c =
     let same : c.step-answer.new.self ≡ c.get-before.result = c.is_same_state.ensures.0 c.if-not-is_same_state.false in
     event_same c.args.m c.self.inside.times c.self.inside.per_port c.args.t c.self.inside.table c.self.inside.wheel c.args.self.now c.args.a.0 c.args.ev c.room_for-room.result c.get-before.result c.step-answer.result c.step-answer.new.self c.self.invariant.0 c.self.view_is c.room_for-room.ensures c.get-before.ensures c.step-answer.ensures.value same
+
+pub returns-then-not-is_same_state-clause-sound : goal.returns-then-not-is_same_state-clause-sound
+returns-then-not-is_same_state-clause-sound c = λ method_of is sound. event_sound c.args.m c.self.inside.times c.self.inside.per_port c.args.t c.self.inside.table c.self.inside.wheel c.args.self.now c.args.a.0 c.args.ev c.room_for-room.result c.get-before.result c.step-answer.result c.step-answer.new.self c.self.invariant.0 c.self.view_is c.room_for-room.ensures c.get-before.ensures c.step-answer.ensures.value c.step-answer.ensures.sound method_of is sound c.set.new.table c.set.ensures.rows
