@@ -13,6 +13,8 @@ mod room;
 mod sent;
 mod stored;
 mod table;
+#[cfg(test)]
+mod tests;
 
 pub use ageing::{ProbeSink, age_to};
 pub use sent::SentProbe;

@@ -4,6 +4,7 @@ ghost use Rattle.std.specs.Prelude.{◌≡◌, ◌≢◌, ◌^◌, ◌*◌, ◌�
 ghost use Rattle.std.specs.Option.{option_map};
 ghost use Rattle.savi_kinds.specs.Ports.{number_of};
 ghost use Rattle.savi_kinds.specs.declared.plan.Method.{Method};
+ghost use Rattle.fcfs_states.specs.declared.event.Ev.TheVariants.{Fix};
 ghost use Rattle.fcfs_states.specs.Premises.{AreTimes};
 ghost use Rattle.mix_rules.specs.States.{IsSoundFor, IsLiveAt};
 ghost use Rattle.mix_rules.specs.Next.{next_state};
@@ -105,6 +106,13 @@ impl AddrTable {
             Some(port) => self.has_room(port),
             None => false,
         }
+    }
+
+    /// Whether the operator may fix the address to the port: it has room, or holds the address already. O(1) on average.
+    pub fn may_fix(&self, a: Addr, port: Port) -> bool
+        ensures { IsTrue result ↔ IsFixable self.now.per_port self.now.rows a.0 (Fix port) }
+    {
+        self.has_room(port) || self.table.get(a).holds(port)
     }
 
     /// How many addresses have a state: at most 16 times what a port may hold. O(1).
