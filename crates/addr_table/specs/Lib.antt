@@ -3,6 +3,7 @@ pub mod Sends
 pub mod Rooms
 pub mod Keeps
 pub mod Addresses
+pub mod Outcomes
 pub mod Gives
 pub mod Turns
 pub mod Passes

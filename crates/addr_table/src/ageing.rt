@@ -20,8 +20,8 @@ pub trait ProbeSink {
         ensures { self.new ≡ after self.old sent };
 }
 
-/// Ages all states to `t` (ms). The sink takes the probes that fall due by then, by moment and then by address. It costs what
-/// the calls of `AddrTable::next_probe` cost.
+/// Ages all states to `t` (ms). The sink takes the probes that fall due by then, by moment and then by address. It costs
+/// what the calls of `AddrTable::next_probe` cost.
 pub fn age_to<S: ProbeSink>(table: &mut AddrTable, t: Moment, sink: &mut S)
     requires { t ≤ 2 ^ 62 }
     ensures rows { table.new ≡ record table.old { rows = aged_rows table.old.times t table.old.rows } }

@@ -7,11 +7,11 @@ ghost use Rattle.savi_kinds.specs.declared.plan.Method.{Method};
 ghost use Rattle.fcfs_states.specs.declared.event.Ev.TheVariants.{Fix};
 ghost use Rattle.fcfs_states.specs.Premises.{AreTimes};
 ghost use Rattle.mix_rules.specs.States.{IsSoundFor, IsLiveAt};
-ghost use Rattle.mix_rules.specs.Next.{next_state};
 ghost use Rattle.bind_table.specs.Rows.{state_in, with_state, count_at, pair_of};
 ghost use Rattle.addr_table.specs.Ages.{aged_rows, AllStill};
 ghost use Rattle.addr_table.specs.Sends.{sends};
 ghost use Rattle.addr_table.specs.Rooms.{has_room, room_for, IsFixable};
+ghost use Rattle.addr_table.specs.Outcomes.{outcome_of};
 ghost use Rattle.addr_table.specs.Gives.{Gives};
 ghost use Rattle.addr_table.specs.Keeps.{IsKept, AreSound, StaySound};
 ghost use Rattle.addr_table.specs.Passes.{Turns};
@@ -175,8 +175,8 @@ impl AddrTable {
         requires sound { IsSoundFor m (state_in self.old.rows a.0) }
         requires still { AllStill self.old.times t self.old.rows }
         requires fixable { IsFixable self.old.per_port self.old.rows a.0 ev }
-        ensures answer { result ≡ (next_state m self.old.times t (room_for self.old.per_port self.old.rows ev) (state_in self.old.rows a.0) ev).0 }
-        ensures rows { self.new ≡ record self.old { rows = with_state a.0 (next_state m self.old.times t (room_for self.old.per_port self.old.rows ev) (state_in self.old.rows a.0) ev).1 self.old.rows } }
+        ensures answer { result ≡ (outcome_of m t self.old a.0 ev).0 }
+        ensures rows { self.new ≡ record self.old { rows = with_state a.0 (outcome_of m t self.old a.0 ev).1 self.old.rows } }
         ensures still { AllStill self.old.times t self.new.rows }
         ensures sound { (method_of : ℕ → Option Method) → method_of a.0 ≡ Some m → AreSound method_of self.old.rows → AreSound method_of self.new.rows }
     {
