@@ -1,0 +1,30 @@
+-- Ageing of all addresses: each by itself, as if nothing else were there (RFC 6620 section 3.2, RFC 7513 section 5).
+use Rattle.std.specs.Prelude.{ℕ, Option, List}
+use Rattle.std.specs.List.{flat_map}
+use Rattle.savi_kinds.specs.declared.address.Addr.{Addr}
+use Rattle.fcfs_states.specs.declared.times.Times.{Times}
+use Rattle.mix_rules.specs.Ageing.{aged_state, due_in, IsStill}
+use Rattle.bind_table.specs.declared.row.Row.{Row}
+use Rattle.bind_table.specs.Rows.{address_of, state_in, rows_of}
+use Rattle.timer_wheel.specs.declared.armed.Armed.{Armed}
+use Rattle.timer_wheel.specs.Arms.{pair_of, first_armed}
+
+-- a row aged to t: none where no state is left
+abbrev pub aged_row : Times → ℕ → Row → List Row
+aged_row k t row = rows_of (address_of row) (aged_state k t row.state).state
+
+-- all rows aged to t
+abbrev pub aged_rows : Times → ℕ → List Row → List Row
+aged_rows k t rows = flat_map (aged_row k t) rows
+
+-- nothing is due at t in the state of any address
+abbrev pub AllStill : Times → ℕ → List Row → Type 0
+AllStill k t rows = (a : ℕ) → IsStill k t (state_in rows a)
+
+-- each address with the moment at which something is due first in its state, where anything is
+abbrev pub dues : Times → List Row → List Armed
+dues k rows = flat_map (λ row. pair_of (address_of row) (due_in k row.state)) rows
+
+-- what is due first of all, the least by moment and then by address
+abbrev pub first_due : Times → List Row → Option (ℕ × Addr)
+first_due k rows = first_armed (dues k rows)

@@ -1,0 +1,23 @@
+-- What one call gives of the probes that are due.
+use Rattle.std.specs.Prelude.{ℕ, ◌≡◌, Option, Some, None, [], ◌∷◌}
+use Rattle.addr_table.specs.declared.sent.SentProbe.{SentProbe}
+use Rattle.addr_table.specs.Addresses.{Addresses}
+use Rattle.addr_table.specs.Ages.{aged_rows, AllStill}
+use Rattle.addr_table.specs.Sends.{sends}
+
+-- one probe is given, the first of those that are due by t, and all others are still to come
+pub record GivesOne (t : ℕ) (old new : Addresses) (sent : SentProbe) : Type 0 where
+  pub first : sends old.times t old.rows ≡ sent ∷ sends old.times t new.rows
+  pub rows : aged_rows old.times t new.rows ≡ aged_rows old.times t old.rows
+  pub rest : new ≡ record old { rows = new.rows }
+
+-- none is due by t, and all rows are aged to t
+pub record GivesNone (t : ℕ) (old new : Addresses) : Type 0 where
+  pub none : sends old.times t old.rows ≡ []
+  pub aged : new ≡ record old { rows = aged_rows old.times t old.rows }
+  pub still : AllStill old.times t new.rows
+
+-- the one or the other
+abbrev pub Gives : ℕ → Addresses → Addresses → Option SentProbe → Type 0
+Gives t old new None = GivesNone t old new
+Gives t old new (Some sent) = GivesOne t old new sent

@@ -1,0 +1,10 @@
+pub mod Ages
+pub mod Sends
+pub mod Rooms
+pub mod Keeps
+pub mod Addresses
+pub mod Outcomes
+pub mod Gives
+pub mod Turns
+pub mod Passes
+pub mod Armed

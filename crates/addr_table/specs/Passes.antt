@@ -1,0 +1,30 @@
+-- One turn of ageing: what is due first, if it is due by t, comes to pass at its own moment.
+use Rattle.std.specs.Prelude.{ℕ, ◌≡◌, ◌<◌, Option, Some, None, List, [], ◌++◌}
+use Rattle.fcfs_states.specs.Ageing.{behind}
+use Rattle.addr_table.specs.declared.passed.Passed.{Passed}
+use Rattle.addr_table.specs.declared.sent.SentProbe.{SentProbe}
+use Rattle.addr_table.specs.Addresses.{Addresses}
+use Rattle.addr_table.specs.Ages.{aged_rows, AllStill}
+use Rattle.addr_table.specs.Sends.{sent_of, sends}
+use Rattle.addr_table.specs.Turns.{turns_left}
+
+-- the probe of a turn, where there is one
+abbrev pub probes_of : Passed → List SentProbe
+probes_of passed = sent_of passed.address.0 (behind passed.due passed.probe [])
+
+-- nothing is due by t
+pub record IsQuiet (t : ℕ) (table : Addresses) : Type 0 where
+  pub none : sends table.times t table.rows ≡ []
+  pub aged : aged_rows table.times t table.rows ≡ table.rows
+  pub still : AllStill table.times t table.rows
+
+-- one turn was made: its probe is the first of those to come, and less may still fall due
+pub record Passes (t : ℕ) (old new : Addresses) (passed : Passed) : Type 0 where
+  pub sends : sends old.times t old.rows ≡ probes_of passed ++ sends old.times t new.rows
+  pub rows : aged_rows old.times t new.rows ≡ aged_rows old.times t old.rows
+  pub rest : new ≡ record old { rows = new.rows }
+  pub fewer : turns_left new.rows < turns_left old.rows
+
+abbrev pub Turns : ℕ → Addresses → Addresses → Option Passed → Type 0
+Turns t old new None = (new ≡ old) × IsQuiet t old
+Turns t old new (Some passed) = Passes t old new passed
