@@ -1,0 +1,6 @@
+pub mod Bases
+pub mod Marks
+pub mod States
+pub mod Tables
+pub mod Probes
+pub mod Legal
