@@ -11,7 +11,7 @@ use Rattle.bind_table.specs.Rows.{address_of, state_in, row_of, rows_of, with_st
 use Rattle.bind_table.proofs.Parts.{other_address, none_there, all_weaker}
 
 -- the first row's address has its state
-head_state : (row : Row) (rows : List Row) → state_in (row ∷ rows) (address_of row) ≡ row.state
+pub head_state : (row : Row) (rows : List Row) → state_in (row ∷ rows) (address_of row) ≡ row.state
 head_state row rows = rw (eq-eqb (address_of row) (address_of row) refl) refl
 
 none_has_state : (rows : List Row) (a : ℕ) → AllByRecursion (λ row. a < address_of row) rows → has_state (state_in rows a) ≡ false

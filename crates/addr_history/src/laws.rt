@@ -1,11 +1,84 @@
 // What the states of all addresses come to. Each function does nothing: its contract is the law.
 
-ghost use Rattle.std.specs.Prelude.{◌≡◌, ℕ, List};
+ghost use Rattle.std.specs.Prelude.{◌≡◌, ℕ, ◌≤◌, ◌↔◌, ◌≢◌, Bool, false, Some, List, ◌∷◌, ◌++◌};
+ghost use Rattle.savi_kinds.specs.declared.plan.Method.{Method};
+ghost use Rattle.fcfs_states.specs.Premises.{AreTimes};
+ghost use Rattle.mix_rules.specs.Next.{next_state};
+ghost use Rattle.mix_rules.specs.Ageing.{aged_state};
+ghost use Rattle.mix_rules.specs.FirstCome.{state_of as run_of};
 ghost use Rattle.bind_table.specs.declared.row.Row.{Row};
-ghost use Rattle.bind_table.specs.Rows.{IsTable, state_in};
+ghost use Rattle.bind_table.specs.Rows.{IsTable, state_in, with_state};
+ghost use Rattle.addr_table.specs.Ages.{aged_rows};
+ghost use Rattle.addr_history.specs.Bases.{AddrRules, AddrBase};
+ghost use Rattle.addr_history.specs.Marks.{Named, names, marks_on, AreInTurn};
+ghost use Rattle.addr_history.specs.States.{state_of, state_at, answer_at};
+ghost use Rattle.addr_history.specs.Tables.{rows_at};
+ghost use Rattle.addr_history.specs.Probes.{HasChanged};
+ghost use Rattle.addr_history.specs.Legal.{base_at};
 
 /// A table has each state once and in one order: two tables that give each address the same state are one.
 pub fn there_is_one_table()
     ensures { (rows others : List Row) → IsTable rows → IsTable others → ((a : ℕ) → state_in rows a ≡ state_in others a)
         → rows ≡ others }
+{}
+
+/// The rows of a VLAN are a table, and they are the states of its addresses.
+pub fn rows_are_the_states()
+    ensures table { (r : AddrRules) (base : AddrBase) (past : List Named) (t vlan : ℕ)
+        → ((v : ℕ) → IsTable (base.rows v)) → IsTable (rows_at r base past t vlan) }
+    ensures states { (r : AddrRules) (base : AddrBase) (past : List Named) (t vlan a : ℕ)
+        → AreTimes r.times → ((v : ℕ) → IsTable (base.rows v))
+        → state_in (rows_at r base past t vlan) a ≡ state_at r base past t vlan a }
+{}
+
+/// An address sees its own marks alone: its state is that of a run of one address over the marks that name it. So other
+/// marks don't change it, and with the same marks an address has the same state and the same answer to what comes next.
+pub fn an_address_sees_its_own_marks()
+    ensures run { (r : AddrRules) (base : AddrBase) (past : List Named) (vlan a : ℕ) (m : Method)
+        → r.method_of vlan a ≡ Some m
+        → state_of r base past vlan a ≡ run_of m r.times (state_in (base.rows vlan) a) (marks_on vlan a past) }
+    ensures others { (r : AddrRules) (base : AddrBase) (past : List Named) (named : Named) (vlan a : ℕ)
+        → names vlan a named ≡ false → state_of r base (named ∷ past) vlan a ≡ state_of r base past vlan a }
+    ensures same { (r : AddrRules) (base : AddrBase) (past other : List Named) (vlan a : ℕ)
+        → marks_on vlan a past ≡ marks_on vlan a other → state_of r base past vlan a ≡ state_of r base other vlan a }
+    ensures answers { (r : AddrRules) (base : AddrBase) (past other : List Named) (named : Named)
+        → marks_on named.vlan named.address past ≡ marks_on named.vlan named.address other
+        → answer_at r base past named ≡ answer_at r base other named }
+{}
+
+/// Ageing in between changes nothing: to age to t and then to u is to age to u.
+pub fn later_ageing_is_the_same()
+    ensures state { (r : AddrRules) (base : AddrBase) (past : List Named) (t u vlan a : ℕ)
+        → AreTimes r.times → t ≤ u
+        → state_at r base past u vlan a ≡ (aged_state r.times u (state_at r base past t vlan a)).state }
+    ensures rows { (r : AddrRules) (base : AddrBase) (past : List Named) (t u vlan : ℕ)
+        → AreTimes r.times → ((v : ℕ) → IsTable (base.rows v)) → t ≤ u
+        → rows_at r base past u vlan ≡ aged_rows r.times u (rows_at r base past t vlan) }
+{}
+
+/// A mark gives its address the state of its row of the tables, and leaves all others as they are at its moment.
+pub fn a_mark_moves_one_row()
+    ensures own { (r : AddrRules) (base : AddrBase) (past : List Named) (named : Named) (m : Method)
+        → AreTimes r.times → ((v : ℕ) → IsTable (base.rows v)) → r.method_of named.vlan named.address ≡ Some m
+        → rows_at r base (named ∷ past) named.moment named.vlan
+            ≡ with_state named.address
+                (next_state m r.times named.moment named.room
+                    (state_in (rows_at r base past named.moment named.vlan) named.address) named.event).1
+                (rows_at r base past named.moment named.vlan) }
+    ensures others { (r : AddrRules) (base : AddrBase) (past : List Named) (named : Named) (t vlan : ℕ)
+        → named.vlan ≢ vlan → rows_at r base (named ∷ past) t vlan ≡ rows_at r base past t vlan }
+{}
+
+/// Some address has another state at a later moment exactly where the rows are others.
+pub fn a_change_is_one_of_the_rows()
+    ensures { (r : AddrRules) (base : AddrBase) (past : List Named) (from t vlan : ℕ)
+        → AreTimes r.times → ((v : ℕ) → IsTable (base.rows v)) → from ≤ t
+        → (HasChanged r base past from t vlan ↔ (rows_at r base past t vlan ≢ rows_at r base past from vlan)) }
+{}
+
+/// The states at a moment are a base from which the later marks lead on as the whole list does.
+pub fn states_are_read_from_any_moment()
+    ensures { (r : AddrRules) (base : AddrBase) (early late : List Named) (t0 t vlan a : ℕ)
+        → AreTimes r.times → ((v : ℕ) → IsTable (base.rows v)) → AreInTurn t0 t late
+        → state_at r base (late ++ early) t vlan a ≡ state_at r (base_at r base early t0) late t vlan a }
 {}

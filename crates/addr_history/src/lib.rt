@@ -10,4 +10,7 @@
 
 mod laws;
 
-pub use laws::there_is_one_table;
+pub use laws::{
+    a_change_is_one_of_the_rows, a_mark_moves_one_row, an_address_sees_its_own_marks,
+    later_ageing_is_the_same, rows_are_the_states, states_are_read_from_any_moment, there_is_one_table,
+};
