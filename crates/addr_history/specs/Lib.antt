@@ -4,3 +4,4 @@ pub mod States
 pub mod Tables
 pub mod Probes
 pub mod Legal
+pub mod FirstCome

@@ -1,20 +1,27 @@
 // What the states of all addresses come to. Each function does nothing: its contract is the law.
 
-ghost use Rattle.std.specs.Prelude.{◌≡◌, ℕ, ◌≤◌, ◌↔◌, ◌≢◌, Bool, false, Some, List, ◌∷◌, ◌++◌};
+ghost use Rattle.std.specs.Prelude.{◌≡◌, ℕ, ◌≤◌, ◌^◌, ◌↔◌, ◌≢◌, Bool, false, Some, None, List, ◌∷◌, ◌++◌};
+ghost use Rattle.savi_kinds.specs.Ports.{number_of};
+ghost use Rattle.savi_kinds.specs.declared.port.Port.{Port};
 ghost use Rattle.savi_kinds.specs.declared.plan.Method.{Method};
+ghost use Rattle.fcfs_states.specs.declared.event.Ev.TheVariants.{Sent};
 ghost use Rattle.fcfs_states.specs.Premises.{AreTimes};
-ghost use Rattle.mix_rules.specs.Next.{next_state};
+ghost use Rattle.fcfs_states.specs.States.{Same};
+ghost use Rattle.mix_rules.specs.States.{nobody, IsSoundFor, IsLiveAt};
+ghost use Rattle.mix_rules.specs.Next.{next_state, IsPassing};
 ghost use Rattle.mix_rules.specs.Ageing.{aged_state};
 ghost use Rattle.mix_rules.specs.FirstCome.{state_of as run_of};
 ghost use Rattle.bind_table.specs.declared.row.Row.{Row};
 ghost use Rattle.bind_table.specs.Rows.{IsTable, state_in, with_state};
 ghost use Rattle.addr_table.specs.Ages.{aged_rows};
-ghost use Rattle.addr_history.specs.Bases.{AddrRules, AddrBase};
-ghost use Rattle.addr_history.specs.Marks.{Named, names, marks_on, AreInTurn};
+ghost use Rattle.addr_table.specs.Keeps.{IsWithinPorts};
+ghost use Rattle.addr_history.specs.Bases.{AddrRules, AddrBase, no_states};
+ghost use Rattle.addr_history.specs.Marks.{Named, names, marks_on, last_moment, AreInTurn};
 ghost use Rattle.addr_history.specs.States.{state_of, state_at, answer_at};
-ghost use Rattle.addr_history.specs.Tables.{rows_at};
+ghost use Rattle.addr_history.specs.Tables.{rows_at, held_at};
 ghost use Rattle.addr_history.specs.Probes.{HasChanged};
-ghost use Rattle.addr_history.specs.Legal.{base_at};
+ghost use Rattle.addr_history.specs.Legal.{base_at, IsAddrBase, IsPast};
+ghost use Rattle.addr_history.specs.FirstCome.{IsKeptOn};
 
 /// A table has each state once and in one order: two tables that give each address the same state are one.
 pub fn there_is_one_table()
@@ -81,4 +88,42 @@ pub fn states_are_read_from_any_moment()
     ensures { (r : AddrRules) (base : AddrBase) (early late : List Named) (t0 t vlan a : ℕ)
         → AreTimes r.times → ((v : ℕ) → IsTable (base.rows v)) → AreInTurn t0 t late
         → state_at r base (late ++ early) t vlan a ≡ state_at r (base_at r base early t0) late t vlan a }
+{}
+
+/// The states that a list of marks leaves, at a moment from its last mark on, are within the limits as the base was: each is
+/// sound for the method of its address, none is due, and no port holds more addresses than it may. So is the start of a
+/// switch.
+pub fn states_stay_a_base()
+    ensures start { (r : AddrRules) → AreTimes r.times → IsAddrBase r no_states }
+    ensures kept { (r : AddrRules) (base : AddrBase) (past : List Named) (t : ℕ)
+        → AreTimes r.times → IsAddrBase r base → IsPast r base past → last_moment base past ≤ t → t ≤ 2 ^ 62
+        → IsAddrBase r (base_at r base past t) }
+{}
+
+/// No port holds more addresses than it may.
+pub fn no_port_holds_too_many()
+    ensures { (r : AddrRules) (base : AddrBase) (past : List Named) (t vlan : ℕ) (port : Port)
+        → AreTimes r.times → IsAddrBase r base → IsPast r base past → last_moment base past ≤ t
+        → held_at r base past t vlan (number_of port) ≤ r.per_port }
+{}
+
+/// First come, first served, over the marks of many addresses and from any base in which the address is sound. An address
+/// that is live at a port at t0, after `early`, and no longer at t, after `late` too, was lost by one of three causes: its
+/// host's silence for as long as a test takes, the operator, or the end of a binding by DHCP there. And a packet from it
+/// that passes at another port says that one of them was there.
+pub fn a_history_keeps_who_came_first()
+    ensures kept { (r : AddrRules) (base : AddrBase) (from t0 t : ℕ) (early late : List Named) (vlan a : ℕ) (m : Method) (port : Port)
+        → AreTimes r.times → r.method_of vlan a ≡ Some m → IsSoundFor m (state_in (base.rows vlan) a)
+        → AreInTurn from t0 early → AreInTurn t0 t late
+        → IsLiveAt (state_at r base early t0 vlan a) port
+        → ¬ IsLiveAt (state_at r base (late ++ early) t vlan a) port
+        → IsKeptOn r base m early t0 late t vlan a port }
+    ensures packets { (r : AddrRules) (base : AddrBase) (from t0 : ℕ) (early late : List Named) (named : Named) (m : Method) (p q : Port)
+        → AreTimes r.times → r.method_of named.vlan named.address ≡ Some m
+        → IsSoundFor m (state_in (base.rows named.vlan) named.address)
+        → AreInTurn from t0 early → AreInTurn t0 named.moment late
+        → named.event ≡ Sent q → ¬ Same q p
+        → IsLiveAt (state_at r base early t0 named.vlan named.address) p
+        → IsPassing (answer_at r base (late ++ early) named)
+        → IsKeptOn r base m early t0 late named.moment named.vlan named.address p }
 {}
