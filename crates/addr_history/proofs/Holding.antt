@@ -66,7 +66,7 @@ count-own n a state =
     one : (b : Bool) → 0 + cond b 1 0 ≤ cond b 1 0
     one b = omega arith
 
-count-first : (n : ℕ) (row : Row) (rows : List Row) → count_at n (row ∷ rows) ≡ held_once n row.state + count_at n rows
+pub count-first : (n : ℕ) (row : Row) (rows : List Row) → count_at n (row ∷ rows) ≡ held_once n row.state + count_at n rows
 count-first n row rows =
     let parts : count_at n (row ∷ rows) ≡ count_at n (row ∷ []) + count_at n rows = sum_by-append (λ r. cond (is_at n r) 1 0) (row ∷ []) rows in
     let first : count_at n (row ∷ []) ≡ held_once n row.state = one (is_held_at n row.state) in

@@ -1,6 +1,6 @@
 // What the states of all addresses come to. Each function does nothing: its contract is the law.
 
-ghost use Rattle.std.specs.Prelude.{◌≡◌, ℕ, ◌≤◌, ◌^◌, ◌↔◌, ◌≢◌, Bool, false, Some, None, List, ◌∷◌, ◌++◌};
+ghost use Rattle.std.specs.Prelude.{◌≡◌, ℕ, ◌*◌, ◌<◌, ◌≤◌, ◌^◌, ◌↔◌, ◌≢◌, Bool, false, Some, None, length, List, ◌∷◌, ◌++◌};
 ghost use Rattle.savi_kinds.specs.Ports.{number_of};
 ghost use Rattle.savi_kinds.specs.declared.port.Port.{Port};
 ghost use Rattle.savi_kinds.specs.declared.plan.Method.{Method};
@@ -15,11 +15,13 @@ ghost use Rattle.bind_table.specs.declared.row.Row.{Row};
 ghost use Rattle.bind_table.specs.Rows.{IsTable, state_in, with_state};
 ghost use Rattle.addr_table.specs.Ages.{aged_rows};
 ghost use Rattle.addr_table.specs.Keeps.{IsWithinPorts};
+ghost use Rattle.addr_table.specs.declared.sent.SentProbe.{SentProbe};
+ghost use Rattle.addr_table.specs.Sends.{sends};
 ghost use Rattle.addr_history.specs.Bases.{AddrRules, AddrBase, no_states};
 ghost use Rattle.addr_history.specs.Marks.{Named, names, marks_on, last_moment, AreInTurn};
 ghost use Rattle.addr_history.specs.States.{state_of, state_at, answer_at};
 ghost use Rattle.addr_history.specs.Tables.{rows_at, held_at};
-ghost use Rattle.addr_history.specs.Probes.{HasChanged};
+ghost use Rattle.addr_history.specs.Probes.{probes_between, HasChanged, IsAmong, AreInOrder};
 ghost use Rattle.addr_history.specs.Legal.{base_at, IsAddrBase, IsPast};
 ghost use Rattle.addr_history.specs.FirstCome.{IsKeptOn};
 
@@ -126,4 +128,36 @@ pub fn a_history_keeps_who_came_first()
         → IsLiveAt (state_at r base early t0 named.vlan named.address) p
         → IsPassing (answer_at r base (late ++ early) named)
         → IsKeptOn r base m early t0 late named.moment named.vlan named.address p }
+{}
+
+/// The probes from one moment to another are those that ageing of the states sends and that are due after the first, each
+/// once, in order of the moment at which each is due and then of address. The rows as they are at the first moment send
+/// them. To look in between changes nothing.
+pub fn probes_are_all_in_order()
+    ensures members { (r : AddrRules) (base : AddrBase) (past : List Named) (from t vlan : ℕ) (sent : SentProbe)
+        → AreTimes r.times → ((v : ℕ) → IsTable (base.rows v))
+        → (IsAmong sent (probes_between r base past from t vlan)
+            ↔ (from < sent.due)
+                × IsAmong (sent.due, sent.probe) (aged_state r.times t (state_of r base past vlan sent.address.0)).probes) }
+    ensures order { (r : AddrRules) (base : AddrBase) (past : List Named) (from t vlan : ℕ)
+        → AreTimes r.times → ((v : ℕ) → IsTable (base.rows v)) → AreInOrder (probes_between r base past from t vlan) }
+    ensures rows { (r : AddrRules) (base : AddrBase) (past : List Named) (from t vlan : ℕ)
+        → AreTimes r.times → from ≤ t
+        → probes_between r base past from t vlan ≡ sends r.times t (rows_at r base past from vlan) }
+    ensures joined { (r : AddrRules) (base : AddrBase) (past : List Named) (from t u vlan : ℕ)
+        → AreTimes r.times → ((v : ℕ) → IsTable (base.rows v)) → from ≤ t → t ≤ u
+        → probes_between r base past from u vlan ≡ probes_between r base past from t vlan ++ probes_between r base past t u vlan }
+{}
+
+/// No address sends more than three probes in one ageing, and there are at most as many addresses with a state as 16 ports
+/// may hold. So no VLAN sends more than 48 times what a port may hold at once.
+pub fn few_probes_at_once()
+    ensures each { (r : AddrRules) (base : AddrBase) (past : List Named) (t vlan a : ℕ)
+        → AreTimes r.times → length (aged_state r.times t (state_of r base past vlan a)).probes ≤ 3 }
+    ensures addresses { (r : AddrRules) (base : AddrBase) (past : List Named) (t vlan : ℕ)
+        → AreTimes r.times → IsAddrBase r base → IsPast r base past → last_moment base past ≤ t
+        → length (rows_at r base past t vlan) ≤ 16 * r.per_port }
+    ensures all { (r : AddrRules) (base : AddrBase) (past : List Named) (from t vlan : ℕ)
+        → AreTimes r.times → IsAddrBase r base → IsPast r base past → last_moment base past ≤ from → from ≤ t
+        → length (probes_between r base past from t vlan) ≤ 48 * r.per_port }
 {}
