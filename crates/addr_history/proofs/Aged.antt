@@ -1,19 +1,19 @@
 -- Ageing of rows, address by address.
-use Rattle.std.proofs.Common.{◌≡◌, ◌≢◌, ℕ, ◌<◌, ◌≤◌, ◌==◌, ◌⊎◌, Bool, true, false, cond, Option, Some, None, List, [], ◌∷◌, ◌++◌, if◌then◌else◌, refl, sym, ◌∙◌, ap, subst, inl, inr, arith, rules}
+use Rattle.std.proofs.Common.{◌≡◌, ◌≢◌, ℕ, ◌<◌, ◌≤◌, ◌==◌, ◌⊎◌, Bool, true, false, Option, Some, None, List, [], ◌∷◌, if◌then◌else◌, refl, sym, ◌∙◌, ap, subst, inl, inr, arith, rules}
 use Rattle.std.specs.List.{AllByRecursion}
-use Rattle.std.proofs.lemmas.Bool.{cases_Bool, cases_lt, cases_eq, eq-eqb, eqb-true}
+use Rattle.std.proofs.lemmas.Bool.{cases_Bool, cases_lt, cases_eq, eq-eqb}
 use Rattle.fcfs_states.specs.declared.state.Fcfs.TheVariants.{NoBind}
 use Rattle.fcfs_states.specs.declared.times.Times.{Times}
 use Rattle.fcfs_states.specs.Premises.{AreTimes}
 use Rattle.fcfs_states.proofs.AgeingLemmas.{rested_none}
 use Rattle.mix_rules.specs.declared.state.AddrState.{AddrState}
 use Rattle.mix_rules.specs.States.{nobody, has_state}
-use Rattle.mix_rules.specs.Ageing.{AgedAddr, aged_state, due_in, untouched, IsStill, IsTouched}
+use Rattle.mix_rules.specs.Ageing.{AgedAddr, aged_state, due_in, untouched, IsStill}
 use Rattle.mix_rules.proofs.AgeingLemmas.{aged-still, still-untouched, aged-joins-all}
 use Rattle.mix_rules.proofs.EndLemmas.{still-touched, due-touched, idle-touched}
 use Rattle.bind_table.specs.declared.row.Row.{Row}
 use Rattle.bind_table.specs.Rows.{address_of, state_in, row_of, rows_of, with_state, IsRising, AllStand, IsTable}
-use Rattle.bind_table.proofs.Parts.{other_address, none_there, all_joined, all_weaker, rising_with, stand_with}
+use Rattle.bind_table.proofs.Parts.{other_address, none_there, all_joined, rising_with, stand_with}
 use Rattle.bind_table.proofs.Pointwise.{changed_at}
 use Rattle.addr_table.specs.Ages.{aged_row, aged_rows}
 use Rattle.addr_history.proofs.Rows.{one_table, head_state}
@@ -102,10 +102,10 @@ module _ (k : Times) (times : AreTimes k) where
       let early : IsTable (aged_rows k t rows) = aged-table k t rows is in
       same_table (aged_rows k u (aged_rows k t rows)) (aged_rows k u rows) (aged-table k u (aged_rows k t rows) early) (aged-table k u rows is)
       (λ a.
-        state_in-aged u (aged_rows k t rows) a early.rising
-        ∙ ap (λ s. (aged_state k u s).state) (state_in-aged t rows a is.rising)
-        ∙ sym (ap (λ (s : AgedAddr). s.state) (aged-joins-all k times t u after (state_in rows a)))
-        ∙ sym (state_in-aged u rows a is.rising))
+      state_in-aged u (aged_rows k t rows) a early.rising
+      ∙ ap (λ s. (aged_state k u s).state) (state_in-aged t rows a is.rising)
+      ∙ sym (ap (λ (s : AgedAddr). s.state) (aged-joins-all k times t u after (state_in rows a)))
+      ∙ sym (state_in-aged u rows a is.rising))
 
   pub aged-same : (t : ℕ) (rows : List Row) → IsTable rows → ((a : ℕ) → IsStill k t (state_in rows a)) → aged_rows k t rows ≡ rows
   aged-same t rows is still =
@@ -117,10 +117,10 @@ module _ (k : Times) (times : AreTimes k) where
       let changed : IsTable (with_state a state rows) = table_with a state rows is in
       same_table (aged_rows k t (with_state a state rows)) (with_state a (aged_state k t state).state (aged_rows k t rows)) (aged-table k t (with_state a state rows) changed) (table_with a (aged_state k t state).state (aged_rows k t rows) (aged-table k t rows is))
       (λ b.
-        state_in-aged t (with_state a state rows) b changed.rising
-        ∙ ap (λ s. (aged_state k t s).state) (changed_at a b state rows)
-        ∙ by_test b (a == b)
-        ∙ sym (changed_at a b (aged_state k t state).state (aged_rows k t rows)))
+      state_in-aged t (with_state a state rows) b changed.rising
+      ∙ ap (λ s. (aged_state k t s).state) (changed_at a b state rows)
+      ∙ by_test b (a == b)
+      ∙ sym (changed_at a b (aged_state k t state).state (aged_rows k t rows)))
     where
       by_test : (b : ℕ) (here : Bool) → (aged_state k t (if here then state else state_in rows b)).state ≡ (if here then (aged_state k t state).state else state_in (aged_rows k t rows) b)
       by_test b true = refl
@@ -157,10 +157,10 @@ module _ (k : Times) (times : AreTimes k) where
                   | inr rest ↦
                       inr
                       (λ a.
-                        elim (cases_Bool (address_of row == a)) [
-                          | inl here ↦ rw here still
-                          | inr apart ↦ rw apart (rest a)
-                        ])
+                      elim (cases_Bool (address_of row == a)) [
+                        | inl here ↦ rw here still
+                        | inr apart ↦ rw apart (rest a)
+                      ])
                 ]
           ]
         where

@@ -1,7 +1,7 @@
 -- The probes that ageing sends, row by row.
-use Rattle.std.proofs.Common.{◌≡◌, ◌⊎◌, ℕ, ◌+◌, ◌*◌, ◌<◌, ◌≤◌, ◌==◌, nat_lt, Bool, true, false, List, [], ◌∷◌, ◌++◌, map, filter, length, append_assoc, append-nil, length-append, refl, sym, ◌∙◌, ap, subst, inl, inr, arith}
-use Rattle.std.specs.List.{AllByRecursion, flat_map}
-use Rattle.std.proofs.lemmas.Bool.{cases_Bool, cases_eq, eq-eqb, lt-ltb, le-ltb, ltb-true, ltb-false}
+use Rattle.std.proofs.Common.{◌≡◌, ℕ, ◌+◌, ◌*◌, ◌<◌, ◌≤◌, nat_lt, true, false, List, [], ◌∷◌, ◌++◌, filter, length, append_assoc, append-nil, length-append, refl, sym, ◌∙◌, ap, subst, inl, inr, arith}
+use Rattle.std.specs.List.{AllByRecursion}
+use Rattle.std.proofs.lemmas.Bool.{cases_Bool, cases_eq, lt-ltb, le-ltb, ltb-true, ltb-false}
 use Rattle.std.proofs.lemmas.List.{map-append, length-map}
 use Rattle.std.proofs.lemmas.List.Elements.{filter-append}
 use Rattle.fcfs_states.specs.declared.answer.Probe.{Probe}
@@ -16,7 +16,7 @@ use Rattle.mix_rules.specs.States.{nobody, has_state}
 use Rattle.mix_rules.specs.Ageing.{AgedAddr, aged_state}
 use Rattle.mix_rules.proofs.AgeingLemmas.{aged-still, aged-joins-all}
 use Rattle.bind_table.specs.declared.row.Row.{Row}
-use Rattle.bind_table.specs.Rows.{address_of, state_in, row_of, rows_of, IsRising}
+use Rattle.bind_table.specs.Rows.{address_of, state_in, rows_of, IsRising}
 use Rattle.bind_table.proofs.Parts.{all_weaker, other_address, none_there}
 use Rattle.addr_table.specs.declared.sent.SentProbe.{SentProbe}
 use Rattle.addr_table.specs.Ages.{aged_row, aged_rows}
@@ -24,7 +24,7 @@ use Rattle.addr_table.specs.Sends.{sent_of, row_sends, all_sends, sends, is_afte
 use Rattle.addr_history.specs.Probes.{IsAmong, AreInOrder}
 use Rattle.addr_history.proofs.Aged.{gone, nobody-aged}
 use Rattle.addr_history.proofs.Rows.{head_state}
-use Rattle.addr_history.proofs.Orders.{among_front, among_back, among_either, among_left, among_passing, all_among, all_from, all_filter, none_filter, IsBefore, before_by, AreApart, AllApart, apart_joined, apart_filter, among-order, order-among, in_order-is, order-joined, one_order}
+use Rattle.addr_history.proofs.Orders.{among_front, among_back, among_either, among_left, among_passing, all_among, all_from, all_filter, none_filter, before_by, AreApart, AllApart, apart_joined, apart_filter, among-order, order-among, in_order-is, order-joined, one_order}
 
 -- a probe of an address on its way
 abbrev pub sent_at : ℕ → ℕ × Probe → SentProbe
@@ -146,8 +146,8 @@ module _ (k : Times) (times : AreTimes k) where
       apart_joined (row_sends k t row) (all_sends k t rows) (apart-rising (address_of row) (aged_state k t row.state).probes (Ages-rising k t times (Ages-aged k times t row.state.fcfs))) (all-apart t rows rising.1)
       (all_from (λ x. AllByRecursion (AreApart x) (all_sends k t rows)) (row_sends k t row)
       (λ x is.
-        let mine : x.address.0 ≡ address_of row = (among-sent x (address_of row) (aged_state k t row.state).probes is).0 in
-        all_weaker (λ (sent : SentProbe). address_of row < sent.address.0) (AreApart x) (λ y above. two_apart x y (omega (arith, mine, above))) (all_sends k t rows) higher))
+      let mine : x.address.0 ≡ address_of row = (among-sent x (address_of row) (aged_state k t row.state).probes is).0 in
+      all_weaker (λ (sent : SentProbe). address_of row < sent.address.0) (AreApart x) (λ y above. two_apart x y (omega (arith, mine, above))) (all_sends k t rows) higher))
 
   pub sends_after-order : (from t : ℕ) (rows : List Row) → IsRising rows → AreInOrder (sends_after k from t rows)
   sends_after-order from t rows rising = in_order-is (filter (is_after from) (all_sends k t rows)) (apart_filter (is_after from) (all_sends k t rows) (all-apart t rows rising))

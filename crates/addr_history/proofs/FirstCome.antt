@@ -1,22 +1,20 @@
 -- First come, first served: what holds of one address over its own marks holds of each.
-use Rattle.std.proofs.Common.{◌≡◌, ℕ, ◌≤◌, Option, Some, None, List, [], ◌∷◌, ◌++◌, refl, sym, ◌∙◌, ap, subst}
+use Rattle.std.proofs.Common.{◌≡◌, ℕ, Some, List, ◌++◌, ◌∙◌, ap, subst}
 use Rattle.savi_kinds.specs.declared.port.Port.{Port}
 use Rattle.savi_kinds.specs.declared.plan.Method.{Method}
-use Rattle.fcfs_states.specs.declared.answer.Answer.{Answer}
 use Rattle.fcfs_states.specs.declared.event.Ev.TheVariants.{Sent}
 use Rattle.fcfs_states.specs.Premises.{AreTimes}
 use Rattle.fcfs_states.specs.States.{Same}
 use Rattle.fcfs_states.specs.FirstCome.{Mark}
-use Rattle.mix_rules.specs.declared.state.AddrState.{AddrState}
 use Rattle.mix_rules.specs.States.{IsSoundFor, IsLiveAt}
 use Rattle.mix_rules.specs.Next.{IsPassing}
 use Rattle.mix_rules.specs.Ageing.{aged_state}
-use Rattle.mix_rules.specs.FirstCome.{outcome, state_at as run_at, answer_at as run_answer, IsKept}
+use Rattle.mix_rules.specs.FirstCome.{outcome, state_at as run_at, answer_at as run_answer}
 use Rattle.mix_rules.proofs.FirstComeLemmas.{kept, first_come}
 use Rattle.bind_table.specs.Rows.{state_in}
 use Rattle.addr_history.specs.Bases.{AddrRules, AddrBase}
-use Rattle.addr_history.specs.Marks.{Named, mark_of, marks_on, AreInTurn}
-use Rattle.addr_history.specs.States.{outcome_by, state_of, state_at, answer_at}
+use Rattle.addr_history.specs.Marks.{Named, marks_on, AreInTurn}
+use Rattle.addr_history.specs.States.{outcome_by, state_of, state_at}
 use Rattle.addr_history.specs.FirstCome.{IsKeptOn}
 use Rattle.addr_history.proofs.MarksOn.{marks_on-append, run_on, own_run}
 

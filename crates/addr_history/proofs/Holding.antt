@@ -1,5 +1,5 @@
 -- No port comes to hold more addresses than it may.
-use Rattle.std.proofs.Common.{◌≡◌, ◌≢◌, IsSome, ℕ, ◌+◌, ◌*◌, ◌<◌, ◌≤◌, ◌==◌, ◌⊎◌, ◌^◌, zero, suc, nat_lt, Bool, true, false, cond, Option, Some, None, List, [], ◌∷◌, ◌++◌, length, refl, sym, ◌∙◌, ap, subst, inl, inr, arith, rules}
+use Rattle.std.proofs.Common.{◌≡◌, IsSome, ℕ, ◌+◌, ◌<◌, ◌≤◌, ◌==◌, ◌⊎◌, Bool, true, false, cond, Option, Some, None, List, [], ◌∷◌, refl, sym, ◌∙◌, ap, subst, inl, inr, arith, rules}
 use Rattle.std.proofs.lemmas.Bool.{cases_Bool, ltb-true, false≢true, eqb-true}
 use Rattle.std.proofs.lemmas.List.Sums.{sum_by-append}
 use Rattle.savi_kinds.specs.declared.port.Port.{Port}
@@ -15,20 +15,21 @@ use Rattle.mix_rules.specs.States.{nobody, has_state, IsHeldAt, is_held_at}
 use Rattle.mix_rules.specs.Holders.{MakesHolder}
 use Rattle.mix_rules.specs.Next.{next_state}
 use Rattle.mix_rules.specs.Ageing.{aged_state}
-use Rattle.mix_rules.proofs.HolderLemmas.{next-held, aged-held, someone-holds}
+use Rattle.mix_rules.proofs.HolderLemmas.{next-held, aged-held}
 use Rattle.bind_table.specs.declared.row.Row.{Row}
-use Rattle.bind_table.specs.Rows.{address_of, state_in, row_of, rows_of, with_state, is_at, count_at, AllStand, IsTable}
+use Rattle.bind_table.specs.Rows.{address_of, state_in, rows_of, with_state, is_at, count_at, IsTable}
 use Rattle.bind_table.specs.Counts.{held_once}
 use Rattle.bind_table.proofs.Held.{recounted}
 use Rattle.addr_table.specs.Ages.{aged_row, aged_rows}
 use Rattle.addr_table.specs.Keeps.{IsWithinPorts}
 use Rattle.addr_table.specs.Rooms.{room_for, has_room, IsFixable}
-use Rattle.addr_history.specs.Bases.{AddrRules, AddrBase}
-use Rattle.addr_history.specs.Marks.{Named, last_moment}
-use Rattle.addr_history.specs.Tables.{rows_after, rows_at}
+use Rattle.addr_history.specs.Bases.{AddrRules, AddrBase, AreTables}
+use Rattle.addr_history.specs.Marks.{Named, mark_of, last_moment}
+use Rattle.addr_history.specs.States.{outcome_by}
+use Rattle.addr_history.specs.Tables.{rows_after, rows_at, held_at}
 use Rattle.addr_history.specs.Legal.{Stands, IsPast}
 use Rattle.addr_history.proofs.Aged.{gone}
-use Rattle.addr_history.proofs.TablesOf.{table_after, table_at, rows-later, at_mark, at_other}
+use Rattle.addr_history.proofs.TablesOf.{table_at, rows-later, at_mark_by, at_mark, at_other}
 
 -- holding, as a test and in words
 pub held-told : (s : AddrState) (port : Port) → is_held_at (number_of port) s ≡ true → IsHeldAt s port
@@ -121,7 +122,52 @@ event-within m k t per_port room rows a event is right fix within port =
           ]
     ]
 
-module _ (r : AddrRules) (base : AddrBase) (times : AreTimes r.times) (tables : (vlan : ℕ) → IsTable (base.rows vlan)) (within : (vlan : ℕ) → IsWithinPorts r.per_port (base.rows vlan)) where
+-- what makes a port hold more
+more-once : (n : ℕ) (before after : AddrState) → held_once n before < held_once n after → (is_held_at n before ≡ false) × (is_held_at n after ≡ true)
+more-once n before after more =
+    elim (cases_Bool (is_held_at n after)) [
+      | inr not ↦ let none : held_once n after ≡ 0 = rw not refl in absurd (omega (arith, none, more))
+      | inl held ↦
+          elim (cases_Bool (is_held_at n before)) [
+            | inr free ↦ (free, held)
+            | inl was ↦ let one : held_once n before ≡ 1 = rw was refl in absurd (omega (arith, one, one_or_none (is_held_at n after), more))
+          ]
+    ]
+
+more-with : (n a : ℕ) (new : AddrState) (rows : List Row) → IsTable rows → count_at n rows < count_at n (with_state a new rows) → (is_held_at n (state_in rows a) ≡ false) × (is_held_at n new ≡ true)
+more-with n a new rows is more =
+    let counts : count_at n (with_state a new rows) + held_once n (state_in rows a) ≡ count_at n rows + held_once n new = recounted n a new rows is.rising is.stand (known new) in
+    more-once n (state_in rows a) new (omega (arith, counts, more))
+
+module _ (r : AddrRules) (base : AddrBase) (times : AreTimes r.times) (tables : AreTables base) where
+  pub more-held : (named : Named) (past : List Named) (vlan : ℕ) (port : Port) → held_at r base past named.moment vlan (number_of port) < held_at r base (named ∷ past) named.moment vlan (number_of port) → MakesHolder port named.room named.event
+  more-held named past vlan port more =
+      elim (cases_Bool (named.vlan == vlan)) [
+        | inr not ↦ let same : held_at r base (named ∷ past) named.moment vlan (number_of port) ≡ held_at r base past named.moment vlan (number_of port) = ap (count_at (number_of port)) (at_other r base named past named.moment vlan not) in absurd (omega (arith, same, more))
+        | inl is ↦ by_method (r.method_of named.vlan named.address) refl (subst (λ v. held_at r base past named.moment v (number_of port) < held_at r base (named ∷ past) named.moment v (number_of port)) (sym (eqb-true named.vlan vlan is)) more)
+      ]
+    where
+      by_method : (method : Option Method) → r.method_of named.vlan named.address ≡ method → held_at r base past named.moment named.vlan (number_of port) < held_at r base (named ∷ past) named.moment named.vlan (number_of port) → MakesHolder port named.room named.event
+      by_method None none above =
+          let gone_now : rows_at r base (named ∷ past) named.moment named.vlan ≡ with_state named.address nobody (rows_at r base past named.moment named.vlan) =
+          at_mark_by r base tables times named past ∙ ap (λ method. with_state named.address (outcome_by method r.times (mark_of named) (state_in (rows_after r base past named.vlan) named.address)).1 (rows_at r base past named.moment named.vlan)) none in
+          let told : (is_held_at (number_of port) (state_in (rows_at r base past named.moment named.vlan) named.address) ≡ false) × (is_held_at (number_of port) nobody ≡ true) =
+          more-with (number_of port) named.address nobody (rows_at r base past named.moment named.vlan) (table_at r base tables past named.moment named.vlan)
+          (subst (λ xs. held_at r base past named.moment named.vlan (number_of port) < count_at (number_of port) xs) gone_now above) in
+          absurd (false≢true told.1)
+      by_method (Some m) some above =
+          let old : AddrState = state_in (rows_at r base past named.moment named.vlan) named.address in
+          let new : AddrState = (next_state m r.times named.moment named.room old named.event).1 in
+          let told : (is_held_at (number_of port) old ≡ false) × (is_held_at (number_of port) new ≡ true) =
+          more-with (number_of port) named.address new (rows_at r base past named.moment named.vlan) (table_at r base tables past named.moment named.vlan)
+          (subst (λ xs. held_at r base past named.moment named.vlan (number_of port) < count_at (number_of port) xs) (at_mark r base tables times named past m some) above) in
+          next-held m r.times named.moment named.room old named.event port (λ was. false≢true (sym told.0 ∙ told-held old port was)) (held-told new port told.1)
+
+  pub held-later : (past : List Named) (t u vlan : ℕ) (port : Port) → t ≤ u → held_at r base past u vlan (number_of port) ≤ held_at r base past t vlan (number_of port)
+  held-later past t u vlan port after =
+      subst (λ rows. count_at (number_of port) rows ≤ held_at r base past t vlan (number_of port)) (sym (rows-later r base tables times past t u vlan after)) (aged-less r.times times u port (rows_at r base past t vlan))
+
+module _ (r : AddrRules) (base : AddrBase) (times : AreTimes r.times) (tables : AreTables base) (within : (vlan : ℕ) → IsWithinPorts r.per_port (base.rows vlan)) where
   -- a mark keeps it, at its moment
   mark-within : (named : Named) (past : List Named) → Stands r base past named → IsWithinPorts r.per_port (rows_at r base past named.moment named.vlan) → IsWithinPorts r.per_port (rows_at r base (named ∷ past) named.moment named.vlan)
   mark-within named past right before = by_method (r.method_of named.vlan named.address) refl

@@ -1,16 +1,15 @@
 -- The marks of one address, and what they make of its state.
-use Rattle.std.proofs.Common.{◌≡◌, ℕ, ◌≤◌, Bool, true, false, Option, Some, None, List, [], ◌∷◌, ◌++◌, refl, sym, ◌∙◌, ap, subst, inl, inr, arith}
+use Rattle.std.proofs.Common.{◌≡◌, ℕ, ◌≤◌, true, false, Option, Some, List, [], ◌∷◌, ◌++◌, refl, sym, ◌∙◌, ap, subst, inl, inr, arith}
 use Rattle.std.proofs.lemmas.Bool.{cases_Bool}
 use Rattle.savi_kinds.specs.declared.plan.Method.{Method}
 use Rattle.fcfs_states.specs.declared.times.Times.{Times}
 use Rattle.fcfs_states.specs.FirstCome.{Mark}
 use Rattle.mix_rules.specs.declared.state.AddrState.{AddrState}
-use Rattle.mix_rules.specs.Ageing.{aged_state}
 use Rattle.mix_rules.specs.FirstCome.{outcome, state_of as run_of, IsRun}
 use Rattle.bind_table.specs.Rows.{state_in}
 use Rattle.addr_history.specs.Bases.{AddrRules, AddrBase}
 use Rattle.addr_history.specs.Marks.{Named, mark_of, names, marks_on, AreInTurn}
-use Rattle.addr_history.specs.States.{outcome_by, state_of, state_at}
+use Rattle.addr_history.specs.States.{outcome_by, state_of}
 
 -- marks of one address, from a state
 abbrev pub moved_by : Option Method → Times → AddrState → List Mark → AddrState

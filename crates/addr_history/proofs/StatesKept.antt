@@ -1,5 +1,5 @@
 -- What each mark that stands keeps of the states.
-use Rattle.std.proofs.Common.{◌≡◌, ℕ, ◌≤◌, ◌^◌, Bool, true, false, Option, Some, None, List, [], ◌∷◌, refl, sym, ◌∙◌, ap, subst, inl, inr, arith, rules}
+use Rattle.std.proofs.Common.{◌≡◌, ℕ, ◌≤◌, ◌^◌, Bool, Option, Some, None, List, [], ◌∷◌, refl, sym, subst, inl, inr, arith, rules}
 use Rattle.std.proofs.lemmas.Bool.{cases_Bool}
 use Rattle.savi_kinds.specs.declared.plan.Method.{Method}
 use Rattle.fcfs_states.specs.declared.answer.Probe.{Probe}
@@ -9,7 +9,6 @@ use Rattle.fcfs_states.specs.declared.state.Fcfs.TheVariants.{NoBind, Tentative,
 use Rattle.fcfs_states.specs.declared.times.Times.{Times}
 use Rattle.fcfs_states.specs.Premises.{AreTimes}
 use Rattle.fcfs_states.specs.Ageing.{AgeRow, tentative_probe, test_lt_probe, test_vp_probe, tentative_ends, valid_ends, test_lt_ends, test_vp_ends, Ages, rests, goes_on}
-use Rattle.fcfs_states.specs.Aged.{aged}
 use Rattle.fcfs_states.specs.FirstCome.{Mark}
 use Rattle.fcfs_states.proofs.AgeingLemmas.{Ages-aged}
 use Rattle.mix_rules.specs.declared.state.AddrState.{AddrState}
@@ -24,7 +23,7 @@ use Rattle.addr_table.specs.Keeps.{IsSoundBy}
 use Rattle.addr_history.specs.Bases.{AddrRules, AddrBase}
 use Rattle.addr_history.specs.Marks.{Named, mark_of, names, last_moment}
 use Rattle.addr_history.specs.States.{outcome_by, state_of, state_at}
-use Rattle.addr_history.specs.Legal.{HasBegun, IsStateAt, IsAddrBase, Stands, IsPast}
+use Rattle.addr_history.specs.Legal.{HasBegun, IsStateAt, IsPast}
 use Rattle.addr_history.proofs.Aged.{nobody-still, still-state}
 use Rattle.addr_history.proofs.MarksOn.{state_of-own, state_of-other}
 

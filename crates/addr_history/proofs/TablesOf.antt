@@ -1,13 +1,12 @@
 -- The rows of a VLAN are the states of its addresses.
-use Rattle.std.proofs.Common.{◌≡◌, ◌≢◌, ◌↔◌, ℕ, ◌≤◌, ◌==◌, ◌&&◌, Bool, true, false, Option, Some, None, List, [], ◌∷◌, ◌++◌, if◌then◌else◌, refl, sym, ◌∙◌, ap, subst, inl, inr, arith}
+use Rattle.std.proofs.Common.{◌≡◌, ◌≢◌, ◌↔◌, ℕ, ◌≤◌, ◌==◌, false, Option, Some, None, List, [], ◌∷◌, ◌++◌, refl, sym, ◌∙◌, ap, inl, inr, arith}
 use Rattle.std.proofs.lemmas.Bool.{cases_Bool, eqb-true, eq-eqb}
 use Rattle.savi_kinds.specs.declared.plan.Method.{Method}
 use Rattle.fcfs_states.specs.declared.times.Times.{Times}
 use Rattle.fcfs_states.specs.Premises.{AreTimes}
 use Rattle.fcfs_states.specs.FirstCome.{Mark}
 use Rattle.mix_rules.specs.declared.state.AddrState.{AddrState}
-use Rattle.mix_rules.specs.States.{nobody}
-use Rattle.mix_rules.specs.Next.{next_state}
+use Rattle.mix_rules.specs.Next.{Outcome, next_state}
 use Rattle.mix_rules.specs.Ageing.{AgedAddr, aged_state, IsStill}
 use Rattle.mix_rules.proofs.AgeingLemmas.{aged-still, aged-joins-all}
 use Rattle.mix_rules.proofs.EventLemmas.{next-still}
@@ -15,10 +14,10 @@ use Rattle.bind_table.specs.declared.row.Row.{Row}
 use Rattle.bind_table.specs.Rows.{state_in, with_state, IsTable}
 use Rattle.bind_table.proofs.Pointwise.{changed_at}
 use Rattle.addr_table.specs.Ages.{aged_rows}
-use Rattle.addr_history.specs.Bases.{AddrRules, AddrBase}
+use Rattle.addr_history.specs.Bases.{AddrRules, AddrBase, AreTables}
 use Rattle.addr_history.specs.Marks.{Named, mark_of, names, AreInTurn}
-use Rattle.addr_history.specs.States.{outcome_by, state_of, state_at}
-use Rattle.addr_history.specs.Tables.{rows_with, rows_after, rows_at}
+use Rattle.addr_history.specs.States.{outcome_by, state_of, state_at, answer_at}
+use Rattle.addr_history.specs.Tables.{rows_after, rows_at}
 use Rattle.addr_history.specs.Probes.{HasChanged}
 use Rattle.addr_history.specs.Legal.{base_at}
 use Rattle.addr_history.proofs.Aged.{table_with, aged-table, nobody-still, still-state, state_in-aged, aged-with, aged-twice, same_or_other}
@@ -36,7 +35,7 @@ states_later r base times past t u vlan a after = ap (λ (s : AgedAddr). s.state
 pub at_other : (r : AddrRules) (base : AddrBase) (named : Named) (past : List Named) (t vlan : ℕ) → (named.vlan == vlan) ≡ false → rows_at r base (named ∷ past) t vlan ≡ rows_at r base past t vlan
 at_other r base named past t vlan not = rw not refl
 
-module _ (r : AddrRules) (base : AddrBase) (tables : (vlan : ℕ) → IsTable (base.rows vlan)) where
+module _ (r : AddrRules) (base : AddrBase) (tables : AreTables base) where
   pub table_after : (past : List Named) (vlan : ℕ) → IsTable (rows_after r base past vlan)
   table_after [] vlan = tables vlan
   table_after (named ∷ past) vlan =
@@ -82,19 +81,30 @@ module _ (r : AddrRules) (base : AddrBase) (tables : (vlan : ℕ) → IsTable (b
     rows-later past t u vlan after = sym (aged-twice r.times times t u (rows_after r base past vlan) after (table_after past vlan))
 
     -- a mark's row, at its moment
-    pub at_mark : (named : Named) (past : List Named) (m : Method) → r.method_of named.vlan named.address ≡ Some m → rows_at r base (named ∷ past) named.moment named.vlan ≡ with_state named.address (next_state m r.times named.moment named.room (state_in (rows_at r base past named.moment named.vlan) named.address) named.event).1 (rows_at r base past named.moment named.vlan)
-    at_mark named past m is =
+    pub at_mark_by : (named : Named) (past : List Named) → rows_at r base (named ∷ past) named.moment named.vlan ≡ with_state named.address (outcome_by (r.method_of named.vlan named.address) r.times (mark_of named) (state_in (rows_after r base past named.vlan) named.address)).1 (rows_at r base past named.moment named.vlan)
+    at_mark_by named past =
         let k : Times = r.times in
         let t : ℕ = named.moment in
         let rows : List Row = rows_after r base past named.vlan in
         let new : AddrState = (outcome_by (r.method_of named.vlan named.address) k (mark_of named) (state_in rows named.address)).1 in
         let own : rows_after r base (named ∷ past) named.vlan ≡ with_state named.address new rows = rw (eq-eqb named.vlan named.vlan refl) refl in
-        let by_row : new ≡ (next_state m k t named.room (state_in (aged_rows k t rows) named.address) named.event).1 =
-        ap (λ method. (outcome_by method k (mark_of named) (state_in rows named.address)).1) is
-        ∙ ap (λ s. (next_state m k t named.room s named.event).1) (sym (state_in-aged k times t rows named.address (table_after past named.vlan).rising)) in
         ap (aged_rows k t) own
         ∙ aged-with k times t named.address new rows (table_after past named.vlan)
-        ∙ ap (λ s. with_state named.address s (aged_rows k t rows)) (still-state k times t new (outcome-still (r.method_of named.vlan named.address) k times (mark_of named) (state_in rows named.address)) ∙ by_row)
+        ∙ ap (λ s. with_state named.address s (aged_rows k t rows)) (still-state k times t new (outcome-still (r.method_of named.vlan named.address) k times (mark_of named) (state_in rows named.address)))
+
+    -- what a mark comes to, read from the rows at its moment
+    by_rows : (named : Named) (past : List Named) (m : Method) → r.method_of named.vlan named.address ≡ Some m → outcome_by (r.method_of named.vlan named.address) r.times (mark_of named) (state_in (rows_after r base past named.vlan) named.address) ≡ next_state m r.times named.moment named.room (state_in (rows_at r base past named.moment named.vlan) named.address) named.event
+    by_rows named past m is =
+        ap (λ method. outcome_by method r.times (mark_of named) (state_in (rows_after r base past named.vlan) named.address)) is
+        ∙ ap (λ s. next_state m r.times named.moment named.room s named.event) (sym (state_in-aged r.times times named.moment (rows_after r base past named.vlan) named.address (table_after past named.vlan).rising))
+
+    pub at_mark : (named : Named) (past : List Named) (m : Method) → r.method_of named.vlan named.address ≡ Some m → rows_at r base (named ∷ past) named.moment named.vlan ≡ with_state named.address (next_state m r.times named.moment named.room (state_in (rows_at r base past named.moment named.vlan) named.address) named.event).1 (rows_at r base past named.moment named.vlan)
+    at_mark named past m is = at_mark_by named past ∙ ap (λ (o : Outcome). with_state named.address o.1 (rows_at r base past named.moment named.vlan)) (by_rows named past m is)
+
+    pub answer_by_rows : (named : Named) (past : List Named) (m : Method) → r.method_of named.vlan named.address ≡ Some m → answer_at r base past named ≡ (next_state m r.times named.moment named.room (state_in (rows_at r base past named.moment named.vlan) named.address) named.event).0
+    answer_by_rows named past m is =
+        ap (λ s. (outcome_by (r.method_of named.vlan named.address) r.times (mark_of named) s).0) (sym (states_after past named.vlan named.address))
+        ∙ ap (λ (o : Outcome). o.0) (by_rows named past m is)
 
     -- some state is another one where the rows are others, and only there
     pub changes : (past : List Named) (from t vlan : ℕ) → from ≤ t → (HasChanged r base past from t vlan ↔ (rows_at r base past t vlan ≢ rows_at r base past from vlan))

@@ -3,6 +3,7 @@ use Rattle.std.specs.Prelude.{ℕ, Option, List, []}
 use Rattle.savi_kinds.specs.declared.plan.Method.{Method}
 use Rattle.fcfs_states.specs.declared.times.Times.{Times}
 use Rattle.bind_table.specs.declared.row.Row.{Row}
+use Rattle.bind_table.specs.Rows.{IsTable}
 
 pub record AddrRules : Type 0 where
   -- the times by which states age
@@ -21,3 +22,7 @@ pub record AddrBase : Type 0 where
 -- the start of a switch: no address has a state
 abbrev pub no_states : AddrBase
 no_states = record { moment = 0; rows = λ vlan. [] }
+
+-- the rows of each VLAN are a table
+abbrev pub AreTables : AddrBase → Type 0
+AreTables base = (vlan : ℕ) → IsTable (base.rows vlan)

@@ -7,10 +7,10 @@ use Rattle.fcfs_states.specs.declared.times.Times.{Times}
 use Rattle.mix_rules.specs.declared.state.AddrState.{AddrState}
 use Rattle.mix_rules.specs.Ageing.{IsStill}
 use Rattle.mix_rules.specs.Premises.{AllMomentsFit, IsLeaseInRange}
-use Rattle.bind_table.specs.Rows.{state_in, IsTable}
+use Rattle.bind_table.specs.Rows.{state_in}
 use Rattle.addr_table.specs.Keeps.{IsSoundBy, IsWithinPorts}
 use Rattle.addr_table.specs.Rooms.{room_for, IsFixable}
-use Rattle.addr_history.specs.Bases.{AddrRules, AddrBase}
+use Rattle.addr_history.specs.Bases.{AddrRules, AddrBase, AreTables}
 use Rattle.addr_history.specs.Marks.{Named, last_moment}
 use Rattle.addr_history.specs.Tables.{rows_at}
 
@@ -32,7 +32,7 @@ pub record IsStateAt (method : Option Method) (k : Times) (t : ℕ) (state : Add
 -- A base within the limits: a table for each VLAN, in which no address has a state but one that is on-link.
 pub record IsAddrBase (r : AddrRules) (base : AddrBase) : Type 0 where
   pub early : base.moment ≤ 2 ^ 62
-  pub tables : (vlan : ℕ) → IsTable (base.rows vlan)
+  pub tables : AreTables base
   pub states : (vlan a : ℕ) → IsStateAt (r.method_of vlan a) r.times base.moment (state_in (base.rows vlan) a)
   pub within : (vlan : ℕ) → IsWithinPorts r.per_port (base.rows vlan)
 

@@ -7,7 +7,8 @@ ghost use Rattle.savi_kinds.specs.declared.plan.Method.{Method};
 ghost use Rattle.fcfs_states.specs.declared.event.Ev.TheVariants.{Sent};
 ghost use Rattle.fcfs_states.specs.Premises.{AreTimes};
 ghost use Rattle.fcfs_states.specs.States.{Same};
-ghost use Rattle.mix_rules.specs.States.{nobody, IsSoundFor, IsLiveAt};
+ghost use Rattle.mix_rules.specs.States.{IsSoundFor};
+ghost use Rattle.mix_rules.specs.Holders.{MakesHolder};
 ghost use Rattle.mix_rules.specs.Next.{next_state, IsPassing};
 ghost use Rattle.mix_rules.specs.Ageing.{aged_state};
 ghost use Rattle.mix_rules.specs.FirstCome.{state_of as run_of};
@@ -17,9 +18,9 @@ ghost use Rattle.addr_table.specs.Ages.{aged_rows};
 ghost use Rattle.addr_table.specs.Keeps.{IsWithinPorts};
 ghost use Rattle.addr_table.specs.declared.sent.SentProbe.{SentProbe};
 ghost use Rattle.addr_table.specs.Sends.{sends};
-ghost use Rattle.addr_history.specs.Bases.{AddrRules, AddrBase, no_states};
+ghost use Rattle.addr_history.specs.Bases.{AddrRules, AddrBase, AreTables, no_states};
 ghost use Rattle.addr_history.specs.Marks.{Named, names, marks_on, last_moment, AreInTurn};
-ghost use Rattle.addr_history.specs.States.{state_of, state_at, answer_at};
+ghost use Rattle.addr_history.specs.States.{state_of, state_at, answer_at, IsLiveAfter};
 ghost use Rattle.addr_history.specs.Tables.{rows_at, held_at};
 ghost use Rattle.addr_history.specs.Probes.{probes_between, HasChanged, IsAmong, AreInOrder};
 ghost use Rattle.addr_history.specs.Legal.{base_at, IsAddrBase, IsPast};
@@ -34,9 +35,9 @@ pub fn there_is_one_table()
 /// The rows of a VLAN are a table, and they are the states of its addresses.
 pub fn rows_are_the_states()
     ensures table { (r : AddrRules) (base : AddrBase) (past : List Named) (t vlan : ℕ)
-        → ((v : ℕ) → IsTable (base.rows v)) → IsTable (rows_at r base past t vlan) }
+        → AreTables base → IsTable (rows_at r base past t vlan) }
     ensures states { (r : AddrRules) (base : AddrBase) (past : List Named) (t vlan a : ℕ)
-        → AreTimes r.times → ((v : ℕ) → IsTable (base.rows v))
+        → AreTimes r.times → AreTables base
         → state_in (rows_at r base past t vlan) a ≡ state_at r base past t vlan a }
 {}
 
@@ -61,19 +62,25 @@ pub fn later_ageing_is_the_same()
         → AreTimes r.times → t ≤ u
         → state_at r base past u vlan a ≡ (aged_state r.times u (state_at r base past t vlan a)).state }
     ensures rows { (r : AddrRules) (base : AddrBase) (past : List Named) (t u vlan : ℕ)
-        → AreTimes r.times → ((v : ℕ) → IsTable (base.rows v)) → t ≤ u
+        → AreTimes r.times → AreTables base → t ≤ u
         → rows_at r base past u vlan ≡ aged_rows r.times u (rows_at r base past t vlan) }
 {}
 
-/// A mark gives its address the state of its row of the tables, and leaves all others as they are at its moment.
+/// A mark gives its address the state and the answer of its row of the tables, and leaves all others as they are at its
+/// moment.
 pub fn a_mark_moves_one_row()
     ensures own { (r : AddrRules) (base : AddrBase) (past : List Named) (named : Named) (m : Method)
-        → AreTimes r.times → ((v : ℕ) → IsTable (base.rows v)) → r.method_of named.vlan named.address ≡ Some m
+        → AreTimes r.times → AreTables base → r.method_of named.vlan named.address ≡ Some m
         → rows_at r base (named ∷ past) named.moment named.vlan
-            ≡ with_state named.address
-                (next_state m r.times named.moment named.room
-                    (state_in (rows_at r base past named.moment named.vlan) named.address) named.event).1
-                (rows_at r base past named.moment named.vlan) }
+        ≡ with_state named.address
+        (next_state m r.times named.moment named.room
+        (state_in (rows_at r base past named.moment named.vlan) named.address) named.event).1
+        (rows_at r base past named.moment named.vlan) }
+    ensures answer { (r : AddrRules) (base : AddrBase) (past : List Named) (named : Named) (m : Method)
+        → AreTimes r.times → AreTables base → r.method_of named.vlan named.address ≡ Some m
+        → answer_at r base past named
+        ≡ (next_state m r.times named.moment named.room
+        (state_in (rows_at r base past named.moment named.vlan) named.address) named.event).0 }
     ensures others { (r : AddrRules) (base : AddrBase) (past : List Named) (named : Named) (t vlan : ℕ)
         → named.vlan ≢ vlan → rows_at r base (named ∷ past) t vlan ≡ rows_at r base past t vlan }
 {}
@@ -81,14 +88,23 @@ pub fn a_mark_moves_one_row()
 /// Some address has another state at a later moment exactly where the rows are others.
 pub fn a_change_is_one_of_the_rows()
     ensures { (r : AddrRules) (base : AddrBase) (past : List Named) (from t vlan : ℕ)
-        → AreTimes r.times → ((v : ℕ) → IsTable (base.rows v)) → from ≤ t
+        → AreTimes r.times → AreTables base → from ≤ t
         → (HasChanged r base past from t vlan ↔ (rows_at r base past t vlan ≢ rows_at r base past from vlan)) }
 {}
 
-/// The states at a moment are a base from which the later marks lead on as the whole list does.
+/// The states at a moment are a base from which the later marks lead on as the whole list does; and these may come after
+/// that base as they may after the list.
 pub fn states_are_read_from_any_moment()
-    ensures { (r : AddrRules) (base : AddrBase) (early late : List Named) (t0 t vlan a : ℕ)
-        → AreTimes r.times → ((v : ℕ) → IsTable (base.rows v)) → AreInTurn t0 t late
+    ensures legal { (r : AddrRules) (base : AddrBase) (early late : List Named) (t0 t : ℕ)
+        → AreTimes r.times → AreTables base → AreInTurn t0 t late → last_moment base early ≤ t0
+        → (IsPast r base (late ++ early) ↔ IsPast r base early × IsPast r (base_at r base early t0) late) }
+    ensures turn { (r : AddrRules) (base : AddrBase) (past : List Named) (t : ℕ)
+        → IsPast r base past → last_moment base past ≤ t → AreInTurn base.moment t past }
+    ensures rows { (r : AddrRules) (base : AddrBase) (early late : List Named) (t0 t vlan : ℕ)
+        → AreTimes r.times → AreTables base → AreInTurn t0 t late
+        → rows_at r base (late ++ early) t vlan ≡ rows_at r (base_at r base early t0) late t vlan }
+    ensures states { (r : AddrRules) (base : AddrBase) (early late : List Named) (t0 t vlan a : ℕ)
+        → AreTimes r.times → AreTables base → AreInTurn t0 t late
         → state_at r base (late ++ early) t vlan a ≡ state_at r (base_at r base early t0) late t vlan a }
 {}
 
@@ -109,6 +125,18 @@ pub fn no_port_holds_too_many()
         → held_at r base past t vlan (number_of port) ≤ r.per_port }
 {}
 
+/// A port comes to hold more addresses only by an event of its own for which it has room, or by the operator, and never by
+/// ageing.
+pub fn a_port_comes_to_hold_by_its_own_event()
+    ensures marks { (r : AddrRules) (base : AddrBase) (past : List Named) (named : Named) (vlan : ℕ) (port : Port)
+        → AreTimes r.times → AreTables base
+        → held_at r base past named.moment vlan (number_of port) < held_at r base (named ∷ past) named.moment vlan (number_of port)
+        → MakesHolder port named.room named.event }
+    ensures ageing { (r : AddrRules) (base : AddrBase) (past : List Named) (t u vlan : ℕ) (port : Port)
+        → AreTimes r.times → AreTables base → t ≤ u
+        → held_at r base past u vlan (number_of port) ≤ held_at r base past t vlan (number_of port) }
+{}
+
 /// First come, first served, over the marks of many addresses and from any base in which the address is sound. An address
 /// that is live at a port at t0, after `early`, and no longer at t, after `late` too, was lost by one of three causes: its
 /// host's silence for as long as a test takes, the operator, or the end of a binding by DHCP there. And a packet from it
@@ -117,15 +145,15 @@ pub fn a_history_keeps_who_came_first()
     ensures kept { (r : AddrRules) (base : AddrBase) (from t0 t : ℕ) (early late : List Named) (vlan a : ℕ) (m : Method) (port : Port)
         → AreTimes r.times → r.method_of vlan a ≡ Some m → IsSoundFor m (state_in (base.rows vlan) a)
         → AreInTurn from t0 early → AreInTurn t0 t late
-        → IsLiveAt (state_at r base early t0 vlan a) port
-        → ¬ IsLiveAt (state_at r base (late ++ early) t vlan a) port
+        → IsLiveAfter r base early t0 vlan a port
+        → ¬ IsLiveAfter r base (late ++ early) t vlan a port
         → IsKeptOn r base m early t0 late t vlan a port }
     ensures packets { (r : AddrRules) (base : AddrBase) (from t0 : ℕ) (early late : List Named) (named : Named) (m : Method) (p q : Port)
         → AreTimes r.times → r.method_of named.vlan named.address ≡ Some m
         → IsSoundFor m (state_in (base.rows named.vlan) named.address)
         → AreInTurn from t0 early → AreInTurn t0 named.moment late
         → named.event ≡ Sent q → ¬ Same q p
-        → IsLiveAt (state_at r base early t0 named.vlan named.address) p
+        → IsLiveAfter r base early t0 named.vlan named.address p
         → IsPassing (answer_at r base (late ++ early) named)
         → IsKeptOn r base m early t0 late named.moment named.vlan named.address p }
 {}
@@ -135,17 +163,17 @@ pub fn a_history_keeps_who_came_first()
 /// them. To look in between changes nothing.
 pub fn probes_are_all_in_order()
     ensures members { (r : AddrRules) (base : AddrBase) (past : List Named) (from t vlan : ℕ) (sent : SentProbe)
-        → AreTimes r.times → ((v : ℕ) → IsTable (base.rows v))
+        → AreTimes r.times → AreTables base
         → (IsAmong sent (probes_between r base past from t vlan)
-            ↔ (from < sent.due)
-                × IsAmong (sent.due, sent.probe) (aged_state r.times t (state_of r base past vlan sent.address.0)).probes) }
+        ↔ (from < sent.due)
+        × IsAmong (sent.due, sent.probe) (aged_state r.times t (state_of r base past vlan sent.address.0)).probes) }
     ensures order { (r : AddrRules) (base : AddrBase) (past : List Named) (from t vlan : ℕ)
-        → AreTimes r.times → ((v : ℕ) → IsTable (base.rows v)) → AreInOrder (probes_between r base past from t vlan) }
+        → AreTimes r.times → AreTables base → AreInOrder (probes_between r base past from t vlan) }
     ensures rows { (r : AddrRules) (base : AddrBase) (past : List Named) (from t vlan : ℕ)
         → AreTimes r.times → from ≤ t
         → probes_between r base past from t vlan ≡ sends r.times t (rows_at r base past from vlan) }
     ensures joined { (r : AddrRules) (base : AddrBase) (past : List Named) (from t u vlan : ℕ)
-        → AreTimes r.times → ((v : ℕ) → IsTable (base.rows v)) → from ≤ t → t ≤ u
+        → AreTimes r.times → AreTables base → from ≤ t → t ≤ u
         → probes_between r base past from u vlan ≡ probes_between r base past from t vlan ++ probes_between r base past t u vlan }
 {}
 

@@ -1,4 +1,4 @@
-use Rattle.std.proofs.Common.{◌≡◌, ℕ, ◌*◌, ◌≤◌, length, ◌∙◌, ap, arith}
+use Rattle.std.proofs.Common.{◌≡◌, ◌*◌, ◌≤◌, length, ◌∙◌, ap, arith}
 use Rattle.addr_table.specs.Sends.{all_sends}
 use Rattle.addr_history.specs.Tables.{rows_after, rows_at}
 use Rattle.addr_history.specs.Probes.{probes_between}
