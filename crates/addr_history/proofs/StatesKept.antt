@@ -14,18 +14,25 @@ use Rattle.fcfs_states.proofs.AgeingLemmas.{Ages-aged}
 use Rattle.mix_rules.specs.declared.state.AddrState.{AddrState}
 use Rattle.mix_rules.specs.States.{nobody, IsSoundFor}
 use Rattle.mix_rules.specs.Next.{next_state}
-use Rattle.mix_rules.specs.Ageing.{aged_state}
-use Rattle.mix_rules.specs.Premises.{IsLeaseInRange}
+use Rattle.mix_rules.specs.Ageing.{aged_state, IsStill}
+use Rattle.mix_rules.specs.Premises.{AllMomentsFit, IsLeaseInRange}
 use Rattle.mix_rules.proofs.EventLemmas.{next-sound, next-still, next-fits}
 use Rattle.mix_rules.proofs.AgeingLemmas.{aged-sound, aged-still, aged-fits}
 use Rattle.bind_table.specs.Rows.{state_in}
-use Rattle.addr_table.specs.Keeps.{IsSoundBy}
-use Rattle.addr_history.specs.Bases.{AddrRules, AddrBase}
+use Rattle.addr_table.specs.Keeps.{IsSoundBy, IsWithinPorts}
+use Rattle.addr_history.specs.Bases.{AddrRules, AddrBase, AreTables}
 use Rattle.addr_history.specs.Marks.{Named, mark_of, names, last_moment}
 use Rattle.addr_history.specs.States.{outcome_by, state_of, state_at}
-use Rattle.addr_history.specs.Legal.{HasBegun, IsStateAt, IsPast}
+use Rattle.addr_history.specs.Legal.{HasBegun, IsAddrBase, IsPast}
 use Rattle.addr_history.proofs.Aged.{nobody-still, still-state}
 use Rattle.addr_history.proofs.MarksOn.{state_of-own, state_of-other}
+
+-- the state of an address of this method as it can be at t: sound, with nothing due, begun by then, each moment below 2^63
+pub record IsStateAt (method : Option Method) (k : Times) (t : ℕ) (state : AddrState) : Type 0 where
+  pub sound : IsSoundBy method state
+  pub still : IsStill k t state
+  pub begun : HasBegun t state.fcfs
+  pub fits : AllMomentsFit state
 
 next-begun : (m : Method) (k : Times) (t : ℕ) (room : Bool) (s : AddrState) (event : Ev) → HasBegun t s.fcfs → HasBegun t (next_state m k t room s event).1.fcfs
 next-begun m k t room s event begun = search rules
@@ -90,17 +97,29 @@ module _ (k : Times) (times : AreTimes k) where
         fits = next-fits m k t mark.room old mark.event times early short is.fits;
       }
 
-module _ (r : AddrRules) (base : AddrBase) (times : AreTimes r.times) (states : (vlan a : ℕ) → IsStateAt (r.method_of vlan a) r.times base.moment (state_in (base.rows vlan) a)) where
+module _ (r : AddrRules) (base : AddrBase) (is : IsAddrBase r base) where
+  pub base_times : AreTimes r.times
+  base_times = (is.kept 1).times
+
+  pub base_tables : AreTables base
+  base_tables vlan = (is.kept vlan).table
+
+  pub base_within : (vlan : ℕ) → IsWithinPorts r.per_port (base.rows vlan)
+  base_within vlan = (is.kept vlan).within
+
+  base_state : (vlan a : ℕ) → IsStateAt (r.method_of vlan a) r.times base.moment (state_in (base.rows vlan) a)
+  base_state vlan a = record { sound = is.sound vlan a; still = is.still vlan a; begun = is.begun vlan a; fits = (is.kept vlan).fit a }
+
   pub states_kept : (past : List Named) (t vlan a : ℕ) → IsPast r base past → last_moment base past ≤ t → t ≤ 2 ^ 62 → IsStateAt (r.method_of vlan a) r.times t (state_at r base past t vlan a)
-  states_kept [] t vlan a right after early = aged-kept r.times times (r.method_of vlan a) base.moment t (state_in (base.rows vlan) a) after early (states vlan a)
+  states_kept [] t vlan a right after early = aged-kept r.times base_times (r.method_of vlan a) base.moment t (state_in (base.rows vlan) a) after early (base_state vlan a)
   states_kept (named ∷ past) t vlan a right after early =
       elim (cases_Bool (names vlan a named)) [
-        | inl is ↦
+        | inl named_it ↦
             let before : IsStateAt (r.method_of vlan a) r.times named.moment (state_at r base past named.moment vlan a) = states_kept past named.moment vlan a right.1 right.0.order right.0.early in
             let moved : IsStateAt (r.method_of vlan a) r.times named.moment (outcome_by (r.method_of vlan a) r.times (mark_of named) (state_of r base past vlan a)).1 =
-            event-kept r.times times (r.method_of vlan a) (mark_of named) (state_of r base past vlan a) right.0.early right.0.lease before in
-            aged-kept r.times times (r.method_of vlan a) named.moment t (state_of r base (named ∷ past) vlan a) after early
-            (subst (IsStateAt (r.method_of vlan a) r.times named.moment) (sym (state_of-own r base vlan a named past is)) moved)
+            event-kept r.times base_times (r.method_of vlan a) (mark_of named) (state_of r base past vlan a) right.0.early right.0.lease before in
+            aged-kept r.times base_times (r.method_of vlan a) named.moment t (state_of r base (named ∷ past) vlan a) after early
+            (subst (IsStateAt (r.method_of vlan a) r.times named.moment) (sym (state_of-own r base vlan a named past named_it)) moved)
         | inr not ↦
             subst (λ s. IsStateAt (r.method_of vlan a) r.times t (aged_state r.times t s).state) (sym (state_of-other r base vlan a named past not))
             (states_kept past t vlan a right.1 (omega (arith, right.0.order, after)) early)

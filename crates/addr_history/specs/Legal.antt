@@ -1,16 +1,14 @@
 -- Which marks may come, and from which bases.
-use Rattle.std.specs.Prelude.{◌≡◌, ℕ, ◌^◌, ◌≤◌, Option, IsSome, List, [], ◌∷◌}
-use Rattle.savi_kinds.specs.declared.plan.Method.{Method}
+use Rattle.std.specs.Prelude.{◌≡◌, ℕ, ◌^◌, ◌≤◌, IsSome, List, [], ◌∷◌}
 use Rattle.fcfs_states.specs.declared.state.Fcfs.{Fcfs}
 use Rattle.fcfs_states.specs.declared.state.Fcfs.TheVariants.{NoBind, Tentative, Valid, TestLt, TestVp}
-use Rattle.fcfs_states.specs.declared.times.Times.{Times}
-use Rattle.mix_rules.specs.declared.state.AddrState.{AddrState}
-use Rattle.mix_rules.specs.Ageing.{IsStill}
-use Rattle.mix_rules.specs.Premises.{AllMomentsFit, IsLeaseInRange}
+use Rattle.mix_rules.specs.Premises.{IsLeaseInRange}
+use Rattle.bind_table.specs.declared.row.Row.{Row}
 use Rattle.bind_table.specs.Rows.{state_in}
-use Rattle.addr_table.specs.Keeps.{IsSoundBy, IsWithinPorts}
+use Rattle.addr_table.specs.Ages.{AllStill}
+use Rattle.addr_table.specs.Keeps.{AreSound, IsKept}
 use Rattle.addr_table.specs.Rooms.{room_for, IsFixable}
-use Rattle.addr_history.specs.Bases.{AddrRules, AddrBase, AreTables}
+use Rattle.addr_history.specs.Bases.{AddrRules, AddrBase}
 use Rattle.addr_history.specs.Marks.{Named, last_moment}
 use Rattle.addr_history.specs.Tables.{rows_at}
 
@@ -22,19 +20,18 @@ HasBegun t (Valid p until) = Unit {0}
 HasBegun t (TestLt p since two) = since ≤ t
 HasBegun t (TestVp p q since two) = since ≤ t
 
--- the state of an address of this method as it can be at t: sound, with nothing due, begun by then, each moment below 2^63
-pub record IsStateAt (method : Option Method) (k : Times) (t : ℕ) (state : AddrState) : Type 0 where
-  pub sound : IsSoundBy method state
-  pub still : IsStill k t state
-  pub begun : HasBegun t state.fcfs
-  pub fits : AllMomentsFit state
+-- each did
+abbrev pub AllBegun : ℕ → List Row → Type 0
+AllBegun t rows = (a : ℕ) → HasBegun t (state_in rows a).fcfs
 
--- A base within the limits: a table for each VLAN, in which no address has a state but one that is on-link.
+-- A base within the limits. The rows of each VLAN are a table, with moments below 2^63, and no port holds more addresses
+-- than it may; each address that has a state is on-link, and the state is sound for its method; nothing is due.
 pub record IsAddrBase (r : AddrRules) (base : AddrBase) : Type 0 where
   pub early : base.moment ≤ 2 ^ 62
-  pub tables : AreTables base
-  pub states : (vlan a : ℕ) → IsStateAt (r.method_of vlan a) r.times base.moment (state_in (base.rows vlan) a)
-  pub within : (vlan : ℕ) → IsWithinPorts r.per_port (base.rows vlan)
+  pub kept : (vlan : ℕ) → IsKept r.times r.per_port (base.rows vlan)
+  pub sound : (vlan : ℕ) → AreSound (r.method_of vlan) (base.rows vlan)
+  pub still : (vlan : ℕ) → AllStill r.times base.moment (base.rows vlan)
+  pub begun : (vlan : ℕ) → AllBegun base.moment (base.rows vlan)
 
 -- A mark that may come after these. Its room is that of its port before it, other marks of the same moment among them.
 pub record Stands (r : AddrRules) (base : AddrBase) (past : List Named) (named : Named) : Type 0 where

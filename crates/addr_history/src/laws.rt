@@ -1,6 +1,6 @@
 // What the states of all addresses come to. Each function does nothing: its contract is the law.
 
-ghost use Rattle.std.specs.Prelude.{◌≡◌, ℕ, ◌*◌, ◌<◌, ◌≤◌, ◌^◌, ◌↔◌, ◌≢◌, Bool, false, Some, None, length, List, ◌∷◌, ◌++◌};
+ghost use Rattle.std.specs.Prelude.{◌≡◌, ℕ, ◌*◌, ◌<◌, ◌≤◌, ◌^◌, ◌↔◌, ◌≢◌, false, Some, length, List, ◌∷◌, ◌++◌};
 ghost use Rattle.savi_kinds.specs.Ports.{number_of};
 ghost use Rattle.savi_kinds.specs.declared.port.Port.{Port};
 ghost use Rattle.savi_kinds.specs.declared.plan.Method.{Method};
@@ -15,7 +15,6 @@ ghost use Rattle.mix_rules.specs.FirstCome.{state_of as run_of};
 ghost use Rattle.bind_table.specs.declared.row.Row.{Row};
 ghost use Rattle.bind_table.specs.Rows.{IsTable, state_in, with_state};
 ghost use Rattle.addr_table.specs.Ages.{aged_rows};
-ghost use Rattle.addr_table.specs.Keeps.{IsWithinPorts};
 ghost use Rattle.addr_table.specs.declared.sent.SentProbe.{SentProbe};
 ghost use Rattle.addr_table.specs.Sends.{sends};
 ghost use Rattle.addr_history.specs.Bases.{AddrRules, AddrBase, AreTables, no_states};
@@ -85,7 +84,7 @@ pub fn a_mark_moves_one_row()
         → named.vlan ≢ vlan → rows_at r base (named ∷ past) t vlan ≡ rows_at r base past t vlan }
 {}
 
-/// Some address has another state at a later moment exactly where the rows are others.
+/// Some address has another state at a later moment exactly where the rows are other rows.
 pub fn a_change_is_one_of_the_rows()
     ensures { (r : AddrRules) (base : AddrBase) (past : List Named) (from t vlan : ℕ)
         → AreTimes r.times → AreTables base → from ≤ t
@@ -114,14 +113,14 @@ pub fn states_are_read_from_any_moment()
 pub fn states_stay_a_base()
     ensures start { (r : AddrRules) → AreTimes r.times → IsAddrBase r no_states }
     ensures kept { (r : AddrRules) (base : AddrBase) (past : List Named) (t : ℕ)
-        → AreTimes r.times → IsAddrBase r base → IsPast r base past → last_moment base past ≤ t → t ≤ 2 ^ 62
+        → IsAddrBase r base → IsPast r base past → last_moment base past ≤ t → t ≤ 2 ^ 62
         → IsAddrBase r (base_at r base past t) }
 {}
 
 /// No port holds more addresses than it may.
 pub fn no_port_holds_too_many()
     ensures { (r : AddrRules) (base : AddrBase) (past : List Named) (t vlan : ℕ) (port : Port)
-        → AreTimes r.times → IsAddrBase r base → IsPast r base past → last_moment base past ≤ t
+        → IsAddrBase r base → IsPast r base past → last_moment base past ≤ t
         → held_at r base past t vlan (number_of port) ≤ r.per_port }
 {}
 
@@ -183,9 +182,9 @@ pub fn few_probes_at_once()
     ensures each { (r : AddrRules) (base : AddrBase) (past : List Named) (t vlan a : ℕ)
         → AreTimes r.times → length (aged_state r.times t (state_of r base past vlan a)).probes ≤ 3 }
     ensures addresses { (r : AddrRules) (base : AddrBase) (past : List Named) (t vlan : ℕ)
-        → AreTimes r.times → IsAddrBase r base → IsPast r base past → last_moment base past ≤ t
+        → IsAddrBase r base → IsPast r base past → last_moment base past ≤ t
         → length (rows_at r base past t vlan) ≤ 16 * r.per_port }
     ensures all { (r : AddrRules) (base : AddrBase) (past : List Named) (from t vlan : ℕ)
-        → AreTimes r.times → IsAddrBase r base → IsPast r base past → last_moment base past ≤ from → from ≤ t
+        → IsAddrBase r base → IsPast r base past → last_moment base past ≤ from → from ≤ t
         → length (probes_between r base past from t vlan) ≤ 48 * r.per_port }
 {}
