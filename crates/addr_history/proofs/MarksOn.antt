@@ -1,6 +1,6 @@
 -- The marks of one address, and what they make of its state.
-use Rattle.std.proofs.Common.{◌≡◌, ℕ, ◌≤◌, true, false, Option, Some, List, [], ◌∷◌, ◌++◌, refl, sym, ◌∙◌, ap, subst, inl, inr, arith}
-use Rattle.std.proofs.lemmas.Bool.{cases_Bool}
+use Rattle.std.proofs.Common.{◌≡◌, ◌==◌, ℕ, ◌≤◌, true, false, Option, Some, List, [], ◌∷◌, ◌++◌, refl, sym, ◌∙◌, ap, subst, inl, inr, arith}
+use Rattle.std.proofs.lemmas.Bool.{cases_Bool, and_parts, eqb-true}
 use Rattle.savi_kinds.specs.declared.plan.Method.{Method}
 use Rattle.fcfs_states.specs.declared.times.Times.{Times}
 use Rattle.fcfs_states.specs.FirstCome.{Mark}
@@ -9,7 +9,7 @@ use Rattle.mix_rules.specs.FirstCome.{outcome, state_of as run_of, IsRun}
 use Rattle.bind_table.specs.Rows.{state_in}
 use Rattle.addr_history.specs.Bases.{AddrRules, AddrBase}
 use Rattle.addr_history.specs.Marks.{Named, mark_of, names, marks_on, AreInTurn}
-use Rattle.addr_history.specs.States.{outcome_by, state_of}
+use Rattle.addr_history.specs.States.{outcome_by, outcome_of, state_of}
 
 -- marks of one address, from a state
 abbrev pub moved_by : Option Method → Times → AddrState → List Mark → AddrState
@@ -49,7 +49,13 @@ module _ (vlan a : ℕ) where
 
 module _ (r : AddrRules) (base : AddrBase) (vlan a : ℕ) where
   pub state_of-own : (named : Named) (past : List Named) → names vlan a named ≡ true → state_of r base (named ∷ past) vlan a ≡ (outcome_by (r.method_of vlan a) r.times (mark_of named) (state_of r base past vlan a)).1
-  state_of-own named past is = rw is refl
+  state_of-own named past is =
+      let both : ((named.vlan == vlan) ≡ true) × ((named.address == a) ≡ true) = and_parts (named.vlan == vlan) (named.address == a) is in
+      let s : AddrState = state_of r base past vlan a in
+      let named_it : state_of r base (named ∷ past) vlan a ≡ (outcome_of r named s).1 = rw is refl in
+      named_it
+      ∙ ap (λ v. (outcome_by (r.method_of v named.address) r.times (mark_of named) s).1) (eqb-true named.vlan vlan both.0)
+      ∙ ap (λ n. (outcome_by (r.method_of vlan n) r.times (mark_of named) s).1) (eqb-true named.address a both.1)
 
   pub state_of-other : (named : Named) (past : List Named) → names vlan a named ≡ false → state_of r base (named ∷ past) vlan a ≡ state_of r base past vlan a
   state_of-other named past is = rw is refl

@@ -16,7 +16,7 @@ use Rattle.bind_table.proofs.Pointwise.{changed_at}
 use Rattle.addr_table.specs.Ages.{aged_rows}
 use Rattle.addr_history.specs.Bases.{AddrRules, AddrBase, AreTables}
 use Rattle.addr_history.specs.Marks.{Named, mark_of, names, AreInTurn}
-use Rattle.addr_history.specs.States.{outcome_by, state_of, state_at, answer_at}
+use Rattle.addr_history.specs.States.{outcome_by, outcome_of, state_of, state_at, answer_at}
 use Rattle.addr_history.specs.Tables.{rows_after, rows_at}
 use Rattle.addr_history.specs.Probes.{HasChanged}
 use Rattle.addr_history.specs.Legal.{base_at}
@@ -47,12 +47,6 @@ module _ (r : AddrRules) (base : AddrBase) (tables : AreTables base) where
   pub table_at : (past : List Named) (t vlan : ℕ) → IsTable (rows_at r base past t vlan)
   table_at past t vlan = aged-table r.times t (rows_after r base past vlan) (table_after past vlan)
 
-  -- what a mark comes to at the address that it names
-  same_named : (named : Named) (vlan a : ℕ) (rows : List Row) → named.vlan ≡ vlan → named.address ≡ a → (outcome_by (r.method_of named.vlan named.address) r.times (mark_of named) (state_in rows named.address)).1 ≡ (outcome_by (r.method_of vlan a) r.times (mark_of named) (state_in rows a)).1
-  same_named named vlan a rows one two =
-      ap (λ v. (outcome_by (r.method_of v named.address) r.times (mark_of named) (state_in rows named.address)).1) one
-      ∙ ap (λ n. (outcome_by (r.method_of vlan n) r.times (mark_of named) (state_in rows n)).1) two
-
   pub states_after : (past : List Named) (vlan a : ℕ) → state_in (rows_after r base past vlan) a ≡ state_of r base past vlan a
   states_after [] vlan a = refl
   states_after (named ∷ past) vlan a =
@@ -61,13 +55,13 @@ module _ (r : AddrRules) (base : AddrBase) (tables : AreTables base) where
         | inr not ↦ rw not before
         | inl is ↦
             rw is
-            (changed_at named.address a (outcome_by (r.method_of named.vlan named.address) r.times (mark_of named) (state_in (rows_after r base past vlan) named.address)).1 (rows_after r base past vlan)
+            (changed_at named.address a (outcome_of r named (state_in (rows_after r base past vlan) named.address)).1 (rows_after r base past vlan)
             ∙ (elim (cases_Bool (named.address == a)) [
               | inr apart ↦ rw apart before
               | inl here ↦
                   rw here
-                  (same_named named vlan a (rows_after r base past vlan) (eqb-true named.vlan vlan is) (eqb-true named.address a here)
-                  ∙ ap (λ s. (outcome_by (r.method_of vlan a) r.times (mark_of named) s).1) before)
+                  (ap (λ n. (outcome_of r named (state_in (rows_after r base past vlan) n)).1) (eqb-true named.address a here)
+                  ∙ ap (λ s. (outcome_of r named s).1) before)
             ]))
       ]
 

@@ -10,4 +10,5 @@ use Rattle.addr_history.specs.Marks.{Named, marks_on}
 -- The port has had an address of this method since t0, after `early`; `late` came by t. By the marks that name the address
 -- it keeps it, but for one of the three causes.
 abbrev pub IsKeptOn : AddrRules → AddrBase → Method → List Named → ℕ → List Named → ℕ → ℕ → ℕ → Port → Type 0
-IsKeptOn r base m early t0 late t vlan a port = IsKept m r.times (state_in (base.rows vlan) a) (marks_on vlan a early) t0 (marks_on vlan a late) t port
+IsKeptOn r base m early t0 late t vlan a port =
+    IsKept m r.times (state_in (base.rows vlan) a) (marks_on vlan a early) t0 (marks_on vlan a late) t port

@@ -21,13 +21,15 @@ abbrev pub outcome_by : Option Method → Times → Mark → AddrState → Outco
 outcome_by None k mark state = (silence, nobody)
 outcome_by (Some m) k mark state = outcome m k mark state
 
+-- what a mark comes to at the address that it names, where the address has this state
+abbrev pub outcome_of : AddrRules → Named → AddrState → Outcome
+outcome_of r named state = outcome_by (r.method_of named.vlan named.address) r.times (mark_of named) state
+
 -- the state of an address: that of the base, moved by each mark that names it and by no other
 abbrev pub state_of : AddrRules → AddrBase → List Named → ℕ → ℕ → AddrState
 state_of r base [] vlan a = state_in (base.rows vlan) a
 state_of r base (named ∷ past) vlan a =
-    if names vlan a named
-    then (outcome_by (r.method_of vlan a) r.times (mark_of named) (state_of r base past vlan a)).1
-    else state_of r base past vlan a
+    if names vlan a named then (outcome_of r named (state_of r base past vlan a)).1 else state_of r base past vlan a
 
 -- that state aged to t
 abbrev pub state_at : AddrRules → AddrBase → List Named → ℕ → ℕ → ℕ → AddrState
@@ -35,8 +37,7 @@ state_at r base past t vlan a = (aged_state r.times t (state_of r base past vlan
 
 -- the answer to a mark after these
 abbrev pub answer_at : AddrRules → AddrBase → List Named → Named → Answer
-answer_at r base past named =
-    (outcome_by (r.method_of named.vlan named.address) r.times (mark_of named) (state_of r base past named.vlan named.address)).0
+answer_at r base past named = (outcome_of r named (state_of r base past named.vlan named.address)).0
 
 -- the address is live at the port at t
 abbrev pub IsLiveAfter : AddrRules → AddrBase → List Named → ℕ → ℕ → ℕ → Port → Type 0

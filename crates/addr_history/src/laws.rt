@@ -129,7 +129,8 @@ pub fn no_port_holds_too_many()
 pub fn a_port_comes_to_hold_by_its_own_event()
     ensures marks { (r : AddrRules) (base : AddrBase) (past : List Named) (named : Named) (vlan : ℕ) (port : Port)
         → AreTimes r.times → AreTables base
-        → held_at r base past named.moment vlan (number_of port) < held_at r base (named ∷ past) named.moment vlan (number_of port)
+        → held_at r base past named.moment vlan (number_of port)
+        < held_at r base (named ∷ past) named.moment vlan (number_of port)
         → MakesHolder port named.room named.event }
     ensures ageing { (r : AddrRules) (base : AddrBase) (past : List Named) (t u vlan : ℕ) (port : Port)
         → AreTimes r.times → AreTables base → t ≤ u
@@ -141,13 +142,15 @@ pub fn a_port_comes_to_hold_by_its_own_event()
 /// host's silence for as long as a test takes, the operator, or the end of a binding by DHCP there. And a packet from it
 /// that passes at another port says that one of them was there.
 pub fn a_history_keeps_who_came_first()
-    ensures kept { (r : AddrRules) (base : AddrBase) (from t0 t : ℕ) (early late : List Named) (vlan a : ℕ) (m : Method) (port : Port)
+    ensures kept { (r : AddrRules) (base : AddrBase) (from t0 t : ℕ) (early late : List Named) (vlan a : ℕ) (m : Method)
+        (port : Port)
         → AreTimes r.times → r.method_of vlan a ≡ Some m → IsSoundFor m (state_in (base.rows vlan) a)
         → AreInTurn from t0 early → AreInTurn t0 t late
         → IsLiveAfter r base early t0 vlan a port
         → ¬ IsLiveAfter r base (late ++ early) t vlan a port
         → IsKeptOn r base m early t0 late t vlan a port }
-    ensures packets { (r : AddrRules) (base : AddrBase) (from t0 : ℕ) (early late : List Named) (named : Named) (m : Method) (p q : Port)
+    ensures packets { (r : AddrRules) (base : AddrBase) (from t0 : ℕ) (early late : List Named) (named : Named) (m : Method)
+        (p q : Port)
         → AreTimes r.times → r.method_of named.vlan named.address ≡ Some m
         → IsSoundFor m (state_in (base.rows named.vlan) named.address)
         → AreInTurn from t0 early → AreInTurn t0 named.moment late
@@ -173,7 +176,8 @@ pub fn probes_are_all_in_order()
         → probes_between r base past from t vlan ≡ sends r.times t (rows_at r base past from vlan) }
     ensures joined { (r : AddrRules) (base : AddrBase) (past : List Named) (from t u vlan : ℕ)
         → AreTimes r.times → AreTables base → from ≤ t → t ≤ u
-        → probes_between r base past from u vlan ≡ probes_between r base past from t vlan ++ probes_between r base past t u vlan }
+        → probes_between r base past from u vlan
+        ≡ probes_between r base past from t vlan ++ probes_between r base past t u vlan }
 {}
 
 /// No address sends more than three probes in one ageing, and there are at most as many addresses with a state as 16 ports
