@@ -1,0 +1,61 @@
+-- How many addresses have a state: each is held at one of 16 ports.
+use Rattle.std.proofs.Common.{◌≡◌, ℕ, ◌+◌, ◌*◌, ◌≤◌, zero, suc, true, List, [], ◌∷◌, length, refl, subst, inl, inr, arith}
+use Rattle.std.proofs.lemmas.Bool.{cases_eq}
+use Rattle.savi_kinds.specs.declared.port.Port.{Port}
+use Rattle.savi_kinds.specs.Ports.{number_of}
+use Rattle.mix_rules.specs.States.{IsHeldAt, is_held_at}
+use Rattle.mix_rules.proofs.HolderLemmas.{someone-holds}
+use Rattle.bind_table.specs.declared.row.Row.{Row}
+use Rattle.bind_table.specs.Rows.{count_at, AllStand}
+use Rattle.bind_table.specs.Counts.{held_once}
+use Rattle.addr_table.specs.Keeps.{IsWithinPorts}
+use Rattle.addr_history.proofs.Holding.{told-held, count-first}
+
+-- what the first n ports hold together
+total : ℕ → List Row → ℕ
+total zero rows = 0
+total (suc n) rows = count_at (suc n) rows + total n rows
+
+total-first : (n : ℕ) (row : Row) (rows : List Row) → total n (row ∷ rows) ≡ total n (row ∷ []) + total n rows
+unfolding total
+total-first zero row rows = omega arith
+total-first (suc n) row rows =
+    omega (arith, count-first (suc n) row rows, count-first (suc n) row [], total-first n row rows)
+
+total-held : (n : ℕ) (port : Port) (row : Row) → number_of port ≤ n → IsHeldAt row.state port → 1 ≤ total n (row ∷ [])
+unfolding total
+total-held zero port row within held = let low : 1 ≤ number_of port = port.low in absurd (omega (arith, within, low))
+total-held (suc n) port row within held =
+    elim (cases_eq (number_of port) (suc n)) [
+      | inl same ↦
+          let is : is_held_at (suc n) row.state ≡ true = subst (λ m. is_held_at m row.state ≡ true) same (told-held row.state port held) in
+          let one : held_once (suc n) row.state ≡ 1 = rw is refl in
+          omega (arith, one, count-first (suc n) row [])
+      | inr other ↦ omega (arith, total-held n port row (omega (arith, within, other)) held)
+    ]
+
+rows-total : (n : ℕ) (rows : List Row) → 16 ≤ n → AllStand rows → length rows ≤ total n rows
+rows-total n [] all stand = omega arith
+rows-total n (row ∷ rows) all stand =
+    let someone : (port : Port) × IsHeldAt row.state port = someone-holds row.state stand.0 in
+    let high : number_of someone.0 ≤ 16 = someone.0.high in
+    omega (arith, total-first n row rows, total-held n someone.0 row (omega (arith, all, high)) someone.1, rows-total n rows all stand.1)
+
+total-within : (per_port n : ℕ) (rows : List Row) → n ≤ 16 → IsWithinPorts per_port rows → total n rows ≤ n * per_port
+unfolding total
+total-within per_port zero rows few within = omega arith
+total-within per_port (suc n) rows few within =
+    let port : Port = record { number = suc n; low = omega arith; high = few } in
+    let one : count_at (suc n) rows ≤ per_port = within port in
+    let rest : total n rows ≤ n * per_port = total-within per_port n rows (omega (arith, few)) within in
+    let times : suc n * per_port ≡ per_port + n * per_port = grind arith in
+    omega (arith, one, rest, times)
+
+pub rows_within : (per_port : ℕ) (rows : List Row) → AllStand rows → IsWithinPorts per_port rows → length rows ≤ 16 * per_port
+rows_within per_port rows stand within = by_number 16 refl
+  where
+    by_number : (n : ℕ) → n ≡ 16 → length rows ≤ 16 * per_port
+    by_number n is =
+        let some : length rows ≤ total n rows = rows-total n rows (omega (arith, is)) stand in
+        let most : total n rows ≤ n * per_port = total-within per_port n rows (omega (arith, is)) within in
+        subst (λ m. length rows ≤ m * per_port) is (omega (arith, some, most))

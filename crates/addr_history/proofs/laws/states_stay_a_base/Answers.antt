@@ -1,0 +1,37 @@
+use Rattle.std.proofs.Common.{ℕ, ◌≤◌, ◌^◌, List, sym, subst, arith}
+use Rattle.bind_table.specs.Rows.{state_in}
+use Rattle.addr_history.specs.Bases.{AddrRules, AddrBase}
+use Rattle.addr_history.specs.Marks.{Named, last_moment}
+use Rattle.addr_history.specs.Tables.{rows_at}
+use Rattle.addr_history.specs.Legal.{IsAddrBase, IsPast}
+use Rattle.addr_history.proofs.TablesOf.{table_at, states_at}
+use Rattle.addr_history.proofs.StatesKept.{IsStateAt, nobody-kept, base_times, base_tables, base_within, states_kept}
+use Rattle.addr_history.proofs.Holding.{within_at}
+use Rattle.addr_history.proofs.laws.states_stay_a_base.Goals as goal
+
+at_row : (r : AddrRules) (base : AddrBase) (past : List Named) (t : ℕ) → IsAddrBase r base → IsPast r base past → last_moment base past ≤ t → t ≤ 2 ^ 62 → (vlan a : ℕ) → IsStateAt (r.method_of vlan a) r.times t (state_in (rows_at r base past t vlan) a)
+at_row r base past t is right after early vlan a =
+    subst (IsStateAt (r.method_of vlan a) r.times t) (sym (states_at r base (base_tables r base is) (base_times r base is) past t vlan a)) (states_kept r base is past t vlan a right after early)
+
+pub returns : goal.returns
+returns c = record {
+  start = λ r times. record {
+    early = omega arith;
+    kept = λ vlan. record { table = record { rising = tt; stand = tt }; times = times; fit = λ a. (nobody-kept r.times times (r.method_of vlan a) 0).fits; within = λ port. omega arith };
+    sound = λ vlan a. (nobody-kept r.times times (r.method_of vlan a) 0).sound;
+    still = λ vlan a. (nobody-kept r.times times (r.method_of vlan a) 0).still;
+    begun = λ vlan a. tt;
+  };
+  kept = λ r base past t is right after early. record {
+    early = early;
+    kept = λ vlan. record {
+      table = table_at r base (base_tables r base is) past t vlan;
+      times = base_times r base is;
+      fit = λ a. (at_row r base past t is right after early vlan a).fits;
+      within = within_at r base (base_times r base is) (base_tables r base is) (base_within r base is) past t vlan right after;
+    };
+    sound = λ vlan a. (at_row r base past t is right after early vlan a).sound;
+    still = λ vlan a. (at_row r base past t is right after early vlan a).still;
+    begun = λ vlan a. (at_row r base past t is right after early vlan a).begun;
+  };
+}

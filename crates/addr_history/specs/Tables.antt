@@ -1,0 +1,26 @@
+-- The states of all addresses of a VLAN at once, as a table: a row for each address that has a state.
+use Rattle.std.specs.Prelude.{ℕ, ◌==◌, if◌then◌else◌, List, [], ◌∷◌}
+use Rattle.bind_table.specs.declared.row.Row.{Row}
+use Rattle.bind_table.specs.Rows.{state_in, with_state, count_at}
+use Rattle.addr_table.specs.Ages.{aged_rows}
+use Rattle.addr_history.specs.Bases.{AddrRules, AddrBase}
+use Rattle.addr_history.specs.Marks.{Named}
+use Rattle.addr_history.specs.States.{outcome_of}
+
+-- the rows once a mark has moved its address
+abbrev pub rows_with : AddrRules → Named → List Row → List Row
+rows_with r named rows = with_state named.address (outcome_of r named (state_in rows named.address)).1 rows
+
+-- the rows of a VLAN: those of the base, changed by each mark of the VLAN
+abbrev pub rows_after : AddrRules → AddrBase → List Named → ℕ → List Row
+rows_after r base [] vlan = base.rows vlan
+rows_after r base (named ∷ past) vlan =
+    if named.vlan == vlan then rows_with r named (rows_after r base past vlan) else rows_after r base past vlan
+
+-- the same aged to t
+abbrev pub rows_at : AddrRules → AddrBase → List Named → ℕ → ℕ → List Row
+rows_at r base past t vlan = aged_rows r.times t (rows_after r base past vlan)
+
+-- how many addresses of a VLAN the port of this number holds at t: a port of a host has one VLAN
+abbrev pub held_at : AddrRules → AddrBase → List Named → ℕ → ℕ → ℕ → ℕ
+held_at r base past t vlan port = count_at port (rows_at r base past t vlan)
