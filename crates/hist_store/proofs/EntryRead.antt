@@ -47,9 +47,15 @@ frame_parts text entry octets (acts.Frame port stamp at len) is range fits e =
     let one = some_verdict entry.verdict fits.0 in
     let tails : text ≡ spaced (port_text port ∷ decimal stamp ∷ hex_text octets ∷ entry_verdict_text entry.verdict ∷ ports_text entry.outs ∷ ports_text entry.cuts ∷ decimal entry.probes ∷ decimal entry.lost ∷ []) = cc in
     record {
-      port = port; stamp = stamp; len = len; verdict = one.0;
+      port = port;
+      stamp = stamp;
+      len = len;
+      verdict = one.0;
       act_is = is ∙ ap (λ (a : ℕ). acts.Frame port stamp a len) range.1;
-      verdict_is = one.1; size = fits.1; short = fits.2; small = range.0;
+      verdict_is = one.1;
+      size = fits.1;
+      short = fits.2;
+      small = range.0;
       text_is = tails ∙ ap (λ (v : Option Verdict). spaced (port_text port ∷ decimal stamp ∷ hex_text octets ∷ entry_verdict_text v ∷ ports_text entry.outs ∷ ports_text entry.cuts ∷ decimal entry.probes ∷ decimal entry.lost ∷ [])) one.1;
     }
 frame_parts text entry octets (acts.Long port stamp len) is range fits e = absurd (apart 70 76 text _ e refl)
@@ -81,8 +87,17 @@ long_parts text entry octets (acts.Long port stamp len) is range fits e =
     let one = some_verdict entry.verdict fits.0 in
     let tails : text ≡ spaced (port_text port ∷ decimal stamp ∷ decimal len ∷ entry_verdict_text entry.verdict ∷ decimal entry.probes ∷ decimal entry.lost ∷ []) = cc in
     record {
-      port = port; stamp = stamp; len = len; verdict = one.0; act_is = is; verdict_is = one.1;
-      outs_is = fits.1.0; cuts_is = fits.1.1; none = fits.2; small = range.0; few = range.1;
+      port = port;
+      stamp = stamp;
+      len = len;
+      verdict = one.0;
+      act_is = is;
+      verdict_is = one.1;
+      outs_is = fits.1.0;
+      cuts_is = fits.1.1;
+      none = fits.2;
+      small = range.0;
+      few = range.1;
       text_is = tails ∙ ap (λ (v : Option Verdict). spaced (port_text port ∷ decimal stamp ∷ decimal len ∷ entry_verdict_text v ∷ decimal entry.probes ∷ decimal entry.lost ∷ [])) one.1;
     }
 long_parts text entry octets (acts.Tick stamp) is range fits e = absurd (apart 76 84 text _ e refl)
@@ -108,7 +123,7 @@ tick_parts text entry octets (acts.Frame port stamp at len) is range fits e = ab
 tick_parts text entry octets (acts.Long port stamp len) is range fits e = absurd (apart 84 76 text _ e refl)
 tick_parts text entry octets (acts.Tick stamp) is range fits e =
     let tails : text ≡ spaced (decimal stamp ∷ decimal entry.probes ∷ decimal entry.lost ∷ []) = cc in
-    record { stamp = stamp; act_is = is; verdict_is = no_verdict entry.verdict fits.0; outs_is = fits.1.0; cuts_is = fits.1.1; none = fits.2; small = range; text_is = tails; }
+    record { stamp = stamp; act_is = is; verdict_is = no_verdict entry.verdict fits.0; outs_is = fits.1.0; cuts_is = fits.1.1; none = fits.2; small = range; text_is = tails }
 tick_parts text entry octets (acts.Command stamp at len) is range fits e = absurd (apart 84 67 text _ e refl)
 tick_parts text entry octets (acts.Drain port count) is range fits e = absurd (apart 84 68 text _ e refl)
 tick_parts text entry octets (acts.End who how) is range fits e = absurd (apart 84 69 text _ e refl)
@@ -135,8 +150,16 @@ command_parts text entry octets (acts.Tick stamp) is range fits e = absurd (apar
 command_parts text entry octets (acts.Command stamp at len) is range fits e =
     let tails : text ≡ spaced (decimal stamp ∷ hex_text octets ∷ decimal entry.probes ∷ decimal entry.lost ∷ []) = cc in
     record {
-      stamp = stamp; len = len; act_is = is ∙ ap (λ (a : ℕ). acts.Command stamp a len) range.1;
-      verdict_is = no_verdict entry.verdict fits.0; outs_is = fits.1.0; cuts_is = fits.1.1; size = fits.2; short = fits.3; small = range.0; text_is = tails;
+      stamp = stamp;
+      len = len;
+      act_is = is ∙ ap (λ (a : ℕ). acts.Command stamp a len) range.1;
+      verdict_is = no_verdict entry.verdict fits.0;
+      outs_is = fits.1.0;
+      cuts_is = fits.1.1;
+      size = fits.2;
+      short = fits.3;
+      small = range.0;
+      text_is = tails;
     }
 command_parts text entry octets (acts.Drain port count) is range fits e = absurd (apart 67 68 text _ e refl)
 command_parts text entry octets (acts.End who how) is range fits e = absurd (apart 67 69 text _ e refl)
@@ -165,8 +188,17 @@ drain_parts text entry octets (acts.Command stamp at len) is range fits e = absu
 drain_parts text entry octets (acts.Drain port count) is range fits e =
     let tails : text ≡ spaced (port_text port ∷ decimal count ∷ []) = cc in
     record {
-      port = port; count = count; act_is = is; verdict_is = no_verdict entry.verdict fits.0; outs_is = fits.1.0; cuts_is = fits.1.1;
-      probes_is = fits.2.0; lost_is = fits.2.1; none = fits.3; few = range; text_is = tails;
+      port = port;
+      count = count;
+      act_is = is;
+      verdict_is = no_verdict entry.verdict fits.0;
+      outs_is = fits.1.0;
+      cuts_is = fits.1.1;
+      probes_is = fits.2.0;
+      lost_is = fits.2.1;
+      none = fits.3;
+      few = range;
+      text_is = tails;
     }
 drain_parts text entry octets (acts.End who how) is range fits e = absurd (apart 68 69 text _ e refl)
 
@@ -196,8 +228,18 @@ end_parts text entry octets (acts.Drain port count) is range fits e = absurd (ap
 end_parts text entry octets (acts.End who how) is range fits e =
     let tails : text ≡ spaced (who_text who ∷ how_fields how) = cc in
     record {
-      who = who; how = how; act_is = is; verdict_is = no_verdict entry.verdict fits.0; outs_is = fits.1.0; cuts_is = fits.1.1;
-      probes_is = fits.2.0; lost_is = fits.2.1; none = fits.3; reason = fits.4; range = range; text_is = tails;
+      who = who;
+      how = how;
+      act_is = is;
+      verdict_is = no_verdict entry.verdict fits.0;
+      outs_is = fits.1.0;
+      cuts_is = fits.1.1;
+      probes_is = fits.2.0;
+      lost_is = fits.2.1;
+      none = fits.3;
+      reason = fits.4;
+      range = range;
+      text_is = tails;
     }
 
 pub end_said : (text : List ℕ) (by moment : ℕ) (row : Row) → SaysAct (32 ∷ 69 ∷ text) by moment row → SaysEnd text row
@@ -220,12 +262,12 @@ pub record HasLetter (entry : Entry) (octets : List ℕ) (act : Act) : Type 0 wh
   pub none : (t : List ℕ) → t ≡ word → (t ≡ codes "F" → ⊥) → (t ≡ codes "D" → ⊥) → (t ≡ codes "E" → ⊥) → (t ≡ codes "T" → ⊥) → (t ≡ codes "C" → ⊥) → (t ≡ codes "L" → ⊥) → ⊥
 
 pub has_letter : (entry : Entry) (octets : List ℕ) (act : Act) → HasLetter entry octets act
-has_letter entry octets (acts.Frame port stamp at len) = record { word = codes "F"; rest = port_text port ∷ decimal stamp ∷ hex_text octets ∷ entry_verdict_text entry.verdict ∷ ports_text entry.outs ∷ ports_text entry.cuts ∷ decimal entry.probes ∷ decimal entry.lost ∷ []; fields = refl; is_word = word_of (codes "F") refl; none = λ t is f d e t' c l. f is; }
-has_letter entry octets (acts.Long port stamp len) = record { word = codes "L"; rest = port_text port ∷ decimal stamp ∷ decimal len ∷ entry_verdict_text entry.verdict ∷ decimal entry.probes ∷ decimal entry.lost ∷ []; fields = refl; is_word = word_of (codes "L") refl; none = λ t is f d e t' c l. l is; }
-has_letter entry octets (acts.Tick stamp) = record { word = codes "T"; rest = decimal stamp ∷ decimal entry.probes ∷ decimal entry.lost ∷ []; fields = refl; is_word = word_of (codes "T") refl; none = λ t is f d e t' c l. t' is; }
-has_letter entry octets (acts.Command stamp at len) = record { word = codes "C"; rest = decimal stamp ∷ hex_text octets ∷ decimal entry.probes ∷ decimal entry.lost ∷ []; fields = refl; is_word = word_of (codes "C") refl; none = λ t is f d e t' c l. c is; }
-has_letter entry octets (acts.Drain port count) = record { word = codes "D"; rest = port_text port ∷ decimal count ∷ []; fields = refl; is_word = word_of (codes "D") refl; none = λ t is f d e t' c l. d is; }
-has_letter entry octets (acts.End who how) = record { word = codes "E"; rest = who_text who ∷ how_fields how; fields = refl; is_word = word_of (codes "E") refl; none = λ t is f d e t' c l. e is; }
+has_letter entry octets (acts.Frame port stamp at len) = record { word = codes "F"; rest = port_text port ∷ decimal stamp ∷ hex_text octets ∷ entry_verdict_text entry.verdict ∷ ports_text entry.outs ∷ ports_text entry.cuts ∷ decimal entry.probes ∷ decimal entry.lost ∷ []; fields = refl; is_word = word_of (codes "F") refl; none = λ t is f d e t' c l. f is }
+has_letter entry octets (acts.Long port stamp len) = record { word = codes "L"; rest = port_text port ∷ decimal stamp ∷ decimal len ∷ entry_verdict_text entry.verdict ∷ decimal entry.probes ∷ decimal entry.lost ∷ []; fields = refl; is_word = word_of (codes "L") refl; none = λ t is f d e t' c l. l is }
+has_letter entry octets (acts.Tick stamp) = record { word = codes "T"; rest = decimal stamp ∷ decimal entry.probes ∷ decimal entry.lost ∷ []; fields = refl; is_word = word_of (codes "T") refl; none = λ t is f d e t' c l. t' is }
+has_letter entry octets (acts.Command stamp at len) = record { word = codes "C"; rest = decimal stamp ∷ hex_text octets ∷ decimal entry.probes ∷ decimal entry.lost ∷ []; fields = refl; is_word = word_of (codes "C") refl; none = λ t is f d e t' c l. c is }
+has_letter entry octets (acts.Drain port count) = record { word = codes "D"; rest = port_text port ∷ decimal count ∷ []; fields = refl; is_word = word_of (codes "D") refl; none = λ t is f d e t' c l. d is }
+has_letter entry octets (acts.End who how) = record { word = codes "E"; rest = who_text who ∷ how_fields how; fields = refl; is_word = word_of (codes "E") refl; none = λ t is f d e t' c l. e is }
 
 -- an entry by its fields
 abbrev make : ℕ → ℕ → Act → Option Verdict → PortSet → PortSet → ℕ → ℕ → Entry

@@ -68,8 +68,7 @@ pub digits_at : (digits bytes : List ℕ) (i : ℕ) → IsBytes bytes → digits
 digits_at digits bytes i is text low =
     let size : length digits ≡ 2 * length bytes = ap length text ∙ length-encode_with lower_digits bytes in
     let small : get_or bytes i 0 < 256 = is i in
-    let pair = pair_at bytes i (omega arith) in
-    (
+    let pair = pair_at bytes i (omega arith) in (
       ap (λ t. get_or t (2 * i) 0) text ∙ pair.0 ∙ digit_is (get_or bytes i 0 / 16) (omega arith),
       ap (λ t. get_or t (2 * i + 1) 0) text ∙ pair.1 ∙ digit_is (get_or bytes i 0 % 16) (omega arith),
       small,

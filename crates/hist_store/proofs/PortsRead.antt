@@ -56,7 +56,7 @@ first : (p : ℕ → Bool) (n k : ℕ) → ((j : ℕ) → k ≤ j → j < k + n 
 first p zero k = inl (λ j low high. absurd (omega arith))
 first p (suc n) k =
     elim (two (p k)) [
-      | inl holds ↦ inr (record { place = k; low = omega arith; high = omega arith; here = holds; none = λ j low high. absurd (omega arith); })
+      | inl holds ↦ inr (record { place = k; low = omega arith; high = omega arith; here = holds; none = λ j low high. absurd (omega arith) })
       | inr fails ↦
           elim (first p n (k + 1)) [
             | inl none ↦ inl (λ j low high. elim (cases_eq j k) [ inl same ↦ ap p same ∙ fails | inr other ↦ none j (omega arith) (omega arith) ])
@@ -130,8 +130,7 @@ cut : (text : List ℕ) (m : ℕ) (ms : List ℕ) → m ≤ 16 → text ≡ text
 cut text m ms small is =
     let numeral = (decimal_is_IsNumeral m (omega (arith, small))).0 in
     let whole : text ≡ decimal m ++ tail_text ms = is ∙ text_first m ms in
-    let place : place_of text ≡ length (decimal m) = ap place_of whole ∙ end_of_number (decimal m) ms (digits_without (decimal m) numeral.1) in
-    (
+    let place : place_of text ≡ length (decimal m) = ap place_of whole ∙ end_of_number (decimal m) ms (digits_without (decimal m) numeral.1) in (
       ap (λ (t : List ℕ). take (place_of text) t) whole ∙ take_at (decimal m) (tail_text ms) (place_of text) (sym place),
       ap (λ (t : List ℕ). drop (place_of text) t) whole ∙ drop_at (decimal m) (tail_text ms) (place_of text) (sym place),
     )
@@ -161,7 +160,7 @@ cut_of last before set text goes =
           let upper : one.place ≤ 16 = omega arith in
           let none : (j : ℕ) → last < j → j < one.place → is_member set j ≡ false = λ j more less. one.none j (omega arith) (omega arith) in
           let parts = cut text one.place (members_above one.place set) upper (goes.text_is ∙ ap text_of (above_next set last one.place lower upper none one.here)) in
-          record { port = one.place; low = lower; high = upper; none = none; here = one.here; front = parts.0; rest = parts.1; }
+          record { port = one.place; low = lower; high = upper; none = none; here = one.here; front = parts.0; rest = parts.1 }
     ]
 
 -- sets with the same members
@@ -175,9 +174,9 @@ the_set_same a b same = ap (λ (n : ℕ). let s : PortSet = record { 0 = n } in 
 pub sets_same : (a b : PortSet) → a.0 < 2 ^ 16 → b.0 < 2 ^ 16 → ((j : ℕ) → 1 ≤ j → j ≤ 16 → is_member a j ≡ is_member b j) → a ≡ b
 sets_same a b p q same =
     the_set_same a.0 b.0 (same_from_bits_below 16 a.0 b.0 p q (λ i low.
-      let at : i + 1 - 1 ≡ i = omega arith in
-      let bits : (bit_at a.0 i == 1) ≡ (bit_at b.0 i == 1) = subst (λ (k : ℕ). (bit_at a.0 k == 1) ≡ (bit_at b.0 k == 1)) at (same (i + 1) (omega arith) (omega arith)) in
-      same_bit (bit_at a.0 i) (bit_at b.0 i) (bit_at-lt a.0 i) (bit_at-lt b.0 i) bits))
+    let at : i + 1 - 1 ≡ i = omega arith in
+    let bits : (bit_at a.0 i == 1) ≡ (bit_at b.0 i == 1) = subst (λ (k : ℕ). (bit_at a.0 k == 1) ≡ (bit_at b.0 k == 1)) at (same (i + 1) (omega arith) (omega arith)) in
+    same_bit (bit_at a.0 i) (bit_at b.0 i) (bit_at-lt a.0 i) (bit_at-lt b.0 i) bits))
 
 -- a set with one more member, above all others
 
@@ -254,10 +253,10 @@ module _ (set grown : PortSet) (last port : ℕ) (is : IsGrown set grown last po
       let rest : members_above one.port whole ≡ [] = no_tail (members_above one.port whole) (sym one.rest ∙ empty) in
       let left : members_above port whole ≡ [] = ap (λ (p : ℕ). members_above p whole) (sym port_is) ∙ rest in
       sets_same grown whole is.size goes.size (λ j low high.
-        elim (cases_lt port j) [
-          | inl above ↦ grown_above j above high ∙ sym (none_above whole port left j above high)
-          | inr below ↦ sym (same_to whole text goes none here j low below)
-        ])
+      elim (cases_lt port j) [
+        | inl above ↦ grown_above j above high ∙ sym (none_above whole port left j above high)
+        | inr below ↦ sym (same_to whole text goes none here j low below)
+      ])
     where
       no_tail : (ns : List ℕ) → tail_text ns ≡ [] → ns ≡ []
       no_tail [] e = refl
@@ -270,7 +269,7 @@ module _ (set grown : PortSet) (last port : ℕ) (is : IsGrown set grown last po
       let here = subst (λ (p : ℕ). is_member whole p ≡ true) port_is one.here in
       let tail : tail_text (members_above port whole) ≡ comma ∷ more = ap (λ (p : ℕ). tail_text (members_above p whole)) (sym port_is) ∙ sym one.rest ∙ rest in
       let parts = some_tail (members_above port whole) more tail in
-      record { same = same_to whole text goes none here; size = goes.size; text_is = parts.0; some = parts.1; }
+      record { same = same_to whole text goes none here; size = goes.size; text_is = parts.0; some = parts.1 }
     where
       some_tail : (ns : List ℕ) (t : List ℕ) → tail_text ns ≡ comma ∷ t → (t ≡ text_of ns) × (0 < length ns)
       some_tail [] t e = cc
@@ -334,7 +333,7 @@ pub starts : (set : PortSet) (text : List ℕ) → set.0 < 2 ^ 16 → text ≡ p
 starts set text small is other =
     elim (first (is_member set) 16 1) [
       | inl none ↦ absurd (other (is ∙ none_text set none))
-      | inr one ↦ let some = some_text set one in record { same = λ n low high. absurd (omega arith); size = small; text_is = is ∙ some.1; some = some.0; }
+      | inr one ↦ let some = some_text set one in record { same = λ n low high. absurd (omega arith); size = small; text_is = is ∙ some.1; some = some.0 }
     ]
 
 pub finished : (set : PortSet) (text : List ℕ) → GoesOn 0 no_ports set text → (text ≡ ports_text set) × (set.0 < 2 ^ 16)

@@ -116,6 +116,6 @@ fn add_octets(store: &mut Vec<u8>, octets: &[u8])
 }
 
 // Does nothing: states for a proof what the type of a store says.
-fn know_octets(store: &[u8])
+pub fn know_octets(store: &[u8])
     ensures { IsBytes store.now }
 {}

@@ -2,21 +2,23 @@
 //!
 //! `Hist` keeps the entries in order, each with its octets; contracts see a list of rows (`specs/Rows.antt`). The
 //! journal is a text of lines (`specs/JournalTexts.antt`): its header, a line for each entry and a last line. What
-//! `put_header`, `put_line` and `put_end` write is that text, octet by octet. Nothing takes memory but `Hist::make`.
+//! `put_header`, `put_line` and `put_end` write is that text, octet by octet. `read_line` reads the lines of entries
+//! (`specs/EntryLines.antt`), and no others. Nothing takes memory but `Hist::make`.
 #![tactic(auto)]
 
 mod end_fields;
 mod header;
 mod hist;
 mod line;
+mod line_laws;
 mod pieces;
 mod port_fields;
 mod read_end;
 mod read_fields;
 mod read_hex;
-mod reading;
 mod read_ports;
 mod read_verdict;
+mod reading;
 #[cfg(test)]
 mod tests;
 mod verdict_fields;
@@ -24,6 +26,7 @@ mod verdict_fields;
 pub use header::{put_end, put_header};
 pub use hist::Hist;
 pub use line::put_line;
+pub use line_laws::{a_read_line_is_written_again, a_written_line_is_read_again};
 pub use pieces::{JOURNAL_LINE_OCTETS, JournalLine};
 pub use read_hex::LineOctets;
 pub use reading::read_line;

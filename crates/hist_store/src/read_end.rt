@@ -11,7 +11,8 @@ use savi_kinds::{How, Who};
 // A pass as the first field.
 pub fn take_who(text: &[u8]) -> Option<(Who, &[u8])>
     ensures read { IfSome result (λ r. text.now ≡ space ∷ who_text r.0 ++ r.1.now) }
-    ensures whole { (who : Who) (fields : List (List ℕ)) → text.now ≡ spaced (who_text who ∷ fields) → IsSomeAnd result (λ r. (r.0 ≡ who) × (r.1.now ≡ spaced fields)) }
+    ensures whole { (who : Who) (fields : List (List ℕ)) → text.now ≡ spaced (who_text who ∷ fields)
+        → IsSomeAnd result (λ r. (r.0 ≡ who) × (r.1.now ≡ spaced fields)) }
 {
     let (field, rest) = take_field(text)?;
     Some((read_who(field)?, rest))
@@ -43,7 +44,11 @@ pub fn read_how(text: &[u8]) -> Option<How>
         return read_reason(word);
     }
     let (value, rest) = take_number(rest)?;
-    if rest.is_empty() { reason_with(word, value) } else { None }
+    if rest.is_empty() {
+        reason_with(word, value)
+    } else {
+        None
+    }
 }
 
 // A reason without a number.
@@ -67,7 +72,8 @@ fn read_reason(word: &[u8]) -> Option<How>
 // A reason with a number.
 fn reason_with(word: &[u8], value: u64) -> Option<How>
     ensures read { IfSome result (λ how. (how_fields how ≡ word.now ∷ decimal value ∷ []) × IsHowInRange how) }
-    ensures whole { (how : How) → IsHowInRange how → how_fields how ≡ word.now ∷ decimal value ∷ [] → result ≡ Some how }
+    ensures whole { (how : How) → IsHowInRange how → how_fields how ≡ word.now ∷ decimal value ∷ []
+        → result ≡ Some how }
 {
     if is_word(word, "malformed") {
         Some(How::Malformed(value))
@@ -85,7 +91,10 @@ pub fn is_reason_of(who: Who, how: How) -> bool
     ensures { IsTrue result ↔ IsReasonOf who how }
 {
     match who {
-        Who::Ingress(_) => matches!(how, How::End | How::Malformed(_) | How::Failed | How::Full(_)),
+        Who::Ingress(_) => matches!(
+            how,
+            How::End | How::Malformed(_) | How::Failed | How::Full(_)
+        ),
         Who::Control => true,
         Who::Ticker => matches!(how, How::End | How::Full(_)),
         Who::Egress(_) => matches!(how, How::End | How::Failed),

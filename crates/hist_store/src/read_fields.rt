@@ -12,7 +12,8 @@ const COUNT_MOST: u64 = 0xffff_ffff;
 // The field at the front of a text, and the fields behind it, each with a space in front.
 pub fn cut_field(text: &[u8]) -> (&[u8], &[u8])
     ensures read { text.now ≡ result.0.now ++ result.1.now }
-    ensures whole { (field : List ℕ) (fields : List (List ℕ)) → HasNoSpace field → text.now ≡ field ++ spaced fields → (result.0.now ≡ field) × (result.1.now ≡ spaced fields) }
+    ensures whole { (field : List ℕ) (fields : List (List ℕ)) → HasNoSpace field
+        → text.now ≡ field ++ spaced fields → (result.0.now ≡ field) × (result.1.now ≡ spaced fields) }
 {
     text.split_at(end_at(text, b' '))
 }
@@ -34,7 +35,8 @@ fn first_place(text: &[u8], stop: u8) -> Option<usize>
 // The field behind the space at the front, and the fields behind it.
 pub fn take_field(text: &[u8]) -> Option<(&[u8], &[u8])>
     ensures read { IfSome result (λ r. text.now ≡ space ∷ r.0.now ++ r.1.now) }
-    ensures whole { (field : List ℕ) (fields : List (List ℕ)) → HasNoSpace field → text.now ≡ spaced (field ∷ fields) → IsSomeAnd result (λ r. (r.0.now ≡ field) × (r.1.now ≡ spaced fields)) }
+    ensures whole { (field : List ℕ) (fields : List (List ℕ)) → HasNoSpace field
+        → text.now ≡ spaced (field ∷ fields) → IsSomeAnd result (λ r. (r.0.now ≡ field) × (r.1.now ≡ spaced fields)) }
 {
     match text {
         [b' ', fields @ ..] => Some(cut_field(fields)),
@@ -51,7 +53,11 @@ pub fn behind<'a>(text: &'a [u8], word: &str) -> Option<&'a [u8]>
         return None;
     }
     let (front, rest) = text.split_at(word.len());
-    if is_word(front, word) { Some(rest) } else { None }
+    if is_word(front, word) {
+        Some(rest)
+    } else {
+        None
+    }
 }
 
 pub fn is_word(text: &[u8], word: &str) -> bool
@@ -63,7 +69,8 @@ pub fn is_word(text: &[u8], word: &str) -> bool
 // A number of 64 bits as the first field.
 pub fn take_number(text: &[u8]) -> Option<(u64, &[u8])>
     ensures read { IfSome result (λ r. (text.now ≡ space ∷ decimal r.0 ++ r.1.now) × (r.0 < 2 ^ 64)) }
-    ensures whole { (n : ℕ) (fields : List (List ℕ)) → n < 2 ^ 64 → text.now ≡ spaced (decimal n ∷ fields) → IsSomeAnd result (λ r. (r.0 ≡ n) × (r.1.now ≡ spaced fields)) }
+    ensures whole { (n : ℕ) (fields : List (List ℕ)) → n < 2 ^ 64
+        → text.now ≡ spaced (decimal n ∷ fields) → IsSomeAnd result (λ r. (r.0 ≡ n) × (r.1.now ≡ spaced fields)) }
 {
     let (field, rest) = take_field(text)?;
     Some((read_number(field)?, rest))
@@ -80,7 +87,8 @@ pub fn read_number(field: &[u8]) -> Option<u64>
 // A number of 32 bits as the first field.
 pub fn take_count(text: &[u8]) -> Option<(u32, &[u8])>
     ensures read { IfSome result (λ r. (text.now ≡ space ∷ decimal r.0 ++ r.1.now) × (r.0 < 2 ^ 32)) }
-    ensures whole { (n : ℕ) (fields : List (List ℕ)) → n < 2 ^ 32 → text.now ≡ spaced (decimal n ∷ fields) → IsSomeAnd result (λ r. (r.0 ≡ n) × (r.1.now ≡ spaced fields)) }
+    ensures whole { (n : ℕ) (fields : List (List ℕ)) → n < 2 ^ 32
+        → text.now ≡ spaced (decimal n ∷ fields) → IsSomeAnd result (λ r. (r.0 ≡ n) × (r.1.now ≡ spaced fields)) }
 {
     let (number, rest) = take_number(text)?;
     if number > COUNT_MOST {
@@ -92,7 +100,8 @@ pub fn take_count(text: &[u8]) -> Option<(u32, &[u8])>
 // A port as the first field.
 pub fn take_port(text: &[u8]) -> Option<(Port, &[u8])>
     ensures read { IfSome result (λ r. text.now ≡ space ∷ port_text r.0 ++ r.1.now) }
-    ensures whole { (port : Port) (fields : List (List ℕ)) → text.now ≡ spaced (port_text port ∷ fields) → IsSomeAnd result (λ r. (r.0 ≡ port) × (r.1.now ≡ spaced fields)) }
+    ensures whole { (port : Port) (fields : List (List ℕ)) → text.now ≡ spaced (port_text port ∷ fields)
+        → IsSomeAnd result (λ r. (r.0 ≡ port) × (r.1.now ≡ spaced fields)) }
 {
     let (field, rest) = take_field(text)?;
     Some((read_port(field)?, rest))

@@ -17,19 +17,28 @@ pub type LineOctets = ArrayVec<u8, FRAME_OCTETS_MOST>;
 pub fn take_hex<'a>(text: &'a [u8], most: usize, octets: &mut LineOctets) -> Option<&'a [u8]>
     requires empty { octets.old.items ≡ [] }
     requires room { most ≤ 1518 }
-    ensures read { IfSome result (λ rest. (text.now ≡ space ∷ hex_text octets.new.items ++ rest.now) × IsBytes octets.new.items × (array_vec_len octets.new ≤ most)) }
-    ensures whole { (bytes : List ℕ) (fields : List (List ℕ)) → IsBytes bytes → length bytes ≤ most → text.now ≡ spaced (hex_text bytes ∷ fields) → IsSomeAnd result (λ rest. rest.now ≡ spaced fields) × (octets.new.items ≡ bytes) }
+    ensures read { IfSome result (λ rest. (text.now ≡ space ∷ hex_text octets.new.items ++ rest.now)
+        × IsBytes octets.new.items × (array_vec_len octets.new ≤ most)) }
+    ensures whole { (bytes : List ℕ) (fields : List (List ℕ)) → IsBytes bytes → length bytes ≤ most
+        → text.now ≡ spaced (hex_text bytes ∷ fields)
+        → IsSomeAnd result (λ rest. rest.now ≡ spaced fields) × (octets.new.items ≡ bytes) }
 {
     let (field, rest) = take_field(text)?;
-    if read_octets(field, most, octets) { Some(rest) } else { None }
+    if read_octets(field, most, octets) {
+        Some(rest)
+    } else {
+        None
+    }
 }
 
 // Puts the octets that the text of a field says into the empty buffer, at most so many. Whether it says any.
 fn read_octets(field: &[u8], most: usize, octets: &mut LineOctets) -> bool
     requires empty { octets.old.items ≡ [] }
     requires room { most ≤ 1518 }
-    ensures read { OnTrue result ((field.now ≡ hex_text octets.new.items) × IsBytes octets.new.items × (array_vec_len octets.new ≤ most)) }
-    ensures whole { (bytes : List ℕ) → IsBytes bytes → length bytes ≤ most → field.now ≡ hex_text bytes → IsTrue result × (octets.new.items ≡ bytes) }
+    ensures read { OnTrue result ((field.now ≡ hex_text octets.new.items) × IsBytes octets.new.items
+        × (array_vec_len octets.new ≤ most)) }
+    ensures whole { (bytes : List ℕ) → IsBytes bytes → length bytes ≤ most → field.now ≡ hex_text bytes
+        → IsTrue result × (octets.new.items ≡ bytes) }
 {
     if is_dash(field) {
         return true;
@@ -52,7 +61,8 @@ fn read_digits(digits: &[u8], octets: &mut LineOctets) -> bool
     requires even { length digits.now % 2 ≡ 0 }
     requires room { length digits.now ≤ 3036 }
     ensures read { OnTrue result ((digits.now ≡ encode_lower octets.new.items) × IsBytes octets.new.items) }
-    ensures whole { (bytes : List ℕ) → IsBytes bytes → digits.now ≡ encode_lower bytes → IsTrue result × (octets.new.items ≡ bytes) }
+    ensures whole { (bytes : List ℕ) → IsBytes bytes → digits.now ≡ encode_lower bytes
+        → IsTrue result × (octets.new.items ≡ bytes) }
 {
     for i in 0..digits.len() / 2 {
         let high = digit_value(digits[2 * i]);

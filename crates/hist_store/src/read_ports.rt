@@ -11,7 +11,9 @@ use savi_kinds::PortSet;
 // A set of ports as the first field.
 pub fn take_ports(text: &[u8]) -> Option<(PortSet, &[u8])>
     ensures read { IfSome result (λ r. (text.now ≡ space ∷ ports_text r.0 ++ r.1.now) × (r.0.0 < 2 ^ 16)) }
-    ensures whole { (set : PortSet) (fields : List (List ℕ)) → set.0 < 2 ^ 16 → text.now ≡ spaced (ports_text set ∷ fields) → IsSomeAnd result (λ r. (r.0 ≡ set) × (r.1.now ≡ spaced fields)) }
+    ensures whole { (set : PortSet) (fields : List (List ℕ)) → set.0 < 2 ^ 16
+        → text.now ≡ spaced (ports_text set ∷ fields)
+        → IsSomeAnd result (λ r. (r.0 ≡ set) × (r.1.now ≡ spaced fields)) }
 {
     let (field, rest) = take_field(text)?;
     Some((read_ports(field)?, rest))

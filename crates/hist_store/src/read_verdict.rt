@@ -39,7 +39,9 @@ const RULES: [Rule; 23] = [
 // A verdict as the first field.
 pub fn take_verdict(text: &[u8]) -> Option<(Verdict, &[u8])>
     ensures read { IfSome result (λ r. text.now ≡ space ∷ verdict_text r.0 ++ r.1.now) }
-    ensures whole { (verdict : Verdict) (fields : List (List ℕ)) → text.now ≡ spaced (verdict_text verdict ∷ fields) → IsSomeAnd result (λ r. (r.0 ≡ verdict) × (r.1.now ≡ spaced fields)) }
+    ensures whole { (verdict : Verdict) (fields : List (List ℕ))
+        → text.now ≡ spaced (verdict_text verdict ∷ fields)
+        → IsSomeAnd result (λ r. (r.0 ≡ verdict) × (r.1.now ≡ spaced fields)) }
 {
     let (field, rest) = take_field(text)?;
     Some((read_verdict(field)?, rest))

@@ -7,11 +7,15 @@ ghost use Rattle.hist_store.specs.PortTexts.{port_text, ports_text};
 ghost use Rattle.hist_store.specs.EntryLines.{SaysEntry, SaysAct, entry_without_outs};
 
 use crate::read_end::{is_reason_of, read_how, take_who};
-use crate::read_fields::{cut_field, is_word, read_number, take_count, take_field, take_number, take_port};
+use crate::read_fields::{
+    cut_field, is_word, read_number, take_count, take_field, take_number, take_port,
+};
 use crate::read_hex::{LineOctets, take_hex};
 use crate::read_ports::take_ports;
 use crate::read_verdict::take_verdict;
-use savi_kinds::{Act, CONTROL_LINE_OCTETS, Entry, FRAME_OCTETS_MOST, Moment, Port, PortSet, Verdict};
+use savi_kinds::{
+    Act, CONTROL_LINE_OCTETS, Entry, FRAME_OCTETS_MOST, Moment, Port, PortSet, Verdict,
+};
 
 /// Reads the journal's line of an entry, without its line feed: the entry's number, and the entry. The octets of a
 /// frame or a command are put into the buffer, in place of what it held; a line doesn't say where they are kept, and
@@ -20,7 +24,8 @@ use savi_kinds::{Act, CONTROL_LINE_OCTETS, Entry, FRAME_OCTETS_MOST, Moment, Por
 /// `None` exactly where the line isn't that of an entry, and then the buffer is empty. O(n).
 pub fn read_line(line: &[u8], octets: &mut LineOctets) -> Option<(u64, Entry)>
     ensures read { IfSome result (λ r. SaysEntry line.now r.0 (record { entry = r.1; octets = octets.new.items })) }
-    ensures whole { (n : ℕ) (row : Row) → SaysEntry line.now n row → (result ≡ Some (n, row.entry)) × (octets.new.items ≡ row.octets) }
+    ensures whole { (n : ℕ) (row : Row) → SaysEntry line.now n row
+        → (result ≡ Some (n, row.entry)) × (octets.new.items ≡ row.octets) }
     ensures only { IfNone result ((n : ℕ) (row : Row) → ¬ SaysEntry line.now n row) }
     ensures empty { IfNone result (octets.new.items ≡ []) }
 {
@@ -36,7 +41,8 @@ pub fn read_line(line: &[u8], octets: &mut LineOctets) -> Option<(u64, Entry)>
 fn read_entry(line: &[u8], octets: &mut LineOctets) -> Option<(u64, Entry)>
     requires { octets.old.items ≡ [] }
     ensures read { IfSome result (λ r. SaysEntry line.now r.0 (record { entry = r.1; octets = octets.new.items })) }
-    ensures whole { (n : ℕ) (row : Row) → SaysEntry line.now n row → (result ≡ Some (n, row.entry)) × (octets.new.items ≡ row.octets) }
+    ensures whole { (n : ℕ) (row : Row) → SaysEntry line.now n row
+        → (result ≡ Some (n, row.entry)) × (octets.new.items ≡ row.octets) }
 {
     let (number, rest) = cut_field(line);
     let n = read_number(number)?;
@@ -50,7 +56,8 @@ fn read_entry(line: &[u8], octets: &mut LineOctets) -> Option<(u64, Entry)>
 fn read_act(by: u32, moment: Moment, text: &[u8], octets: &mut LineOctets) -> Option<Entry>
     requires { octets.old.items ≡ [] }
     ensures read { IfSome result (λ e. SaysAct text.now by moment (record { entry = e; octets = octets.new.items })) }
-    ensures whole { (row : Row) → SaysAct text.now by moment row → (result ≡ Some row.entry) × (octets.new.items ≡ row.octets) }
+    ensures whole { (row : Row) → SaysAct text.now by moment row
+        → (result ≡ Some row.entry) × (octets.new.items ≡ row.octets) }
 {
     let (letter, rest) = take_field(text)?;
     if is_word(letter, "F") {
@@ -73,7 +80,8 @@ fn read_act(by: u32, moment: Moment, text: &[u8], octets: &mut LineOctets) -> Op
 fn read_frame(by: u32, moment: Moment, text: &[u8], octets: &mut LineOctets) -> Option<Entry>
     requires { octets.old.items ≡ [] }
     ensures read { IfSome result (λ e. SaysAct (space ∷ 70 ∷ text.now) by moment (record { entry = e; octets = octets.new.items })) }
-    ensures whole { (row : Row) → SaysAct (space ∷ 70 ∷ text.now) by moment row → (result ≡ Some row.entry) × (octets.new.items ≡ row.octets) }
+    ensures whole { (row : Row) → SaysAct (space ∷ 70 ∷ text.now) by moment row
+        → (result ≡ Some row.entry) × (octets.new.items ≡ row.octets) }
 {
     let (port, stamp, rest) = take_input(text)?;
     let rest = take_hex(rest, FRAME_OCTETS_MOST, octets)?;
@@ -100,7 +108,8 @@ fn read_frame(by: u32, moment: Moment, text: &[u8], octets: &mut LineOctets) -> 
 
 fn read_long(by: u32, moment: Moment, text: &[u8]) -> Option<Entry>
     ensures read { IfSome result (λ e. SaysAct (space ∷ 76 ∷ text.now) by moment (record { entry = e; octets = [] })) }
-    ensures whole { (row : Row) → SaysAct (space ∷ 76 ∷ text.now) by moment row → (result ≡ Some row.entry) × ([] ≡ row.octets) }
+    ensures whole { (row : Row) → SaysAct (space ∷ 76 ∷ text.now) by moment row
+        → (result ≡ Some row.entry) × ([] ≡ row.octets) }
 {
     let (port, stamp, rest) = take_input(text)?;
     let (len, rest) = take_count(rest)?;
@@ -112,7 +121,8 @@ fn read_long(by: u32, moment: Moment, text: &[u8]) -> Option<Entry>
 
 fn read_tick(by: u32, moment: Moment, text: &[u8]) -> Option<Entry>
     ensures read { IfSome result (λ e. SaysAct (space ∷ 84 ∷ text.now) by moment (record { entry = e; octets = [] })) }
-    ensures whole { (row : Row) → SaysAct (space ∷ 84 ∷ text.now) by moment row → (result ≡ Some row.entry) × ([] ≡ row.octets) }
+    ensures whole { (row : Row) → SaysAct (space ∷ 84 ∷ text.now) by moment row
+        → (result ≡ Some row.entry) × ([] ≡ row.octets) }
 {
     let (stamp, rest) = take_number(text)?;
     let (probes, lost) = read_probes(rest)?;
@@ -123,7 +133,8 @@ fn read_tick(by: u32, moment: Moment, text: &[u8]) -> Option<Entry>
 fn read_command(by: u32, moment: Moment, text: &[u8], octets: &mut LineOctets) -> Option<Entry>
     requires { octets.old.items ≡ [] }
     ensures read { IfSome result (λ e. SaysAct (space ∷ 67 ∷ text.now) by moment (record { entry = e; octets = octets.new.items })) }
-    ensures whole { (row : Row) → SaysAct (space ∷ 67 ∷ text.now) by moment row → (result ≡ Some row.entry) × (octets.new.items ≡ row.octets) }
+    ensures whole { (row : Row) → SaysAct (space ∷ 67 ∷ text.now) by moment row
+        → (result ≡ Some row.entry) × (octets.new.items ≡ row.octets) }
 {
     let (stamp, rest) = take_number(text)?;
     let rest = take_hex(rest, CONTROL_LINE_OCTETS, octets)?;
@@ -135,7 +146,8 @@ fn read_command(by: u32, moment: Moment, text: &[u8], octets: &mut LineOctets) -
 
 fn read_drain(by: u32, moment: Moment, text: &[u8]) -> Option<Entry>
     ensures read { IfSome result (λ e. SaysAct (space ∷ 68 ∷ text.now) by moment (record { entry = e; octets = [] })) }
-    ensures whole { (row : Row) → SaysAct (space ∷ 68 ∷ text.now) by moment row → (result ≡ Some row.entry) × ([] ≡ row.octets) }
+    ensures whole { (row : Row) → SaysAct (space ∷ 68 ∷ text.now) by moment row
+        → (result ≡ Some row.entry) × ([] ≡ row.octets) }
 {
     let (port, rest) = take_port(text)?;
     let (count, rest) = take_count(rest)?;
@@ -149,7 +161,8 @@ fn read_drain(by: u32, moment: Moment, text: &[u8]) -> Option<Entry>
 
 fn read_end(by: u32, moment: Moment, text: &[u8]) -> Option<Entry>
     ensures read { IfSome result (λ e. SaysAct (space ∷ 69 ∷ text.now) by moment (record { entry = e; octets = [] })) }
-    ensures whole { (row : Row) → SaysAct (space ∷ 69 ∷ text.now) by moment row → (result ≡ Some row.entry) × ([] ≡ row.octets) }
+    ensures whole { (row : Row) → SaysAct (space ∷ 69 ∷ text.now) by moment row
+        → (result ≡ Some row.entry) × ([] ≡ row.octets) }
 {
     let (who, rest) = take_who(text)?;
     let how = read_how(rest)?;
@@ -164,7 +177,9 @@ fn read_end(by: u32, moment: Moment, text: &[u8]) -> Option<Entry>
 // A port and a stamp as the first fields.
 fn take_input(text: &[u8]) -> Option<(Port, u64, &[u8])>
     ensures read { IfSome result (λ r. (text.now ≡ space ∷ port_text r.0 ++ space ∷ decimal r.1 ++ r.2.now) × (r.1 < 2 ^ 64)) }
-    ensures whole { (port : Port) (stamp : ℕ) (fields : List (List ℕ)) → stamp < 2 ^ 64 → text.now ≡ spaced (port_text port ∷ decimal stamp ∷ fields) → IsSomeAnd result (λ r. (r.0 ≡ port) × (r.1 ≡ stamp) × (r.2.now ≡ spaced fields)) }
+    ensures whole { (port : Port) (stamp : ℕ) (fields : List (List ℕ)) → stamp < 2 ^ 64
+        → text.now ≡ spaced (port_text port ∷ decimal stamp ∷ fields)
+        → IsSomeAnd result (λ r. (r.0 ≡ port) × (r.1 ≡ stamp) × (r.2.now ≡ spaced fields)) }
 {
     let (port, rest) = take_port(text)?;
     let (stamp, rest) = take_number(rest)?;
@@ -174,7 +189,9 @@ fn take_input(text: &[u8]) -> Option<(Port, u64, &[u8])>
 // The ports to which a frame was queued or would have been, and those with a full queue, as the first fields.
 fn take_outs(text: &[u8]) -> Option<(PortSet, PortSet, &[u8])>
     ensures read { IfSome result (λ r. (text.now ≡ space ∷ ports_text r.0 ++ space ∷ ports_text r.1 ++ r.2.now) × (r.0.0 < 2 ^ 16) × (r.1.0 < 2 ^ 16)) }
-    ensures whole { (outs cuts : PortSet) (fields : List (List ℕ)) → outs.0 < 2 ^ 16 → cuts.0 < 2 ^ 16 → text.now ≡ spaced (ports_text outs ∷ ports_text cuts ∷ fields) → IsSomeAnd result (λ r. (r.0 ≡ outs) × (r.1 ≡ cuts) × (r.2.now ≡ spaced fields)) }
+    ensures whole { (outs cuts : PortSet) (fields : List (List ℕ)) → outs.0 < 2 ^ 16 → cuts.0 < 2 ^ 16
+        → text.now ≡ spaced (ports_text outs ∷ ports_text cuts ∷ fields)
+        → IsSomeAnd result (λ r. (r.0 ≡ outs) × (r.1 ≡ cuts) × (r.2.now ≡ spaced fields)) }
 {
     let (outs, rest) = take_ports(text)?;
     let (cuts, rest) = take_ports(rest)?;
@@ -183,8 +200,10 @@ fn take_outs(text: &[u8]) -> Option<(PortSet, PortSet, &[u8])>
 
 // How many probes were queued and how many left out, which is all of the text.
 fn read_probes(text: &[u8]) -> Option<(u32, u32)>
-    ensures read { IfSome result (λ r. (text.now ≡ spaced (decimal r.0 ∷ decimal r.1 ∷ [])) × (r.0 < 2 ^ 32) × (r.1 < 2 ^ 32)) }
-    ensures whole { (probes lost : ℕ) → probes < 2 ^ 32 → lost < 2 ^ 32 → text.now ≡ spaced (decimal probes ∷ decimal lost ∷ []) → result ≡ Some (probes, lost) }
+    ensures read { IfSome result (λ r. (text.now ≡ spaced (decimal r.0 ∷ decimal r.1 ∷ []))
+        × (r.0 < 2 ^ 32) × (r.1 < 2 ^ 32)) }
+    ensures whole { (probes lost : ℕ) → probes < 2 ^ 32 → lost < 2 ^ 32
+        → text.now ≡ spaced (decimal probes ∷ decimal lost ∷ []) → result ≡ Some (probes, lost) }
 {
     let (probes, rest) = take_count(text)?;
     let (lost, rest) = take_count(rest)?;
@@ -196,7 +215,14 @@ fn read_probes(text: &[u8]) -> Option<(u32, u32)>
 }
 
 // An entry without outs.
-fn entry_of(by: u32, moment: Moment, act: Act, verdict: Option<Verdict>, probes: u32, lost: u32) -> Entry
+fn entry_of(
+    by: u32,
+    moment: Moment,
+    act: Act,
+    verdict: Option<Verdict>,
+    probes: u32,
+    lost: u32,
+) -> Entry
     ensures { result ≡ entry_without_outs by moment act verdict probes lost }
 {
     Entry {

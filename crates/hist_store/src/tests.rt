@@ -493,3 +493,123 @@ fn a_history_keeps_entries_with_their_octets(rt: HostRuntime) -> Result<(), Allo
     assert_eq!(rt; hist.octets(2), DATA.as_slice());
     Ok(())
 }
+
+// A line of one entry, and what it says: the entry's number, the entry and how many octets it has.
+fn expect_read(rt: &impl Abort, line: &str, want: Option<(u64, Entry)>, octets: &[u8]) {
+    let mut buffer = ArrayVec::new();
+    assert_eq!(rt; read_line(line.as_bytes(), &mut buffer), want, "{line}");
+    assert_eq!(rt; buffer.as_slice(), octets, "{line}");
+}
+
+// The lines of a switch with two ports and no input, and two of frames whose octets are left out here.
+#[test]
+fn lines_are_read(rt: HostRuntime) {
+    let (one, two) = (port(1), port(2));
+    let lines = [
+        (
+            "0 2 0 E control end",
+            0,
+            ended(2, 0, Who::Control, How::End),
+        ),
+        (
+            "1 0 0 E in1 end",
+            1,
+            ended(0, 0, Who::Ingress(one), How::End),
+        ),
+        (
+            "2 1 0 E in2 malformed 40",
+            2,
+            ended(1, 0, Who::Ingress(two), How::Malformed(40)),
+        ),
+        (
+            "3 3 0 E ticker full 9",
+            3,
+            ended(3, 0, Who::Ticker, How::Full(9)),
+        ),
+        (
+            "4 4 0 E out1 end",
+            4,
+            ended(4, 0, Who::Egress(one), How::End),
+        ),
+        (
+            "5 5 0 E out2 failed",
+            5,
+            ended(5, 0, Who::Egress(two), How::Failed),
+        ),
+        ("3 5 1001 D 2 1", 3, drained(5, 1001, two, 1)),
+    ];
+    for (line, n, entry) in lines {
+        expect_read(&rt, line, Some((n, entry)), &[]);
+    }
+    let octets = [0x0a, 0xbc, 0xff];
+    let sent = PortSet(0b1000_0000_0000_1011);
+    let frame = frame_of(one, 4, &octets, Verdict::Pass(Scope::TrustedOnly), sent);
+    expect_read(
+        &rt,
+        "0 0 4 F 1 4 0abcff pass-trusted 1,2,4,16 - 0 0",
+        Some((0, frame)),
+        &octets,
+    );
+    let scope = Scope::TrustedAnd(port(12));
+    let empty = frame_of(one, 0, &[], Verdict::Pass(scope), PortSet(0xffff));
+    let all = "7 0 0 F 1 0 - pass-trusted+12 1,2,3,4,5,6,7,8,9,10,11,12,13,14,15,16 - 0 0";
+    expect_read(&rt, all, Some((7, empty)), &[]);
+}
+
+// One field of a good line is wrong in each.
+#[test]
+fn lines_that_no_entry_has(rt: HostRuntime) {
+    let lines = [
+        "",
+        "0",
+        "0 2 0",
+        "0 2 0 E control",
+        "0 2 0 E control end ",
+        " 0 2 0 E control end",
+        "0  2 0 E control end",
+        "00 2 0 E control end",
+        "18446744073709551616 2 0 E control end",
+        "0 4294967296 0 E control end",
+        "+0 2 0 E control end",
+        "0 2 0 X control end",
+        "0 2 0 e control end",
+        "0 2 0 E in0 end",
+        "0 2 0 E in17 end",
+        "0 2 0 E in01 end",
+        "0 2 0 E in1 quit",
+        "0 2 0 E ticker failed",
+        "0 2 0 E out1 full 3",
+        "0 2 0 E control full",
+        "0 2 0 E control end 1",
+        "0 2 0 E control malformed 040",
+        "0 2 0 D 2 4294967296",
+        "0 2 0 D 2",
+        "0 2 0 D 2 1 0",
+        "0 2 5 T 9 6",
+        "0 2 5 T 9 6 07",
+        "0 2 5 T -9 6 7",
+        "0 2 5 C 10 616 6 7",
+        "0 2 5 C 10 6A 6 7",
+        "0 2 5 C 10 6g 6 7",
+        "0 2 5 C 10  6 7",
+        "0 0 4 F 1 4 0aBc pass-all - - 0 0",
+        "0 0 4 F 1 4 0a pass-any - - 0 0",
+        "0 0 4 F 1 4 0a pass-trusted+ - - 0 0",
+        "0 0 4 F 1 4 0a pass-trusted+17 - - 0 0",
+        "0 0 4 F 1 4 0a drop-malformed - - 0 0",
+        "0 0 4 F 1 4 0a drop- - - 0 0",
+        "0 0 4 F 1 4 0a pass-all 2,1 - 0 0",
+        "0 0 4 F 1 4 0a pass-all 1,1 - 0 0",
+        "0 0 4 F 1 4 0a pass-all 1, - 0 0",
+        "0 0 4 F 1 4 0a pass-all ,1 - 0 0",
+        "0 0 4 F 1 4 0a pass-all 17 - 0 0",
+        "0 0 4 F 1 4 0a pass-all  - 0 0",
+        "0 0 4 F 1 4 0a pass-all - - 4294967296 0",
+        "0 0 4 L 1 4 01519 pass-all 0 0",
+        "0 0 4 L 1 4 1519 - 0 0",
+        "0 0 4 F 1 4 0a pass-all - - 0 0\n",
+    ];
+    for line in lines {
+        expect_read(&rt, line, None, &[]);
+    }
+}

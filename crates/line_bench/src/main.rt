@@ -1,5 +1,5 @@
-//! Reads the lines of the journal that the first word names, and prints how many entries and octets they have. Without
-//! a word it prints nothing.
+//! Reads the lines of the journal that the first word names, and prints how many are those of entries, and how many octets
+//! these have. Without a word it prints nothing.
 #![tactic(auto)]
 
 use arrayvec::ArrayVec;
@@ -15,14 +15,15 @@ fn main(rt: HostRuntime) -> io::Result<()> {
     println!(rt; "{entries} entries, {octets} octets")
 }
 
+// How many of the lines are those of entries, and how many octets these have.
 fn count(text: &[u8]) -> (u64, u64) {
     let mut octets = ArrayVec::new();
-    let mut entries = 0;
-    let mut total = 0;
+    let mut entries: u64 = 0;
+    let mut total: u64 = 0;
     for line in text.split(|c| *c == b'\n') {
         if read_line(line, &mut octets).is_some() {
-            entries += 1;
-            total += octets.len() as u64;
+            entries = entries.wrapping_add(1);
+            total = total.wrapping_add(octets.len() as u64);
         }
     }
     (entries, total)

@@ -12,8 +12,8 @@ returns-in_err-field-clause-whole c =
 pub returns-in_err-read_who-clause-whole : goal.returns-in_err-read_who-clause-whole
 returns-in_err-read_who-clause-whole c =
     rw c.from_residual-in_err-read_who.ensures (λ x fields is.
-      let cut = c.in_ok-field.ensures.whole (who_text x) fields (spaceless (who_text x) (word_who x)) is in
-      none-some x (c.in_err-read_who.ensures.whole x cut.0))
+    let cut = c.in_ok-field.ensures.whole (who_text x) fields (spaceless (who_text x) (word_who x)) is in
+    none-some x (c.in_err-read_who.ensures.whole x cut.0))
 
 pub returns-clause-whole : goal.returns-clause-whole
 returns-clause-whole c = λ x fields is.

@@ -11,8 +11,8 @@ returns-in_err-field-clause-whole c =
 pub returns-in_err-read_number-clause-whole : goal.returns-in_err-read_number-clause-whole
 returns-in_err-read_number-clause-whole c =
     rw c.from_residual-in_err-read_number.ensures (λ x fields small is.
-      let cut = c.in_ok-field.ensures.whole (decimal x) fields (spaceless (decimal x) (word_decimal x)) is in
-      none-some x (c.in_err-read_number.ensures.whole x small cut.0))
+    let cut = c.in_ok-field.ensures.whole (decimal x) fields (spaceless (decimal x) (word_decimal x)) is in
+    none-some x (c.in_err-read_number.ensures.whole x small cut.0))
 
 pub returns-clause-whole : goal.returns-clause-whole
 returns-clause-whole c = λ x fields small is.

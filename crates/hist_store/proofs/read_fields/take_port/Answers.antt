@@ -12,8 +12,8 @@ returns-in_err-field-clause-whole c =
 pub returns-in_err-read_port-clause-whole : goal.returns-in_err-read_port-clause-whole
 returns-in_err-read_port-clause-whole c =
     rw c.from_residual-in_err-read_port.ensures (λ x fields is.
-      let cut = c.in_ok-field.ensures.whole (port_text x) fields (spaceless (port_text x) (word_port x)) is in
-      none-some x (c.in_err-read_port.ensures.whole x cut.0))
+    let cut = c.in_ok-field.ensures.whole (port_text x) fields (spaceless (port_text x) (word_port x)) is in
+    none-some x (c.in_err-read_port.ensures.whole x cut.0))
 
 pub returns-clause-whole : goal.returns-clause-whole
 returns-clause-whole c = λ x fields is.

@@ -5,7 +5,7 @@ use Rattle.hist_store.proofs.read_hex.read_digits.Goals as goal
 use Rattle.hist_store.proofs.read_hex.read_digits.Goals.{then-high-gt15-via-then-high-gt15, then-high-gt15-via-else-high-gt15+then-low-gt15}
 
 pub loop-i-init : goal.loop-i-init
-loop-i-init c = rw c.requires.empty (record { text = sym encode-none; bytes = bytes_none; size = refl; })
+loop-i-init c = rw c.requires.empty (record { text = sym encode-none; bytes = bytes_none; size = refl })
 
 pub returns-then-high-gt15-clause-whole : goal.returns-then-high-gt15-clause-whole
 returns-then-high-gt15-clause-whole c = λ bytes is text.

@@ -8,8 +8,7 @@ use Rattle.hist_store.proofs.read_hex.read_octets.Goals.{then-is_empty-via-then-
 
 pub returns-then-is_dash-clause-read : goal.returns-then-is_dash-clause-read
 returns-then-is_dash-clause-read c =
-    let dash : c.args.field.now ≡ codes "-" = c.if-is_dash.ensures.0 refl in
-    (
+    let dash : c.args.field.now ≡ codes "-" = c.if-is_dash.ensures.0 refl in (
       dash ∙ sym (ap hex_text c.requires.empty ∙ hex_text-none),
       subst (λ (xs : List ℕ). IsBytes xs) (sym c.requires.empty) bytes_none,
       omega (arith, ap length c.requires.empty),

@@ -12,8 +12,8 @@ returns-in_err-field-clause-whole c =
 pub returns-in_err-read_ports-clause-whole : goal.returns-in_err-read_ports-clause-whole
 returns-in_err-read_ports-clause-whole c =
     rw c.from_residual-in_err-read_ports.ensures (λ x fields small is.
-      let cut = c.in_ok-field.ensures.whole (ports_text x) fields (spaceless (ports_text x) (word_ports x)) is in
-      none-some x (c.in_err-read_ports.ensures.whole x small cut.0))
+    let cut = c.in_ok-field.ensures.whole (ports_text x) fields (spaceless (ports_text x) (word_ports x)) is in
+    none-some x (c.in_err-read_ports.ensures.whole x small cut.0))
 
 pub returns-clause-whole : goal.returns-clause-whole
 returns-clause-whole c = λ x fields small is.

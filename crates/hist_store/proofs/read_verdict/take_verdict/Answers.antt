@@ -12,8 +12,8 @@ returns-in_err-field-clause-whole c =
 pub returns-in_err-read_verdict-clause-whole : goal.returns-in_err-read_verdict-clause-whole
 returns-in_err-read_verdict-clause-whole c =
     rw c.from_residual-in_err-read_verdict.ensures (λ x fields is.
-      let cut = c.in_ok-field.ensures.whole (verdict_text x) fields (spaceless (verdict_text x) (word_verdict (Some x))) is in
-      none-some x (c.in_err-read_verdict.ensures.whole x cut.0))
+    let cut = c.in_ok-field.ensures.whole (verdict_text x) fields (spaceless (verdict_text x) (word_verdict (Some x))) is in
+    none-some x (c.in_err-read_verdict.ensures.whole x cut.0))
 
 pub returns-clause-whole : goal.returns-clause-whole
 returns-clause-whole c = λ x fields is.

@@ -26,9 +26,9 @@ returns-else-is_word-6-clause-whole c = λ row says.
     let s = has_letter row.entry row.octets row.entry.act in
     let cut = c.in_ok-letter.ensures.whole s.word s.rest (spaceless s.word s.is_word) (says.text_is ∙ ap spaced s.fields) in
     absurd (s.none c.in_ok-letter.letter.now cut.0
-      (λ e. true≢false (sym (c.if-is_word.ensures.1 e)))
-      (λ e. true≢false (sym (c.if-is_word-2.ensures.1 e)))
-      (λ e. true≢false (sym (c.if-is_word-3.ensures.1 e)))
-      (λ e. true≢false (sym (c.if-is_word-4.ensures.1 e)))
-      (λ e. true≢false (sym (c.if-is_word-5.ensures.1 e)))
-      (λ e. true≢false (sym (c.if-is_word-6.ensures.1 e))))
+    (λ e. true≢false (sym (c.if-is_word.ensures.1 e)))
+    (λ e. true≢false (sym (c.if-is_word-2.ensures.1 e)))
+    (λ e. true≢false (sym (c.if-is_word-3.ensures.1 e)))
+    (λ e. true≢false (sym (c.if-is_word-4.ensures.1 e)))
+    (λ e. true≢false (sym (c.if-is_word-5.ensures.1 e)))
+    (λ e. true≢false (sym (c.if-is_word-6.ensures.1 e))))

@@ -46,7 +46,7 @@ returns-in_err-entry-clause-whole c = rw c.from_residual-in_err-entry.ensures (�
     let number = c.cut_field.ensures.whole (decimal n) (decimal row.entry.by ∷ decimal row.entry.moment ∷ act_fields row.entry row.octets row.entry.act) (spaceless (decimal n) (word_decimal n)) line in
     let by = c.in_ok-by.ensures.whole row.entry.by (decimal row.entry.moment ∷ act_fields row.entry row.octets row.entry.act) says.numbers.by number.1 in
     let moment = c.in_ok-moment.ensures.whole row.entry.moment (act_fields row.entry row.octets row.entry.act) says.numbers.moment by.1 in
-    let act : SaysAct c.in_ok-moment.rest.now c.in_ok-by.by c.in_ok-moment.moment row = record { by_is = sym by.0; moment_is = sym moment.0; numbers = says.numbers; octets = says.octets; fits = says.fits; text_is = moment.1; } in
+    let act : SaysAct c.in_ok-moment.rest.now c.in_ok-by.by c.in_ok-moment.moment row = record { by_is = sym by.0; moment_is = sym moment.0; numbers = says.numbers; octets = says.octets; fits = says.fits; text_is = moment.1 } in
     absurd (none-some row.entry (c.in_err-entry.ensures.whole row act).0))
 
 -- a line, field by field
@@ -65,9 +65,9 @@ returns-clause-read c =
       octets = says.octets;
       fits = says.fits;
       text = line_is c.args.line.now _ _ _ _ c.in_ok-n.n entry.by entry.moment (act_fields entry _ entry.act) c.cut_field.ensures.read c.in_ok-n.ensures.read.0
-        (c.in_ok-by.ensures.read.0 ∙ ap (λ (b : ℕ). 32 ∷ decimal b ++ c.in_ok-by.rest.now) (sym says.by_is))
-        (c.in_ok-moment.ensures.read.0 ∙ ap (λ (m : ℕ). 32 ∷ decimal m ++ c.in_ok-moment.rest.now) (sym says.moment_is))
-        says.text_is;
+          (c.in_ok-by.ensures.read.0 ∙ ap (λ (b : ℕ). 32 ∷ decimal b ++ c.in_ok-by.rest.now) (sym says.by_is))
+          (c.in_ok-moment.ensures.read.0 ∙ ap (λ (m : ℕ). 32 ∷ decimal m ++ c.in_ok-moment.rest.now) (sym says.moment_is))
+          says.text_is;
     }
 
 pub returns-clause-whole : goal.returns-clause-whole
@@ -77,7 +77,7 @@ returns-clause-whole c = λ n row says.
     let one = c.in_ok-n.ensures.whole n says.number number.0 in
     let by = c.in_ok-by.ensures.whole row.entry.by (decimal row.entry.moment ∷ act_fields row.entry row.octets row.entry.act) says.numbers.by number.1 in
     let moment = c.in_ok-moment.ensures.whole row.entry.moment (act_fields row.entry row.octets row.entry.act) says.numbers.moment by.1 in
-    let act : SaysAct c.in_ok-moment.rest.now c.in_ok-by.by c.in_ok-moment.moment row = record { by_is = sym by.0; moment_is = sym moment.0; numbers = says.numbers; octets = says.octets; fits = says.fits; text_is = moment.1; } in
+    let act : SaysAct c.in_ok-moment.rest.now c.in_ok-by.by c.in_ok-moment.moment row = record { by_is = sym by.0; moment_is = sym moment.0; numbers = says.numbers; octets = says.octets; fits = says.fits; text_is = moment.1 } in
     let told = c.in_ok-entry.ensures.whole row act in
     let same : c.in_ok-n.n ≡ n = cc one in
     let entry : c.in_ok-entry.entry ≡ row.entry = cc told.0 in
