@@ -1,5 +1,5 @@
 -- What has the text of a reason.
-use Rattle.std.proofs.Common.{ℕ, ◌≡◌, ◌==◌, ◌^◌, ◌<◌, Bool, true, false, List, [], ◌∷◌, length, decimal, codes, Option, Some, refl, ap, sym, ◌∙◌, arith, inl, inr, ◌⊎◌}
+use Rattle.std.proofs.Common.{ℕ, ◌≡◌, ◌==◌, ◌^◌, ◌<◌, Bool, true, false, List, [], ◌∷◌, length, decimal, codes, Some, refl, ap, sym, ◌∙◌, arith, inl, inr, ◌⊎◌}
 use Rattle.std.proofs.lemmas.Bool.{eqb-true}
 use Rattle.std.proofs.lemmas.Fmt.{decimal_injective}
 use Rattle.savi_kinds.specs.declared.entry.How.{How}

@@ -1,5 +1,5 @@
 -- What the text of an act says, kind by kind.
-use Rattle.std.proofs.Common.{ℕ, ◌≡◌, ◌==◌, ◌^◌, ◌<◌, ◌≤◌, Bool, true, false, List, [], ◌∷◌, ◌++◌, length, decimal, codes, Option, Some, None, IsSome, IsNone, refl, sym, ap, ◌∙◌, true≢false}
+use Rattle.std.proofs.Common.{ℕ, ◌≡◌, ◌==◌, ◌^◌, ◌<◌, ◌≤◌, false, List, [], ◌∷◌, length, decimal, codes, Option, Some, None, IsSome, IsNone, refl, sym, ap, ◌∙◌, true≢false}
 use Rattle.savi_kinds.specs.declared.port.Port.{Port}
 use Rattle.savi_kinds.specs.declared.port.PortSet.{PortSet}
 use Rattle.savi_kinds.specs.declared.verdict.Verdict.{Verdict}
@@ -14,7 +14,7 @@ use Rattle.hist_store.specs.TextOfLines.{spaced}
 use Rattle.hist_store.specs.PortTexts.{port_text, ports_text}
 use Rattle.hist_store.specs.VerdictTexts.{verdict_text, entry_verdict_text}
 use Rattle.hist_store.specs.EndTexts.{who_text, how_fields, IsReasonOf}
-use Rattle.hist_store.specs.LineTexts.{hex_text, act_fields, probe_fields, FitsAct}
+use Rattle.hist_store.specs.LineTexts.{hex_text, act_fields, FitsAct}
 use Rattle.hist_store.specs.EntryLines.{IsHowInRange, IsActInRange, SaysAct}
 use Rattle.hist_store.proofs.Words.{IsWord, word_of}
 use Rattle.hist_store.proofs.OnePort.{first_apart}

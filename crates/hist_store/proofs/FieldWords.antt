@@ -1,21 +1,10 @@
 -- Each field of an entry's line is a word.
-use Rattle.std.proofs.Common.{◌≡◌, ℕ, suc, ◌+◌, ◌/◌, ◌%◌, ◌<◌, Bool, true, false, if◌then◌else◌, List, [], ◌∷◌, ◌++◌, map, decimal, codes, Option, Some, None, refl, arith, All}
-use Rattle.std.proofs.lemmas.Bool.Decides.{nat_tests}
+use Rattle.std.proofs.Common.{ℕ, suc, ◌+◌, ◌/◌, ◌%◌, ◌<◌, List, [], ◌∷◌, map, decimal, codes, Option, Some, None, refl, arith, All}
 use Rattle.std.proofs.lemmas.List.Elements.{All-head, All-tail}
 use Rattle.std.specs.List.{join_with_byte}
 use Rattle.hex.specs.Hex.{IsBytes, encode_with, encode_lower, lower_digits}
 use Rattle.savi_kinds.specs.declared.port.Port.{Port}
 use Rattle.savi_kinds.specs.declared.port.PortSet.{PortSet}
-use Rattle.savi_kinds.specs.declared.plan.Plan.{Plan}
-use Rattle.savi_kinds.specs.declared.plan.PortPlan.{PortPlan}
-use Rattle.savi_kinds.specs.declared.plan.PrefixPlan.{PrefixPlan}
-use Rattle.savi_kinds.specs.declared.plan.Role.{Role}
-use Rattle.savi_kinds.specs.declared.plan.Role.TheVariants.{Host, Server, Trusted}
-use Rattle.savi_kinds.specs.declared.plan.Method.{Method}
-use Rattle.savi_kinds.specs.declared.plan.Method.TheVariants.{Fcfs, Dhcp, Mixed}
-use Rattle.savi_kinds.specs.declared.plan.Format.{Format}
-use Rattle.savi_kinds.specs.declared.plan.Format.TheVariants.{Pcap, Stream}
-use Rattle.savi_kinds.specs.declared.address.Mac.{Mac}
 use Rattle.savi_kinds.specs.declared.verdict.Rule.{Rule}
 use Rattle.savi_kinds.specs.declared.verdict.Rule.TheVariants as rules
 use Rattle.savi_kinds.specs.declared.verdict.Scope.{Scope}
@@ -30,16 +19,14 @@ use Rattle.savi_kinds.specs.declared.entry.Who.TheVariants as passes
 use Rattle.savi_kinds.specs.declared.entry.How.{How}
 use Rattle.savi_kinds.specs.declared.entry.How.TheVariants as hows
 use Rattle.savi_kinds.specs.Ports.{number_of}
-use Rattle.savi_kinds.specs.MacText.{hex_digit, hex_pair, mac_text}
 use Rattle.hist_store.specs.Rows.{Row}
 use Rattle.hist_store.specs.TextOfLines.{or_dash}
 use Rattle.hist_store.specs.PortTexts.{port_text, members, ports_text}
 use Rattle.hist_store.specs.VerdictTexts.{rule_name, scope_text, entry_verdict_text}
 use Rattle.hist_store.specs.EndTexts.{who_text, how_fields}
 use Rattle.hist_store.specs.LineTexts.{hex_text, act_fields, line_fields}
-use Rattle.savi_kinds.specs.PlanWords.{role_word, method_word, format_word}
-use Rattle.hist_store.specs.JournalTexts.{prefix_text, port_fields, prefix_fields, word_lines, limit_lines, time_lines, begin_line, header_lines, entry_lines, end_line}
-use Rattle.hist_store.proofs.Words.{IsWord, is_word, IsWords, IsLine, IsLines, word_of, word_all, word_append, word_decimal, word_joined, word_at, lines_append}
+use Rattle.hist_store.specs.JournalTexts.{entry_lines}
+use Rattle.hist_store.proofs.Words.{IsWord, IsWords, IsLine, IsLines, word_of, word_append, word_decimal, word_joined, word_at}
 
 pub word_port : (port : Port) → IsWord (port_text port)
 word_port port = word_decimal (number_of port)

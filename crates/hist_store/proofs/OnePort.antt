@@ -1,5 +1,5 @@
 -- A port is told by its number, and so by its text; a pass by its text.
-use Rattle.std.proofs.Common.{◌≡◌, ◌≢◌, ◌==◌, false, List, ◌∷◌, refl, ℕ, ◌^◌, ◌<◌, ◌≤◌, decimal, ap, ◌∙◌, subst, arith}
+use Rattle.std.proofs.Common.{◌≡◌, ◌≢◌, ◌==◌, false, List, ◌∷◌, refl, ℕ, ◌≤◌, ap, ◌∙◌, subst, arith}
 use Rattle.std.proofs.lemmas.Bool.Decides.{nat_tests}
 use Rattle.std.proofs.lemmas.Fmt.{decimal_injective}
 use Rattle.std.proofs.Math.Bridge.{le_prop}

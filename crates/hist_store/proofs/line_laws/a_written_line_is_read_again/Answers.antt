@@ -1,6 +1,5 @@
-use Rattle.std.proofs.Common.{◌≡◌, ◌∙◌, arith}
+use Rattle.std.proofs.Common.{◌∙◌, arith}
 use Rattle.hist_store.specs.Rows.{Row}
-use Rattle.hist_store.specs.EntryLines.{SaysEntry}
 use Rattle.hist_store.proofs.line_laws.a_written_line_is_read_again.Goals as goal
 
 pub returns-clause-entry : goal.returns-clause-entry

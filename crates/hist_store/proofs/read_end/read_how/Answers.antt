@@ -1,4 +1,4 @@
-use Rattle.std.proofs.Common.{◌≡◌, List, ℕ, ◌∷◌, [], decimal, refl, ap, sym, ◌∙◌, inl, inr}
+use Rattle.std.proofs.Common.{List, ℕ, ◌∷◌, [], decimal, ap, sym, ◌∙◌, inl, inr}
 use Rattle.hist_store.specs.TextOfLines.{spaced}
 use Rattle.hist_store.proofs.FieldsRead.{spaceless}
 use Rattle.hist_store.proofs.EndRead.{spelled, some_left, none_left}

@@ -1,4 +1,4 @@
-use Rattle.std.proofs.Common.{ℕ, ◌≡◌, length, take, drop, refl, ap, sym, ◌∙◌, arith, true≢false, length-append}
+use Rattle.std.proofs.Common.{length, take, drop, refl, ap, sym, ◌∙◌, arith, true≢false, length-append}
 use Rattle.std.proofs.lemmas.List.{take_at, drop_at}
 use Rattle.hist_store.proofs.read_fields.behind.Goals as goal
 

@@ -1,4 +1,4 @@
-use Rattle.std.proofs.Common.{ℕ, ◌≡◌, List, length, ◌++◌, ap, sym, ◌∙◌, take, drop, ◌==◌}
+use Rattle.std.proofs.Common.{◌≡◌, length, ap, sym, ◌∙◌, take, drop, ◌==◌}
 use Rattle.std.proofs.lemmas.List.{take_at, drop_at}
 use Rattle.std.specs.List.{position_or_len}
 use Rattle.hist_store.specs.TextOfLines.{spaced}

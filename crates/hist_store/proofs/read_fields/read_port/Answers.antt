@@ -1,4 +1,4 @@
-use Rattle.std.proofs.Common.{◌≡◌, ◌≤◌, ◌<◌, ◌^◌, ℕ, Some, arith}
+use Rattle.std.proofs.Common.{◌≡◌, ◌≤◌, ◌<◌, ◌^◌, arith}
 use Rattle.std.proofs.lemmas.Option.{none-some}
 use Rattle.savi_kinds.specs.declared.port.Port.{Port}
 use Rattle.hist_store.proofs.FieldsRead.{port_is}

@@ -1,4 +1,4 @@
-use Rattle.std.proofs.Common.{ℕ, ◌≡◌, Some, None, decimal}
+use Rattle.std.proofs.Common.{decimal}
 use Rattle.std.proofs.lemmas.Option.{none-some}
 use Rattle.hist_store.proofs.Words.{word_decimal}
 use Rattle.hist_store.proofs.FieldsRead.{spaceless}

@@ -1,5 +1,4 @@
-use Rattle.std.proofs.Common.{ℕ, ◌≡◌, ◌<◌, ◌+◌, ◌*◌, ◌/◌, ◌%◌, length, get_or, refl, sym, arith, subst}
-use Rattle.hex.specs.Hex.{IsBytes}
+use Rattle.std.proofs.Common.{◌<◌, ◌+◌, ◌*◌, ◌/◌, ◌%◌, get_or, refl, sym, arith}
 use Rattle.hist_store.proofs.HexRead.{encode-none, bytes_none, bytes_push, digits_at, octet_read, octets_read}
 use Rattle.hist_store.proofs.read_hex.read_digits.Goals as goal
 use Rattle.hist_store.proofs.read_hex.read_digits.Goals.{then-high-gt15-via-then-high-gt15, then-high-gt15-via-else-high-gt15+then-low-gt15}

@@ -1,6 +1,6 @@
-use Rattle.std.proofs.Common.{ℕ, ◌≡◌, ◌*◌, ◌<◌, ◌≤◌, List, length, codes, refl, sym, ap, subst, ◌∙◌, arith, true≢false}
+use Rattle.std.proofs.Common.{ℕ, ◌≡◌, ◌*◌, ◌<◌, List, length, codes, refl, sym, ap, subst, ◌∙◌, arith, true≢false}
 use Rattle.std.proofs.lemmas.Bool.{eqb-true}
-use Rattle.hex.specs.Hex.{IsBytes, encode_lower}
+use Rattle.hex.specs.Hex.{IsBytes}
 use Rattle.hist_store.specs.LineTexts.{hex_text}
 use Rattle.hist_store.proofs.HexRead.{bytes_none, hex_text-none, dash_none, digits_of_text, text_of_digits}
 use Rattle.hist_store.proofs.read_hex.read_octets.Goals as goal

@@ -1,14 +1,13 @@
-use Rattle.std.proofs.Common.{ℕ, ◌≡◌, ◌<◌, ◌≤◌, ◌==◌, Bool, true, List, [], ◌∷◌, ◌++◌, length, take, drop, decimal, Some, None, refl, sym, ap, ◌∙◌, arith, inl, inr, take-append-drop, length-drop, subst}
+use Rattle.std.proofs.Common.{ℕ, ◌≡◌, ◌==◌, Bool, true, List, [], ◌++◌, length, take, drop, decimal, Some, sym, ap, ◌∙◌, arith, inl, inr, take-append-drop, length-drop, subst}
 use Rattle.std.proofs.lemmas.Bool.{eqb-true}
 use Rattle.std.proofs.lemmas.List.{nil_from_length}
 use Rattle.std.proofs.lemmas.Option.{none-some}
 use Rattle.savi_kinds.specs.declared.port.Port.{Port}
 use Rattle.savi_kinds.specs.Ports.{number_of}
-use Rattle.hist_store.specs.TextOfLines.{comma}
 use Rattle.hist_store.specs.PortTexts.{GoesOn}
 use Rattle.hist_store.proofs.OnePort.{the_port}
 use Rattle.hist_store.proofs.EndRead.{none_left}
-use Rattle.hist_store.proofs.PortsRead.{place_of, IsCut, cut_of, IsGrown, ends, goes_on, ended, went_on, tail_cases, if_some, grown_above}
+use Rattle.hist_store.proofs.PortsRead.{place_of, cut_of, IsGrown, ends, goes_on, ended, went_on, tail_cases, if_some, grown_above}
 use Rattle.hist_store.proofs.read_ports.+read_members.Goals as goal
 
 empty_from : (t : List ℕ) (b : Bool) → b ≡ (length t == 0) → b ≡ true → t ≡ []

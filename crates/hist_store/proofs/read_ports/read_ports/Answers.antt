@@ -1,7 +1,6 @@
-use Rattle.std.proofs.Common.{◌≡◌, ◌^◌, ◌<◌, ℕ, Some, refl, sym, ap, subst, ◌∙◌, arith, true≢false}
+use Rattle.std.proofs.Common.{Some, refl, sym, ap, subst, ◌∙◌, arith, true≢false}
 use Rattle.savi_kinds.specs.declared.port.PortSet.{PortSet}
-use Rattle.savi_kinds.specs.PortSets.{no_ports}
-use Rattle.hist_store.specs.PortTexts.{ports_text, GoesOn}
+use Rattle.hist_store.specs.PortTexts.{GoesOn}
 use Rattle.hist_store.proofs.PortsRead.{ports_text-none, dash_is, starts, finished, if_some, none_is}
 use Rattle.hist_store.proofs.read_ports.read_ports.Goals as goal
 

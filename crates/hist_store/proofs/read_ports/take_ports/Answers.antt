@@ -1,4 +1,3 @@
-use Rattle.std.proofs.Common.{ℕ, ◌≡◌, Some, None, decimal}
 use Rattle.std.proofs.lemmas.Option.{none-some}
 use Rattle.hist_store.specs.PortTexts.{ports_text}
 use Rattle.hist_store.proofs.FieldWords.{word_ports}

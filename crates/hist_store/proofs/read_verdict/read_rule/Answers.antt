@@ -1,4 +1,4 @@
-use Rattle.std.proofs.Common.{ℕ, ◌-◌, ◌<◌, Some, refl, sym, ap, ◌∙◌, arith}
+use Rattle.std.proofs.Common.{◌-◌, ◌<◌, Some, refl, sym, ap, ◌∙◌, arith}
 use Rattle.savi_kinds.specs.Rules.{rule_number}
 use Rattle.hist_store.specs.VerdictTexts.{rule_name}
 use Rattle.hist_store.proofs.VerdictRead.{rule_by_name, rule_place, rule_low}

@@ -1,6 +1,5 @@
-use Rattle.std.proofs.Common.{◌≡◌, Some, refl, sym, ap, ◌∙◌, true≢false}
+use Rattle.std.proofs.Common.{refl, sym, ◌∙◌, true≢false}
 use Rattle.std.proofs.lemmas.Option.{none-some}
-use Rattle.savi_kinds.specs.declared.verdict.Scope.TheVariants as scopes
 use Rattle.hist_store.specs.PortTexts.{port_text}
 use Rattle.hist_store.proofs.VerdictRead.{scope_all, scope_trusted, scope_rest}
 use Rattle.hist_store.proofs.read_verdict.read_scope.Goals as goal

@@ -1,4 +1,4 @@
-use Rattle.std.proofs.Common.{ℕ, ◌≡◌, Some, None, decimal}
+use Rattle.std.proofs.Common.{Some}
 use Rattle.std.proofs.lemmas.Option.{none-some}
 use Rattle.hist_store.specs.VerdictTexts.{verdict_text}
 use Rattle.hist_store.proofs.FieldWords.{word_verdict}

@@ -1,19 +1,10 @@
-use Rattle.std.proofs.Common.{ℕ, ◌≡◌, ◌^◌, ◌<◌, ◌≤◌, List, [], ◌∷◌, length, decimal, Option, Some, None, refl, sym, ap, ap₂, ◌∙◌, arith, true≢false, subst}
+use Rattle.std.proofs.Common.{◌≡◌, Some, sym, ap, ◌∙◌, true≢false, subst}
 use Rattle.std.proofs.lemmas.Option.{none-some}
-use Rattle.savi_kinds.specs.declared.port.Port.{Port}
-use Rattle.savi_kinds.specs.declared.verdict.Verdict.{Verdict}
-use Rattle.savi_kinds.specs.declared.entry.Entry.{Entry}
 use Rattle.savi_kinds.specs.declared.entry.Act.TheVariants as acts
 use Rattle.savi_kinds.specs.declared.entry.Who.{Who}
 use Rattle.savi_kinds.specs.declared.entry.How.{How}
-use Rattle.hist_store.specs.TextOfLines.{spaced}
-use Rattle.hist_store.specs.PortTexts.{port_text, ports_text}
-use Rattle.hist_store.specs.VerdictTexts.{verdict_text}
 use Rattle.hist_store.specs.EndTexts.{how_fields, IsReasonOf}
-use Rattle.hist_store.specs.LineTexts.{hex_text, act_fields}
-use Rattle.hist_store.proofs.FieldsRead.{spaceless}
-use Rattle.hist_store.proofs.EndRead.{none_left, some_left}
-use Rattle.hist_store.proofs.EntryRead.{frame_said, long_said, tick_said, command_said, drain_said, end_said, has_letter, entry_same, pair_parts}
+use Rattle.hist_store.proofs.EntryRead.{end_said, entry_same}
 use Rattle.hist_store.proofs.reading.read_end.Goals as goal
 
 pub returns-in_err-who-clause-whole : goal.returns-in_err-who-clause-whole

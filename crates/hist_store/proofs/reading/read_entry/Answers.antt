@@ -1,24 +1,12 @@
-use Rattle.std.proofs.Common.{ℕ, ◌≡◌, ◌^◌, ◌<◌, ◌≤◌, List, [], ◌∷◌, ◌++◌, length, decimal, Option, Some, None, refl, sym, ap, ap₂, ◌∙◌, arith, true≢false}
+use Rattle.std.proofs.Common.{ℕ, ◌≡◌, List, ◌∷◌, ◌++◌, decimal, Some, sym, ap, ap₂, ◌∙◌}
 use Rattle.std.proofs.lemmas.Option.{none-some}
-use Rattle.savi_kinds.specs.declared.port.Port.{Port}
-use Rattle.savi_kinds.specs.declared.verdict.Verdict.{Verdict}
 use Rattle.savi_kinds.specs.declared.entry.Entry.{Entry}
-use Rattle.savi_kinds.specs.declared.entry.Act.TheVariants as acts
-use Rattle.savi_kinds.specs.declared.entry.Who.{Who}
-use Rattle.savi_kinds.specs.declared.entry.How.{How}
 use Rattle.hist_store.specs.TextOfLines.{joined, spaced}
-use Rattle.hist_store.specs.PortTexts.{port_text, ports_text}
-use Rattle.hist_store.specs.VerdictTexts.{verdict_text}
-use Rattle.hist_store.specs.EndTexts.{how_fields}
-use Rattle.hist_store.specs.LineTexts.{hex_text, act_fields}
+use Rattle.hist_store.specs.LineTexts.{act_fields}
 use Rattle.hist_store.proofs.FieldsRead.{spaceless}
-use Rattle.hist_store.proofs.EndRead.{none_left, some_left}
-use Rattle.hist_store.proofs.EntryRead.{frame_said, long_said, tick_said, command_said, drain_said, end_said, has_letter, entry_same, pair_parts}
-use Rattle.hist_store.specs.EntryLines.{SaysEntry, SaysAct}
-use Rattle.hist_store.specs.Rows.{Row}
+use Rattle.hist_store.specs.EntryLines.{SaysAct}
 use Rattle.hist_store.proofs.Words.{word_decimal}
 use Rattle.hist_store.proofs.LineLemmas.{joined-spaced}
-use Rattle.hist_store.proofs.PortsRead.{if_some}
 use Rattle.hist_store.proofs.reading.read_entry.Goals as goal
 
 pub returns-in_err-n-clause-whole : goal.returns-in_err-n-clause-whole
