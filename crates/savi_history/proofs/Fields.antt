@@ -41,7 +41,6 @@ use Rattle.savi_kinds.specs.PlanWords.{role_word, method_word, format_word}
 use Rattle.hist_store.specs.JournalTexts.{prefix_text, port_fields, prefix_fields, word_lines, limit_lines, time_lines, begin_line, header_lines, entry_lines, end_line}
 use Rattle.savi_history.specs.Journals.{IsAddressText}
 use Rattle.hist_store.proofs.Words.{IsWord, is_word, IsWords, IsLine, IsLines, word_of, word_all, word_append, word_decimal, word_joined, word_at, lines_append}
-
 use Rattle.hist_store.proofs.FieldWords.{word_port}
 
 words_pairs : (octets : List ℕ) → IsWords (map hex_pair octets)

@@ -11,6 +11,6 @@ mod laws;
 pub use laws::{
     adverts_are_stopped, failed_reads_are_of_ports, failed_writes_are_of_ports,
     journals_tell_one_history, nothing_is_lost_uncounted, nothing_overtakes, outputs_fit,
-    probes_come_with_validation, queues_stay_within_depth, replays_are_legal, replays_end_every_pass,
-    written_addresses_are_told_apart,
+    probes_come_with_validation, queues_stay_within_depth, replays_are_legal,
+    replays_end_every_pass, written_addresses_are_told_apart,
 };

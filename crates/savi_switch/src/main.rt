@@ -14,9 +14,9 @@ mod spot;
 
 use file_ends::FileSink;
 use real_world::RealWorld;
-use switch_report::{tell_memory, tell_usage};
 use std::env;
 use std::process::ExitCode;
+use switch_report::{tell_memory, tell_usage};
 use switch_run::{NO_MEMORY, USAGE, run};
 
 fn main(rt: HostRuntime) -> ExitCode {

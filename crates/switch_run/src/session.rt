@@ -12,8 +12,8 @@ ghost use Rattle.savi_history.specs.Legal.{IsLegal};
 ghost use Rattle.savi_history.specs.Journals.{IsJournalOf};
 ghost use Rattle.switch_run.specs.Played.{IsPlayed, IsSamePort, JournalWas};
 
-use port_worker::{Closed, Ready, replay_session};
 use hist_store::Hist;
+use port_worker::{Closed, Ready, replay_session};
 use savi_core::Core;
 use savi_ends::{Clock, Put, Sink, Source};
 use savi_kinds::Plan;
