@@ -49,7 +49,7 @@ impl Slot {
     }
 }
 
-/// The frames that one drain took, each with its moment: at most 256. Contracts see them as a list.
+/// The items that one drain took, frames or probes, each with its moment: at most 256. Contracts see them as a list.
 #[derive(Drop)]
 pub struct Batch {
     slots: Vec<Slot>,

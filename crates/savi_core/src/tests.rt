@@ -170,7 +170,7 @@ fn rules_stop_their_frames(rt: HostRuntime) -> Result<(), Fail> {
         Role::Trusted,
         Role::Server,
     ];
-    let plan = plan_of(rt.alloc(), &roles, 5000, 100_000)?;
+    let plan = plan_of(rt.alloc(), &roles, 256, 5000, 100_000)?;
     let mut core = Core::make(rt.alloc(), plan)?;
     for (name, number, text, rule) in GUARDED {
         assert!(rt; number >= 1 && number <= 16);
@@ -214,9 +214,25 @@ fn port_at(n: u8) -> Port
 // A host at port 1 and a trusted port 2.
 const TWO: [Role; 2] = [Role::Host, Role::Trusted];
 
+// Hosts at the ports 1, 2 and 3, a trusted port 4 and a server at port 5.
+const FIVE: [Role; 5] = [
+    Role::Host,
+    Role::Host,
+    Role::Host,
+    Role::Trusted,
+    Role::Server,
+];
+
 // A port for each role, numbered from 1 on, where sources aren't validated.
-fn plan_of(alloc: Global, roles: &[Role], entries: u64, bytes: u64) -> Result<Plan, AllocError>
+fn plan_of(
+    alloc: Global,
+    roles: &[Role],
+    depth: u32,
+    entries: u64,
+    bytes: u64,
+) -> Result<Plan, AllocError>
     requires roles { IsWithin 1 16 (length roles.now) }
+    requires depth { IsWithin 1 256 depth }
     requires entries { IsWithin 4131 1000000 entries }
     requires bytes { IsWithin 1518 1073741824 bytes }
     ensures valid { IfOk result (λ plan. IsValidPlan plan) }
@@ -228,7 +244,7 @@ fn plan_of(alloc: Global, roles: &[Role], entries: u64, bytes: u64) -> Result<Pl
         savi: false,
         drop_unknown: true,
         per_port: 32,
-        depth: 256,
+        depth,
         entries,
         bytes,
         gap: 250,
@@ -400,7 +416,7 @@ fn two_captures_make_eleven_entries(rt: HostRuntime) -> Result<(), Fail> {
         ended(Who::Egress(one), 4, 1002),
         ended(Who::Egress(two), 5, 1002),
     ];
-    let plan = plan_of(rt.alloc(), &TWO, 262_144, 67_108_864)?;
+    let plan = plan_of(rt.alloc(), &TWO, 256, 262_144, 67_108_864)?;
     let mut core = Core::make(rt.alloc(), plan)?;
     let mut batch = Batch::make(rt.alloc())?;
     for row in rows {
@@ -461,7 +477,7 @@ fn limits_are_exact(rt: HostRuntime) -> Result<(), Fail> {
     for (entries, bytes, frames) in rows {
         assert!(rt; entries >= 4131 && entries <= 1_000_000);
         assert!(rt; bytes >= 1518 && bytes <= 1_073_741_824);
-        let plan = plan_of(rt.alloc(), &TWO, entries, bytes)?;
+        let plan = plan_of(rt.alloc(), &TWO, 256, entries, bytes)?;
         let mut core = Core::make(rt.alloc(), plan)?;
         for n in 0..frames {
             let stepped = enter_frame(&rt, &mut core, one, n, &packet);
@@ -475,4 +491,34 @@ fn limits_are_exact(rt: HostRuntime) -> Result<(), Fail> {
         assert!(rt; matches!(ended, Stepped::Done(_)));
     }
     Ok(())
+}
+
+#[test]
+fn a_full_queue_cuts_its_frame(rt: HostRuntime) -> Result<(), Fail> {
+    let (two, four) = (port_at(2), port_at(4));
+    let advert = hex::decode(rt.alloc(), ADVERT)?;
+    let mut batch = Batch::make(rt.alloc())?;
+    let plan = plan_of(rt.alloc(), &FIVE, 1, 262_144, 67_108_864)?;
+    let mut core = Core::make(rt.alloc(), plan)?;
+    let others = PortSet(0b10111);
+    let first = enter_frame(&rt, &mut core, four, 1000, &advert);
+    assert_eq!(rt; outs_and_cuts(first), Some((others, PortSet(0))));
+    for port in [two, port_at(3), port_at(5)] {
+        let drained = drain(&rt, &mut core, port, &mut batch);
+        assert!(rt; matches!(drained, Stepped::Done(_)));
+    }
+    let second = enter_frame(&rt, &mut core, four, 1001, &advert);
+    assert_eq!(rt; outs_and_cuts(second), Some((others, PortSet(1))));
+    let drained = drain(&rt, &mut core, two, &mut batch);
+    assert!(rt; matches!(drained, Stepped::Done(_)));
+    assert_eq!(rt; drain(&rt, &mut core, two, &mut batch), Stepped::Nothing);
+    assert_eq!(rt; batch.len(), 0);
+    Ok(())
+}
+
+fn outs_and_cuts(stepped: Stepped) -> Option<(PortSet, PortSet)> {
+    match stepped {
+        Stepped::Done(entry) => Some((entry.outs, entry.cuts)),
+        _ => None,
+    }
 }

@@ -1,5 +1,5 @@
 -- What an entry leaves waiting: no queue is longer than the plan's depth.
-use Rattle.std.proofs.Common.{◌≡◌, ℕ, suc, zero, ◌+◌, ◌-◌, ◌<◌, ◌≤◌, ◌==◌, nat_lt, Bool, true, false, if◌then◌else◌, List, [], ◌∷◌, ◌++◌, length, drop, refl, sym, ap, ◌∙◌, arith, length-drop}
+use Rattle.std.proofs.Common.{ℕ, ◌≤◌, ◌==◌, Bool, true, false, if◌then◌else◌, List, [], ◌∷◌, length, drop, arith, length-drop}
 use Rattle.savi_kinds.specs.declared.plan.Plan.{Plan}
 use Rattle.savi_kinds.specs.declared.entry.Act.{Act}
 use Rattle.savi_kinds.specs.declared.entry.Act.TheVariants as acts
@@ -11,7 +11,7 @@ use Rattle.savi_kinds.specs.Ports.{number_of}
 use Rattle.savi_kinds.specs.PortSets.{is_member}
 use Rattle.hist_store.specs.Rows.{Row}
 use Rattle.savi_history.specs.Bases.{Base}
-use Rattle.savi_history.specs.Queues.{Item, item_of, room_at, joined, all_joined, offered_at, probed, framed, waiting_after, queue}
+use Rattle.savi_history.specs.Queues.{Item, item_of, room_at, joined, offered_at, probed, waiting_after, queue}
 use Rattle.savi_history.proofs.Joining.{joined_within, room_low}
 
 pub length_dropped : (b : Bool) (count : ℕ) (items : List Item) → length (if b then drop count items else items) ≤ length items

@@ -24,7 +24,7 @@ use Rattle.savi_history.specs.Bases.{empty}
 use Rattle.savi_history.specs.Replay.{Stops, replayed}
 use Rattle.savi_history.specs.Summary.{summary_of}
 use Rattle.savi_history.specs.Judged.{judged}
-use Rattle.savi_history.specs.Marks.{offers}
+use Rattle.savi_history.specs.Offers.{offers}
 use Rattle.savi_history.specs.Queues.{sent, probes, lost}
 
 abbrev pub port_one : Port

@@ -1,11 +1,6 @@
 -- Each field of a journal's header is a word.
-use Rattle.std.proofs.Common.{◌≡◌, ℕ, suc, ◌+◌, ◌/◌, ◌%◌, ◌<◌, Bool, true, false, if◌then◌else◌, List, [], ◌∷◌, ◌++◌, map, decimal, codes, Option, Some, None, refl, arith, All}
+use Rattle.std.proofs.Common.{◌≡◌, ℕ, ◌/◌, ◌%◌, ◌<◌, Bool, true, false, if◌then◌else◌, List, [], ◌∷◌, ◌++◌, map, decimal, codes, refl, arith}
 use Rattle.std.proofs.lemmas.Bool.Decides.{nat_tests}
-use Rattle.std.proofs.lemmas.List.Elements.{All-head, All-tail}
-use Rattle.std.specs.List.{join_with_byte}
-use Rattle.hex.specs.Hex.{IsBytes, encode_with, encode_lower, lower_digits}
-use Rattle.savi_kinds.specs.declared.port.Port.{Port}
-use Rattle.savi_kinds.specs.declared.port.PortSet.{PortSet}
 use Rattle.savi_kinds.specs.declared.plan.Plan.{Plan}
 use Rattle.savi_kinds.specs.declared.plan.PortPlan.{PortPlan}
 use Rattle.savi_kinds.specs.declared.plan.PrefixPlan.{PrefixPlan}
@@ -16,31 +11,11 @@ use Rattle.savi_kinds.specs.declared.plan.Method.TheVariants.{Fcfs, Dhcp, Mixed}
 use Rattle.savi_kinds.specs.declared.plan.Format.{Format}
 use Rattle.savi_kinds.specs.declared.plan.Format.TheVariants.{Pcap, Stream}
 use Rattle.savi_kinds.specs.declared.address.Mac.{Mac}
-use Rattle.savi_kinds.specs.declared.verdict.Rule.{Rule}
-use Rattle.savi_kinds.specs.declared.verdict.Rule.TheVariants as rules
-use Rattle.savi_kinds.specs.declared.verdict.Scope.{Scope}
-use Rattle.savi_kinds.specs.declared.verdict.Scope.TheVariants as scopes
-use Rattle.savi_kinds.specs.declared.verdict.Verdict.{Verdict}
-use Rattle.savi_kinds.specs.declared.verdict.Verdict.TheVariants.{Pass, Drop}
-use Rattle.savi_kinds.specs.declared.entry.Entry.{Entry}
-use Rattle.savi_kinds.specs.declared.entry.Act.{Act}
-use Rattle.savi_kinds.specs.declared.entry.Act.TheVariants as acts
-use Rattle.savi_kinds.specs.declared.entry.Who.{Who}
-use Rattle.savi_kinds.specs.declared.entry.Who.TheVariants as passes
-use Rattle.savi_kinds.specs.declared.entry.How.{How}
-use Rattle.savi_kinds.specs.declared.entry.How.TheVariants as hows
-use Rattle.savi_kinds.specs.Ports.{number_of}
 use Rattle.savi_kinds.specs.MacText.{hex_digit, hex_pair, mac_text}
-use Rattle.hist_store.specs.Rows.{Row}
-use Rattle.hist_store.specs.TextOfLines.{or_dash}
-use Rattle.hist_store.specs.PortTexts.{port_text, members, ports_text}
-use Rattle.hist_store.specs.VerdictTexts.{rule_name, scope_text, entry_verdict_text}
-use Rattle.hist_store.specs.EndTexts.{who_text, how_fields}
-use Rattle.hist_store.specs.LineTexts.{hex_text, act_fields, line_fields}
 use Rattle.savi_kinds.specs.PlanWords.{role_word, method_word, format_word}
-use Rattle.hist_store.specs.JournalTexts.{prefix_text, port_fields, prefix_fields, word_lines, limit_lines, time_lines, begin_line, header_lines, entry_lines, end_line}
+use Rattle.hist_store.specs.JournalTexts.{prefix_text, port_fields, prefix_fields, word_lines, limit_lines, time_lines, begin_line, header_lines, end_line}
 use Rattle.savi_history.specs.Journals.{IsAddressText}
-use Rattle.hist_store.proofs.Words.{IsWord, is_word, IsWords, IsLine, IsLines, word_of, word_all, word_append, word_decimal, word_joined, word_at, lines_append}
+use Rattle.hist_store.proofs.Words.{IsWord, is_word, IsWords, IsLine, IsLines, word_of, word_all, word_append, word_decimal, word_joined, lines_append}
 use Rattle.hist_store.proofs.FieldWords.{word_port}
 
 words_pairs : (octets : List ℕ) → IsWords (map hex_pair octets)

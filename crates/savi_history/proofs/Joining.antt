@@ -1,14 +1,12 @@
 -- What joins a queue: as many of the items that are offered, in order, as there is room for.
-use Rattle.std.proofs.Common.{◌≡◌, ℕ, suc, zero, ◌+◌, ◌-◌, ◌<◌, ◌≤◌, nat_lt, nat_le, Bool, true, false, if◌then◌else◌, List, [], ◌∷◌, ◌++◌, length, take, refl, sym, ap, ◌∙◌, arith, append_assoc, append-nil, length-append}
+use Rattle.std.proofs.Common.{◌≡◌, ℕ, suc, zero, ◌+◌, ◌-◌, ◌<◌, ◌≤◌, nat_lt, Bool, true, false, if◌then◌else◌, List, [], ◌∷◌, ◌++◌, length, take, refl, sym, ap, ◌∙◌, arith, append_assoc, append-nil, length-append}
 use Rattle.std.proofs.lemmas.List.{length-take}
 use Rattle.std.proofs.lemmas.Bool.Decides.{nat_tests}
 use Rattle.savi_kinds.specs.declared.plan.Plan.{Plan}
-use Rattle.savi_kinds.specs.declared.entry.Act.{Act}
 use Rattle.hist_store.specs.Rows.{Row}
 use Rattle.savi_history.specs.Bases.{Base}
-use Rattle.savi_history.specs.Marks.{Offer, offers}
 use Rattle.savi_history.specs.Passes.{has_ended, egress_pass}
-use Rattle.savi_history.specs.Queues.{Item, room_at, joined, all_joined, offered_at, probed}
+use Rattle.savi_history.specs.Queues.{Item, room_at, all_joined}
 
 abbrev pub no_items : List Item
 no_items = []

@@ -11,6 +11,7 @@ pub mod PortMembers
 pub mod Joining
 pub mod Depth
 pub mod Offered
+pub mod Cutting
 pub mod Closed
 pub mod Waiting
 pub mod Lines

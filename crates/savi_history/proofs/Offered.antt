@@ -1,5 +1,5 @@
 -- What is offered to a queue joins it, in order, and is counted.
-use Rattle.std.proofs.Common.{◌≡◌, ℕ, ◌+◌, ◌-◌, ◌==◌, nat_le, Bool, true, false, if◌then◌else◌, List, [], ◌∷◌, ◌++◌, length, map, take, drop, refl, sym, ap, subst, ◌∙◌, arith, append_assoc, append-nil}
+use Rattle.std.proofs.Common.{◌≡◌, ℕ, ◌-◌, ◌==◌, nat_le, Bool, true, false, if◌then◌else◌, List, [], ◌∷◌, ◌++◌, length, map, take, drop, refl, sym, ap, subst, ◌∙◌, arith, append_assoc, append-nil, length-append}
 use Rattle.std.specs.List.{filter}
 use Rattle.std.proofs.lemmas.List.{take-append-drop}
 use Rattle.savi_kinds.specs.declared.plan.Plan.{Plan}
@@ -14,12 +14,13 @@ use Rattle.savi_kinds.specs.PortSets.{is_member}
 use Rattle.savi_kinds.specs.ValidPlan.{numbers_of}
 use Rattle.hist_store.specs.Rows.{Row}
 use Rattle.savi_history.specs.Bases.{Base}
-use Rattle.savi_history.specs.Marks.{Offer, offers}
-use Rattle.savi_history.specs.Queues.{Item, item_of, probe_item, is_target, room_at, joined, all_joined, offered_at, probed, waiting_after, taken_by, queue, sent, queued_at, lost_at, over_ports, probes, lost, is_closed}
-use Rattle.savi_history.specs.QueueLaws.{frame_to, all_offered, added, came, is_failure_at, NeverFailed, IsCounted, AreCounted}
+use Rattle.savi_history.specs.Marks.{Offer}
+use Rattle.savi_history.specs.Offers.{offers}
+use Rattle.savi_history.specs.Queues.{Item, item_of, probe_item, is_probed, room_at, joined, all_joined, offered_at, probed, waiting_after, taken_by, queue, sent, queued_at, lost_at, over_ports, probes, lost, is_closed}
+use Rattle.savi_history.specs.QueueLaws.{frame_to, all_offered, room_left, added, came, is_failure_at, NeverFailed, probes_taken, probes_left, IsCounted, AreCounted}
 use Rattle.savi_history.specs.Events.{Event, Frame, Long, Drain, End, row_of, frame_act}
 use Rattle.savi_history.specs.Legal.{IsLegal}
-use Rattle.savi_history.proofs.Joining.{no_items, take_none, all_joined-is, joined_more, joined_few}
+use Rattle.savi_history.proofs.Joining.{no_items, take_none, all_joined-is, length-all_joined}
 
 -- items one after the other are items joined to the first ones
 pub joined_behind : (room : ℕ) (waiting first second : List Item) → all_joined room waiting (first ++ second) ≡ all_joined room (all_joined room waiting first) second
@@ -80,27 +81,36 @@ in_order plan base q (r ∷ past) never =
 
 -- counts
 
-sum_both : (f g h : ℕ → ℕ) → ((q : ℕ) → f q + g q ≡ h q) → (qs : List ℕ) → over_ports qs f + over_ports qs g ≡ over_ports qs h
-sum_both f g h same [] = refl
-sum_both f g h same (q ∷ qs) = omega (arith, same q, sum_both f g h same qs)
+same_sum : (f g : ℕ → ℕ) → ((q : ℕ) → f q ≡ g q) → (qs : List ℕ) → over_ports qs f ≡ over_ports qs g
+same_sum f g same [] = refl
+same_sum f g same (q ∷ qs) = omega (arith, same q, same_sum f g same qs)
 
 module _ (plan : Plan) (base : Base) (past : List Row) (act : Act) (octets : List ℕ) where
-  counted_at : (q : ℕ) → queued_at plan base past act octets q + lost_at plan base past act octets q ≡ length (offered_at plan base past act octets q)
-  counted_at q =
+  queued_is : (q : ℕ) → queued_at plan base past act octets q ≡ length (probes_taken plan base past act octets q)
+  queued_is q =
       let waiting = queue plan base q past in
-      let items = offered_at plan base past act octets q in
-      omega (arith, joined_more (room_at plan base past q) waiting items, joined_few (room_at plan base past q) waiting items)
+      omega (arith, length-all_joined (room_at plan base past q) waiting (offered_at plan base past act octets q))
 
-  pub counted : probes plan base past act octets + lost plan base past act octets ≡ over_ports (numbers_of plan.ports) (λ q. length (offered_at plan base past act octets q))
-  unfolding probes lost
-  counted =
-      sum_both (queued_at plan base past act octets) (lost_at plan base past act octets) (λ q. length (offered_at plan base past act octets q)) counted_at (numbers_of plan.ports)
+  lost_is : (q : ℕ) → lost_at plan base past act octets q ≡ length (probes_left plan base past act octets q)
+  lost_is q =
+      let items = offered_at plan base past act octets q in
+      omega (arith, queued_is q, ap (λ (l : List Item). length l) (take-append-drop (room_left plan base past q) items), length-append (probes_taken plan base past act octets q) (probes_left plan base past act octets q))
+
+  pub probes_counted : probes plan base past act octets ≡ over_ports (numbers_of plan.ports) (λ q. length (probes_taken plan base past act octets q))
+  unfolding probes
+  probes_counted = same_sum (queued_at plan base past act octets) (λ q. length (probes_taken plan base past act octets q)) queued_is (numbers_of plan.ports)
+
+  pub lost_counted : lost plan base past act octets ≡ over_ports (numbers_of plan.ports) (λ q. length (probes_left plan base past act octets q))
+  unfolding lost
+  lost_counted = same_sum (lost_at plan base past act octets) (λ q. length (probes_left plan base past act octets q)) lost_is (numbers_of plan.ports)
 
 row_counted : (plan : Plan) (base : Base) (past : List Row) (event : Event) → IsCounted plan base past (row_of plan base past event) (row_of plan base past event).entry.act
-row_counted plan base past (Frame port stamp octets) = counted plan base past (frame_act past port stamp octets) octets
-row_counted plan base past (Long port stamp len) = counted plan base past (acts.Long port stamp len) []
-row_counted plan base past (Drain port count) = refl
-row_counted plan base past (End who how) = refl
+row_counted plan base past (Frame port stamp octets) =
+    (probes_counted plan base past (frame_act past port stamp octets) octets, lost_counted plan base past (frame_act past port stamp octets) octets)
+row_counted plan base past (Long port stamp len) =
+    (probes_counted plan base past (acts.Long port stamp len) [], lost_counted plan base past (acts.Long port stamp len) [])
+row_counted plan base past (Drain port count) = (refl, refl)
+row_counted plan base past (End who how) = (refl, refl)
 
 pub all_counted : (plan : Plan) (base : Base) (past : List Row) → IsLegal plan base past → AreCounted plan base past
 all_counted plan base [] legal = tt
@@ -116,7 +126,7 @@ no_offers plan base past act octets off = refl
 
 module _ (plan : Plan) (base : Base) (past : List Row) (act : Act) (octets : List ℕ) (off : plan.savi ≡ false) where
   pub offered_off : (q : ℕ) → offered_at plan base past act octets q ≡ []
-  offered_off q = ap (λ (all : List Offer). map (probe_item plan) (filter (λ (offer : Offer). is_target plan q offer.target) all)) (no_offers plan base past act octets off)
+  offered_off q = ap (λ (all : List Offer). map (probe_item plan) (filter (λ (offer : Offer). is_probed plan base past q offer.probe) all)) (no_offers plan base past act octets off)
 
   pub probed_off : (q : ℕ) (waiting : List Item) → probed plan base past act octets q waiting ≡ waiting
   probed_off q waiting = ap (λ (items : List Item). all_joined (room_at plan base past q) waiting items) (offered_off q)

@@ -1,12 +1,10 @@
 -- What has the same text is the same.
-use Rattle.std.proofs.Common.{◌≡◌, ◌≢◌, ◌==◌, ℕ, ◌*◌, ◌/◌, ◌%◌, ◌^◌, ◌<◌, ◌≤◌, Bool, true, false, if◌then◌else◌, List, [], ◌∷◌, length, map, decimal, Ok, refl, ap, sym, ◌∙◌, subst, arith}
+use Rattle.std.proofs.Common.{◌≡◌, ℕ, ◌*◌, ◌/◌, ◌%◌, ◌^◌, ◌<◌, Bool, true, false, if◌then◌else◌, List, [], ◌∷◌, length, map, decimal, Ok, refl, ap, sym, ◌∙◌, arith}
 use Rattle.std.proofs.lemmas.Bool.Decides.{nat_tests}
 use Rattle.std.proofs.lemmas.Fmt.{decimal_injective}
-use Rattle.std.proofs.Math.Bridge.{le_prop}
 use Rattle.std.specs.List.{join_with_byte}
 use Rattle.hex.specs.Hex.{IsBytes, encode_lower, lower_digits, decode_of}
 use Rattle.hex.proofs.HexLemmas.{length-encode_with, decode_of-encode_lower}
-use Rattle.savi_kinds.specs.declared.port.Port.{Port}
 use Rattle.savi_kinds.specs.declared.plan.Role.{Role}
 use Rattle.savi_kinds.specs.declared.plan.Role.TheVariants.{Host, Server, Trusted}
 use Rattle.savi_kinds.specs.declared.plan.Method.{Method}
@@ -14,15 +12,11 @@ use Rattle.savi_kinds.specs.declared.plan.Method.TheVariants.{Fcfs, Dhcp, Mixed}
 use Rattle.savi_kinds.specs.declared.plan.Format.{Format}
 use Rattle.savi_kinds.specs.declared.plan.Format.TheVariants.{Pcap, Stream}
 use Rattle.savi_kinds.specs.declared.address.Mac.{Mac}
-use Rattle.savi_kinds.specs.declared.entry.Who.{Who}
-use Rattle.savi_kinds.specs.declared.entry.Who.TheVariants.{Ingress, Control, Ticker, Egress}
 use Rattle.savi_kinds.specs.declared.entry.How.{How}
 use Rattle.savi_kinds.specs.declared.entry.How.TheVariants as hows
-use Rattle.savi_kinds.specs.Ports.{number_of}
 use Rattle.savi_kinds.specs.MacText.{hex_digit, hex_pair, mac_text}
 use Rattle.hist_store.specs.TextOfLines.{or_dash}
-use Rattle.hist_store.specs.PortTexts.{port_text}
-use Rattle.hist_store.specs.EndTexts.{who_text, how_fields}
+use Rattle.hist_store.specs.EndTexts.{how_fields}
 use Rattle.hist_store.specs.LineTexts.{hex_text}
 use Rattle.savi_kinds.specs.PlanWords.{role_word, method_word, format_word}
 use Rattle.hist_store.proofs.OnePort.{first_apart}

@@ -1,5 +1,5 @@
 -- The row of an event doesn't depend on the names of a plan.
-use Rattle.std.proofs.Common.{◌≡◌, ℕ, ◌+◌, ◌-◌, ◌==◌, ◌&&◌, not, nat_le, if◌then◌else◌, Bool, true, false, if◌then◌else◌, List, [], ◌∷◌, length, map, Some, None, refl, ap, sym, ◌∙◌}
+use Rattle.std.proofs.Common.{◌≡◌, ℕ, ◌+◌, ◌-◌, ◌==◌, ◌&&◌, not, nat_le, if◌then◌else◌, Bool, true, false, if◌then◌else◌, List, [], ◌∷◌, length, map, refl, ap, sym, ◌∙◌}
 use Rattle.std.specs.List.{filter}
 use Rattle.std.proofs.lemmas.List.{length-map}
 use Rattle.std.proofs.lemmas.List.Elements.{filter_agree}
@@ -26,13 +26,14 @@ use Rattle.savi_kinds.specs.ValidPlan.{numbers_of}
 use Rattle.hist_store.specs.Rows.{Row}
 use Rattle.savi_history.specs.Bases.{Base}
 use Rattle.savi_history.specs.Passes.{role_among, is_trusted, pass_of, egress_pass, place_among, has_ended}
-use Rattle.savi_history.specs.Marks.{Offer, offers}
+use Rattle.savi_history.specs.Marks.{Offer}
+use Rattle.savi_history.specs.Offers.{offers}
 use Rattle.savi_history.specs.Moments.{moment_at}
 use Rattle.frame_class.specs.ClassOf.{class_of}
 use Rattle.ra_guard.specs.GuardOf.{guard_of}
 use Rattle.savi_history.specs.Judged.{verdict_by}
 use Rattle.savi_history.specs.Outs.{is_in_scope, outs}
-use Rattle.savi_history.specs.Queues.{Item, probe_item, is_target, offered_at, room_at, all_joined, probed, framed, waiting_after, queue, queued_at, lost_at, over_ports, probes, lost, is_closed, cuts}
+use Rattle.savi_history.specs.Queues.{Item, probe_item, is_probed, offered_at, room_at, all_joined, probed, framed, waiting_after, queue, queued_at, lost_at, over_ports, probes, lost, is_closed, cuts}
 use Rattle.savi_history.specs.Events.{Event, Frame, Long, Drain, End, the_vlan, frame_act, plain_row, verdict_of, outs_of, row_of}
 use Rattle.savi_history.specs.Moments.{last_moment}
 use Rattle.savi_history.specs.Journals.{without_port_names, without_names}
@@ -112,9 +113,9 @@ module _ (plan : Plan) (base : Base) where
   room_kept : (past : List Row) (q : ℕ) → room_at bare base past q ≡ room_at plan base past q
   room_kept past q = ap (λ (pass : ℕ). if has_ended base pass past then 0 else plan.depth) (egress_kept q)
 
-  target_kept : (q : ℕ) (target : Probe) → is_target bare q target ≡ is_target plan q target
-  target_kept q Trusted = ap is_trusted (role_among_kept plan.ports q)
-  target_kept q (To port) = refl
+  probed_port_kept : (past : List Row) (q : ℕ) (probe : Probe) → is_probed bare base past q probe ≡ is_probed plan base past q probe
+  probed_port_kept past q Trusted = ap is_trusted (role_among_kept plan.ports q)
+  probed_port_kept past q (To port) = refl
 
   offers_kept : (past : List Row) (act : Act) (octets : List ℕ) → offers bare base past act octets ≡ offers plan base past act octets
   unfolding offers
@@ -122,9 +123,9 @@ module _ (plan : Plan) (base : Base) where
 
   offered_kept : (past : List Row) (act : Act) (octets : List ℕ) (q : ℕ) → offered_at bare base past act octets q ≡ offered_at plan base past act octets q
   offered_kept past act octets q =
-      ap (λ (all : List Offer). map (probe_item plan) (filter (λ (offer : Offer). is_target bare q offer.target) all)) (offers_kept past act octets)
+      ap (λ (all : List Offer). map (probe_item plan) (filter (λ (offer : Offer). is_probed bare base past q offer.probe) all)) (offers_kept past act octets)
       ∙ ap (λ (some : List Offer). map (probe_item plan) some)
-      (filter_agree (λ (offer : Offer). is_target bare q offer.target) (λ (offer : Offer). is_target plan q offer.target) (λ offer. target_kept q offer.target) (offers plan base past act octets))
+      (filter_agree (λ (offer : Offer). is_probed bare base past q offer.probe) (λ (offer : Offer). is_probed plan base past q offer.probe) (λ offer. probed_port_kept past q offer.probe) (offers plan base past act octets))
 
   probed_kept : (past : List Row) (act : Act) (octets : List ℕ) (q : ℕ) (waiting : List Item) → probed bare base past act octets q waiting ≡ probed plan base past act octets q waiting
   probed_kept past act octets q waiting =

@@ -29,7 +29,7 @@ is_failed_reason hows.Failed = true
 is_failed_reason hows.Unwritten = false
 is_failed_reason (hows.Full len) = false
 
--- an answer could not be written
+-- a reply could not be written
 abbrev pub is_unwritten_reason : How → Bool
 is_unwritten_reason hows.End = false
 is_unwritten_reason hows.Quit = false
@@ -39,7 +39,7 @@ is_unwritten_reason hows.Failed = false
 is_unwritten_reason hows.Unwritten = true
 is_unwritten_reason (hows.Full len) = false
 
--- there was no room for the input
+-- there was no room for what was to come
 abbrev pub is_full_reason : How → Bool
 is_full_reason hows.End = false
 is_full_reason hows.Quit = false
@@ -103,10 +103,10 @@ has_malformed rows = list_any (λ r. is_malformed_end r.entry.act) rows
 abbrev pub has_failed : List Row → Bool
 has_failed rows = list_any (λ r. is_failed_end r.entry.act) rows
 
--- a write of an output of the history failed, or an answer could not be written
+-- a write of an output of the history failed, or a reply could not be written
 abbrev pub has_failed_write : List Row → Bool
 has_failed_write rows = list_any (λ r. is_failed_write r.entry.act) rows
 
--- an input of the history ended for want of room
+-- a pass of the history ended for want of room
 abbrev pub has_full : List Row → Bool
 has_full rows = list_any (λ r. is_full_end r.entry.act) rows

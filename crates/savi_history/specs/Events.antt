@@ -1,5 +1,5 @@
 -- What happens to a switch, and the one row that stands for it in a history.
-use Rattle.std.specs.Prelude.{ℕ, List, [], length, Option, Some, None}
+use Rattle.std.specs.Prelude.{ℕ, List, [], length, Some, None}
 use Rattle.savi_kinds.specs.declared.port.Port.{Port}
 use Rattle.savi_kinds.specs.declared.port.PortSet.{PortSet}
 use Rattle.savi_kinds.specs.declared.plan.Plan.{Plan}

@@ -1,5 +1,5 @@
--- The verdict on a frame at a port, and what it tells of addresses, by the class of the frame: where sources aren't
--- validated a rule on messages stops it, or it passes to each port, and nothing is told.
+-- The verdict on a frame at a port, and what it tells of addresses, by the class of the frame. Validation of sources isn't
+-- defined yet: a rule on messages stops the frame, or it passes to each port, and nothing is told.
 use Rattle.std.specs.Prelude.{ℕ, List, [], Option, Some, None}
 use Rattle.savi_kinds.specs.declared.plan.Plan.{Plan}
 use Rattle.savi_kinds.specs.declared.verdict.Rule.{Rule}
@@ -28,10 +28,10 @@ abbrev pub verdict_by : Option Rule → Verdict
 verdict_by None = Pass All
 verdict_by (Some rule) = Drop rule
 
--- of a frame of this class in this VLAN, at the port of this number and at this moment, after this past
+-- what a frame of this class in this VLAN comes to, at the port of this number and at this moment, after this past
 abbrev pub judged : ℕ → Plan → Base → List Row → ℕ → ℕ → Class → Judged
 judged vlan plan base past port moment class = unmarked (verdict_by (guard_of (role_of plan port) plan.drop_unknown class))
 
--- of a frame with more octets than a frame may have
+-- the verdict on a frame with more octets than a frame may have
 abbrev pub judged_long : Verdict
 judged_long = Drop Malformed

@@ -4,6 +4,7 @@ pub mod Moments
 pub mod Limits
 pub mod Marks
 pub mod Judged
+pub mod Offers
 pub mod Outs
 pub mod Queues
 pub mod Events

@@ -25,7 +25,7 @@ is_in_scope (TrustedAnd p) q = is_trusted q.role || (number_of q.number == numbe
 abbrev pub others_in : Plan → Scope → ℕ → List PortPlan
 others_in plan scope port = filter (λ q. is_in_scope scope q && not (number_of q.number == port)) plan.ports
 
--- of these octets in this VLAN with this verdict, at this moment and after this past
+-- the ports to which these octets go in this VLAN with this verdict, at this moment and after this past
 abbrev pub outs : ℕ → Plan → Base → List Row → ℕ → ℕ → List ℕ → Verdict → PortSet
 outs vlan plan base past port moment octets (Pass scope) = set_of (numbers_of (others_in plan scope port))
 outs vlan plan base past port moment octets (Drop rule) = no_ports

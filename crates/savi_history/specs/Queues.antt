@@ -18,7 +18,8 @@ use Rattle.probe_write.specs.ProbeFrame.{probe_of}
 use Rattle.hist_store.specs.Rows.{Row}
 use Rattle.savi_history.specs.Bases.{Base}
 use Rattle.savi_history.specs.Passes.{egress_pass, has_ended, role_of, is_trusted}
-use Rattle.savi_history.specs.Marks.{Offer, offers}
+use Rattle.savi_history.specs.Marks.{Offer}
+use Rattle.savi_history.specs.Offers.{offers}
 
 -- a frame or a probe on its way out, with the moment that it carries
 pub record Item : Type 0 where
@@ -33,15 +34,15 @@ item_of r = record { moment = r.entry.moment; octets = r.octets }
 abbrev pub probe_item : Plan → Offer → Item
 probe_item plan offer = record { moment = offer.due; octets = probe_of plan.mac offer.address }
 
--- whether the port of this number is one to which a probe goes
-abbrev pub is_target : Plan → ℕ → Probe → Bool
-is_target plan q Trusted = is_trusted (role_of plan q)
-is_target plan q (To port) = number_of port == q
+-- whether a probe goes to the port of this number
+abbrev pub is_probed : Plan → Base → List Row → ℕ → Probe → Bool
+is_probed plan base past q Trusted = is_trusted (role_of plan q)
+is_probed plan base past q (To port) = number_of port == q
 
 -- the probes that an entry with this act and these octets offers to q, in order
 abbrev pub offered_at : Plan → Base → List Row → Act → List ℕ → ℕ → List Item
 offered_at plan base past act octets q =
-    map (probe_item plan) (filter (λ offer. is_target plan q offer.target) (offers plan base past act octets))
+    map (probe_item plan) (filter (λ offer. is_probed plan base past q offer.probe) (offers plan base past act octets))
 
 -- how many items may wait at q: as many as the plan's depth, and none once its egress has ended
 abbrev pub room_at : Plan → Base → List Row → ℕ → ℕ

@@ -16,9 +16,13 @@ ghost use Rattle.savi_history.specs.Adverts.{IsGuarded};
 ghost use Rattle.savi_history.specs.Endings.{has_failed, has_failed_write};
 ghost use Rattle.savi_history.specs.PortInputs.{input_end};
 ghost use Rattle.savi_history.specs.PortOutputs.{FitsOutputAt, TookPieces, output_end, pieces};
-ghost use Rattle.savi_history.specs.Marks.{offers};
+ghost use Rattle.savi_history.specs.Judged.{judged, unmarked, verdict_by};
+ghost use Rattle.savi_history.specs.Offers.{offers};
+ghost use Rattle.savi_history.specs.Passes.{role_of};
+ghost use Rattle.frame_class.specs.declared.classes.Class.{Class};
+ghost use Rattle.ra_guard.specs.GuardOf.{guard_of};
 ghost use Rattle.savi_history.specs.Queues.{queue, sent};
-ghost use Rattle.savi_history.specs.QueueLaws.{came, NeverFailed, AreCounted};
+ghost use Rattle.savi_history.specs.QueueLaws.{came, NeverFailed, AreCounted, AreCut};
 ghost use Rattle.savi_history.specs.Journals.{IsAddressText, IsJournalOfOne};
 
 /// In a legal history no router advertisement that the header chain shows, and no first fragment whose chain is cut,
@@ -38,14 +42,23 @@ pub fn nothing_overtakes()
     ensures { (plan : Plan) (base : Base) (q : ℕ) (past : List Row) → NeverFailed q past → sent plan base q past ++ queue plan base q past ≡ came plan base q past }
 {}
 
-/// In a legal history each probe that an entry offers to a port is counted once, as queued or as lost.
-pub fn nothing_is_lost_uncounted()
+/// In a legal history each probe that an entry offers to a port is counted once: as queued where the port takes it, and as
+/// lost where there is no room.
+pub fn each_probe_is_counted_once()
     ensures { (plan : Plan) (base : Base) (past : List Row) → IsLegal plan base past → AreCounted plan base past }
 {}
 
-/// A switch that doesn't validate sources sends no probes.
+/// In a legal history a frame is cut exactly at the ports to which it goes and which don't take it behind the probes of its
+/// entry.
+pub fn frames_are_cut_for_want_of_room()
+    ensures { (plan : Plan) (base : Base) (past : List Row) → IsLegal plan base past → AreCut plan base past }
+{}
+
+/// Validation isn't defined yet: where sources aren't validated, no entry calls for probes, and no frame tells anything of
+/// addresses.
 pub fn probes_come_with_validation()
-    ensures { (plan : Plan) (base : Base) (past : List Row) (act : Act) (octets : List ℕ) → plan.savi ≡ false → offers plan base past act octets ≡ [] }
+    ensures offers { (plan : Plan) (base : Base) (past : List Row) (act : Act) (octets : List ℕ) → plan.savi ≡ false → offers plan base past act octets ≡ [] }
+    ensures marks { (vlan port moment : ℕ) (plan : Plan) (base : Base) (past : List Row) (class : Class) → plan.savi ≡ false → judged vlan plan base past port moment class ≡ unmarked (verdict_by (guard_of (role_of plan port) plan.drop_unknown class)) }
 {}
 
 /// In the history of a replay of one input for each port of the plan, every pass has ended, whichever writes failed.

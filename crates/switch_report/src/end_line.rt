@@ -15,7 +15,8 @@ pub const END_LINE_OCTETS: usize = 47;
 /// A buffer for a line of an end.
 pub type EndLine = ArrayVec<u8, END_LINE_OCTETS>;
 
-/// Writes the line of an entry, in place of what the buffer held: nothing, unless it is an end but an ordinary one.
+/// Writes the line of an entry, in place of what the buffer held: nothing, unless it is an end
+/// that isn't an ordinary one or one by `quit`.
 pub fn put_entry_line(act: Act, into: &mut EndLine)
     ensures { into.new.items ≡ entry_line act }
 {

@@ -30,7 +30,7 @@ pub fn has_failed(hist: &Hist) -> bool
     false
 }
 
-/// Whether a write of an output of the history failed, or of an answer to control. O(n) in the entries.
+/// Whether a write of an output of the history failed, or of a reply to control. O(n) in the entries.
 pub fn has_failed_write(hist: &Hist) -> bool
     ensures { result ≡ has_failed_write (reverse hist.now.rows) }
 {
@@ -42,7 +42,7 @@ pub fn has_failed_write(hist: &Hist) -> bool
     false
 }
 
-/// Whether an input of the history ended for want of room. O(n) in the entries.
+/// Whether a pass of the history ended for want of room. O(n) in the entries.
 pub fn has_full(hist: &Hist) -> bool
     ensures { result ≡ has_full (reverse hist.now.rows) }
 {

@@ -20,7 +20,7 @@ use hist_store::{Hist, JOURNAL_LINE_OCTETS, JournalLine, put_end, put_header, pu
 use savi_ends::{Put, Sink};
 use savi_kinds::{Plan, PrefixPlan};
 
-/// Writes the journal (`docs/FORMATS.md`) of a plan and of its history: in pieces of the buffer's size, and the last one.
+/// Writes the journal (`docs/FORMATS.md`) of a plan and of its history: in pieces of at most the buffer's size.
 /// Where a write fails, a front of the journal was written. The journal tells this plan, but for its names, and this
 /// history, and no other (`savi_history::journals_tell_one_history`). O(n) in the octets of the journal.
 pub fn write_journal<K: Sink>(plan: &Plan, hist: &Hist, sink: &mut K, buffer: &mut Buffer) -> Put

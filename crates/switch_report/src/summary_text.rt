@@ -9,7 +9,7 @@ use crate::summary::Summary;
 use arrayvec::ArrayVec;
 use itoa::Buffer;
 
-/// The octets of the longest line of a summary: seven words and seven numbers.
+/// At least the octets of the longest line of a summary, 193: seven words, and seven numbers of at most 20 digits.
 pub const SUMMARY_OCTETS: usize = 256;
 
 /// The line of a summary, with its line feed.

@@ -28,7 +28,7 @@ returns-clause-valid c =
     record {
       unicast = refl;
       per_port = (lit≤ tt, lit≤ tt);
-      depth = (lit≤ tt, lit≤ tt);
+      depth = c.requires.depth;
       entries = c.requires.entries;
       bytes = c.requires.bytes;
       gap = (lit≤ tt, lit≤ tt);
