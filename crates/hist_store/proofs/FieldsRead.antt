@@ -1,12 +1,12 @@
 -- The field at the front of a text, and what is read of it.
-use Rattle.std.proofs.Common.{ℕ, ◌≡◌, ◌≢◌, ◌^◌, ◌<◌, ◌≤◌, ◌==◌, ◌+◌, ◌-◌, ◌↔◌, List, [], ◌∷◌, ◌++◌, Option, Some, None, IfSome, IfNone, IsSome, decimal, length, unwrap_or, refl, sym, ap, ◌∙◌, arith, ne_eqb, le-ltb, lt-ltb, true≢false, inl, inr, Bool, true, false, not}
+use Rattle.std.proofs.Common.{ℕ, ◌≡◌, ◌≢◌, ◌^◌, ◌<◌, ◌≤◌, ◌==◌, ◌-◌, ◌↔◌, List, [], ◌∷◌, ◌++◌, Option, Some, None, IfSome, IfNone, IsSome, decimal, length, unwrap_or, refl, sym, ap, ◌∙◌, arith, ne_eqb, le-ltb, lt-ltb, true≢false, inl, inr, Bool, not}
 use Rattle.std.proofs.lemmas.Bool.{cases_lt}
 use Rattle.std.proofs.lemmas.List.Sums.{prefix_len-le-length}
 use Rattle.std.proofs.lemmas.Fmt.{decimal_injective}
 use Rattle.std.specs.List.{position, position_or_len}
 use Rattle.savi_kinds.specs.declared.port.Port.{Port}
 use Rattle.savi_kinds.specs.Ports.{number_of}
-use Rattle.hist_store.specs.TextOfLines.{space, spaced, HasNoSpace}
+use Rattle.hist_store.specs.TextOfLines.{spaced, HasNoSpace}
 use Rattle.hist_store.proofs.Words.{IsWord}
 use Rattle.hist_store.proofs.OnePort.{port_same}
 

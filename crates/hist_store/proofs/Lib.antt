@@ -3,10 +3,12 @@ pub mod MemberLemmas
 pub mod LineLemmas
 pub mod JournalLemmas
 pub mod Words
+pub mod AddressWords
 pub mod FieldWords
 pub mod OnePort
 pub mod DecimalRead
 pub mod FieldsRead
+pub mod HeaderRead
 pub mod HexRead
 pub mod VerdictRead
 pub mod EndRead

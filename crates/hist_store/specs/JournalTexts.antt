@@ -1,8 +1,13 @@
 -- The journal: what the plan is, then a line for each entry, numbered from 0, and how many there are.
-use Rattle.std.specs.Prelude.{ℕ, ◌+◌, List, [], ◌∷◌, ◌++◌, length, map, codes, decimal}
+use Rattle.std.specs.Prelude.{ℕ, ◌+◌, Bool, List, [], ◌∷◌, ◌++◌, length, map, codes, decimal}
 use Rattle.savi_kinds.specs.declared.plan.Plan.{Plan}
 use Rattle.savi_kinds.specs.declared.plan.PortPlan.{PortPlan}
 use Rattle.savi_kinds.specs.declared.plan.PrefixPlan.{PrefixPlan}
+use Rattle.savi_kinds.specs.declared.plan.Role.{Role}
+use Rattle.savi_kinds.specs.declared.plan.Format.{Format}
+use Rattle.savi_kinds.specs.declared.plan.Method.{Method}
+use Rattle.savi_kinds.specs.declared.port.Port.{Port}
+use Rattle.savi_kinds.specs.declared.address.Mac.{Mac}
 use Rattle.savi_kinds.specs.declared.address.Prefix.{Prefix}
 use Rattle.savi_kinds.specs.PlanWords.{role_word, method_word, format_word, savi_word, unknown_word}
 use Rattle.savi_kinds.specs.MacText.{mac_text}
@@ -21,25 +26,42 @@ address_text address = addr_text (record { 0 = address })
 abbrev pub prefix_text : (ℕ → List ℕ) → Prefix → List ℕ
 prefix_text text_of prefix = text_of prefix.net.0 ++ codes "/" ++ decimal prefix.len
 
+-- the line of a port of this role and format
+abbrev pub port_line : Port → Role → Format → List (List ℕ)
+port_line port role format = codes "port" ∷ port_text port ∷ role_word role ∷ format_word format ∷ []
+
 abbrev pub port_fields : PortPlan → List (List ℕ)
-port_fields port = codes "port" ∷ port_text port.number ∷ role_word port.role ∷ format_word port.format ∷ []
+port_fields port = port_line port.number port.role port.format
+
+-- the line of a prefix whose addresses are validated by this method
+abbrev pub prefix_line : (ℕ → List ℕ) → Prefix → Method → List (List ℕ)
+prefix_line text_of prefix method = codes "prefix" ∷ prefix_text text_of prefix ∷ method_word method ∷ []
 
 abbrev pub prefix_fields : (ℕ → List ℕ) → PrefixPlan → List (List ℕ)
-prefix_fields text_of plan = codes "prefix" ∷ prefix_text text_of plan.prefix ∷ method_word plan.method ∷ []
+prefix_fields text_of plan = prefix_line text_of plan.prefix plan.method
 
 -- a setting's name and its number
 abbrev pub setting : List ℕ → ℕ → List (List ℕ)
 setting name value = name ∷ decimal value ∷ []
 
--- the version of this text, the switch's own address, and whether source addresses are validated and packets with an
--- unknown next header dropped
+-- the version of this text
+abbrev pub version_line : List (List ℕ)
+version_line = codes "savi-journal" ∷ codes "1" ∷ []
+
+-- the switch's own address
+abbrev pub mac_line : Mac → List (List ℕ)
+mac_line mac = codes "mac" ∷ mac_text mac ∷ []
+
+-- whether source addresses are validated
+abbrev pub savi_line : Bool → List (List ℕ)
+savi_line savi = codes "savi" ∷ savi_word savi ∷ []
+
+-- whether packets with an unknown next header are dropped
+abbrev pub unknown_line : Bool → List (List ℕ)
+unknown_line drop_unknown = codes "unknown" ∷ unknown_word drop_unknown ∷ []
+
 abbrev pub word_lines : Plan → List (List (List ℕ))
-word_lines plan =
-    (codes "savi-journal" ∷ codes "1" ∷ [])
-    ∷ (codes "mac" ∷ mac_text plan.mac ∷ [])
-    ∷ (codes "savi" ∷ savi_word plan.savi ∷ [])
-    ∷ (codes "unknown" ∷ unknown_word plan.drop_unknown ∷ [])
-    ∷ []
+word_lines plan = version_line ∷ mac_line plan.mac ∷ savi_line plan.savi ∷ unknown_line plan.drop_unknown ∷ []
 
 abbrev pub limit_lines : Plan → List (List (List ℕ))
 limit_lines plan =

@@ -7,3 +7,4 @@ pub mod EndTexts
 pub mod LineTexts
 pub mod JournalTexts
 pub mod EntryLines
+pub mod HeaderLines

@@ -43,6 +43,9 @@ impl Hist {
     }
 
     /// Adds an entry with its octets. O(1) beside the copy of the octets.
+    ///
+    /// There is room for one more entry and for its octets. A frame and a command have as many octets as their `len` says,
+    /// and their `at` is how many are held already; every other entry has no octets.
     pub fn append(&mut self, e: Entry, octets: &[u8])
         requires room { length self.old.rows < self.old.entry_room }
         requires bytes { held self.old.rows + length octets.now ≤ self.old.byte_room }

@@ -3,7 +3,9 @@
 //! `Hist` keeps the entries in order, each with its octets; contracts see a list of rows (`specs/Rows.antt`). The
 //! journal is a text of lines (`specs/JournalTexts.antt`): its header, a line for each entry and a last line. What
 //! `put_header`, `put_line` and `put_end` write is that text, octet by octet. `read_line` reads the lines of entries
-//! (`specs/EntryLines.antt`), and no others. Nothing takes memory but `Hist::make`.
+//! (`specs/EntryLines.antt`), and no others. The lines of the header and the last line are read one by one, by
+//! `is_version_line`, `read_mac_line`, `read_setting` and so on, which take what is printed, and no other spelling.
+//! Nothing takes memory but `Hist::make`.
 #![tactic(auto)]
 
 mod end_fields;
@@ -15,6 +17,7 @@ mod pieces;
 mod port_fields;
 mod read_end;
 mod read_fields;
+mod read_header;
 mod read_hex;
 mod read_ports;
 mod read_verdict;
@@ -28,5 +31,9 @@ pub use hist::Hist;
 pub use line::put_line;
 pub use line_laws::{a_read_line_is_written_again, a_written_line_is_read_again};
 pub use pieces::{JOURNAL_LINE_OCTETS, JournalLine};
+pub use read_header::{
+    is_begin_line, is_version_line, read_mac_line, read_port_line, read_prefix_line,
+    read_savi_line, read_setting, read_unknown_line,
+};
 pub use read_hex::LineOctets;
 pub use reading::read_line;

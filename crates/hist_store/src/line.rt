@@ -13,7 +13,8 @@ use savi_kinds::{Act, Entry};
 /// without its line feed.
 ///
 /// The entry has a verdict exactly where it is a frame or a long frame; what its line lacks is empty or 0; an
-/// end has a reason of its kind. One pass over the octets.
+/// end has a reason of its kind. A frame and a command have as many octets as their `len` says, which is at most 1,518
+/// for a frame and 120 for a command; every other entry has none. One pass over the octets.
 pub fn put_line(n: u64, e: &Entry, octets: &[u8], into: &mut JournalLine)
     requires { FitsLine (record { entry = e.now; octets = octets.now }) }
     ensures { into.new.items ≡ line_text n (record { entry = e.now; octets = octets.now }) }

@@ -27,7 +27,8 @@ pub fn put_port(into: &mut JournalLine, port: Port)
     put_decimal(into, u64::from(port.get()));
 }
 
-// Appends a space and the members of a set, at most 38 octets.
+// Appends a space and the members of a set: at most 39 octets, as nine members have one digit. The bound that is proved
+// is 49, as if each of the 16 members had a comma and two digits.
 pub fn put_ports(into: &mut JournalLine, set: PortSet)
     requires { array_vec_len into.old + 49 ≤ 3400 }
     ensures text { into.new.items ≡ into.old.items ++ space ∷ ports_text set }

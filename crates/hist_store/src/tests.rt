@@ -501,7 +501,8 @@ fn expect_read(rt: &impl Abort, line: &str, want: Option<(u64, Entry)>, octets: 
     assert_eq!(rt; buffer.as_slice(), octets, "{line}");
 }
 
-// The lines of a switch with two ports and no input, and two of frames whose octets are left out here.
+// The lines of ends, each by another pass or with another reason, a drain, a frame with three octets, and one with none
+// that passes to all ports.
 #[test]
 fn lines_are_read(rt: HostRuntime) {
     let (one, two) = (port(1), port(2));
@@ -611,5 +612,147 @@ fn lines_that_no_entry_has(rt: HostRuntime) {
     ];
     for line in lines {
         expect_read(&rt, line, None, &[]);
+    }
+}
+
+// A line of a prefix behind another one, or behind none where that is empty, and what it says.
+fn expect_prefix(rt: &impl Abort, before: &str, line: &str, want: Option<(Prefix, Method)>) {
+    let last = match read_prefix_line(before.as_bytes(), None) {
+        Some((prefix, _)) => Some(prefix),
+        None => None,
+    };
+    assert_eq!(rt; last.is_none(), before.is_empty(), "{before}");
+    assert_eq!(rt; read_prefix_line(line.as_bytes(), last), want, "{line}");
+}
+
+// Each line of a header and the last line, and lines that differ from one in a field.
+#[test]
+fn header_lines_are_read(rt: HostRuntime) {
+    let yes_or_no: [(&str, bool, bool); 7] = [
+        ("savi-journal 1", true, false),
+        ("savi-journal 01", false, false),
+        ("savi-journal 2", false, false),
+        ("savi-journal 1 ", false, false),
+        ("begin", false, true),
+        ("begin ", false, false),
+        ("", false, false),
+    ];
+    for (line, version, begin) in yes_or_no {
+        assert_eq!(rt; is_version_line(line.as_bytes()), version, "{line}");
+        assert_eq!(rt; is_begin_line(line.as_bytes()), begin, "{line}");
+    }
+    let macs = [
+        (
+            "mac 02:00:00:00:0a:01",
+            Some(Mac([0x02, 0, 0, 0, 0x0a, 0x01])),
+        ),
+        ("mac 02:00:00:00:0A:01", None),
+        ("mac 02:00:00:00:a:01", None),
+        ("mac 02:00:00:00:0a:01 ", None),
+        ("mac  02:00:00:00:0a:01", None),
+    ];
+    for (line, want) in macs {
+        assert_eq!(rt; read_mac_line(line.as_bytes()), want, "{line}");
+    }
+    let words = [
+        ("savi on", Some(true), None),
+        ("savi off", Some(false), None),
+        ("savi On", None, None),
+        ("savi on ", None, None),
+        ("unknown drop", None, Some(true)),
+        ("unknown pass", None, Some(false)),
+        ("unknown  pass", None, None),
+        ("unknown", None, None),
+    ];
+    for (line, savi, drop_unknown) in words {
+        assert_eq!(rt; read_savi_line(line.as_bytes()), savi, "{line}");
+        assert_eq!(rt; read_unknown_line(line.as_bytes()), drop_unknown, "{line}");
+    }
+    let settings = [
+        ("per_port 64", "per_port", Some(64)),
+        ("per_port 64", "depth", None),
+        ("per_port 064", "per_port", None),
+        ("per_port 64 ", "per_port", None),
+        ("per_port", "per_port", None),
+        ("end 6", "end", Some(6)),
+        ("end 18446744073709551615", "end", Some(u64::MAX)),
+        ("end 18446744073709551616", "end", None),
+    ];
+    for (line, name, want) in settings {
+        assert_eq!(rt; read_setting(line.as_bytes(), name), want, "{line}");
+    }
+    let (one, two) = (port(1), port(2));
+    let ports = [
+        (
+            "port 1 host pcap",
+            None,
+            Some((one, Role::Host, Format::Pcap)),
+        ),
+        (
+            "port 2 server stream",
+            Some(one),
+            Some((two, Role::Server, Format::Stream)),
+        ),
+        ("port 2 server stream", Some(two), None),
+        ("port 1 host pcap", Some(two), None),
+        ("port 01 host pcap", None, None),
+        ("port 17 host pcap", None, None),
+        ("port 1 router pcap", None, None),
+        ("port 1 host pcapng", None, None),
+        ("port 1 host pcap ", None, None),
+        ("port 1 host", None, None),
+    ];
+    for (line, last, want) in ports {
+        assert_eq!(rt; read_port_line(line.as_bytes(), last), want, "{line}");
+    }
+    let first = site(0x2001_0db8_0001_0000_0000_0000_0000_0000, Method::Fcfs).prefix;
+    let second = site(0x2001_0db8_0001_0001_0000_0000_0000_0000, Method::Dhcp).prefix;
+    let within = Prefix {
+        net: Addr(0x2001_0db8_0001_0000_0000_0000_0000_0100),
+        len: 120,
+    };
+    let prefixes = [
+        (
+            "prefix 2001:db8:1::/64 fcfs",
+            "",
+            Some((first, Method::Fcfs)),
+        ),
+        (
+            "prefix 2001:db8:1:1::/64 dhcp",
+            "prefix 2001:db8:1::/64 fcfs",
+            Some((second, Method::Dhcp)),
+        ),
+        (
+            "prefix 2001:db8:1::100/120 mixed",
+            "",
+            Some((within, Method::Mixed)),
+        ),
+        (
+            "prefix 2001:db8:1::100/120 mixed",
+            "prefix 2001:db8:1::/64 fcfs",
+            None,
+        ),
+        (
+            "prefix 2001:db8:1::/64 fcfs",
+            "prefix 2001:db8:1::/64 fcfs",
+            None,
+        ),
+        (
+            "prefix 2001:db8:1::/64 fcfs",
+            "prefix 2001:db8:1:1::/64 dhcp",
+            None,
+        ),
+        ("prefix ffff::/16 fcfs", "prefix 8000::/1 fcfs", None),
+        ("prefix 2001:db8:1:0::/64 fcfs", "", None),
+        ("prefix 2001:DB8:1::/64 fcfs", "", None),
+        ("prefix 2001:db8:1::1/64 fcfs", "", None),
+        ("prefix 2001:db8:1::/064 fcfs", "", None),
+        ("prefix 2001:db8:1::/129 fcfs", "", None),
+        ("prefix 2001:db8:1:: fcfs", "", None),
+        ("prefix 2001:db8:1::/64 slaac", "", None),
+        ("prefix 2001:db8:1::/64 fcfs ", "", None),
+    ];
+    for (line, before, want) in prefixes {
+        expect_prefix(&rt, before, line, want);
     }
 }

@@ -1,20 +1,16 @@
 -- The text of addresses that is written tells them apart, and has no octet that parts the fields of a line.
-use Rattle.std.proofs.Common.{◌≡◌, ◌≢◌, ℕ, ◌<◌, inl, inr, List, ap, sym, subst, arith}
+use Rattle.std.proofs.Common.{◌≡◌, ◌≢◌, ℕ, inl, inr, List, ap, sym, subst, arith}
 use Rattle.std.proofs.lemmas.List.Elements.{All-weaker}
 use Rattle.savi_kinds.specs.declared.address.Addr.{Addr}
 use Rattle.savi_kinds.specs.AddrText.{IsAddrText, IsAddrChar}
 use Rattle.savi_kinds.proofs.AddrGrammar.{one_address}
 use Rattle.savi_kinds.proofs.AddrWritten.{written_addr, plain_chars}
 use Rattle.hist_store.specs.JournalTexts.{address_text}
+use Rattle.hist_store.proofs.AddressWords.{address_graphic}
 use Rattle.savi_history.specs.Journals.{IsAddress, IsAddressText}
 
 abbrev addr : ℕ → Addr
 addr n = record { 0 = n }
-
-char_graphic : (c : ℕ) → IsAddrChar c → 32 < c
-char_graphic c (inl digit) = omega (arith, digit.0)
-char_graphic c (inr (inl letter)) = omega (arith, letter.0)
-char_graphic c (inr (inr colon)) = omega (arith, colon)
 
 char_no_slash : (c : ℕ) → IsAddrChar c → c ≢ 47
 char_no_slash c (inl digit) = omega (arith, digit.0)
@@ -29,7 +25,7 @@ same_address a b low low' same =
 
 pub written-IsAddressText : IsAddressText address_text
 written-IsAddressText = record {
-  graphic = λ n. All-weaker IsAddrChar (λ octet. 32 < octet) char_graphic (address_text n) (plain_chars (addr n));
+  graphic = address_graphic;
   no_slash = λ n. All-weaker IsAddrChar (λ octet. octet ≢ 47) char_no_slash (address_text n) (plain_chars (addr n));
   one_address = same_address;
 }
