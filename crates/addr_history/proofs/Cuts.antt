@@ -48,6 +48,7 @@ module _ (r : AddrRules) (base : AddrBase) (tables : AreTables base) (times : Ar
             order = last_mid late named.moment turn.1 named turn.1;
             early = right.0.early;
             on_link = right.0.on_link;
+            port = right.0.port;
             lease = right.0.lease;
             room = subst (λ rows. named.room ≡ room_for r.per_port rows named.event) same right.0.room;
             fix = subst (λ rows. IsFixable r.per_port rows named.address named.event) same right.0.fix;
@@ -65,6 +66,7 @@ module _ (r : AddrRules) (base : AddrBase) (tables : AreTables base) (times : Ar
           order = omega (arith, low, later.0.order);
           early = later.0.early;
           on_link = later.0.on_link;
+          port = later.0.port;
           lease = later.0.lease;
           room = subst (λ rows. named.room ≡ room_for r.per_port rows named.event) same later.0.room;
           fix = subst (λ rows. IsFixable r.per_port rows named.address named.event) same later.0.fix;

@@ -26,7 +26,7 @@ use Rattle.addr_table.specs.Rooms.{room_for, has_room, IsFixable}
 use Rattle.addr_history.specs.Bases.{AddrRules, AddrBase, AreTables}
 use Rattle.addr_history.specs.Marks.{Named, mark_of, last_moment}
 use Rattle.addr_history.specs.States.{outcome_by}
-use Rattle.addr_history.specs.Tables.{rows_after, rows_at, held_at}
+use Rattle.addr_history.specs.Tables.{rows_after, rows_at, held_in, held_at}
 use Rattle.addr_history.specs.Legal.{Stands, IsPast}
 use Rattle.addr_history.proofs.Aged.{gone}
 use Rattle.addr_history.proofs.TablesOf.{table_at, rows-later, at_mark_by, at_mark, at_other}
@@ -140,32 +140,43 @@ more-with n a new rows is more =
     more-once n (state_in rows a) new (omega (arith, counts, more))
 
 module _ (r : AddrRules) (base : AddrBase) (times : AreTimes r.times) (tables : AreTables base) where
-  pub more-held : (named : Named) (past : List Named) (vlan : ℕ) (port : Port) → held_at r base past named.moment vlan (number_of port) < held_at r base (named ∷ past) named.moment vlan (number_of port) → MakesHolder port named.room named.event
-  more-held named past vlan port more =
+  more-in : (named : Named) (past : List Named) (vlan : ℕ) (port : Port) → count_at (number_of port) (rows_at r base past named.moment vlan) < count_at (number_of port) (rows_at r base (named ∷ past) named.moment vlan) → MakesHolder port named.room named.event
+  more-in named past vlan port more =
       elim (cases_Bool (named.vlan == vlan)) [
-        | inr not ↦ let same : held_at r base (named ∷ past) named.moment vlan (number_of port) ≡ held_at r base past named.moment vlan (number_of port) = ap (count_at (number_of port)) (at_other r base named past named.moment vlan not) in absurd (omega (arith, same, more))
-        | inl is ↦ by_method (r.method_of named.vlan named.address) refl (subst (λ v. held_at r base past named.moment v (number_of port) < held_at r base (named ∷ past) named.moment v (number_of port)) (sym (eqb-true named.vlan vlan is)) more)
+        | inr not ↦ let same : count_at (number_of port) (rows_at r base (named ∷ past) named.moment vlan) ≡ count_at (number_of port) (rows_at r base past named.moment vlan) = ap (count_at (number_of port)) (at_other r base named past named.moment vlan not) in absurd (omega (arith, same, more))
+        | inl is ↦ by_method (r.method_of named.vlan named.address) refl (subst (λ v. count_at (number_of port) (rows_at r base past named.moment v) < count_at (number_of port) (rows_at r base (named ∷ past) named.moment v)) (sym (eqb-true named.vlan vlan is)) more)
       ]
     where
-      by_method : (method : Option Method) → r.method_of named.vlan named.address ≡ method → held_at r base past named.moment named.vlan (number_of port) < held_at r base (named ∷ past) named.moment named.vlan (number_of port) → MakesHolder port named.room named.event
+      by_method : (method : Option Method) → r.method_of named.vlan named.address ≡ method → count_at (number_of port) (rows_at r base past named.moment named.vlan) < count_at (number_of port) (rows_at r base (named ∷ past) named.moment named.vlan) → MakesHolder port named.room named.event
       by_method None none above =
           let gone_now : rows_at r base (named ∷ past) named.moment named.vlan ≡ with_state named.address nobody (rows_at r base past named.moment named.vlan) =
           at_mark_by r base tables times named past ∙ ap (λ method. with_state named.address (outcome_by method r.times (mark_of named) (state_in (rows_after r base past named.vlan) named.address)).1 (rows_at r base past named.moment named.vlan)) none in
           let told : (is_held_at (number_of port) (state_in (rows_at r base past named.moment named.vlan) named.address) ≡ false) × (is_held_at (number_of port) nobody ≡ true) =
           more-with (number_of port) named.address nobody (rows_at r base past named.moment named.vlan) (table_at r base tables past named.moment named.vlan)
-          (subst (λ xs. held_at r base past named.moment named.vlan (number_of port) < count_at (number_of port) xs) gone_now above) in
+          (subst (λ xs. count_at (number_of port) (rows_at r base past named.moment named.vlan) < count_at (number_of port) xs) gone_now above) in
           absurd (false≢true told.1)
       by_method (Some m) some above =
           let old : AddrState = state_in (rows_at r base past named.moment named.vlan) named.address in
           let new : AddrState = (next_state m r.times named.moment named.room old named.event).1 in
           let told : (is_held_at (number_of port) old ≡ false) × (is_held_at (number_of port) new ≡ true) =
           more-with (number_of port) named.address new (rows_at r base past named.moment named.vlan) (table_at r base tables past named.moment named.vlan)
-          (subst (λ xs. held_at r base past named.moment named.vlan (number_of port) < count_at (number_of port) xs) (at_mark r base tables times named past m some) above) in
+          (subst (λ xs. count_at (number_of port) (rows_at r base past named.moment named.vlan) < count_at (number_of port) xs) (at_mark r base tables times named past m some) above) in
           next-held m r.times named.moment named.room old named.event port (λ was. false≢true (sym told.0 ∙ told-held old port was)) (held-told new port told.1)
 
-  pub held-later : (past : List Named) (t u vlan : ℕ) (port : Port) → t ≤ u → held_at r base past u vlan (number_of port) ≤ held_at r base past t vlan (number_of port)
-  held-later past t u vlan port after =
-      subst (λ rows. count_at (number_of port) rows ≤ held_at r base past t vlan (number_of port)) (sym (rows-later r base tables times past t u vlan after)) (aged-less r.times times u port (rows_at r base past t vlan))
+  pub more-held : (named : Named) (past : List Named) (port : Port) → held_at r base past named.moment (number_of port) < held_at r base (named ∷ past) named.moment (number_of port) → MakesHolder port named.room named.event
+  more-held named past port more = by_vlan (r.vlan_of (number_of port)) more
+    where
+      by_vlan : (vlan : Option ℕ) → held_in r base past named.moment (number_of port) vlan < held_in r base (named ∷ past) named.moment (number_of port) vlan → MakesHolder port named.room named.event
+      by_vlan None above = absurd (omega (arith, above))
+      by_vlan (Some vlan) above = more-in named past vlan port above
+
+  pub held-later : (past : List Named) (t u : ℕ) (port : Port) → t ≤ u → held_at r base past u (number_of port) ≤ held_at r base past t (number_of port)
+  held-later past t u port after = by_vlan (r.vlan_of (number_of port))
+    where
+      by_vlan : (vlan : Option ℕ) → held_in r base past u (number_of port) vlan ≤ held_in r base past t (number_of port) vlan
+      by_vlan None = omega arith
+      by_vlan (Some vlan) =
+          subst (λ rows. count_at (number_of port) rows ≤ count_at (number_of port) (rows_at r base past t vlan)) (sym (rows-later r base tables times past t u vlan after)) (aged-less r.times times u port (rows_at r base past t vlan))
 
 module _ (r : AddrRules) (base : AddrBase) (times : AreTimes r.times) (tables : AreTables base) (within : (vlan : ℕ) → IsWithinPorts r.per_port (base.rows vlan)) where
   -- a mark keeps it, at its moment
@@ -190,3 +201,10 @@ module _ (r : AddrRules) (base : AddrBase) (times : AreTimes r.times) (tables : 
             (omega (arith, aged-less r.times times t port (rows_at r base (named ∷ past) named.moment named.vlan), own port)) in
             subst (λ v. count_at (number_of port) (rows_at r base (named ∷ past) t v) ≤ r.per_port) (eqb-true named.vlan vlan is) later
       ]
+
+  pub held-within : (past : List Named) (t : ℕ) (port : Port) → IsPast r base past → last_moment base past ≤ t → held_at r base past t (number_of port) ≤ r.per_port
+  held-within past t port right after = by_vlan (r.vlan_of (number_of port))
+    where
+      by_vlan : (vlan : Option ℕ) → held_in r base past t (number_of port) vlan ≤ r.per_port
+      by_vlan None = omega arith
+      by_vlan (Some vlan) = within_at past t vlan right after port

@@ -10,6 +10,8 @@ pub record AddrRules : Type 0 where
   pub times : Times
   -- how an address is assigned, by VLAN and address: none where it isn't on-link
   pub method_of : ℕ → ℕ → Option Method
+  -- the VLAN of a port whose sources are validated, by the port's number; none of any other number
+  pub vlan_of : ℕ → Option ℕ
   -- how many addresses a port may hold
   pub per_port : ℕ
 

@@ -1,5 +1,5 @@
 -- The states of all addresses of a VLAN at once, as a table: a row for each address that has a state.
-use Rattle.std.specs.Prelude.{ℕ, ◌==◌, if◌then◌else◌, List, [], ◌∷◌}
+use Rattle.std.specs.Prelude.{ℕ, ◌==◌, Option, Some, None, if◌then◌else◌, List, [], ◌∷◌}
 use Rattle.bind_table.specs.declared.row.Row.{Row}
 use Rattle.bind_table.specs.Rows.{state_in, with_state, count_at}
 use Rattle.addr_table.specs.Ages.{aged_rows}
@@ -21,6 +21,11 @@ rows_after r base (named ∷ past) vlan =
 abbrev pub rows_at : AddrRules → AddrBase → List Named → ℕ → ℕ → List Row
 rows_at r base past t vlan = aged_rows r.times t (rows_after r base past vlan)
 
--- how many addresses of a VLAN the port of this number holds at t: a port of a host has one VLAN
-abbrev pub held_at : AddrRules → AddrBase → List Named → ℕ → ℕ → ℕ → ℕ
-held_at r base past t vlan port = count_at port (rows_at r base past t vlan)
+-- how many addresses of this VLAN the port of this number holds at t: without a VLAN none
+abbrev pub held_in : AddrRules → AddrBase → List Named → ℕ → ℕ → Option ℕ → ℕ
+held_in r base past t port None = 0
+held_in r base past t port (Some vlan) = count_at port (rows_at r base past t vlan)
+
+-- how many addresses it holds in all: they are of its own VLAN, since it holds none of another one
+abbrev pub held_at : AddrRules → AddrBase → List Named → ℕ → ℕ → ℕ
+held_at r base past t port = held_in r base past t port (r.vlan_of port)

@@ -1,28 +1,30 @@
 // What the states of all addresses come to. Each function does nothing: its contract is the law.
 
-ghost use Rattle.std.specs.Prelude.{◌≡◌, ℕ, ◌*◌, ◌<◌, ◌≤◌, ◌^◌, ◌↔◌, ◌≢◌, false, Some, length, List, ◌∷◌, ◌++◌};
+ghost use Rattle.std.specs.Prelude.{◌≡◌, ℕ, ◌*◌, ◌==◌, ◌<◌, ◌≤◌, ◌^◌, ◌↔◌, ◌≢◌, nat_lt, true, false, Some, length, List, ◌∷◌, ◌++◌, count_by};
+ghost use Rattle.std.specs.List.{sum_by};
 ghost use Rattle.savi_kinds.specs.Ports.{number_of};
 ghost use Rattle.savi_kinds.specs.declared.port.Port.{Port};
 ghost use Rattle.savi_kinds.specs.declared.plan.Method.{Method};
 ghost use Rattle.fcfs_states.specs.declared.event.Ev.TheVariants.{Sent};
 ghost use Rattle.fcfs_states.specs.Premises.{AreTimes};
 ghost use Rattle.fcfs_states.specs.States.{Same};
-ghost use Rattle.mix_rules.specs.States.{IsSoundFor};
+ghost use Rattle.mix_rules.specs.States.{IsSoundFor, is_held_at};
 ghost use Rattle.mix_rules.specs.Holders.{MakesHolder};
 ghost use Rattle.mix_rules.specs.Next.{next_state, IsPassing};
 ghost use Rattle.mix_rules.specs.Ageing.{aged_state};
 ghost use Rattle.mix_rules.specs.FirstCome.{state_of as run_of};
 ghost use Rattle.bind_table.specs.declared.row.Row.{Row};
-ghost use Rattle.bind_table.specs.Rows.{IsTable, state_in, with_state};
+ghost use Rattle.bind_table.specs.Rows.{IsTable, state_in, with_state, count_at};
 ghost use Rattle.addr_table.specs.Ages.{aged_rows};
 ghost use Rattle.addr_table.specs.declared.sent.SentProbe.{SentProbe};
 ghost use Rattle.addr_table.specs.Sends.{sends};
+ghost use Rattle.addr_table.specs.Rooms.{port_of};
 ghost use Rattle.addr_history.specs.Bases.{AddrRules, AddrBase, AreTables, no_states};
 ghost use Rattle.addr_history.specs.Marks.{Named, names, marks_on, last_moment, AreInTurn};
 ghost use Rattle.addr_history.specs.States.{state_of, state_at, answer_at, IsLiveAfter};
 ghost use Rattle.addr_history.specs.Tables.{rows_at, held_at};
 ghost use Rattle.addr_history.specs.Probes.{probes_between, HasChanged, IsAmong, AreInOrder};
-ghost use Rattle.addr_history.specs.Legal.{base_at, IsAddrBase, IsPast};
+ghost use Rattle.addr_history.specs.Legal.{base_at, IsAddrBase, Stands, IsPast};
 ghost use Rattle.addr_history.specs.FirstCome.{IsKeptOn};
 
 /// A table has each state once and in one order: two tables that give each address the same state are one.
@@ -117,24 +119,41 @@ pub fn states_stay_a_base()
         → IsAddrBase r (base_at r base past t) }
 {}
 
+/// A port holds addresses of its own VLAN and none of another one. So what it holds in the VLANs of any list that has its
+/// own once comes to `held_at`, and the room of a mark is whether its port holds fewer addresses in all than it may.
+pub fn a_port_holds_addresses_of_its_vlan()
+    ensures own { (r : AddrRules) (base : AddrBase) (past : List Named) (t vlan a port : ℕ)
+        → IsAddrBase r base → IsPast r base past
+        → is_held_at port (state_at r base past t vlan a) ≡ true → r.vlan_of port ≡ Some vlan }
+    ensures others { (r : AddrRules) (base : AddrBase) (past : List Named) (t vlan port : ℕ)
+        → IsAddrBase r base → IsPast r base past
+        → r.vlan_of port ≢ Some vlan → count_at port (rows_at r base past t vlan) ≡ 0 }
+    ensures whole { (r : AddrRules) (base : AddrBase) (past : List Named) (t vlan port : ℕ) (vlans : List ℕ)
+        → IsAddrBase r base → IsPast r base past
+        → r.vlan_of port ≡ Some vlan → count_by (λ v. v == vlan) vlans ≡ 1
+        → sum_by (λ v. count_at port (rows_at r base past t v)) vlans ≡ held_at r base past t port }
+    ensures room { (r : AddrRules) (base : AddrBase) (past : List Named) (named : Named) (p : Port)
+        → Stands r base past named → port_of named.event ≡ Some p
+        → named.room ≡ nat_lt (held_at r base past named.moment (number_of p)) r.per_port }
+{}
+
 /// No port holds more addresses than it may.
 pub fn no_port_holds_too_many()
-    ensures { (r : AddrRules) (base : AddrBase) (past : List Named) (t vlan : ℕ) (port : Port)
+    ensures { (r : AddrRules) (base : AddrBase) (past : List Named) (t : ℕ) (port : Port)
         → IsAddrBase r base → IsPast r base past → last_moment base past ≤ t
-        → held_at r base past t vlan (number_of port) ≤ r.per_port }
+        → held_at r base past t (number_of port) ≤ r.per_port }
 {}
 
 /// A port comes to hold more addresses only by an event of its own for which it has room, or by the operator, and never by
 /// ageing.
 pub fn a_port_comes_to_hold_by_its_own_event()
-    ensures marks { (r : AddrRules) (base : AddrBase) (past : List Named) (named : Named) (vlan : ℕ) (port : Port)
+    ensures marks { (r : AddrRules) (base : AddrBase) (past : List Named) (named : Named) (port : Port)
         → AreTimes r.times → AreTables base
-        → held_at r base past named.moment vlan (number_of port)
-        < held_at r base (named ∷ past) named.moment vlan (number_of port)
+        → held_at r base past named.moment (number_of port) < held_at r base (named ∷ past) named.moment (number_of port)
         → MakesHolder port named.room named.event }
-    ensures ageing { (r : AddrRules) (base : AddrBase) (past : List Named) (t u vlan : ℕ) (port : Port)
+    ensures ageing { (r : AddrRules) (base : AddrBase) (past : List Named) (t u : ℕ) (port : Port)
         → AreTimes r.times → AreTables base → t ≤ u
-        → held_at r base past u vlan (number_of port) ≤ held_at r base past t vlan (number_of port) }
+        → held_at r base past u (number_of port) ≤ held_at r base past t (number_of port) }
 {}
 
 /// First come, first served, over the marks of many addresses and from any base in which the address is sound. An address

@@ -12,7 +12,8 @@ mod laws;
 
 pub use laws::{
     a_change_is_one_of_the_rows, a_history_keeps_who_came_first, a_mark_moves_one_row,
-    a_port_comes_to_hold_by_its_own_event, an_address_sees_its_own_marks, few_probes_at_once,
-    later_ageing_is_the_same, no_port_holds_too_many, probes_are_all_in_order, rows_are_the_states,
+    a_port_comes_to_hold_by_its_own_event, a_port_holds_addresses_of_its_vlan,
+    an_address_sees_its_own_marks, few_probes_at_once, later_ageing_is_the_same,
+    no_port_holds_too_many, probes_are_all_in_order, rows_are_the_states,
     states_are_read_from_any_moment, states_stay_a_base, there_is_one_table,
 };
