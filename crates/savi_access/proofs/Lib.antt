@@ -1,0 +1,6 @@
+pub mod States
+pub mod Requests
+pub mod Keeping
+pub mod Passing
+pub mod FirstCome
+pub mod Trusting

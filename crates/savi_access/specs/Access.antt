@@ -1,0 +1,63 @@
+-- Which packets of a host pass: those that no rule on messages stops, and whose source is live at the port or which a named
+-- exception permits. All of it is read before what the packet itself tells.
+use Rattle.std.specs.Prelude.{ℕ, ◌≡◌, ◌≢◌, ◌⊎◌, IsSome, IsSomeAnd, IsTrue, List}
+use Rattle.savi_kinds.specs.declared.port.Port.{Port}
+use Rattle.savi_kinds.specs.Ports.{number_of}
+use Rattle.v6_chain.specs.declared.packet.Ip.{Ip}
+use Rattle.frame_class.specs.declared.classes.Class.{Class}
+use Rattle.frame_class.specs.declared.classes.Class.TheVariants.{Runt, Tagged, Other, BadIp, Ip6}
+use Rattle.frame_class.specs.declared.classes.Read.{Read}
+use Rattle.ra_guard.specs.GuardOf.{guard_of}
+use Rattle.fcfs_states.specs.declared.event.Ev.TheVariants.{Dad}
+use Rattle.dhcp_states.specs.Requests.{refusal}
+use Rattle.mix_rules.specs.Next.{IsPassing}
+use Rattle.addr_history.specs.States.{IsLiveAfter}
+use Rattle.savi_access.specs.Rules.{AccessRules, AccessBase}
+use Rattle.savi_access.specs.Marks.{Mark, told, open_requests}
+use Rattle.savi_access.specs.Frames.{solicited, advertised, is_router_solicitation, is_listener_message, dhcp_to, asking_duid}
+use Rattle.savi_access.specs.Judged.{answer_to}
+
+-- the frame should carry a packet of IPv6, by its EtherType
+abbrev pub IsIpv6 : Class → Type 0
+IsIpv6 (BadIp eth) = Unit {0}
+IsIpv6 (Ip6 eth ip read) = Unit {0}
+IsIpv6 _ = ⊥
+
+-- at this port in this VLAN, at moment t, after these marks
+module _ (r : AccessRules) (base : AccessBase) (vlan : ℕ) (port : Port) (t : ℕ) (past : List Mark) where
+  -- the address is live at the port
+  abbrev pub IsLiveHere : ℕ → Type 0
+  IsLiveHere a = IsLiveAfter r.addresses base.addresses (told past) t vlan a port
+
+  -- it advertises an address that isn't live at the port
+  abbrev pub AdvertisesOther : Read → Type 0
+  AdvertisesOther read = IsSomeAnd (advertised read) (λ target. ¬ IsLiveHere target)
+
+  -- it asks for addresses by DHCPv6, and is refused: the port has too many open requests, or another port asks the same
+  abbrev pub IsRefusedRequest : Read → Type 0
+  IsRefusedRequest read =
+      IsSomeAnd (dhcp_to 547 read) (λ dhcp.
+      IsSomeAnd (asking_duid dhcp) (λ duid.
+      IsSome (refusal (number_of port) dhcp.tid duid.items (open_requests base vlan past t))))
+
+  -- a rule on messages stops it
+  abbrev pub IsStopped : Class → Read → Type 0
+  IsStopped class read =
+      IsSome (guard_of (r.role_of (number_of port)) r.drop_unknown class) ⊎ (AdvertisesOther read ⊎ IsRefusedRequest read)
+
+  -- duplicate address detection of an on-link address, which its row of the state tables lets pass
+  abbrev pub MaySolicit : Read → Type 0
+  MaySolicit read =
+      IsSomeAnd (solicited read) (λ target.
+      IsSome (r.addresses.method_of vlan target) × IsPassing (answer_to r base vlan port t past target (Dad port)))
+
+  -- An exception permits it: it has no source address yet (RFC 4861 section 4.1, RFC 4862 section 5.4, RFC 3590), and is a
+  -- solicitation for duplicate address detection, a router solicitation, or a message of a multicast listener.
+  abbrev pub IsPermitted : Ip → Read → Type 0
+  IsPermitted ip read =
+      (ip.src.0 ≡ 0) × (MaySolicit read ⊎ (IsTrue (is_router_solicitation read) ⊎ IsTrue (is_listener_message ip read)))
+
+  -- a packet of IPv6 that may pass
+  abbrev pub HasAccess : Class → Type 0
+  HasAccess (Ip6 eth ip read) = (¬ IsStopped (Ip6 eth ip read) read) × (IsLiveHere ip.src.0 ⊎ IsPermitted ip read)
+  HasAccess _ = ⊥

@@ -1,0 +1,6 @@
+pub mod Rules
+pub mod Marks
+pub mod Frames
+pub mod Judged
+pub mod Access
+pub mod Legal

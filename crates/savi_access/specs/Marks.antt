@@ -1,0 +1,44 @@
+-- What happened, as a list of marks, the newest first: to addresses, and to the requests of DHCPv6 clients (RFC 7513 section 6).
+use Rattle.std.specs.Prelude.{ℕ, ◌==◌, if◌then◌else◌, List, [], ◌∷◌}
+use Rattle.dhcp_states.specs.declared.request.Request.{Request}
+use Rattle.dhcp_states.specs.Requests.{open_at, with_request, without_pair}
+use Rattle.addr_history.specs.Marks.{Named}
+use Rattle.savi_access.specs.Rules.{AccessBase}
+
+pub data Mark : Type 0 where
+  -- something happened to an address
+  Told : Named → Mark
+  -- a client of this VLAN asked for addresses
+  Asked : (vlan : ℕ) (request : Request) → Mark
+  -- the request of this VLAN with this transaction id and DUID was met
+  Met : (vlan moment tid : ℕ) (duid : List ℕ) → Mark
+
+-- what happened to addresses
+abbrev pub told : List Mark → List Named
+told [] = []
+told (Told named ∷ past) = named ∷ told past
+told (Asked vlan request ∷ past) = told past
+told (Met vlan moment tid duid ∷ past) = told past
+
+abbrev pub moment_of : Mark → ℕ
+moment_of (Told named) = named.moment
+moment_of (Asked vlan request) = request.opened
+moment_of (Met vlan moment tid duid) = moment
+
+-- the moment of the newest mark, or of what came before all of them
+abbrev pub newest_moment : AccessBase → List Mark → ℕ
+newest_moment base [] = base.addresses.moment
+newest_moment base (mark ∷ past) = moment_of mark
+
+-- the requests of a VLAN: those of the base; one that was asked stands for the one with its pair, and one that was met is gone
+abbrev pub requests_after : AccessBase → ℕ → List Mark → List Request
+requests_after base vlan [] = base.requests vlan
+requests_after base vlan (Told named ∷ past) = requests_after base vlan past
+requests_after base vlan (Asked of request ∷ past) =
+    if of == vlan then with_request request (requests_after base vlan past) else requests_after base vlan past
+requests_after base vlan (Met of moment tid duid ∷ past) =
+    if of == vlan then without_pair tid duid (requests_after base vlan past) else requests_after base vlan past
+
+-- those of them that are open at t
+abbrev pub open_requests : AccessBase → ℕ → List Mark → ℕ → List Request
+open_requests base vlan past t = open_at t (requests_after base vlan past)

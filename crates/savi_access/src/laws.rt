@@ -1,0 +1,83 @@
+// What frames come to. Each function does nothing: its contract is the law.
+
+ghost use Rattle.std.specs.Prelude.{◌≡◌, ◌≢◌, ℕ, ◌≤◌, ◌^◌, ◌↔◌, ◌++◌, true, false, Some, None, List};
+ghost use Rattle.savi_kinds.specs.Ports.{number_of};
+ghost use Rattle.savi_kinds.specs.declared.port.Port.{Port};
+ghost use Rattle.savi_kinds.specs.declared.plan.Role.TheVariants.{Trusted};
+ghost use Rattle.savi_kinds.specs.declared.plan.Method.{Method};
+ghost use Rattle.eth_frame.specs.declared.header.Eth.{Eth};
+ghost use Rattle.v6_chain.specs.declared.packet.Ip.{Ip};
+ghost use Rattle.frame_class.specs.declared.classes.Class.{Class};
+ghost use Rattle.frame_class.specs.declared.classes.Class.TheVariants.{Ip6};
+ghost use Rattle.frame_class.specs.declared.classes.Read.{Read};
+ghost use Rattle.ra_guard.specs.GuardOf.{guard_of};
+ghost use Rattle.dhcp_states.specs.Limits.{IsWithinLimits};
+ghost use Rattle.fcfs_states.specs.States.{Same};
+ghost use Rattle.mix_rules.specs.Next.{IsPass};
+ghost use Rattle.addr_history.specs.Marks.{AreInTurn};
+ghost use Rattle.addr_history.specs.States.{IsLiveAfter};
+ghost use Rattle.addr_history.specs.FirstCome.{IsKeptOn};
+ghost use Rattle.savi_access.specs.Rules.{AccessRules, AccessBase, IsAccessBase};
+ghost use Rattle.savi_access.specs.Marks.{Mark, told, newest_moment, open_requests};
+ghost use Rattle.savi_access.specs.Frames.{AreLifetimes};
+ghost use Rattle.savi_access.specs.Legal.{AreMarks, HasFront};
+ghost use Rattle.savi_access.specs.Judged.{judged, judged_without};
+ghost use Rattle.savi_access.specs.Access.{IsIpv6, HasAccess};
+
+/// A host's packet passes exactly where no rule on messages stops it and its source is live at the port, or a named exception
+/// permits it. The port is of the packet's VLAN, and `::` isn't on-link.
+pub fn a_packet_passes_where_its_source_is_live()
+    ensures { (r : AccessRules) (base : AccessBase) (vlan : ℕ) (port : Port) (t : ℕ) (past : List Mark) (class : Class)
+        → IsAccessBase r base → AreMarks r base past → newest_moment base past ≤ t → t ≤ 2 ^ 62
+        → r.validates ≡ true → r.role_of (number_of port) ≢ Trusted → r.addresses.vlan_of (number_of port) ≡ Some vlan
+        → r.addresses.method_of vlan 0 ≡ None → IsIpv6 class
+        → (IsPass (Some (judged r base vlan port t past class).verdict) ↔ HasAccess r base vlan port t past class) }
+{}
+
+/// First come, first served, for frames. An address that was live at a port, after `early` at t0, and from which a packet now
+/// passes at another one, after `late` too, was lost by one of three causes: its host's silence for as long as a test takes,
+/// the operator, or the end of a binding by DHCP there.
+pub fn frames_keep_who_came_first()
+    ensures { (r : AccessRules) (base : AccessBase) (vlan : ℕ) (p q : Port) (from t0 t : ℕ) (early late : List Mark)
+        (eth : Eth) (ip : Ip) (read : Read) (m : Method)
+        → IsAccessBase r base → AreMarks r base (late ++ early) → newest_moment base (late ++ early) ≤ t → t ≤ 2 ^ 62
+        → r.validates ≡ true → r.role_of (number_of q) ≢ Trusted → r.addresses.vlan_of (number_of q) ≡ Some vlan
+        → r.addresses.method_of vlan 0 ≡ None → r.addresses.method_of vlan ip.src.0 ≡ Some m
+        → AreInTurn from t0 (told early) → AreInTurn t0 t (told late)
+        → IsLiveAfter r.addresses base.addresses (told early) t0 vlan ip.src.0 p → ¬ Same q p
+        → IsPass (Some (judged r base vlan q t (late ++ early) (Ip6 eth ip read)).verdict)
+        → IsKeptOn r.addresses base.addresses m (told early) t0 (told late) t vlan ip.src.0 p }
+{}
+
+/// What a frame tells may come after what was told before: so the marks of a history are always marks that may come. They
+/// are of the frame's moment, in front of those before it, which stay.
+pub fn frames_keep_the_marks()
+    ensures { (r : AccessRules) (base : AccessBase) (vlan : ℕ) (port : Port) (t : ℕ) (past : List Mark) (class : Class)
+        → IsAccessBase r base → AreMarks r base past → newest_moment base past ≤ t → t ≤ 2 ^ 62 → AreLifetimes class
+        → (r.role_of (number_of port) ≢ Trusted → r.addresses.vlan_of (number_of port) ≡ Some vlan)
+        → AreMarks r base (judged r base vlan port t past class).marks
+        × (newest_moment base (judged r base vlan port t past class).marks ≤ t)
+        × HasFront t past (judged r base vlan port t past class).marks }
+{}
+
+/// No port has more than 16 open requests, and no two open requests of a VLAN have the same transaction id and DUID.
+pub fn requests_stay_within_limits()
+    ensures { (r : AccessRules) (base : AccessBase) (vlan t : ℕ) (past : List Mark)
+        → IsAccessBase r base → AreMarks r base past → newest_moment base past ≤ t
+        → IsWithinLimits (open_requests base vlan past t) }
+{}
+
+/// At a trusted port each frame passes that no rule on its Ethernet header stops.
+pub fn trusted_ports_are_not_validated()
+    ensures { (r : AccessRules) (base : AccessBase) (vlan : ℕ) (port : Port) (t : ℕ) (past : List Mark) (class : Class)
+        → r.role_of (number_of port) ≡ Trusted → guard_of (r.role_of (number_of port)) r.drop_unknown class ≡ None
+        → IsPass (Some (judged r base vlan port t past class).verdict) }
+{}
+
+/// Where sources aren't validated the rules on messages alone decide, and nothing is told.
+pub fn without_validation_the_guard_decides()
+    ensures { (r : AccessRules) (base : AccessBase) (vlan : ℕ) (port : Port) (t : ℕ) (past : List Mark) (class : Class)
+        → r.validates ≡ false
+        → judged r base vlan port t past class
+        ≡ judged_without past (guard_of (r.role_of (number_of port)) r.drop_unknown class) }
+{}
