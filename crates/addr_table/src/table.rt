@@ -30,8 +30,9 @@ use timer_wheel::TimerWheel;
 
 /// The states of all addresses, and for each address the moment at which something is due first in its state.
 ///
-/// A new state comes only where its port has room, and each address is held at one of 16 ports. So there is always a place
-/// for it, and no call but `make` takes memory or can refuse.
+/// Each address that has a state is held at one port at least, of 16, and none holds more addresses than it may; a new state
+/// comes only where its port has room for one more. So there is always a place for it, and no call but `make` takes memory
+/// or can refuse.
 #[derive(Drop)]
 pub struct AddrTable {
     table: BindTable,
@@ -145,11 +146,10 @@ impl AddrTable {
         self.wheel.is_due(t)
     }
 
-    /// The first of the probes that fall due by `t` (ms), by moment and then by address; what is due before it has come to
-    /// pass. None once nothing is due by `t`: then all states are aged to `t`. Each state that is passed costs what
-    /// `TimerWheel::next_due` does and one look-up, one change and one arming; at most six things fall due in a state
-    /// that no event touches.
-    pub fn next_probe(&mut self, t: Moment) -> Option<SentProbe>
+    // The first of the probes that fall due by `t` (ms), by moment and then by address; what is due before it has come to
+    // pass. None once nothing is due by `t`: then all states are aged to `t`. Between two calls the rows are half aged, so
+    // it serves `age_to` alone.
+    pub(crate) fn next_probe(&mut self, t: Moment) -> Option<SentProbe>
         requires { t ≤ 2 ^ 62 }
         ensures given { Gives t self.old self.new result }
         ensures sound { StaySound self.old.rows self.new.rows }
@@ -167,9 +167,9 @@ impl AddrTable {
     }
 
     /// An event at moment `t` (ms) on an address of a prefix of method `m`, where all states have been aged to `t`. The room
-    /// of its port is what the port has before the event. An event that leaves the state as it was costs one look-up; else
-    /// one look-up, one change of a row and one arming, which is O(1) on average for an address that has a state and keeps
-    /// one, and O(n) of `BindTable::put` and `remove` where a row comes or goes.
+    /// of its port is what the port has before the event. An event that leaves the state as it was costs one look-up, O(1) on
+    /// average; one that changes the state also one change of a row and one arming: O(1) on average where the address has a
+    /// state before and after, and O(n) of `BindTable::put` and `remove` where a row comes or goes.
     pub fn event(&mut self, a: Addr, m: Method, ev: Ev, t: Moment) -> Answer
         requires moment { t ≤ 2 ^ 62 }
         requires sound { IsSoundFor m (state_in self.old.rows a.0) }
