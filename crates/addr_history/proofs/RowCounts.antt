@@ -1,4 +1,4 @@
--- How many addresses have a state: each is held at one of 16 ports.
+-- How many addresses have a state: each is held at one port at least, of 16.
 use Rattle.std.proofs.Common.{◌≡◌, ℕ, ◌+◌, ◌*◌, ◌≤◌, zero, suc, true, List, [], ◌∷◌, length, refl, subst, inl, inr, arith}
 use Rattle.std.proofs.lemmas.Bool.{cases_eq}
 use Rattle.savi_kinds.specs.declared.port.Port.{Port}

@@ -24,7 +24,7 @@ ghost use Rattle.addr_history.specs.Marks.{Named, names, marks_on, last_moment, 
 ghost use Rattle.addr_history.specs.States.{state_of, state_at, answer_at, IsLiveAfter};
 ghost use Rattle.addr_history.specs.Tables.{rows_at, held_at};
 ghost use Rattle.addr_history.specs.Probes.{probes_between, HasChanged, IsAmong, AreInOrder};
-ghost use Rattle.addr_history.specs.Legal.{base_at, IsAddrBase, Stands, IsPast};
+ghost use Rattle.addr_history.specs.Legal.{base_at, IsAddrBase, MayFollow, IsPast};
 ghost use Rattle.addr_history.specs.FirstCome.{IsKeptOn};
 
 /// A table has each state once and in one order: two tables that give each address the same state are one.
@@ -133,7 +133,7 @@ pub fn a_port_holds_addresses_of_its_vlan()
         → r.vlan_of port ≡ Some vlan → count_by (λ v. v == vlan) vlans ≡ 1
         → sum_by (λ v. count_at port (rows_at r base past t v)) vlans ≡ held_at r base past t port }
     ensures room { (r : AddrRules) (base : AddrBase) (past : List Named) (named : Named) (p : Port)
-        → Stands r base past named → port_of named.event ≡ Some p
+        → MayFollow r base past named → port_of named.event ≡ Some p
         → named.room ≡ nat_lt (held_at r base past named.moment (number_of p)) r.per_port }
 {}
 

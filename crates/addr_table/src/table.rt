@@ -11,10 +11,10 @@ ghost use Rattle.bind_table.specs.Rows.{state_in, with_state, count_at, pair_of}
 ghost use Rattle.addr_table.specs.Ages.{aged_rows, AllStill};
 ghost use Rattle.addr_table.specs.Sends.{sends};
 ghost use Rattle.addr_table.specs.Rooms.{has_room, room_for, IsFixable};
-ghost use Rattle.addr_table.specs.Outcomes.{outcome_of};
+ghost use Rattle.addr_table.specs.Outcomes.{outcome_in};
 ghost use Rattle.addr_table.specs.Gives.{Gives};
-ghost use Rattle.addr_table.specs.Keeps.{IsKept, AreSound, StaySound};
-ghost use Rattle.addr_table.specs.Passes.{Turns};
+ghost use Rattle.addr_table.specs.Keeps.{IsWithinRules, AreSound, StaySound};
+ghost use Rattle.addr_table.specs.OneTurn.{Turns};
 
 use crate::passed::Passed;
 use crate::room::event_port;
@@ -43,14 +43,14 @@ pub struct AddrTable {
 
 impl Model for AddrTable {
     ghost use Rattle.addr_table.specs.Addresses.{Addresses};
-    ghost use Rattle.addr_table.specs.Keeps.{IsKept};
+    ghost use Rattle.addr_table.specs.Keeps.{IsWithinRules};
     ghost use Rattle.addr_table.specs.Armed.{IsArmed};
 
     ghost Value = { Addresses };
 
     ghost view = { λ a. record { rows = a.table.rows; times = a.times; per_port = a.per_port } };
 
-    ghost invariant = { λ a. IsKept a.times a.per_port a.table.rows × IsArmed a.times a.per_port a.table a.wheel };
+    ghost invariant = { λ a. IsWithinRules a.times a.per_port a.table.rows × IsArmed a.times a.per_port a.table a.wheel };
 }
 
 impl AddrTable {
@@ -128,7 +128,7 @@ impl AddrTable {
     /// one. O(1).
     pub fn row(&self, i: u32) -> Option<(Addr, AddrState)>
         ensures row { result ≡ option_map pair_of (slice_get self.now.rows i) }
-        ensures kept { IsKept self.now.times self.now.per_port self.now.rows }
+        ensures kept { IsWithinRules self.now.times self.now.per_port self.now.rows }
     {
         self.table.row(i)
     }
@@ -175,8 +175,8 @@ impl AddrTable {
         requires sound { IsSoundFor m (state_in self.old.rows a.0) }
         requires still { AllStill self.old.times t self.old.rows }
         requires fixable { IsFixable self.old.per_port self.old.rows a.0 ev }
-        ensures answer { result ≡ (outcome_of m t self.old a.0 ev).0 }
-        ensures rows { self.new ≡ record self.old { rows = with_state a.0 (outcome_of m t self.old a.0 ev).1 self.old.rows } }
+        ensures answer { result ≡ (outcome_in m t self.old a.0 ev).0 }
+        ensures rows { self.new ≡ record self.old { rows = with_state a.0 (outcome_in m t self.old a.0 ev).1 self.old.rows } }
         ensures still { AllStill self.old.times t self.new.rows }
         ensures sound { (method_of : ℕ → Option Method) → method_of a.0 ≡ Some m → AreSound method_of self.old.rows → AreSound method_of self.new.rows }
     {
