@@ -9,7 +9,13 @@ use Rattle.bind_table.specs.declared.row.Row.{Row}
 use Rattle.bind_table.specs.Rows.{count_at, AllStand}
 use Rattle.bind_table.specs.Counts.{held_once}
 use Rattle.addr_table.specs.Keeps.{IsWithinPorts}
-use Rattle.addr_history.proofs.Holding.{told-held, count-first}
+use Rattle.addr_history.specs.Bases.{AddrRules, AddrBase}
+use Rattle.addr_history.specs.Marks.{Named, last_moment}
+use Rattle.addr_history.specs.Tables.{rows_at}
+use Rattle.addr_history.specs.Legal.{IsAddrBase, IsPast}
+use Rattle.addr_history.proofs.TablesOf.{table_at}
+use Rattle.addr_history.proofs.StatesKept.{base_times, base_tables, base_within}
+use Rattle.addr_history.proofs.Holding.{told-held, count-first, within_at}
 
 -- what the first n ports hold together
 total : ℕ → List Row → ℕ
@@ -51,7 +57,7 @@ total-within per_port (suc n) rows few within =
     let times : suc n * per_port ≡ per_port + n * per_port = grind arith in
     omega (arith, one, rest, times)
 
-pub rows_within : (per_port : ℕ) (rows : List Row) → AllStand rows → IsWithinPorts per_port rows → length rows ≤ 16 * per_port
+rows_within : (per_port : ℕ) (rows : List Row) → AllStand rows → IsWithinPorts per_port rows → length rows ≤ 16 * per_port
 rows_within per_port rows stand within = by_number 16 refl
   where
     by_number : (n : ℕ) → n ≡ 16 → length rows ≤ 16 * per_port
@@ -59,3 +65,9 @@ rows_within per_port rows stand within = by_number 16 refl
         let some : length rows ≤ total n rows = rows-total n rows (omega (arith, is)) stand in
         let most : total n rows ≤ n * per_port = total-within per_port n rows (omega (arith, is)) within in
         subst (λ m. length rows ≤ m * per_port) is (omega (arith, some, most))
+
+-- the same of the states at a moment
+pub few_rows : (r : AddrRules) (base : AddrBase) (past : List Named) (t vlan : ℕ) → IsAddrBase r base → IsPast r base past → last_moment base past ≤ t → length (rows_at r base past t vlan) ≤ 16 * r.per_port
+few_rows r base past t vlan is right after =
+    rows_within r.per_port (rows_at r base past t vlan) (table_at r base (base_tables r base is) past t vlan).stand
+    (within_at r base (base_times r base is) (base_tables r base is) (base_within r base is) past t vlan right after)

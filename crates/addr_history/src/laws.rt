@@ -1,6 +1,6 @@
 // What the states of all addresses come to. Each function does nothing: its contract is the law.
 
-ghost use Rattle.std.specs.Prelude.{◌≡◌, ℕ, ◌*◌, ◌==◌, ◌<◌, ◌≤◌, ◌^◌, ◌↔◌, ◌≢◌, nat_lt, true, false, Some, length, List, ◌∷◌, ◌++◌, count_by};
+ghost use Rattle.std.specs.Prelude.{◌≡◌, ℕ, ◌+◌, ◌*◌, ◌==◌, ◌<◌, ◌≤◌, ◌^◌, ◌↔◌, ◌≢◌, nat_lt, true, false, Some, length, List, ◌∷◌, ◌++◌, count_by};
 ghost use Rattle.std.specs.List.{sum_by};
 ghost use Rattle.savi_kinds.specs.Ports.{number_of};
 ghost use Rattle.savi_kinds.specs.declared.port.Port.{Port};
@@ -8,6 +8,7 @@ ghost use Rattle.savi_kinds.specs.declared.plan.Method.{Method};
 ghost use Rattle.fcfs_states.specs.declared.event.Ev.TheVariants.{Sent};
 ghost use Rattle.fcfs_states.specs.Premises.{AreTimes};
 ghost use Rattle.fcfs_states.specs.States.{Same};
+ghost use Rattle.mix_rules.specs.declared.state.AddrState.{AddrState};
 ghost use Rattle.mix_rules.specs.States.{IsSoundFor, is_held_at};
 ghost use Rattle.mix_rules.specs.Holders.{MakesHolder};
 ghost use Rattle.mix_rules.specs.Next.{next_state, IsPassing};
@@ -19,6 +20,7 @@ ghost use Rattle.addr_table.specs.Ages.{aged_rows};
 ghost use Rattle.addr_table.specs.declared.sent.SentProbe.{SentProbe};
 ghost use Rattle.addr_table.specs.Sends.{sends};
 ghost use Rattle.addr_table.specs.Rooms.{port_of};
+ghost use Rattle.addr_table.specs.Turns.{turns_of, turns_left};
 ghost use Rattle.addr_history.specs.Bases.{AddrRules, AddrBase, AreTables, no_states};
 ghost use Rattle.addr_history.specs.Marks.{Named, names, marks_on, last_moment, AreInTurn};
 ghost use Rattle.addr_history.specs.States.{state_of, state_at, answer_at, IsLiveAfter};
@@ -210,4 +212,21 @@ pub fn few_probes_at_once()
     ensures all { (r : AddrRules) (base : AddrBase) (past : List Named) (from t vlan : ℕ)
         → IsAddrBase r base → IsPast r base past → last_moment base past ≤ from → from ≤ t
         → length (probes_between r base past from t vlan) ≤ 48 * r.per_port }
+{}
+
+/// What may still fall due falls: each probe takes one off it, and so does each change of a state. An address has at most six
+/// such things to come, so no VLAN has more than 96 times what a port may hold.
+pub fn what_may_fall_due_falls()
+    ensures probes { (r : AddrRules) (base : AddrBase) (past : List Named) (t u vlan : ℕ)
+        → AreTimes r.times → AreTables base → t ≤ u
+        → turns_left (rows_at r base past u vlan) + length (probes_between r base past t u vlan)
+        ≤ turns_left (rows_at r base past t vlan) }
+    ensures changes { (r : AddrRules) (base : AddrBase) (past : List Named) (t u vlan : ℕ)
+        → AreTimes r.times → AreTables base → t ≤ u
+        → HasChanged r base past t u vlan
+        → turns_left (rows_at r base past u vlan) < turns_left (rows_at r base past t vlan) }
+    ensures each { (state : AddrState) → turns_of state ≤ 6 }
+    ensures most { (r : AddrRules) (base : AddrBase) (past : List Named) (t vlan : ℕ)
+        → IsAddrBase r base → IsPast r base past → last_moment base past ≤ t
+        → turns_left (rows_at r base past t vlan) ≤ 96 * r.per_port }
 {}

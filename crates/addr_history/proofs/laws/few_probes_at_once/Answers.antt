@@ -1,23 +1,13 @@
-use Rattle.std.proofs.Common.{◌≡◌, ℕ, ◌*◌, ◌≤◌, List, length, ◌∙◌, ap, arith}
+use Rattle.std.proofs.Common.{◌≡◌, length, ◌∙◌, ap, arith}
 use Rattle.addr_table.specs.Sends.{all_sends}
-use Rattle.addr_history.specs.Bases.{AddrRules, AddrBase}
-use Rattle.addr_history.specs.Marks.{Named, last_moment}
 use Rattle.addr_history.specs.States.{state_of}
 use Rattle.addr_history.specs.Tables.{rows_after, rows_at}
 use Rattle.addr_history.specs.Probes.{probes_between}
-use Rattle.addr_history.specs.Legal.{IsAddrBase, IsPast}
-use Rattle.addr_history.proofs.TablesOf.{table_at}
-use Rattle.addr_history.proofs.StatesKept.{base_times, base_tables, base_within}
-use Rattle.addr_history.proofs.Holding.{within_at}
+use Rattle.addr_history.proofs.StatesKept.{base_times}
 use Rattle.addr_history.proofs.Orders.{order-length}
 use Rattle.addr_history.proofs.AllSends.{few_each, few_sends, sends-late}
-use Rattle.addr_history.proofs.RowCounts.{rows_within}
+use Rattle.addr_history.proofs.RowCounts.{few_rows}
 use Rattle.addr_history.proofs.laws.few_probes_at_once.Goals as goal
-
-few_rows : (r : AddrRules) (base : AddrBase) (past : List Named) (t vlan : ℕ) → IsAddrBase r base → IsPast r base past → last_moment base past ≤ t → length (rows_at r base past t vlan) ≤ 16 * r.per_port
-few_rows r base past t vlan is right after =
-    rows_within r.per_port (rows_at r base past t vlan) (table_at r base (base_tables r base is) past t vlan).stand
-    (within_at r base (base_times r base is) (base_tables r base is) (base_within r base is) past t vlan right after)
 
 pub returns : goal.returns
 returns c = record {
