@@ -121,7 +121,7 @@ once-more : (m counts more : ℕ) → more ≡ 1 + counts → more * m ≡ m + c
 once-more m counts more is = rw is (grind arith)
 
 -- a sum in which one term alone isn't 0
-sum-own : (f : ℕ → ℕ) (own : ℕ) → ((n : ℕ) → n ≢ own → f n ≡ 0) → (ns : List ℕ) → sum_by f ns ≡ count_by (λ n. n == own) ns * f own
+pub sum-own : (f : ℕ → ℕ) (own : ℕ) → ((n : ℕ) → n ≢ own → f n ≡ 0) → (ns : List ℕ) → sum_by f ns ≡ count_by (λ n. n == own) ns * f own
 sum-own f own others [] = omega arith
 sum-own f own others (n ∷ ns) =
     let first : sum_by f (n ∷ ns) ≡ f n + sum_by f ns = sum_by-cons f n ns in

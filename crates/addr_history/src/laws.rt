@@ -24,7 +24,7 @@ ghost use Rattle.addr_table.specs.Turns.{turns_of, turns_left};
 ghost use Rattle.addr_history.specs.Bases.{AddrRules, AddrBase, AreTables, no_states};
 ghost use Rattle.addr_history.specs.Marks.{Named, names, marks_on, last_moment, AreInTurn};
 ghost use Rattle.addr_history.specs.States.{state_of, state_at, answer_at, IsLiveAfter};
-ghost use Rattle.addr_history.specs.Tables.{rows_at, held_at};
+ghost use Rattle.addr_history.specs.Tables.{rows_at, held_at, AreDifferent};
 ghost use Rattle.addr_history.specs.Probes.{probes_between, HasChanged, IsAmong, AreInOrder};
 ghost use Rattle.addr_history.specs.Legal.{base_at, IsAddrBase, MayFollow, IsPast};
 ghost use Rattle.addr_history.specs.FirstCome.{IsKeptOn};
@@ -202,7 +202,7 @@ pub fn probes_are_all_in_order()
 {}
 
 /// No address sends more than three probes in one ageing, and there are at most as many addresses with a state as 16 ports
-/// may hold. So no VLAN sends more than 48 times what a port may hold at once.
+/// may hold: in each VLAN, and over all VLANs too. So no ageing sends more than 48 times what a port may hold at once.
 pub fn few_probes_at_once()
     ensures each { (r : AddrRules) (base : AddrBase) (past : List Named) (t vlan a : ℕ)
         → AreTimes r.times → length (aged_state r.times t (state_of r base past vlan a)).probes ≤ 3 }
@@ -212,6 +212,12 @@ pub fn few_probes_at_once()
     ensures all { (r : AddrRules) (base : AddrBase) (past : List Named) (from t vlan : ℕ)
         → IsAddrBase r base → IsPast r base past → last_moment base past ≤ from → from ≤ t
         → length (probes_between r base past from t vlan) ≤ 48 * r.per_port }
+    ensures addresses_everywhere { (r : AddrRules) (base : AddrBase) (past : List Named) (t : ℕ) (vlans : List ℕ)
+        → IsAddrBase r base → IsPast r base past → last_moment base past ≤ t → AreDifferent vlans
+        → sum_by (λ vlan. length (rows_at r base past t vlan)) vlans ≤ 16 * r.per_port }
+    ensures everywhere { (r : AddrRules) (base : AddrBase) (past : List Named) (from t : ℕ) (vlans : List ℕ)
+        → IsAddrBase r base → IsPast r base past → last_moment base past ≤ from → from ≤ t → AreDifferent vlans
+        → sum_by (λ vlan. length (probes_between r base past from t vlan)) vlans ≤ 48 * r.per_port }
 {}
 
 /// What may still fall due falls: each probe takes one off it, and so does each change of a state. An address has at most six
