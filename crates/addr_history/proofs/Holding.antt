@@ -27,7 +27,7 @@ use Rattle.addr_history.specs.Bases.{AddrRules, AddrBase, AreTables}
 use Rattle.addr_history.specs.Marks.{Named, mark_of, last_moment}
 use Rattle.addr_history.specs.States.{outcome_by}
 use Rattle.addr_history.specs.Tables.{rows_after, rows_at, held_in, held_at}
-use Rattle.addr_history.specs.Legal.{Stands, IsPast}
+use Rattle.addr_history.specs.Legal.{MayFollow, IsPast}
 use Rattle.addr_history.proofs.Aged.{gone}
 use Rattle.addr_history.proofs.TablesOf.{table_at, rows-later, at_mark_by, at_mark, at_other}
 
@@ -180,7 +180,7 @@ module _ (r : AddrRules) (base : AddrBase) (times : AreTimes r.times) (tables : 
 
 module _ (r : AddrRules) (base : AddrBase) (times : AreTimes r.times) (tables : AreTables base) (within : (vlan : ℕ) → IsWithinPorts r.per_port (base.rows vlan)) where
   -- a mark keeps it, at its moment
-  mark-within : (named : Named) (past : List Named) → Stands r base past named → IsWithinPorts r.per_port (rows_at r base past named.moment named.vlan) → IsWithinPorts r.per_port (rows_at r base (named ∷ past) named.moment named.vlan)
+  mark-within : (named : Named) (past : List Named) → MayFollow r base past named → IsWithinPorts r.per_port (rows_at r base past named.moment named.vlan) → IsWithinPorts r.per_port (rows_at r base (named ∷ past) named.moment named.vlan)
   mark-within named past right before = by_method (r.method_of named.vlan named.address) refl
     where
       by_method : (method : Option Method) → r.method_of named.vlan named.address ≡ method → IsWithinPorts r.per_port (rows_at r base (named ∷ past) named.moment named.vlan)

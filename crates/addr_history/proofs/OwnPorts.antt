@@ -29,7 +29,7 @@ use Rattle.addr_history.specs.Bases.{AddrRules, AddrBase, AreTables}
 use Rattle.addr_history.specs.Marks.{Named, mark_of, names}
 use Rattle.addr_history.specs.States.{outcome_by, state_of, state_at}
 use Rattle.addr_history.specs.Tables.{rows_at, held_in, held_at}
-use Rattle.addr_history.specs.Legal.{IsOfVlan, AreAtOwnPorts, Stands, IsPast}
+use Rattle.addr_history.specs.Legal.{IsOfVlan, AreAtOwnPorts, MayFollow, IsPast}
 use Rattle.addr_history.proofs.Rows.{head_state}
 use Rattle.addr_history.proofs.MarksOn.{state_of-own, state_of-other}
 use Rattle.addr_history.proofs.TablesOf.{table_at, states_at}
@@ -121,7 +121,7 @@ once-more : (m counts more : ℕ) → more ≡ 1 + counts → more * m ≡ m + c
 once-more m counts more is = rw is (grind arith)
 
 -- a sum in which one term alone isn't 0
-sum-own : (f : ℕ → ℕ) (own : ℕ) → ((n : ℕ) → n ≢ own → f n ≡ 0) → (ns : List ℕ) → sum_by f ns ≡ count_by (λ n. n == own) ns * f own
+pub sum-own : (f : ℕ → ℕ) (own : ℕ) → ((n : ℕ) → n ≢ own → f n ≡ 0) → (ns : List ℕ) → sum_by f ns ≡ count_by (λ n. n == own) ns * f own
 sum-own f own others [] = omega arith
 sum-own f own others (n ∷ ns) =
     let first : sum_by f (n ∷ ns) ≡ f n + sum_by f ns = sum_by-cons f n ns in
@@ -190,7 +190,7 @@ module _ (r : AddrRules) (base : AddrBase) (times : AreTimes r.times) (ports : (
         some-same a b same = search rules
 
 -- the room of a mark is that of its port
-pub own_room : (r : AddrRules) (base : AddrBase) (past : List Named) (named : Named) (p : Port) → Stands r base past named → port_of named.event ≡ Some p → named.room ≡ nat_lt (held_at r base past named.moment (number_of p)) r.per_port
+pub own_room : (r : AddrRules) (base : AddrBase) (past : List Named) (named : Named) (p : Port) → MayFollow r base past named → port_of named.event ≡ Some p → named.room ≡ nat_lt (held_at r base past named.moment (number_of p)) r.per_port
 own_room r base past named p right is =
     let t : ℕ = named.moment in
     let own : r.vlan_of (number_of p) ≡ Some named.vlan = subst (IsOfVlan r named.vlan) is right.port in

@@ -9,7 +9,7 @@ use Rattle.mix_rules.specs.Premises.{IsLeaseInRange}
 use Rattle.bind_table.specs.declared.row.Row.{Row}
 use Rattle.bind_table.specs.Rows.{state_in}
 use Rattle.addr_table.specs.Ages.{AllStill}
-use Rattle.addr_table.specs.Keeps.{AreSound, IsKept}
+use Rattle.addr_table.specs.Keeps.{AreSound, IsWithinRules}
 use Rattle.addr_table.specs.Rooms.{port_of, room_for, IsFixable}
 use Rattle.addr_history.specs.Bases.{AddrRules, AddrBase}
 use Rattle.addr_history.specs.Marks.{Named, last_moment}
@@ -41,7 +41,7 @@ IsOfVlan r vlan (Some p) = r.vlan_of (number_of p) ≡ Some vlan
 -- state is sound for its method; nothing is due.
 pub record IsAddrBase (r : AddrRules) (base : AddrBase) : Type 0 where
   pub early : base.moment ≤ 2 ^ 62
-  pub kept : (vlan : ℕ) → IsKept r.times r.per_port (base.rows vlan)
+  pub kept : (vlan : ℕ) → IsWithinRules r.times r.per_port (base.rows vlan)
   pub ports : (vlan : ℕ) → AreAtOwnPorts r vlan (base.rows vlan)
   pub sound : (vlan : ℕ) → AreSound (r.method_of vlan) (base.rows vlan)
   pub still : (vlan : ℕ) → AllStill r.times base.moment (base.rows vlan)
@@ -49,7 +49,7 @@ pub record IsAddrBase (r : AddrRules) (base : AddrBase) : Type 0 where
 
 -- A mark that may come after these. Its port is of its VLAN. Its room is that of its port before it, other marks of the
 -- same moment among them: since the port holds addresses of its own VLAN alone, the rows of that VLAN say it.
-pub record Stands (r : AddrRules) (base : AddrBase) (past : List Named) (named : Named) : Type 0 where
+pub record MayFollow (r : AddrRules) (base : AddrBase) (past : List Named) (named : Named) : Type 0 where
   pub order : last_moment base past ≤ named.moment
   pub early : named.moment ≤ 2 ^ 62
   pub on_link : IsSome (r.method_of named.vlan named.address)
@@ -61,7 +61,7 @@ pub record Stands (r : AddrRules) (base : AddrBase) (past : List Named) (named :
 -- each mark stands after those before it
 abbrev pub IsPast : AddrRules → AddrBase → List Named → Type 0
 IsPast r base [] = Unit {0}
-IsPast r base (named ∷ past) = Stands r base past named × IsPast r base past
+IsPast r base (named ∷ past) = MayFollow r base past named × IsPast r base past
 
 -- the states at t, as what goes on from there has them for a base
 abbrev pub base_at : AddrRules → AddrBase → List Named → ℕ → AddrBase

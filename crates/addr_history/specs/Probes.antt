@@ -8,8 +8,8 @@ use Rattle.addr_history.specs.Marks.{Named}
 use Rattle.addr_history.specs.States.{state_at}
 use Rattle.addr_history.specs.Tables.{rows_after}
 
--- the probes that ageing to t sends for the addresses of a VLAN, of those the ones that are due after `from`: in order of
--- the moment at which each is due, and then of address
+-- the probes that ageing to t sends for the addresses of this one VLAN, of those the ones that are due after `from`: in
+-- order of the moment at which each is due, and then of address. Those of several VLANs go by moment, VLAN and address.
 abbrev pub probes_between : AddrRules → AddrBase → List Named → ℕ → ℕ → ℕ → List SentProbe
 probes_between r base past from t vlan = sends_after r.times from t (rows_after r base past vlan)
 

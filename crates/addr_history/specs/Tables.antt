@@ -1,5 +1,5 @@
 -- The states of all addresses of a VLAN at once, as a table: a row for each address that has a state.
-use Rattle.std.specs.Prelude.{ℕ, ◌==◌, Option, Some, None, if◌then◌else◌, List, [], ◌∷◌}
+use Rattle.std.specs.Prelude.{ℕ, ◌≤◌, ◌==◌, Option, Some, None, if◌then◌else◌, List, [], ◌∷◌, count_by}
 use Rattle.bind_table.specs.declared.row.Row.{Row}
 use Rattle.bind_table.specs.Rows.{state_in, with_state, count_at}
 use Rattle.addr_table.specs.Ages.{aged_rows}
@@ -29,3 +29,7 @@ held_in r base past t port (Some vlan) = count_at port (rows_at r base past t vl
 -- how many addresses it holds in all: they are of its own VLAN, since it holds none of another one
 abbrev pub held_at : AddrRules → AddrBase → List Named → ℕ → ℕ → ℕ
 held_at r base past t port = held_in r base past t port (r.vlan_of port)
+
+-- none of these numbers stands there twice
+abbrev pub AreDifferent : List ℕ → Type 0
+AreDifferent numbers = (n : ℕ) → count_by (λ m. m == n) numbers ≤ 1

@@ -1,6 +1,6 @@
 // What the states of all addresses come to. Each function does nothing: its contract is the law.
 
-ghost use Rattle.std.specs.Prelude.{◌≡◌, ℕ, ◌*◌, ◌==◌, ◌<◌, ◌≤◌, ◌^◌, ◌↔◌, ◌≢◌, nat_lt, true, false, Some, length, List, ◌∷◌, ◌++◌, count_by};
+ghost use Rattle.std.specs.Prelude.{◌≡◌, ℕ, ◌+◌, ◌*◌, ◌==◌, ◌<◌, ◌≤◌, ◌^◌, ◌↔◌, ◌≢◌, nat_lt, true, false, Some, length, List, ◌∷◌, ◌++◌, count_by};
 ghost use Rattle.std.specs.List.{sum_by};
 ghost use Rattle.savi_kinds.specs.Ports.{number_of};
 ghost use Rattle.savi_kinds.specs.declared.port.Port.{Port};
@@ -8,6 +8,7 @@ ghost use Rattle.savi_kinds.specs.declared.plan.Method.{Method};
 ghost use Rattle.fcfs_states.specs.declared.event.Ev.TheVariants.{Sent};
 ghost use Rattle.fcfs_states.specs.Premises.{AreTimes};
 ghost use Rattle.fcfs_states.specs.States.{Same};
+ghost use Rattle.mix_rules.specs.declared.state.AddrState.{AddrState};
 ghost use Rattle.mix_rules.specs.States.{IsSoundFor, is_held_at};
 ghost use Rattle.mix_rules.specs.Holders.{MakesHolder};
 ghost use Rattle.mix_rules.specs.Next.{next_state, IsPassing};
@@ -19,12 +20,13 @@ ghost use Rattle.addr_table.specs.Ages.{aged_rows};
 ghost use Rattle.addr_table.specs.declared.sent.SentProbe.{SentProbe};
 ghost use Rattle.addr_table.specs.Sends.{sends};
 ghost use Rattle.addr_table.specs.Rooms.{port_of};
+ghost use Rattle.addr_table.specs.Turns.{turns_of, turns_left};
 ghost use Rattle.addr_history.specs.Bases.{AddrRules, AddrBase, AreTables, no_states};
 ghost use Rattle.addr_history.specs.Marks.{Named, names, marks_on, last_moment, AreInTurn};
 ghost use Rattle.addr_history.specs.States.{state_of, state_at, answer_at, IsLiveAfter};
-ghost use Rattle.addr_history.specs.Tables.{rows_at, held_at};
+ghost use Rattle.addr_history.specs.Tables.{rows_at, held_at, AreDifferent};
 ghost use Rattle.addr_history.specs.Probes.{probes_between, HasChanged, IsAmong, AreInOrder};
-ghost use Rattle.addr_history.specs.Legal.{base_at, IsAddrBase, Stands, IsPast};
+ghost use Rattle.addr_history.specs.Legal.{base_at, IsAddrBase, MayFollow, IsPast};
 ghost use Rattle.addr_history.specs.FirstCome.{IsKeptOn};
 
 /// A table has each state once and in one order: two tables that give each address the same state are one.
@@ -133,7 +135,7 @@ pub fn a_port_holds_addresses_of_its_vlan()
         → r.vlan_of port ≡ Some vlan → count_by (λ v. v == vlan) vlans ≡ 1
         → sum_by (λ v. count_at port (rows_at r base past t v)) vlans ≡ held_at r base past t port }
     ensures room { (r : AddrRules) (base : AddrBase) (past : List Named) (named : Named) (p : Port)
-        → Stands r base past named → port_of named.event ≡ Some p
+        → MayFollow r base past named → port_of named.event ≡ Some p
         → named.room ≡ nat_lt (held_at r base past named.moment (number_of p)) r.per_port }
 {}
 
@@ -200,7 +202,7 @@ pub fn probes_are_all_in_order()
 {}
 
 /// No address sends more than three probes in one ageing, and there are at most as many addresses with a state as 16 ports
-/// may hold. So no VLAN sends more than 48 times what a port may hold at once.
+/// may hold: in each VLAN, and over all VLANs too. So no ageing sends more than 48 times what a port may hold at once.
 pub fn few_probes_at_once()
     ensures each { (r : AddrRules) (base : AddrBase) (past : List Named) (t vlan a : ℕ)
         → AreTimes r.times → length (aged_state r.times t (state_of r base past vlan a)).probes ≤ 3 }
@@ -210,4 +212,27 @@ pub fn few_probes_at_once()
     ensures all { (r : AddrRules) (base : AddrBase) (past : List Named) (from t vlan : ℕ)
         → IsAddrBase r base → IsPast r base past → last_moment base past ≤ from → from ≤ t
         → length (probes_between r base past from t vlan) ≤ 48 * r.per_port }
+    ensures addresses_everywhere { (r : AddrRules) (base : AddrBase) (past : List Named) (t : ℕ) (vlans : List ℕ)
+        → IsAddrBase r base → IsPast r base past → last_moment base past ≤ t → AreDifferent vlans
+        → sum_by (λ vlan. length (rows_at r base past t vlan)) vlans ≤ 16 * r.per_port }
+    ensures everywhere { (r : AddrRules) (base : AddrBase) (past : List Named) (from t : ℕ) (vlans : List ℕ)
+        → IsAddrBase r base → IsPast r base past → last_moment base past ≤ from → from ≤ t → AreDifferent vlans
+        → sum_by (λ vlan. length (probes_between r base past from t vlan)) vlans ≤ 48 * r.per_port }
+{}
+
+/// What may still fall due falls: each probe takes one off it, and so does each change of a state. An address has at most six
+/// such things to come, so no VLAN has more than 96 times what a port may hold.
+pub fn what_may_fall_due_falls()
+    ensures probes { (r : AddrRules) (base : AddrBase) (past : List Named) (t u vlan : ℕ)
+        → AreTimes r.times → AreTables base → t ≤ u
+        → turns_left (rows_at r base past u vlan) + length (probes_between r base past t u vlan)
+        ≤ turns_left (rows_at r base past t vlan) }
+    ensures changes { (r : AddrRules) (base : AddrBase) (past : List Named) (t u vlan : ℕ)
+        → AreTimes r.times → AreTables base → t ≤ u
+        → HasChanged r base past t u vlan
+        → turns_left (rows_at r base past u vlan) < turns_left (rows_at r base past t vlan) }
+    ensures each { (state : AddrState) → turns_of state ≤ 6 }
+    ensures most { (r : AddrRules) (base : AddrBase) (past : List Named) (t vlan : ℕ)
+        → IsAddrBase r base → IsPast r base past → last_moment base past ≤ t
+        → turns_left (rows_at r base past t vlan) ≤ 96 * r.per_port }
 {}

@@ -16,4 +16,5 @@ pub use laws::{
     an_address_sees_its_own_marks, few_probes_at_once, later_ageing_is_the_same,
     no_port_holds_too_many, probes_are_all_in_order, rows_are_the_states,
     states_are_read_from_any_moment, states_stay_a_base, there_is_one_table,
+    what_may_fall_due_falls,
 };

@@ -25,7 +25,7 @@ use Rattle.bind_table.proofs.Pointwise.{changed_at}
 use Rattle.bind_table.proofs.Held.{recounted}
 use Rattle.timer_wheel.specs.Arms.{due_in, with_due}
 use Rattle.addr_table.specs.Ages.{dues}
-use Rattle.addr_table.specs.Keeps.{IsWithinPorts, IsKept, IsSoundBy, AreSound}
+use Rattle.addr_table.specs.Keeps.{IsWithinPorts, IsWithinRules, IsSoundBy, AreSound}
 use Rattle.addr_table.specs.Rooms.{room_for, has_room, IsFixable}
 use Rattle.addr_table.proofs.Arms.{arms-with, length-others, dues-at}
 use Rattle.addr_table.proofs.States.{nobody-aged}
@@ -77,7 +77,7 @@ within_with per_port rows a state table within allowed p = by_test (is_held_at (
     by_test true is = by_holder (rw is refl) (allowed p (test-held state p is))
     by_test false is = let none : held_once (number_of p) state ≡ 0 = rw is refl in omega (arith, counted, none, within p)
 
-pub kept_with : (k : Times) (per_port : ℕ) (rows : List Row) (a : ℕ) (state : AddrState) → IsKept k per_port rows → AllMomentsFit state → IsAllowed per_port rows a state → IsKept k per_port (with_state a state rows)
+pub kept_with : (k : Times) (per_port : ℕ) (rows : List Row) (a : ℕ) (state : AddrState) → IsWithinRules k per_port rows → AllMomentsFit state → IsAllowed per_port rows a state → IsWithinRules k per_port (with_state a state rows)
 kept_with k per_port rows a state kept fits allowed =
     record {
       table = record { rising = rising_with a state rows kept.table.rising; stand = stand_with a state rows kept.table.stand };
@@ -116,7 +116,7 @@ event-allowed m k t per_port rows a event fixable p held = by_test (is_held_at (
         inr (made per_port rows a event p fixable free (next-held m k t (room_for per_port rows event) (state_in rows a) event p free held))
 
 -- there is a place for the row and the pair of an address that has a state, or may get one
-module _ (k : Times) (per_port : ℕ) (rows : List Row) (a : ℕ) (state : AddrState) (kept : IsKept k per_port rows) (kept_new : IsKept k per_port (with_state a state rows)) (some : (has_state (state_in rows a) ≡ true) ⊎ (has_state state ≡ true)) where
+module _ (k : Times) (per_port : ℕ) (rows : List Row) (a : ℕ) (state : AddrState) (kept : IsWithinRules k per_port rows) (kept_new : IsWithinRules k per_port (with_state a state rows)) (some : (has_state (state_in rows a) ≡ true) ⊎ (has_state state ≡ true)) where
   one_row : (s : AddrState) → has_state s ≡ true → length (rows_of a s) ≡ 1
   one_row s stands = rw stands refl
 

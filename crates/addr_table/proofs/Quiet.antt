@@ -12,7 +12,7 @@ use Rattle.timer_wheel.specs.Arms.{due_by}
 use Rattle.addr_table.specs.Ages.{aged_row, aged_rows, first_due}
 use Rattle.addr_table.specs.Sends.{sent_of, row_sends, all_sends, in_order}
 use Rattle.addr_table.specs.Turns.{turns_of}
-use Rattle.addr_table.specs.Passes.{IsQuiet}
+use Rattle.addr_table.specs.OneTurn.{IsQuiet}
 use Rattle.addr_table.proofs.States.{nobody-still, idle-still, untouched-by, turns_fall}
 use Rattle.addr_table.proofs.AgedRows.{state_in-aged}
 use Rattle.addr_table.proofs.Firsts.{IsFirst, first_is, all_late}

@@ -41,15 +41,15 @@ pub turns_left-append : (xs ys : List Row) → turns_left (xs ++ ys) ≡ turns_l
 turns_left-append [] ys = omega arith
 turns_left-append (x ∷ xs) ys = omega (arith, turns_left-append xs ys)
 
+pub turns_left-own : (a : ℕ) (state : AddrState) → turns_left (rows_of a state) ≡ turns_of state
+turns_left-own a state =
+    elim (cases_Bool (has_state state)) [
+      | inl stands ↦ rw stands (omega arith)
+      | inr gone ↦ rw gone (sym (ap turns_of (gone_is state gone)))
+    ]
+
 pub turns_left-with : (a : ℕ) (state : AddrState) (rows : List Row) → turns_left (with_state a state rows) ≡ turns_left (lower a rows) + (turns_of state + turns_left (higher a rows))
-turns_left-with a state rows = omega (arith, turns_left-append (lower a rows) (rows_of a state ++ higher a rows), turns_left-append (rows_of a state) (higher a rows), own)
-  where
-    own : turns_left (rows_of a state) ≡ turns_of state
-    own =
-        elim (cases_Bool (has_state state)) [
-          | inl stands ↦ rw stands (omega arith)
-          | inr gone ↦ rw gone (sym (ap turns_of (gone_is state gone)))
-        ]
+turns_left-with a state rows = omega (arith, turns_left-append (lower a rows) (rows_of a state ++ higher a rows), turns_left-append (rows_of a state) (higher a rows), turns_left-own a state)
 
 pub length-with : (a : ℕ) (state : AddrState) (rows : List Row) → length (with_state a state rows) ≡ length (lower a rows) + (length (rows_of a state) + length (higher a rows))
 length-with a state rows = omega (arith, length-append (lower a rows) (rows_of a state ++ higher a rows), length-append (rows_of a state) (higher a rows))

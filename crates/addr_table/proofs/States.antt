@@ -62,7 +62,7 @@ less_aged : (k : Times) (t : ℕ) (f : Fcfs) (due : ℕ) → due_of k f ≡ Some
 unfolding aged
 less_aged k t f due is by = less_by 4 k t f due is by
 
-ends_aged : (t : ℕ) (dhcp : Option Bound) → ends_left (end_of (bound_at t dhcp)) ≤ ends_left (end_of dhcp)
+pub ends_aged : (t : ℕ) (dhcp : Option Bound) → ends_left (end_of (bound_at t dhcp)) ≤ ends_left (end_of dhcp)
 ends_aged t None = omega arith
 ends_aged t (Some bound) = by_test (has_ended t bound.until) refl
   where

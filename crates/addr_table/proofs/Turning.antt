@@ -22,8 +22,8 @@ use Rattle.timer_wheel.specs.Arms.{Wheel, due_in, with_due, first_armed, due_by}
 use Rattle.addr_table.specs.Addresses.{Addresses}
 use Rattle.addr_table.specs.Ages.{dues, first_due, AllStill}
 use Rattle.addr_table.specs.Armed.{IsArmed}
-use Rattle.addr_table.specs.Keeps.{IsKept, IsSoundBy, AreSound, StaySound}
-use Rattle.addr_table.specs.Passes.{Passes, IsQuiet}
+use Rattle.addr_table.specs.Keeps.{IsWithinRules, IsSoundBy, AreSound, StaySound}
+use Rattle.addr_table.specs.OneTurn.{TurnsOnce, IsQuiet}
 use Rattle.addr_table.specs.Rooms.{room_for, IsFixable}
 use Rattle.addr_table.proofs.Arms.{due_again, arms-with}
 use Rattle.addr_table.proofs.Firsts.{IsFirst, first_is, first_by}
@@ -59,7 +59,7 @@ module _ (k : Times) (per_port : ℕ) (table table_new : Bindings) (wheel wheel_
   }
 
 -- a turn of what is due first by t
-module _ (k : Times) (per_port t : ℕ) (table : Bindings) (wheel : Wheel) (due : ℕ) (address : Addr) (kept : IsKept k per_port table.rows) (armed : IsArmed k per_port table wheel) (found : Some (due, address) ≡ due_by t (first_armed wheel.arms)) where
+module _ (k : Times) (per_port t : ℕ) (table : Bindings) (wheel : Wheel) (due : ℕ) (address : Addr) (kept : IsWithinRules k per_port table.rows) (armed : IsArmed k per_port table wheel) (found : Some (due, address) ≡ due_by t (first_armed wheel.arms)) where
   both : (first_due k table.rows ≡ Some (due, address)) × (due ≤ t)
   both = first_by t (first_due k table.rows) due address (ap (λ arms. due_by t (first_armed arms)) (sym armed.arms) ∙ sym found)
 
@@ -83,7 +83,7 @@ module _ (k : Times) (per_port t : ℕ) (table : Bindings) (wheel : Wheel) (due 
   turn_row = inl stands
 
   module _ (state : AddrState) (aged : state ≡ (aged_state k due (state_in table.rows address.0)).state) (fits : AllMomentsFit state) where
-    pub kept_turn : IsKept k per_port (with_state address.0 state table.rows)
+    pub kept_turn : IsWithinRules k per_port (with_state address.0 state table.rows)
     kept_turn = kept_with k per_port table.rows address.0 state kept fits (subst (IsAllowed per_port table.rows address.0) (sym aged) (aged-allowed k per_port table.rows address.0 due kept.times))
 
     pub turn_sound : StaySound table.rows (with_state address.0 state table.rows)
@@ -97,11 +97,11 @@ module _ (k : Times) (per_port t : ℕ) (table : Bindings) (wheel : Wheel) (due 
         inr (omega (arith, ap length arms, most, left))
 
     pub turn : (probe : Option Probe) → (aged_state k due (state_in table.rows address.0)).probes ≡ behind due probe [] → (rows : List Row) → rows ≡ with_state address.0 state table.rows
-        → Passes t (record { rows = table.rows; times = k; per_port = per_port }) (record { rows = rows; times = k; per_port = per_port }) (record { due = due; address = address; probe = probe })
+        → TurnsOnce t (record { rows = table.rows; times = k; per_port = per_port }) (record { rows = rows; times = k; per_port = per_port }) (record { due = due; address = address; probe = probe })
     turn probe probes rows is =
         let s : AddrState = state_in table.rows address.0 in
         let now : rows ≡ with_state address.0 (aged_state k due s).state table.rows = is ∙ ap (λ x. with_state address.0 x table.rows) aged in
-        subst (λ (rs : List Row). Passes t (record { rows = table.rows; times = k; per_port = per_port }) (record { rows = rs; times = k; per_port = per_port }) (record { due = due; address = address; probe = probe })) (sym now)
+        subst (λ (rs : List Row). TurnsOnce t (record { rows = table.rows; times = k; per_port = per_port }) (record { rows = rs; times = k; per_port = per_port }) (record { due = due; address = address; probe = probe })) (sym now)
         (record {
           sends = step_sends k kept.times t due table.rows both.1 address.0 kept.table first probe probes;
           rows = step_rows k kept.times t due table.rows both.1 address.0 kept.table first;
@@ -110,11 +110,11 @@ module _ (k : Times) (per_port t : ℕ) (table : Bindings) (wheel : Wheel) (due 
         })
 
 -- nothing is due by t
-pub no_turn : (k : Times) (per_port t : ℕ) (table : Bindings) (wheel : Wheel) → IsKept k per_port table.rows → IsArmed k per_port table wheel → None ≡ due_by t (first_armed wheel.arms) → IsQuiet t (record { rows = table.rows; times = k; per_port = per_port })
+pub no_turn : (k : Times) (per_port t : ℕ) (table : Bindings) (wheel : Wheel) → IsWithinRules k per_port table.rows → IsArmed k per_port table wheel → None ≡ due_by t (first_armed wheel.arms) → IsQuiet t (record { rows = table.rows; times = k; per_port = per_port })
 no_turn k per_port t table wheel kept armed none = quiet k kept.times t table.rows per_port kept.table (ap (λ arms. due_by t (first_armed arms)) (sym armed.arms) ∙ sym none)
 
 -- an event on an address
-module _ (m : Method) (k : Times) (per_port t : ℕ) (table : Bindings) (wheel : Wheel) (now : Addresses) (a : ℕ) (event : Ev) (room : Bool) (before : AddrState) (answer : Answer) (state : AddrState) (kept : IsKept k per_port table.rows) (view : view_of table.rows k per_port ≡ now) (room_is : room ≡ room_for now.per_port now.rows event) (before_is : before ≡ state_in table.rows a) (value : next_state m k t room before event ≡ (answer, state)) where
+module _ (m : Method) (k : Times) (per_port t : ℕ) (table : Bindings) (wheel : Wheel) (now : Addresses) (a : ℕ) (event : Ev) (room : Bool) (before : AddrState) (answer : Answer) (state : AddrState) (kept : IsWithinRules k per_port table.rows) (view : view_of table.rows k per_port ≡ now) (room_is : room ≡ room_for now.per_port now.rows event) (before_is : before ≡ state_in table.rows a) (value : next_state m k t room before event ≡ (answer, state)) where
   -- what it comes to, told of the table
   own_value : next_state m k t (room_for per_port table.rows event) (state_in table.rows a) event ≡ (answer, state)
   own_value =
@@ -122,7 +122,7 @@ module _ (m : Method) (k : Times) (per_port t : ℕ) (table : Bindings) (wheel :
       ap (λ r. next_state m k t r (state_in table.rows a) event) (sym own_room) ∙ ap (λ s. next_state m k t room s event) (sym before_is) ∙ value
 
   module _ (fixable : IsFixable now.per_port now.rows a event) (fits : AllMomentsFit state) where
-    pub kept_event : IsKept k per_port (with_state a state table.rows)
+    pub kept_event : IsWithinRules k per_port (with_state a state table.rows)
     kept_event =
         let P : Addresses → Type 0 = λ all. IsFixable all.per_port all.rows a event in
         let own_fixable : IsFixable per_port table.rows a event = subst P (sym view) fixable in

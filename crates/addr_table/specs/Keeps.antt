@@ -20,7 +20,7 @@ abbrev pub IsWithinPorts : ℕ → List Row → Type 0
 IsWithinPorts per_port rows = (port : Port) → count_at (number_of port) rows ≤ per_port
 
 -- what holds of the rows of a switch whose ports may hold so many addresses each, by these times
-pub record IsKept (k : Times) (per_port : ℕ) (rows : List Row) : Type 0 where
+pub record IsWithinRules (k : Times) (per_port : ℕ) (rows : List Row) : Type 0 where
   pub table : IsTable rows
   pub times : AreTimes k
   pub fit : AllFit rows

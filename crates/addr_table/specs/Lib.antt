@@ -6,5 +6,5 @@ pub mod Addresses
 pub mod Outcomes
 pub mod Gives
 pub mod Turns
-pub mod Passes
+pub mod OneTurn
 pub mod Armed

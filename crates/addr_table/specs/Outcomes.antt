@@ -8,5 +8,5 @@ use Rattle.addr_table.specs.Addresses.{Addresses}
 use Rattle.addr_table.specs.Rooms.{room_for}
 
 -- the answer to an event at t on an address of a prefix of this method, and the state of the address after it
-abbrev pub outcome_of : Method → ℕ → Addresses → ℕ → Ev → Outcome
-outcome_of m t all a event = next_state m all.times t (room_for all.per_port all.rows event) (state_in all.rows a) event
+abbrev pub outcome_in : Method → ℕ → Addresses → ℕ → Ev → Outcome
+outcome_in m t all a event = next_state m all.times t (room_for all.per_port all.rows event) (state_in all.rows a) event

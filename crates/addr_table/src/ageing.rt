@@ -20,16 +20,20 @@ pub trait ProbeSink {
         ensures { self.new ≡ after self.old sent };
 }
 
-/// Ages all states to `t` (ms). The sink takes the probes that fall due by then, by moment and then by address. It costs
-/// what the calls of `AddrTable::next_probe` cost.
-pub fn age_to<S: ProbeSink>(table: &mut AddrTable, t: Moment, sink: &mut S)
-    requires { t ≤ 2 ^ 62 }
-    ensures rows { table.new ≡ record table.old { rows = aged_rows table.old.times t table.old.rows } }
-    ensures sent { sink.new ≡ fold S.after sink.old (sends table.old.times t table.old.rows) }
-    ensures still { AllStill table.old.times t table.new.rows }
-    ensures sound { StaySound table.old.rows table.new.rows }
-{
-    while let Some(sent) = table.next_probe(t) {
-        sink.take(sent);
+impl AddrTable {
+    /// Ages all states to `t` (ms). The sink takes the probes that fall due by then, by moment and then by address; those of
+    /// other VLANs are in other tables. Each thing that falls due costs what `TimerWheel::next_due` does, one look-up and one
+    /// arming, O(1) on average, and O(n) of `BindTable::remove` where its row goes; at most six things fall due in a state
+    /// that no event touches.
+    pub fn age_to<S: ProbeSink>(&mut self, t: Moment, sink: &mut S)
+        requires { t ≤ 2 ^ 62 }
+        ensures rows { self.new ≡ record self.old { rows = aged_rows self.old.times t self.old.rows } }
+        ensures sent { sink.new ≡ fold S.after sink.old (sends self.old.times t self.old.rows) }
+        ensures still { AllStill self.old.times t self.new.rows }
+        ensures sound { StaySound self.old.rows self.new.rows }
+    {
+        while let Some(sent) = self.next_probe(t) {
+            sink.take(sent);
+        }
     }
 }

@@ -11,10 +11,10 @@ ghost use Rattle.bind_table.specs.Rows.{state_in, with_state, count_at, pair_of}
 ghost use Rattle.addr_table.specs.Ages.{aged_rows, AllStill};
 ghost use Rattle.addr_table.specs.Sends.{sends};
 ghost use Rattle.addr_table.specs.Rooms.{has_room, room_for, IsFixable};
-ghost use Rattle.addr_table.specs.Outcomes.{outcome_of};
+ghost use Rattle.addr_table.specs.Outcomes.{outcome_in};
 ghost use Rattle.addr_table.specs.Gives.{Gives};
-ghost use Rattle.addr_table.specs.Keeps.{IsKept, AreSound, StaySound};
-ghost use Rattle.addr_table.specs.Passes.{Turns};
+ghost use Rattle.addr_table.specs.Keeps.{IsWithinRules, AreSound, StaySound};
+ghost use Rattle.addr_table.specs.OneTurn.{Turns};
 
 use crate::passed::Passed;
 use crate::room::event_port;
@@ -30,8 +30,9 @@ use timer_wheel::TimerWheel;
 
 /// The states of all addresses, and for each address the moment at which something is due first in its state.
 ///
-/// A new state comes only where its port has room, and each address is held at one of 16 ports. So there is always a place
-/// for it, and no call but `make` takes memory or can refuse.
+/// Each address that has a state is held at one port at least, of 16, and none holds more addresses than it may; a new state
+/// comes only where its port has room for one more. So there is always a place for it, and no call but `make` takes memory
+/// or can refuse.
 #[derive(Drop)]
 pub struct AddrTable {
     table: BindTable,
@@ -42,14 +43,14 @@ pub struct AddrTable {
 
 impl Model for AddrTable {
     ghost use Rattle.addr_table.specs.Addresses.{Addresses};
-    ghost use Rattle.addr_table.specs.Keeps.{IsKept};
+    ghost use Rattle.addr_table.specs.Keeps.{IsWithinRules};
     ghost use Rattle.addr_table.specs.Armed.{IsArmed};
 
     ghost Value = { Addresses };
 
     ghost view = { λ a. record { rows = a.table.rows; times = a.times; per_port = a.per_port } };
 
-    ghost invariant = { λ a. IsKept a.times a.per_port a.table.rows × IsArmed a.times a.per_port a.table a.wheel };
+    ghost invariant = { λ a. IsWithinRules a.times a.per_port a.table.rows × IsArmed a.times a.per_port a.table a.wheel };
 }
 
 impl AddrTable {
@@ -127,7 +128,7 @@ impl AddrTable {
     /// one. O(1).
     pub fn row(&self, i: u32) -> Option<(Addr, AddrState)>
         ensures row { result ≡ option_map pair_of (slice_get self.now.rows i) }
-        ensures kept { IsKept self.now.times self.now.per_port self.now.rows }
+        ensures kept { IsWithinRules self.now.times self.now.per_port self.now.rows }
     {
         self.table.row(i)
     }
@@ -145,11 +146,10 @@ impl AddrTable {
         self.wheel.is_due(t)
     }
 
-    /// The first of the probes that fall due by `t` (ms), by moment and then by address; what is due before it has come to
-    /// pass. None once nothing is due by `t`: then all states are aged to `t`. Each state that is passed costs what
-    /// `TimerWheel::next_due` does and one look-up, one change and one arming; at most six things fall due in a state
-    /// that no event touches.
-    pub fn next_probe(&mut self, t: Moment) -> Option<SentProbe>
+    // The first of the probes that fall due by `t` (ms), by moment and then by address; what is due before it has come to
+    // pass. None once nothing is due by `t`: then all states are aged to `t`. Between two calls the rows are half aged, so
+    // it serves `age_to` alone.
+    pub(crate) fn next_probe(&mut self, t: Moment) -> Option<SentProbe>
         requires { t ≤ 2 ^ 62 }
         ensures given { Gives t self.old self.new result }
         ensures sound { StaySound self.old.rows self.new.rows }
@@ -167,16 +167,16 @@ impl AddrTable {
     }
 
     /// An event at moment `t` (ms) on an address of a prefix of method `m`, where all states have been aged to `t`. The room
-    /// of its port is what the port has before the event. An event that leaves the state as it was costs one look-up; else
-    /// one look-up, one change of a row and one arming, which is O(1) on average for an address that has a state and keeps
-    /// one, and O(n) of `BindTable::put` and `remove` where a row comes or goes.
+    /// of its port is what the port has before the event. An event that leaves the state as it was costs one look-up, O(1) on
+    /// average; one that changes the state also one change of a row and one arming: O(1) on average where the address has a
+    /// state before and after, and O(n) of `BindTable::put` and `remove` where a row comes or goes.
     pub fn event(&mut self, a: Addr, m: Method, ev: Ev, t: Moment) -> Answer
         requires moment { t ≤ 2 ^ 62 }
         requires sound { IsSoundFor m (state_in self.old.rows a.0) }
         requires still { AllStill self.old.times t self.old.rows }
         requires fixable { IsFixable self.old.per_port self.old.rows a.0 ev }
-        ensures answer { result ≡ (outcome_of m t self.old a.0 ev).0 }
-        ensures rows { self.new ≡ record self.old { rows = with_state a.0 (outcome_of m t self.old a.0 ev).1 self.old.rows } }
+        ensures answer { result ≡ (outcome_in m t self.old a.0 ev).0 }
+        ensures rows { self.new ≡ record self.old { rows = with_state a.0 (outcome_in m t self.old a.0 ev).1 self.old.rows } }
         ensures still { AllStill self.old.times t self.new.rows }
         ensures sound { (method_of : ℕ → Option Method) → method_of a.0 ≡ Some m → AreSound method_of self.old.rows → AreSound method_of self.new.rows }
     {

@@ -8,7 +8,7 @@ ghost use Rattle.addr_table.specs.Ages.{AllStill};
 ghost use Rattle.addr_table.specs.Rooms.{IsFixable};
 ghost use Rattle.addr_table.specs.Keeps.{AreSound, StaySound};
 
-use crate::{AddrTable, ProbeSink, SentProbe, age_to};
+use crate::{AddrTable, ProbeSink, SentProbe};
 use fcfs_states::{Ev, Probe, Times};
 use savi_kinds::{Addr, LAST_MOMENT, Method, Moment, Port, Rule, Verdict};
 use std::process::Abort;
@@ -262,7 +262,7 @@ fn a_sink_takes_the_probes_in_order(rt: HostRuntime) -> Result<(), Fail> {
         play(&rt, &mut table, step);
     }
     let mut last = Last { sent: None };
-    age_to(&mut table, 302_100, &mut last);
+    table.age_to(302_100, &mut last);
     let wanted = probe_of(&rt, (301_850, 0x11, 1));
     assert_eq!(rt; last.sent, Some(wanted));
     assert_eq!(rt; table.size(), 0);

@@ -1,30 +1,29 @@
 use Rattle.std.proofs.Common.{◌≡◌, ℕ, ◌*◌, ◌≤◌, List, length, ◌∙◌, ap, arith}
 use Rattle.addr_table.specs.Sends.{all_sends}
 use Rattle.addr_history.specs.Bases.{AddrRules, AddrBase}
-use Rattle.addr_history.specs.Marks.{Named, last_moment}
+use Rattle.addr_history.specs.Marks.{Named}
 use Rattle.addr_history.specs.States.{state_of}
 use Rattle.addr_history.specs.Tables.{rows_after, rows_at}
 use Rattle.addr_history.specs.Probes.{probes_between}
-use Rattle.addr_history.specs.Legal.{IsAddrBase, IsPast}
-use Rattle.addr_history.proofs.TablesOf.{table_at}
-use Rattle.addr_history.proofs.StatesKept.{base_times, base_tables, base_within}
-use Rattle.addr_history.proofs.Holding.{within_at}
+use Rattle.addr_history.specs.Legal.{IsAddrBase}
+use Rattle.addr_history.proofs.StatesKept.{base_times}
 use Rattle.addr_history.proofs.Orders.{order-length}
 use Rattle.addr_history.proofs.AllSends.{few_each, few_sends, sends-late}
-use Rattle.addr_history.proofs.RowCounts.{rows_within}
+use Rattle.addr_history.proofs.RowCounts.{few_rows, sum-times, few_rows_everywhere}
 use Rattle.addr_history.proofs.laws.few_probes_at_once.Goals as goal
 
-few_rows : (r : AddrRules) (base : AddrBase) (past : List Named) (t vlan : ℕ) → IsAddrBase r base → IsPast r base past → last_moment base past ≤ t → length (rows_at r base past t vlan) ≤ 16 * r.per_port
-few_rows r base past t vlan is right after =
-    rows_within r.per_port (rows_at r base past t vlan) (table_at r base (base_tables r base is) past t vlan).stand
-    (within_at r base (base_times r base is) (base_tables r base is) (base_within r base is) past t vlan right after)
+few_between : (r : AddrRules) (base : AddrBase) (past : List Named) (from t vlan : ℕ) → IsAddrBase r base → from ≤ t → length (probes_between r base past from t vlan) ≤ 3 * length (rows_at r base past from vlan)
+few_between r base past from t vlan is after =
+    let rows = rows_at r base past from vlan in
+    let same : length (probes_between r base past from t vlan) ≡ length (all_sends r.times t rows) = ap length (sends-late r.times (base_times r base is) from t (rows_after r base past vlan) after) ∙ order-length (all_sends r.times t rows) in
+    omega (arith, same, few_sends r.times (base_times r base is) t rows)
 
 pub returns : goal.returns
 returns c = record {
   each = λ r base past t vlan a times. few_each r.times times t (state_of r base past vlan a);
   addresses = λ r base past t vlan is right after. few_rows r base past t vlan is right after;
-  all = λ r base past from t vlan is right last after.
-      let rows = rows_at r base past from vlan in
-      let same : length (probes_between r base past from t vlan) ≡ length (all_sends r.times t rows) = ap length (sends-late r.times (base_times r base is) from t (rows_after r base past vlan) after) ∙ order-length (all_sends r.times t rows) in
-      omega (arith, few_rows r base past from vlan is right last, same, few_sends r.times (base_times r base is) t rows);
+  all = λ r base past from t vlan is right last after. omega (arith, few_between r base past from t vlan is after, few_rows r base past from vlan is right last);
+  addresses_everywhere = λ r base past t vlans is right after different. few_rows_everywhere r base is past t right after vlans different;
+  everywhere = λ r base past from t vlans is right last after different.
+      omega (arith, sum-times 3 (λ vlan. length (probes_between r base past from t vlan)) (λ vlan. length (rows_at r base past from vlan)) (λ vlan. few_between r base past from t vlan is after) vlans, few_rows_everywhere r base is past from right last vlans different);
 }

@@ -1,7 +1,7 @@
 use Rattle.std.proofs.Common.{◌≡◌, ◌≢◌, sym, subst}
 use Rattle.std.proofs.lemmas.Bool.{both_ways}
 use Rattle.bind_table.specs.Bindings.{Bindings}
-use Rattle.addr_table.specs.Keeps.{IsKept}
+use Rattle.addr_table.specs.Keeps.{IsWithinRules}
 use Rattle.addr_table.proofs.Turning.{kept_event, event_row, event_pair, event_still, event_sound, event_same, armed_with}
 use Rattle.addr_table.proofs.table.AddrTable.event.Goals as goal
 
@@ -17,7 +17,7 @@ set-requires-clause-pair c =
 
 pub invariant_of-self : goal.invariant_of-self
 invariant_of-self c = (
-  subst (λ (table : Bindings). IsKept c.self.inside.times c.self.inside.per_port table.rows) (sym c.set.ensures.rows)
+  subst (λ (table : Bindings). IsWithinRules c.self.inside.times c.self.inside.per_port table.rows) (sym c.set.ensures.rows)
       (kept_event c.args.m c.self.inside.times c.self.inside.per_port c.args.t c.self.inside.table c.self.inside.wheel c.args.self.now c.args.a.0 c.args.ev c.room_for-room.result c.get-before.result c.step-answer.result c.step-answer.new.self c.self.invariant.0 c.self.view_is c.room_for-room.ensures c.get-before.ensures c.step-answer.ensures.value c.requires.fixable c.step-answer.ensures.fits),
   armed_with c.self.inside.times c.self.inside.per_port c.self.inside.table c.set.new.table c.self.inside.wheel c.set.new.wheel c.args.a.0 c.step-answer.new.self c.self.invariant.1 c.set.ensures.rows c.set.ensures.arms,
 )

@@ -2,7 +2,7 @@ use Rattle.std.proofs.Common.{◌≡◌, ◌≢◌, ◌↔◌, true, false, is_s
 use Rattle.timer_wheel.specs.Arms.{due_by, first_armed}
 use Rattle.addr_table.specs.Addresses.{Addresses}
 use Rattle.addr_table.specs.Ages.{aged_rows, first_due}
-use Rattle.addr_table.specs.Passes.{IsQuiet}
+use Rattle.addr_table.specs.OneTurn.{IsQuiet}
 use Rattle.addr_table.proofs.Quiet.{quiet_by, changes_by}
 use Rattle.addr_table.proofs.table.AddrTable.is_due.Goals as goal
 

@@ -19,7 +19,7 @@ pub record IsQuiet (t : ℕ) (table : Addresses) : Type 0 where
   pub still : AllStill table.times t table.rows
 
 -- one turn was made: its probe is the first of those to come, and less may still fall due
-pub record Passes (t : ℕ) (old new : Addresses) (passed : Passed) : Type 0 where
+pub record TurnsOnce (t : ℕ) (old new : Addresses) (passed : Passed) : Type 0 where
   pub sends : sends old.times t old.rows ≡ probes_of passed ++ sends old.times t new.rows
   pub rows : aged_rows old.times t new.rows ≡ aged_rows old.times t old.rows
   pub rest : new ≡ record old { rows = new.rows }
@@ -27,4 +27,4 @@ pub record Passes (t : ℕ) (old new : Addresses) (passed : Passed) : Type 0 whe
 
 abbrev pub Turns : ℕ → Addresses → Addresses → Option Passed → Type 0
 Turns t old new None = (new ≡ old) × IsQuiet t old
-Turns t old new (Some passed) = Passes t old new passed
+Turns t old new (Some passed) = TurnsOnce t old new passed
