@@ -33,7 +33,7 @@ use Rattle.addr_history.specs.Legal.{IsOfVlan}
 use Rattle.addr_history.specs.Tables.{rows_at}
 use Rattle.savi_access.specs.Rules.{AccessRules, AccessBase, IsRequestOf, IsAccessBase}
 use Rattle.savi_access.specs.Marks.{Mark, Told, Asked, Met, told, moment_of, newest_moment, requests_after, open_requests}
-use Rattle.savi_access.specs.Legal.{MayFollow, AreMarks, HasFront}
+use Rattle.savi_access.specs.Legal.{Follows, AreMarks, HasFront}
 use Rattle.savi_access.specs.Frames.{HasLifetimes, ShowsLifetimes, AreLifetimes, solicited, advertised, dhcp_to, is_router_solicitation, is_listener_message, asking_duid, answered_duid, gives_up}
 use Rattle.savi_access.specs.Judged.{Judged, judged, judged_by, judged_for, validated, trusted, heard_or, unspecified, unspecified_by, sourced, followed, message, message_by, dhcp_or_other, to_server, to_server_by, to_client_or_other, to_client, replied, replied_by, asked, asked_by, answered, answered_or, named_for, with_event, with_events, is_on_link, is_passed, comes_to, passes, drops}
 use Rattle.savi_access.proofs.States.{none_some, true_not_false, told_past, told_before}
@@ -41,7 +41,7 @@ use Rattle.savi_access.proofs.States.{none_some, true_not_false, told_past, told
 module _ (r : AccessRules) (base : AccessBase) (is : IsAccessBase r base) (vlan : ℕ) (port : Port) (t : ℕ) (early : t ≤ 2 ^ 62) where
   pub told_follows : (past : List Mark) → AreMarks r base past → newest_moment base past ≤ t → (a : ℕ) (event : Ev) → IsSome (r.addresses.method_of vlan a) → IsLeaseInRange event → IsOfVlan r.addresses vlan (port_of event)
       → IsFixable r.addresses.per_port (rows_at r.addresses base.addresses (told past) t vlan) a event
-      → MayFollow r base past (Told (named_for r base vlan port t past a event))
+      → Follows r base past (Told (named_for r base vlan port t past a event))
   told_follows past right after a event on lease of_vlan fix =
       record {
         order = after;
@@ -129,7 +129,7 @@ module _ (r : AccessRules) (base : AccessBase) (is : IsAccessBase r base) (vlan 
     pub last : newest_moment base marks ≤ t
     pub front : HasFront t start marks
 
-  longer : (mark : Mark) (past : List Mark) → moment_of mark ≡ t → Right past → MayFollow r base past mark → Right (mark ∷ past)
+  longer : (mark : Mark) (past : List Mark) → moment_of mark ≡ t → Right past → Follows r base past mark → Right (mark ∷ past)
   longer mark past now right follows =
       record {
         legal = (follows, right.legal);

@@ -2,7 +2,7 @@
 use Rattle.std.specs.Prelude.{ℕ, ◌≡◌, ◌≤◌, ◌^◌, IsSome, Some, None, List, [], ◌∷◌, ◌++◌, All}
 use Rattle.savi_kinds.specs.Ports.{number_of}
 use Rattle.dhcp_states.specs.Requests.{refusal, asker}
-use Rattle.addr_history.specs.Legal.{Stands as MayBeTold}
+use Rattle.addr_history.specs.Legal.{MayFollow as MayBeTold}
 use Rattle.savi_access.specs.Rules.{AccessRules, AccessBase}
 use Rattle.savi_access.specs.Marks.{Mark, Told, Asked, Met, told, moment_of, newest_moment, open_requests}
 
@@ -16,7 +16,7 @@ MayBe r base past (Asked vlan request) =
 MayBe r base past (Met vlan moment tid duid) = IsSome (asker tid duid (open_requests base vlan past moment))
 
 -- a mark that may come after these: at no earlier moment than theirs, and as its kind asks
-pub record MayFollow (r : AccessRules) (base : AccessBase) (past : List Mark) (mark : Mark) : Type 0 where
+pub record Follows (r : AccessRules) (base : AccessBase) (past : List Mark) (mark : Mark) : Type 0 where
   pub order : newest_moment base past ≤ moment_of mark
   pub early : moment_of mark ≤ 2 ^ 62
   pub kind : MayBe r base past mark
@@ -24,7 +24,7 @@ pub record MayFollow (r : AccessRules) (base : AccessBase) (past : List Mark) (m
 -- each mark followed those before it
 abbrev pub AreMarks : AccessRules → AccessBase → List Mark → Type 0
 AreMarks r base [] = Unit {0}
-AreMarks r base (mark ∷ past) = MayFollow r base past mark × AreMarks r base past
+AreMarks r base (mark ∷ past) = Follows r base past mark × AreMarks r base past
 
 -- the marks are these, and new ones in front of them, all of the moment t
 pub record HasFront (t : ℕ) (past marks : List Mark) : Type 0 where
