@@ -2,16 +2,17 @@
 """Times the reader of a journal's lines beside sha256sum, on the entries of a journal of 200,000 frames of 54 to 1,518
 octets, each of which was sent at one port, and on one of as many frames of 70 octets.
 
-Both read the file in turn. The megabytes per second are of the least times.
+Both read the file in turn. The megabytes per second are of the least processor times, which other programs on the machine
+stretch less than the clock's.
 
 usage: lines.py PROGRAM [ROUNDS]
 """
 import os
 import random
+import resource
 import subprocess
 import sys
 import tempfile
-import time
 
 FRAMES = 200_000
 
@@ -30,10 +31,12 @@ def make_journal(path, least, most):
 
 
 def seconds(command):
-    """How long a run of the command takes, and what it prints on standard output."""
-    began = time.monotonic()
+    """The processor time that a run of the command takes, and what it prints on standard output."""
+    before = resource.getrusage(resource.RUSAGE_CHILDREN)
     done = subprocess.run(command, stdout=subprocess.PIPE, check=True)
-    return time.monotonic() - began, done.stdout.decode().strip()
+    after = resource.getrusage(resource.RUSAGE_CHILDREN)
+    took = after.ru_utime - before.ru_utime + after.ru_stime - before.ru_stime
+    return took, done.stdout.decode().strip()
 
 
 def measure(program, rounds, least, most):

@@ -37,6 +37,14 @@ const NESTED: &[u8] = b"\x07\x0a\x0b\x0c\0\x0e\0\0\0\x0d\0\x02\0\0\
     \0\x05\0\x1e\x20\x01\x0d\xb8\0\x02\0\0\0\0\0\0\0\0\x01\x03\0\0\0\x3c\0\0\0\xf0\0\x0d\0\x02\0\0\
     \0\x0d\0\x02\0\0";
 
+/// A Reply with an IA_NA and an IA_TA, each with an address. Two status options of 0 stand in the message, in the IA_NA and
+/// in its address.
+const TWICE: &[u8] = b"\x07\x0a\x0b\x0c\0\x0d\0\x02\0\0\0\x0d\0\x02\0\0\
+    \0\x03\0\x40\0\0\0\x01\0\0\0\0\0\0\0\0\0\x0d\0\x02\0\0\0\x0d\0\x02\0\0\
+    \0\x05\0\x24\x20\x01\x0d\xb8\0\x02\0\0\0\0\0\0\0\0\x01\x01\0\0\0\x3c\0\0\0\x3c\0\x0d\0\x02\0\0\0\x0d\0\x02\0\0\
+    \0\x04\0\x20\0\0\0\x02\
+    \0\x05\0\x18\x20\x01\x0d\xb8\0\x02\0\0\0\0\0\0\0\0\x01\x02\0\0\0\x3c\0\0\0\x78";
+
 /// What is done to a message before it is read.
 #[derive(Clone, Copy)]
 enum Change {
@@ -71,13 +79,15 @@ const BOTH: &[(u128, u32)] = &[(HOST_101, 0xffff_ffff), (HOST_102, 0)];
 
 const FIRST: &[(u128, u32)] = &[(HOST_101, 60)];
 
+const SECOND: &[(u128, u32)] = &[(HOST_102, 120)];
+
 const FIRST_TWO: &[(u128, u32)] = &[(HOST_101, 60), (HOST_102, 120)];
 
 const LAST_TWO: &[(u128, u32)] = &[(HOST_102, 120), (HOST_103, 240)];
 
 const ALL: &[(u128, u32)] = &[(HOST_101, 60), (HOST_102, 120), (HOST_103, 240)];
 
-static CASES: [Case; 45] = [
+static CASES: [Case; 52] = [
     (
         "request",
         REQUEST,
@@ -126,6 +136,48 @@ static CASES: [Case; 45] = [
         NESTED,
         Octet(133, 2),
         Reads(7, None, true, FIRST_TWO),
+    ),
+    (
+        "two statuses of 0 in each place",
+        TWICE,
+        AsSent,
+        Reads(7, None, false, FIRST_TWO),
+    ),
+    (
+        "first status of a message with two",
+        TWICE,
+        Octet(9, 1),
+        Reads(7, None, false, &[]),
+    ),
+    (
+        "second status of a message with two",
+        TWICE,
+        Octet(15, 1),
+        Reads(7, None, false, &[]),
+    ),
+    (
+        "first status of an IA with two",
+        TWICE,
+        Octet(37, 2),
+        Reads(7, None, false, SECOND),
+    ),
+    (
+        "second status of an IA with two",
+        TWICE,
+        Octet(43, 2),
+        Reads(7, None, false, SECOND),
+    ),
+    (
+        "first status of an address with two",
+        TWICE,
+        Octet(77, 2),
+        Reads(7, None, false, SECOND),
+    ),
+    (
+        "second status of an address with two",
+        TWICE,
+        Octet(83, 2),
+        Reads(7, None, false, SECOND),
     ),
     (
         "status of a released message",

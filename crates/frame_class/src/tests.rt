@@ -55,12 +55,12 @@ fn udp(to: u16, first: Option<u8>, fragmented: bool, dhcp: Option<Dhcp>) -> Read
     }
 }
 
-/// A message of DHCPv6 from the client with the DUID 00-03-00-01.
-fn dhcp(kind: u8, leases: &[Lease]) -> Dhcp {
+/// A message of DHCPv6 from the client with this DUID.
+fn dhcp(kind: u8, duid: &[u8], leases: &[Lease]) -> Dhcp {
     let mut message = Dhcp {
         kind,
         tid: 0x000a_0b0c,
-        duid: Duid::try_from(&[0, 3, 0, 1][..]).ok(),
+        duid: Duid::try_from(duid).ok(),
         rapid: false,
         leases: Leases::new(),
     };
@@ -81,7 +81,12 @@ fn datagrams_have_their_message(rt: HostRuntime) -> Result<(), Fail> {
             "a Solicit",
             "6000000000141140",
             "0222022300140000010a0b0c0001000400030001",
-            packet(17, 64, 20, udp(547, Some(1), false, Some(dhcp(1, &[])))),
+            packet(
+                17,
+                64,
+                20,
+                udp(547, Some(1), false, Some(dhcp(1, &[0, 3, 0, 1], &[]))),
+            ),
         ),
         (
             "a Reply with a lease",
@@ -92,7 +97,7 @@ fn datagrams_have_their_message(rt: HostRuntime) -> Result<(), Fail> {
                 17,
                 64,
                 64,
-                udp(546, Some(7), false, Some(dhcp(7, &[lease]))),
+                udp(546, Some(7), false, Some(dhcp(7, &[0, 3, 0, 1], &[lease]))),
             ),
         ),
         (
@@ -211,6 +216,227 @@ fn frames_have_their_class(rt: HostRuntime) -> Result<(), Fail> {
             "no next header",
             "33330000000102000000002286dd6000000000003b40fe800000000000000000000000000022ff020000000000000000000000000001",
             packet(59, 64, 0, Read::Plain),
+        ),
+    ] {
+        let frame = hex::decode(rt.alloc(), octets)?;
+        assert!(rt; frame.len() <= FRAME_OCTETS_MOST, "{name}");
+        assert_eq!(rt; class(&frame), want, "{name}");
+    }
+    Ok(())
+}
+
+/// A packet between two hosts.
+fn sent(
+    (dst, src): ([u8; 6], [u8; 6]),
+    (ip_dst, ip_src): (u128, u128),
+    (next, hop, len): (u8, u8, u16),
+    read: Read,
+) -> Class {
+    Class::Ip6 {
+        eth: Eth {
+            dst: Mac(dst),
+            src: Mac(src),
+            kind: 0x86dd,
+        },
+        ip: Ip {
+            src: Addr(ip_src),
+            dst: Addr(ip_dst),
+            next,
+            hop,
+            len,
+        },
+        read,
+    }
+}
+
+/// What hosts, a router and a server of DHCPv6 send each other.
+#[test]
+fn frames_of_hosts_have_their_class(rt: HostRuntime) -> Result<(), Fail> {
+    let host = [0x02, 0, 0, 0, 0, 0x11];
+    let other = [0x02, 0, 0, 0, 0, 0x22];
+    let router = [0x02, 0, 0, 0, 0, 0xfe];
+    let nodes = [0x33, 0x33, 0, 0, 0, 0x01];
+    let servers = [0x33, 0x33, 0, 0x01, 0, 0x02];
+    let solicited = [0x33, 0x33, 0xff, 0, 0, 0x11];
+    let local = 0xfe80_0000_0000_0000_0000_0000_0000_0000;
+    let all_nodes = 0xff02_0000_0000_0000_0000_0000_0000_0001;
+    let all_servers = 0xff02_0000_0000_0000_0000_0000_0001_0002;
+    let group = 0xff02_0000_0000_0000_0000_0001_ff00_0011;
+    let global = 0x2001_0db8_0001_0000_0000_0000_0000_0000;
+    let pool = 0x2001_0db8_0002_0000_0000_0000_0000_0000;
+    let lease = Lease {
+        address: Addr(0x2001_0db8_0003_0000_0000_0000_0000_0033),
+        valid: 600,
+    };
+    let both = [
+        Lease {
+            address: Addr(pool + 0x101),
+            valid: u32::MAX,
+        },
+        Lease {
+            address: Addr(pool + 0x102),
+            valid: 0,
+        },
+    ];
+    let duid = [0, 3, 0, 1, 0x02, 0, 0, 0, 0, 0x11];
+    let asks = |target| Some(Nd::Ns { target, dad: true });
+    for (name, octets, want) in [
+        (
+            "duplicate address detection of a link-local address",
+            "3333ff00001102000000001186dd6000000000183aff00000000000000000000000000000000ff0200000000000000000001ff00001187007c0500000000fe800000000000000000000000000011",
+            sent(
+                (solicited, host),
+                (group, 0),
+                (58, 255, 24),
+                icmp(135, false, asks(Addr(local + 0x11))),
+            ),
+        ),
+        (
+            "duplicate address detection of a global address",
+            "3333ff00001102000000001186dd6000000000183aff00000000000000000000000000000000ff0200000000000000000001ff00001187004ccc0000000020010db8000100000000000000000011",
+            sent(
+                (solicited, host),
+                (group, 0),
+                (58, 255, 24),
+                icmp(135, false, asks(Addr(global + 0x11))),
+            ),
+        ),
+        (
+            "a packet with no payload",
+            "0200000000fe02000000001186dd6000000000003b40fe800000000000000000000000000011fe8000000000000000000000000000fe",
+            sent(
+                (router, host),
+                (local + 0xfe, local + 0x11),
+                (59, 64, 0),
+                Read::Plain,
+            ),
+        ),
+        (
+            "a neighbor advertisement",
+            "33330000000102000000001186dd6000000000183afffe800000000000000000000000000011ff02000000000000000000000000000188005b8520000000fe800000000000000000000000000011",
+            sent(
+                (nodes, host),
+                (all_nodes, local + 0x11),
+                (58, 255, 24),
+                icmp(
+                    136,
+                    false,
+                    Some(Nd::Na {
+                        target: Addr(local + 0x11),
+                        flags: 0x20,
+                    }),
+                ),
+            ),
+        ),
+        (
+            "a report of a listener, behind a hop-by-hop header",
+            "33330000001602000000001186dd600000000024000100000000000000000000000000000000ff0200000000000000000000000000163a000502000001008f006f790000000104000000ff0200000000000000000001ff000011",
+            sent(
+                ([0x33, 0x33, 0, 0, 0, 0x16], host),
+                (all_nodes + 0x15, 0),
+                (0, 1, 36),
+                icmp(143, false, Some(Nd::Other)),
+            ),
+        ),
+        (
+            "a router solicitation",
+            "33330000000202000000001186dd6000000000103afffe800000000000000000000000000011ff02000000000000000000000000000285007a0c000000000101020000000011",
+            sent(
+                ([0x33, 0x33, 0, 0, 0, 0x02], host),
+                (all_nodes + 1, local + 0x11),
+                (58, 255, 16),
+                icmp(133, false, Some(Nd::Rs)),
+            ),
+        ),
+        (
+            "a router advertisement of a router",
+            "3333000000010200000000fe86dd6000000000103afffe8000000000000000000000000000feff0200000000000000000000000000018600342a400007080000000000000000",
+            sent(
+                (nodes, router),
+                (all_nodes, local + 0xfe),
+                (58, 255, 16),
+                icmp(134, false, Some(Nd::Ra)),
+            ),
+        ),
+        (
+            "one behind destination options",
+            "33330000000102000000002286dd6000000000183cfffe800000000000000000000000000022ff0200000000000000000000000000013a0001040000000086003506400007080000000000000000",
+            sent(
+                (nodes, other),
+                (all_nodes, local + 0x22),
+                (60, 255, 24),
+                icmp(134, false, Some(Nd::Ra)),
+            ),
+        ),
+        (
+            "one that a router forwarded",
+            "33330000000102000000002286dd6000000000103a40fe800000000000000000000000000022ff02000000000000000000000000000186003506400007080000000000000000",
+            sent(
+                (nodes, other),
+                (all_nodes, local + 0x22),
+                (58, 64, 16),
+                icmp(134, false, Some(Nd::Ra)),
+            ),
+        ),
+        (
+            "a first fragment cut in its destination options",
+            "33330000000102000000002286dd6000000000102c4020010db8000100000000000000000022ff0200000000000000000000000000013c000001000000023a01010c00000000",
+            sent(
+                (nodes, other),
+                (all_nodes, global + 0x22),
+                (44, 64, 16),
+                Read::Hidden,
+            ),
+        ),
+        (
+            "the fragment behind it",
+            "33330000000102000000002286dd6000000000102c4020010db8000100000000000000000022ff0200000000000000000000000000013c000008000000020000000000000000",
+            sent(
+                (nodes, other),
+                (all_nodes, global + 0x22),
+                (44, 64, 16),
+                Read::Later,
+            ),
+        ),
+        (
+            "a Request",
+            "33330001000202000000001186dd60000000002a1140fe800000000000000000000000000011ff02000000000000000000000001000202220223002aed77030a0b0c0001000a000300010200000000110003000c000000010000000000000000",
+            sent(
+                (servers, host),
+                (all_servers, local + 0x11),
+                (17, 64, 42),
+                udp(547, Some(3), false, Some(dhcp(3, &duid, &[]))),
+            ),
+        ),
+        (
+            "a Reply with two addresses, one of them for 0 seconds",
+            "02000000001102000000002286dd6000000000701140fe800000000000000000000000000022fe8000000000000000000000000000110223022200708931070a0b0c0001000a000300010200000000110002000a00030001020000000022000300440000000100000000000000000005001820010db8000200000000000000000101ffffffffffffffff0005001820010db80002000000000000000001020000000000000000",
+            sent(
+                (host, other),
+                (local + 0x11, local + 0x22),
+                (17, 64, 112),
+                udp(546, Some(7), false, Some(dhcp(7, &duid, &both))),
+            ),
+        ),
+        (
+            "a Reply with a lease of 600 seconds",
+            "0200000000110200000000fe86dd6000000000541140fe8000000000000000000000000000fefe800000000000000000000000000011022302220054b3a0070a0b0c0001000a000300010200000000110002000a00030001020000000022000300280000000100000000000000000005001820010db80003000000000000000000330000025800000258",
+            sent(
+                (host, router),
+                (local + 0x11, local + 0xfe),
+                (17, 64, 84),
+                udp(546, Some(7), false, Some(dhcp(7, &duid, &[lease]))),
+            ),
+        ),
+        (
+            "the Release of this lease",
+            "33330001000202000000001186dd6000000000461140fe800000000000000000000000000011ff020000000000000000000000010002022202230046b567080a0b0c0001000a00030001020000000011000300280000000100000000000000000005001820010db80003000000000000000000330000025800000258",
+            sent(
+                (servers, host),
+                (all_servers, local + 0x11),
+                (17, 64, 70),
+                udp(547, Some(8), false, Some(dhcp(8, &duid, &[lease]))),
+            ),
         ),
     ] {
         let frame = hex::decode(rt.alloc(), octets)?;

@@ -23,7 +23,7 @@ some_verdict : (o : Option Verdict) → IsSome o → (verdict : Verdict) × (o �
 some_verdict None is = absurd (true≢false (sym is))
 some_verdict (Some verdict) is = (verdict, refl)
 
-no_verdict : (o : Option Verdict) → IsNone o → o ≡ None
+pub no_verdict : (o : Option Verdict) → IsNone o → o ≡ None
 no_verdict None is = refl
 no_verdict (Some verdict) is = absurd (true≢false is)
 

@@ -18,7 +18,7 @@ use Rattle.savi_kinds.proofs.PrefixGrammar.{one_prefix}
 use Rattle.savi_kinds.proofs.AddrWritten.{written_prefix}
 use Rattle.hist_store.specs.TextOfLines.{joined, spaced, HasNoSpace}
 use Rattle.hist_store.specs.PortTexts.{port_text}
-use Rattle.hist_store.specs.JournalTexts.{address_text, prefix_text, port_line, prefix_line}
+use Rattle.hist_store.specs.JournalTexts.{address_text, prefix_text_by, port_line, prefix_line}
 use Rattle.hist_store.proofs.Words.{word_of, word_all, word_append, word_decimal}
 use Rattle.hist_store.proofs.AddressWords.{address_graphic}
 use Rattle.hist_store.proofs.FieldsRead.{spaceless}
@@ -42,7 +42,7 @@ pub mac_read : (text : List ℕ) (read mac : Mac) → HasSixOctets mac → text 
 mac_read text read mac six is reads = one_mac text read mac reads (rw is (written_mac mac six.0 six.1))
 
 -- a written prefix is read as itself
-pub prefix_read : (text : List ℕ) (read prefix : Prefix) → first_of prefix < 2 ^ 128 → IsPrefix prefix → text ≡ prefix_text address_text prefix → IsPrefixText text read → read ≡ prefix
+pub prefix_read : (text : List ℕ) (read prefix : Prefix) → first_of prefix < 2 ^ 128 → IsPrefix prefix → text ≡ prefix_text_by address_text prefix → IsPrefixText text read → read ≡ prefix
 prefix_read text read prefix small valid is reads = one_prefix text read prefix reads (rw is (written_prefix prefix small valid))
 
 pub spaceless_method : (method : Method) → HasNoSpace (method_word method)
@@ -50,11 +50,11 @@ spaceless_method methods.Fcfs = spaceless (codes "fcfs") (word_of (codes "fcfs")
 spaceless_method methods.Dhcp = spaceless (codes "dhcp") (word_of (codes "dhcp") refl)
 spaceless_method methods.Mixed = spaceless (codes "mixed") (word_of (codes "mixed") refl)
 
-pub spaceless_prefix : (prefix : Prefix) → HasNoSpace (prefix_text address_text prefix)
+pub spaceless_prefix : (prefix : Prefix) → HasNoSpace (prefix_text_by address_text prefix)
 spaceless_prefix prefix =
     let net = word_append (address_text prefix.net.0) (codes "/") (word_all (address_text prefix.net.0) (address_graphic prefix.net.0)) (word_of (codes "/") refl) in
-    spaceless (prefix_text address_text prefix) (word_append (address_text prefix.net.0 ++ codes "/") (decimal prefix.len) net (word_decimal prefix.len))
+    spaceless (prefix_text_by address_text prefix) (word_append (address_text prefix.net.0 ++ codes "/") (decimal prefix.len) net (word_decimal prefix.len))
 
 -- what stands behind the name of a prefix's line
-pub prefix_said : (line : List ℕ) (prefix : Prefix) (method : Method) → line ≡ joined (prefix_line address_text prefix method) → line ≡ codes "prefix" ++ spaced (prefix_text address_text prefix ∷ method_word method ∷ [])
-prefix_said line prefix method is = is ∙ joined-spaced (codes "prefix") (prefix_text address_text prefix ∷ method_word method ∷ [])
+pub prefix_said : (line : List ℕ) (prefix : Prefix) (method : Method) → line ≡ joined (prefix_line address_text prefix method) → line ≡ codes "prefix" ++ spaced (prefix_text_by address_text prefix ∷ method_word method ∷ [])
+prefix_said line prefix method is = is ∙ joined-spaced (codes "prefix") (prefix_text_by address_text prefix ∷ method_word method ∷ [])

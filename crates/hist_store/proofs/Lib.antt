@@ -14,3 +14,4 @@ pub mod VerdictRead
 pub mod EndRead
 pub mod PortsRead
 pub mod EntryRead
+pub mod OneEntry

@@ -3,7 +3,7 @@ use Rattle.std.proofs.Common.{ℕ, zero, suc, ◌≡◌, ◌≢◌, ◌+◌, ◌
 use Rattle.std.proofs.lemmas.Bool.{cases_eq, cases_lt}
 use Rattle.std.proofs.lemmas.Bool.Decides.{nat_tests}
 use Rattle.std.proofs.lemmas.List.{append-nil, take_at, drop_at}
-use Rattle.std.proofs.lemmas.Fmt.{decimal_is_IsNumeral, decimal_nonempty}
+use Rattle.std.proofs.lemmas.Fmt.{decimal_injective, decimal_is_IsNumeral, decimal_nonempty}
 use Rattle.std.proofs.lemmas.Nat.Bits.{same_from_bits_below, bit_at-lt}
 use Rattle.std.specs.Char.{digit_value}
 use Rattle.std.specs.Int.{bit_at}
@@ -344,6 +344,91 @@ finished set text goes =
           let some = goes.some in
           absurd (omega arith)
       | inr one ↦ (goes.text_is ∙ sym (some_text set one).1, goes.size)
+    ]
+
+-- sets with the same text
+
+tail_same : (ms ns : List ℕ) → tail_text ms ≡ tail_text ns → text_of ms ≡ text_of ns
+tail_same [] [] e = refl
+tail_same [] (n ∷ ns) e = cc
+tail_same (m ∷ ms) [] e = cc
+tail_same (m ∷ ms) (n ∷ ns) e = cc
+
+-- the first member above a port, and how the text of those is cut behind it
+above_cut : (last : ℕ) (set : PortSet) → ((j : ℕ) → last < j → j ≤ 16 → is_member set j ≡ false) ⊎ IsCut last set (text_of (members_above last set))
+above_cut last set =
+    elim (first (is_member set) (16 - last) (last + 1)) [
+      | inl none ↦ inl (λ j low high. none j (omega arith) (omega arith))
+      | inr one ↦
+          let above = one.low in
+          let below = one.high in
+          let lower : last < one.place = omega arith in
+          let upper : one.place ≤ 16 = omega arith in
+          let none : (j : ℕ) → last < j → j < one.place → is_member set j ≡ false = λ j more less. one.none j (omega arith) (omega arith) in
+          let parts = cut (text_of (members_above last set)) one.place (members_above one.place set) upper (ap text_of (above_next set last one.place lower upper none one.here)) in
+          inr (record { port = one.place; low = lower; high = upper; none = none; here = one.here; front = parts.0; rest = parts.1 })
+    ]
+
+no_cut : (last : ℕ) (set : PortSet) (text : List ℕ) → text ≡ [] → IsCut last set text → ⊥
+no_cut last set [] is one =
+    let high = one.high in
+    let some : 0 < length (decimal one.port) = decimal_nonempty one.port (omega arith) in
+    let front : [] ≡ decimal one.port = one.front in
+    let size = ap length front in
+    absurd (omega arith)
+no_cut last set (x ∷ text) is one = cc
+
+-- the member behind a cut, or a later one
+behind_cut : (last : ℕ) (set : PortSet) (text : List ℕ) (one : IsCut last set text) (b : ℕ → Bool) → ((j : ℕ) → last < j → j < one.port → b j ≡ false) → b one.port ≡ true
+    → ((j : ℕ) → one.port < j → j ≤ 16 → is_member set j ≡ b j) → (j : ℕ) → last < j → j ≤ 16 → is_member set j ≡ b j
+behind_cut last set text one b none here more j low high =
+    elim (cases_lt j one.port) [
+      | inl below ↦ one.none j low below ∙ sym (none j low below)
+      | inr above ↦
+          elim (cases_eq j one.port) [
+            | inl same ↦ ap (is_member set) same ∙ one.here ∙ sym (ap b same ∙ here)
+            | inr other ↦ more j (omega arith) high
+          ]
+    ]
+
+above_same : (fuel last : ℕ) (a b : PortSet) → 16 - last < fuel → text_of (members_above last a) ≡ text_of (members_above last b) → (j : ℕ) → last < j → j ≤ 16 → is_member a j ≡ is_member b j
+above_same zero last a b enough same = absurd (omega arith)
+above_same (suc fuel) last a b enough same =
+    elim (above_cut last a) [
+      | inl none ↦
+          elim (above_cut last b) [
+            | inl none' ↦ λ j low high. none j low high ∙ sym (none' j low high)
+            | inr one ↦ absurd (no_cut last b (text_of (members_above last b)) (sym same ∙ ap text_of (above_none a last none)) one)
+          ]
+      | inr one ↦
+          elim (above_cut last b) [
+            | inl none ↦ absurd (no_cut last a (text_of (members_above last a)) (same ∙ ap text_of (above_none b last none)) one)
+            | inr other ↦
+                let low = one.low in
+                let high = one.high in
+                let high' = other.high in
+                let fronts : decimal one.port ≡ decimal other.port = sym one.front ∙ ap (λ (t : List ℕ). take (place_of t) t) same ∙ other.front in
+                let port : one.port ≡ other.port = decimal_injective one.port other.port (omega arith) (omega arith) fronts in
+                let rests : tail_text (members_above one.port a) ≡ tail_text (members_above other.port b) = sym one.rest ∙ ap (λ (t : List ℕ). drop (place_of t) t) same ∙ other.rest in
+                let tails : text_of (members_above one.port a) ≡ text_of (members_above one.port b) =
+                tail_same (members_above one.port a) (members_above other.port b) rests ∙ ap (λ (k : ℕ). text_of (members_above k b)) (sym port) in
+                behind_cut last a (text_of (members_above last a)) one (is_member b) (λ j more less. other.none j more (omega arith)) (ap (is_member b) port ∙ other.here) (above_same fuel one.port a b (omega arith) tails)
+          ]
+    ]
+
+pub ports_by_text : (a b : PortSet) → a.0 < 2 ^ 16 → b.0 < 2 ^ 16 → ports_text a ≡ ports_text b → a ≡ b
+ports_by_text a b p q same =
+    elim (first (is_member a) 16 1) [
+      | inl none ↦
+          let dash : codes "-" ≡ ports_text a = sym (none_text a none) in
+          sym (dash_is a p dash) ∙ dash_is b q (dash ∙ same)
+      | inr one ↦
+          elim (first (is_member b) 16 1) [
+            | inl none ↦ absurd ((some_text a one).2 (sym (none_text b none) ∙ sym same))
+            | inr other ↦
+                let text = sym (some_text a one).1 ∙ same ∙ (some_text b other).1 in
+                sets_same a b p q (λ j low high. above_same 17 0 a b (omega arith) text j (omega arith) high)
+          ]
     ]
 
 pub if_some : {A : Type 0} (o : Option A) (P Q : A → Type 0) → ((x : A) → P x → Q x) → IfSome o P → IfSome o Q

@@ -120,7 +120,7 @@ scope_rest scopes.TrustedOnly text all trusted is = absurd (trusted is)
 scope_rest (scopes.TrustedAnd port) text all trusted is = (port, refl, is)
 
 -- behind a front
-behind_same : (front a b : List ℕ) → front ++ a ≡ front ++ b → a ≡ b
+pub behind_same : (front a b : List ℕ) → front ++ a ≡ front ++ b → a ≡ b
 behind_same [] a b e = e
 behind_same (x ∷ front) a b e = let tails : front ++ a ≡ front ++ b = cc in behind_same front a b tails
 

@@ -41,6 +41,22 @@ pub record IsInRange (entry : Entry) : Type 0 where
   pub probes : entry.probes < 2 ^ 32
   pub lost : entry.lost < 2 ^ 32
 
+-- an act, an entry and a row as a line says them: with 0 for the place of octets
+
+abbrev pub act_said : Act → Act
+act_said (Frame port stamp at len) = Frame port stamp 0 len
+act_said (Long port stamp len) = Long port stamp len
+act_said (Tick stamp) = Tick stamp
+act_said (Command stamp at len) = Command stamp 0 len
+act_said (Drain port count) = Drain port count
+act_said (End who how) = End who how
+
+abbrev pub entry_said : Entry → Entry
+entry_said entry = record entry { act = act_said entry.act }
+
+abbrev pub row_said : Row → Row
+row_said row = record row { entry = entry_said row.entry }
+
 -- the line is that of the entry with this number
 pub record SaysEntry (line : List ℕ) (n : ℕ) (row : Row) : Type 0 where
   pub number : n < 2 ^ 64

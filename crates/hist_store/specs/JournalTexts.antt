@@ -22,9 +22,9 @@ use Rattle.hist_store.specs.LineTexts.{line_fields}
 abbrev pub address_text : ℕ → List ℕ
 address_text address = addr_text (record { 0 = address })
 
--- the address, '/', and how many bits
-abbrev pub prefix_text : (ℕ → List ℕ) → Prefix → List ℕ
-prefix_text text_of prefix = text_of prefix.net.0 ++ codes "/" ++ decimal prefix.len
+-- the address in its text, '/', and how many bits
+abbrev pub prefix_text_by : (ℕ → List ℕ) → Prefix → List ℕ
+prefix_text_by text_of prefix = text_of prefix.net.0 ++ codes "/" ++ decimal prefix.len
 
 -- the line of a port of this role and format
 abbrev pub port_line : Port → Role → Format → List (List ℕ)
@@ -35,7 +35,7 @@ port_fields port = port_line port.number port.role port.format
 
 -- the line of a prefix whose addresses are validated by this method
 abbrev pub prefix_line : (ℕ → List ℕ) → Prefix → Method → List (List ℕ)
-prefix_line text_of prefix method = codes "prefix" ∷ prefix_text text_of prefix ∷ method_word method ∷ []
+prefix_line text_of prefix method = codes "prefix" ∷ prefix_text_by text_of prefix ∷ method_word method ∷ []
 
 abbrev pub prefix_fields : (ℕ → List ℕ) → PrefixPlan → List (List ℕ)
 prefix_fields text_of plan = prefix_line text_of plan.prefix plan.method

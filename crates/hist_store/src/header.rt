@@ -1,7 +1,7 @@
 ghost use Rattle.std.specs.Prelude.{◌≡◌, ◌+◌, ◌*◌, ◌≤◌, [], ◌∷◌, ◌++◌, length, map};
 ghost use Rattle.arrayvec.specs.ArrayVec.{array_vec_len};
 ghost use Rattle.hist_store.specs.TextOfLines.{lines_text, space};
-ghost use Rattle.hist_store.specs.JournalTexts.{address_text, end_text, header_text, limit_lines, port_fields, prefix_fields, prefix_text, setting, time_lines, word_lines};
+ghost use Rattle.hist_store.specs.JournalTexts.{address_text, end_text, header_text, limit_lines, port_fields, prefix_fields, prefix_text_by, setting, time_lines, word_lines};
 
 use crate::pieces::{JournalLine, put_decimal, put_number, put_octets, put_word};
 use crate::port_fields::put_port_field;
@@ -120,7 +120,7 @@ fn put_prefix_line(into: &mut JournalLine, prefix: &PrefixPlan)
 // Appends a space and a prefix: an address of at most 39 octets, '/' and at most three digits.
 fn put_prefix(into: &mut JournalLine, net: Addr, len: u8)
     requires { array_vec_len into.old + 44 ≤ 3400 }
-    ensures text { into.new.items ≡ into.old.items ++ space ∷ prefix_text address_text (record { net = net; len = len }) }
+    ensures text { into.new.items ≡ into.old.items ++ space ∷ prefix_text_by address_text (record { net = net; len = len }) }
     ensures size { array_vec_len into.new ≤ array_vec_len into.old + 44 }
 {
     let address = put_addr(net);

@@ -29,7 +29,7 @@ mod verdict_fields;
 pub use header::{put_end, put_header};
 pub use hist::Hist;
 pub use line::put_line;
-pub use line_laws::{a_read_line_is_written_again, a_written_line_is_read_again};
+pub use line_laws::{a_line_says_one_entry, a_written_line_says_its_entry, an_entry_has_one_line};
 pub use pieces::{JOURNAL_LINE_OCTETS, JournalLine};
 pub use read_header::{
     is_begin_line, is_version_line, read_mac_line, read_port_line, read_prefix_line,

@@ -1,43 +1,25 @@
-// What the lines of entries come to: a line that was written is read again, and a line that is read is written again.
+// What the lines of entries come to. Each function does nothing: its contract is the law.
 
-ghost use Rattle.std.specs.Prelude.{◌≡◌, Some, IfSome};
-ghost use Rattle.hist_store.specs.LineTexts.{FitsLine};
-ghost use Rattle.hist_store.specs.EntryLines.{IsInRange};
+ghost use Rattle.std.specs.Prelude.{◌≡◌, ◌^◌, ◌<◌, ℕ, List};
+ghost use Rattle.hex.specs.Hex.{IsBytes};
+ghost use Rattle.hist_store.specs.Rows.{Row};
+ghost use Rattle.hist_store.specs.LineTexts.{FitsLine, line_text};
+ghost use Rattle.hist_store.specs.EntryLines.{IsInRange, SaysEntry, entry_said, row_said};
 
-use crate::hist::know_octets;
-use crate::line::put_line;
-use crate::pieces::JournalLine;
-use crate::read_hex::LineOctets;
-use crate::reading::read_line;
-use savi_kinds::Entry;
+/// Law: the line that is written of an entry says this entry, wherever its octets are kept, if its numbers fit their
+/// fields.
+pub fn a_written_line_says_its_entry()
+    ensures { (n : ℕ) (row : Row) → n < 2 ^ 64 → IsInRange (entry_said row.entry) → IsBytes row.octets → FitsLine row
+        → SaysEntry (line_text n row) n (row_said row) }
+{}
 
-/// Law: the line that is written of an entry, with 0 for the place of its octets, is read as this entry.
-pub fn a_written_line_is_read_again(
-    n: u64,
-    e: &Entry,
-    octets: &[u8],
-    line: &mut JournalLine,
-    again: &mut LineOctets,
-) -> Option<(u64, Entry)>
-    requires fits { FitsLine (record { entry = e.now; octets = octets.now }) }
-    requires numbers { IsInRange e.now }
-    ensures entry { result ≡ Some (n, e.now) }
-    ensures octets { again.new.items ≡ octets.now }
-{
-    know_octets(octets);
-    put_line(n, e, octets, line);
-    read_line(line.as_slice(), again)
-}
+/// Law: a line says one entry at most.
+pub fn a_line_says_one_entry()
+    ensures number { (line : List ℕ) (n m : ℕ) (row other : Row) → SaysEntry line n row → SaysEntry line m other → n ≡ m }
+    ensures row { (line : List ℕ) (n m : ℕ) (row other : Row) → SaysEntry line n row → SaysEntry line m other → row ≡ other }
+{}
 
-/// Law: a line that is read is the one that is written of what was read.
-pub fn a_read_line_is_written_again(
-    line: &[u8],
-    octets: &mut LineOctets,
-    again: &mut JournalLine,
-) -> Option<(u64, Entry)>
-    ensures { IfSome result (λ r. again.new.items ≡ line.now) }
-{
-    let (n, entry) = read_line(line, octets)?;
-    put_line(n, &entry, octets.as_slice(), again);
-    Some((n, entry))
-}
+/// Law: a line that says an entry is the one that is written of it: an entry is said in one spelling.
+pub fn an_entry_has_one_line()
+    ensures { (line : List ℕ) (n : ℕ) (row : Row) → SaysEntry line n row → line ≡ line_text n row }
+{}

@@ -14,7 +14,7 @@ ghost use Rattle.savi_kinds.specs.MacText.{HasSixOctets};
 ghost use Rattle.savi_kinds.specs.Prefixes.{IsPrefix, first_of};
 ghost use Rattle.savi_kinds.specs.PlanWords.{role_word, method_word, format_word};
 ghost use Rattle.hist_store.specs.TextOfLines.{joined};
-ghost use Rattle.hist_store.specs.JournalTexts.{address_text, prefix_text, version_line, mac_line, savi_line, unknown_line, setting, port_line, prefix_line, begin_line, end_line};
+ghost use Rattle.hist_store.specs.JournalTexts.{address_text, prefix_text_by, version_line, mac_line, savi_line, unknown_line, setting, port_line, prefix_line, begin_line, end_line};
 ghost use Rattle.hist_store.specs.HeaderLines.{IsNextPort, IsNextPrefix};
 
 use crate::read_fields::{behind, is_word, read_number, take_field, take_port};
@@ -179,9 +179,9 @@ fn is_next_port(last: Option<Port>, port: Port) -> bool
 
 // A prefix in its one spelling.
 fn read_written_prefix(field: &[u8]) -> Option<Prefix>
-    ensures read { IfSome result (λ prefix. (field.now ≡ prefix_text address_text prefix) × IsPrefix prefix) }
+    ensures read { IfSome result (λ prefix. (field.now ≡ prefix_text_by address_text prefix) × IsPrefix prefix) }
     ensures whole { (prefix : Prefix) → first_of prefix < 2 ^ 128
-        → IsPrefix prefix → field.now ≡ prefix_text address_text prefix
+        → IsPrefix prefix → field.now ≡ prefix_text_by address_text prefix
         → result ≡ Some prefix }
 {
     let prefix = read_prefix(field)?;

@@ -4,6 +4,7 @@ ghost use Rattle.hist_store.specs.EndTexts.{IsReasonOf};
 ghost use Rattle.hist_store.specs.LineTexts.{FitsLine};
 
 use super::*;
+use crate::read_end::is_reason_of;
 use arrayvec::ArrayVec;
 use savi_kinds::{
     Act, Addr, Entry, Format, How, Mac, Method, Plan, Port, PortPlan, PortPlans, PortSet, Prefix,
@@ -93,12 +94,41 @@ fn ended(by: u32, moment: u64, who: Who, how: How) -> Entry
     }
 }
 
+// The entry has this line, and the line says this entry, with 0 for the place of its octets.
 fn expect_line(rt: &impl Abort, n: u64, entry: &Entry, octets: &[u8], want: &str)
     requires { FitsLine (record { entry = entry.now; octets = octets.now }) }
 {
     let mut line = ArrayVec::new();
     put_line(n, entry, octets, &mut line);
     assert_eq!(rt; line.as_slice(), want.as_bytes());
+    expect_read(rt, line.as_slice(), Some((n, said(entry))), octets);
+}
+
+// The entry as its line says it.
+fn said(entry: &Entry) -> Entry {
+    let act = match entry.act {
+        Act::Frame {
+            port,
+            stamp,
+            len,
+            ..
+        } => Act::Frame {
+            port,
+            stamp,
+            at: 0,
+            len,
+        },
+        Act::Command { stamp, len, .. } => Act::Command { stamp, at: 0, len },
+        act => act,
+    };
+    Entry { act, ..*entry }
+}
+
+// What is read of a line: the entry's number and the entry, and its octets.
+fn expect_read(rt: &impl Abort, line: &[u8], want: Option<(u64, Entry)>, octets: &[u8]) {
+    let mut buffer = ArrayVec::new();
+    assert_eq!(rt; read_line(line, &mut buffer), want, "{line:?}");
+    assert_eq!(rt; buffer.as_slice(), octets, "{line:?}");
 }
 
 // Two captures: port 1 gives a router advertisement and a packet, and port 2 a router advertisement.
@@ -240,6 +270,37 @@ fn each_kind_of_act(rt: HostRuntime) {
     expect_line(&rt, 12, &long, &[], "12 2 5 L 16 8 1519 drop-Malformed 6 7");
     expect_line(&rt, 13, &tick, &[], "13 2 5 T 9 6 7");
     expect_line(&rt, 14, &command, b"ab", "14 2 5 C 10 6162 6 7");
+    let unverified = Entry {
+        probes: 1,
+        ..frame_of(
+            port(1),
+            1000,
+            &DATA,
+            Verdict::Drop(Rule::Unverified),
+            PortSet::empty(),
+        )
+    };
+    expect_line(
+        &rt,
+        5,
+        &unverified,
+        &DATA,
+        "5 0 1000 F 1 1000 0200000000fe02000000001186dd6000000000003b40fe800000000000000000000000000011fe8000000000000000000000000000fe drop-Unverified - - 1 0",
+    );
+    let passed = frame_of(
+        port(1),
+        1500,
+        &DATA,
+        Verdict::Pass(Scope::All),
+        PortSet(0b11110),
+    );
+    expect_line(
+        &rt,
+        9,
+        &passed,
+        &DATA,
+        "9 0 1500 F 1 1500 0200000000fe02000000001186dd6000000000003b40fe800000000000000000000000000011fe8000000000000000000000000000fe pass-all 2,3,4,5 - 0 0",
+    );
     let empty = frame_of(
         port(1),
         0,
@@ -256,19 +317,76 @@ fn each_kind_of_act(rt: HostRuntime) {
     );
 }
 
+// Each way in which a pass may end. The first six lines are the entries of a run of two empty captures.
 #[test]
 fn each_way_to_end(rt: HostRuntime) {
+    let (one, two) = (port(1), port(2));
     let ways = [
-        (How::End, "1 2 3 E control end"),
-        (How::Quit, "1 2 3 E control quit"),
-        (How::Malformed(40), "1 2 3 E control malformed 40"),
-        (How::Overlong(121), "1 2 3 E control overlong 121"),
-        (How::Failed, "1 2 3 E control failed"),
-        (How::Unwritten, "1 2 3 E control unwritten"),
-        (How::Full(1), "1 2 3 E control full 1"),
+        (0, 2, Who::Control, How::End, "0 2 0 E control end"),
+        (1, 0, Who::Ingress(one), How::End, "1 0 0 E in1 end"),
+        (2, 1, Who::Ingress(two), How::End, "2 1 0 E in2 end"),
+        (3, 3, Who::Ticker, How::End, "3 3 0 E ticker end"),
+        (4, 4, Who::Egress(one), How::End, "4 4 0 E out1 end"),
+        (5, 5, Who::Egress(two), How::End, "5 5 0 E out2 end"),
+        (6, 2, Who::Control, How::Quit, "6 2 0 E control quit"),
+        (
+            7,
+            2,
+            Who::Control,
+            How::Malformed(40),
+            "7 2 0 E control malformed 40",
+        ),
+        (
+            8,
+            2,
+            Who::Control,
+            How::Overlong(121),
+            "8 2 0 E control overlong 121",
+        ),
+        (9, 2, Who::Control, How::Failed, "9 2 0 E control failed"),
+        (
+            10,
+            2,
+            Who::Control,
+            How::Unwritten,
+            "10 2 0 E control unwritten",
+        ),
+        (11, 2, Who::Control, How::Full(1), "11 2 0 E control full 1"),
+        (
+            12,
+            0,
+            Who::Ingress(port(16)),
+            How::Malformed(164),
+            "12 0 0 E in16 malformed 164",
+        ),
+        (13, 0, Who::Ingress(one), How::Failed, "13 0 0 E in1 failed"),
+        (
+            14,
+            0,
+            Who::Ingress(one),
+            How::Full(u64::MAX),
+            "14 0 0 E in1 full 18446744073709551615",
+        ),
+        (15, 3, Who::Ticker, How::Full(0), "15 3 0 E ticker full 0"),
+        (16, 5, Who::Egress(two), How::Failed, "16 5 0 E out2 failed"),
     ];
-    for (how, want) in ways {
-        expect_line(&rt, 1, &ended(2, 3, Who::Control, how), &[], want);
+    for (n, by, who, how, want) in ways {
+        let end = Entry {
+            by,
+            moment: 0,
+            act: Act::End { who, how },
+            verdict: None,
+            outs: PortSet::empty(),
+            cuts: PortSet::empty(),
+            probes: 0,
+            lost: 0,
+        };
+        let mut line = ArrayVec::new();
+        expect_read(&rt, want.as_bytes(), Some((n, end)), &[]);
+        if is_reason_of(who, how) {
+            put_line(n, &end, &[], &mut line);
+        }
+        assert_eq!(rt; line.as_slice(), want.as_bytes());
     }
 }
 
@@ -324,9 +442,9 @@ fn each_rule(rt: HostRuntime) {
     }
 }
 
-// Each field at its longest.
+// Each field at its longest, and a frame with one octet more than a frame may have.
 #[test]
-fn the_longest_line(rt: HostRuntime) {
+fn the_longest_line(rt: HostRuntime) -> Result<(), AllocError> {
     let octets = [0xab; 1518];
     let entry = Entry {
         by: u32::MAX,
@@ -346,6 +464,15 @@ fn the_longest_line(rt: HostRuntime) {
     let mut line = ArrayVec::new();
     put_line(u64::MAX, &entry, &octets, &mut line);
     assert_eq!(rt; line.len(), 3_238);
+    expect_read(&rt, line.as_slice(), Some((u64::MAX, entry)), &octets);
+    let most = "ab".repeat(rt.alloc(), 1518)?;
+    let past = "ab".repeat(rt.alloc(), 1519)?;
+    for (digits, is_read) in [(&most, true), (&past, false)] {
+        let text = format!(in rt.alloc(); "0 0 0 F 1 0 {digits} pass-all - - 0 0")?;
+        let mut buffer = ArrayVec::new();
+        assert_eq!(rt; read_line(text.as_bytes(), &mut buffer).is_some(), is_read);
+    }
+    Ok(())
 }
 
 // Port 1 connects a host and port 2 a router; but for the prefixes nothing else differs from the defaults.
@@ -494,69 +621,6 @@ fn a_history_keeps_entries_with_their_octets(rt: HostRuntime) -> Result<(), Allo
     Ok(())
 }
 
-// A line of one entry, and what it says: the entry's number, the entry and how many octets it has.
-fn expect_read(rt: &impl Abort, line: &str, want: Option<(u64, Entry)>, octets: &[u8]) {
-    let mut buffer = ArrayVec::new();
-    assert_eq!(rt; read_line(line.as_bytes(), &mut buffer), want, "{line}");
-    assert_eq!(rt; buffer.as_slice(), octets, "{line}");
-}
-
-// The lines of ends, each by another pass or with another reason, a drain, a frame with three octets, and one with none
-// that passes to all ports.
-#[test]
-fn lines_are_read(rt: HostRuntime) {
-    let (one, two) = (port(1), port(2));
-    let lines = [
-        (
-            "0 2 0 E control end",
-            0,
-            ended(2, 0, Who::Control, How::End),
-        ),
-        (
-            "1 0 0 E in1 end",
-            1,
-            ended(0, 0, Who::Ingress(one), How::End),
-        ),
-        (
-            "2 1 0 E in2 malformed 40",
-            2,
-            ended(1, 0, Who::Ingress(two), How::Malformed(40)),
-        ),
-        (
-            "3 3 0 E ticker full 9",
-            3,
-            ended(3, 0, Who::Ticker, How::Full(9)),
-        ),
-        (
-            "4 4 0 E out1 end",
-            4,
-            ended(4, 0, Who::Egress(one), How::End),
-        ),
-        (
-            "5 5 0 E out2 failed",
-            5,
-            ended(5, 0, Who::Egress(two), How::Failed),
-        ),
-        ("3 5 1001 D 2 1", 3, drained(5, 1001, two, 1)),
-    ];
-    for (line, n, entry) in lines {
-        expect_read(&rt, line, Some((n, entry)), &[]);
-    }
-    let octets = [0x0a, 0xbc, 0xff];
-    let sent = PortSet(0b1000_0000_0000_1011);
-    let frame = frame_of(one, 4, &octets, Verdict::Pass(Scope::TrustedOnly), sent);
-    expect_read(
-        &rt,
-        "0 0 4 F 1 4 0abcff pass-trusted 1,2,4,16 - 0 0",
-        Some((0, frame)),
-        &octets,
-    );
-    let scope = Scope::TrustedAnd(port(12));
-    let empty = frame_of(one, 0, &[], Verdict::Pass(scope), PortSet(0xffff));
-    let all = "7 0 0 F 1 0 - pass-trusted+12 1,2,3,4,5,6,7,8,9,10,11,12,13,14,15,16 - 0 0";
-    expect_read(&rt, all, Some((7, empty)), &[]);
-}
-
 // One field of a good line is wrong in each.
 #[test]
 fn lines_that_no_entry_has(rt: HostRuntime) {
@@ -570,48 +634,92 @@ fn lines_that_no_entry_has(rt: HostRuntime) {
         "0  2 0 E control end",
         "00 2 0 E control end",
         "18446744073709551616 2 0 E control end",
-        "0 4294967296 0 E control end",
         "+0 2 0 E control end",
+        "0 02 0 E control end",
+        "0 4294967296 0 E control end",
+        "0 2 00 E control end",
+        "0 2 18446744073709551616 E control end",
         "0 2 0 X control end",
         "0 2 0 e control end",
+        "0 2 0 EE control end",
+        "0 2 0 E Control end",
         "0 2 0 E in0 end",
         "0 2 0 E in17 end",
         "0 2 0 E in01 end",
+        "0 2 0 E in end",
+        "0 2 0 E out17 end",
+        "0 2 0 E control ended",
         "0 2 0 E in1 quit",
+        "0 2 0 E in1 overlong 3",
+        "0 2 0 E in1 unwritten",
         "0 2 0 E ticker failed",
+        "0 2 0 E ticker malformed 3",
         "0 2 0 E out1 full 3",
+        "0 2 0 E out1 quit",
         "0 2 0 E control full",
         "0 2 0 E control end 1",
         "0 2 0 E control malformed 040",
+        "0 2 0 E control overlong 18446744073709551616",
+        "0 2 0 D 0 1",
+        "0 2 0 D 17 1",
+        "0 2 0 D 2 01",
         "0 2 0 D 2 4294967296",
         "0 2 0 D 2",
         "0 2 0 D 2 1 0",
         "0 2 5 T 9 6",
-        "0 2 5 T 9 6 07",
+        "0 2 5 T 09 6 7",
         "0 2 5 T -9 6 7",
+        "0 2 5 T 18446744073709551616 6 7",
+        "0 2 5 T 9 06 7",
+        "0 2 5 T 9 4294967296 7",
+        "0 2 5 T 9 6 07",
+        "0 2 5 T 9 6 4294967296",
+        "0 2 5 T 9 6 7 8",
+        "0 2 5 C 010 61 6 7",
         "0 2 5 C 10 616 6 7",
         "0 2 5 C 10 6A 6 7",
         "0 2 5 C 10 6g 6 7",
         "0 2 5 C 10  6 7",
+        "0 2 5 C 10 -- 6 7",
+        "0 2 5 C 10 61 6",
+        "0 2 5 C 10 00000000000000000000000000000000000000000000000000000000000000000000000000000000000000000000000000000000000000000000000000000000000000000000000000000000000000000000000000000000000000000000000000000000000000000000000000000000000000000000000000 6 7",
+        "0 0 4 L 17 4 1519 pass-all 0 0",
+        "0 0 4 L 1 04 1519 pass-all 0 0",
+        "0 0 4 L 1 4 01519 pass-all 0 0",
+        "0 0 4 L 1 4 4294967296 pass-all 0 0",
+        "0 0 4 L 1 4 1519 - 0 0",
+        "0 0 4 L 1 4 1519 pass-all - - 0 0",
+        "0 0 4 L 1 4 1519 pass-all 00 0",
+        "0 0 4 L 1 4 1519 pass-all 0",
+        "0 0 4 F 01 4 0a pass-all - - 0 0",
+        "0 0 4 F 0 4 0a pass-all - - 0 0",
+        "0 0 4 F 1 18446744073709551616 0a pass-all - - 0 0",
         "0 0 4 F 1 4 0aBc pass-all - - 0 0",
+        "0 0 4 F 1 4 0 pass-all - - 0 0",
+        "0 0 4 F 1 4 0a - - - 0 0",
         "0 0 4 F 1 4 0a pass-any - - 0 0",
         "0 0 4 F 1 4 0a pass-trusted+ - - 0 0",
         "0 0 4 F 1 4 0a pass-trusted+17 - - 0 0",
+        "0 0 4 F 1 4 0a pass-trusted+01 - - 0 0",
         "0 0 4 F 1 4 0a drop-malformed - - 0 0",
         "0 0 4 F 1 4 0a drop- - - 0 0",
         "0 0 4 F 1 4 0a pass-all 2,1 - 0 0",
         "0 0 4 F 1 4 0a pass-all 1,1 - 0 0",
         "0 0 4 F 1 4 0a pass-all 1, - 0 0",
         "0 0 4 F 1 4 0a pass-all ,1 - 0 0",
+        "0 0 4 F 1 4 0a pass-all 01 - 0 0",
         "0 0 4 F 1 4 0a pass-all 17 - 0 0",
         "0 0 4 F 1 4 0a pass-all  - 0 0",
+        "0 0 4 F 1 4 0a pass-all - 2,1 0 0",
+        "0 0 4 F 1 4 0a pass-all - 0 0 0",
         "0 0 4 F 1 4 0a pass-all - - 4294967296 0",
-        "0 0 4 L 1 4 01519 pass-all 0 0",
-        "0 0 4 L 1 4 1519 - 0 0",
+        "0 0 4 F 1 4 0a pass-all - - 0 01",
+        "0 0 4 F 1 4 0a pass-all - - 0",
+        "0 0 4 F 1 4 0a pass-all - - 0 0 0",
         "0 0 4 F 1 4 0a pass-all - - 0 0\n",
     ];
     for line in lines {
-        expect_read(&rt, line, None, &[]);
+        expect_read(&rt, line.as_bytes(), None, &[]);
     }
 }
 
@@ -642,6 +750,7 @@ fn header_lines_are_read(rt: HostRuntime) {
         assert_eq!(rt; is_begin_line(line.as_bytes()), begin, "{line}");
     }
     let macs = [
+        ("mac 02:00:00:00:00:01", Some(Mac([0x02, 0, 0, 0, 0, 0x01]))),
         (
             "mac 02:00:00:00:0a:01",
             Some(Mac([0x02, 0, 0, 0, 0x0a, 0x01])),
@@ -669,7 +778,13 @@ fn header_lines_are_read(rt: HostRuntime) {
         assert_eq!(rt; read_unknown_line(line.as_bytes()), drop_unknown, "{line}");
     }
     let settings = [
-        ("per_port 64", "per_port", Some(64)),
+        ("per_port 32", "per_port", Some(32)),
+        ("depth 256", "depth", Some(256)),
+        ("entries 262144", "entries", Some(262_144)),
+        ("bytes 67108864", "bytes", Some(67_108_864)),
+        ("gap 250", "gap", Some(250)),
+        ("test 500", "test", Some(500)),
+        ("binding 300000", "binding", Some(300_000)),
         ("per_port 64", "depth", None),
         ("per_port 064", "per_port", None),
         ("per_port 64 ", "per_port", None),
@@ -687,6 +802,11 @@ fn header_lines_are_read(rt: HostRuntime) {
             "port 1 host pcap",
             None,
             Some((one, Role::Host, Format::Pcap)),
+        ),
+        (
+            "port 2 trusted pcap",
+            Some(one),
+            Some((two, Role::Trusted, Format::Pcap)),
         ),
         (
             "port 2 server stream",

@@ -13,7 +13,7 @@ use Rattle.savi_kinds.specs.declared.plan.Format.TheVariants.{Pcap, Stream}
 use Rattle.savi_kinds.specs.declared.address.Mac.{Mac}
 use Rattle.savi_kinds.specs.MacText.{hex_digit, hex_pair, mac_text}
 use Rattle.savi_kinds.specs.PlanWords.{role_word, method_word, format_word}
-use Rattle.hist_store.specs.JournalTexts.{prefix_text, port_fields, prefix_fields, word_lines, limit_lines, time_lines, begin_line, header_lines, end_line}
+use Rattle.hist_store.specs.JournalTexts.{prefix_text_by, port_fields, prefix_fields, word_lines, limit_lines, time_lines, begin_line, header_lines, end_line}
 use Rattle.savi_history.specs.Journals.{IsAddressText}
 use Rattle.hist_store.proofs.Words.{IsWord, is_word, IsWords, IsLine, IsLines, word_of, word_all, word_append, word_decimal, word_joined, lines_append}
 use Rattle.hist_store.proofs.FieldWords.{word_port}
@@ -62,7 +62,7 @@ module _ (address_text : ℕ → List ℕ) (is : IsAddressText address_text) whe
   lines_prefixes (p ∷ prefixes) =
       let net : IsWord (address_text p.prefix.net.0 ++ codes "/") =
       word_append (address_text p.prefix.net.0) (codes "/") (word_all (address_text p.prefix.net.0) (is.graphic p.prefix.net.0)) (word_of (codes "/") refl) in
-      let prefix : IsWord (prefix_text address_text p.prefix) = word_append (address_text p.prefix.net.0 ++ codes "/") (decimal p.prefix.len) net (word_decimal p.prefix.len) in
+      let prefix : IsWord (prefix_text_by address_text p.prefix) = word_append (address_text p.prefix.net.0 ++ codes "/") (decimal p.prefix.len) net (word_decimal p.prefix.len) in
       ((word_of (codes "prefix") refl, (prefix, (word_method p.method, tt))), lines_prefixes prefixes)
 
   pub lines_header : (plan : Plan) → IsLines (header_lines address_text plan)

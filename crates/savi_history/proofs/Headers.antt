@@ -16,7 +16,7 @@ use Rattle.savi_kinds.specs.Prefixes.{first_of}
 use Rattle.savi_kinds.specs.ValidPlan.{IsValidPlan, IsPlanPrefix, nets_of}
 use Rattle.hist_store.specs.PortTexts.{port_text}
 use Rattle.savi_kinds.specs.PlanWords.{role_word, method_word, format_word}
-use Rattle.hist_store.specs.JournalTexts.{prefix_text, port_fields, prefix_fields, word_lines, limit_lines, time_lines, begin_line, header_lines}
+use Rattle.hist_store.specs.JournalTexts.{prefix_text_by, port_fields, prefix_fields, word_lines, limit_lines, time_lines, begin_line, header_lines}
 use Rattle.savi_history.specs.Journals.{without_port_names, without_names, IsAddress, IsAddressText}
 use Rattle.hist_store.proofs.Words.{avoids_all, parted}
 use Rattle.hist_store.proofs.OnePort.{first_apart, port_by_text}
@@ -91,7 +91,7 @@ module _ (address_text : ℕ → List ℕ) (is : IsAddressText address_text) whe
   the_prefix_plan net len method = record { prefix = record { net = record { 0 = net }; len = len }; method = method }
 
   prefix_same : (x y : PrefixPlan) → IsPlanPrefix x.prefix → IsPlanPrefix y.prefix → IsAddress (first_of x.prefix) → IsAddress (first_of y.prefix)
-      → prefix_text address_text x.prefix ≡ prefix_text address_text y.prefix → method_word x.method ≡ method_word y.method → x ≡ y
+      → prefix_text_by address_text x.prefix ≡ prefix_text_by address_text y.prefix → method_word x.method ≡ method_word y.method → x ≡ y
   prefix_same x y hx hy ax ay text method =
       let net = x.prefix.net.0 in
       let net' = y.prefix.net.0 in
