@@ -16,7 +16,8 @@ use Rattle.hist_store.specs.Rows.{Row}
 use Rattle.savi_history.specs.Bases.{empty}
 use Rattle.savi_history.specs.Passes.{AllEnded, has_ended, control_pass}
 use Rattle.savi_history.specs.Events.{End}
-use Rattle.savi_history.specs.Turns.{Turn, turns, port_turns, merged}
+use Rattle.savi_history.specs.Turns.{Turn, turn_at, turns, port_turns}
+use Rattle.savi_history.specs.Merges.{merged}
 use Rattle.savi_history.specs.Replay.{begun, with_event, after_all, egress_ended, control_turns}
 use Rattle.savi_history.specs.PortInputs.{input_end}
 use Rattle.savi_history.proofs.PortInputs.{same_finished}
@@ -195,11 +196,11 @@ module _ {S K C : Type 0} (left : S → Option (List ℕ)) (written : K → Opti
       ∙ ap (λ (p : Port). turns p (get_or inputs_of k both_default.0)) (sym (port_at k e within))
       ∙ sym (port_turns_at plan.ports inputs_of k d e.port both_default.0 (omega arith) (omega arith)))
 
-  past_is : past ≡ after_all plan empty r.known (merged (control_turns ∷ port_turns plan.ports inputs_of)) (begun plan empty r.known plan.ports [])
+  past_is : past ≡ after_all plan empty r.known (merged turn_at (control_turns ∷ port_turns plan.ports inputs_of)) (begun plan empty r.known plan.ports [])
   past_is =
       let begins = begun plan empty r.known plan.ports [] in
       reaches_end plan empty r.known begins (map head_of ports) r.taken past rests heads_done r.agree rests_left (r.reaches r.known (allowed_itself plan r.known past))
-      ∙ ap (λ (l : List (List Turn)). after_all plan empty r.known (merged (control_turns ∷ l)) begins) turns_are
+      ∙ ap (λ (l : List (List Turn)). after_all plan empty r.known (merged turn_at (control_turns ∷ l)) begins) turns_are
 
   end_same : (now : List Row) → now ≡ egress_ended plan empty plan.ports (with_event plan empty past (End Ticker hows.End)) → (n : ℕ) → input_end n now ≡ input_end n past
   end_same now finished n = ap (λ (l : List Row). input_end n l) finished ∙ (same_finished plan empty past n).end_same
