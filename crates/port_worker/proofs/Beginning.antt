@@ -27,7 +27,7 @@ use Rattle.savi_core.specs.Machines.{Machine}
 use Rattle.port_worker.specs.declared.port_ends.PortEnds.{PortEnds}
 use Rattle.port_worker.specs.SentFrames.{OnlySink}
 use Rattle.port_worker.specs.Drains.{with_failed, IsWritten, IsBegun}
-use Rattle.port_worker.specs.Outputs.{GoesOn, HasFailed, IsOutputOf, AreOutputs, Allows, AreAllowed}
+use Rattle.port_worker.specs.Outputs.{RunsOn, HasStopped, IsOutputOf, AreOutputs, Allows, AreAllowed}
 use Rattle.port_worker.specs.Replays.{ports_held, ports_planned}
 use Rattle.port_worker.proofs.SoFar.{PairsSoFar, pairs_none, pairs_more}
 use Rattle.port_worker.proofs.Planned.{count_is, number_is, numbers_differ, held_at}
@@ -53,14 +53,14 @@ module _ {K : Type 0} (written : K → Option (List ℕ)) (faults : K → ℕ) (
   -- the header was written, or that failed
   begun_step : IsWritten written faults plan port past now (header_text ∷ []) old new → PortStep written faults plan port now old new (λ stops. with_failure plan empty stops port past)
   begun_step (inl all) =
-      let here : GoesOn written plan past q old new = record {
+      let here : RunsOn written plan past q old new = record {
         running = fresh.running;
         none = fresh.none;
         took = subst (λ (l : List Item). TookPieces (written old) (written new) (pieces l) None) (sym fresh.unsent) all.took;
       } in
       record {
         later = None;
-        output = subst (λ (l : List Row). GoesOn written plan l q old new) (sym all.past) here;
+        output = subst (λ (l : List Row). RunsOn written plan l q old new) (sym all.past) here;
         made_so = λ stops allowed. all.past ∙ sym (no_failure plan stops port past (subst (λ (l : List Row). is_stopped (stops q) (pieces_by plan empty q l) ≡ false) all.past allowed));
       }
   begun_step (inr front) =
@@ -70,7 +70,7 @@ module _ {K : Type 0} (written : K → Option (List ℕ)) (faults : K → ℕ) (
       let inside = front.took.0 in
       let took : TookPieces (written old) (written new) (pieces (sent plan empty q failed)) (Some front.whole) =
       subst (λ (l : List Item). TookPieces (written old) (written new) (pieces l) (Some front.whole)) (sym unsent) front.took in
-      let here : HasFailed written faults plan failed q old new front.whole = record {
+      let here : HasStopped written faults plan failed q old new front.whole = record {
         ended = ended_now plan empty past (Egress port) hows.Failed;
         failed = end_failed plan port past;
         quiet = quiet_failed plan port past;
@@ -80,7 +80,7 @@ module _ {K : Type 0} (written : K → Option (List ℕ)) (faults : K → ℕ) (
       } in
       record {
         later = Some front.whole;
-        output = subst (λ (l : List Row). HasFailed written faults plan l q old new front.whole) (sym front.past) here;
+        output = subst (λ (l : List Row). HasStopped written faults plan l q old new front.whole) (sym front.past) here;
         made_so = λ stops allowed.
             front.past
             ∙ sym (a_failure plan stops port past (subst (λ (o : Option ℕ). is_stopped o (pieces_by plan empty q past) ≡ true) (sym allowed) (stopped_more front.whole (pieces_by plan empty q past) (omega (arith, size, inside)))));

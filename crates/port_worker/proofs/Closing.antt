@@ -1,26 +1,15 @@
--- What a session has done.
-use Rattle.std.proofs.Common.{◌≡◌, ℕ, List, ◌++◌, length, take, drop, ap, ◌∙◌, subst, arith, append-nil, Option}
+-- A session's ends are those of its replay.
+use Rattle.std.proofs.Common.{◌≡◌, ℕ, List, ◌++◌, length, take, drop, ap, ◌∙◌, subst, sym, arith, append-nil}
 use Rattle.std.proofs.lemmas.List.{take_all, drop_all}
-use Rattle.savi_kinds.specs.declared.plan.Plan.{Plan}
-use Rattle.savi_core.specs.Machines.{Machine, started}
-use Rattle.port_worker.specs.declared.port_ends.PortEnds.{PortEnds}
-use Rattle.port_worker.specs.Pairs.{EachPair}
-use Rattle.port_worker.specs.Replays.{IsLater, HasBroken}
-use Rattle.port_worker.specs.Sessions.{IsPlayed, IsSession}
 
 -- a vector whose elements were all written holds them
-pub all_written : {X : Type 0} (n : ℕ) (old new : List X) → length new ≡ length old → n ≡ length old → take n (new ++ drop (length new) old) ≡ new
+all_written : {X : Type 0} (n : ℕ) (old new : List X) → length new ≡ length old → n ≡ length old → take n (new ++ drop (length new) old) ≡ new
 all_written {X} n old new size count =
     let none = drop_all (length new) old (omega arith) in
     ap (λ (l : List X). take n (new ++ l)) none ∙ ap (λ (l : List X). take n l) (append-nil new) ∙ take_all n new (omega arith)
 
-pub session_of : {S K C : Type 0} (left : S → Option (List ℕ)) (written : K → Option (List ℕ)) (source_faults : S → ℕ) (sink_faults : K → ℕ) (plan : Plan) (start core : Machine) (old new : List (PortEnds S K C)) → start ≡ started plan → core.plan ≡ start.plan
-    → EachPair (IsLater left written source_faults sink_faults) old new → EachPair (HasBroken source_faults core.past) old new → IsPlayed left written sink_faults start.plan core.past old new → IsSession left written source_faults sink_faults plan core old new
-session_of left written source_faults sink_faults plan start core old new starts plan_is later broken played =
-    let plan_start : start.plan ≡ plan = ap (λ (m : Machine). m.plan) starts in
-    record {
-      plan_is = plan_is ∙ plan_start;
-      later = later;
-      broken = broken;
-      played = subst (λ (p : Plan). IsPlayed left written sink_faults p core.past old new) plan_start played;
-    }
+-- so what holds of the slices before and after holds of the vectors
+pub of_vectors : {X : Type 0} (P : List X → List X → Type 0) (n : ℕ) (given old new : List X) → old ≡ given → n ≡ length old → length new ≡ length old → P old new → P given (take n (new ++ drop (length new) given))
+of_vectors {X} P n given old new same count size holds =
+    let sizes = ap (λ (l : List X). length l) same in
+    subst (λ (l : List X). P given l) (sym (all_written n given new (size ∙ sizes) (count ∙ sizes))) (subst (λ (l : List X). P l new) same holds)

@@ -16,7 +16,9 @@ use Rattle.hist_store.specs.Rows.{Row}
 use Rattle.savi_history.specs.Bases.{empty}
 use Rattle.savi_history.specs.Passes.{AllEnded, has_ended, control_pass}
 use Rattle.savi_history.specs.Events.{End}
-use Rattle.savi_history.specs.Turns.{Turn, turns, port_turns, merged}
+use Rattle.savi_history.specs.Legal.{IsFinished}
+use Rattle.savi_history.specs.Turns.{Turn, turn_at, turns, port_turns}
+use Rattle.savi_history.specs.Merges.{merged}
 use Rattle.savi_history.specs.Replay.{begun, with_event, after_all, egress_ended, control_turns}
 use Rattle.savi_history.specs.PortInputs.{input_end}
 use Rattle.savi_history.proofs.PortInputs.{same_finished}
@@ -28,11 +30,14 @@ use Rattle.port_worker.specs.declared.port_ends.PortEnds.{PortEnds}
 use Rattle.port_worker.specs.Inputs.{IsKnown, moment_of}
 use Rattle.port_worker.specs.Pairs.{EachPair}
 use Rattle.port_worker.specs.Outputs.{IsOutput, IsOutputEnded}
-use Rattle.port_worker.specs.Replays.{IsInputOf, IsInputAt, IsReplayed, IsOutputFit, HasBrokenOut, ports_held, ports_planned}
+use Rattle.port_worker.specs.Replays.{ports_held, ports_planned}
+use Rattle.port_worker.specs.Served.{IsInputOf, IsServed, ServesEnds}
 use Rattle.port_worker.proofs.Allowed.{allowed_itself}
 use Rattle.port_worker.proofs.EndedOutputs.{took_of, fit_of, broken_of}
-use Rattle.port_worker.proofs.Planned.{count_is}
-use Rattle.port_worker.proofs.Progress.{head_of, done_at_none, Gone, ProgressBy}
+use Rattle.port_worker.proofs.Fitting.{IsFit, HasCause}
+use Rattle.port_worker.proofs.Later.{IsLater}
+use Rattle.port_worker.proofs.Planned.{count_is, number_is}
+use Rattle.port_worker.proofs.Progress.{head_of, done_at_none, Gone, IsInputAt, ProgressBy}
 use Rattle.port_worker.proofs.Running.{Running, head_at, element}
 
 collected_at : {X : Type 0} (n : ℕ) (P : ℕ → X → Type 0) (x : X) (xs : List X) → P 0 x → ((k : ℕ) (d : X) → k < n → P (suc k) (get_or xs k d)) → (k : ℕ) (d : X) → k < suc n → P k (get_or (x ∷ xs) k d)
@@ -195,11 +200,11 @@ module _ {S K C : Type 0} (left : S → Option (List ℕ)) (written : K → Opti
       ∙ ap (λ (p : Port). turns p (get_or inputs_of k both_default.0)) (sym (port_at k e within))
       ∙ sym (port_turns_at plan.ports inputs_of k d e.port both_default.0 (omega arith) (omega arith)))
 
-  past_is : past ≡ after_all plan empty r.known (merged (control_turns ∷ port_turns plan.ports inputs_of)) (begun plan empty r.known plan.ports [])
+  past_is : past ≡ after_all plan empty r.known (merged turn_at (control_turns ∷ port_turns plan.ports inputs_of)) (begun plan empty r.known plan.ports [])
   past_is =
       let begins = begun plan empty r.known plan.ports [] in
       reaches_end plan empty r.known begins (map head_of ports) r.taken past rests heads_done r.agree rests_left (r.reaches r.known (allowed_itself plan r.known past))
-      ∙ ap (λ (l : List (List Turn)). after_all plan empty r.known (merged (control_turns ∷ l)) begins) turns_are
+      ∙ ap (λ (l : List (List Turn)). after_all plan empty r.known (merged turn_at (control_turns ∷ l)) begins) turns_are
 
   end_same : (now : List Row) → now ≡ egress_ended plan empty plan.ports (with_event plan empty past (End Ticker hows.End)) → (n : ℕ) → input_end n now ≡ input_end n past
   end_same now finished n = ap (λ (l : List Row). input_end n l) finished ∙ (same_finished plan empty past n).end_same
@@ -212,34 +217,36 @@ module _ {S K C : Type 0} (left : S → Option (List ℕ)) (written : K → Opti
     ended_output : (k : ℕ) (d : PortEnds S K C) → k < length first → IsOutputEnded plan past now (number_of (get_or first k d).port)
     ended_output k d inside = subst (λ (p : Port). IsOutputEnded plan past now (number_of p)) (r.outputs.each k d inside).port (outputs k d (omega (arith, r.outputs.size, inside)))
 
-    pub replayed_all : IsReplayed left written plan now first ports
-    replayed_all = record {
-      inputs = inputs_of;
-      size = inputs_count;
-      stops = r.known;
-      history = finished ∙ ap (λ (l : List Row). egress_ended plan empty plan.ports (with_event plan empty l (End Ticker hows.End))) past_is;
-      arrived = λ k d i inside.
+    module _ (finishes : IsFinished plan empty now) (fits : EachPair (IsFit left now) first ports) (causes : EachPair (HasCause source_faults now) first ports) where
+      served_at : (k : ℕ) (d : PortEnds S K C) (i : Input) → k < length first
+          → let n = number_of (get_or first k d).port in IsServed left written source_faults sink_faults (Comes (get_or first k d).reader) plan empty now n (get_or inputs_of k i) (r.known n) (get_or first k d).ends (get_or ports k d).ends
+      served_at k d i inside =
           let p = get_or first k d in
           let q = get_or ports k d in
-          subst (λ (input : Input). IsInputAt left now p q input) (sym (input_at k i inside))
-          (input_later left past now p q (get_or wholes.0 k both_default).0 (end_same now finished (number_of p.port)) ((wholes.2 k both_default inside).came d));
-      wrote = λ k d inside.
-          let n = number_of (get_or first k d).port in
-          took_of written sink_faults plan past now n (get_or first k d).ends.sink (get_or ports k d).ends.sink (r.known n) (output_at k d inside) (ended_output k d inside);
-    }
+          let n = number_of p.port in
+          let later : IsLater left written source_faults sink_faults p q = r.later.each k d inside in
+          record {
+            used = later.used;
+            gave = subst (λ (input : Input). IsInputAt left now p q input) (sym (input_at k i inside))
+                (input_later left past now p q (get_or wholes.0 k both_default).0 (end_same now finished n) ((wholes.2 k both_default inside).came d));
+            fits = fits.each k d inside;
+            took = took_of written sink_faults plan past now n p.ends.sink q.ends.sink (r.known n) (output_at k d inside) (ended_output k d inside);
+            fits_out = fit_of written sink_faults plan past now n p.ends.sink q.ends.sink (r.known n) (output_at k d inside) (ended_output k d inside);
+            source = later.source;
+            sink = later.sink;
+            broken = causes.each k d inside;
+            broken_out = broken_of written sink_faults plan past now n p.ends.sink q.ends.sink (r.known n) (output_at k d inside) (ended_output k d inside);
+          }
 
-    pub fits_out : EachPair (IsOutputFit written plan now) first ports
-    fits_out = record {
-      size = r.outputs.size;
-      each = λ k d inside.
-          let n = number_of (get_or first k d).port in
-          fit_of written sink_faults plan past now n (get_or first k d).ends.sink (get_or ports k d).ends.sink (r.known n) (output_at k d inside) (ended_output k d inside);
-    }
-
-    pub broken_out : EachPair (HasBrokenOut sink_faults now) first ports
-    broken_out = record {
-      size = r.outputs.size;
-      each = λ k d inside.
-          let n = number_of (get_or first k d).port in
-          broken_of written sink_faults plan past now n (get_or first k d).ends.sink (get_or ports k d).ends.sink (r.known n) (output_at k d inside) (ended_output k d inside);
-    }
+      pub serves : ServesEnds left written source_faults sink_faults plan empty now first ports
+      serves = record {
+        inputs = inputs_of;
+        stops = r.known;
+        size = inputs_count ∙ count_is first plan planned;
+        replay = finished ∙ ap (λ (l : List Row). egress_ended plan empty plan.ports (with_event plan empty l (End Ticker hows.End))) past_is;
+        finished = finishes;
+        each = λ k i within d.
+            let inside : k < length first = omega (arith, count_is first plan planned, within) in
+            subst (λ (n : ℕ). IsServed left written source_faults sink_faults (Comes (get_or first k d).reader) plan empty now n (get_or inputs_of k i) (r.known n) (get_or first k d).ends (get_or ports k d).ends)
+            (number_is first plan k d planned inside) (served_at k d i inside);
+      }

@@ -29,7 +29,7 @@ use Rattle.port_worker.specs.declared.port_ends.PortEnds.{PortEnds}
 use Rattle.port_worker.specs.Inputs.{IsKnown, IsLooked, IsReadAs, turn_ahead, turn_of}
 use Rattle.port_worker.specs.SentFrames.{OnlySink}
 use Rattle.port_worker.specs.Steps.{IsStepped, ends_input, ahead_after}
-use Rattle.port_worker.specs.Replays.{IsUnread, IsFit, HasBroken}
+use Rattle.port_worker.specs.Replays.{IsUnread}
 use Rattle.port_worker.specs.Pairs.{EachPair}
 use Rattle.port_worker.proofs.Joining.{IsRunning, front_none, takes_twice, read_twice, read_behind}
 use Rattle.port_worker.proofs.FaultCounts.{rose_later, rose_before}
@@ -313,7 +313,14 @@ module _ {S K C : Type 0} (left : S → Option (List ℕ)) (written : K → Opti
   pub fits_turned : EachPair (FitsSoFar left source_faults now) first new
   fits_turned = record { size = stepped.size ∙ so_far.size; each = λ k d within. turned_at k d within (cases_eq k j) }
 
--- the end
+-- what the source of a port gave up fits what the history holds of its input
+abbrev pub IsFit : {S K C : Type 0} → (S → Option (List ℕ)) → List Row → PortEnds S K C → PortEnds S K C → Type 0
+IsFit left past old new =
+    Fits (Comes old.reader) (left old.ends.source) (left new.ends.source) (arrived (number_of old.port) past) (input_end (number_of old.port) past)
+
+-- a failed read that the history tells of has a cause
+abbrev pub HasCause : {S K C : Type 0} → (S → ℕ) → List Row → PortEnds S K C → PortEnds S K C → Type 0
+HasCause source_faults past old new = input_end (number_of old.port) past ≡ Some hows.Failed → Rose (source_faults old.ends.source) (source_faults new.ends.source)
 
 pub fits_finished : {S K C : Type 0} (left : S → Option (List ℕ)) (source_faults : S → ℕ) (plan : Plan) (first old : List (PortEnds S K C)) (past now : List Row) → EachPair (FitsSoFar left source_faults past) first old → ((k : ℕ) (d : PortEnds S K C) → k < length old → (get_or old k d).ahead ≡ ahead.Done)
     → now ≡ egress_ended plan empty plan.ports (with_event plan empty past (End Ticker hows.End)) → EachPair (IsFit left now) first old
@@ -330,7 +337,7 @@ fits_finished left source_faults plan first old past now so_far done now_is = re
 
 -- a fault came wherever the history tells of a failed read, also where it holds no more of the inputs since
 pub broken_since : {S K C : Type 0} (left : S → Option (List ℕ)) (source_faults : S → ℕ) (first old new : List (PortEnds S K C)) (past now : List Row) → EachPair (FitsSoFar left source_faults past) first old → length new ≡ length old
-    → ((k : ℕ) (d : PortEnds S K C) → k < length old → source_faults (get_or old k d).ends.source ≤ source_faults (get_or new k d).ends.source) → ((n : ℕ) → input_end n now ≡ input_end n past) → EachPair (HasBroken source_faults now) first new
+    → ((k : ℕ) (d : PortEnds S K C) → k < length old → source_faults (get_or old k d).ends.source ≤ source_faults (get_or new k d).ends.source) → ((n : ℕ) → input_end n now ≡ input_end n past) → EachPair (HasCause source_faults now) first new
 broken_since left source_faults first old new past now so_far size later same = record {
   size = size ∙ so_far.size;
   each = λ k d within ended_so.

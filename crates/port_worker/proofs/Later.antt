@@ -10,8 +10,15 @@ use Rattle.port_worker.specs.Pairs.{EachPair}
 use Rattle.port_worker.specs.Inputs.{IsLooked}
 use Rattle.port_worker.specs.SentFrames.{TookMore, OnlySink}
 use Rattle.port_worker.specs.Steps.{IsStepped}
-use Rattle.port_worker.specs.Replays.{IsLater}
+use Rattle.port_worker.specs.Served.{IsUsed}
 use Rattle.port_worker.proofs.Joining.{front_none}
+
+-- a port before and after: the same port, and its ends were used, and no count of faults fell
+pub record IsLater {S K C : Type 0} (left : S → Option (List ℕ)) (written : K → Option (List ℕ)) (source_faults : S → ℕ) (sink_faults : K → ℕ) (old new : PortEnds S K C) : Type 0 where
+  pub port : new.port ≡ old.port
+  pub used : IsUsed left written old.ends new.ends
+  pub source : source_faults old.ends.source ≤ source_faults new.ends.source
+  pub sink : sink_faults old.ends.sink ≤ sink_faults new.ends.sink
 
 behind_none : (o : Option (List ℕ)) → o ≡ behind o []
 behind_none None = refl
@@ -38,21 +45,21 @@ module _ {S K C : Type 0} (left : S → Option (List ℕ)) (written : K → Opti
   later_itself : (p : PortEnds S K C) → Later p p
   later_itself p = record {
     port = refl;
+    used = record { gave = ([], sym (front_none (left p.ends.source))); took = took_none (written p.ends.sink); clock = refl };
     source = omega arith;
     sink = omega arith;
-    clock = refl;
-    gave = ([], sym (front_none (left p.ends.source)));
-    took = took_none (written p.ends.sink);
   }
 
   later_looked : (first old new : PortEnds S K C) → Later first old → IsLooked left source_faults old new → Later first new
   later_looked first old new was look = record {
     port = look.port ∙ was.port;
+    used = record {
+      gave = gave_again (left first.ends.source) (left old.ends.source) (left new.ends.source) was.used.gave look.gave;
+      took = rw look.sink was.used.took;
+      clock = look.clock ∙ was.used.clock;
+    };
     source = omega (arith, look.later, was.source);
     sink = rw look.sink was.sink;
-    clock = look.clock ∙ was.clock;
-    gave = gave_again (left first.ends.source) (left old.ends.source) (left new.ends.source) was.gave look.gave;
-    took = rw look.sink was.took;
   }
 
   later_stepped : (first old new : PortEnds S K C) → Later first old → IsStepped written sink_faults old new → Later first new
@@ -60,11 +67,13 @@ module _ {S K C : Type 0} (left : S → Option (List ℕ)) (written : K → Opti
       let source_is : old.ends.source ≡ new.ends.source = sym (ap (λ (p : PortEnds S K C). p.ends.source) one.same) in
       record {
         port = ap (λ (p : PortEnds S K C). p.port) one.same ∙ was.port;
+        used = record {
+          gave = subst (λ (s : S). (octets : List ℕ) × Takes (left first.ends.source) (left s) octets) source_is was.used.gave;
+          took = took_again (written first.ends.sink) (written old.ends.sink) (written new.ends.sink) was.used.took one.took;
+          clock = ap (λ (p : PortEnds S K C). p.ends.clock) one.same ∙ was.used.clock;
+        };
         source = subst (λ (s : S). source_faults first.ends.source ≤ source_faults s) source_is was.source;
         sink = omega (arith, one.later, was.sink);
-        clock = ap (λ (p : PortEnds S K C). p.ends.clock) one.same ∙ was.clock;
-        gave = subst (λ (s : S). (octets : List ℕ) × Takes (left first.ends.source) (left s) octets) source_is was.gave;
-        took = took_again (written first.ends.sink) (written old.ends.sink) (written new.ends.sink) was.took one.took;
       }
 
   only_stepped : (p q : PortEnds S K C) → OnlySink written sink_faults p q → IsStepped written sink_faults p q

@@ -25,7 +25,7 @@ use Rattle.savi_history.proofs.Waiting.{ended_now, sent_here, sent_end}
 use Rattle.port_worker.specs.declared.port_ends.PortEnds.{PortEnds}
 use Rattle.port_worker.specs.SentFrames.{records}
 use Rattle.port_worker.specs.Drains.{waiting_at, with_failed, IsWritten, IsDrained}
-use Rattle.port_worker.specs.Outputs.{GoesOn, HasFailed, IsOutput, Allows}
+use Rattle.port_worker.specs.Outputs.{RunsOn, HasStopped, IsOutput, Allows}
 use Rattle.port_worker.proofs.Pieces.{took_then, took_until, pieces-append, pieces_joined, length-records, front_of_all, sure_front}
 use Rattle.port_worker.proofs.KeptOutputs.{KeepsOutput, keeps_same, keeps_then, keeps_drain, keeps_failed, queue_drain, queue_failed}
 
@@ -183,9 +183,9 @@ module _ {K : Type 0} (written : K → Option (List ℕ)) (faults : K → ℕ) (
     pieces_mid = let sizes = length-append (sent plan empty q past) items in let e : length (sent plan empty q mid) ≡ length (sent plan empty q past) + length items = ap (λ (l : List Item). length l) sent_mid ∙ sizes in omega arith
 
     -- all was written
-    pub drained_step : now ≡ mid → TookPieces (written old) (written new) (records items) None → GoesOn written plan past q first old → DrainStep written faults plan port None past now first new made
+    pub drained_step : now ≡ mid → TookPieces (written old) (written new) (records items) None → RunsOn written plan past q first old → DrainStep written faults plan port None past now first new made
     drained_step now_is took was =
-        let here : GoesOn written plan mid q first new = record {
+        let here : RunsOn written plan mid q first new = record {
           running = was.running;
           none = was.none;
           took = subst (λ (l : List (List ℕ)). TookPieces (written first) (written new) l None) (sym (ap pieces sent_mid ∙ pieces-append (sent plan empty q past) items))
@@ -195,7 +195,7 @@ module _ {K : Type 0} (written : K → Option (List ℕ)) (faults : K → ℕ) (
         record {
           step = record {
             later = None;
-            output = subst (λ (l : List Row). GoesOn written plan l q first new) (sym now_is) here;
+            output = subst (λ (l : List Row). RunsOn written plan l q first new) (sym now_is) here;
             made_so = λ stops allowed. now_is ∙ sym (drained_is stops ∙ no_failure plan stops port mid (subst (λ (l : List Row). is_stopped (stops q) (pieces_by plan empty q l) ≡ false) now_is allowed));
           };
           before = λ stop allowed.
@@ -203,7 +203,7 @@ module _ {K : Type 0} (written : K → Option (List ℕ)) (faults : K → ℕ) (
         }
 
     -- a write failed
-    module _ (whole : ℕ) (took : TookPieces (written old) (written new) (records items) (Some whole)) (rose : Rose (faults old) (faults new)) (later_faults : faults first ≤ faults old) (was : GoesOn written plan past q first old) where
+    module _ (whole : ℕ) (took : TookPieces (written old) (written new) (records items) (Some whole)) (rose : Rose (faults old) (faults new)) (later_faults : faults first ≤ faults old) (was : RunsOn written plan past q first old) where
       abbrev done : ℕ
       done = length (pieces (sent plan empty q past)) + whole
 
@@ -236,7 +236,7 @@ module _ {K : Type 0} (written : K → Option (List ℕ)) (faults : K → ℕ) (
 
       pub failed_step : now ≡ failed → DrainStep written faults plan port None past now first new made
       failed_step now_is =
-          let here : HasFailed written faults plan failed q first new done = record {
+          let here : HasStopped written faults plan failed q first new done = record {
             ended = ended_now plan empty mid (Egress port) hows.Failed;
             failed = end_failed plan port mid;
             quiet = quiet_failed plan port mid;
@@ -248,7 +248,7 @@ module _ {K : Type 0} (written : K → Option (List ℕ)) (faults : K → ℕ) (
           record {
             step = record {
               later = Some done;
-              output = subst (λ (l : List Row). HasFailed written faults plan l q first new done) (sym now_is) here;
+              output = subst (λ (l : List Row). HasStopped written faults plan l q first new done) (sym now_is) here;
               made_so = λ stops allowed.
                   now_is ∙ sym (drained_is stops ∙ a_failure plan stops port mid (subst (λ (o : Option ℕ). is_stopped o (pieces_by plan empty q mid) ≡ true) (sym allowed) (stopped_more done (pieces_by plan empty q mid) in_time)));
             };

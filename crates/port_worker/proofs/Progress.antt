@@ -25,7 +25,7 @@ use Rattle.port_worker.specs.declared.port_ends.Ahead.{Ahead}
 use Rattle.port_worker.specs.declared.port_ends.Ahead.TheVariants as ahead
 use Rattle.port_worker.specs.declared.port_ends.PortEnds.{PortEnds}
 use Rattle.port_worker.specs.Inputs.{turn_ahead, moment_ahead, with_first, Gives, WillCome, IsKnown, IsReadAs}
-use Rattle.port_worker.specs.Replays.{IsInputOf, IsInputAt}
+use Rattle.port_worker.specs.Served.{IsInputOf}
 use Rattle.port_worker.proofs.Joining.{IsRunning, read_twice, read_behind}
 
 -- an input with more arrivals in front
@@ -193,6 +193,11 @@ pub record Goes {S K C : Type 0} (left : S → Option (List ℕ)) (old new : Por
   pub takes : Takes (left old.ends.source) (left new.ends.source) gave
   pub read : HasReadAhead old.reader new.reader gave new.buf before new.ahead
   pub comes : (input : Input) → WillCome left new input → CameFirst left old (with_front before input)
+
+-- what the octets of a port's source are to its input, behind this history
+abbrev pub IsInputAt : {S K C : Type 0} → (S → Option (List ℕ)) → List Row → PortEnds S K C → PortEnds S K C → Input → Type 0
+IsInputAt left past old new input =
+    IsInputOf (Comes old.reader) (left old.ends.source) (left new.ends.source) (input_end (number_of old.port) past) input.arrivals input.ending
 
 -- What was taken, with some turns that are passed over, are the turns of the input that the source's octets are.
 pub record Gone {S K C : Type 0} (left : S → Option (List ℕ)) (plan : Plan) (k : ℕ) (past : List Row) (old new : PortEnds S K C) (taken : List Turn) : Type 0 where

@@ -22,10 +22,9 @@ use Rattle.port_worker.specs.declared.port_ends.PortEnds.{PortEnds}
 use Rattle.port_worker.specs.Pairs.{EachPair}
 use Rattle.port_worker.specs.Inputs.{IsSound, IsKnown, IsLooked, moment_of}
 use Rattle.port_worker.specs.Outputs.{IsOutput, AreOutputs, AreAllowed}
-use Rattle.port_worker.specs.Replays.{IsLater}
 use Rattle.port_worker.proofs.Measures.{weight, undone, undone_same}
 use Rattle.port_worker.proofs.Joining.{takes_twice}
-use Rattle.port_worker.proofs.Later.{looked_later}
+use Rattle.port_worker.proofs.Later.{IsLater, looked_later}
 use Rattle.port_worker.proofs.Progress.{head_of, head_ahead, moment_same, read_known, HasReadAhead, Goes, Progress, ProgressBy, read_ahead}
 
 pub record Running {S K C : Type 0} (left : S → Option (List ℕ)) (written : K → Option (List ℕ)) (source_faults : S → ℕ) (sink_faults : K → ℕ) (plan : Plan) (first ports : List (PortEnds S K C)) (past : List Row) : Type 0 where

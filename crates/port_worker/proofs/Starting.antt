@@ -27,12 +27,12 @@ use Rattle.port_worker.specs.Pairs.{EachPair}
 use Rattle.port_worker.specs.Inputs.{IsSound, IsReadable, Gives, WillCome}
 use Rattle.port_worker.specs.SentFrames.{OnlySink}
 use Rattle.port_worker.specs.Outputs.{AreOutputs, Allows, AreAllowed}
-use Rattle.port_worker.specs.Replays.{IsUnread, IsLater, ports_held, ports_planned}
+use Rattle.port_worker.specs.Replays.{IsUnread, ports_held, ports_planned}
 use Rattle.port_worker.proofs.Allowed.{allowed_itself}
 use Rattle.port_worker.proofs.KeptOutputs.{KeepsOutput, keeps_control, keeps_pieces, output_kept}
 use Rattle.port_worker.proofs.Planned.{count_is, number_is}
 use Rattle.port_worker.proofs.Joining.{front_none}
-use Rattle.port_worker.proofs.Later.{begun_later}
+use Rattle.port_worker.proofs.Later.{IsLater, begun_later}
 use Rattle.port_worker.proofs.Progress.{head_of, Goes, ProgressBy}
 use Rattle.port_worker.proofs.Running.{Running, head_at, element}
 

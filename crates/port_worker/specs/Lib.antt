@@ -6,4 +6,4 @@ pub mod Drains
 pub mod Outputs
 pub mod Choices
 pub mod Replays
-pub mod Sessions
+pub mod Served

@@ -3,7 +3,7 @@
 //! Each port has a capture to be read and one to be written (the libpcap savefile format). `replay` makes the one history
 //! of all inputs, as `savi_history` defines it, and writes at each port a capture of what is sent there. Its contract
 //! says so of the octets that the sources tell and of those that the sinks hold, also where reads or writes fail
-//! (`specs/Replays.antt`). `replay_session` takes the memory for it and makes the switch (`specs/Sessions.antt`).
+//! (`specs/Served.antt`). `replay_session` takes the memory for it and makes the switch.
 #![tactic(auto)]
 
 mod choice;

@@ -2,8 +2,10 @@
 
 ghost use Rattle.std.specs.Prelude.{◌≡◌, false, All, IfOk, IfErr};
 ghost use Rattle.savi_kinds.specs.ValidPlan.{IsValidPlan};
+ghost use Rattle.savi_history.specs.Bases.{empty};
+ghost use Rattle.port_worker.specs.Pairs.{EachPair};
 ghost use Rattle.port_worker.specs.Replays.{ports_held, ports_planned, IsUnread};
-ghost use Rattle.port_worker.specs.Sessions.{IsSession};
+ghost use Rattle.port_worker.specs.Served.{IsSamePort, ServesEnds};
 
 use crate::port_ends::PortEnds;
 use crate::turns::replay;
@@ -38,7 +40,9 @@ pub fn replay_session<S: Source, K: Sink, C: Clock>(
     requires planned { ports_held ready.ports.items ≡ ports_planned plan }
     requires unread { All IsUnread ready.ports.items }
     ensures none { IfErr result (λ back. back ≡ ready) }
-    ensures session { IfOk result (λ closed. IsSession S.left K.written S.faults K.faults plan closed.core ready.ports.items closed.ready.ports.items) }
+    ensures plan { IfOk result (λ closed. closed.core.plan ≡ plan) }
+    ensures ports { IfOk result (λ closed. EachPair IsSamePort ready.ports.items closed.ready.ports.items) }
+    ensures serves { IfOk result (λ closed. ServesEnds S.left K.written S.faults K.faults plan empty closed.core.past ready.ports.items closed.ready.ports.items) }
 {
     let mut ready = ready;
     let Ok(mut core) = Core::make(alloc, plan) else {

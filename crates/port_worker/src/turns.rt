@@ -17,8 +17,8 @@ ghost use Rattle.port_worker.specs.Pairs.{EachPair};
 ghost use Rattle.port_worker.specs.Inputs.{IsSound, turn_of};
 ghost use Rattle.port_worker.specs.Steps.{IsStepped, ends_input, ahead_after};
 ghost use Rattle.port_worker.specs.Outputs.{OutputsGoOn, IsOutputEnded};
-ghost use Rattle.port_worker.specs.Replays.{ports_held, ports_planned, IsUnread, IsLater, HasBroken};
-ghost use Rattle.port_worker.specs.Sessions.{IsPlayed};
+ghost use Rattle.port_worker.specs.Replays.{ports_held, ports_planned, IsUnread};
+ghost use Rattle.port_worker.specs.Served.{IsSamePort, ServesEnds};
 
 use crate::choice::next_of;
 use crate::looking::look_all;
@@ -50,9 +50,8 @@ pub fn replay<S: Source, K: Sink, C: Clock>(
     requires planned { ports_held ports.old ≡ ports_planned core.old.plan }
     requires unread { All IsUnread ports.old }
     ensures plan { core.new.plan ≡ core.old.plan }
-    ensures later { EachPair (IsLater S.left K.written S.faults K.faults) ports.old ports.new }
-    ensures broken { EachPair (HasBroken S.faults core.new.past) ports.old ports.new }
-    ensures played { IsPlayed S.left K.written K.faults core.old.plan core.new.past ports.old ports.new }
+    ensures ports { EachPair IsSamePort ports.old ports.new }
+    ensures serves { ServesEnds S.left K.written S.faults K.faults core.old.plan empty core.new.past ports.old ports.new }
 {
     begin_all(core, ports);
     let _control = core.step(Event::End {

@@ -14,7 +14,8 @@ use Rattle.savi_history.specs.Limits.{has_room}
 use Rattle.savi_history.specs.Passes.{pass_of, has_ended}
 use Rattle.savi_history.specs.Queues.{queue}
 use Rattle.savi_history.specs.Events.{Event, Drain, End}
-use Rattle.savi_history.specs.Turns.{Turn, Arrives, Ends, who_of, merged}
+use Rattle.savi_history.specs.Merges.{merged}
+use Rattle.savi_history.specs.Turns.{Turn, Arrives, Ends, who_of, turn_at}
 use Rattle.savi_history.specs.Replay.{Stops, is_stopped, pieces_by, event_of, with_event, with_failure, begun, with_drain, drained, entered, after, after_all}
 use Rattle.savi_history.proofs.Filtering.{AllAre, AreWhole, filter_merged}
 
@@ -120,7 +121,7 @@ passed_over plan base stops before (turn ∷ turns) past later =
 
 -- What an input still holds behind its end changes nothing.
 pub stopped : (plan : Plan) (base : Base) (stops : Stops) (past : List Row) (inputs : List (List Turn)) → AreSingle plan inputs
-    → after_all plan base stops (merged inputs) past ≡ after_all plan base stops (merged (still_open plan base past inputs)) past
+    → after_all plan base stops (merged turn_at inputs) past ≡ after_all plan base stops (merged turn_at (still_open plan base past inputs)) past
 stopped plan base stops past inputs single =
-    passed_over plan base stops past (merged inputs) past (λ pass is. is)
-    ∙ ap (λ (l : List Turn). after_all plan base stops l past) (filter_merged (is_open plan base past) inputs (are_whole plan base past inputs single))
+    passed_over plan base stops past (merged turn_at inputs) past (λ pass is. is)
+    ∙ ap (λ (l : List Turn). after_all plan base stops l past) (filter_merged turn_at (is_open plan base past) inputs (are_whole plan base past inputs single))

@@ -17,7 +17,8 @@ use Rattle.savi_history.specs.Bases.{Base}
 use Rattle.savi_history.specs.Passes.{pass_of, has_ended, place_of, pass_count, control_pass, ticker_pass, egress_pass}
 use Rattle.savi_history.specs.Events.{End}
 use Rattle.savi_history.specs.Legal.{IsFinished}
-use Rattle.savi_history.specs.Turns.{Turn, Arrives, Ends, turn_at, port_turns, enter, merge, merged}
+use Rattle.savi_history.specs.Merges.{enter, merge, merged}
+use Rattle.savi_history.specs.Turns.{Turn, Arrives, Ends, turn_at, port_turns}
 use Rattle.savi_history.specs.Replay.{Stops, with_event, begun, with_end, after, after_all, egress_ended, control_turns, replayed}
 use Rattle.savi_history.proofs.Ends.{Later, later_event, later_after, after_open}
 use Rattle.savi_history.proofs.Waiting.{ended_now}
@@ -40,34 +41,34 @@ in_both plan pass (Ends who how) xs ys more (inl here) = inl here
 in_both plan pass (Ends who how) xs ys more (inr there) = inr (more there)
 
 module _ (plan : Plan) (pass : ℕ) (x : Turn) (xs : List Turn) (rest : List Turn → List Turn) (left : (ys : List Turn) → EndsIn plan pass xs → EndsIn plan pass (rest ys)) (right : (ys : List Turn) → EndsIn plan pass ys → EndsIn plan pass (rest ys)) where
-  enter_left_at : (b : Bool) (y : Turn) (ys : List Turn) → EndsIn plan pass (x ∷ xs) → EndsIn plan pass (enter x rest ys) → EndsIn plan pass (if b then y ∷ enter x rest ys else x ∷ rest (y ∷ ys))
-  enter_left_at true y ys is step = in_tail plan pass y (enter x rest ys) step
+  enter_left_at : (b : Bool) (y : Turn) (ys : List Turn) → EndsIn plan pass (x ∷ xs) → EndsIn plan pass (enter turn_at x rest ys) → EndsIn plan pass (if b then y ∷ enter turn_at x rest ys else x ∷ rest (y ∷ ys))
+  enter_left_at true y ys is step = in_tail plan pass y (enter turn_at x rest ys) step
   enter_left_at false y ys is step = in_both plan pass x xs (rest (y ∷ ys)) (left (y ∷ ys)) is
 
-  in_enter_left : (ys : List Turn) → EndsIn plan pass (x ∷ xs) → EndsIn plan pass (enter x rest ys)
+  in_enter_left : (ys : List Turn) → EndsIn plan pass (x ∷ xs) → EndsIn plan pass (enter turn_at x rest ys)
   in_enter_left [] is = in_both plan pass x xs (rest []) (left []) is
   in_enter_left (y ∷ ys) is = enter_left_at (nat_lt (turn_at y) (turn_at x)) y ys is (in_enter_left ys is)
 
-  enter_right_at : (b : Bool) (y : Turn) (ys : List Turn) → EndsIn plan pass (y ∷ ys) → (EndsIn plan pass ys → EndsIn plan pass (enter x rest ys)) → EndsIn plan pass (if b then y ∷ enter x rest ys else x ∷ rest (y ∷ ys))
-  enter_right_at true y ys is step = in_both plan pass y ys (enter x rest ys) step is
+  enter_right_at : (b : Bool) (y : Turn) (ys : List Turn) → EndsIn plan pass (y ∷ ys) → (EndsIn plan pass ys → EndsIn plan pass (enter turn_at x rest ys)) → EndsIn plan pass (if b then y ∷ enter turn_at x rest ys else x ∷ rest (y ∷ ys))
+  enter_right_at true y ys is step = in_both plan pass y ys (enter turn_at x rest ys) step is
   enter_right_at false y ys is step = in_tail plan pass x (rest (y ∷ ys)) (right (y ∷ ys) is)
 
-  in_enter_right : (ys : List Turn) → EndsIn plan pass ys → EndsIn plan pass (enter x rest ys)
+  in_enter_right : (ys : List Turn) → EndsIn plan pass ys → EndsIn plan pass (enter turn_at x rest ys)
   in_enter_right [] is = absurd is
   in_enter_right (y ∷ ys) is = enter_right_at (nat_lt (turn_at y) (turn_at x)) y ys is (in_enter_right ys)
 
-in_merge_right : (plan : Plan) (pass : ℕ) (xs ys : List Turn) → EndsIn plan pass ys → EndsIn plan pass (merge xs ys)
+in_merge_right : (plan : Plan) (pass : ℕ) (xs ys : List Turn) → EndsIn plan pass ys → EndsIn plan pass (merge turn_at xs ys)
 in_merge_right plan pass [] ys is = is
-in_merge_right plan pass (x ∷ xs) ys is = in_enter_right plan pass x [] (merge xs) (λ zs none. absurd none) (λ zs there. in_merge_right plan pass xs zs there) ys is
+in_merge_right plan pass (x ∷ xs) ys is = in_enter_right plan pass x [] (merge turn_at xs) (λ zs none. absurd none) (λ zs there. in_merge_right plan pass xs zs there) ys is
 
-in_merge_left : (plan : Plan) (pass : ℕ) (xs ys : List Turn) → EndsIn plan pass xs → EndsIn plan pass (merge xs ys)
+in_merge_left : (plan : Plan) (pass : ℕ) (xs ys : List Turn) → EndsIn plan pass xs → EndsIn plan pass (merge turn_at xs ys)
 in_merge_left plan pass [] ys is = absurd is
-in_merge_left plan pass (x ∷ xs) ys is = in_enter_left plan pass x xs (merge xs) (λ zs there. in_merge_left plan pass xs zs there) (λ zs there. in_merge_right plan pass xs zs there) ys is
+in_merge_left plan pass (x ∷ xs) ys is = in_enter_left plan pass x xs (merge turn_at xs) (λ zs there. in_merge_left plan pass xs zs there) (λ zs there. in_merge_right plan pass xs zs there) ys is
 
-in_merged : (plan : Plan) (pass : ℕ) (inputs : List (List Turn)) (k : ℕ) → EndsIn plan pass (get_or inputs k []) → EndsIn plan pass (merged inputs)
+in_merged : (plan : Plan) (pass : ℕ) (inputs : List (List Turn)) (k : ℕ) → EndsIn plan pass (get_or inputs k []) → EndsIn plan pass (merged turn_at inputs)
 in_merged plan pass [] k is = absurd is
-in_merged plan pass (input ∷ inputs) zero is = in_merge_left plan pass input (merged inputs) is
-in_merged plan pass (input ∷ inputs) (suc k) is = in_merge_right plan pass input (merged inputs) (in_merged plan pass inputs k is)
+in_merged plan pass (input ∷ inputs) zero is = in_merge_left plan pass input (merged turn_at inputs) is
+in_merged plan pass (input ∷ inputs) (suc k) is = in_merge_right plan pass input (merged turn_at inputs) (in_merged plan pass inputs k is)
 
 in_turns_from : (plan : Plan) (port : Port) (before : List Arrival) (how : How) → EndsIn plan (pass_of plan (passes.Ingress port)) (map (λ a. Arrives port a) before ++ Ends (passes.Ingress port) how ∷ [])
 in_turns_from plan port [] how = inl refl
@@ -124,7 +125,7 @@ egress_all plan base (q ∷ qs) past (suc k) inside = egress_all plan base qs (w
 
 module _ (plan : Plan) (base : Base) (inputs : List Input) (stops : Stops) (rising : IsStrictlyIncreasing (numbers_of plan.ports)) (size : length inputs ≡ length plan.ports) where
   abbrev pub all : List Turn
-  all = merged (control_turns ∷ port_turns plan.ports inputs)
+  all = merged turn_at (control_turns ∷ port_turns plan.ports inputs)
 
   abbrev pub before : List Row
   before = after_all plan base stops all (begun plan base stops plan.ports [])

@@ -24,7 +24,8 @@ use Rattle.savi_history.specs.Queues.{queue}
 use Rattle.savi_history.specs.Events.{Event, Drain, End}
 use Rattle.savi_history.specs.Legal.{IsLegal, IsOpen, MayCome}
 use Rattle.savi_history.specs.Readable.{IsArrival, IsEnding, IsInput}
-use Rattle.savi_history.specs.Turns.{Turn, Arrives, Ends, who_of, turn_at, turns, port_turns, enter, merge, merged}
+use Rattle.savi_history.specs.Merges.{enter, merge, merged}
+use Rattle.savi_history.specs.Turns.{Turn, Arrives, Ends, who_of, turn_at, turns, port_turns}
 use Rattle.savi_history.specs.Replay.{Stops, is_stopped, pieces_by, event_of, with_event, with_failure, begun, with_drain, drained, entered, after, after_all, with_end, egress_ended, control_turns, replayed}
 use Rattle.savi_history.proofs.Ends.{later_event}
 use Rattle.savi_history.proofs.Waiting.{ended_now, ended_other, ended_arrival, ended_failure, ended_drained, ended_begun, empty_end, empty_begun, drained_empty}
@@ -174,28 +175,28 @@ module _ (plan : Plan) (stops : Stops) where
   good_all (t ∷ ts) past fits good = good_all ts (after plan empty stops t past) fits.1 (good_after t past (has_ended empty (pass_of plan (who_of t)) past) refl good fits.0)
 
   module _ (x : Turn) (rest : List Turn → List Turn) (fits : IsTurn plan x) (behind : (ys : List Turn) → AreTurns plan ys → AreTurns plan (rest ys)) where
-    enter_at : (b : Bool) (y : Turn) (ys : List Turn) → AreTurns plan (y ∷ ys) → AreTurns plan (enter x rest ys) → AreTurns plan (if b then y ∷ enter x rest ys else x ∷ rest (y ∷ ys))
+    enter_at : (b : Bool) (y : Turn) (ys : List Turn) → AreTurns plan (y ∷ ys) → AreTurns plan (enter turn_at x rest ys) → AreTurns plan (if b then y ∷ enter turn_at x rest ys else x ∷ rest (y ∷ ys))
     enter_at true y ys are step = (are.0, step)
     enter_at false y ys are step = (fits, behind (y ∷ ys) are)
 
-    turns_enter : (ys : List Turn) → AreTurns plan ys → AreTurns plan (enter x rest ys)
+    turns_enter : (ys : List Turn) → AreTurns plan ys → AreTurns plan (enter turn_at x rest ys)
     turns_enter [] are = (fits, behind [] tt)
     turns_enter (y ∷ ys) are = enter_at (nat_lt (turn_at y) (turn_at x)) y ys are (turns_enter ys are.1)
 
-  turns_merge : (xs ys : List Turn) → AreTurns plan xs → AreTurns plan ys → AreTurns plan (merge xs ys)
+  turns_merge : (xs ys : List Turn) → AreTurns plan xs → AreTurns plan ys → AreTurns plan (merge turn_at xs ys)
   turns_merge [] ys are_x are_y = are_y
-  turns_merge (x ∷ xs) ys are_x are_y = turns_enter x (merge xs) are_x.0 (λ zs are. turns_merge xs zs are_x.1 are) ys are_y
+  turns_merge (x ∷ xs) ys are_x are_y = turns_enter x (merge turn_at xs) are_x.0 (λ zs are. turns_merge xs zs are_x.1 are) ys are_y
 
   turns_from : (port : Port) (before : List Arrival) (how : How) → has_port plan (number_of port) ≡ true → All IsArrival before → IsEnding how → AreTurns plan (map (λ a. Arrives port a) before ++ Ends (passes.Ingress port) how ∷ [])
   turns_from port [] how known fits ends = ((known, ends), tt)
   turns_from port (a ∷ before) how known fits ends = ((known, fits 0 a (omega arith)), turns_from port before how known (λ k d inside. fits (suc k) d (omega arith)) ends)
 
-  turns_ports : (ports : List PortPlan) (inputs : List Input) → AreKnown plan ports → All IsInput inputs → AreTurns plan (merged (port_turns ports inputs))
+  turns_ports : (ports : List PortPlan) (inputs : List Input) → AreKnown plan ports → All IsInput inputs → AreTurns plan (merged turn_at (port_turns ports inputs))
   turns_ports [] inputs known are = tt
   turns_ports (p ∷ ports) [] known are = tt
   turns_ports (p ∷ ports) (i ∷ inputs) known are =
       let first : IsInput i = are 0 i (omega arith) in
-      turns_merge (turns p.number i) (merged (port_turns ports inputs)) (turns_from p.number i.arrivals i.ending known.0 first.arrivals first.ending)
+      turns_merge (turns p.number i) (merged turn_at (port_turns ports inputs)) (turns_from p.number i.arrivals i.ending known.0 first.arrivals first.ending)
       (turns_ports ports inputs known.1 (λ k d inside. are (suc k) d (omega arith)))
 
   -- where all else has ended and nothing waits, an egress that is open may end
@@ -222,14 +223,14 @@ module _ (plan : Plan) (stops : Stops) where
   replay_legal : (inputs : List Input) → IsStrictlyIncreasing (numbers_of plan.ports) → length inputs ≡ length plan.ports → All IsInput inputs → IsLegal plan empty (replayed plan empty inputs stops)
   replay_legal inputs rising size are =
       let started : List Row = begun plan empty stops plan.ports [] in
-      let before : List Row = after_all plan empty stops (merged (control_turns ∷ port_turns plan.ports inputs)) started in
+      let before : List Row = after_all plan empty stops (merged turn_at (control_turns ∷ port_turns plan.ports inputs)) started in
       let places : (k : ℕ) → k < length plan.ports → place_of plan (number_at plan k) ≡ 0 + k = λ k inside. place_at plan k rising inside ∙ omega arith in
       let good_start : IsGood plan started = record {
         legal = legal_begun plan.ports 0 [] places all_known tt (λ k inside. refl);
         ticking = ended_begun plan empty stops plan.ports [] (ticker_pass plan) (omega arith);
         quiet = λ k inside. empty_begun plan empty stops plan.ports [] (number_at plan k) refl;
       } in
-      let good : IsGood plan before = good_all (merged (control_turns ∷ port_turns plan.ports inputs)) started (turns_merge control_turns (merged (port_turns plan.ports inputs)) (refl, tt) (turns_ports plan.ports inputs all_known are)) good_start in
+      let good : IsGood plan before = good_all (merged turn_at (control_turns ∷ port_turns plan.ports inputs)) started (turns_merge control_turns (merged turn_at (port_turns plan.ports inputs)) (refl, tt) (turns_ports plan.ports inputs all_known are)) good_start in
       let inputs_ended : AllEnded empty (control_pass plan + 1) before = λ pass below. finished_low plan empty inputs stops rising size pass (cases_lt pass (length plan.ports)) below in
       let ticked = with_event plan empty before (End passes.Ticker hows.End) in
       legal_egress plan.ports ticked

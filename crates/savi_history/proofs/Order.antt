@@ -7,7 +7,8 @@ use Rattle.savi_kinds.specs.declared.plan.Plan.{Plan}
 use Rattle.hist_store.specs.Rows.{Row}
 use Rattle.savi_history.specs.Bases.{Base}
 use Rattle.savi_history.specs.Passes.{pass_of, has_ended}
-use Rattle.savi_history.specs.Turns.{Turn, who_of, merged}
+use Rattle.savi_history.specs.Merges.{merged}
+use Rattle.savi_history.specs.Turns.{Turn, who_of, turn_at}
 use Rattle.savi_history.specs.Picks.{first_at, IsLeast}
 use Rattle.savi_history.specs.Replay.{Stops, after, after_all}
 use Rattle.savi_history.proofs.Merging.{picked}
@@ -80,19 +81,19 @@ same_head x y xs ys e = (cc, cc)
 
 -- The turn that comes first is entered, whatever comes behind it.
 pub next_turn : (plan : Plan) (base : Base) (stops : Stops) (past : List Row) (inputs : List (List Turn)) (j : ℕ) (turn : Turn) (left : List Turn)
-    → AreSingle plan inputs → get_or inputs j [] ≡ turn ∷ left → has_ended base (pass_of plan (who_of turn)) past ≡ false → IsLeast (map first_at (still_open plan base past inputs)) j
-    → after_all plan base stops (merged inputs) past ≡ after_all plan base stops (merged (set inputs j left)) (after plan base stops turn past)
+    → AreSingle plan inputs → get_or inputs j [] ≡ turn ∷ left → has_ended base (pass_of plan (who_of turn)) past ≡ false → IsLeast (map (first_at turn_at) (still_open plan base past inputs)) j
+    → after_all plan base stops (merged turn_at inputs) past ≡ after_all plan base stops (merged turn_at (set inputs j left)) (after plan base stops turn past)
 next_turn plan base stops past inputs j turn left single there running least =
     let open_now = still_open plan base past inputs in
     let now = after plan base stops turn past in
-    let first = picked open_now j least in
+    let first = picked turn_at open_now j least in
     let of : AreOf plan (single j).0 (turn ∷ left) = subst (λ (l : List Turn). AreOf plan (single j).0 l) there (single j).1 in
     let runs : has_ended base (single j).0 past ≡ false = sym (ap (λ (n : ℕ). has_ended base n past) of.0) ∙ running in
     let kept : get_or open_now j [] ≡ turn ∷ left =
     get_or-map_past (filter (is_open plan base past)) inputs j [] ∙ ap (filter (is_open plan base past)) there ∙ of_open plan base past (single j).0 (turn ∷ left) of runs in
     let same : (first.turn ≡ turn) × (first.left ≡ left) = same_head first.turn turn first.left left (sym first.there ∙ kept) in
-    let split : merged open_now ≡ turn ∷ merged (set open_now j left) =
-    first.first ∙ ap (λ (t : Turn). t ∷ merged (set open_now j first.left)) same.0 ∙ ap (λ (l : List Turn). turn ∷ merged (set open_now j l)) same.1 in
+    let split : merged turn_at open_now ≡ turn ∷ merged turn_at (set open_now j left) =
+    first.first ∙ ap (λ (t : Turn). t ∷ merged turn_at (set open_now j first.left)) same.0 ∙ ap (λ (l : List Turn). turn ∷ merged turn_at (set open_now j l)) same.1 in
     let keeps = filter (is_open plan base now) in
     let again : still_open plan base now (set open_now j left) ≡ still_open plan base now (set inputs j left) =
     map-set keeps open_now j left
@@ -101,5 +102,5 @@ next_turn plan base stops past inputs j turn left single there running least =
     stopped plan base stops past inputs single
     ∙ ap (λ (l : List Turn). after_all plan base stops l past) split
     ∙ stopped plan base stops now (set open_now j left) (single_set plan open_now j (single j).0 left of.1 (single_open plan base past inputs single))
-    ∙ ap (λ (l : List (List Turn)). after_all plan base stops (merged l) now) again
+    ∙ ap (λ (l : List (List Turn)). after_all plan base stops (merged turn_at l) now) again
     ∙ sym (stopped plan base stops now (set inputs j left) (single_set plan inputs j (single j).0 left of.1 single))

@@ -11,7 +11,8 @@ use Rattle.hist_store.specs.Rows.{Row}
 use Rattle.savi_history.specs.Bases.{Base}
 use Rattle.savi_history.specs.Passes.{pass_of, has_ended, control_pass}
 use Rattle.savi_history.specs.Events.{End}
-use Rattle.savi_history.specs.Turns.{Turn, Ends, who_of, turn_at, merged}
+use Rattle.savi_history.specs.Merges.{merged}
+use Rattle.savi_history.specs.Turns.{Turn, Ends, who_of, turn_at}
 use Rattle.savi_history.specs.Picks.{first_at, IsLeast}
 use Rattle.savi_history.specs.Replay.{Stops, with_event, after, after_all, control_turns}
 use Rattle.savi_history.proofs.Merging.{NoneBefore, merge_left, merged_none}
@@ -67,29 +68,29 @@ joined (t ∷ taken) (r ∷ rest) = (t ++ r) ∷ joined taken rest
 abbrev pub Reaches : Plan → Base → Stops → List Row → List Head → List (List Turn) → List Row → Type 0
 Reaches plan base stops start heads taken past =
     (rest : List (List Turn)) → AreLeft plan heads rest
-    → after_all plan base stops (merged (control_turns ∷ joined taken rest)) start ≡ after_all plan base stops (merged rest) past
+    → after_all plan base stops (merged turn_at (control_turns ∷ joined taken rest)) start ≡ after_all plan base stops (merged turn_at rest) past
 
 single_left : (plan : Plan) (heads : List Head) (rest : List (List Turn)) → AreLeft plan heads rest → AreSingle plan rest
 single_left plan heads rest left k = (k, left.of k)
 
 -- the moments of what comes first are those of the heads
-moment_is : (plan : Plan) (base : Base) (past : List Row) (k : ℕ) (head : Head) (turns : List Turn) → IsRead head → AreOf plan k turns → Agrees base past k head → IsLeft head turns → first_at (filter (is_open plan base past) turns) ≡ moment_of head
+moment_is : (plan : Plan) (base : Base) (past : List Row) (k : ℕ) (head : Head) (turns : List Turn) → IsRead head → AreOf plan k turns → Agrees base past k head → IsLeft head turns → first_at turn_at (filter (is_open plan base past) turns) ≡ moment_of head
 moment_is plan base past k Unread turns read of agrees left = absurd read
 moment_is plan base past k (Known turn) turns read of agrees left =
-    ap first_at (of_open plan base past k turns of agrees) ∙ ap first_at left.1
-moment_is plan base past k Done turns read of agrees left = ap first_at (of_ended plan base past k turns of agrees)
+    ap (first_at turn_at) (of_open plan base past k turns of agrees) ∙ ap (first_at turn_at) left.1
+moment_is plan base past k Done turns read of agrees left = ap (first_at turn_at) (of_ended plan base past k turns of agrees)
 
 pub moments_are : (plan : Plan) (base : Base) (past : List Row) (heads : List Head) (rest : List (List Turn)) → AllRead heads → AllAgree base past heads → AreLeft plan heads rest
-    → map first_at (still_open plan base past rest) ≡ map moment_of heads
+    → map (first_at turn_at) (still_open plan base past rest) ≡ map moment_of heads
 moments_are plan base past heads rest read agree left =
     let keeps = filter (is_open plan base past) in
     let size = left.size in
-    let length_left : length (map first_at (map keeps rest)) ≡ length heads = length-map (map keeps rest) first_at ∙ length-map rest keeps ∙ size in
+    let length_left : length (map (first_at turn_at) (map keeps rest)) ≡ length heads = length-map (map keeps rest) (first_at turn_at) ∙ length-map rest keeps ∙ size in
     let length_right = length-map heads moment_of in
-    ext_get_or None (map first_at (still_open plan base past rest)) (map moment_of heads) (omega arith)
+    ext_get_or None (map (first_at turn_at) (still_open plan base past rest)) (map moment_of heads) (omega arith)
     (λ k inside.
-    get_or-map_past first_at (map keeps rest) k []
-    ∙ ap first_at (get_or-map_past keeps rest k [])
+    get_or-map_past (first_at turn_at) (map keeps rest) k []
+    ∙ ap (first_at turn_at) (get_or-map_past keeps rest k [])
     ∙ moment_is plan base past k (get_or heads k Done) (get_or rest k []) (read k (omega arith)) (left.of k) (agree k (omega arith)) (left.each k)
     ∙ sym (get_or-map_past moment_of heads k Done))
 
@@ -98,17 +99,17 @@ pub start_heads : List (List Turn) → List Head
 start_heads [] = []
 start_heads (t ∷ taken) = Unread ∷ start_heads taken
 
-zero_none : (ys : List Turn) → NoneBefore 0 ys
+zero_none : (ys : List Turn) → NoneBefore turn_at 0 ys
 zero_none [] = tt
 zero_none (y ∷ ys) = grind arith
 
 pub reaches_start : (plan : Plan) (base : Base) (stops : Stops) (start : List Row) (heads : List Head) (taken : List (List Turn)) → has_ended base (control_pass plan) start ≡ false → ((rest : List (List Turn)) → length rest ≡ length heads → joined taken rest ≡ rest)
     → Reaches plan base stops start heads taken (with_event plan base start (End passes.Control hows.End))
 reaches_start plan base stops start heads taken running none rest left =
-    let first : merged (control_turns ∷ rest) ≡ Ends passes.Control hows.End ∷ merged rest = merge_left (Ends passes.Control hows.End) [] (merged rest) (zero_none (merged rest)) in
-    ap (λ (l : List (List Turn)). after_all plan base stops (merged (control_turns ∷ l)) start) (none rest left.size)
+    let first : merged turn_at (control_turns ∷ rest) ≡ Ends passes.Control hows.End ∷ merged turn_at rest = merge_left turn_at (Ends passes.Control hows.End) [] (merged turn_at rest) (zero_none (merged turn_at rest)) in
+    ap (λ (l : List (List Turn)). after_all plan base stops (merged turn_at (control_turns ∷ l)) start) (none rest left.size)
     ∙ ap (λ (l : List Turn). after_all plan base stops l start) first
-    ∙ ap (after_all plan base stops (merged rest)) (after_open plan base stops (Ends passes.Control hows.End) start running)
+    ∙ ap (after_all plan base stops (merged turn_at rest)) (after_open plan base stops (Ends passes.Control hows.End) start running)
 
 -- one turn goes over from what is left to what was taken
 joined_move : (taken rest : List (List Turn)) (j : ℕ) (turn : Turn) → joined taken (set rest j (turn ∷ get_or rest j [])) ≡ joined (set taken j (get_or taken j [] ++ turn ∷ [])) rest
@@ -158,13 +159,13 @@ reaches_take plan base stops start heads taken past j turn next there of read ag
     let left_earlier = left_before plan heads j turn next rest inside there of left in
     let running : has_ended base (pass_of plan (who_of turn)) past ≡ false =
     ap (λ (n : ℕ). has_ended base n past) of ∙ subst (λ (h : Head). Agrees base past j h) there (agree j inside) in
-    let first : IsLeast (map first_at (still_open plan base past earlier)) j = rw (moments_are plan base past heads earlier read agree left_earlier) least in
+    let first : IsLeast (map (first_at turn_at) (still_open plan base past earlier)) j = rw (moments_are plan base past heads earlier read agree left_earlier) least in
     let now = after plan base stops turn past in
     let step = next_turn plan base stops past earlier j turn (get_or rest j []) (single_left plan heads earlier left_earlier) (here plan heads j turn next rest inside there of left) running first in
-    ap (λ (l : List (List Turn)). after_all plan base stops (merged (control_turns ∷ l)) start) (sym (joined_move taken rest j turn))
+    ap (λ (l : List (List Turn)). after_all plan base stops (merged turn_at (control_turns ∷ l)) start) (sym (joined_move taken rest j turn))
     ∙ reaches earlier left_earlier
     ∙ step
-    ∙ ap (λ (l : List (List Turn)). after_all plan base stops (merged l) now) (back_again plan heads j turn next rest inside there of left)
+    ∙ ap (λ (l : List (List Turn)). after_all plan base stops (merged turn_at l) now) (back_again plan heads j turn next rest inside there of left)
 
 all_none : (heads : List Head) → ((k : ℕ) → k < length heads → get_or heads k Done ≡ Done) → (k : ℕ) (d : Option ℕ) → k < length (map moment_of heads) → get_or (map moment_of heads) k d ≡ None
 all_none heads done k d inside =
@@ -177,9 +178,9 @@ read_done heads done k inside = rw (done k inside) tt
 -- All inputs have ended: what is left of them changes nothing.
 pub reaches_end : (plan : Plan) (base : Base) (stops : Stops) (start : List Row) (heads : List Head) (taken : List (List Turn)) (past : List Row) (rest : List (List Turn))
     → ((k : ℕ) → k < length heads → get_or heads k Done ≡ Done) → AllAgree base past heads → AreLeft plan heads rest → Reaches plan base stops start heads taken past
-    → past ≡ after_all plan base stops (merged (control_turns ∷ joined taken rest)) start
+    → past ≡ after_all plan base stops (merged turn_at (control_turns ∷ joined taken rest)) start
 reaches_end plan base stops start heads taken past rest done agree left reaches =
     let open_now = still_open plan base past rest in
     let moments = moments_are plan base past heads rest (read_done heads done) agree left in
-    let none : merged open_now ≡ [] = merged_none open_now (rw moments (all_none heads done)) in
+    let none : merged turn_at open_now ≡ [] = merged_none turn_at open_now (rw moments (all_none heads done)) in
     sym (reaches rest left ∙ stopped plan base stops past rest (single_left plan heads rest left) ∙ ap (λ (l : List Turn). after_all plan base stops l past) none)

@@ -16,7 +16,8 @@ use Rattle.savi_history.specs.Limits.{has_room}
 use Rattle.savi_history.specs.Passes.{pass_of, has_ended}
 use Rattle.savi_history.specs.Queues.{queue}
 use Rattle.savi_history.specs.Events.{End}
-use Rattle.savi_history.specs.Turns.{Turn, Arrives, Ends, who_of, turn_at, turns, port_turns, enter, merge, merged}
+use Rattle.savi_history.specs.Merges.{enter, merge, merged}
+use Rattle.savi_history.specs.Turns.{Turn, Arrives, Ends, who_of, turn_at, turns, port_turns}
 use Rattle.savi_history.specs.Replay.{Stops, event_of, with_event, begun, with_drain, drained, entered, after, after_all, with_end, egress_ended, control_turns, replayed}
 use Rattle.savi_history.proofs.PassNumbers.{number_at}
 
@@ -48,27 +49,27 @@ AllAt plan ports = (k : ℕ) → k < length ports → IsAt plan (get_or (numbers
 
 module _ (plan : Plan) where
   module _ (x : Turn) (rest : List Turn → List Turn) (ours : IsOurs plan x) (behind : (ys : List Turn) → AreOurs plan ys → AreOurs plan (rest ys)) where
-    enter_at : (b : Bool) (y : Turn) (ys : List Turn) → AreOurs plan (y ∷ ys) → AreOurs plan (enter x rest ys) → AreOurs plan (if b then y ∷ enter x rest ys else x ∷ rest (y ∷ ys))
+    enter_at : (b : Bool) (y : Turn) (ys : List Turn) → AreOurs plan (y ∷ ys) → AreOurs plan (enter turn_at x rest ys) → AreOurs plan (if b then y ∷ enter turn_at x rest ys else x ∷ rest (y ∷ ys))
     enter_at true y ys are step = (are.0, step)
     enter_at false y ys are step = (ours, behind (y ∷ ys) are)
 
-    turns_enter : (ys : List Turn) → AreOurs plan ys → AreOurs plan (enter x rest ys)
+    turns_enter : (ys : List Turn) → AreOurs plan ys → AreOurs plan (enter turn_at x rest ys)
     turns_enter [] are = (ours, behind [] tt)
     turns_enter (y ∷ ys) are = enter_at (nat_lt (turn_at y) (turn_at x)) y ys are (turns_enter ys are.1)
 
-  turns_merge : (xs ys : List Turn) → AreOurs plan xs → AreOurs plan ys → AreOurs plan (merge xs ys)
+  turns_merge : (xs ys : List Turn) → AreOurs plan xs → AreOurs plan ys → AreOurs plan (merge turn_at xs ys)
   turns_merge [] ys are_x are_y = are_y
-  turns_merge (x ∷ xs) ys are_x are_y = turns_enter x (merge xs) are_x.0 (λ zs are. turns_merge xs zs are_x.1 are) ys are_y
+  turns_merge (x ∷ xs) ys are_x are_y = turns_enter x (merge turn_at xs) are_x.0 (λ zs are. turns_merge xs zs are_x.1 are) ys are_y
 
   turns_of : (port : Port) (before : List Arrival) (how : How) → IsAt plan (number_of port) → AreOurs plan (map (λ a. Arrives port a) before ++ Ends (passes.Ingress port) how ∷ [])
   turns_of port [] how at = (at, tt)
   turns_of port (a ∷ before) how at = (at, turns_of port before how at)
 
-  turns_ports : (ports : List PortPlan) (inputs : List Input) → AllAt plan ports → AreOurs plan (merged (port_turns ports inputs))
+  turns_ports : (ports : List PortPlan) (inputs : List Input) → AllAt plan ports → AreOurs plan (merged turn_at (port_turns ports inputs))
   turns_ports [] inputs at = tt
   turns_ports (p ∷ ports) [] at = tt
   turns_ports (p ∷ ports) (i ∷ inputs) at =
-      turns_merge (turns p.number i) (merged (port_turns ports inputs)) (turns_of p.number i.arrivals i.ending (at 0 (omega arith)))
+      turns_merge (turns p.number i) (merged turn_at (port_turns ports inputs)) (turns_of p.number i.arrivals i.ending (at 0 (omega arith)))
       (turns_ports ports inputs (λ k inside. at (suc k) (omega arith)))
 
   -- each port of a plan is at its place
@@ -115,7 +116,7 @@ module _ (plan : Plan) (base : Base) (stops : Stops) (Has : List Row → Type 0)
   pub replay_has : (inputs : List Input) → Has (begun plan base stops plan.ports []) → Has (replayed plan base inputs stops)
   replay_has inputs has =
       let started : List Row = begun plan base stops plan.ports [] in
-      let all : List Turn = merged (control_turns ∷ port_turns plan.ports inputs) in
+      let all : List Turn = merged turn_at (control_turns ∷ port_turns plan.ports inputs) in
       let before : List Row = after_all plan base stops all started in
       has_closed plan.ports (with_event plan base before (End passes.Ticker hows.End)) (at_place plan)
-      (kept.ticks before (has_all all started (turns_merge plan control_turns (merged (port_turns plan.ports inputs)) (refl, tt) (turns_ports plan plan.ports inputs (at_place plan))) has))
+      (kept.ticks before (has_all all started (turns_merge plan control_turns (merged turn_at (port_turns plan.ports inputs)) (refl, tt) (turns_ports plan plan.ports inputs (at_place plan))) has))

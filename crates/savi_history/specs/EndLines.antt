@@ -10,12 +10,12 @@ use Rattle.savi_kinds.specs.declared.entry.How.TheVariants as hows
 use Rattle.savi_kinds.specs.Ports.{number_of}
 use Rattle.hist_store.specs.Rows.{Row}
 
--- whose end it is
-abbrev pub who_text : Who → List ℕ
-who_text (Ingress p) = codes "port " ++ decimal (number_of p)
-who_text Control = codes "control"
-who_text Ticker = codes "ticker"
-who_text (Egress p) = codes "port " ++ decimal (number_of p)
+-- where it was: at a port, at control or at the ticker
+abbrev pub where_text : Who → List ℕ
+where_text (Ingress p) = codes "port " ++ decimal (number_of p)
+where_text Control = codes "control"
+where_text Ticker = codes "ticker"
+where_text (Egress p) = codes "port " ++ decimal (number_of p)
 
 -- a source or a sink failed, by whose end it is
 abbrev pub failed_text : Who → List ℕ
@@ -24,9 +24,9 @@ failed_text Control = codes "read failed"
 failed_text Ticker = codes "read failed"
 failed_text (Egress p) = codes "write failed"
 
--- a line of one end: whose it is, a colon, a space and what happened
+-- a line of one end: where it was, a colon, a space and what happened
 abbrev pub end_line_of : Who → List ℕ → List ℕ
-end_line_of who what = who_text who ++ codes ": " ++ what ++ 10 ∷ []
+end_line_of who what = where_text who ++ codes ": " ++ what ++ 10 ∷ []
 
 -- the line of an end; an ordinary end, and one by `quit`, have none
 abbrev pub end_line : Who → How → List ℕ

@@ -9,6 +9,7 @@ pub mod Outs
 pub mod Queues
 pub mod Events
 pub mod Legal
+pub mod Merges
 pub mod Turns
 pub mod Picks
 pub mod Replay

@@ -16,7 +16,8 @@ use Rattle.savi_history.specs.Passes.{pass_of, egress_pass, has_ended}
 use Rattle.savi_history.specs.Limits.{has_room}
 use Rattle.savi_history.specs.Queues.{queue, sent}
 use Rattle.savi_history.specs.Events.{Event, Frame, Long, Drain, End, row_of}
-use Rattle.savi_history.specs.Turns.{Turn, Arrives, Ends, who_of, port_turns, merged}
+use Rattle.savi_history.specs.Merges.{merged}
+use Rattle.savi_history.specs.Turns.{Turn, Arrives, Ends, who_of, turn_at, port_turns}
 
 -- the event that an arrival at a port is
 abbrev pub event_of : Port → Arrival → Event
@@ -99,4 +100,4 @@ control_turns = Ends Control hows.End ∷ []
 abbrev pub replayed : Plan → Base → List Input → Stops → List Row
 replayed plan base inputs stops =
     egress_ended plan base plan.ports
-    (with_event plan base (after_all plan base stops (merged (control_turns ∷ port_turns plan.ports inputs)) (begun plan base stops plan.ports [])) (End Ticker hows.End))
+    (with_event plan base (after_all plan base stops (merged turn_at (control_turns ∷ port_turns plan.ports inputs)) (begun plan base stops plan.ports [])) (End Ticker hows.End))

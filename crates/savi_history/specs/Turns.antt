@@ -1,6 +1,6 @@
--- The inputs of a replay as one list of turns. The turns of an input are its arrivals, and behind them its ending. An
--- ending has its turn at once, an arrival by its stamp; of equals the earlier input comes first.
-use Rattle.std.specs.Prelude.{ℕ, suc, nat_lt, if◌then◌else◌, List, [], ◌∷◌, ◌++◌, map}
+-- The turns of the inputs of a replay, and when each comes. The turns of an input are its arrivals, and behind them its
+-- ending. An ending has its turn at once, an arrival by its stamp.
+use Rattle.std.specs.Prelude.{ℕ, suc, List, [], ◌∷◌, ◌++◌, map}
 use Rattle.savi_kinds.specs.declared.port.Port.{Port}
 use Rattle.savi_kinds.specs.declared.entry.Who.{Who}
 use Rattle.savi_kinds.specs.declared.entry.Who.TheVariants.{Ingress}
@@ -36,18 +36,3 @@ abbrev pub port_turns : List PortPlan → List Input → List (List Turn)
 port_turns [] inputs = []
 port_turns (p ∷ ports) [] = []
 port_turns (p ∷ ports) (input ∷ inputs) = turns p.number input ∷ port_turns ports inputs
-
--- a turn goes in front of the first one that isn't earlier; `rest` says where what follows it goes
-abbrev pub enter : Turn → (List Turn → List Turn) → List Turn → List Turn
-enter x rest [] = x ∷ rest []
-enter x rest (y ∷ ys) = if nat_lt (turn_at y) (turn_at x) then y ∷ enter x rest ys else x ∷ rest (y ∷ ys)
-
--- two lists of turns as one: of the two first turns the earlier one comes first, and of equals the left one
-abbrev pub merge : List Turn → List Turn → List Turn
-merge [] ys = ys
-merge (x ∷ xs) ys = enter x (merge xs) ys
-
--- all inputs as one list of turns
-abbrev pub merged : List (List Turn) → List Turn
-merged [] = []
-merged (input ∷ inputs) = merge input (merged inputs)

@@ -2,7 +2,7 @@
 
 ghost use Rattle.std.specs.Prelude.{◌≡◌, ◌≤◌, ◌+◌, ◌++◌, [], length, codes, decimal};
 ghost use Rattle.arrayvec.specs.ArrayVec.{array_vec_len};
-ghost use Rattle.savi_history.specs.EndLines.{who_text, failed_text, end_line, end_line_of, entry_line};
+ghost use Rattle.savi_history.specs.EndLines.{where_text, failed_text, end_line, end_line_of, entry_line};
 
 use arrayvec::ArrayVec;
 use itoa::Buffer;
@@ -68,7 +68,7 @@ fn put_what(into: &mut EndLine, who: Who, what: &str)
 // Writes whose end it is, a colon and a space.
 fn put_who(into: &mut EndLine, who: Who)
     requires { into.old.items ≡ [] }
-    ensures text { into.new.items ≡ who_text who ++ codes ": " }
+    ensures text { into.new.items ≡ where_text who ++ codes ": " }
     ensures size { array_vec_len into.new ≤ 9 }
 {
     match who {
@@ -82,7 +82,7 @@ fn put_who(into: &mut EndLine, who: Who)
 // Writes a port, whose number has at most two digits.
 fn put_port(into: &mut EndLine, port: Port)
     requires { into.old.items ≡ [] }
-    ensures text { into.new.items ≡ who_text (Who.Ingress port) }
+    ensures text { into.new.items ≡ where_text (Who.Ingress port) }
     ensures size { array_vec_len into.new ≤ 7 }
 {
     put_octets(into, b"port ");

@@ -1,22 +1,20 @@
 -- How a run with a plan ends, by whether its session had memory.
-use Rattle.std.proofs.Common.{◌≡◌, ◌≢◌, ℕ, ◌<◌, ◌&&◌, ◌||◌, not, if◌then◌else◌, ◌⊎◌, inl, inr, List, [], ◌∷◌, Bool, true, false, length, get_or, refl, sym, ap, ◌∙◌, subst, arith, Option, Some, None, IfNone, IfSome}
+use Rattle.std.proofs.Common.{◌≡◌, ◌≢◌, ℕ, ◌<◌, ◌&&◌, ◌||◌, not, if◌then◌else◌, ◌⊎◌, inl, inr, List, [], ◌∷◌, Bool, true, false, length, refl, sym, ap, ◌∙◌, subst, arith, Option, Some, None, IfNone, IfSome}
+use Rattle.std.specs.Prelude.{All}
 use Rattle.savi_kinds.specs.declared.plan.Plan.{Plan}
-use Rattle.savi_kinds.specs.declared.port.Port.{Port}
 use Rattle.savi_ends.specs.declared.world.Std.TheVariants.{Out}
 use Rattle.savi_ends.specs.Places.{Place, Book, OthersStay}
 use Rattle.hist_store.specs.Rows.{Row}
 use Rattle.savi_history.specs.Endings.{has_failed, has_failed_write, has_malformed, has_full}
-use Rattle.savi_core.specs.Machines.{Machine}
 use Rattle.port_worker.specs.declared.port_ends.PortEnds.{PortEnds}
 use Rattle.port_worker.specs.Replays.{ports_held}
-use Rattle.switch_ports.specs.Openings.{ports_of}
+use Rattle.switch_ports.specs.Openings.{ports_of, IsReadAnew}
 use Rattle.switch_report.specs.RunLines.{memory_line}
 use Rattle.switch_run.specs.declared.session.Outcome.{Outcome}
 use Rattle.switch_run.specs.Causes.{IsBack, IsOffPlanSame, IsOneOf, IsUnused, KeepsAll, quiet_statuses, session_statuses, statuses, unused_statuses}
-use Rattle.switch_run.specs.Session.{IsSessionOf}
+use Rattle.switch_run.specs.Session.{IsSessionOf, IsSummed}
 use Rattle.switch_run.specs.Played.{IsPlayed}
-use Rattle.switch_run.specs.Concluded.{IsSummed}
-use Rattle.switch_run.proofs.Through.{Handled, HandledOne, session_of, ports_back, output_back, cases_name, back_from, keeps_all_of, off_plan, unused_ends, unused_sink}
+use Rattle.switch_run.proofs.Through.{Handled, HandledOne, session_of, ports_back, output_back, cases_name, back_from, keeps_all_of, off_plan}
 
 -- what the clauses say where all was opened
 pub record Closes {S K C : Type 0} (left : S → Option (List ℕ)) (written : K → Option (List ℕ)) (source_faults : S → ℕ) (sink_faults : K → ℕ) (plan : Plan) (Says : List ℕ → Type 0) (old new : Book S K C) (status : ℕ) : Type 0 where
@@ -64,19 +62,18 @@ closes_none {S} {K} {C} left written source_faults sink_faults plan Says held ba
       config = λ three. absurd (omega (arith, one, three));
       opening = λ seven. absurd (omega (arith, one, seven));
       memory = λ e. told;
-      unplayed = λ e. (keeps_all_of left written plan held held sink sink old new ports handled' journal' (λ k d inside. unused_ends left written (get_or held k d).ends) (unused_sink written sink), off_plan plan held held sink sink old new ports handled' journal');
+      unplayed = λ e. (keeps_all_of left written plan held sink old new ports handled' journal', off_plan plan held held sink sink old new ports handled' journal');
       session = λ is_one. absurd (let t : false ≡ true = subst (λ (n : ℕ). IsOneOf session_statuses n) one is_one in cc);
       quiet = λ one_of. quiet;
       unused = λ one_of. record { ports = ports_back held old.ports new.ports handled'; outputs = output_back plan.journal sink old.outputs new.outputs journal' };
     }
 
-closes_some : {S K C : Type 0} (left : S → Option (List ℕ)) (written : K → Option (List ℕ)) (source_faults : S → ℕ) (sink_faults : K → ℕ) (plan : Plan) (Says : List ℕ → Type 0) (held back : List (PortEnds S K C)) (sink sink' : K) (core : Machine) (journal_written : Bool) (old new : Book S K C) (status : ℕ)
+closes_some : {S K C : Type 0} (left : S → Option (List ℕ)) (written : K → Option (List ℕ)) (source_faults : S → ℕ) (sink_faults : K → ℕ) (plan : Plan) (Says : List ℕ → Type 0) (held back : List (PortEnds S K C)) (sink sink' : K) (past : List Row) (journal_written : Bool) (old new : Book S K C) (status : ℕ)
     → ports_held held ≡ ports_of plan.ports → Handled held back old.ports new.ports → HandledOne plan.journal sink sink' old.outputs new.outputs
-    → IsPlayed left written source_faults sink_faults plan held back sink sink' core journal_written
-    → IsSummed written sink_faults Says core.past journal_written (old.std Out) (new.std Out) status
+    → All IsReadAnew held → IsPlayed left written source_faults sink_faults plan past held back sink sink' journal_written
+    → IsSummed written sink_faults Says past journal_written (old.std Out) (new.std Out) status
     → Closes left written source_faults sink_faults plan Says old new status
-closes_some {S} {K} {C} left written source_faults sink_faults plan Says held back sink sink' core journal_written old new status ports handled journal played concluded =
-    let past = core.past in
+closes_some {S} {K} {C} left written source_faults sink_faults plan Says held back sink sink' past journal_written old new status ports handled journal anew played concluded =
     let is = summed_is written sink_faults Says past journal_written (old.std Out) (new.std Out) status concluded in
     let never : IsOneOf quiet_statuses status → ⊥ = is.1 in
     let never_is : (n : ℕ) → IsOneOf quiet_statuses n → status ≡ n → ⊥ = λ n quiet e. never (subst (λ (m : ℕ). IsOneOf quiet_statuses m) (sym e) quiet) in
@@ -87,22 +84,22 @@ closes_some {S} {K} {C} left written source_faults sink_faults plan Says held ba
       opening = never_is 7 refl;
       memory = λ one. absurd (never_is 1 refl one);
       unplayed = λ one. absurd (never_is 1 refl one);
-      session = λ one_of. session_of left written source_faults sink_faults plan Says held back sink sink' core journal_written old new status ports handled journal played concluded;
+      session = λ one_of. session_of left written source_faults sink_faults plan Says held back sink sink' past journal_written old new status ports handled journal anew played concluded;
       quiet = λ one_of. absurd (never one_of);
       unused = λ one_of. absurd (never one_of);
     }
 
 -- by whether there was an outcome
 pub closes : {S K C : Type 0} (left : S → Option (List ℕ)) (written : K → Option (List ℕ)) (source_faults : S → ℕ) (sink_faults : K → ℕ) (plan : Plan) (Says : List ℕ → Type 0) (held back : List (PortEnds S K C)) (sink sink' : K) (outcome : Option Outcome) (old mid new : Book S K C) (status : ℕ)
-    → ports_held held ≡ ports_of plan.ports → Handled held back old.ports new.ports → HandledOne plan.journal sink sink' old.outputs new.outputs → mid.std ≡ old.std
-    → IfNone outcome ((back ≡ held) × (sink' ≡ sink)) → IfSome outcome (λ o. IsPlayed left written source_faults sink_faults plan held back sink sink' o.core o.journal_written)
+    → ports_held held ≡ ports_of plan.ports → Handled held back old.ports new.ports → HandledOne plan.journal sink sink' old.outputs new.outputs → mid.std ≡ old.std → All IsReadAnew held
+    → IfNone outcome ((back ≡ held) × (sink' ≡ sink)) → IfSome outcome (λ o. IsPlayed left written source_faults sink_faults plan o.core.past held back sink sink' o.journal_written)
     → IfNone outcome ((status ≡ 1) × (Says memory_line × (new ≡ mid))) → IfSome outcome (λ o. IsSummed written sink_faults Says o.core.past o.journal_written (mid.std Out) (new.std Out) status)
     → Closes left written source_faults sink_faults plan Says old new status
-closes {S} {K} {C} left written source_faults sink_faults plan Says held back sink sink' None old mid new status ports handled journal same none played unserved concluded =
+closes {S} {K} {C} left written source_faults sink_faults plan Says held back sink sink' None old mid new status ports handled journal same anew none played unserved concluded =
     closes_none left written source_faults sink_faults plan Says held back sink sink' old new status ports handled journal none.0 none.1 unserved.0 unserved.1.0
     (ap (λ (b : Book S K C). b.std Out) unserved.1.1 ∙ ap (λ (p : _ → Place K). p Out) same)
-closes {S} {K} {C} left written source_faults sink_faults plan Says held back sink sink' (Some o) old mid new status ports handled journal same none played unserved concluded =
-    closes_some left written source_faults sink_faults plan Says held back sink sink' o.core o.journal_written old new status ports handled journal played
+closes {S} {K} {C} left written source_faults sink_faults plan Says held back sink sink' (Some o) old mid new status ports handled journal same anew none played unserved concluded =
+    closes_some left written source_faults sink_faults plan Says held back sink sink' o.core.past o.journal_written old new status ports handled journal anew played
     (subst (λ (p : Place K). IsSummed written sink_faults Says o.core.past o.journal_written p (new.std Out) status) (ap (λ (p : _ → Place K). p Out) same) concluded)
 
 element : {X : Type 0} (xs : List X) (k : ℕ) → k < length xs → X

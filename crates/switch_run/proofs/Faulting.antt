@@ -1,8 +1,11 @@
 -- Whose fault a status is.
-use Rattle.std.proofs.Common.{◌≡◌, ℕ, ◌&&◌, ◌||◌, not, if◌then◌else◌, ◌⊎◌, inl, inr, List, Bool, true, false, get_or, refl, sym, ap, ◌∙◌, arith, Option}
+use Rattle.std.proofs.Common.{◌≡◌, ℕ, ◌&&◌, ◌||◌, not, if◌then◌else◌, ◌⊎◌, inl, inr, List, [], Bool, true, false, get_or, refl, sym, ap, ◌∙◌, arith, ◌<◌, Option, Some}
+use Rattle.savi_kinds.specs.declared.entry.How.TheVariants as hows
 use Rattle.savi_kinds.specs.declared.plan.Plan.{Plan}
+use Rattle.savi_kinds.specs.Arrivals.{Input}
 use Rattle.savi_kinds.specs.ValidPlan.{numbers_of}
 use Rattle.savi_ends.specs.declared.world.Std.TheVariants.{Out}
+use Rattle.savi_ends.specs.declared.world.Ends.{Ends}
 use Rattle.savi_ends.specs.Places.{Place, Book}
 use Rattle.hist_store.specs.Rows.{Row}
 use Rattle.savi_history.specs.Bases.{empty}
@@ -12,8 +15,8 @@ use Rattle.savi_history.specs.PortOutputs.{output_end}
 use Rattle.savi_history.proofs.Failing.{failed_at_port}
 use Rattle.savi_history.proofs.FailedWrites.{failed_write_at_port}
 use Rattle.run_config.specs.Configs.{HasFault}
-use Rattle.switch_run.specs.Causes.{HasReadFault, HasSomeReadFault, HasSomeWriteFault}
-use Rattle.switch_run.specs.Session.{IsReplayOf, IsSession, IsUnread, TookOrPart}
+use Rattle.switch_run.specs.Causes.{HasReadFault, HasSomeReadFault, HasSomeWriteFault, Keeps, TookOrPart}
+use Rattle.switch_run.specs.Session.{IsReplayOf, IsSession, IsFileUnread}
 
 failed_by : (status : ℕ) (f w m h : Bool) → status ≡ (if f then 5 else if w then 6 else if m then 4 else if h then 8 else 0) → status ≡ 5 → f ≡ true
 failed_by status true w m h is e = refl
@@ -35,49 +38,65 @@ which_unwritten true written is = inl refl
 which_unwritten false true is = cc
 which_unwritten false false is = inr refl
 
+-- what is kept in a place has a fault
+fault_kept : {X : Type 0} (faults : X → ℕ) (place : Place X) (x : X) → place.stands ≡ Some x → 0 < faults x → HasFault faults place
+fault_kept faults place x kept fault = rw kept fault
+
+no_input : Input
+no_input = record { arrivals = []; ending = hows.End }
+
 replay_read : {S K C : Type 0} (left : S → Option (List ℕ)) (written : K → Option (List ℕ)) (source_faults : S → ℕ) (sink_faults : K → ℕ) (plan : Plan) (Says : List ℕ → Type 0) (old new : Book S K C) (status : ℕ) → status ≡ 5
     → IsReplayOf left written source_faults sink_faults plan Says old new status → (port : ℕ) × HasReadFault source_faults new port
-replay_read left written source_faults sink_faults plan Says old new status five r =
-    let failed : has_failed r.past ≡ true = failed_by status (has_failed r.past) (has_failed_write r.past || not (r.journal_written && r.summary_written)) (has_malformed r.past) (has_full r.past) r.cause five in
-    let found = failed_at_port plan empty r.inputs r.stops (ap has_failed (sym r.replay) ∙ failed) in
+replay_read {S} {K} {C} left written source_faults sink_faults plan Says old new status five r =
+    let failed : has_failed r.past ≡ true = failed_by status (has_failed r.past) (has_failed_write r.past || not (r.journal_written && r.summed.summary_written)) (has_malformed r.past) (has_full r.past) r.summed.cause five in
+    let found = failed_at_port plan empty r.serves.inputs r.serves.stops (ap has_failed (sym r.serves.replay) ∙ failed) in
     let port = get_or (numbers_of plan.ports) found.0 0 in
-    (port, r.broken found.0 found.1 (ap (λ (l : List Row). input_end port l) r.replay ∙ found.2))
+    let at = r.serves.each found.0 no_input found.1 in
+    let rose = at.holds.broken (ap (λ (l : List Row). input_end port l) r.serves.replay ∙ found.2) in
+    (port, fault_kept (λ (e : Ends S K C). source_faults e.source) (new.ports port) at.back at.kept (omega (arith, rose)))
 
 -- a read failed where the status is 5
 pub read_fault_of : {S K C : Type 0} (left : S → Option (List ℕ)) (written : K → Option (List ℕ)) (source_faults : S → ℕ) (sink_faults : K → ℕ) (Says : List ℕ → Type 0) (old new : Book S K C) (file : List ℕ) (status : ℕ) → status ≡ 5
-    → IsUnread left source_faults file Says old new status ⊎ IsSession left written source_faults sink_faults file Says old new status → HasSomeReadFault source_faults file new
+    → IsFileUnread left source_faults file Says old new status ⊎ IsSession left written source_faults sink_faults file Says old new status → HasSomeReadFault source_faults file new
 read_fault_of left written source_faults sink_faults Says old new file status five (inl unread) = inl unread.fault
 read_fault_of left written source_faults sink_faults Says old new file status five (inr session) =
     inr (replay_read left written source_faults sink_faults session.plan Says old new status five session.session.did)
 
+-- a write of octets that weren't all taken failed
+unwritten_fault : {K : Type 0} (faults : K → ℕ) (written : K → Option (List ℕ)) (done : Bool) (octets : List ℕ) (old new : Place K) → done ≡ false → Keeps (TookOrPart faults written done octets) old new → HasFault faults new
+unwritten_fault faults written true octets old new none keeps = cc
+unwritten_fault faults written false octets old new none keeps = fault_kept faults new keeps.back keeps.kept keeps.holds.0
+
 -- of two writes that weren't both done one failed
-one_unwritten : {K : Type 0} (faults : K → ℕ) (written : K → Option (List ℕ)) (first second : Bool) (a a' b b' : Place K) (text line : List ℕ) → (first && second) ≡ false → TookOrPart faults written first a a' text → TookOrPart faults written second b b' line → HasFault faults a' ⊎ HasFault faults b'
+one_unwritten : {K : Type 0} (faults : K → ℕ) (written : K → Option (List ℕ)) (first second : Bool) (a a' b b' : Place K) (text line : List ℕ) → (first && second) ≡ false → Keeps (TookOrPart faults written first text) a a' → Keeps (TookOrPart faults written second line) b b' → HasFault faults a' ⊎ HasFault faults b'
 one_unwritten faults written true true a a' b b' text line is one other = cc
-one_unwritten faults written true false a a' b b' text line is one other = inr other.0
-one_unwritten faults written false second a a' b b' text line is one other = inl one.0
+one_unwritten faults written true false a a' b b' text line is one other = inr (unwritten_fault faults written false line b b' refl other)
+one_unwritten faults written false second a a' b b' text line is one other = inl (unwritten_fault faults written false text a a' refl one)
 
 named : {S K C : Type 0} (sink_faults : K → ℕ) (name : List ℕ) (new : Book S K C) → HasFault sink_faults (new.outputs name) ⊎ HasFault sink_faults (new.std Out) → HasSomeWriteFault sink_faults new
 named sink_faults name new (inl journal) = inr (inl (name, journal))
 named sink_faults name new (inr out) = inr (inr out)
 
 fault_of : {S K C : Type 0} (left : S → Option (List ℕ)) (written : K → Option (List ℕ)) (source_faults : S → ℕ) (sink_faults : K → ℕ) (plan : Plan) (Says : List ℕ → Type 0) (old new : Book S K C) (status : ℕ)
-    → (r : IsReplayOf left written source_faults sink_faults plan Says old new status) → (has_failed_write r.past ≡ true) ⊎ ((r.journal_written && r.summary_written) ≡ false) → HasSomeWriteFault sink_faults new
-fault_of left written source_faults sink_faults plan Says old new status r (inl failed) =
-    let found = failed_write_at_port plan empty r.inputs r.stops (ap has_failed_write (sym r.replay) ∙ failed) in
+    → (r : IsReplayOf left written source_faults sink_faults plan Says old new status) → (has_failed_write r.past ≡ true) ⊎ ((r.journal_written && r.summed.summary_written) ≡ false) → HasSomeWriteFault sink_faults new
+fault_of {S} {K} {C} left written source_faults sink_faults plan Says old new status r (inl failed) =
+    let found = failed_write_at_port plan empty r.serves.inputs r.serves.stops (ap has_failed_write (sym r.serves.replay) ∙ failed) in
     let port = get_or (numbers_of plan.ports) found.0 0 in
-    inl (port, r.broken_out found.0 found.1 (ap (λ (l : List Row). output_end port l) r.replay ∙ found.2))
+    let at = r.serves.each found.0 no_input found.1 in
+    let rose = at.holds.broken_out (ap (λ (l : List Row). output_end port l) r.serves.replay ∙ found.2) in
+    inl (port, fault_kept (λ (e : Ends S K C). sink_faults e.sink) (new.ports port) at.back at.kept (omega (arith, rose)))
 fault_of left written source_faults sink_faults plan Says old new status r (inr unwritten) =
-    named sink_faults plan.journal new (one_unwritten sink_faults written r.journal_written r.summary_written _ _ _ _ _ _ unwritten r.journal r.summary)
+    named sink_faults plan.journal new (one_unwritten sink_faults written r.journal_written r.summed.summary_written _ _ _ _ _ _ unwritten r.journal r.summed.summary)
 
 replay_write : {S K C : Type 0} (left : S → Option (List ℕ)) (written : K → Option (List ℕ)) (source_faults : S → ℕ) (sink_faults : K → ℕ) (plan : Plan) (Says : List ℕ → Type 0) (old new : Book S K C) (status : ℕ) → status ≡ 6
     → IsReplayOf left written source_faults sink_faults plan Says old new status → HasSomeWriteFault sink_faults new
 replay_write left written source_faults sink_faults plan Says old new status six r =
-    let w = r.journal_written && r.summary_written in
+    let w = r.journal_written && r.summed.summary_written in
     fault_of left written source_faults sink_faults plan Says old new status r
-    (which_unwritten (has_failed_write r.past) w (unwritten_by status (has_failed r.past) (has_failed_write r.past || not w) (has_malformed r.past) (has_full r.past) r.cause six))
+    (which_unwritten (has_failed_write r.past) w (unwritten_by status (has_failed r.past) (has_failed_write r.past || not w) (has_malformed r.past) (has_full r.past) r.summed.cause six))
 
 -- a write failed where the status is 6
 pub write_fault_of : {S K C : Type 0} (left : S → Option (List ℕ)) (written : K → Option (List ℕ)) (source_faults : S → ℕ) (sink_faults : K → ℕ) (Says : List ℕ → Type 0) (old new : Book S K C) (file : List ℕ) (status : ℕ) → status ≡ 6
-    → IsUnread left source_faults file Says old new status ⊎ IsSession left written source_faults sink_faults file Says old new status → HasSomeWriteFault sink_faults new
+    → IsFileUnread left source_faults file Says old new status ⊎ IsSession left written source_faults sink_faults file Says old new status → HasSomeWriteFault sink_faults new
 write_fault_of left written source_faults sink_faults Says old new file status six (inl unread) = let five : status ≡ 5 = unread.status_is in absurd (omega (arith, five, six))
 write_fault_of left written source_faults sink_faults Says old new file status six (inr session) = replay_write left written source_faults sink_faults session.plan Says old new status six session.session.did

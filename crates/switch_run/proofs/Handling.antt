@@ -14,7 +14,7 @@ use Rattle.port_worker.specs.Pairs.{EachPair}
 use Rattle.port_worker.specs.Replays.{ports_held}
 use Rattle.switch_ports.specs.Openings.{ports_of, AreApart, IsNextBehind, IsOff, IsOpened}
 use Rattle.switch_ports.proofs.Rising.{apart_from}
-use Rattle.switch_run.specs.Played.{IsSamePort}
+use Rattle.port_worker.specs.Served.{IsSamePort}
 use Rattle.switch_run.proofs.Through.{Handled, HandledOne}
 
 pub same_number : {S K C : Type 0} (held back : List (PortEnds S K C)) (k : ℕ) (d : PortEnds S K C) → EachPair IsSamePort held back → k < length held → number_of (get_or back k d).port ≡ number_of (get_or held k d).port

@@ -7,3 +7,4 @@ pub mod Faulting
 pub mod Refusing
 pub mod Ending
 pub mod Forms
+mod Clauses

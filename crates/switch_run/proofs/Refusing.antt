@@ -8,69 +8,9 @@ use Rattle.savi_ends.specs.Places.{Place, Book}
 use Rattle.run_config.specs.declared.refusal.Refusal.{Refusal}
 use Rattle.run_config.specs.declared.refusal.Refusal.TheVariants as refusal
 use Rattle.run_config.specs.Configs.{HasFault, IsReadFrom, IsRefused}
-use Rattle.switch_report.specs.RunLines.{memory_line}
-use Rattle.switch_run.specs.Causes.{IsBack, IsOneOf, IsUnserved, IsUnused, session_statuses, statuses}
+use Rattle.switch_run.specs.Causes.{IsBack, IsElsewhereSame, IsOneOf, IsUnserved, IsUnused, session_statuses}
+use Rattle.switch_run.specs.Runs.{IsRunOf}
 use Rattle.switch_run.specs.Concluded.{refusal_line, refusal_status}
-use Rattle.switch_run.specs.Session.{IsNoPlan, IsUnopened, IsUnplayed, IsUnread}
-
--- what the clauses say where there is no plan
-pub record Refuses {S K C : Type 0} (left : S → Option (List ℕ)) (written : K → Option (List ℕ)) (source_faults : S → ℕ) (file : List ℕ) (Says : List ℕ → Type 0) (old new : Book S K C) (status : ℕ) : Type 0 where
-  pub one_of : IsOneOf statuses status
-  pub usage : status ≢ 2
-  pub memory : status ≡ 1 → Says memory_line
-  pub unplayed : status ≡ 1 → IsUnplayed left written file old new
-  pub config : status ≡ 3 → IsNoPlan left file Says old new
-  pub opening : status ≡ 7 → Rose old.faults new.faults
-  pub unopened : status ≡ 7 → IsUnopened left file Says old new
-  pub session : IsOneOf session_statuses status → IsUnread left source_faults file Says old new status
-
-not_session : (status n : ℕ) → status ≡ n → (IsOneOf session_statuses n → ⊥) → IsOneOf session_statuses status → ⊥
-not_session status n e never one_of = never (subst (λ (m : ℕ). IsOneOf session_statuses m) e one_of)
-
-pub refuses : {S K C : Type 0} (left : S → Option (List ℕ)) (written : K → Option (List ℕ)) (source_faults : S → ℕ) (file : List ℕ) (Says : List ℕ → Type 0) (r : Refusal) (old new : Book S K C) (status : ℕ)
-    → status ≡ refusal_status r → Says (refusal_line file r) → ((fault : ConfFault) → r ≡ refusal.Refused fault → IsRefused left (old.inputs file) fault) → (r ≡ refusal.CannotOpen → Rose old.faults new.faults) → (r ≡ refusal.ReadFailed → HasFault source_faults (new.inputs file))
-    → (r ≡ refusal.CannotOpen → new.inputs file ≡ old.inputs file) → (r ≢ refusal.CannotOpen → r ≢ refusal.NoMemory → IsReadFrom left (old.inputs file) (new.inputs file)) → (r ≡ refusal.NoMemory → (new.inputs file ≡ old.inputs file) ⊎ IsReadFrom left (old.inputs file) (new.inputs file)) → IsUnserved old new
-    → new.std Out ≡ old.std Out → Refuses left written source_faults file Says old new status
-refuses left written source_faults file Says refusal.NoMemory old new status is told refused unopened unread place kept memory unserved quiet = record {
-  one_of = rw is refl;
-  usage = λ e. absurd (omega (arith, is, e));
-  memory = λ e. told;
-  unplayed = λ e. record { input = memory refl; ends = inl unserved };
-  config = λ e. absurd (omega (arith, is, e));
-  opening = λ e. absurd (omega (arith, is, e));
-  unopened = λ e. absurd (omega (arith, is, e));
-  session = λ one_of. absurd (not_session status 1 is (λ e. let t : false ≡ true = e in cc) one_of);
-}
-refuses left written source_faults file Says refusal.CannotOpen old new status is told refused unopened unread place kept memory unserved quiet = record {
-  one_of = rw is refl;
-  usage = λ e. absurd (omega (arith, is, e));
-  memory = λ e. absurd (omega (arith, is, e));
-  unplayed = λ e. absurd (omega (arith, is, e));
-  config = λ e. absurd (omega (arith, is, e));
-  opening = λ e. unopened refl;
-  unopened = λ e. inl (record { errors = told; place = place refl; unserved = unserved });
-  session = λ one_of. absurd (not_session status 7 is (λ e. let t : false ≡ true = e in cc) one_of);
-}
-refuses left written source_faults file Says refusal.ReadFailed old new status is told refused unopened unread place kept memory unserved quiet = record {
-  one_of = rw is refl;
-  usage = λ e. absurd (omega (arith, is, e));
-  memory = λ e. absurd (omega (arith, is, e));
-  unplayed = λ e. absurd (omega (arith, is, e));
-  config = λ e. absurd (omega (arith, is, e));
-  opening = λ e. absurd (omega (arith, is, e));
-  unopened = λ e. absurd (omega (arith, is, e));
-  session = λ one_of. record { status_is = is; fault = unread refl; input = kept (λ e. cc) (λ e. cc); errors = told; out = quiet; unserved = unserved };
-}
-refuses left written source_faults file Says (refusal.Refused fault) old new status is told refused unopened unread place kept memory unserved quiet = record {
-  one_of = rw is refl;
-  usage = λ e. absurd (omega (arith, is, e));
-  memory = λ e. absurd (omega (arith, is, e));
-  unplayed = λ e. absurd (omega (arith, is, e));
-  config = λ e. record { fault = fault; refused = refused fault refl; input = kept (λ e. cc) (λ e. cc); unserved = unserved; errors = told };
-  opening = λ e. absurd (omega (arith, is, e));
-  unopened = λ e. absurd (omega (arith, is, e));
-  session = λ one_of. absurd (not_session status 3 is (λ e. let t : false ≡ true = e in cc) one_of);
-}
 
 back_from : {X : Type 0} (o : Option X) → IfSome o (λ told. IsSomeAnd o (λ kept. kept ≡ told))
 back_from None = tt
@@ -80,4 +20,64 @@ pub unused_same : {S K C : Type 0} (old new : Book S K C) → new.ports ≡ old.
 unused_same {S} {K} {C} old new ports outputs = record {
   ports = λ port. subst (λ (x : ℕ → Place (Ends S K C)). IsBack (old.ports port) (x port)) (sym ports) (back_from (old.ports port).stands);
   outputs = λ name. subst (λ (x : List ℕ → Place K). IsBack (old.outputs name) (x name)) (sym outputs) (back_from (old.outputs name).stands);
+}
+
+not_session : (status n : ℕ) → status ≡ n → (IsOneOf session_statuses n → ⊥) → IsOneOf session_statuses status → ⊥
+not_session status n e never one_of = never (subst (λ (m : ℕ). IsOneOf session_statuses m) e one_of)
+
+pub refuses : {S K C : Type 0} (left : S → Option (List ℕ)) (written : K → Option (List ℕ)) (source_faults : S → ℕ) (sink_faults : K → ℕ) (file : List ℕ) (Says : List ℕ → Type 0) (r : Refusal) (old new : Book S K C) (status : ℕ)
+    → status ≡ refusal_status r → Says (refusal_line file r) → ((fault : ConfFault) → r ≡ refusal.Refused fault → IsRefused left (old.inputs file) fault) → (r ≡ refusal.CannotOpen → Rose old.faults new.faults) → (r ≡ refusal.ReadFailed → HasFault source_faults (new.inputs file))
+    → (r ≡ refusal.CannotOpen → new.inputs file ≡ old.inputs file) → (r ≢ refusal.CannotOpen → r ≢ refusal.NoMemory → IsReadFrom left (old.inputs file) (new.inputs file)) → (r ≡ refusal.NoMemory → (new.inputs file ≡ old.inputs file) ⊎ IsReadFrom left (old.inputs file) (new.inputs file)) → IsUnserved old new
+    → new.std Out ≡ old.std Out → IsElsewhereSame file old new → IsRunOf left written source_faults sink_faults file Says old new status
+refuses left written source_faults sink_faults file Says refusal.NoMemory old new status is told refused unopened unread place kept memory unserved quiet elsewhere = record {
+  one_of = rw is refl;
+  usage = λ e. absurd (omega (arith, is, e));
+  memory = λ e. told;
+  unplayed = λ e. record { input = memory refl; ends = inl unserved };
+  config = λ e. absurd (omega (arith, is, e));
+  opening = λ e. absurd (omega (arith, is, e));
+  unopened = λ e. absurd (omega (arith, is, e));
+  session = λ one_of. absurd (not_session status 1 is (λ e. let t : false ≡ true = e in cc) one_of);
+  quiet = λ one_of. quiet;
+  unused = λ one_of. unused_same old new unserved.ports unserved.outputs;
+  elsewhere = elsewhere;
+}
+refuses left written source_faults sink_faults file Says refusal.CannotOpen old new status is told refused unopened unread place kept memory unserved quiet elsewhere = record {
+  one_of = rw is refl;
+  usage = λ e. absurd (omega (arith, is, e));
+  memory = λ e. absurd (omega (arith, is, e));
+  unplayed = λ e. absurd (omega (arith, is, e));
+  config = λ e. absurd (omega (arith, is, e));
+  opening = λ e. unopened refl;
+  unopened = λ e. inl (record { errors = told; place = place refl; unserved = unserved });
+  session = λ one_of. absurd (not_session status 7 is (λ e. let t : false ≡ true = e in cc) one_of);
+  quiet = λ one_of. quiet;
+  unused = λ one_of. unused_same old new unserved.ports unserved.outputs;
+  elsewhere = elsewhere;
+}
+refuses left written source_faults sink_faults file Says refusal.ReadFailed old new status is told refused unopened unread place kept memory unserved quiet elsewhere = record {
+  one_of = rw is refl;
+  usage = λ e. absurd (omega (arith, is, e));
+  memory = λ e. absurd (omega (arith, is, e));
+  unplayed = λ e. absurd (omega (arith, is, e));
+  config = λ e. absurd (omega (arith, is, e));
+  opening = λ e. absurd (omega (arith, is, e));
+  unopened = λ e. absurd (omega (arith, is, e));
+  session = λ one_of. inl (record { status_is = is; fault = unread refl; input = kept (λ e. cc) (λ e. cc); errors = told; out = quiet; unserved = unserved });
+  quiet = λ one_of. quiet;
+  unused = λ one_of. unused_same old new unserved.ports unserved.outputs;
+  elsewhere = elsewhere;
+}
+refuses left written source_faults sink_faults file Says (refusal.Refused fault) old new status is told refused unopened unread place kept memory unserved quiet elsewhere = record {
+  one_of = rw is refl;
+  usage = λ e. absurd (omega (arith, is, e));
+  memory = λ e. absurd (omega (arith, is, e));
+  unplayed = λ e. absurd (omega (arith, is, e));
+  config = λ e. record { fault = fault; refused = refused fault refl; input = kept (λ e. cc) (λ e. cc); unserved = unserved; errors = told };
+  opening = λ e. absurd (omega (arith, is, e));
+  unopened = λ e. absurd (omega (arith, is, e));
+  session = λ one_of. absurd (not_session status 3 is (λ e. let t : false ≡ true = e in cc) one_of);
+  quiet = λ one_of. quiet;
+  unused = λ one_of. unused_same old new unserved.ports unserved.outputs;
+  elsewhere = elsewhere;
 }

@@ -8,9 +8,10 @@ use Rattle.savi_ends.specs.declared.world.Ends.{Ends}
 use Rattle.savi_ends.specs.Faults.{Rose}
 use Rattle.savi_ends.specs.Places.{Place, Book, OthersStay}
 use Rattle.run_config.specs.Configs.{HasFault, IsConfigured, IsReadFrom, IsRefused}
-use Rattle.switch_run.specs.Causes.{IsBack, IsElsewhereSame, IsOffPlanSame, IsUnserved, IsUsed, IsUnused, IsUntouched, Keeps, KeepsAll}
-use Rattle.switch_run.specs.Session.{IsNoPlan, IsPartUnopened, IsSession, IsSessionOf, IsUnopened, IsUnplayed, IsUnread, Told, ToldBy}
+use Rattle.switch_run.specs.Causes.{IsBack, IsElsewhereSame, IsOffPlanSame, IsUnserved, IsUnused, IsUntouched, Keeps, KeepsAll}
+use Rattle.switch_run.specs.Session.{IsNoPlan, IsPartUnopened, IsSession, IsSessionOf, IsUnopened, IsUnplayed, IsFileUnread, Told, ToldBy}
 use Rattle.port_worker.specs.SentFrames.{TookMore}
+use Rattle.port_worker.specs.Served.{IsUsed}
 use Rattle.switch_run.proofs.Recast.{moved_session, told_at}
 
 err≢out : Err ≢ Out
@@ -151,7 +152,7 @@ ran_unopened {S} {K} {C} left Says Says' b0 b1 b2 b3 e e' file ran says (inr uno
     })
 
 pub ran_session : {S K C : Type 0} (left : S → Option (List ℕ)) (written : K → Option (List ℕ)) (source_faults : S → ℕ) (sink_faults : K → ℕ) (Says Says' : List ℕ → Type 0) (b0 b1 b2 b3 : Book S K C) (e e' : K) (file : List ℕ) (status : ℕ) → Ran b0 b1 b2 b3 e e' → ((lines : List ℕ) → Says lines → Says' lines)
-    → IsUnread left source_faults file Says b1 b2 status ⊎ IsSession left written source_faults sink_faults file Says b1 b2 status → IsUnread left source_faults file Says' b0 b3 status ⊎ IsSession left written source_faults sink_faults file Says' b0 b3 status
+    → IsFileUnread left source_faults file Says b1 b2 status ⊎ IsSession left written source_faults sink_faults file Says b1 b2 status → IsFileUnread left source_faults file Says' b0 b3 status ⊎ IsSession left written source_faults sink_faults file Says' b0 b3 status
 ran_session {S} {K} {C} left written source_faults sink_faults Says Says' b0 b1 b2 b3 e e' file status ran says (inl unread) = inl (record {
   status_is = unread.status_is;
   fault = subst (λ (p : Place S). HasFault source_faults p) (sym (ap (λ (b : Book S K C). b.inputs file) ran.rest3)) unread.fault;

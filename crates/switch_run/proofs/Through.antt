@@ -8,12 +8,12 @@ use Rattle.std.proofs.lemmas.List.Elements.{All-cons}
 use Rattle.std.proofs.lemmas.Slice.Eq.{bytes_eq-Decides}
 use Rattle.std.specs.Str.{bytes_eq}
 use Rattle.pcap_io.specs.Kinds.{classic_kinds}
+use Rattle.pcap_io.specs.Readers.{State, Fresh, Comes}
 use Rattle.pcap_io.specs.Runs.{Arrive}
 use Rattle.std.specs.Prelude.{All, reverse, slice_index}
 use Rattle.savi_kinds.specs.declared.plan.Plan.{Plan}
 use Rattle.savi_kinds.specs.declared.plan.PortPlan.{PortPlan}
 use Rattle.savi_kinds.specs.declared.port.Port.{Port}
-use Rattle.savi_kinds.specs.declared.entry.How.TheVariants as hows
 use Rattle.savi_kinds.specs.Ports.{number_of}
 use Rattle.savi_kinds.specs.ValidPlan.{numbers_of}
 use Rattle.savi_ends.specs.declared.world.Std.TheVariants.{Out}
@@ -23,23 +23,18 @@ use Rattle.savi_ends.specs.Places.{Place, Book, OthersStay}
 use Rattle.hist_store.specs.Rows.{Row}
 use Rattle.hist_store.specs.JournalTexts.{journal_text, address_text}
 use Rattle.savi_history.specs.Bases.{empty}
-use Rattle.savi_history.specs.Queues.{sent}
-use Rattle.savi_history.specs.PortInputs.{arrived, input_end}
-use Rattle.savi_history.specs.PortOutputs.{output_end, pieces, TookPieces, FitsOutputAt}
-use Rattle.savi_history.specs.Fits.{Fits}
 use Rattle.savi_history.proofs.Guarded.{guarded}
 use Rattle.savi_history.proofs.AddressTexts.{written-IsAddressText}
 use Rattle.savi_history.proofs.OneHistory.{journal_tells}
-use Rattle.savi_core.specs.Machines.{Machine}
 use Rattle.port_worker.specs.declared.port_ends.PortEnds.{PortEnds}
-use Rattle.port_worker.specs.Replays.{ports_held, IsInputOf}
+use Rattle.port_worker.specs.Replays.{ports_held}
 use Rattle.port_worker.specs.SentFrames.{TookMore}
-use Rattle.switch_ports.specs.Openings.{ports_of, IsNextBehind, IsOff}
+use Rattle.port_worker.specs.Served.{IsUsed, IsServed, ServesPorts, ServesEnds}
+use Rattle.switch_ports.specs.Openings.{ports_of, IsNextBehind, IsOff, IsReadAnew}
 use Rattle.switch_report.specs.RunLines.{cannot_open_line, journal_word, port_name}
-use Rattle.switch_run.specs.Causes.{IsBack, IsUsed, Keeps, KeepsAll, IsOffPlanSame, HasReadFault, HasWriteFault}
-use Rattle.switch_run.specs.Session.{EachPort, FitsPort, FitsSent, GaveAt, IsJournalUnopened, IsPortUnopened, IsReplayOf, IsSessionOf, TookOrPart, TookSent}
-use Rattle.switch_run.specs.Played.{IsPlayed, IsPlayedOut, IsServed, JournalWas}
-use Rattle.switch_run.specs.Concluded.{IsSummed}
+use Rattle.switch_run.specs.Causes.{IsBack, Keeps, KeepsAll, IsOffPlanSame, TookOrPart}
+use Rattle.switch_run.specs.Session.{IsJournalUnopened, IsPortUnopened, IsSessionOf, IsSummed}
+use Rattle.switch_run.specs.Played.{IsPlayed}
 
 -- The ends that were told of some ports were opened and are kept by now, each at its own place; those of other ports stay.
 pub record Handled {S K C : Type 0} (held back : List (PortEnds S K C)) (old new : ℕ → Place (Ends S K C)) : Type 0 where
@@ -64,13 +59,9 @@ both_told : {X : Type 0} (P : X → X → Type 0) (old new : Option X) (x x' : X
 both_told P None new x x' told kept holds = tt
 both_told {X} P (Some t) new x x' told kept holds = rw kept (subst (λ (y : X). P y x') told holds)
 
--- what is kept, and was told
-kept_told : {X : Type 0} (P : X → X → Type 0) (old new : Option X) (x x' : X) → IfSome old (λ t. x ≡ t) → new ≡ Some x' → P x x' → IsSomeAnd new (λ kept. IfSome old (λ told. P told kept))
-kept_told P None new x x' told kept holds = rw kept tt
-kept_told {X} P (Some t) new x x' told kept holds = rw kept (subst (λ (y : X). P y x') told holds)
-
-some_and : {X : Type 0} (P : X → Type 0) (o : Option X) (x : X) → o ≡ Some x → P x → IsSomeAnd o P
-some_and {X} P o x e holds = rw e holds
+-- what was told, and is kept
+keeps_of : {X : Type 0} (P : X → X → Type 0) (old new : Place X) (x x' : X) → IfSome old.stands (λ t. x ≡ t) → new.stands ≡ Some x' → P x x' → Keeps P old new
+keeps_of P old new x x' told kept holds = record { handed = x; back = x'; told = told; kept = kept; holds = holds }
 
 is_some_of : {X : Type 0} (o : Option X) (x : X) → o ≡ Some x → IsSome o
 is_some_of o x e = rw e refl
@@ -94,13 +85,6 @@ number_at {S} {K} {C} held plans k d ports inside =
 size_of : {S K C : Type 0} (held : List (PortEnds S K C)) (plans : List PortPlan) → ports_held held ≡ ports_of plans → length held ≡ length plans
 size_of {S} {K} {C} held plans ports = sym (length-map held (λ (p : PortEnds S K C). p.port)) ∙ ap length ports ∙ length-map plans (λ (p : PortPlan). p.number)
 
--- what holds at each port that is held holds at each port of the plan
-each_port : {S K C : Type 0} (R : ℕ → ℕ → Type 0) (plan : Plan) (held : List (PortEnds S K C)) → ports_held held ≡ ports_of plan.ports → ((k : ℕ) (d : PortEnds S K C) → k < length held → R k (number_of (get_or held k d).port)) → EachPort plan R
-each_port R plan held ports holds = λ k inside.
-    let size = size_of held plan.ports ports in
-    let d = element held k (omega (arith, size, inside)) in
-    subst (λ (n : ℕ). R k n) (sym (number_at held plan.ports k d ports (omega (arith, size, inside)))) (holds k d (omega (arith, size, inside)))
-
 -- a port is held, or it is none of those
 off_step : {S K C : Type 0} (p : PortEnds S K C) (ps : List (PortEnds S K C)) (n : ℕ) → (number_of p.port ≡ n) ⊎ (number_of p.port ≢ n) → IsOff ps n ⊎ ((k : ℕ) × (k < length ps) × ((d : PortEnds S K C) → number_of (get_or ps k d).port ≡ n))
     → IsOff (p ∷ ps) n ⊎ ((k : ℕ) × (k < length (p ∷ ps)) × ((d : PortEnds S K C) → number_of (get_or (p ∷ ps) k d).port ≡ n))
@@ -123,12 +107,10 @@ at_port : {S K C : Type 0} (P : ℕ → Ends S K C → Ends S K C → Type 0) (h
 at_port {S} {K} {C} P held back old new k d handled inside holds =
     both_told (P (number_of (get_or held k d).port)) _ _ (get_or held k d).ends (get_or back k d).ends (handled.told k d inside) (kept_at held back old new k d handled inside) holds
 
--- the same, of a place that is kept in any case
-kept_at_port : {S K C : Type 0} (P : ℕ → Ends S K C → Ends S K C → Type 0) (held back : List (PortEnds S K C)) (old new : ℕ → Place (Ends S K C)) (k : ℕ) (d : PortEnds S K C) → Handled held back old new → k < length held
-    → P (number_of (get_or held k d).port) (get_or held k d).ends (get_or back k d).ends
-    → IsSomeAnd (new (number_of (get_or held k d).port)).stands (λ kept. IfSome (old (number_of (get_or held k d).port)).stands (λ told. P (number_of (get_or held k d).port) told kept))
-kept_at_port {S} {K} {C} P held back old new k d handled inside holds =
-    kept_told (P (number_of (get_or held k d).port)) _ _ (get_or held k d).ends (get_or back k d).ends (handled.told k d inside) (kept_at held back old new k d handled inside) holds
+-- the same, of a place that is kept
+keeps_at : {S K C : Type 0} (P : Ends S K C → Ends S K C → Type 0) (held back : List (PortEnds S K C)) (old new : ℕ → Place (Ends S K C)) (k : ℕ) (d : PortEnds S K C) → Handled held back old new → k < length held
+    → P (get_or held k d).ends (get_or back k d).ends → Keeps P (old (number_of (get_or held k d).port)) (new (number_of (get_or held k d).port))
+keeps_at P held back old new k d handled inside holds = keeps_of P _ _ (get_or held k d).ends (get_or back k d).ends (handled.told k d inside) (kept_at held back old new k d handled inside) holds
 
 port_back : {S K C : Type 0} (held : List (PortEnds S K C)) (old new : ℕ → Place (Ends S K C)) (n : ℕ) → Handled held held old new → IsOff held n ⊎ ((k : ℕ) × (k < length held) × ((d : PortEnds S K C) → number_of (get_or held k d).port ≡ n)) → IsBack (old n) (new n)
 port_back {S} {K} {C} held old new n handled (inl off) = subst (λ (x : Place (Ends S K C)). IsBack (old n) x) (sym (handled.others n off)) (back_from (old n).stands)
@@ -163,22 +145,23 @@ behind_nothing : (o : Option (List ℕ)) → o ≡ behind o []
 behind_nothing None = refl
 behind_nothing (Some octets) = ap (λ (l : List ℕ). Some l) (sym (append-nil octets))
 
-pub unused_ends : {S K C : Type 0} (left : S → Option (List ℕ)) (written : K → Option (List ℕ)) (ends : Ends S K C) → IsUsed left written ends ends
+unused_ends : {S K C : Type 0} (left : S → Option (List ℕ)) (written : K → Option (List ℕ)) (ends : Ends S K C) → IsUsed left written ends ends
 unused_ends left written ends = record { gave = ([], front_nothing (left ends.source)); took = ([], behind_nothing (written ends.sink)); clock = refl }
 
-pub unused_sink : {K : Type 0} (written : K → Option (List ℕ)) (sink : K) → TookMore (written sink) (written sink)
+unused_sink : {K : Type 0} (written : K → Option (List ℕ)) (sink : K) → TookMore (written sink) (written sink)
 unused_sink written sink = ([], behind_nothing (written sink))
 
-pub keeps_all_of : {S K C : Type 0} (left : S → Option (List ℕ)) (written : K → Option (List ℕ)) (plan : Plan) (held back : List (PortEnds S K C)) (sink sink' : K) (old new : Book S K C) → ports_held held ≡ ports_of plan.ports → Handled held back old.ports new.ports → HandledOne plan.journal sink sink' old.outputs new.outputs
-    → ((k : ℕ) (d : PortEnds S K C) → k < length held → IsUsed left written (get_or held k d).ends (get_or back k d).ends) → TookMore (written sink) (written sink') → KeepsAll left written plan old new
-keeps_all_of {S} {K} {C} left written plan held back sink sink' old new ports handled journal used took = record {
+-- the ends of a session for which there was no memory are kept as they were
+pub keeps_all_of : {S K C : Type 0} (left : S → Option (List ℕ)) (written : K → Option (List ℕ)) (plan : Plan) (held : List (PortEnds S K C)) (sink : K) (old new : Book S K C) → ports_held held ≡ ports_of plan.ports → Handled held held old.ports new.ports → HandledOne plan.journal sink sink old.outputs new.outputs
+    → KeepsAll left written plan old new
+keeps_all_of {S} {K} {C} left written plan held sink old new ports handled journal = record {
   ports = λ k d inside.
       let sizes = length-map plan.ports (λ (p : PortPlan). number_of p.number) in
       let size = size_of held plan.ports ports in
       let e = element held k (omega (arith, sizes, size, inside)) in
       subst (λ (n : ℕ). Keeps (IsUsed left written) (old.ports n) (new.ports n)) (sym (get_or_default (numbers_of plan.ports) k d 0 inside ∙ number_at held plan.ports k e ports (omega (arith, sizes, size, inside))))
-      (kept_at_port (λ n. IsUsed left written) held back old.ports new.ports k e handled (omega (arith, sizes, size, inside)) (used k e (omega (arith, sizes, size, inside))));
-  journal = kept_told (λ told kept. TookMore (written told) (written kept)) _ _ sink sink' journal.told journal.kept took;
+      (keeps_at (IsUsed left written) held held old.ports new.ports k e handled (omega (arith, sizes, size, inside)) (unused_ends left written (get_or held k e).ends));
+  journal = keeps_of (λ told kept. TookMore (written told) (written kept)) _ _ sink sink journal.told journal.kept (unused_sink written sink);
 }
 
 pub off_plan : {S K C : Type 0} (plan : Plan) (held back : List (PortEnds S K C)) (sink sink' : K) (old new : Book S K C) → ports_held held ≡ ports_of plan.ports → Handled held back old.ports new.ports → HandledOne plan.journal sink sink' old.outputs new.outputs → IsOffPlanSame plan old new
@@ -190,77 +173,46 @@ off_plan {S} {K} {C} plan held back sink sink' old new ports handled journal = r
   outputs = journal.others;
 }
 
-journal_was : {K : Type 0} (faults : K → ℕ) (written : K → Option (List ℕ)) (journal_written : Bool) (name : List ℕ) (sink sink' : K) (old new : List ℕ → Place K) (text : List ℕ) → HandledOne name sink sink' old new → JournalWas faults written journal_written sink sink' text → TookOrPart faults written journal_written (old name) (new name) text
-journal_was faults written true name sink sink' old new text handled was = kept_told (λ told kept. written kept ≡ behind (written told) text) _ _ sink sink' handled.told handled.kept was
-journal_was faults written false name sink sink' old new text handled (fault, part) =
-    (some_and (λ x. 0 < faults x) _ sink' handled.kept fault, (part.0, part.1, kept_told (λ told kept. written kept ≡ behind (written told) part.0) _ _ sink sink' handled.told handled.kept part.2))
-
-journal_took : {K : Type 0} (faults : K → ℕ) (written : K → Option (List ℕ)) (journal_written : Bool) (sink sink' : K) (text : List ℕ) → JournalWas faults written journal_written sink sink' text → TookMore (written sink) (written sink')
-journal_took faults written true sink sink' text was = (text, was)
-journal_took faults written false sink sink' text (fault, part) = (part.0, part.2)
-
-broken_at : {S K C : Type 0} (left : S → Option (List ℕ)) (written : K → Option (List ℕ)) (source_faults : S → ℕ) (sink_faults : K → ℕ) (plan : Plan) (past : List Row) (held back : List (PortEnds S K C)) (old new : Book S K C) → ports_held held ≡ ports_of plan.ports → Handled held back old.ports new.ports
-    → ((k : ℕ) (d : PortEnds S K C) → k < length held → IsServed left written source_faults sink_faults past (get_or held k d) (get_or back k d)) → EachPort plan (λ k n. input_end n past ≡ Some hows.Failed → HasReadFault source_faults new n)
-broken_at {S} {K} {C} left written source_faults sink_faults plan past held back old new ports handled served =
-    each_port (λ k n. input_end n past ≡ Some hows.Failed → HasReadFault source_faults new n) plan held ports (λ k d inside failed.
-    some_and (λ (e : Ends S K C). 0 < source_faults e.source) _ _ (kept_at held back old.ports new.ports k d handled inside) ((served k d inside).broken failed))
-
-broken_out_at : {S K C : Type 0} (left : S → Option (List ℕ)) (written : K → Option (List ℕ)) (source_faults : S → ℕ) (sink_faults : K → ℕ) (plan : Plan) (past : List Row) (held back : List (PortEnds S K C)) (old new : Book S K C) → ports_held held ≡ ports_of plan.ports → Handled held back old.ports new.ports
-    → ((k : ℕ) (d : PortEnds S K C) → k < length held → IsServed left written source_faults sink_faults past (get_or held k d) (get_or back k d)) → EachPort plan (λ k n. output_end n past ≡ Some hows.Failed → HasWriteFault sink_faults new n)
-broken_out_at {S} {K} {C} left written source_faults sink_faults plan past held back old new ports handled served =
-    each_port (λ k n. output_end n past ≡ Some hows.Failed → HasWriteFault sink_faults new n) plan held ports (λ k d inside failed.
-    some_and (λ (e : Ends S K C). 0 < sink_faults e.sink) _ _ (kept_at held back old.ports new.ports k d handled inside) ((served k d inside).broken_out failed))
-
-replay_of : {S K C : Type 0} (left : S → Option (List ℕ)) (written : K → Option (List ℕ)) (source_faults : S → ℕ) (sink_faults : K → ℕ) (plan : Plan) (Says : List ℕ → Type 0) (held back : List (PortEnds S K C)) (sink sink' : K) (core : Machine) (journal_written : Bool) (old new : Book S K C) (status : ℕ)
-    → ports_held held ≡ ports_of plan.ports → Handled held back old.ports new.ports → HandledOne plan.journal sink sink' old.outputs new.outputs
-    → IsPlayed left written source_faults sink_faults plan held back sink sink' core journal_written
-    → IsSummed written sink_faults Says core.past journal_written (old.std Out) (new.std Out) status
-    → IsReplayOf left written source_faults sink_faults plan Says old new status
-replay_of {S} {K} {C} left written source_faults sink_faults plan Says held back sink sink' core journal_written old new status ports handled journal played summed =
-    let past = core.past in
-    let out : IsPlayedOut left written plan past held back = played.out in
-    record {
-      inputs = out.inputs;
-      stops = out.stops;
-      past = past;
-      size = out.size ∙ size_of held plan.ports ports;
-      gave = each_port (λ k n. (i : _) → GaveAt left old new n past (get_or out.inputs k i)) plan held ports (λ k d inside i.
-          at_port (λ n told kept. IsInputOf (Arrive classic_kinds) (left told.source) (left kept.source) (input_end n past) (get_or out.inputs k i).arrivals (get_or out.inputs k i).ending)
-          held back old.ports new.ports k d handled inside (out.gave k d i inside));
-      replay = out.replay;
-      legal = played.legal;
-      finished = out.finished;
-      fits = each_port (λ k n. FitsPort left old new n past) plan held ports (λ k d inside.
-          at_port (λ n told kept. Fits (Arrive classic_kinds) (left told.source) (left kept.source) (arrived n past) (input_end n past))
-          held back old.ports new.ports k d handled inside (out.each.each k d inside).fits);
-      broken = broken_at left written source_faults sink_faults plan past held back old new ports handled played.served.each;
-      took = each_port (λ k n. TookSent written plan old new n past (out.stops n)) plan held ports (λ k d inside.
-          at_port (λ n told kept. TookPieces (written told.sink) (written kept.sink) (pieces (sent plan empty n past)) (out.stops n)) held back old.ports new.ports k d handled inside (out.took k d inside));
-      fits_out = each_port (λ k n. FitsSent written plan old new n past) plan held ports (λ k d inside.
-          at_port (λ n told kept. FitsOutputAt plan empty (written told.sink) (written kept.sink) n past) held back old.ports new.ports k d handled inside (out.each.each k d inside).fits_out);
-      broken_out = broken_out_at left written source_faults sink_faults plan past held back old new ports handled played.served.each;
-      journal_written = journal_written;
-      summary_written = summed.summary_written;
-      journal = journal_was sink_faults written journal_written plan.journal sink sink' old.outputs new.outputs (journal_text address_text plan (reverse past)) journal played.journal_was;
-      tells = played.tells;
-      alone = λ plan' past' other. journal_tells address_text written-IsAddressText plan plan' past past' _ played.tells other;
-      summary = summed.summary;
-      errors = summed.errors;
-      cause = summed.cause;
-      guarded = guarded plan empty past played.legal;
-    }
+-- where the ends that are held were served, those in their places were
+serves_places : {S K C : Type 0} (left : S → Option (List ℕ)) (written : K → Option (List ℕ)) (source_faults : S → ℕ) (sink_faults : K → ℕ) (plan : Plan) (past : List Row) (held back : List (PortEnds S K C)) (old new : ℕ → Place (Ends S K C))
+    → ports_held held ≡ ports_of plan.ports → Handled held back old new → All IsReadAnew held → ServesEnds left written source_faults sink_faults plan empty past held back
+    → ServesPorts plan empty past (λ place port input stop. Keeps (IsServed left written source_faults sink_faults (Arrive classic_kinds) plan empty past port input stop) (old port) (new port))
+serves_places {S} {K} {C} left written source_faults sink_faults plan past held back old new ports handled anew serves = record {
+  inputs = serves.inputs;
+  stops = serves.stops;
+  size = serves.size;
+  replay = serves.replay;
+  finished = serves.finished;
+  each = λ k i within.
+      let size = size_of held plan.ports ports in
+      let inside : k < length held = omega (arith, size, within) in
+      let d = element held k inside in
+      let port = slice_index (numbers_of plan.ports) k in
+      let Served : State → Ends S K C → Ends S K C → Type 0 = λ s. IsServed left written source_faults sink_faults (Comes s) plan empty past port (get_or serves.inputs k i) (serves.stops port) in
+      subst (λ (n : ℕ). Keeps (Served (Fresh classic_kinds)) (old n) (new n)) (sym (number_at held plan.ports k d ports inside))
+      (keeps_at (Served (Fresh classic_kinds)) held back old new k d handled inside
+      (subst (λ (s : State). Served s (get_or held k d).ends (get_or back k d).ends) (anew k d inside) (serves.each k i within d)));
+}
 
 -- what a session was to the ends is what it was to the places
-pub session_of : {S K C : Type 0} (left : S → Option (List ℕ)) (written : K → Option (List ℕ)) (source_faults : S → ℕ) (sink_faults : K → ℕ) (plan : Plan) (Says : List ℕ → Type 0) (held back : List (PortEnds S K C)) (sink sink' : K) (core : Machine) (journal_written : Bool) (old new : Book S K C) (status : ℕ)
+pub session_of : {S K C : Type 0} (left : S → Option (List ℕ)) (written : K → Option (List ℕ)) (source_faults : S → ℕ) (sink_faults : K → ℕ) (plan : Plan) (Says : List ℕ → Type 0) (held back : List (PortEnds S K C)) (sink sink' : K) (past : List Row) (journal_written : Bool) (old new : Book S K C) (status : ℕ)
     → ports_held held ≡ ports_of plan.ports → Handled held back old.ports new.ports → HandledOne plan.journal sink sink' old.outputs new.outputs
-    → IsPlayed left written source_faults sink_faults plan held back sink sink' core journal_written
-    → IsSummed written sink_faults Says core.past journal_written (old.std Out) (new.std Out) status
+    → All IsReadAnew held → IsPlayed left written source_faults sink_faults plan past held back sink sink' journal_written
+    → IsSummed written sink_faults Says past journal_written (old.std Out) (new.std Out) status
     → IsSessionOf left written source_faults sink_faults plan Says old new status
-session_of {S} {K} {C} left written source_faults sink_faults plan Says held back sink sink' core journal_written old new status ports handled journal played summed = record {
-  kept = keeps_all_of left written plan held back sink sink' old new ports handled journal (λ k d inside. (played.served.each k d inside).used)
-      (journal_took sink_faults written journal_written sink sink' (journal_text address_text plan (reverse core.past)) played.journal_was);
+session_of left written source_faults sink_faults plan Says held back sink sink' past journal_written old new status ports handled journal anew played summed = record {
   elsewhere = off_plan plan held back sink sink' old new ports handled journal;
-  did = replay_of left written source_faults sink_faults plan Says held back sink sink' core journal_written old new status ports handled journal played summed;
+  did = record {
+    past = past;
+    legal = played.legal;
+    serves = serves_places left written source_faults sink_faults plan past held back old.ports new.ports ports handled anew played.serves;
+    journal_written = journal_written;
+    journal = keeps_of (TookOrPart sink_faults written journal_written (journal_text address_text plan (reverse past))) _ _ sink sink' journal.told journal.kept played.journal_was;
+    tells = played.tells;
+    alone = λ plan' past' other. journal_tells address_text written-IsAddressText plan plan' past past' _ played.tells other;
+    summed = summed;
+    guarded = guarded plan empty past played.legal;
+  };
 }
 
 -- the numbers of the ports of a plan

@@ -1,14 +1,14 @@
 -- When each status comes.
-use Rattle.std.specs.Prelude.{◌≡◌, ◌==◌, ◌≢◌, ◌⊎◌, ℕ, true, List, [], ◌∷◌, Option, IfSome, IsSomeAnd, All}
+use Rattle.std.specs.Prelude.{◌≡◌, ◌<◌, ◌==◌, ◌≢◌, ◌⊎◌, ℕ, Bool, true, false, List, [], ◌∷◌, Option, Some, IfSome, IsSomeAnd, All}
 use Rattle.std.specs.List.{list_any}
 use Rattle.savi_kinds.specs.declared.plan.Plan.{Plan}
 use Rattle.savi_kinds.specs.ValidPlan.{numbers_of}
 use Rattle.savi_ends.specs.declared.world.Std.TheVariants.{Out}
-use Rattle.savi_ends.specs.declared.world.Ends.{Ends}
-use Rattle.savi_ends.specs.Octets.{Takes}
+use Rattle.savi_ends.specs.Octets.{behind, IsFront}
 use Rattle.savi_ends.specs.Places.{Place, Book, OthersStay}
 use Rattle.run_config.specs.Configs.{HasFault}
 use Rattle.port_worker.specs.SentFrames.{TookMore}
+use Rattle.port_worker.specs.Served.{IsUsed}
 
 -- a read of the source of this port has failed
 abbrev pub HasReadFault : {S K C : Type 0} → (S → ℕ) → Book S K C → ℕ → Type 0
@@ -47,16 +47,19 @@ unused_statuses = 1 ∷ 2 ∷ 3 ∷ 7 ∷ []
 abbrev pub statuses : List ℕ
 statuses = 0 ∷ 1 ∷ 2 ∷ 3 ∷ 4 ∷ 5 ∷ 6 ∷ 7 ∷ 8 ∷ []
 
--- The ends of a port as they were and as they are: the source gave up octets from its front, the sink took octets behind
--- what it held, and the clock wasn't read.
-pub record IsUsed {S K C : Type 0} (left : S → Option (List ℕ)) (written : K → Option (List ℕ)) (told kept : Ends S K C) : Type 0 where
-  pub gave : (octets : List ℕ) × Takes (left told.source) (left kept.source) octets
-  pub took : TookMore (written told.sink) (written kept.sink)
-  pub clock : kept.clock ≡ told.clock
+-- The end that was handed out of a place is the one that is told there, where one is; one is kept there again, and this
+-- holds of both.
+pub record Keeps {X : Type 0} (Holds : X → X → Type 0) (old new : Place X) : Type 0 where
+  pub handed : X
+  pub back : X
+  pub told : IfSome old.stands (λ told. handed ≡ told)
+  pub kept : new.stands ≡ Some back
+  pub holds : Holds handed back
 
--- an end is kept in a place, and this holds of it and of the one that was told there
-abbrev pub Keeps : {X : Type 0} → (X → X → Type 0) → Place X → Place X → Type 0
-Keeps Holds old new = IsSomeAnd new.stands (λ kept. IfSome old.stands (λ told. Holds told kept))
+-- A sink took these octets, or a front of them before a write of them failed.
+abbrev pub TookOrPart : {K : Type 0} → (K → ℕ) → (K → Option (List ℕ)) → Bool → List ℕ → K → K → Type 0
+TookOrPart faults written true octets old new = written new ≡ behind (written old) octets
+TookOrPart faults written false octets old new = (0 < faults new) × ((front : List ℕ) × IsFront front octets × (written new ≡ behind (written old) front))
 
 -- The ends of each port of the plan are kept, read and written in their own place, and so is the journal's sink.
 pub record KeepsAll {S K C : Type 0} (left : S → Option (List ℕ)) (written : K → Option (List ℕ)) (plan : Plan) (old new : Book S K C) : Type 0 where

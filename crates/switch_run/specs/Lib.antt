@@ -2,3 +2,4 @@ pub mod Causes
 pub mod Session
 pub mod Played
 pub mod Concluded
+pub mod Runs

@@ -1,23 +1,16 @@
 -- What a run has done whose session began: one history stands in all of it.
-use Rattle.std.specs.Prelude.{◌≡◌, ℕ, ◌<◌, ◌⊎◌, ◌&&◌, ◌||◌, not, Bool, true, false, if◌then◌else◌, List, [], ◌∷◌, ◌++◌, length, slice_index, slice_index_or, reverse, Option, Some, IfSome, IsSome, IsSomeAnd, All}
+use Rattle.std.specs.Prelude.{◌≡◌, ℕ, ◌<◌, ◌⊎◌, ◌&&◌, ◌||◌, not, Bool, true, false, if◌then◌else◌, List, [], ◌∷◌, ◌++◌, reverse, Option, IsSome, All}
 use Rattle.savi_kinds.specs.declared.plan.Plan.{Plan}
-use Rattle.savi_kinds.specs.declared.entry.How.TheVariants as hows
-use Rattle.savi_kinds.specs.Arrivals.{Input}
 use Rattle.savi_kinds.specs.ValidPlan.{numbers_of}
 use Rattle.savi_ends.specs.declared.world.Std.TheVariants.{Out, Err}
-use Rattle.savi_ends.specs.Octets.{behind, IsFront}
+use Rattle.savi_ends.specs.Octets.{behind}
 use Rattle.savi_ends.specs.Places.{Place, Book}
 use Rattle.pcap_io.specs.Kinds.{classic_kinds}
 use Rattle.pcap_io.specs.Runs.{Arrive}
 use Rattle.hist_store.specs.Rows.{Row}
 use Rattle.hist_store.specs.JournalTexts.{journal_text, address_text}
 use Rattle.savi_history.specs.Bases.{empty}
-use Rattle.savi_history.specs.Queues.{sent}
-use Rattle.savi_history.specs.Legal.{IsLegal, IsFinished}
-use Rattle.savi_history.specs.Replay.{Stops, replayed}
-use Rattle.savi_history.specs.PortInputs.{arrived, input_end}
-use Rattle.savi_history.specs.PortOutputs.{output_end, pieces, TookPieces, FitsOutputAt}
-use Rattle.savi_history.specs.Fits.{Fits}
+use Rattle.savi_history.specs.Legal.{IsLegal}
 use Rattle.savi_history.specs.Endings.{has_failed, has_failed_write, has_malformed, has_full}
 use Rattle.savi_history.specs.EndLines.{end_lines}
 use Rattle.savi_history.specs.Adverts.{IsGuarded}
@@ -26,8 +19,8 @@ use Rattle.savi_history.specs.Summary.{summary_of, summary_text}
 use Rattle.savi_conf.specs.declared.fault.ConfFault.{ConfFault}
 use Rattle.run_config.specs.Configs.{HasFault, IsConfigured, IsReadFrom, IsRefused}
 use Rattle.switch_report.specs.RunLines.{cannot_open_line, config_line, write_failed_line, read_failed_line, port_name, journal_word}
-use Rattle.port_worker.specs.Replays.{IsInputOf}
-use Rattle.switch_run.specs.Causes.{HasReadFault, HasWriteFault, IsUnserved, KeepsAll, IsOffPlanSame}
+use Rattle.port_worker.specs.Served.{IsServed, ServesPorts}
+use Rattle.switch_run.specs.Causes.{IsUnserved, Keeps, KeepsAll, IsOffPlanSame, TookOrPart}
 
 -- The status by a history, and by whether the journal and the summary were written: the first that applies of a failed
 -- read, a failed write, a malformed input and want of room.
@@ -35,91 +28,48 @@ abbrev pub status_of : Bool → List Row → ℕ
 status_of written past =
     if has_failed past then 5 else if has_failed_write past || not written then 6 else if has_malformed past then 4 else if has_full past then 8 else 0
 
--- A sink that is kept took these octets behind those that it held when it was told.
-abbrev pub Took : {X : Type 0} → (X → Option (List ℕ)) → Place X → Place X → List ℕ → Type 0
-Took written old new octets = IsSomeAnd new.stands (λ kept. IfSome old.stands (λ told. written kept ≡ behind (written told) octets))
-
--- it took them, or a front of them before a write of it failed
-abbrev pub TookOrPart : {X : Type 0} → (X → ℕ) → (X → Option (List ℕ)) → Bool → Place X → Place X → List ℕ → Type 0
-TookOrPart faults written true old new octets = Took written old new octets
-TookOrPart faults written false old new octets =
-    HasFault faults new × ((front : List ℕ) × IsFront front octets × Took written old new front)
-
 -- A sink took these lines, or a write of it failed, which changes no status.
 abbrev pub ToldBy : {K : Type 0} → (K → ℕ) → (K → Option (List ℕ)) → K → K → List ℕ → Type 0
 ToldBy faults written old new lines = (written new ≡ behind (written old) lines) ⊎ (0 < faults new)
 
--- Standard error took these lines, or a write of it failed, which changes no status.
+-- the same of standard error
 abbrev pub Told : {S K C : Type 0} → (K → ℕ) → (K → Option (List ℕ)) → Book S K C → Book S K C → List ℕ → Type 0
-Told faults written old new lines = Took written (old.std Err) (new.std Err) lines ⊎ HasFault faults (new.std Err)
-
--- for each port of the plan, by its place in the plan and its number
-abbrev pub EachPort : Plan → (ℕ → ℕ → Type 0) → Type 0
-EachPort plan Holds = (k : ℕ) → k < length plan.ports → Holds k (slice_index (numbers_of plan.ports) k)
-
--- The source of a port gave this input, by how the history says that it ended.
-abbrev pub GaveAt : {S K C : Type 0} → (S → Option (List ℕ)) → Book S K C → Book S K C → ℕ → List Row → Input → Type 0
-GaveAt left old new port past input =
-    IfSome (old.ports port).stands (λ told. IsSomeAnd (new.ports port).stands (λ kept.
-    IsInputOf (Arrive classic_kinds) (left told.source) (left kept.source) (input_end port past) input.arrivals input.ending))
-
--- What the source of a port gave up fits what the history holds of its input.
-abbrev pub FitsPort : {S K C : Type 0} → (S → Option (List ℕ)) → Book S K C → Book S K C → ℕ → List Row → Type 0
-FitsPort left old new port past =
-    IfSome (old.ports port).stands (λ told. IsSomeAnd (new.ports port).stands (λ kept.
-    Fits (Arrive classic_kinds) (left told.source) (left kept.source) (arrived port past) (input_end port past)))
-
--- A port's sink took the pieces of the capture of what the history sends there: all, or, where a write failed behind so
--- many, those and a front of the next.
-abbrev pub TookSent : {S K C : Type 0} → (K → Option (List ℕ)) → Plan → Book S K C → Book S K C → ℕ → List Row → Option ℕ → Type 0
-TookSent written plan old new port past stop =
-    IfSome (old.ports port).stands (λ told. IsSomeAnd (new.ports port).stands (λ kept. TookPieces (written told.sink) (written kept.sink) (pieces (sent plan empty port past)) stop))
-
--- What a port's sink took fits how the history says that the output ended.
-abbrev pub FitsSent : {S K C : Type 0} → (K → Option (List ℕ)) → Plan → Book S K C → Book S K C → ℕ → List Row → Type 0
-FitsSent written plan old new port past =
-    IfSome (old.ports port).stands (λ told. IsSomeAnd (new.ports port).stands (λ kept. FitsOutputAt plan empty (written told.sink) (written kept.sink) port past))
+Told faults written old new lines = Keeps (λ told kept. ToldBy faults written told kept lines) (old.std Err) (new.std Err)
 
 -- the line of a journal that couldn't be written
 abbrev pub journal_lines : Bool → List ℕ
 journal_lines true = []
 journal_lines false = write_failed_line journal_word
 
--- A replay with this plan: one history, legal and finished, is the replay of what the sources of the plan's ports gave to
--- sinks that stop so, and fits both, port by port; an input ended by a failed read only where its own source has a fault,
--- and an output by a failed write only where its own sink has one; the journal took its text, which is that of no other legal
--- history, and standard output its summary, or a front of it where a write failed; standard error was told its bad ends, in
--- what `Says`; the status is that of the history; and no advertisement and no hidden fragment passed the port of a host or a
--- server.
-pub record IsReplayOf {S K C : Type 0} (left : S → Option (List ℕ)) (written : K → Option (List ℕ)) (source_faults : S → ℕ) (sink_faults : K → ℕ) (plan : Plan) (Says : List ℕ → Type 0) (old new : Book S K C) (status : ℕ) : Type 0 where
-  pub inputs : List Input
-  pub stops : Stops
-  pub past : List Row
-  pub size : length inputs ≡ length plan.ports
-  pub gave : EachPort plan (λ k port. (i : Input) → GaveAt left old new port past (slice_index_or inputs k i))
-  pub replay : past ≡ replayed plan empty inputs stops
-  pub legal : IsLegal plan empty past
-  pub finished : IsFinished plan empty past
-  pub fits : EachPort plan (λ k port. FitsPort left old new port past)
-  pub broken : EachPort plan (λ k port. input_end port past ≡ Some hows.Failed → HasReadFault source_faults new port)
-  pub took : EachPort plan (λ k port. TookSent written plan old new port past (stops port))
-  pub fits_out : EachPort plan (λ k port. FitsSent written plan old new port past)
-  pub broken_out : EachPort plan (λ k port. output_end port past ≡ Some hows.Failed → HasWriteFault sink_faults new port)
-  -- whether the journal was written, and the summary
-  pub journal_written : Bool
+-- Standard output took the summary of a history, or a front of it where a write failed; standard error was told its bad
+-- ends, and that of a journal that wasn't written, in what `Says`; and the status is that of the history.
+pub record IsSummed {K : Type 0} (written : K → Option (List ℕ)) (faults : K → ℕ) (Says : List ℕ → Type 0) (past : List Row) (journal_written : Bool) (old new : Place K) (status : ℕ) : Type 0 where
+  -- whether the summary was written
   pub summary_written : Bool
-  pub journal : TookOrPart sink_faults written journal_written (old.outputs plan.journal) (new.outputs plan.journal) (journal_text address_text plan (reverse past))
-  pub tells : IsJournalOf address_text plan past (journal_text address_text plan (reverse past))
-  pub alone : (plan' : Plan) (past' : List Row) → IsJournalOf address_text plan' past' (journal_text address_text plan (reverse past)) → IsSame plan past plan' past'
-  pub summary : TookOrPart sink_faults written summary_written (old.std Out) (new.std Out) (summary_text (summary_of past))
+  pub summary : Keeps (TookOrPart faults written summary_written (summary_text (summary_of past))) old new
   pub errors : Says (end_lines past ++ journal_lines journal_written)
   pub cause : status ≡ status_of (journal_written && summary_written) past
+
+-- A replay with this plan: one history, legal and finished, is the replay of what the sources of the plan's ports gave to
+-- sinks that stop so; the ends of each port are kept in their own place, and the history fits what was given up and taken
+-- there; the journal took its text, which is that of no other legal history, or a front of it where a write failed; the
+-- history is summed up on the standard outputs and in the status; and no advertisement and no hidden fragment passed the
+-- port of a host or a server.
+pub record IsReplayOf {S K C : Type 0} (left : S → Option (List ℕ)) (written : K → Option (List ℕ)) (source_faults : S → ℕ) (sink_faults : K → ℕ) (plan : Plan) (Says : List ℕ → Type 0) (old new : Book S K C) (status : ℕ) : Type 0 where
+  pub past : List Row
+  pub legal : IsLegal plan empty past
+  pub serves : ServesPorts plan empty past (λ place port input stop.
+      Keeps (IsServed left written source_faults sink_faults (Arrive classic_kinds) plan empty past port input stop) (old.ports port) (new.ports port))
+  -- whether the journal was written
+  pub journal_written : Bool
+  pub journal : Keeps (TookOrPart sink_faults written journal_written (journal_text address_text plan (reverse past))) (old.outputs plan.journal) (new.outputs plan.journal)
+  pub tells : IsJournalOf address_text plan past (journal_text address_text plan (reverse past))
+  pub alone : (plan' : Plan) (past' : List Row) → IsJournalOf address_text plan' past' (journal_text address_text plan (reverse past)) → IsSame plan past plan' past'
+  pub summed : IsSummed written sink_faults Says past journal_written (old.std Out) (new.std Out) status
   pub guarded : IsGuarded plan past
 
--- A session of this plan: its ends are kept, each in its own place, no other port or output was touched, and it was a
--- replay.
+-- A session of this plan: it was a replay, and no other port or output was touched.
 pub record IsSessionOf {S K C : Type 0} (left : S → Option (List ℕ)) (written : K → Option (List ℕ)) (source_faults : S → ℕ) (sink_faults : K → ℕ) (plan : Plan) (Says : List ℕ → Type 0) (old new : Book S K C) (status : ℕ) : Type 0 where
-  pub kept : KeepsAll left written plan old new
   pub elsewhere : IsOffPlanSame plan old new
   pub did : IsReplayOf left written source_faults sink_faults plan Says old new status
 
@@ -131,7 +81,7 @@ pub record IsSession {S K C : Type 0} (left : S → Option (List ℕ)) (written 
   pub session : IsSessionOf left written source_faults sink_faults plan Says old new status
 
 -- A read of the configuration failed, before anything else was opened.
-pub record IsUnread {S K C : Type 0} (left : S → Option (List ℕ)) (source_faults : S → ℕ) (file : List ℕ) (Says : List ℕ → Type 0) (old new : Book S K C) (status : ℕ) : Type 0 where
+pub record IsFileUnread {S K C : Type 0} (left : S → Option (List ℕ)) (source_faults : S → ℕ) (file : List ℕ) (Says : List ℕ → Type 0) (old new : Book S K C) (status : ℕ) : Type 0 where
   pub status_is : status ≡ 5
   pub fault : HasFault source_faults (new.inputs file)
   pub input : IsReadFrom left (old.inputs file) (new.inputs file)

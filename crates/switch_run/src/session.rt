@@ -3,14 +3,15 @@
 ghost use Rattle.std.specs.Prelude.{◌≡◌, ◌≤◌, All, IfNone, IfSome, None, [], reverse};
 ghost use Rattle.port_worker.specs.Pairs.{EachPair};
 ghost use Rattle.port_worker.specs.Replays.{IsUnread, ports_held, ports_planned};
+ghost use Rattle.port_worker.specs.Served.{IsSamePort};
 ghost use Rattle.run_config.specs.Configs.{IsBuilt};
-ghost use Rattle.switch_ports.specs.Openings.{IsReadAnew};
 ghost use Rattle.hist_store.specs.JournalTexts.{address_text, journal_text};
 ghost use Rattle.savi_kinds.specs.ValidPlan.{IsValidPlan};
 ghost use Rattle.savi_history.specs.Bases.{empty};
 ghost use Rattle.savi_history.specs.Legal.{IsLegal};
 ghost use Rattle.savi_history.specs.Journals.{IsJournalOf};
-ghost use Rattle.switch_run.specs.Played.{IsPlayed, IsSamePort, JournalWas};
+ghost use Rattle.switch_run.specs.Causes.{TookOrPart};
+ghost use Rattle.switch_run.specs.Played.{IsPlayed};
 
 use hist_store::Hist;
 use port_worker::{Closed, Ready, replay_session};
@@ -49,10 +50,10 @@ pub fn play<S: Source, K: Sink, C: Clock>(
     requires built { IsBuilt plan }
     requires planned { ports_held ready.ports.items ≡ ports_planned plan }
     requires unread { All IsUnread ready.ports.items }
-    requires anew { All IsReadAnew ready.ports.items }
     ensures ports { EachPair IsSamePort ready.ports.items result.ready.ports.items }
     ensures none { IfNone result.outcome ((result.ready.ports.items ≡ ready.ports.items) × (journal.new ≡ journal.old)) }
-    ensures played { IfSome result.outcome (λ o. IsPlayed S.left K.written S.faults K.faults plan ready.ports.items result.ready.ports.items journal.old journal.new o.core o.journal_written) }
+    ensures plan { IfSome result.outcome (λ o. o.core.plan ≡ plan) }
+    ensures played { IfSome result.outcome (λ o. IsPlayed S.left K.written S.faults K.faults plan o.core.past ready.ports.items result.ready.ports.items journal.old journal.new o.journal_written) }
 {
     let mut buffer = match Buffer::make(alloc, JOURNAL_PIECE_OCTETS) {
         Ok(buffer) => buffer,
@@ -89,7 +90,7 @@ fn finish_journal<K: Sink>(plan: &Plan, hist: &Hist, journal: &mut K, buffer: &m
     requires legal { IsLegal plan.now empty (reverse hist.now.rows) }
     requires empty { buffer.old.octets ≡ [] }
     requires room { 3401 ≤ buffer.old.room }
-    ensures was { JournalWas K.faults K.written result journal.old journal.new (journal_text address_text plan.now hist.now.rows) }
+    ensures was { TookOrPart K.faults K.written result (journal_text address_text plan.now hist.now.rows) journal.old journal.new }
     ensures tells { IsJournalOf address_text plan.now (reverse hist.now.rows) (journal_text address_text plan.now hist.now.rows) }
 {
     match write_journal(plan, hist, journal, buffer) {

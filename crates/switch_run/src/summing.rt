@@ -6,8 +6,8 @@ ghost use Rattle.savi_ends.specs.Places.{IsReady, OthersStay};
 ghost use Rattle.savi_history.specs.Summary.{summary_text};
 ghost use Rattle.switch_report.specs.Sums.{sum_of};
 ghost use Rattle.switch_report.specs.RunLines.{memory_line};
-ghost use Rattle.switch_run.specs.Concluded.{IsSummed};
-ghost use Rattle.switch_run.specs.Session.{ToldBy, TookOrPart, status_of};
+ghost use Rattle.switch_run.specs.Causes.{Keeps, TookOrPart};
+ghost use Rattle.switch_run.specs.Session.{IsSummed, ToldBy, status_of};
 
 use crate::ends_told::tell_finished;
 use crate::session::Outcome;
@@ -63,7 +63,7 @@ fn status_by(hist: &Hist, written: bool) -> u8
 // Writes the summary to standard output. The answer is false where the write failed.
 fn write_summary<W: World>(summary: Summary, world: &mut W) -> bool
     requires { IsReady (λ k. W.K.faults k ≡ 0) ((W.book world.old).std Std.Out) }
-    ensures took { TookOrPart W.K.faults W.K.written result ((W.book world.old).std Std.Out) ((W.book world.new).std Std.Out) (summary_text (sum_of summary)) }
+    ensures took { Keeps (TookOrPart W.K.faults W.K.written result (summary_text (sum_of summary))) ((W.book world.old).std Std.Out) ((W.book world.new).std Std.Out) }
     ensures others { OthersStay (W.book world.old).std (W.book world.new).std Std.Out }
     ensures rest { W.book world.new ≡ record (W.book world.old) { std = (W.book world.new).std } }
 {

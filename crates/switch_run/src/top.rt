@@ -9,7 +9,8 @@ ghost use Rattle.run_config.specs.Configs.{IsBuilt};
 ghost use Rattle.switch_report.specs.RunLines.{memory_line, usage_line};
 ghost use Rattle.run_config.specs.Words.{IsForm, IsReplay};
 ghost use Rattle.switch_run.specs.Causes.{HasSomeReadFault, HasSomeWriteFault, IsElsewhereSame, IsOffPlanSame, IsOneOf, IsUnserved, IsUnused, IsUntouched, KeepsAll, quiet_statuses, session_statuses, statuses, unused_statuses};
-ghost use Rattle.switch_run.specs.Session.{IsNoPlan, IsPartUnopened, IsSession, IsSessionOf, IsUnopened, IsUnplayed, IsUnread, Told, ToldBy};
+ghost use Rattle.switch_run.specs.Runs.{IsRun, IsRunOf};
+ghost use Rattle.switch_run.specs.Session.{IsNoPlan, IsPartUnopened, IsSession, IsSessionOf, IsUnopened, IsUnplayed, IsFileUnread, Told, ToldBy};
 
 use crate::ends_told::refuse;
 use crate::session::{Played, play};
@@ -54,7 +55,7 @@ pub fn run<W: World>(alloc: Global, words: &[String], world: &mut W) -> u8
     ensures config { (file : List ℕ) → IsReplay file (map string_bytes words.now) → result ≡ 3 → IsNoPlan W.S.left file (Told W.K.faults W.K.written (W.book world.old) (W.book world.new)) (W.book world.old) (W.book world.new) }
     ensures open { result ≡ 7 → Rose (W.book world.old).faults (W.book world.new).faults }
     ensures unopened { (file : List ℕ) → IsReplay file (map string_bytes words.now) → result ≡ 7 → IsUnopened W.S.left file (Told W.K.faults W.K.written (W.book world.old) (W.book world.new)) (W.book world.old) (W.book world.new) }
-    ensures session { (file : List ℕ) → IsReplay file (map string_bytes words.now) → IsOneOf session_statuses result → IsUnread W.S.left W.S.faults file (Told W.K.faults W.K.written (W.book world.old) (W.book world.new)) (W.book world.old) (W.book world.new) result ⊎ IsSession W.S.left W.K.written W.S.faults W.K.faults file (Told W.K.faults W.K.written (W.book world.old) (W.book world.new)) (W.book world.old) (W.book world.new) result }
+    ensures session { (file : List ℕ) → IsReplay file (map string_bytes words.now) → IsOneOf session_statuses result → IsFileUnread W.S.left W.S.faults file (Told W.K.faults W.K.written (W.book world.old) (W.book world.new)) (W.book world.old) (W.book world.new) result ⊎ IsSession W.S.left W.K.written W.S.faults W.K.faults file (Told W.K.faults W.K.written (W.book world.old) (W.book world.new)) (W.book world.old) (W.book world.new) result }
     ensures read { (file : List ℕ) → IsReplay file (map string_bytes words.now) → result ≡ 5 → HasSomeReadFault W.S.faults file (W.book world.new) }
     ensures write { (file : List ℕ) → IsReplay file (map string_bytes words.now) → result ≡ 6 → HasSomeWriteFault W.K.faults (W.book world.new) }
     ensures quiet { IsOneOf quiet_statuses result → (W.book world.new).std Std.Out ≡ (W.book world.old).std Std.Out }
@@ -73,18 +74,7 @@ fn perform<W: World>(alloc: Global, words: &[String], world: &mut W, errors: &mu
     requires outputs { (name : _) → IsReady (λ k. W.K.faults k ≡ 0) ((W.book world.old).outputs name) }
     requires ports { (n : _) → IsReady (BothFresh W.S.faults W.K.faults) ((W.book world.old).ports n) }
     requires out { IsReady (λ k. W.K.faults k ≡ 0) ((W.book world.old).std Std.Out) }
-    ensures status { IsOneOf statuses result }
-    ensures usage { (result ≡ 2) ↔ (IsForm (map string_bytes words.now) → ⊥) }
-    ensures untouched { result ≡ 2 → (W.book world.new ≡ W.book world.old) × ToldBy W.K.faults W.K.written errors.old errors.new usage_line }
-    ensures memory { result ≡ 1 → ToldBy W.K.faults W.K.written errors.old errors.new memory_line }
-    ensures unplayed { (file : List ℕ) → IsReplay file (map string_bytes words.now) → result ≡ 1 → IsUnplayed W.S.left W.K.written file (W.book world.old) (W.book world.new) }
-    ensures config { (file : List ℕ) → IsReplay file (map string_bytes words.now) → result ≡ 3 → IsNoPlan W.S.left file (ToldBy W.K.faults W.K.written errors.old errors.new) (W.book world.old) (W.book world.new) }
-    ensures open { result ≡ 7 → Rose (W.book world.old).faults (W.book world.new).faults }
-    ensures unopened { (file : List ℕ) → IsReplay file (map string_bytes words.now) → result ≡ 7 → IsUnopened W.S.left file (ToldBy W.K.faults W.K.written errors.old errors.new) (W.book world.old) (W.book world.new) }
-    ensures session { (file : List ℕ) → IsReplay file (map string_bytes words.now) → IsOneOf session_statuses result → IsUnread W.S.left W.S.faults file (ToldBy W.K.faults W.K.written errors.old errors.new) (W.book world.old) (W.book world.new) result ⊎ IsSession W.S.left W.K.written W.S.faults W.K.faults file (ToldBy W.K.faults W.K.written errors.old errors.new) (W.book world.old) (W.book world.new) result }
-    ensures quiet { IsOneOf quiet_statuses result → (W.book world.new).std Std.Out ≡ (W.book world.old).std Std.Out }
-    ensures unused { IsOneOf unused_statuses result → IsUnused (W.book world.old) (W.book world.new) }
-    ensures elsewhere { (file : List ℕ) → IsReplay file (map string_bytes words.now) → IsElsewhereSame file (W.book world.old) (W.book world.new) }
+    ensures ran { IsRun W.S.left W.K.written W.S.faults W.K.faults (map string_bytes words.now) (ToldBy W.K.faults W.K.written errors.old errors.new) (W.book world.old) (W.book world.new) result }
     ensures others { OthersStay (W.book world.old).std (W.book world.new).std Std.Out }
 {
     match file_of(words) {
@@ -102,17 +92,7 @@ fn replay_file<W: World>(alloc: Global, file: &str, world: &mut W, errors: &mut 
     requires outputs { (name : _) → IsReady (λ k. W.K.faults k ≡ 0) ((W.book world.old).outputs name) }
     requires ports { (n : _) → IsReady (BothFresh W.S.faults W.K.faults) ((W.book world.old).ports n) }
     requires out { IsReady (λ k. W.K.faults k ≡ 0) ((W.book world.old).std Std.Out) }
-    ensures status { IsOneOf statuses result }
-    ensures usage { result ≡ 2 → ⊥ }
-    ensures memory { result ≡ 1 → ToldBy W.K.faults W.K.written errors.old errors.new memory_line }
-    ensures unplayed { result ≡ 1 → IsUnplayed W.S.left W.K.written file.now (W.book world.old) (W.book world.new) }
-    ensures config { result ≡ 3 → IsNoPlan W.S.left file.now (ToldBy W.K.faults W.K.written errors.old errors.new) (W.book world.old) (W.book world.new) }
-    ensures open { result ≡ 7 → Rose (W.book world.old).faults (W.book world.new).faults }
-    ensures unopened { result ≡ 7 → IsUnopened W.S.left file.now (ToldBy W.K.faults W.K.written errors.old errors.new) (W.book world.old) (W.book world.new) }
-    ensures session { IsOneOf session_statuses result → IsUnread W.S.left W.S.faults file.now (ToldBy W.K.faults W.K.written errors.old errors.new) (W.book world.old) (W.book world.new) result ⊎ IsSession W.S.left W.K.written W.S.faults W.K.faults file.now (ToldBy W.K.faults W.K.written errors.old errors.new) (W.book world.old) (W.book world.new) result }
-    ensures quiet { IsOneOf quiet_statuses result → (W.book world.new).std Std.Out ≡ (W.book world.old).std Std.Out }
-    ensures unused { IsOneOf unused_statuses result → IsUnused (W.book world.old) (W.book world.new) }
-    ensures elsewhere { IsElsewhereSame file.now (W.book world.old) (W.book world.new) }
+    ensures ran { IsRunOf W.S.left W.K.written W.S.faults W.K.faults file.now (ToldBy W.K.faults W.K.written errors.old errors.new) (W.book world.old) (W.book world.new) result }
     ensures others { OthersStay (W.book world.old).std (W.book world.new).std Std.Out }
 {
     match configure(alloc, file, world) {

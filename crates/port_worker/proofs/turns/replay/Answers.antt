@@ -26,7 +26,7 @@ use Rattle.port_worker.proofs.Running.{Running, look_step, look_undone}
 use Rattle.port_worker.proofs.Stepping.{turn_step, fits_step, smaller, turn_known, running_j, inside}
 use Rattle.port_worker.proofs.Later.{looked_later}
 use Rattle.port_worker.proofs.Starting.{start, holds, control_open, planned_now, sound_now, quiet_now, input_open}
-use Rattle.port_worker.proofs.Ending.{inputs_ended, replayed_all, fits_out, broken_out, done_at}
+use Rattle.port_worker.proofs.Ending.{inputs_ended, serves, done_at}
 use Rattle.port_worker.proofs.Fitting.{FitsSoFar, fits_started, fits_looked, fits_finished, broken_since}
 use Rattle.port_worker.proofs.Finishing.{did_end}
 use Rattle.port_worker.proofs.turns.replay.Goals as goal
@@ -96,12 +96,13 @@ pub finish-requires-clause-ticker : goal.finish-requires-clause-ticker
 finish-requires-clause-ticker g c =
     subst (λ (p : Plan). has_ended empty (ticker_pass p) c.turns.core.past ≡ false) (sym c.turns.invariant.same_plan) c.turns.invariant.runs.ticker
 
-pub returns-in_default-clause-later : goal.returns-in_default-clause-later
-returns-in_default-clause-later g c =
-    looked_later g.S.Source.left g.K.Sink.written g.S.Source.faults g.K.Sink.faults c.args.ports.now c.turns.ports c.look_all.new.ports c.turns.invariant.runs.later c.look_all.ensures.looked
+pub returns-in_default-clause-ports : goal.returns-in_default-clause-ports
+returns-in_default-clause-ports g c =
+    let later = looked_later g.S.Source.left g.K.Sink.written g.S.Source.faults g.K.Sink.faults c.args.ports.now c.turns.ports c.look_all.new.ports c.turns.invariant.runs.later c.look_all.ensures.looked in
+    record { size = later.size; each = λ k d within. (later.each k d within).port }
 
-pub returns-in_default-clause-played : goal.returns-in_default-clause-played
-returns-in_default-clause-played g c =
+pub returns-in_default-clause-serves : goal.returns-in_default-clause-serves
+returns-in_default-clause-serves g c =
     let plan = c.args.core.now.plan in
     let first = c.args.ports.now in
     let ports = c.look_all.new.ports in
@@ -113,15 +114,13 @@ returns-in_default-clause-played g c =
     let finished : now ≡ egress_ended plan empty plan.ports (with_event plan empty past (End Ticker hows.End)) =
     subst (λ (p : Plan). now ≡ egress_ended p empty p.ports (with_event p empty past (End Ticker hows.End))) c.turns.invariant.same_plan c.finish.ensures.past in
     let outputs = subst (λ (p : Plan). All (λ q. IsOutputEnded p past now (number_of q.port)) ports) c.turns.invariant.same_plan c.finish.ensures.outputs in
-    record {
-      replayed = replayed_all g.S.Source.left g.K.Sink.written g.S.Source.faults g.K.Sink.faults plan first ports past c.requires.planned runs known none now finished outputs;
-      fits = fits_finished g.S.Source.left g.S.Source.faults plan first ports past now
-          (fits_looked g.S.Source.left g.S.Source.faults past first c.turns.ports ports c.turns.invariant.fits c.look_all.ensures.looked)
-          (done_at g.S.Source.left g.K.Sink.written g.S.Source.faults g.K.Sink.faults plan first ports past c.requires.planned runs known none) finished;
-      fits_out = fits_out g.S.Source.left g.K.Sink.written g.S.Source.faults g.K.Sink.faults plan first ports past c.requires.planned runs known none now finished outputs;
-      broken_out = broken_out g.S.Source.left g.K.Sink.written g.S.Source.faults g.K.Sink.faults plan first ports past c.requires.planned runs known none now finished outputs;
-      finished = subst (λ (p : Plan). IsFinished p empty now) c.turns.invariant.same_plan c.finish.ensures.finished;
-    }
+    let fits = fits_looked g.S.Source.left g.S.Source.faults past first c.turns.ports ports c.turns.invariant.fits c.look_all.ensures.looked in
+    serves g.S.Source.left g.K.Sink.written g.S.Source.faults g.K.Sink.faults plan first ports past c.requires.planned runs known none now finished outputs
+    (subst (λ (p : Plan). IsFinished p empty now) c.turns.invariant.same_plan c.finish.ensures.finished)
+    (fits_finished g.S.Source.left g.S.Source.faults plan first ports past now fits
+    (done_at g.S.Source.left g.K.Sink.written g.S.Source.faults g.K.Sink.faults plan first ports past c.requires.planned runs known none) finished)
+    (broken_since g.S.Source.left g.S.Source.faults first ports ports past now fits
+    refl (λ k d within. omega arith) (λ n. ap (λ (l : List Row). input_end n l) finished ∙ (same_finished plan empty past n).end_same))
 
 pub advance-requires-clause-planned : goal.advance-requires-clause-planned
 advance-requires-clause-planned g c =
@@ -218,16 +217,3 @@ turns-preserved g c =
           c.advance.ensures.stepped c.advance.ensures.others goes ahead_is
           (fits_looked g.S.Source.left g.S.Source.faults past first c.turns.ports ports c.turns.invariant.fits c.look_all.ensures.looked);
     }
-
-pub returns-in_default-clause-broken : goal.returns-in_default-clause-broken
-returns-in_default-clause-broken g c =
-    let plan = c.args.core.now.plan in
-    let first = c.args.ports.now in
-    let ports = c.look_all.new.ports in
-    let past = c.turns.core.past in
-    let now = c.finish.new.core.past in
-    let finished : now ≡ egress_ended plan empty plan.ports (with_event plan empty past (End Ticker hows.End)) =
-    subst (λ (p : Plan). now ≡ egress_ended p empty p.ports (with_event p empty past (End Ticker hows.End))) c.turns.invariant.same_plan c.finish.ensures.past in
-    broken_since g.S.Source.left g.S.Source.faults first ports ports past now
-    (fits_looked g.S.Source.left g.S.Source.faults past first c.turns.ports ports c.turns.invariant.fits c.look_all.ensures.looked)
-    refl (λ k d within. omega arith) (λ n. ap (λ (l : List Row). input_end n l) finished ∙ (same_finished plan empty past n).end_same)

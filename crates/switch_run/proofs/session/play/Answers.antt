@@ -1,10 +1,8 @@
-use Rattle.switch_run.proofs.Sessions.{played_of, same_of}
+use Rattle.switch_run.proofs.Sessions.{played_of}
 use Rattle.switch_run.proofs.session.play.Goals as goal
-
-pub returns-clause-ports : goal.returns-clause-ports
-returns-clause-ports g c = same_of g.S.Source.left g.K.Sink.written g.S.Source.faults g.K.Sink.faults c.args.plan c.in-Ok-replay_session.closed.core _ _ c.in-Ok-replay_session.ensures.session
 
 pub returns-clause-played : goal.returns-clause-played
 returns-clause-played g c =
+    let replayed = c.in-Ok-replay_session.ensures in
     played_of g.S.Source.left g.K.Sink.written g.S.Source.faults g.K.Sink.faults c.args.plan c.plan.result.now c.history.result.now.rows c.in-Ok-replay_session.closed.core _ _ c.args.journal.now c.finish_journal-journal_written.new.journal c.finish_journal-journal_written.result
-    c.requires.anew c.in-Ok-replay_session.ensures.session c.plan.ensures c.history.ensures.rows c.history.ensures.legal c.finish_journal-journal_written.ensures.was c.finish_journal-journal_written.ensures.tells
+    replayed.serves replayed.plan c.plan.ensures c.history.ensures.rows c.history.ensures.legal c.finish_journal-journal_written.ensures.was c.finish_journal-journal_written.ensures.tells

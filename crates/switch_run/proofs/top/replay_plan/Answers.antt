@@ -112,7 +112,7 @@ final g c =
     (handled_one c.as_str-2.result.now c.as_str-3.result.now c.args.plan.journal c.in-Ok.sink c.play-ready.new.journal _ (outputs (g.W.World.book c.open_all.new.world)) (outputs (g.W.World.book c.output.new.self)) (outputs (g.W.World.book c.keep_all-2.new.world)) (outputs (g.W.World.book c.keep_output.new.self)) _
     (c.as_str-2.ensures ∙ c.in-Some.ensures.journal) (c.as_str-3.ensures ∙ c.in-Some.ensures.journal)
     (ap outputs c.open_all.ensures.rest) c.in-Ok.ensures.opens.told c.in-Ok.ensures.others (ap outputs c.keep_all-2.ensures.rest) c.keep_output.ensures.kept c.keep_output.ensures.others (ap outputs c.conclude.ensures.rest))
-    (std_before g c)
+    (std_before g c) c.open_all.ensures.readers
     c.play-ready.ensures.none c.play-ready.ensures.played c.conclude.ensures.none c.conclude.ensures.some
 
 pub returns-clause-status : goal.returns-clause-status

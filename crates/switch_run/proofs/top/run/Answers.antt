@@ -1,8 +1,7 @@
-use Rattle.std.proofs.Common.{ℕ, List, refl, sym, subst}
-use Rattle.switch_run.specs.Causes.{IsOneOf, session_statuses}
-use Rattle.switch_run.specs.Session.{Told, ToldBy}
-use Rattle.switch_run.proofs.Running.{Ran, ran_told, ran_open, ran_quiet, ran_untouched, ran_unused, ran_elsewhere, ran_config, ran_unopened, ran_session, ran_unplayed}
-use Rattle.switch_run.proofs.Faulting.{read_fault_of, write_fault_of}
+use Rattle.std.specs.Prelude.{map}
+use Rattle.std.specs.String.{string_bytes}
+use Rattle.switch_run.proofs.Clauses.{Clauses, clauses_of}
+use Rattle.switch_run.proofs.Running.{Ran}
 use Rattle.switch_run.proofs.top.run.Given as given
 use Rattle.switch_run.proofs.top.run.Goals as goal
 
@@ -17,47 +16,47 @@ ran g c = record {
   rest3 = c.keep_std.ensures.rest;
 }
 
-says : (g : given.Over) (c : goal.After-keep_std g) (lines : List ℕ) → ToldBy g.W.K.Sink.faults g.W.K.Sink.written c.std-errors.result c.perform-status.new.errors lines → Told g.W.K.Sink.faults g.W.K.Sink.written (g.W.World.book c.args.world.now) (g.W.World.book c.keep_std.new.self) lines
-says g c lines told = ran_told g.W.K.Sink.faults g.W.K.Sink.written _ _ _ _ _ _ lines (ran g c) told
+ran_so : (g : given.Over) (c : goal.After-keep_std g) → Clauses g.W.S.Source.left g.W.K.Sink.written g.W.S.Source.faults g.W.K.Sink.faults (map string_bytes c.args.words.now) (g.W.World.book c.args.world.now) (g.W.World.book c.keep_std.new.self) c.perform-status.result
+ran_so g c = clauses_of g.W.S.Source.left g.W.K.Sink.written g.W.S.Source.faults g.W.K.Sink.faults _ _ _ _ _ _ _ _ (ran g c) c.perform-status.ensures.ran
+
+pub returns-clause-status : goal.returns-clause-status
+returns-clause-status g c = (ran_so g c).one_of
+
+pub returns-clause-usage : goal.returns-clause-usage
+returns-clause-usage g c = (ran_so g c).usage
 
 pub returns-clause-untouched : goal.returns-clause-untouched
-returns-clause-untouched g c = λ two. (ran_untouched _ _ _ _ _ _ (ran g c) (c.perform-status.ensures.untouched two).0, says g c _ (c.perform-status.ensures.untouched two).1)
+returns-clause-untouched g c = (ran_so g c).untouched
 
 pub returns-clause-memory : goal.returns-clause-memory
-returns-clause-memory g c = λ one. says g c _ (c.perform-status.ensures.memory one)
+returns-clause-memory g c = (ran_so g c).memory
 
 pub returns-clause-unplayed : goal.returns-clause-unplayed
-returns-clause-unplayed g c = λ file form one. ran_unplayed g.W.S.Source.left g.W.K.Sink.written _ _ _ _ _ _ file (ran g c) (c.perform-status.ensures.unplayed file form one)
+returns-clause-unplayed g c = (ran_so g c).unplayed
 
 pub returns-clause-config : goal.returns-clause-config
-returns-clause-config g c = λ file form three. ran_config g.W.S.Source.left _ _ _ _ _ _ _ _ file (ran g c) (says g c) (c.perform-status.ensures.config file form three)
+returns-clause-config g c = (ran_so g c).config
 
 pub returns-clause-open : goal.returns-clause-open
-returns-clause-open g c = λ seven. ran_open _ _ _ _ _ _ (ran g c) (c.perform-status.ensures.«open» seven)
+returns-clause-open g c = (ran_so g c).opening
 
 pub returns-clause-unopened : goal.returns-clause-unopened
-returns-clause-unopened g c = λ file form seven. ran_unopened g.W.S.Source.left _ _ _ _ _ _ _ _ file (ran g c) (says g c) (c.perform-status.ensures.unopened file form seven)
+returns-clause-unopened g c = (ran_so g c).unopened
 
 pub returns-clause-session : goal.returns-clause-session
-returns-clause-session g c = λ file form one_of. ran_session g.W.S.Source.left g.W.K.Sink.written g.W.S.Source.faults g.W.K.Sink.faults _ _ _ _ _ _ _ _ file _ (ran g c) (says g c) (c.perform-status.ensures.session file form one_of)
+returns-clause-session g c = (ran_so g c).session
 
 pub returns-clause-read : goal.returns-clause-read
-returns-clause-read g c = λ file form five.
-    read_fault_of g.W.S.Source.left g.W.K.Sink.written g.W.S.Source.faults g.W.K.Sink.faults _ _ _ file c.perform-status.result five
-    (ran_session g.W.S.Source.left g.W.K.Sink.written g.W.S.Source.faults g.W.K.Sink.faults _ _ _ _ _ _ _ _ file _ (ran g c) (says g c)
-    (c.perform-status.ensures.session file form (subst (λ (n : ℕ). IsOneOf session_statuses n) (sym five) refl)))
+returns-clause-read g c = (ran_so g c).read
 
 pub returns-clause-write : goal.returns-clause-write
-returns-clause-write g c = λ file form six.
-    write_fault_of g.W.S.Source.left g.W.K.Sink.written g.W.S.Source.faults g.W.K.Sink.faults _ _ _ file c.perform-status.result six
-    (ran_session g.W.S.Source.left g.W.K.Sink.written g.W.S.Source.faults g.W.K.Sink.faults _ _ _ _ _ _ _ _ file _ (ran g c) (says g c)
-    (c.perform-status.ensures.session file form (subst (λ (n : ℕ). IsOneOf session_statuses n) (sym six) refl)))
+returns-clause-write g c = (ran_so g c).write
 
 pub returns-clause-quiet : goal.returns-clause-quiet
-returns-clause-quiet g c = λ one_of. ran_quiet _ _ _ _ _ _ (ran g c) (c.perform-status.ensures.quiet one_of)
+returns-clause-quiet g c = (ran_so g c).quiet
 
 pub returns-clause-unused : goal.returns-clause-unused
-returns-clause-unused g c = λ one_of. ran_unused _ _ _ _ _ _ (ran g c) (c.perform-status.ensures.unused one_of)
+returns-clause-unused g c = (ran_so g c).unused
 
 pub returns-clause-elsewhere : goal.returns-clause-elsewhere
-returns-clause-elsewhere g c = λ file form. ran_elsewhere _ _ _ _ _ _ file (ran g c) (c.perform-status.ensures.elsewhere file form)
+returns-clause-elsewhere g c = (ran_so g c).elsewhere

@@ -1,0 +1,74 @@
+-- From what a run has done to what it says of its world.
+use Rattle.std.proofs.Common.{◌≡◌, ℕ, ◌⊎◌, inl, inr, List, refl, sym, ap, subst, arith, Option}
+use Rattle.std.specs.Prelude.{◌↔◌}
+use Rattle.savi_ends.specs.declared.world.Std.TheVariants.{Out}
+use Rattle.savi_ends.specs.Faults.{Rose}
+use Rattle.savi_ends.specs.Places.{Book}
+use Rattle.run_config.specs.Words.{IsForm, IsReplay}
+use Rattle.switch_report.specs.RunLines.{memory_line, usage_line}
+use Rattle.switch_run.specs.Causes.{HasSomeReadFault, HasSomeWriteFault, IsElsewhereSame, IsOneOf, IsUntouched, IsUnused, quiet_statuses, session_statuses, statuses, unused_statuses}
+use Rattle.switch_run.specs.Runs.{IsRun}
+use Rattle.switch_run.specs.Session.{IsFileUnread, IsNoPlan, IsSession, IsUnopened, IsUnplayed, Told, ToldBy}
+use Rattle.switch_run.proofs.Faulting.{read_fault_of, write_fault_of}
+use Rattle.switch_run.proofs.Forms.{same_file}
+use Rattle.switch_run.proofs.Refusing.{unused_same}
+use Rattle.switch_run.proofs.Running.{Ran, ran_told, ran_open, ran_quiet, ran_untouched, ran_unused, ran_elsewhere, ran_config, ran_unopened, ran_session, ran_unplayed}
+
+-- what the contract of a run says
+pub record Clauses {S K C : Type 0} (left : S → Option (List ℕ)) (written : K → Option (List ℕ)) (source_faults : S → ℕ) (sink_faults : K → ℕ) (words : List (List ℕ)) (old new : Book S K C) (status : ℕ) : Type 0 where
+  pub one_of : IsOneOf statuses status
+  pub usage : (status ≡ 2) ↔ (IsForm words → ⊥)
+  pub untouched : status ≡ 2 → IsUntouched old new × Told sink_faults written old new usage_line
+  pub memory : status ≡ 1 → Told sink_faults written old new memory_line
+  pub unplayed : (file : List ℕ) → IsReplay file words → status ≡ 1 → IsUnplayed left written file old new
+  pub config : (file : List ℕ) → IsReplay file words → status ≡ 3 → IsNoPlan left file (Told sink_faults written old new) old new
+  pub opening : status ≡ 7 → Rose old.faults new.faults
+  pub unopened : (file : List ℕ) → IsReplay file words → status ≡ 7 → IsUnopened left file (Told sink_faults written old new) old new
+  pub session : (file : List ℕ) → IsReplay file words → IsOneOf session_statuses status
+      → IsFileUnread left source_faults file (Told sink_faults written old new) old new status ⊎ IsSession left written source_faults sink_faults file (Told sink_faults written old new) old new status
+  pub read : (file : List ℕ) → IsReplay file words → status ≡ 5 → HasSomeReadFault source_faults file new
+  pub write : (file : List ℕ) → IsReplay file words → status ≡ 6 → HasSomeWriteFault sink_faults new
+  pub quiet : IsOneOf quiet_statuses status → new.std Out ≡ old.std Out
+  pub unused : IsOneOf unused_statuses status → IsUnused old new
+  pub elsewhere : (file : List ℕ) → IsReplay file words → IsElsewhereSame file old new
+
+pub clauses_of : {S K C : Type 0} (left : S → Option (List ℕ)) (written : K → Option (List ℕ)) (source_faults : S → ℕ) (sink_faults : K → ℕ) (words : List (List ℕ)) (b0 b1 b2 b3 : Book S K C) (e e' : K) (status : ℕ) → Ran b0 b1 b2 b3 e e'
+    → IsRun left written source_faults sink_faults words (ToldBy sink_faults written e e') b1 b2 status → Clauses left written source_faults sink_faults words b0 b3 status
+clauses_of {S} {K} {C} left written source_faults sink_faults words b0 b1 b2 b3 e e' status ran (inl (two, none, told, same)) =
+    let untouched = ran_untouched b0 b1 b2 b3 e e' ran same in
+    record {
+      one_of = subst (λ (n : ℕ). IsOneOf statuses n) (sym two) refl;
+      usage = (λ is. none, λ is. two);
+      untouched = λ is. (untouched, ran_told sink_faults written b0 b1 b2 b3 e e' usage_line ran told);
+      memory = λ one. absurd (omega (arith, one, two));
+      unplayed = λ file form. absurd (none (file, form));
+      config = λ file form. absurd (none (file, form));
+      opening = λ seven. absurd (omega (arith, seven, two));
+      unopened = λ file form. absurd (none (file, form));
+      session = λ file form. absurd (none (file, form));
+      read = λ file form. absurd (none (file, form));
+      write = λ file form. absurd (none (file, form));
+      quiet = λ one_of. untouched.out;
+      unused = λ one_of. unused_same b0 b3 (ap (λ (b : Book S K C). b.ports) untouched.rest) (ap (λ (b : Book S K C). b.outputs) untouched.rest);
+      elsewhere = λ file form. absurd (none (file, form));
+    }
+clauses_of {S} {K} {C} left written source_faults sink_faults words b0 b1 b2 b3 e e' status ran (inr (file, form, r)) =
+    let says : (lines : List ℕ) → ToldBy sink_faults written e e' lines → Told sink_faults written b0 b3 lines = λ lines told. ran_told sink_faults written b0 b1 b2 b3 e e' lines ran told in
+    let session : IsOneOf session_statuses status → IsFileUnread left source_faults file (Told sink_faults written b0 b3) b0 b3 status ⊎ IsSession left written source_faults sink_faults file (Told sink_faults written b0 b3) b0 b3 status =
+    λ one_of. ran_session left written source_faults sink_faults _ _ b0 b1 b2 b3 e e' file status ran says (r.session one_of) in
+    record {
+      one_of = r.one_of;
+      usage = (λ two. absurd (r.usage two), λ none. absurd (none (file, form)));
+      untouched = λ two. absurd (r.usage two);
+      memory = λ one. says memory_line (r.memory one);
+      unplayed = λ f is one. rw (same_file words f file is form) (ran_unplayed left written b0 b1 b2 b3 e e' file ran (r.unplayed one));
+      config = λ f is three. rw (same_file words f file is form) (ran_config left _ _ b0 b1 b2 b3 e e' file ran says (r.config three));
+      opening = λ seven. ran_open b0 b1 b2 b3 e e' ran (r.opening seven);
+      unopened = λ f is seven. rw (same_file words f file is form) (ran_unopened left _ _ b0 b1 b2 b3 e e' file ran says (r.unopened seven));
+      session = λ f is one_of. rw (same_file words f file is form) (session one_of);
+      read = λ f is five. rw (same_file words f file is form) (read_fault_of left written source_faults sink_faults _ b0 b3 file status five (session (subst (λ (n : ℕ). IsOneOf session_statuses n) (sym five) refl)));
+      write = λ f is six. write_fault_of left written source_faults sink_faults _ b0 b3 file status six (session (subst (λ (n : ℕ). IsOneOf session_statuses n) (sym six) refl));
+      quiet = λ one_of. ran_quiet b0 b1 b2 b3 e e' ran (r.quiet one_of);
+      unused = λ one_of. ran_unused b0 b1 b2 b3 e e' ran (r.unused one_of);
+      elsewhere = λ f is. rw (same_file words f file is form) (ran_elsewhere b0 b1 b2 b3 e e' file ran r.elsewhere);
+    }
