@@ -1,11 +1,15 @@
 -- Where an index keeps its entries: in places, each of which has an entry or is empty.
-use Rattle.std.specs.Prelude.{ℕ, ◌≡◌, ◌≢◌, ◌+◌, ◌*◌, ◌^◌, ◌<◌, ◌≤◌, Option, Some, None, List, length, find, slice_index_or}
+use Rattle.std.specs.Prelude.{ℕ, ◌≡◌, ◌≢◌, ◌+◌, ◌*◌, ◌^◌, ◌<◌, ◌≤◌, Bool, if◌then◌else◌, Option, Some, None, List, length, find, slice_index_or}
 use Rattle.std.specs.List.{filter_map}
 use Rattle.std.specs.Option.{option_map}
 use Rattle.addr_index.specs.declared.entry.Entry.{Entry}
 use Rattle.addr_index.specs.Indexes.{is_of, HasOneEach}
 use Rattle.addr_index.specs.Homes.{home_of}
 use Rattle.addr_index.specs.Ways.{IsOnWay, IsOffWay, IsRound, IsPassed, IsAhead}
+
+-- the entry of an address and its key, where there is one
+abbrev pub entry_if : Bool → ℕ → ℕ → Option Entry
+entry_if is_taken address key = if is_taken then Some (record { address = address; key = key }) else None
 
 -- what a place has
 abbrev pub in_place : List (Option Entry) → ℕ → Option Entry

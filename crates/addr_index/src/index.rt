@@ -5,6 +5,7 @@ ghost use Rattle.std.specs.Bool.{MatchBool};
 ghost use Rattle.addr_index.specs.Indexes.{Index, key_in, HasOneEach};
 
 use crate::entry::Entry;
+use crate::place::Place;
 use crate::places::{close_gap, search};
 use savi_kinds::Addr;
 use std::alloc::{AllocError, Global};
@@ -17,7 +18,7 @@ use std::marker::Model;
 /// over all of them: at most 1,024 where the addresses are those that hosts may hold, 64 at each of 16 ports.
 #[derive(Drop)]
 pub struct AddrIndex {
-    places: Vec<Option<Entry>>,
+    places: Vec<Place>,
     len: u32,
     most: u32,
 }
@@ -43,7 +44,7 @@ impl AddrIndex {
         let count = (2 * most as usize).next_power_of_two();
         let mut places = Vec::with_capacity(alloc, count)?;
         for _ in 0..count {
-            places.push(None)?;
+            places.push(Place::empty())?;
         }
         Ok(AddrIndex {
             places,
@@ -58,12 +59,13 @@ impl AddrIndex {
         ensures { result ≡ key_in self.now a.0 }
     {
         match search(&self.places, a.0) {
-            Ok(place) => self.places[place].map(|entry| entry.key),
+            Ok(place) => self.places[place].entry().map(|entry| entry.key),
             Err(_) => None,
         }
     }
 
     /// Takes in an address that the index doesn't hold, with its key. O(1) on average.
+    #[inline(never)]
     pub fn insert(&mut self, a: Addr, key: u32)
         requires absent { key_in self.old a.0 ≡ None }
         requires room { length self.old.entries < self.old.most }
@@ -74,7 +76,7 @@ impl AddrIndex {
         match search(&self.places, a.0) {
             Ok(_) => unreachable!(),
             Err(place) => {
-                self.places[place] = Some(Entry { address: a.0, key });
+                self.places[place] = Place::of(Entry { address: a.0, key });
                 self.len += 1;
             }
         }
@@ -88,7 +90,7 @@ impl AddrIndex {
         ensures absent { key_in self.old a.0 ≡ None → self.new ≡ self.old }
     {
         if let Ok(place) = search(&self.places, a.0) {
-            self.places[place] = None;
+            self.places[place] = Place::empty();
             close_gap(&mut self.places, place);
             self.len -= 1;
         }

@@ -10,6 +10,7 @@
 mod entry;
 mod home;
 mod index;
+mod place;
 mod places;
 mod ring;
 #[cfg(test)]

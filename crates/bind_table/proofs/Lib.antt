@@ -6,3 +6,4 @@ pub mod Held
 pub mod KeptChanges
 pub mod Tables
 pub mod Pointwise
+pub mod Holders

@@ -2,22 +2,23 @@
 use Rattle.std.proofs.Common.{◌≡◌, ◌⊎◌, ℕ, ◌-◌, ◌^◌, ◌≤◌, ◌<◌, true, Some, None, List, length, get_or, sym, ◌∙◌, ap, subst, arith}
 use Rattle.slab.specs.Slab.{Slab, get}
 use Rattle.addr_index.specs.Indexes.{Index, key_in}
+use Rattle.savi_kinds.specs.declared.port.PortSet.{PortSet}
 use Rattle.mix_rules.specs.States.{has_state}
 use Rattle.bind_table.specs.declared.row.Row.{Row}
 use Rattle.bind_table.specs.Rows.{state_in, row_of}
 use Rattle.bind_table.specs.Places.{place_of}
 use Rattle.bind_table.specs.Bindings.{Bindings}
 use Rattle.bind_table.specs.Counts.{held_once}
-use Rattle.bind_table.specs.Kept.{rows_under, IsKept, HasRoom}
+use Rattle.bind_table.specs.Kept.{rows_under, IsKept, HasRoom, HasHolders}
 use Rattle.bind_table.proofs.Around.{stands_within, belongs_within, room_for}
 use Rattle.bind_table.proofs.Keys.{rows_told, keys_length}
 use Rattle.bind_table.proofs.Held.{held_least, held_most}
 use Rattle.bind_table.proofs.KeptChanges.{row_by_key, stands_by_key, belongs_without_key}
 
 -- the rows of a table are those that belong to its parts
-pub whole_kept : (slab : Slab Row) (index : Index) (keys counts : List ℕ) (rows : List Row) (keys_room most : ℕ) → IsKept slab index keys counts rows → HasRoom slab index keys_room most (length rows) → IsKept slab index keys counts (rows_under slab keys) × HasRoom slab index keys_room most (length (rows_under slab keys))
-whole_kept slab index keys counts rows keys_room most kept room =
-    subst (λ xs. IsKept slab index keys counts xs × HasRoom slab index keys_room most (length xs)) (sym (rows_told (get slab) keys rows kept.told)) (kept, room)
+pub whole_kept : (slab : Slab Row) (index : Index) (keys counts : List ℕ) (rows : List Row) (held : List PortSet) (keys_room most : ℕ) → IsKept slab index keys counts rows → HasRoom slab index keys_room most (length rows) → HasHolders slab held → IsKept slab index keys counts (rows_under slab keys) × HasRoom slab index keys_room most (length (rows_under slab keys)) × HasHolders slab held
+whole_kept slab index keys counts rows held keys_room most kept room holders =
+    subst (λ xs. IsKept slab index keys counts xs × HasRoom slab index keys_room most (length xs) × HasHolders slab held) (sym (rows_told (get slab) keys rows kept.told)) (kept, room, holders)
 
 abbrev pub table_of : List Row → ℕ → Bindings
 table_of rows most = record { rows = rows; most = most }

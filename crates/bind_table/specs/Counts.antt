@@ -20,3 +20,7 @@ once_in ports port = if is_member ports port then 1 else 0
 -- the numbers once an address went from the ports of one set to those of another one
 abbrev pub AreMoved : PortSet → PortSet → List ℕ → List ℕ → Type 0
 AreMoved left came old new = (port : ℕ) → 1 ≤ port → port ≤ 16 → slice_index new (port - 1) + once_in left port ≡ slice_index old (port - 1) + once_in came port
+
+-- these are the ports that hold an address of this state
+abbrev pub AreHolders : AddrState → PortSet → Type 0
+AreHolders state ports = (port : ℕ) → 1 ≤ port → is_member ports port ≡ is_held_at port state

@@ -1,11 +1,15 @@
 -- What is kept of rows: each under a key of a slab, its key in the index of addresses and, in order of address, in a list;
 -- and how many addresses each port holds.
-use Rattle.std.specs.Prelude.{ℕ, ◌≡◌, ◌-◌, ◌^◌, ◌==◌, ◌≤◌, if◌then◌else◌, Option, Some, None, List, [], ◌∷◌, length, slice_index}
+use Rattle.std.specs.Prelude.{ℕ, ◌≡◌, ◌-◌, ◌^◌, ◌==◌, ◌≤◌, ◌<◌, if◌then◌else◌, Option, Some, None, List, [], ◌∷◌, length, slice_index, slice_index_or}
 use Rattle.std.specs.List.{filter_map}
 use Rattle.slab.specs.Slab.{Slab, get, slab_len}
 use Rattle.addr_index.specs.Indexes.{Index, key_in}
+use Rattle.savi_kinds.specs.declared.port.PortSet.{PortSet}
+use Rattle.savi_kinds.specs.PortSets.{no_ports}
+use Rattle.mix_rules.specs.declared.state.AddrState.{AddrState}
 use Rattle.bind_table.specs.declared.row.Row.{Row}
 use Rattle.bind_table.specs.Rows.{address_of, IsRising, AllStand, count_at}
+use Rattle.bind_table.specs.Counts.{AreHolders}
 
 -- the rows that stand under these keys
 abbrev pub rows_under : Slab Row → List ℕ → List Row
@@ -42,3 +46,13 @@ pub record HasRoom (slab : Slab Row) (index : Index) (keys_room most size : ℕ)
   pub order_room : most ≤ keys_room
   pub limit : most ≤ 2 ^ 20
   pub narrow : slab.capacity ≤ 2 ^ 32
+
+-- under this key the ports are kept that hold an address of this state
+pub record HasPorts (held : List PortSet) (key : ℕ) (state : AddrState) : Type 0 where
+  pub within : key < length held
+  pub are : AreHolders state (slice_index_or held key no_ports)
+
+-- beside each row are the ports that hold its address, and there is room for those of as many rows as may come
+pub record HasHolders (slab : Slab Row) (held : List PortSet) : Type 0 where
+  pub rows : (key : ℕ) (row : Row) → get slab key ≡ Some row → HasPorts held key row.state
+  pub room : slab.capacity ≤ length held

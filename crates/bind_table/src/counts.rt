@@ -3,8 +3,8 @@
 ghost use Rattle.std.specs.Prelude.{◌≡◌, ◌≤◌, ◌<◌, ◌-◌, ◌^◌, ◌||◌, ℕ, slice_index};
 ghost use Rattle.savi_kinds.specs.Ports.{number_of};
 ghost use Rattle.savi_kinds.specs.PortSets.{is_member};
-ghost use Rattle.mix_rules.specs.States.{is_fixed_to, is_bound_to, is_held_in, is_held_at};
-ghost use Rattle.bind_table.specs.Counts.{held_once, IsRecounted, once_in, AreMoved};
+ghost use Rattle.mix_rules.specs.States.{is_fixed_to, is_bound_to, is_held_in};
+ghost use Rattle.bind_table.specs.Counts.{once_in, AreMoved, AreHolders};
 
 use dhcp_states::Bound;
 use fcfs_states::Fcfs;
@@ -18,16 +18,14 @@ pub(crate) fn count(counts: &[u32; PORTS_MOST], q: Port) -> u32
     counts[usize::from(q.get()) - 1]
 }
 
-// Counts an address anew that had the state `before` and has the state `after`. O(1) where the same ports hold it as before,
+// Counts an address anew that the ports of one set held, and those of another one hold now. O(1) where they are the same,
 // which is the common case; else it goes over the 16 ports.
 #[inline(always)]
-pub(crate) fn recount(counts: &mut [u32; PORTS_MOST], before: &AddrState, after: &AddrState)
-    requires least { (port : ℕ) → 1 ≤ port → port ≤ 16 → held_once port before.now ≤ slice_index counts.old (port - 1) }
+pub(crate) fn recount(counts: &mut [u32; PORTS_MOST], left: PortSet, came: PortSet)
+    requires least { (port : ℕ) → 1 ≤ port → port ≤ 16 → once_in left port ≤ slice_index counts.old (port - 1) }
     requires most { (port : ℕ) → 1 ≤ port → port ≤ 16 → slice_index counts.old (port - 1) ≤ 2 ^ 20 }
-    ensures { IsRecounted before.now after.now counts.old counts.new }
+    ensures { AreMoved left came counts.old counts.new }
 {
-    let left = holders(before);
-    let came = holders(after);
     if left.0 != came.0 {
         count_ports(counts, left, came);
     }
@@ -51,8 +49,8 @@ fn count_ports(counts: &mut [u32; PORTS_MOST], left: PortSet, came: PortSet)
 
 // The ports that hold an address of this state.
 #[inline(always)]
-fn holders(state: &AddrState) -> PortSet
-    ensures { (port : ℕ) → 1 ≤ port → is_member result port ≡ is_held_at port state.now }
+pub(crate) fn holders(state: &AddrState) -> PortSet
+    ensures { AreHolders state.now result }
 {
     with_fixed(
         with_bound(with_first_come(PortSet::empty(), state.fcfs), state.dhcp),

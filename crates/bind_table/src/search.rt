@@ -12,6 +12,7 @@ use savi_kinds::Addr;
 use slab::Slab;
 
 // How many of the rows under these keys have addresses lower than this one. O(log n).
+#[inline(never)]
 pub(crate) fn count_lower(rows: &Slab<Row>, keys: &[u32], a: Addr) -> usize
     requires told { HaveRows (get rows.now) keys.now (rows_under rows.now keys.now) }
     requires rising { IsRising (rows_under rows.now keys.now) }

@@ -1,10 +1,14 @@
 //! Rows under their keys, and keys in order.
 
-ghost use Rattle.std.specs.Prelude.{◌≡◌, ◌≤◌, ◌<◌, ◌++◌, ◌∷◌, Some, IsSome, take, drop, length, vec_capacity};
+ghost use Rattle.std.specs.Prelude.{◌≡◌, ◌≤◌, ◌<◌, ◌++◌, ◌∷◌, Some, IsSome, IfOk, take, drop, length, vec_capacity};
 ghost use Rattle.slab.specs.Slab.{get, slab_len, Updates};
+ghost use Rattle.bind_table.specs.Rows.{row_of};
 
 use crate::row::Row;
+use mix_rules::AddrState;
+use savi_kinds::{Addr, PortSet};
 use slab::Slab;
+use std::alloc::{AllocError, Global};
 
 // The row under a key that has one. O(1).
 #[inline(always)]
@@ -18,21 +22,28 @@ pub(crate) fn row_under(rows: &Slab<Row>, key: u32) -> &Row
     }
 }
 
-// Puts a row in place of the one under a key. O(1).
-#[inline(always)]
-pub(crate) fn replace(rows: &mut Slab<Row>, key: u32, row: Row)
+// Puts the row of an address and a state in place of the one under a key. O(1). It is a call of its own, which copies the
+// state as a whole: laid open where it is called, the copy is done part by part, which takes twice as long.
+#[inline(never)]
+pub(crate) fn replace(rows: &mut Slab<Row>, key: u32, address: Addr, state: &AddrState)
     requires { IsSome (get rows.old key) }
-    ensures updates { Updates rows.old rows.new key (Some row) }
+    ensures updates { Updates rows.old rows.new key (Some (row_of address.0 state.now)) }
     ensures len { slab_len rows.new ≡ slab_len rows.old }
     ensures capacity { rows.new.capacity ≡ rows.old.capacity }
 {
     match rows.get_mut(key as usize) {
-        Some(place) => *place = row,
+        Some(row) => {
+            *row = Row {
+                address,
+                state: *state,
+            }
+        }
         None => unreachable!(),
     }
 }
 
 // Inserts a key where there is room for it. O(n): it moves those behind it.
+#[inline(never)]
 pub(crate) fn insert(keys: &mut Vec<u32>, at: usize, key: u32)
     requires place { at ≤ length keys.old.items }
     requires room { length keys.old.items < vec_capacity keys.old }
@@ -43,4 +54,15 @@ pub(crate) fn insert(keys: &mut Vec<u32>, at: usize, key: u32)
         Ok(()) => {}
         Err(_) => unreachable!(),
     }
+}
+
+// The set without a port, so many times.
+pub(crate) fn empty_sets(alloc: Global, count: usize) -> Result<Vec<PortSet>, AllocError>
+    ensures { IfOk result (λ sets. length sets.items ≡ count) }
+{
+    let mut sets = Vec::with_capacity(alloc, count)?;
+    for _ in 0..count {
+        sets.push(PortSet::empty())?;
+    }
+    Ok(sets)
 }

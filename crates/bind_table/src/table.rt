@@ -6,13 +6,13 @@ ghost use Rattle.savi_kinds.specs.Ports.{number_of};
 ghost use Rattle.mix_rules.specs.States.{nobody, has_state};
 ghost use Rattle.bind_table.specs.Rows.{state_in, with_state, count_at, pair_of, IsTable};
 
-use crate::counts::{count, recount};
+use crate::counts::{count, holders, recount};
 use crate::row::Row;
 use crate::search::count_lower;
-use crate::stored::{insert, replace, row_under};
+use crate::stored::{empty_sets, insert, replace, row_under};
 use addr_index::AddrIndex;
 use mix_rules::AddrState;
-use savi_kinds::{Addr, PORTS_MOST, Port};
+use savi_kinds::{Addr, PORTS_MOST, Port, PortSet};
 use slab::Slab;
 use std::alloc::{AllocError, Global};
 use std::marker::Model;
@@ -26,13 +26,15 @@ const KEYS_MOST: usize = 1 << 32;
 /// The state of each address that has one.
 ///
 /// Rows stand in a slab. Their keys are found by address in an index, and stand once more in a list in order of address:
-/// 4 octets a row, which is all that moves when a row comes or goes. What an index costs is said at `AddrIndex`: O(1) on
+/// 4 octets a row, which is all that moves when a row comes or goes. The ports that hold an address are kept beside its row,
+/// 2 octets, so that a renewal need not look into the state before. What an index costs is said at `AddrIndex`: O(1) on
 /// average, and at worst as many places as there are rows, where all of their addresses fall into one cluster.
 #[derive(Drop)]
 pub struct BindTable {
     rows: Slab<Row>,
     index: AddrIndex,
     order: Vec<u32>,
+    held: Vec<PortSet>,
     counts: [u32; PORTS_MOST],
     most: u32,
 }
@@ -40,13 +42,13 @@ pub struct BindTable {
 impl Model for BindTable {
     ghost use Rattle.std.specs.Prelude.{length, vec_capacity};
     ghost use Rattle.bind_table.specs.Bindings.{Bindings};
-    ghost use Rattle.bind_table.specs.Kept.{rows_under, IsKept, HasRoom};
+    ghost use Rattle.bind_table.specs.Kept.{rows_under, IsKept, HasRoom, HasHolders};
 
     ghost Value = { Bindings };
 
     ghost view = { λ b. record { rows = rows_under b.rows b.order.items; most = b.most } };
 
-    ghost invariant = { λ b. IsKept b.rows b.index b.order.items b.counts (rows_under b.rows b.order.items) × HasRoom b.rows b.index (vec_capacity b.order) b.most (length (rows_under b.rows b.order.items)) };
+    ghost invariant = { λ b. IsKept b.rows b.index b.order.items b.counts (rows_under b.rows b.order.items) × HasRoom b.rows b.index (vec_capacity b.order) b.most (length (rows_under b.rows b.order.items)) × HasHolders b.rows b.held.items };
 }
 
 impl BindTable {
@@ -60,10 +62,12 @@ impl BindTable {
         if slab.capacity() > KEYS_MOST {
             return Err(AllocError);
         }
+        let held = empty_sets(alloc, slab.capacity())?;
         Ok(BindTable {
             rows: slab,
             index: AddrIndex::make(alloc, rows.max(1))?,
             order: Vec::with_capacity(alloc, rows as usize)?,
+            held,
             counts: [0; PORTS_MOST],
             most: rows,
         })
@@ -89,21 +93,24 @@ impl BindTable {
         requires room { (has_state (state_in self.old.rows a.0) ≡ true) ⊎ (length self.old.rows < self.old.most) }
         ensures { self.new ≡ record self.old { rows = with_state a.0 s self.old.rows } }
     {
-        let row = Row {
-            address: a,
-            state: s,
-        };
+        let came = holders(&s);
         match self.index.get(a) {
             Some(key) => {
-                recount(&mut self.counts, &row_under(&self.rows, key).state, &s);
-                replace(&mut self.rows, key, row);
+                recount(&mut self.counts, self.held[key as usize], came);
+                self.held[key as usize] = came;
+                replace(&mut self.rows, key, a, &s);
             }
             None => {
                 let at = count_lower(&self.rows, self.order.as_slice(), a);
+                let row = Row {
+                    address: a,
+                    state: s,
+                };
                 let key = self.rows.insert_reserved(row) as u32;
                 insert(&mut self.order, at, key);
                 self.index.insert(a, key);
-                recount(&mut self.counts, &AddrState::none(), &s);
+                self.held[key as usize] = came;
+                recount(&mut self.counts, PortSet::empty(), came);
             }
         }
     }
@@ -117,12 +124,10 @@ impl BindTable {
             return;
         };
         let at = count_lower(&self.rows, self.order.as_slice(), a);
-        let Some(row) = self.rows.try_remove(key as usize) else {
-            unreachable!();
-        };
+        self.rows.try_remove(key as usize);
         self.order.remove(at);
         self.index.remove(a);
-        recount(&mut self.counts, &row.state, &AddrState::none());
+        recount(&mut self.counts, self.held[key as usize], PortSet::empty());
     }
 
     /// How many addresses the port holds. An address counts once, and the port that claims it under a test holds it too.

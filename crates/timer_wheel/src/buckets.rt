@@ -125,6 +125,7 @@ pub(crate) fn seek(rows: &Slab<Armed>, rings: &Rings, from: u64, last: u64) -> F
 }
 
 // Puts a row in whose address none has: its key.
+#[inline(never)]
 pub(crate) fn put_in(rows: &mut Slab<Armed>, rings: &mut Rings, armed: Armed) -> u32
     requires wired { IsWired rows.old rings.old.later.items rings.old.earlier.items }
     requires fits { armed.address.0 < 2 ^ 128 }
@@ -172,20 +173,20 @@ pub(crate) fn renew(rows: &mut Slab<Armed>, rings: &mut Rings, key: u32, armed: 
 {
     rings.unlink(BUCKETS + key);
     let gap = gap_for(rows, rings, armed);
-    replace(rows, key, armed);
+    postpone(rows, key, armed);
     rings.link(BUCKETS + key, gap);
 }
 
-// Puts a row in place of the one under a key. O(1).
+// Gives the row under a key, which has the address of a pair, the pair's moment. O(1).
 #[inline(always)]
-fn replace(rows: &mut Slab<Armed>, key: u32, armed: Armed)
-    requires { IsSome (row_at rows.old.slots key) }
+fn postpone(rows: &mut Slab<Armed>, key: u32, armed: Armed)
+    requires { HasRow rows.old.slots key armed.address.0 }
     ensures updates { Updates rows.old rows.new key (Some armed) }
     ensures len { slab_len rows.new ≡ slab_len rows.old }
     ensures capacity { rows.new.capacity ≡ rows.old.capacity }
 {
     match rows.get_mut(key as usize) {
-        Some(row) => *row = armed,
+        Some(row) => row.due = armed.due,
         None => unreachable!(),
     }
 }

@@ -44,8 +44,8 @@ returns-clause-wired c =
     let row : IsRowOf c.args.rows.now c.args.key c.args.armed.address.0 = record { row = c.requires.there; alone = c.requires.alone } in
     let others = wired_others c.args.rows.now c.args.rings.now.later.items c.args.rings.now.earlier.items c.args.key c.args.armed.address.0 row c.requires.wired in
     let linked : IsWired (others_than c.args.armed.address.0 c.args.rows.now) c.unlink.new.self.later.items c.unlink.new.self.earlier.items = rw (c.unlink.ensures.later, c.unlink.ensures.earlier) others in
-    let added : IsAdded (left_by c.args.rows.now c.args.key) c.replace.new.rows c.args.key c.args.armed = added_left c.args.rows.now c.replace.new.rows c.args.key c.requires.there.armed c.args.armed c.requires.there.there c.replace.ensures.updates c.replace.ensures.len c.replace.ensures.capacity c.requires.alone in
+    let added : IsAdded (left_by c.args.rows.now c.args.key) c.postpone.new.rows c.args.key c.args.armed = added_left c.args.rows.now c.postpone.new.rows c.args.key c.requires.there.armed c.args.armed c.requires.there.there c.postpone.ensures.updates c.postpone.ensures.len c.postpone.ensures.capacity c.requires.alone in
     let within : c.args.key < c.args.rows.now.capacity = c.requires.wired.within c.args.key c.requires.there.armed c.requires.there.there in
-    let low : c.args.key < c.replace.new.rows.capacity = omega (arith, within, c.replace.ensures.capacity) in
-    let wired = wired_renewed c.args.rows.now c.replace.new.rows c.unlink.new.self.later.items c.unlink.new.self.earlier.items c.args.key c.gap_for-gap.result.before c.args.armed row added low c.requires.fits c.gap_for-gap.ensures.before linked in
+    let low : c.args.key < c.postpone.new.rows.capacity = omega (arith, within, c.postpone.ensures.capacity) in
+    let wired = wired_renewed c.args.rows.now c.postpone.new.rows c.unlink.new.self.later.items c.unlink.new.self.earlier.items c.args.key c.gap_for-gap.result.before c.args.armed row added low c.requires.fits c.gap_for-gap.ensures.before linked in
     rw (c.link.ensures.later, c.link.ensures.earlier, c.gap_for-gap.ensures.behind) wired

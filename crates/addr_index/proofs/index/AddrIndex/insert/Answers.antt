@@ -19,10 +19,10 @@ less : (c : goal.After-self-in-Err-1) → length (entries_of c.self.inside.place
 less c = subst (λ (v : Index). length v.entries < v.most) (sym c.self.view_is) c.requires.room
 
 pub invariant_of-self : goal.invariant_of-self
-invariant_of-self c = IsTable-insert c.self.inside.places.items c.self.inside.len c.self.inside.most c.in-Err.place (record { address = c.args.a.0; key = c.args.key }) c.self.invariant (room c) (omega (arith, less c, c.self.invariant.count))
+invariant_of-self c = rw c.of.ensures (IsTable-insert c.self.inside.places.items c.self.inside.len c.self.inside.most c.in-Err.place (record { address = c.args.a.0; key = c.args.key }) c.self.invariant (room c) (omega (arith, less c, c.self.invariant.count)))
 
 pub returns-clause-keys : goal.returns-clause-keys
-returns-clause-keys c b = rw (← c.self.view_is) (key_insert c.self.inside.places.items c.self.inside.most c.in-Err.place c.args.a.0 c.args.key b (room c))
+returns-clause-keys c b = rw (← c.self.view_is, c.of.ensures) (key_insert c.self.inside.places.items c.self.inside.most c.in-Err.place c.args.a.0 c.args.key b (room c))
 
 pub returns-clause-len : goal.returns-clause-len
-returns-clause-len c = rw (← c.self.view_is) (length_filled c.self.inside.places.items c.in-Err.place (record { address = c.args.a.0; key = c.args.key }) (room c).within (room c).empty)
+returns-clause-len c = rw (← c.self.view_is, c.of.ensures) (length_filled c.self.inside.places.items c.in-Err.place (record { address = c.args.a.0; key = c.args.key }) (room c).within (room c).empty)
