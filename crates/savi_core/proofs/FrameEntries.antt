@@ -1,5 +1,5 @@
 -- The entry of a frame.
-use Rattle.std.proofs.Common.{ℕ, ◌≡◌, ◌&&◌, Bool, false, List, [], length, Option, Some, sym, ap, ◌∙◌}
+use Rattle.std.proofs.Common.{ℕ, ◌≡◌, Bool, false, List, [], length, Option, Some, sym, ap, ◌∙◌}
 use Rattle.savi_kinds.specs.PortSets.{no_ports}
 use Rattle.savi_kinds.specs.declared.plan.Role.{Role}
 use Rattle.savi_kinds.specs.declared.verdict.Rule.{Rule}
@@ -16,11 +16,10 @@ use Rattle.savi_kinds.specs.declared.port.PortSet.{PortSet}
 use Rattle.savi_kinds.specs.declared.verdict.Verdict.{Verdict}
 use Rattle.savi_kinds.specs.declared.verdict.Verdict.TheVariants.{Drop}
 use Rattle.savi_kinds.specs.declared.entry.Entry.{Entry}
-use Rattle.savi_kinds.specs.declared.entry.Act.{Act}
 use Rattle.savi_kinds.specs.declared.entry.Act.TheVariants as acts
 use Rattle.savi_kinds.specs.declared.entry.Who.TheVariants.{Ingress}
 use Rattle.savi_kinds.specs.Ports.{number_of}
-use Rattle.hist_store.specs.Rows.{Row, held}
+use Rattle.hist_store.specs.Rows.{held}
 use Rattle.savi_history.specs.Bases.{empty}
 use Rattle.savi_history.specs.Passes.{pass_of}
 use Rattle.savi_history.specs.Moments.{moment_at}

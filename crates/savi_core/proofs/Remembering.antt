@@ -1,8 +1,8 @@
 -- What a core keeps: how it begins, and after one more row.
-use Rattle.std.proofs.Common.{ℕ, zero, suc, replicate, ◌≡◌, ◌+◌, ◌*◌, ◌<◌, ◌≤◌, ◌==◌, ◌&&◌, ◌||◌, Bool, true, false, List, [], ◌∷◌, ◌++◌, length, map, get_or, inl, inr, refl, sym, ap, subst, ◌∙◌, arith, length-append}
+use Rattle.std.proofs.Common.{ℕ, zero, suc, replicate, ◌≡◌, ◌+◌, ◌*◌, ◌<◌, ◌≤◌, ◌==◌, ◌&&◌, ◌||◌, cond, Bool, true, false, List, [], ◌∷◌, ◌++◌, length, map, get_or, inl, inr, refl, sym, ap, subst, ◌∙◌, arith, length-append}
 use Rattle.std.specs.Prelude.{All, reverse}
 use Rattle.std.proofs.lemmas.List.{length-reverse, length-map, reverse-append, get_or-map}
-use Rattle.std.proofs.lemmas.List.Elements.{All-nil, All-cons, All-map}
+use Rattle.std.proofs.lemmas.List.Elements.{All-nil, All-cons}
 use Rattle.std.proofs.lemmas.Bool.{cases_lt, ltb-true, leb-true, and_parts}
 use Rattle.savi_kinds.specs.declared.plan.Plan.{Plan}
 use Rattle.savi_kinds.specs.declared.plan.PortPlan.{PortPlan}
@@ -22,7 +22,9 @@ use Rattle.savi_history.proofs.Depth.{queue_within}
 use Rattle.savi_core.specs.Machines.{number_at}
 use Rattle.savi_core.specs.Lanes.{Lane, empty_lane, lane_of}
 use Rattle.savi_core.specs.Waits.{shown, shown_lane, IsFrameOf, HoldsFrames}
-use Rattle.savi_core.specs.Counts.{still_to_come, waiting_at}
+use Rattle.savi_core.specs.Counts.{still_to_come, waiting_at, open_below}
+use Rattle.savi_core.specs.PassMarks.{open_among}
+use Rattle.savi_core.proofs.Ending.{none_ended}
 use Rattle.savi_core.specs.Remembers.{Kept, Remembers}
 use Rattle.savi_core.proofs.Places.{length-numbers, placed, place_within, pass_within}
 use Rattle.savi_core.proofs.Counting.{open_below-le, waiting_at-le}
@@ -35,11 +37,6 @@ held-reverse [] = refl
 held-reverse (r ∷ rows) =
     let turned : held (reverse (r ∷ rows)) ≡ held (reverse rows ++ r ∷ []) = ap held (reverse-append (r ∷ []) rows) in
     omega (arith, turned, held-append (reverse rows) (r ∷ []), held-reverse rows)
-
-none_ended : (n pass : ℕ) → get_or (replicate n false) pass false ≡ false
-none_ended zero pass = refl
-none_ended (suc n) zero = refl
-none_ended (suc n) (suc pass) = none_ended n pass
 
 -- at the start
 
@@ -66,6 +63,14 @@ remembers_start plan lanes valid off are = record {
   octets = omega arith;
   room = λ near. absurd (omega (arith, near, valid.entries.0));
 }
+
+numbers_shown : (rows : List Row) (lanes : List (Lane Queued)) → map (λ (x : Lane Item). x.number) (map (shown_lane rows) lanes) ≡ map (λ (x : Lane Queued). x.number) lanes
+numbers_shown rows [] = refl
+numbers_shown rows (lane ∷ lanes) = ap (λ ns. lane.number ∷ ns) (numbers_shown rows lanes)
+
+numbers_laned : (plan : Plan) (past : List Row) (ns : List ℕ) → map (λ (x : Lane Item). x.number) (map (lane_of plan past) ns) ≡ ns
+numbers_laned plan past [] = refl
+numbers_laned plan past (n ∷ ns) = ap (λ rest. n ∷ rest) (numbers_laned plan past ns)
 
 -- one more row, by the event that it is of
 pub record HasNext (k : Kept) (r : Row) (ended' : List Bool) (lanes' : List (Lane Queued)) : Type 0 where
@@ -107,6 +112,20 @@ module _ {k : Kept} (was : Remembers k) where
         length-map (numbers_of k.plan.ports) (lane_of k.plan (reverse k.rows)),
         length-numbers k.plan.ports,
       )
+
+  -- the lanes are those of the plan's ports
+  pub lane_numbers : map (λ (lane : Lane Queued). lane.number) k.lanes ≡ numbers_of k.plan.ports
+  lane_numbers =
+      sym (numbers_shown k.rows k.lanes)
+      ∙ ap (map (λ (lane : Lane Item). lane.number)) was.queues
+      ∙ numbers_laned k.plan (reverse k.rows) (numbers_of k.plan.ports)
+
+  -- how many passes are open
+  pub open_is : (n : ℕ) → n ≤ pass_count k.plan → open_among k.ended n ≡ open_below (reverse k.rows) n
+  open_is zero within = refl
+  open_is (suc n) within =
+      let here : ◌≡◌ {A = ℕ} (cond (get_or k.ended n false) 0 1) (cond (has_ended empty n (reverse k.rows)) 0 1) = ap (λ (b : Bool). cond b 0 1) (was.passes n (omega (arith, within))) in
+      omega (arith, open_is n (omega (arith, within)), here)
 
   -- the lane at a place shows that of its port
   pub lane_is : (p : ℕ) (d : Lane Queued) → p < length k.plan.ports → shown_lane k.rows (get_or k.lanes p d) ≡ lane_of k.plan (reverse k.rows) (number_at k.plan p)

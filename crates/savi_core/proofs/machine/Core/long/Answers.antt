@@ -18,4 +18,5 @@ invariant_of-self c =
       remembers_long c.self.invariant.0 c.args.port c.args.stamp c.args.len e may e_is,
       c.self.invariant.1,
       c.self.invariant.2,
+      c.self.invariant.3,
     )

@@ -1,4 +1,4 @@
-use Rattle.std.proofs.Common.{◌≡◌, ◌^◌, ℕ, min, max, Some, sym, ap, ◌∙◌}
+use Rattle.std.proofs.Common.{◌≡◌, ◌^◌, min, max, Some, sym, ap, ◌∙◌}
 use Rattle.savi_kinds.specs.declared.plan.Plan.{Plan}
 use Rattle.savi_kinds.specs.declared.entry.Entry.{Entry}
 use Rattle.savi_kinds.specs.declared.entry.Who.TheVariants.{Ingress}
@@ -15,7 +15,7 @@ pub returns : goal.returns
 returns c =
     let inside = c.self.inside in
     let m = c.args.self.now in
-    let plan_is : inside.plan ≡ m.plan = ap (λ (x : Machine). x.plan) c.self.view_is in
+    let plan_is : inside.ports ≡ m.plan = ap (λ (x : Machine). x.plan) c.self.view_is in
     ap (λ (e : Entry). record e { verdict = Some (Drop Malformed) }) c.plain_entry.ensures
     ∙ long_entry_is m c.args.port c.args.stamp c.args.len c.pass_of-by.result c.moment_at-moment.result
     (sym (ap (λ (p : Plan). p.savi) plan_is) ∙ c.self.invariant.0.off)
