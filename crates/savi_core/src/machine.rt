@@ -4,7 +4,6 @@ ghost use Rattle.std.specs.Prelude.{◌≡◌, ◌≤◌, ◌<◌, true, false, 
 ghost use Rattle.savi_kinds.specs.Ports.{number_of};
 ghost use Rattle.savi_kinds.specs.PortSets.{is_member};
 ghost use Rattle.savi_kinds.specs.ValidPlan.{IsValidPlan, IsWithin};
-ghost use Rattle.savi_history.specs.Bases.{empty};
 ghost use Rattle.savi_history.specs.Judged.{verdict_by};
 ghost use Rattle.savi_history.specs.Passes.{role_of, has_port, has_pass, pass_of, control_pass, has_ended};
 ghost use Rattle.savi_history.specs.Limits.{has_room};
@@ -12,7 +11,7 @@ ghost use Rattle.savi_history.specs.Outs.{outs};
 ghost use Rattle.savi_history.specs.Events.{the_vlan};
 ghost use Rattle.savi_history.specs.Events as events;
 ghost use Rattle.savi_history.specs.Legal.{IsLegal};
-ghost use Rattle.savi_core.specs.Machines.{HasShortQueues, started, row_at, queue_at, number_at};
+ghost use Rattle.savi_core.specs.Machines.{HasShortQueues, base_of, started, row_at, queue_at, number_at};
 ghost use Rattle.savi_core.specs.Counts.{open_below};
 ghost use Rattle.frame_class.specs.Reading.{IsClassOf};
 ghost use Rattle.frame_class.specs.ClassOf.{class_of};
@@ -48,6 +47,7 @@ pub struct Core {
 
 impl Model for Core {
     ghost use Rattle.std.specs.Prelude.{◌≡◌, ◌+◌, reverse};
+    ghost use Rattle.savi_history.specs.Bases.{empty};
     ghost use Rattle.savi_history.specs.Passes.{control_pass};
     ghost use Rattle.savi_core.specs.Machines.{Machine};
     ghost use Rattle.savi_core.specs.Remembers.{Remembers};
@@ -56,7 +56,7 @@ impl Model for Core {
 
     ghost view = { λ c. record { plan = c.ports; past = reverse c.hist.rows } };
 
-    ghost invariant = { λ c. Remembers (record { plan = c.ports; rows = c.hist.rows; moment = c.moment; ended = c.passes.ended; lanes = c.queues })
+    ghost invariant = { λ c. Remembers (record { plan = c.ports; base = empty; rows = c.hist.rows; moment = c.moment; ended = c.passes.ended; lanes = c.queues })
         × (c.hist.entry_room ≡ c.ports.entries)
         × (c.hist.byte_room ≡ c.ports.bytes)
         × (c.passes.inputs ≡ control_pass c.ports + 1) };
@@ -134,7 +134,7 @@ impl Core {
     pub fn history(&self) -> &Hist
         ensures rows { reverse result.now.rows ≡ self.now.past }
         ensures few { length result.now.rows ≤ self.now.plan.entries }
-        ensures legal { IsLegal self.now.plan empty self.now.past }
+        ensures legal { IsLegal self.now.plan (base_of self.now) self.now.past }
         ensures valid { IsValidPlan self.now.plan }
     {
         &self.hist
@@ -143,7 +143,7 @@ impl Core {
     /// How many entries the history has, which is legal; no queue is longer than the plan's depth. O(1).
     pub fn len(&self) -> u64
         ensures len { result ≡ length self.now.past }
-        ensures legal { IsLegal self.now.plan empty self.now.past }
+        ensures legal { IsLegal self.now.plan (base_of self.now) self.now.past }
         ensures within { HasShortQueues self.now }
     {
         let _moment = self.moment;
@@ -177,14 +177,14 @@ impl Core {
     /// Whether a pass of the plan has ended. O(1).
     pub fn ended(&self, who: Who) -> bool
         requires { has_pass self.now.plan who ≡ true }
-        ensures { result ≡ has_ended empty (pass_of self.now.plan who) self.now.past }
+        ensures { result ≡ has_ended (base_of self.now) (pass_of self.now.plan who) self.now.past }
     {
         self.passes.has_ended(self.ports.pass_of(who))
     }
 
     /// How many of the ingress passes and control haven't ended. O(1).
     pub fn inputs_left(&self) -> u32
-        ensures { result ≡ open_below self.now.past (control_pass self.now.plan + 1) }
+        ensures { result ≡ open_below (base_of self.now) self.now.past (control_pass self.now.plan + 1) }
     {
         self.passes.inputs_left()
     }
@@ -301,7 +301,7 @@ impl Core {
     // The ports to which a frame with this verdict goes, whatever its octets.
     fn outs(&self, port: Port, verdict: Verdict) -> PortSet
         ensures known { (n : ℕ) → 1 ≤ n → is_member result n ≡ true → has_port self.now.plan n ≡ true }
-        ensures outs { (moment : ℕ) (octets : List ℕ) → result ≡ outs the_vlan self.now.plan empty self.now.past (number_of port) moment octets verdict }
+        ensures outs { (moment : ℕ) (octets : List ℕ) → result ≡ outs the_vlan self.now.plan (base_of self.now) self.now.past (number_of port) moment octets verdict }
     {
         match verdict {
             Verdict::Pass(scope) => self.ports.others_in(scope, port),
