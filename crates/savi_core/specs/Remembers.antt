@@ -13,7 +13,8 @@ use Rattle.savi_core.specs.Lanes.{Lane, lane_of}
 use Rattle.savi_core.specs.Waits.{HoldsFrames, shown_lane}
 use Rattle.savi_core.specs.Counts.{still_to_come}
 
--- the plan, what its history goes on from, the rows with the oldest first, the moment of the last one, which passes have ended, and the queues
+-- the plan, what its history goes on from, the rows with the oldest first, the moment of the last one, which passes have
+-- ended, and the queues
 pub record Kept : Type 0 where
   pub plan : Plan
   pub base : Base

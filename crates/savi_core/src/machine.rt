@@ -101,9 +101,9 @@ impl Core {
         }
     }
 
-    /// Takes at most so many items, frames or probes, from the front of a port's queue into the batch, in place of what it held. The
-    /// answer is `Nothing`, and the core has not changed, exactly where nothing waits; it is never `Full`. O(items)
-    /// beside the copy of their octets.
+    /// Takes at most so many items, frames or probes, from the front of a port's queue into the batch, in place of what it
+    /// held. The answer is `Nothing`, and the core has not changed, exactly where nothing waits; it is never `Full`.
+    /// O(items) beside the copy of their octets.
     pub fn drain(&mut self, port: Port, most: u32, into: &mut Batch) -> Stepped
         requires most { IsWithin 1 256 most }
         requires port { has_port self.old.plan (number_of port) ≡ true }
