@@ -1,5 +1,5 @@
 -- The entry of a frame.
-use Rattle.std.proofs.Common.{ℕ, ◌≡◌, ◌&&◌, Bool, false, List, [], length, Option, Some, sym, ap, ◌∙◌}
+use Rattle.std.proofs.Common.{ℕ, ◌≡◌, Bool, false, List, [], length, Option, Some, sym, ap, ◌∙◌}
 use Rattle.savi_kinds.specs.PortSets.{no_ports}
 use Rattle.savi_kinds.specs.declared.plan.Role.{Role}
 use Rattle.savi_kinds.specs.declared.verdict.Rule.{Rule}
@@ -16,12 +16,10 @@ use Rattle.savi_kinds.specs.declared.port.PortSet.{PortSet}
 use Rattle.savi_kinds.specs.declared.verdict.Verdict.{Verdict}
 use Rattle.savi_kinds.specs.declared.verdict.Verdict.TheVariants.{Drop}
 use Rattle.savi_kinds.specs.declared.entry.Entry.{Entry}
-use Rattle.savi_kinds.specs.declared.entry.Act.{Act}
 use Rattle.savi_kinds.specs.declared.entry.Act.TheVariants as acts
 use Rattle.savi_kinds.specs.declared.entry.Who.TheVariants.{Ingress}
 use Rattle.savi_kinds.specs.Ports.{number_of}
-use Rattle.hist_store.specs.Rows.{Row, held}
-use Rattle.savi_history.specs.Bases.{empty}
+use Rattle.hist_store.specs.Rows.{held}
 use Rattle.savi_history.specs.Passes.{pass_of}
 use Rattle.savi_history.specs.Moments.{moment_at}
 use Rattle.savi_history.specs.Outs.{outs}
@@ -29,7 +27,7 @@ use Rattle.savi_history.specs.Queues.{cuts, probes, lost}
 use Rattle.savi_history.proofs.Offered.{probes_off, lost_off}
 use Rattle.savi_history.specs.Events.{the_vlan, verdict_of}
 use Rattle.savi_history.specs.Events as events
-use Rattle.savi_core.specs.Machines.{Machine}
+use Rattle.savi_core.specs.Machines.{Machine, base_of}
 use Rattle.savi_core.specs.Steps.{entry_of}
 
 abbrev pub long_made : Port → ℕ → ℕ → ℕ → ℕ → Entry
@@ -39,25 +37,25 @@ abbrev pub made : Port → ℕ → ℕ → ℕ → ℕ → ℕ → Verdict → P
 made port stamp len by moment at verdict out cut = record { by = by; moment = moment; act = acts.Frame port stamp at len; verdict = Some verdict; outs = out; cuts = cut; probes = 0; lost = 0 }
 
 -- an entry whose parts are those of a frame's row is that row's
-pub frame_entry_is : (m : Machine) (port : Port) (stamp : ℕ) (octets : List ℕ) (by moment at : ℕ) (verdict : Verdict) (out cut : PortSet) → m.plan.savi ≡ false → by ≡ pass_of m.plan (Ingress port) → moment ≡ moment_at empty m.past stamp → at ≡ held m.past → verdict ≡ verdict_of m.plan empty m.past port stamp octets
-    → out ≡ outs the_vlan m.plan empty m.past (number_of port) (moment_at empty m.past stamp) octets verdict → cut ≡ cuts m.plan empty m.past (events.frame_act m.past port stamp octets) octets out → made port stamp (length octets) by moment at verdict out cut ≡ entry_of m (events.Frame port stamp octets)
+pub frame_entry_is : (m : Machine) (port : Port) (stamp : ℕ) (octets : List ℕ) (by moment at : ℕ) (verdict : Verdict) (out cut : PortSet) → m.plan.savi ≡ false → by ≡ pass_of m.plan (Ingress port) → moment ≡ moment_at (base_of m) m.past stamp → at ≡ held m.past → verdict ≡ verdict_of m.plan (base_of m) m.past port stamp octets
+    → out ≡ outs the_vlan m.plan (base_of m) m.past (number_of port) (moment_at (base_of m) m.past stamp) octets verdict → cut ≡ cuts m.plan (base_of m) m.past (events.frame_act m.past port stamp octets) octets out → made port stamp (length octets) by moment at verdict out cut ≡ entry_of m (events.Frame port stamp octets)
 frame_entry_is m port stamp octets by moment at verdict out cut off by_is moment_is at_is verdict_is out_is cut_is =
     let act = events.frame_act m.past port stamp octets in
-    let goes : out ≡ events.outs_of m.plan empty m.past port stamp octets =
-    out_is ∙ ap (λ (v : Verdict). outs the_vlan m.plan empty m.past (number_of port) (moment_at empty m.past stamp) octets v) verdict_is in
-    let left_out : cut ≡ cuts m.plan empty m.past act octets (events.outs_of m.plan empty m.past port stamp octets) =
-    cut_is ∙ ap (λ (o : PortSet). cuts m.plan empty m.past act octets o) goes in
-    let queued : 0 ≡ probes m.plan empty m.past act octets = sym (probes_off m.plan empty m.past act octets off) in
-    let missed : 0 ≡ lost m.plan empty m.past act octets = sym (lost_off m.plan empty m.past act octets off) in
+    let goes : out ≡ events.outs_of m.plan (base_of m) m.past port stamp octets =
+    out_is ∙ ap (λ (v : Verdict). outs the_vlan m.plan (base_of m) m.past (number_of port) (moment_at (base_of m) m.past stamp) octets v) verdict_is in
+    let left_out : cut ≡ cuts m.plan (base_of m) m.past act octets (events.outs_of m.plan (base_of m) m.past port stamp octets) =
+    cut_is ∙ ap (λ (o : PortSet). cuts m.plan (base_of m) m.past act octets o) goes in
+    let queued : 0 ≡ probes m.plan (base_of m) m.past act octets = sym (probes_off m.plan (base_of m) m.past act octets off) in
+    let missed : 0 ≡ lost m.plan (base_of m) m.past act octets = sym (lost_off m.plan (base_of m) m.past act octets off) in
     cc (by_is, moment_is, at_is, verdict_is, goes, left_out, queued, missed)
 
 -- so is the entry of a frame that is too long
-pub long_entry_is : (m : Machine) (port : Port) (stamp len by moment : ℕ) → m.plan.savi ≡ false → by ≡ pass_of m.plan (Ingress port) → moment ≡ moment_at empty m.past stamp
+pub long_entry_is : (m : Machine) (port : Port) (stamp len by moment : ℕ) → m.plan.savi ≡ false → by ≡ pass_of m.plan (Ingress port) → moment ≡ moment_at (base_of m) m.past stamp
     → long_made port stamp len by moment ≡ entry_of m (events.Long port stamp len)
 long_entry_is m port stamp len by moment off by_is moment_is =
     let act = acts.Long port stamp len in
-    let queued : 0 ≡ probes m.plan empty m.past (acts.Long port stamp len) [] = sym (probes_off m.plan empty m.past act [] off) in
-    let missed : 0 ≡ lost m.plan empty m.past (acts.Long port stamp len) [] = sym (lost_off m.plan empty m.past act [] off) in
+    let queued : 0 ≡ probes m.plan (base_of m) m.past (acts.Long port stamp len) [] = sym (probes_off m.plan (base_of m) m.past act [] off) in
+    let missed : 0 ≡ lost m.plan (base_of m) m.past (acts.Long port stamp len) [] = sym (lost_off m.plan (base_of m) m.past act [] off) in
     cc (by_is, moment_is, queued, missed)
 
 -- the rule that stops a frame of this class is the one for its octets

@@ -19,7 +19,7 @@ use Rattle.savi_kinds.specs.PortSets.{is_member}
 use Rattle.egress_ring.specs.declared.item.Item.{Item as Queued}
 use Rattle.egress_ring.specs.declared.item.Item.TheVariants as queued
 use Rattle.hist_store.specs.Rows.{Row}
-use Rattle.savi_history.specs.Bases.{empty}
+use Rattle.savi_history.specs.Bases.{Base}
 use Rattle.savi_history.specs.Passes.{has_ended, has_port, has_pass, pass_of, egress_pass, is_end}
 use Rattle.savi_history.specs.Queues.{Item, item_of, room_at, framed, waiting_after, queue}
 use Rattle.savi_history.proofs.Offered.{probed_off}
@@ -150,73 +150,73 @@ module _ (rows : List Row) (outs : PortSet) where
   cuts_shown [] = refl
   cuts_shown (lane ∷ lanes) = rw (cut_shown lane) (cuts_at lane lanes (is_cut outs lane) (cuts_shown lanes))
 
-module _ (plan : Plan) (past : List Row) (outs : PortSet) where
-  numbers_at : (n : ℕ) (ns : List ℕ) (b : Bool) → map (λ (x : Lane Item). x.number) (filter (is_cut outs) (map (lane_of plan past) ns)) ≡ filter (λ (q : ℕ). is_cut outs (lane_of plan past q)) ns
-      → map (λ (x : Lane Item). x.number) (if b then lane_of plan past n ∷ filter (is_cut outs) (map (lane_of plan past) ns) else filter (is_cut outs) (map (lane_of plan past) ns))
-      ≡ (if b then n ∷ filter (λ (q : ℕ). is_cut outs (lane_of plan past q)) ns else filter (λ (q : ℕ). is_cut outs (lane_of plan past q)) ns)
+module _ (plan : Plan) (base : Base) (past : List Row) (outs : PortSet) where
+  numbers_at : (n : ℕ) (ns : List ℕ) (b : Bool) → map (λ (x : Lane Item). x.number) (filter (is_cut outs) (map (lane_of plan base past) ns)) ≡ filter (λ (q : ℕ). is_cut outs (lane_of plan base past q)) ns
+      → map (λ (x : Lane Item). x.number) (if b then lane_of plan base past n ∷ filter (is_cut outs) (map (lane_of plan base past) ns) else filter (is_cut outs) (map (lane_of plan base past) ns))
+      ≡ (if b then n ∷ filter (λ (q : ℕ). is_cut outs (lane_of plan base past q)) ns else filter (λ (q : ℕ). is_cut outs (lane_of plan base past q)) ns)
   numbers_at n ns true same = ap (λ ms. n ∷ ms) same
   numbers_at n ns false same = same
 
-  pub cuts_numbers : (ns : List ℕ) → map (λ (x : Lane Item). x.number) (filter (is_cut outs) (map (lane_of plan past) ns)) ≡ filter (λ (q : ℕ). is_cut outs (lane_of plan past q)) ns
+  pub cuts_numbers : (ns : List ℕ) → map (λ (x : Lane Item). x.number) (filter (is_cut outs) (map (lane_of plan base past) ns)) ≡ filter (λ (q : ℕ). is_cut outs (lane_of plan base past q)) ns
   cuts_numbers [] = refl
-  cuts_numbers (n ∷ ns) = numbers_at n ns (is_cut outs (lane_of plan past n)) (cuts_numbers ns)
+  cuts_numbers (n ∷ ns) = numbers_at n ns (is_cut outs (lane_of plan base past n)) (cuts_numbers ns)
 
 -- lanes by the history
 
-module _ (plan : Plan) (past : List Row) (r : Row) (q : ℕ) where
+module _ (plan : Plan) (base : Base) (past : List Row) (r : Row) (q : ℕ) where
   -- an entry that ends no pass leaves the room as it is
-  room_kept : is_end r.entry.act ≡ false → room_at plan empty (r ∷ past) q ≡ room_at plan empty past q
+  room_kept : is_end r.entry.act ≡ false → room_at plan base (r ∷ past) q ≡ room_at plan base past q
   room_kept none = rw none refl
 
-  lane_at : (b c : Bool) (waiting : List Item) → (if b then (if c then laned q (room_at plan empty past q) (waiting ++ item_of r ∷ []) else laned q (room_at plan empty past q) waiting) else laned q (room_at plan empty past q) waiting)
-      ≡ laned q (room_at plan empty past q) (if b then (if c then waiting ++ item_of r ∷ [] else waiting) else waiting)
+  lane_at : (b c : Bool) (waiting : List Item) → (if b then (if c then laned q (room_at plan base past q) (waiting ++ item_of r ∷ []) else laned q (room_at plan base past q) waiting) else laned q (room_at plan base past q) waiting)
+      ≡ laned q (room_at plan base past q) (if b then (if c then waiting ++ item_of r ∷ [] else waiting) else waiting)
   lane_at true true waiting = refl
   lane_at true false waiting = refl
   lane_at false c waiting = refl
 
-  pub lane_framed : plan.savi ≡ false → (port : Port) (stamp at len : ℕ) → r.entry.act ≡ acts.Frame port stamp at len → with_frame (item_of r) r.entry.outs (lane_of plan past q) ≡ lane_of plan (r ∷ past) q
+  pub lane_framed : plan.savi ≡ false → (port : Port) (stamp at len : ℕ) → r.entry.act ≡ acts.Frame port stamp at len → with_frame (item_of r) r.entry.outs (lane_of plan base past q) ≡ lane_of plan base (r ∷ past) q
   lane_framed off port stamp at len act_is =
-      let waiting = queue plan empty q past in
+      let waiting = queue plan base q past in
       let act = acts.Frame port stamp at len in
-      let items_are : queue plan empty q (r ∷ past) ≡ framed (room_at plan empty past q) q r (queue plan empty q past) =
-      ap (λ (a : Act). waiting_after plan empty past q r a (queue plan empty q past)) act_is
-      ∙ ap (λ (items : List Item). framed (room_at plan empty past q) q r items) (probed_off plan empty past (acts.Frame port stamp at len) r.octets off q (queue plan empty q past)) in
+      let items_are : queue plan base q (r ∷ past) ≡ framed (room_at plan base past q) q r (queue plan base q past) =
+      ap (λ (a : Act). waiting_after plan base past q r a (queue plan base q past)) act_is
+      ∙ ap (λ (items : List Item). framed (room_at plan base past q) q r items) (probed_off plan base past (acts.Frame port stamp at len) r.octets off q (queue plan base q past)) in
       let room_is = room_kept (ap is_end act_is) in
-      lane_at (is_member r.entry.outs q) (nat_lt (length (queue plan empty q past)) (room_at plan empty past q)) (queue plan empty q past)
-      ∙ ap (λ (items : List Item). laned q (room_at plan empty past q) items) (sym items_are)
-      ∙ ap (λ (room : ℕ). laned q room (queue plan empty q (r ∷ past))) (sym room_is)
+      lane_at (is_member r.entry.outs q) (nat_lt (length (queue plan base q past)) (room_at plan base past q)) (queue plan base q past)
+      ∙ ap (λ (items : List Item). laned q (room_at plan base past q) items) (sym items_are)
+      ∙ ap (λ (room : ℕ). laned q room (queue plan base q (r ∷ past))) (sym room_is)
 
   -- an entry that leaves what waits and the room leaves the lane
-  pub lane_kept : queue plan empty q (r ∷ past) ≡ queue plan empty q past → room_at plan empty (r ∷ past) q ≡ room_at plan empty past q → lane_of plan past q ≡ lane_of plan (r ∷ past) q
+  pub lane_kept : queue plan base q (r ∷ past) ≡ queue plan base q past → room_at plan base (r ∷ past) q ≡ room_at plan base past q → lane_of plan base past q ≡ lane_of plan base (r ∷ past) q
   lane_kept items_are room_is =
-      ap (λ (items : List Item). laned q (room_at plan empty past q) items) (sym items_are) ∙ ap (λ (room : ℕ). laned q room (queue plan empty q (r ∷ past))) (sym room_is)
+      ap (λ (items : List Item). laned q (room_at plan base past q) items) (sym items_are) ∙ ap (λ (room : ℕ). laned q room (queue plan base q (r ∷ past))) (sym room_is)
 
-  pub lane_long : plan.savi ≡ false → (port : Port) (stamp len : ℕ) → r.entry.act ≡ acts.Long port stamp len → lane_of plan past q ≡ lane_of plan (r ∷ past) q
+  pub lane_long : plan.savi ≡ false → (port : Port) (stamp len : ℕ) → r.entry.act ≡ acts.Long port stamp len → lane_of plan base past q ≡ lane_of plan base (r ∷ past) q
   lane_long off port stamp len act_is =
       lane_kept
-      (ap (λ (a : Act). waiting_after plan empty past q r a (queue plan empty q past)) act_is ∙ probed_off plan empty past (acts.Long port stamp len) r.octets off q (queue plan empty q past))
+      (ap (λ (a : Act). waiting_after plan base past q r a (queue plan base q past)) act_is ∙ probed_off plan base past (acts.Long port stamp len) r.octets off q (queue plan base q past))
       (room_kept (ap is_end act_is))
 
   -- a drain
 
-  pub lane_elsewhere : (port : Port) (count : ℕ) → r.entry.act ≡ acts.Drain port count → number_of port ≢ q → lane_of plan past q ≡ lane_of plan (r ∷ past) q
+  pub lane_elsewhere : (port : Port) (count : ℕ) → r.entry.act ≡ acts.Drain port count → number_of port ≢ q → lane_of plan base past q ≡ lane_of plan base (r ∷ past) q
   lane_elsewhere port count act_is other =
       lane_kept
-      (ap (λ (a : Act). waiting_after plan empty past q r a (queue plan empty q past)) act_is
-      ∙ ap (λ (b : Bool). if b then drop count (queue plan empty q past) else queue plan empty q past) (ne_eqb (number_of port) q other))
+      (ap (λ (a : Act). waiting_after plan base past q r a (queue plan base q past)) act_is
+      ∙ ap (λ (b : Bool). if b then drop count (queue plan base q past) else queue plan base q past) (ne_eqb (number_of port) q other))
       (room_kept (ap is_end act_is))
 
   -- an end of another pass
 
-  pub room_apart : r.entry.by ≢ egress_pass plan q → room_at plan empty (r ∷ past) q ≡ room_at plan empty past q
+  pub room_apart : r.entry.by ≢ egress_pass plan q → room_at plan base (r ∷ past) q ≡ room_at plan base past q
   room_apart other =
       let parts : (is_end r.entry.act && (r.entry.by == egress_pass plan q)) ≡ false = ap (λ (b : Bool). is_end r.entry.act && b) (ne_eqb r.entry.by (egress_pass plan q) other) ∙ and_false (is_end r.entry.act) in
-      ap (λ (b : Bool). if (b || has_ended empty (egress_pass plan q) past) then 0 else plan.depth) parts
+      ap (λ (b : Bool). if (b || has_ended base (egress_pass plan q) past) then 0 else plan.depth) parts
 
-  pub room_now : r.entry.by ≡ egress_pass plan q → is_end r.entry.act ≡ true → room_at plan empty (r ∷ past) q ≡ 0
+  pub room_now : r.entry.by ≡ egress_pass plan q → is_end r.entry.act ≡ true → room_at plan base (r ∷ past) q ≡ 0
   room_now here is =
-      ap (λ (b : Bool). if ((b && (r.entry.by == egress_pass plan q)) || has_ended empty (egress_pass plan q) past) then 0 else plan.depth) is
-      ∙ ap (λ (b : Bool). if (b || has_ended empty (egress_pass plan q) past) then 0 else plan.depth) (eq-eqb r.entry.by (egress_pass plan q) here)
+      ap (λ (b : Bool). if ((b && (r.entry.by == egress_pass plan q)) || has_ended base (egress_pass plan q) past) then 0 else plan.depth) is
+      ∙ ap (λ (b : Bool). if (b || has_ended base (egress_pass plan q) past) then 0 else plan.depth) (eq-eqb r.entry.by (egress_pass plan q) here)
 
 abbrev pub IsNoEgress : Who → Type 0
 IsNoEgress (Ingress port) = Unit {0}
@@ -230,60 +230,60 @@ input_apart plan q Control inward known = λ same. absurd (omega (arith, same))
 input_apart plan q Ticker inward known = λ same. absurd (omega (arith, same))
 input_apart plan q (Egress port) inward known = absurd inward
 
-input_waits : (plan : Plan) (past : List Row) (q : ℕ) (r : Row) (who : Who) (how : How) (waiting : List Item) → IsNoEgress who → waiting_after plan empty past q r (acts.End who how) waiting ≡ waiting
-input_waits plan past q r (Ingress port) how waiting inward = refl
-input_waits plan past q r Control how waiting inward = refl
-input_waits plan past q r Ticker how waiting inward = refl
-input_waits plan past q r (Egress port) how waiting inward = absurd inward
+input_waits : (plan : Plan) (base : Base) (past : List Row) (q : ℕ) (r : Row) (who : Who) (how : How) (waiting : List Item) → IsNoEgress who → waiting_after plan base past q r (acts.End who how) waiting ≡ waiting
+input_waits plan base past q r (Ingress port) how waiting inward = refl
+input_waits plan base past q r Control how waiting inward = refl
+input_waits plan base past q r Ticker how waiting inward = refl
+input_waits plan base past q r (Egress port) how waiting inward = absurd inward
 
-pub lane_behind_input : (plan : Plan) (past : List Row) (r : Row) (q : ℕ) (who : Who) (how : How) → r.entry.act ≡ acts.End who how → r.entry.by ≡ pass_of plan who → IsNoEgress who → has_pass plan who ≡ true → lane_of plan past q ≡ lane_of plan (r ∷ past) q
-lane_behind_input plan past r q who how act_is by_is inward known =
-    lane_kept plan past r q
-    (ap (λ (a : Act). waiting_after plan empty past q r a (queue plan empty q past)) act_is ∙ input_waits plan past q r who how (queue plan empty q past) inward)
-    (room_apart plan past r q (λ same. input_apart plan q who inward known (sym by_is ∙ same)))
+pub lane_behind_input : (plan : Plan) (base : Base) (past : List Row) (r : Row) (q : ℕ) (who : Who) (how : How) → r.entry.act ≡ acts.End who how → r.entry.by ≡ pass_of plan who → IsNoEgress who → has_pass plan who ≡ true → lane_of plan base past q ≡ lane_of plan base (r ∷ past) q
+lane_behind_input plan base past r q who how act_is by_is inward known =
+    lane_kept plan base past r q
+    (ap (λ (a : Act). waiting_after plan base past q r a (queue plan base q past)) act_is ∙ input_waits plan base past q r who how (queue plan base q past) inward)
+    (room_apart plan base past r q (λ same. input_apart plan q who inward known (sym by_is ∙ same)))
 
 -- the lane of a drain's port
-pub lane_drained : (plan : Plan) (past : List Row) (r : Row) (port : Port) (count : ℕ) → r.entry.act ≡ acts.Drain port count → with_drained count (lane_of plan past (number_of port)) ≡ lane_of plan (r ∷ past) (number_of port)
-lane_drained plan past r port count act_is =
+pub lane_drained : (plan : Plan) (base : Base) (past : List Row) (r : Row) (port : Port) (count : ℕ) → r.entry.act ≡ acts.Drain port count → with_drained count (lane_of plan base past (number_of port)) ≡ lane_of plan base (r ∷ past) (number_of port)
+lane_drained plan base past r port count act_is =
     let q = number_of port in
-    let items_are : queue plan empty (number_of port) (r ∷ past) ≡ drop count (queue plan empty (number_of port) past) =
-    ap (λ (a : Act). waiting_after plan empty past (number_of port) r a (queue plan empty (number_of port) past)) act_is
-    ∙ ap (λ (b : Bool). if b then drop count (queue plan empty (number_of port) past) else queue plan empty (number_of port) past) (eq-eqb (number_of port) (number_of port) refl) in
-    ap (λ (items : List Item). laned (number_of port) (room_at plan empty past (number_of port)) items) (sym items_are)
-    ∙ ap (λ (room : ℕ). laned (number_of port) room (queue plan empty (number_of port) (r ∷ past))) (sym (room_kept plan past r (number_of port) (ap is_end act_is)))
+    let items_are : queue plan base (number_of port) (r ∷ past) ≡ drop count (queue plan base (number_of port) past) =
+    ap (λ (a : Act). waiting_after plan base past (number_of port) r a (queue plan base (number_of port) past)) act_is
+    ∙ ap (λ (b : Bool). if b then drop count (queue plan base (number_of port) past) else queue plan base (number_of port) past) (eq-eqb (number_of port) (number_of port) refl) in
+    ap (λ (items : List Item). laned (number_of port) (room_at plan base past (number_of port)) items) (sym items_are)
+    ∙ ap (λ (room : ℕ). laned (number_of port) room (queue plan base (number_of port) (r ∷ past))) (sym (room_kept plan base past r (number_of port) (ap is_end act_is)))
 
 -- the lane of an egress that ended
 
-failed_waits : (plan : Plan) (past : List Row) (r : Row) (port : Port) (waiting : List Item) → [] ≡ waiting_after plan empty past (number_of port) r (acts.End (Egress port) hows.Failed) waiting
-failed_waits plan past r port waiting = sym (ap (λ (b : Bool). if b then [] else waiting) (eq-eqb (number_of port) (number_of port) refl))
+failed_waits : (plan : Plan) (base : Base) (past : List Row) (r : Row) (port : Port) (waiting : List Item) → [] ≡ waiting_after plan base past (number_of port) r (acts.End (Egress port) hows.Failed) waiting
+failed_waits plan base past r port waiting = sym (ap (λ (b : Bool). if b then [] else waiting) (eq-eqb (number_of port) (number_of port) refl))
 
-ended_at : (plan : Plan) (past : List Row) (r : Row) (port : Port) (how : How) → with_ended how (lane_of plan past (number_of port)) ≡ laned (number_of port) 0 (waiting_after plan empty past (number_of port) r (acts.End (Egress port) how) (queue plan empty (number_of port) past))
-ended_at plan past r port hows.Failed = ap (λ (items : List Item). laned (number_of port) 0 items) (failed_waits plan past r port (queue plan empty (number_of port) past))
-ended_at plan past r port hows.End = refl
-ended_at plan past r port hows.Quit = refl
-ended_at plan past r port (hows.Malformed at) = refl
-ended_at plan past r port (hows.Overlong at) = refl
-ended_at plan past r port hows.Unwritten = refl
-ended_at plan past r port (hows.Full len) = refl
+ended_at : (plan : Plan) (base : Base) (past : List Row) (r : Row) (port : Port) (how : How) → with_ended how (lane_of plan base past (number_of port)) ≡ laned (number_of port) 0 (waiting_after plan base past (number_of port) r (acts.End (Egress port) how) (queue plan base (number_of port) past))
+ended_at plan base past r port hows.Failed = ap (λ (items : List Item). laned (number_of port) 0 items) (failed_waits plan base past r port (queue plan base (number_of port) past))
+ended_at plan base past r port hows.End = refl
+ended_at plan base past r port hows.Quit = refl
+ended_at plan base past r port (hows.Malformed at) = refl
+ended_at plan base past r port (hows.Overlong at) = refl
+ended_at plan base past r port hows.Unwritten = refl
+ended_at plan base past r port (hows.Full len) = refl
 
-pub lane_ended : (plan : Plan) (past : List Row) (r : Row) (port : Port) (how : How) → r.entry.act ≡ acts.End (Egress port) how → r.entry.by ≡ egress_pass plan (number_of port) → with_ended how (lane_of plan past (number_of port)) ≡ lane_of plan (r ∷ past) (number_of port)
-lane_ended plan past r port how act_is by_is =
-    ended_at plan past r port how
-    ∙ ap (λ (a : Act). laned (number_of port) 0 (waiting_after plan empty past (number_of port) r a (queue plan empty (number_of port) past))) (sym act_is)
-    ∙ ap (λ (room : ℕ). laned (number_of port) room (queue plan empty (number_of port) (r ∷ past))) (sym (room_now plan past r (number_of port) by_is (ap is_end act_is)))
+pub lane_ended : (plan : Plan) (base : Base) (past : List Row) (r : Row) (port : Port) (how : How) → r.entry.act ≡ acts.End (Egress port) how → r.entry.by ≡ egress_pass plan (number_of port) → with_ended how (lane_of plan base past (number_of port)) ≡ lane_of plan base (r ∷ past) (number_of port)
+lane_ended plan base past r port how act_is by_is =
+    ended_at plan base past r port how
+    ∙ ap (λ (a : Act). laned (number_of port) 0 (waiting_after plan base past (number_of port) r a (queue plan base (number_of port) past))) (sym act_is)
+    ∙ ap (λ (room : ℕ). laned (number_of port) room (queue plan base (number_of port) (r ∷ past))) (sym (room_now plan base past r (number_of port) by_is (ap is_end act_is)))
 
-apart_waits : (plan : Plan) (past : List Row) (q : ℕ) (r : Row) (port : Port) (how : How) (waiting : List Item) → number_of port ≢ q → waiting_after plan empty past q r (acts.End (Egress port) how) waiting ≡ waiting
-apart_waits plan past q r port hows.Failed waiting other = ap (λ (b : Bool). if b then [] else waiting) (ne_eqb (number_of port) q other)
-apart_waits plan past q r port hows.End waiting other = refl
-apart_waits plan past q r port hows.Quit waiting other = refl
-apart_waits plan past q r port (hows.Malformed at) waiting other = refl
-apart_waits plan past q r port (hows.Overlong at) waiting other = refl
-apart_waits plan past q r port hows.Unwritten waiting other = refl
-apart_waits plan past q r port (hows.Full len) waiting other = refl
+apart_waits : (plan : Plan) (base : Base) (past : List Row) (q : ℕ) (r : Row) (port : Port) (how : How) (waiting : List Item) → number_of port ≢ q → waiting_after plan base past q r (acts.End (Egress port) how) waiting ≡ waiting
+apart_waits plan base past q r port hows.Failed waiting other = ap (λ (b : Bool). if b then [] else waiting) (ne_eqb (number_of port) q other)
+apart_waits plan base past q r port hows.End waiting other = refl
+apart_waits plan base past q r port hows.Quit waiting other = refl
+apart_waits plan base past q r port (hows.Malformed at) waiting other = refl
+apart_waits plan base past q r port (hows.Overlong at) waiting other = refl
+apart_waits plan base past q r port hows.Unwritten waiting other = refl
+apart_waits plan base past q r port (hows.Full len) waiting other = refl
 
 -- the lanes of the other ports
-pub lane_apart : (plan : Plan) (past : List Row) (r : Row) (q : ℕ) (port : Port) (how : How) → r.entry.act ≡ acts.End (Egress port) how → r.entry.by ≡ egress_pass plan (number_of port) → has_port plan (number_of port) ≡ true → has_port plan q ≡ true → number_of port ≢ q → lane_of plan past q ≡ lane_of plan (r ∷ past) q
-lane_apart plan past r q port how act_is by_is known known_q other =
-    lane_kept plan past r q
-    (ap (λ (a : Act). waiting_after plan empty past q r a (queue plan empty q past)) act_is ∙ apart_waits plan past q r port how (queue plan empty q past) other)
-    (room_apart plan past r q (λ same. other (same_port plan port q known known_q (sym by_is ∙ same))))
+pub lane_apart : (plan : Plan) (base : Base) (past : List Row) (r : Row) (q : ℕ) (port : Port) (how : How) → r.entry.act ≡ acts.End (Egress port) how → r.entry.by ≡ egress_pass plan (number_of port) → has_port plan (number_of port) ≡ true → has_port plan q ≡ true → number_of port ≢ q → lane_of plan base past q ≡ lane_of plan base (r ∷ past) q
+lane_apart plan base past r q port how act_is by_is known known_q other =
+    lane_kept plan base past r q
+    (ap (λ (a : Act). waiting_after plan base past q r a (queue plan base q past)) act_is ∙ apart_waits plan base past q r port how (queue plan base q past) other)
+    (room_apart plan base past r q (λ same. other (same_port plan port q known known_q (sym by_is ∙ same))))

@@ -1,5 +1,10 @@
 pub mod Places
 pub mod Sets
+pub mod Members
+pub mod PlaceTable
+pub mod Scopes
+pub mod Offering
+pub mod Ending
 pub mod Frames
 pub mod Lanes
 pub mod Counting

@@ -1,44 +1,24 @@
 -- Ports of a plan by their places.
-use Rattle.std.proofs.Common.{ℕ, suc, ◌≡◌, ◌≢◌, ◌+◌, ◌<◌, ◌≤◌, ◌==◌, ◌||◌, true, false, List, [], ◌∷◌, length, map, drop, get_or, set, inl, inr, refl, sym, ap, subst, ◌∙◌, arith, length-set, get_or-set_same, get_or-set_other}
+use Rattle.std.proofs.Common.{ℕ, suc, ◌≡◌, ◌≢◌, ◌+◌, ◌<◌, ◌==◌, true, false, List, [], ◌∷◌, length, drop, get_or, inl, inr, refl, sym, ap, ◌∙◌, arith}
 use Rattle.std.specs.List.{list_any}
 use Rattle.std.specs.Prelude.{nat_lt}
 use Rattle.std.specs.List.Sorted.{IsStrictlyIncreasing}
-use Rattle.std.proofs.lemmas.List.{at_drop_more, length-map, get_or-map, ext_get_or}
+use Rattle.std.proofs.lemmas.List.{at_drop_more}
 use Rattle.std.proofs.lemmas.List.Folds.{list_any_at}
 use Rattle.std.proofs.lemmas.List.Kept.{AllPairs-from_increasing}
-use Rattle.std.proofs.lemmas.Bool.{cases_eq, cases_order, cases_Bool, or_parts, lt-ltb, le-ltb, eq-eqb, ne_eqb, cond-true, cond-false}
+use Rattle.std.proofs.lemmas.Bool.{cases_eq, cases_order, cases_Bool, or_parts, lt-ltb, le-ltb, eq-eqb, cond-false}
 use Rattle.savi_kinds.specs.declared.plan.Plan.{Plan}
-use Rattle.savi_kinds.specs.declared.plan.PortPlan.{PortPlan}
 use Rattle.savi_kinds.specs.declared.entry.Who.{Who}
 use Rattle.savi_kinds.specs.declared.entry.Who.TheVariants.{Ingress, Control, Ticker, Egress}
 use Rattle.savi_kinds.specs.Ports.{number_of}
 use Rattle.savi_kinds.specs.ValidPlan.{numbers_of, IsValidPlan}
-use Rattle.savi_history.specs.Passes.{has_port, has_pass, pass_of, place_among, place_of, role_among, egress_pass, pass_count}
+use Rattle.savi_history.specs.Passes.{has_port, has_pass, pass_of, place_among, place_of, egress_pass, pass_count}
 pub use Rattle.savi_history.proofs.PortPlaces.{IsPlace, placed_among, placed, length-numbers, place_within}
 use Rattle.savi_core.specs.Machines.{number_at}
 
 -- from a place on the list is its element and what follows
 pub at_item : {X Y : Type 0} (F : List X → Y) (xs : List X) (i : ℕ) (x : X) → i < length xs → x ≡ get_or xs i x → F (drop i xs) ≡ F (x ∷ drop (i + 1) xs)
 at_item F xs i x within is = at_drop_more F xs i x within ∙ ap (λ y. F (y ∷ drop (i + 1) xs)) (sym is)
-
-module _ (ports : List PortPlan) (i number : ℕ) (p : PortPlan) (within : i < length ports) (is : p ≡ get_or ports i p) where
-  pub place_here : number_of p.number ≡ number → place_among (numbers_of ports) number ≡ i + place_among (numbers_of (drop i ports)) number → place_among (numbers_of ports) number ≡ i
-  place_here same so_far =
-      let here : place_among (numbers_of (drop i ports)) number ≡ 0 =
-      at_item (λ ps. place_among (numbers_of ps) number) ports i p within is ∙ cond-true _ _ _ (eq-eqb (number_of p.number) number same) in
-      omega (arith, so_far, here)
-
-  pub place_more : number_of p.number ≢ number → place_among (numbers_of ports) number ≡ i + place_among (numbers_of (drop i ports)) number → place_among (numbers_of ports) number ≡ i + 1 + place_among (numbers_of (drop (i + 1) ports)) number
-  place_more other so_far =
-      let more : place_among (numbers_of (drop i ports)) number ≡ suc (place_among (numbers_of (drop (i + 1) ports)) number) =
-      at_item (λ ps. place_among (numbers_of ps) number) ports i p within is ∙ cond-false _ _ _ (ne_eqb (number_of p.number) number other) in
-      omega (arith, so_far, more)
-
-  pub role_here : number_of p.number ≡ number → role_among (drop i ports) number ≡ p.role
-  role_here same = at_item (λ ps. role_among ps number) ports i p within is ∙ cond-true _ _ _ (eq-eqb (number_of p.number) number same)
-
-  pub role_more : number_of p.number ≢ number → role_among (drop i ports) number ≡ role_among (drop (i + 1) ports) number
-  role_more other = at_item (λ ps. role_among ps number) ports i p within is ∙ cond-false _ _ _ (ne_eqb (number_of p.number) number other)
 
 -- rising numbers differ
 pub apart : (ns : List ℕ) (j k : ℕ) → IsStrictlyIncreasing ns → j < length ns → k < length ns → j ≢ k → get_or ns j 0 ≢ get_or ns k 0
@@ -72,7 +52,8 @@ pass_within plan Control known = omega arith
 pass_within plan Ticker known = omega arith
 pass_within plan (Egress port) known = omega (arith, place_within plan (number_of port) known)
 
-absent : (ns : List ℕ) (number : ℕ) → list_any (λ n. n == number) ns ≡ false → place_among ns number ≡ length ns
+-- a number that is none of these has its place behind them
+pub absent : (ns : List ℕ) (number : ℕ) → list_any (λ n. n == number) ns ≡ false → place_among ns number ≡ length ns
 absent [] number none = refl
 absent (n ∷ ns) number none =
     let both = or_parts (n == number) (list_any (λ m. m == number) ns) none in
@@ -87,33 +68,3 @@ has_port-place plan number =
           let last : place_of plan number ≡ length (numbers_of plan.ports) = absent (numbers_of plan.ports) number unknown in
           le-ltb (place_of plan number) (length plan.ports) (omega (arith, last, length-numbers plan.ports)) ∙ sym unknown
     ]
-
--- the elements below an index have changed, and the others have not
-pub record ChangedTo {X : Type 0} (change : X → X) (i : ℕ) (old new : List X) : Type 0 where
-  pub size : length new ≡ length old
-  pub done : (k : ℕ) (d : X) → k < i → k < length old → get_or new k d ≡ change (get_or old k d)
-  pub still : (k : ℕ) (d : X) → i ≤ k → get_or new k d ≡ get_or old k d
-
-pub changed_none : {X : Type 0} (change : X → X) (old : List X) → ChangedTo change 0 old old
-changed_none change old = record { size = refl; done = λ k d below inside. absurd (omega (arith, below)); still = λ k d _. refl }
-
-pub changed_more : {X : Type 0} (change : X → X) (i : ℕ) (old new : List X) (v : X) → i < length old → ((d : X) → v ≡ change (get_or old i d)) → ChangedTo change i old new → ChangedTo change (i + 1) old (set new i v)
-changed_more change i old new v within is was = record {
-  size = length-set new i v ∙ was.size;
-  done = λ k d below inside.
-      elim (cases_eq k i) [
-        | inl same ↦
-            ap (λ n. get_or (set new i v) n d) same ∙ get_or-set_same new i v d (omega (arith, within, was.size)) ∙ is d
-            ∙ ap (λ n. change (get_or old n d)) (sym same)
-        | inr other ↦ get_or-set_other new i k v d other ∙ was.done k d (omega (arith, below, other)) inside
-      ];
-  still = λ k d above. get_or-set_other new i k v d (omega (arith, above)) ∙ was.still k d (omega (arith, above));
-}
-
-changed_at : {X : Type 0} (change : X → X) (i : ℕ) (old new : List X) (d : X) → length old ≤ i → ChangedTo change i old new → (k : ℕ) → k < length new → get_or new k d ≡ get_or (map change old) k d
-changed_at change i old new d all was k inside =
-    let within : k < length old = omega (arith, inside, was.size) in
-    was.done k d (omega (arith, within, all)) within ∙ sym (get_or-map change old k d d within)
-
-pub changed_all : {X : Type 0} (change : X → X) (i : ℕ) (old new : List X) (d : X) → length old ≤ i → ChangedTo change i old new → new ≡ map change old
-changed_all change i old new d all was = ext_get_or d new (map change old) (was.size ∙ sym (length-map old change)) (changed_at change i old new d all was)

@@ -1,8 +1,8 @@
 -- What a core keeps: how it begins, and after one more row.
-use Rattle.std.proofs.Common.{ℕ, zero, suc, replicate, ◌≡◌, ◌+◌, ◌*◌, ◌<◌, ◌≤◌, ◌==◌, ◌&&◌, ◌||◌, Bool, true, false, List, [], ◌∷◌, ◌++◌, length, map, get_or, inl, inr, refl, sym, ap, subst, ◌∙◌, arith, length-append}
+use Rattle.std.proofs.Common.{ℕ, zero, suc, replicate, ◌≡◌, ◌+◌, ◌*◌, ◌<◌, ◌≤◌, ◌==◌, ◌&&◌, ◌||◌, cond, Bool, true, false, List, [], ◌∷◌, ◌++◌, length, map, get_or, inl, inr, refl, sym, ap, subst, ◌∙◌, arith, length-append}
 use Rattle.std.specs.Prelude.{All, reverse}
 use Rattle.std.proofs.lemmas.List.{length-reverse, length-map, reverse-append, get_or-map}
-use Rattle.std.proofs.lemmas.List.Elements.{All-nil, All-cons, All-map}
+use Rattle.std.proofs.lemmas.List.Elements.{All-nil, All-cons}
 use Rattle.std.proofs.lemmas.Bool.{cases_lt, ltb-true, leb-true, and_parts}
 use Rattle.savi_kinds.specs.declared.plan.Plan.{Plan}
 use Rattle.savi_kinds.specs.declared.plan.PortPlan.{PortPlan}
@@ -12,7 +12,7 @@ use Rattle.savi_kinds.specs.ValidPlan.{IsValidPlan, numbers_of}
 use Rattle.egress_ring.specs.declared.item.Item.{Item as Queued}
 use Rattle.hist_store.specs.Rows.{Row, held}
 use Rattle.hist_store.proofs.StoreLemmas.{held-append}
-use Rattle.savi_history.specs.Bases.{empty}
+use Rattle.savi_history.specs.Bases.{Base, empty}
 use Rattle.savi_history.specs.Passes.{has_ended, has_port, has_pass, pass_of, place_of, is_end, pass_count}
 use Rattle.savi_history.specs.Limits.{has_room}
 use Rattle.savi_history.specs.Queues.{Item, queue}
@@ -22,7 +22,9 @@ use Rattle.savi_history.proofs.Depth.{queue_within}
 use Rattle.savi_core.specs.Machines.{number_at}
 use Rattle.savi_core.specs.Lanes.{Lane, empty_lane, lane_of}
 use Rattle.savi_core.specs.Waits.{shown, shown_lane, IsFrameOf, HoldsFrames}
-use Rattle.savi_core.specs.Counts.{still_to_come, waiting_at}
+use Rattle.savi_core.specs.Counts.{still_to_come, waiting_at, open_below}
+use Rattle.savi_core.specs.PassMarks.{open_among}
+use Rattle.savi_core.proofs.Ending.{none_ended}
 use Rattle.savi_core.specs.Remembers.{Kept, Remembers}
 use Rattle.savi_core.proofs.Places.{length-numbers, placed, place_within, pass_within}
 use Rattle.savi_core.proofs.Counting.{open_below-le, waiting_at-le}
@@ -36,16 +38,11 @@ held-reverse (r ∷ rows) =
     let turned : held (reverse (r ∷ rows)) ≡ held (reverse rows ++ r ∷ []) = ap held (reverse-append (r ∷ []) rows) in
     omega (arith, turned, held-append (reverse rows) (r ∷ []), held-reverse rows)
 
-none_ended : (n pass : ℕ) → get_or (replicate n false) pass false ≡ false
-none_ended zero pass = refl
-none_ended (suc n) zero = refl
-none_ended (suc n) (suc pass) = none_ended n pass
-
 -- at the start
 
-start_shown : (plan : Plan) (ports : List PortPlan) → map (shown_lane []) (map (empty_lane plan.depth) ports) ≡ map (lane_of plan []) (numbers_of ports)
+start_shown : (plan : Plan) (ports : List PortPlan) → map (shown_lane []) (map (empty_lane plan.depth) ports) ≡ map (lane_of plan empty []) (numbers_of ports)
 start_shown plan [] = refl
-start_shown plan (p ∷ ports) = ap (λ lanes. lane_of plan [] (number_of p.number) ∷ lanes) (start_shown plan ports)
+start_shown plan (p ∷ ports) = ap (λ lanes. lane_of plan empty [] (number_of p.number) ∷ lanes) (start_shown plan ports)
 
 start_frames : (depth : ℕ) (ports : List PortPlan) → All (HoldsFrames []) (map (empty_lane depth) ports)
 start_frames depth [] = All-nil (HoldsFrames [])
@@ -53,10 +50,11 @@ start_frames depth (p ∷ ports) = All-cons (HoldsFrames []) (empty_lane depth p
 
 -- what a core keeps at its start
 pub remembers_start : (plan : Plan) (lanes : List (Lane Queued)) → IsValidPlan plan → plan.savi ≡ false → lanes ≡ map (empty_lane plan.depth) plan.ports
-    → Remembers (record { plan = plan; rows = []; moment = 0; ended = replicate 34 false; lanes = lanes })
+    → Remembers (record { plan = plan; base = empty; rows = []; moment = 0; ended = replicate 34 false; lanes = lanes })
 remembers_start plan lanes valid off are = record {
   valid = valid;
   off = off;
+  within = record { moment = omega arith; ended = All-nil (λ pass. pass < pass_count plan) };
   legal = tt;
   last = refl;
   passes = λ pass below. none_ended 34 pass;
@@ -67,27 +65,36 @@ remembers_start plan lanes valid off are = record {
   room = λ near. absurd (omega (arith, near, valid.entries.0));
 }
 
+numbers_shown : (rows : List Row) (lanes : List (Lane Queued)) → map (λ (x : Lane Item). x.number) (map (shown_lane rows) lanes) ≡ map (λ (x : Lane Queued). x.number) lanes
+numbers_shown rows [] = refl
+numbers_shown rows (lane ∷ lanes) = ap (λ ns. lane.number ∷ ns) (numbers_shown rows lanes)
+
+numbers_laned : (plan : Plan) (base : Base) (past : List Row) (ns : List ℕ) → map (λ (x : Lane Item). x.number) (map (lane_of plan base past) ns) ≡ ns
+numbers_laned plan base past [] = refl
+numbers_laned plan base past (n ∷ ns) = ap (λ rest. n ∷ rest) (numbers_laned plan base past ns)
+
 -- one more row, by the event that it is of
 pub record HasNext (k : Kept) (r : Row) (ended' : List Bool) (lanes' : List (Lane Queued)) : Type 0 where
   pub passes : (pass : ℕ) → pass < pass_count k.plan → get_or ended' pass false ≡ ((is_end r.entry.act && (r.entry.by == pass)) || get_or k.ended pass false)
   pub marks : length ended' ≡ length k.ended
   pub frames : All (HoldsFrames (k.rows ++ r ∷ [])) lanes'
-  pub queues : map (shown_lane (k.rows ++ r ∷ [])) lanes' ≡ map (lane_of k.plan (r ∷ reverse k.rows)) (numbers_of k.plan.ports)
+  pub queues : map (shown_lane (k.rows ++ r ∷ [])) lanes' ≡ map (lane_of k.plan k.base (r ∷ reverse k.rows)) (numbers_of k.plan.ports)
   pub octets : held k.rows + length r.octets ≤ k.plan.bytes
-  pub room : k.plan.entries < length k.rows + 1 + 4130 → length k.rows + 1 + still_to_come k.plan (r ∷ reverse k.rows) ≤ k.plan.entries
+  pub room : k.plan.entries < length k.rows + 1 + 4130 → length k.rows + 1 + still_to_come k.plan k.base (r ∷ reverse k.rows) ≤ k.plan.entries
 
 module _ {k : Kept} (was : Remembers k) where
   abbrev pub past : List Row
   past = reverse k.rows
 
-  pub remembers_next : (event : Event) (r : Row) (moment' : ℕ) (ended' : List Bool) (lanes' : List (Lane Queued)) → MayCome k.plan empty (reverse k.rows) event → r ≡ row_of k.plan empty (reverse k.rows) event → moment' ≡ r.entry.moment → HasNext k r ended' lanes'
-      → Remembers (record { plan = k.plan; rows = k.rows ++ r ∷ []; moment = moment'; ended = ended'; lanes = lanes' })
+  pub remembers_next : (event : Event) (r : Row) (moment' : ℕ) (ended' : List Bool) (lanes' : List (Lane Queued)) → MayCome k.plan k.base (reverse k.rows) event → r ≡ row_of k.plan k.base (reverse k.rows) event → moment' ≡ r.entry.moment → HasNext k r ended' lanes'
+      → Remembers (record { plan = k.plan; base = k.base; rows = k.rows ++ r ∷ []; moment = moment'; ended = ended'; lanes = lanes' })
   remembers_next event r moment' ended' lanes' may is_row moment_is next =
       let at : reverse (k.rows ++ r ∷ []) ≡ r ∷ reverse k.rows = reverse_push k.rows r in
       let longer : length (k.rows ++ r ∷ []) ≡ length k.rows + 1 = omega (arith, length-append k.rows (r ∷ [])) in
       record {
         valid = was.valid;
         off = was.off;
+        within = was.within;
         legal = rw at ((event, may, is_row), was.legal);
         last = rw at moment_is;
         passes = λ pass below. rw at (next.passes pass below ∙ ap (λ b. (is_end r.entry.act && (r.entry.by == pass)) || b) (was.passes pass below));
@@ -104,40 +111,54 @@ module _ {k : Kept} (was : Remembers k) where
         arith,
         ap (λ (lanes : List (Lane Item)). length lanes) was.queues,
         length-map k.lanes (shown_lane k.rows),
-        length-map (numbers_of k.plan.ports) (lane_of k.plan (reverse k.rows)),
+        length-map (numbers_of k.plan.ports) (lane_of k.plan k.base (reverse k.rows)),
         length-numbers k.plan.ports,
       )
 
+  -- the lanes are those of the plan's ports
+  pub lane_numbers : map (λ (lane : Lane Queued). lane.number) k.lanes ≡ numbers_of k.plan.ports
+  lane_numbers =
+      sym (numbers_shown k.rows k.lanes)
+      ∙ ap (map (λ (lane : Lane Item). lane.number)) was.queues
+      ∙ numbers_laned k.plan k.base (reverse k.rows) (numbers_of k.plan.ports)
+
+  -- how many passes are open
+  pub open_is : (n : ℕ) → n ≤ pass_count k.plan → open_among k.ended n ≡ open_below k.base (reverse k.rows) n
+  open_is zero within = refl
+  open_is (suc n) within =
+      let here : ◌≡◌ {A = ℕ} (cond (get_or k.ended n false) 0 1) (cond (has_ended k.base n (reverse k.rows)) 0 1) = ap (λ (b : Bool). cond b 0 1) (was.passes n (omega (arith, within))) in
+      omega (arith, open_is n (omega (arith, within)), here)
+
   -- the lane at a place shows that of its port
-  pub lane_is : (p : ℕ) (d : Lane Queued) → p < length k.plan.ports → shown_lane k.rows (get_or k.lanes p d) ≡ lane_of k.plan (reverse k.rows) (number_at k.plan p)
+  pub lane_is : (p : ℕ) (d : Lane Queued) → p < length k.plan.ports → shown_lane k.rows (get_or k.lanes p d) ≡ lane_of k.plan k.base (reverse k.rows) (number_at k.plan p)
   lane_is p d within =
       let count = lane_count in
       let size = length-numbers k.plan.ports in
       let e : Lane Item = shown_lane k.rows d in
       sym (get_or-map (shown_lane k.rows) k.lanes p d e (omega (arith, within, count)))
       ∙ ap (λ (lanes : List (Lane Item)). get_or lanes p e) was.queues
-      ∙ get_or-map (lane_of k.plan (reverse k.rows)) (numbers_of k.plan.ports) p 0 e (omega (arith, within, size))
+      ∙ get_or-map (lane_of k.plan k.base (reverse k.rows)) (numbers_of k.plan.ports) p 0 e (omega (arith, within, size))
 
   -- the same by the number of a port
-  pub lane_at : (number p : ℕ) (d : Lane Queued) → has_port k.plan number ≡ true → p ≡ place_of k.plan number → shown_lane k.rows (get_or k.lanes p d) ≡ lane_of k.plan (reverse k.rows) number
+  pub lane_at : (number p : ℕ) (d : Lane Queued) → has_port k.plan number ≡ true → p ≡ place_of k.plan number → shown_lane k.rows (get_or k.lanes p d) ≡ lane_of k.plan k.base (reverse k.rows) number
   lane_at number p d known place_is =
       let place = placed k.plan number known in
       lane_is p d (omega (arith, place_is, place_within k.plan number known))
-      ∙ ap (lane_of k.plan (reverse k.rows)) (ap (number_at k.plan) place_is ∙ place.number_is)
+      ∙ ap (lane_of k.plan k.base (reverse k.rows)) (ap (number_at k.plan) place_is ∙ place.number_is)
 
   -- how many items wait there
-  pub waits_at : (number p : ℕ) (d : Lane Queued) → has_port k.plan number ≡ true → p ≡ place_of k.plan number → length (queue k.plan empty number (reverse k.rows)) ≡ length (get_or k.lanes p d).items
+  pub waits_at : (number p : ℕ) (d : Lane Queued) → has_port k.plan number ≡ true → p ≡ place_of k.plan number → length (queue k.plan k.base number (reverse k.rows)) ≡ length (get_or k.lanes p d).items
   waits_at number p d known place_is =
       ap (λ (lane : Lane Item). length lane.items) (sym (lane_at number p d known place_is)) ∙ length-map (get_or k.lanes p d).items (shown k.rows)
 
-  pub few_to_come : still_to_come k.plan (reverse k.rows) ≤ 4130
+  pub few_to_come : still_to_come k.plan k.base (reverse k.rows) ≤ 4130
   few_to_come =
-      let wait : waiting_at k.plan (reverse k.rows) (numbers_of k.plan.ports) ≤ 256 * length (numbers_of k.plan.ports) =
-      waiting_at-le k.plan (reverse k.rows) 256 (numbers_of k.plan.ports) (λ n within. omega (arith, queue_within k.plan empty (get_or (numbers_of k.plan.ports) n 0) (reverse k.rows), was.valid.depth.1)) in
-      omega (arith, wait, length-numbers k.plan.ports, open_below-le (reverse k.rows) (pass_count k.plan), was.valid.port_count.1)
+      let wait : waiting_at k.plan k.base (reverse k.rows) (numbers_of k.plan.ports) ≤ 256 * length (numbers_of k.plan.ports) =
+      waiting_at-le k.plan k.base (reverse k.rows) 256 (numbers_of k.plan.ports) (λ n within. omega (arith, queue_within k.plan k.base (get_or (numbers_of k.plan.ports) n 0) (reverse k.rows), was.valid.depth.1)) in
+      omega (arith, wait, length-numbers k.plan.ports, open_below-le k.base (reverse k.rows) (pass_count k.plan), was.valid.port_count.1)
 
   -- a drain or an end fits
-  pub fits : 0 < still_to_come k.plan (reverse k.rows) → length k.rows < k.plan.entries
+  pub fits : 0 < still_to_come k.plan k.base (reverse k.rows) → length k.rows < k.plan.entries
   fits some =
       elim (cases_lt k.plan.entries (length k.rows + 4130)) [
         | inl near ↦ omega (arith, was.room near, some)
@@ -145,7 +166,7 @@ module _ {k : Kept} (was : Remembers k) where
       ]
 
   -- a drain or an end leaves room for what is still to come
-  pub room_less : (r : Row) → still_to_come k.plan (r ∷ reverse k.rows) + 1 ≤ still_to_come k.plan (reverse k.rows) → k.plan.entries < length k.rows + 1 + 4130 → length k.rows + 1 + still_to_come k.plan (r ∷ reverse k.rows) ≤ k.plan.entries
+  pub room_less : (r : Row) → still_to_come k.plan k.base (r ∷ reverse k.rows) + 1 ≤ still_to_come k.plan k.base (reverse k.rows) → k.plan.entries < length k.rows + 1 + 4130 → length k.rows + 1 + still_to_come k.plan k.base (r ∷ reverse k.rows) ≤ k.plan.entries
   room_less r less near =
       elim (cases_lt k.plan.entries (length k.rows + 4130)) [
         | inl before ↦ omega (arith, was.room before, less)

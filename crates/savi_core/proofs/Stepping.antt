@@ -1,10 +1,10 @@
 -- What a core keeps after each kind of event.
-use Rattle.std.proofs.Common.{ℕ, ◌≡◌, ◌≢◌, ◌+◌, ◌^◌, ◌<◌, ◌≤◌, ◌==◌, ◌&&◌, ◌||◌, not, Bool, true, false, List, [], ◌∷◌, ◌++◌, length, map, get_or, set, drop, cond, inl, inr, refl, sym, ap, subst, ◌∙◌, arith, length-drop, length-set, get_or-set_same, get_or-set_other}
+use Rattle.std.proofs.Common.{ℕ, ◌≡◌, ◌≢◌, ◌+◌, ◌^◌, ◌<◌, ◌≤◌, ◌==◌, ◌&&◌, ◌||◌, Bool, true, false, List, [], ◌∷◌, ◌++◌, length, map, get_or, set, drop, cond, inl, inr, refl, sym, ap, subst, ◌∙◌, arith, length-drop, length-set, get_or-set_same, get_or-set_other}
 use Rattle.std.specs.Prelude.{All, reverse}
 use Rattle.std.specs.List.{filter}
 use Rattle.std.proofs.lemmas.List.{map-set}
 use Rattle.std.proofs.lemmas.List.Elements.{All-weaker, All-map, All-set, filter_agree}
-use Rattle.std.proofs.lemmas.Bool.{cases_lt, cases_eq, cases_Bool, eq-eqb, ne_eqb, and_parts, not-true, leb-false, or_left, or_right, cond-true, cond-false}
+use Rattle.std.proofs.lemmas.Bool.{cases_eq, cases_Bool, eq-eqb, ne_eqb, or_left, or_right, cond-true, cond-false}
 use Rattle.savi_kinds.specs.declared.plan.Plan.{Plan}
 use Rattle.savi_kinds.specs.declared.port.Port.{Port}
 use Rattle.savi_kinds.specs.declared.entry.Entry.{Entry}
@@ -13,7 +13,6 @@ use Rattle.savi_kinds.specs.declared.entry.Act.TheVariants as acts
 use Rattle.savi_kinds.specs.declared.entry.Who.{Who}
 use Rattle.savi_kinds.specs.declared.entry.Who.TheVariants.{Ingress, Control, Ticker, Egress}
 use Rattle.savi_kinds.specs.declared.entry.How.{How}
-use Rattle.savi_kinds.specs.declared.entry.How.TheVariants as hows
 use Rattle.savi_kinds.specs.Ports.{number_of}
 use Rattle.savi_kinds.specs.declared.port.PortSet.{PortSet}
 use Rattle.savi_kinds.specs.PortSets.{is_member, set_of}
@@ -21,7 +20,6 @@ use Rattle.savi_kinds.specs.ValidPlan.{numbers_of}
 use Rattle.egress_ring.specs.declared.item.Item.{Item as Queued}
 use Rattle.egress_ring.specs.declared.item.Item.TheVariants as queued
 use Rattle.hist_store.specs.Rows.{Row, held}
-use Rattle.savi_history.specs.Bases.{empty}
 use Rattle.savi_history.specs.Passes.{has_ended, has_port, pass_of, egress_pass, place_of, pass_count, is_end}
 use Rattle.savi_history.specs.Limits.{has_room}
 use Rattle.savi_history.specs.Queues.{Item, item_of, queue, waiting_after, is_closed, cuts}
@@ -31,7 +29,7 @@ use Rattle.savi_history.proofs.Offered.{closed_off}
 use Rattle.savi_history.specs.Events as events
 use Rattle.savi_history.specs.Events.{Event, row_of}
 use Rattle.savi_history.specs.Legal.{IsOpen, MayCome}
-use Rattle.savi_core.specs.Machines.{Machine, number_at, with_event}
+use Rattle.savi_core.specs.Machines.{Machine, base_of, with_event}
 use Rattle.savi_core.specs.Steps.{MayStep}
 use Rattle.savi_core.specs.Counts.{still_to_come, open_below}
 use Rattle.savi_core.specs.Lanes.{Lane, with_frame, is_cut, cut_at, with_drained, with_ended, no_lane, lane_of, AreEnded}
@@ -50,19 +48,19 @@ abbrev pub machine : Plan → List Row → Machine
 machine plan past = record { plan = plan; past = past }
 
 -- an input that may be put to a switch with room may come
-pub may_long : (m : Machine) (port : Port) (stamp len : ℕ) → MayStep m (events.Long port stamp len) → has_room m.plan m.past ≡ true → stamp < 2 ^ 64 → len < 2 ^ 32 → MayCome m.plan empty m.past (events.Long port stamp len)
+pub may_long : (m : Machine) (port : Port) (stamp len : ℕ) → MayStep m (events.Long port stamp len) → has_room m.plan m.past ≡ true → stamp < 2 ^ 64 → len < 2 ^ 32 → MayCome m.plan (base_of m) m.past (events.Long port stamp len)
 may_long m port stamp len may room fits len_fits = (record { open_pass = may.0; room = room; fits = fits }, may.1, len_fits)
 
-pub may_frame : (m : Machine) (port : Port) (stamp : ℕ) (octets : List ℕ) → MayStep m (events.Frame port stamp octets) → has_room m.plan m.past ≡ true → stamp < 2 ^ 64 → MayCome m.plan empty m.past (events.Frame port stamp octets)
+pub may_frame : (m : Machine) (port : Port) (stamp : ℕ) (octets : List ℕ) → MayStep m (events.Frame port stamp octets) → has_room m.plan m.past ≡ true → stamp < 2 ^ 64 → MayCome m.plan (base_of m) m.past (events.Frame port stamp octets)
 may_frame m port stamp octets may room fits = (record { open_pass = may.0; room = room; fits = fits }, may.1)
 
 -- a switch with the row of an event behind the others, as a contract says it
-pub stepped_view : (plan : Plan) (rows : List Row) (e : Entry) (octets : List ℕ) (event : Event) (m : Machine) → machine plan (reverse rows) ≡ m → row e octets ≡ row_of plan empty (reverse rows) event → machine plan (reverse (rows ++ row e octets ∷ [])) ≡ with_event m event
+pub stepped_view : (plan : Plan) (rows : List Row) (e : Entry) (octets : List ℕ) (event : Event) (m : Machine) → machine plan (reverse rows) ≡ m → row e octets ≡ row_of plan (base_of (machine plan (reverse rows))) (reverse rows) event → machine plan (reverse (rows ++ row e octets ∷ [])) ≡ with_event m event
 stepped_view plan rows e octets event m view is_row =
     ap (machine plan) (reverse_push rows (row e octets) ∙ ap (λ (r : Row). r ∷ reverse rows) is_row) ∙ ap (λ (x : Machine). with_event x event) view
 
 module _ {k : Kept} (was : Remembers k) where
-  pub remembers_long : (port : Port) (stamp len : ℕ) (e : Entry) → MayCome k.plan empty (reverse k.rows) (events.Long port stamp len) → e ≡ (row_of k.plan empty (reverse k.rows) (events.Long port stamp len)).entry
+  pub remembers_long : (port : Port) (stamp len : ℕ) (e : Entry) → MayCome k.plan k.base (reverse k.rows) (events.Long port stamp len) → e ≡ (row_of k.plan k.base (reverse k.rows) (events.Long port stamp len)).entry
       → Remembers (record k { rows = k.rows ++ row e [] ∷ []; moment = e.moment })
   remembers_long port stamp len e may e_is =
       let r = row e [] in
@@ -74,24 +72,24 @@ module _ {k : Kept} (was : Remembers k) where
         queues =
             same_at (HoldsFrames k.rows) (shown_lane k.rows) (shown_lane (k.rows ++ row e [] ∷ [])) (λ lane frames. shown_more k.rows (row e []) lane frames) k.lanes was.frames
             ∙ was.queues
-            ∙ map_all (lane_of k.plan (reverse k.rows)) (lane_of k.plan (row e [] ∷ reverse k.rows)) (numbers_of k.plan.ports)
-            (λ n within. lane_long k.plan (reverse k.rows) (row e []) (get_or (numbers_of k.plan.ports) n 0) was.off port stamp len act_is);
+            ∙ map_all (lane_of k.plan k.base (reverse k.rows)) (lane_of k.plan k.base (row e [] ∷ reverse k.rows)) (numbers_of k.plan.ports)
+            (λ n within. lane_long k.plan k.base (reverse k.rows) (row e []) (get_or (numbers_of k.plan.ports) n 0) was.off port stamp len act_is);
         octets = omega (arith, was.octets);
         room = λ near. absurd (omega (arith, near, (room_for was may.0.room).0));
       })
 
   -- the ports where a frame is left out
-  pub cuts_are : (port : Port) (stamp : ℕ) (octets : List ℕ) (outs : PortSet) → cut_at outs k.lanes ≡ cuts k.plan empty (reverse k.rows) (events.frame_act (reverse k.rows) port stamp octets) octets outs
+  pub cuts_are : (port : Port) (stamp : ℕ) (octets : List ℕ) (outs : PortSet) → cut_at outs k.lanes ≡ cuts k.plan k.base (reverse k.rows) (events.frame_act (reverse k.rows) port stamp octets) octets outs
   cuts_are port stamp octets outs =
       let act = events.frame_act (reverse k.rows) port stamp octets in
       ap set_of
       (cuts_shown k.rows outs k.lanes
       ∙ ap (λ (lanes : List (Lane Item)). map (λ (x : Lane Item). x.number) (filter (is_cut outs) lanes)) was.queues
-      ∙ cuts_numbers k.plan (reverse k.rows) outs (numbers_of k.plan.ports)
-      ∙ filter_agree (λ (q : ℕ). is_cut outs (lane_of k.plan (reverse k.rows) q)) (λ (q : ℕ). is_member outs q && is_closed k.plan empty (reverse k.rows) (events.frame_act (reverse k.rows) port stamp octets) octets q)
-      (λ q. ap (λ (b : Bool). is_member outs q && b) (sym (closed_off k.plan empty (reverse k.rows) (events.frame_act (reverse k.rows) port stamp octets) octets was.off q))) (numbers_of k.plan.ports))
+      ∙ cuts_numbers k.plan k.base (reverse k.rows) outs (numbers_of k.plan.ports)
+      ∙ filter_agree (λ (q : ℕ). is_cut outs (lane_of k.plan k.base (reverse k.rows) q)) (λ (q : ℕ). is_member outs q && is_closed k.plan k.base (reverse k.rows) (events.frame_act (reverse k.rows) port stamp octets) octets q)
+      (λ q. ap (λ (b : Bool). is_member outs q && b) (sym (closed_off k.plan k.base (reverse k.rows) (events.frame_act (reverse k.rows) port stamp octets) octets was.off q))) (numbers_of k.plan.ports))
 
-  pub remembers_frame : (port : Port) (stamp : ℕ) (octets : List ℕ) (e : Entry) (lanes' : List (Lane Queued)) → MayCome k.plan empty (reverse k.rows) (events.Frame port stamp octets) → e ≡ (row_of k.plan empty (reverse k.rows) (events.Frame port stamp octets)).entry
+  pub remembers_frame : (port : Port) (stamp : ℕ) (octets : List ℕ) (e : Entry) (lanes' : List (Lane Queued)) → MayCome k.plan k.base (reverse k.rows) (events.Frame port stamp octets) → e ≡ (row_of k.plan k.base (reverse k.rows) (events.Frame port stamp octets)).entry
       → lanes' ≡ map (with_frame (queued.Frame (length k.rows)) e.outs) k.lanes → Remembers (record k { rows = k.rows ++ row e octets ∷ []; moment = e.moment; lanes = lanes' })
   remembers_frame port stamp octets e lanes' may e_is are =
       let r = row e octets in
@@ -110,17 +108,17 @@ module _ {k : Kept} (was : Remembers k) where
             ∙ across (HoldsFrames k.rows) (shown_lane k.rows) (shown_lane (k.rows ++ row e octets ∷ [])) (with_frame (queued.Frame (length k.rows)) e.outs) (with_frame (item_of (row e octets)) e.outs)
             (λ lane frames. shown_framed k.rows (row e octets) e.outs lane frames) k.lanes was.frames
             ∙ ap (map (with_frame (item_of (row e octets)) e.outs)) was.queues
-            ∙ map_twice (lane_of k.plan (reverse k.rows)) (with_frame (item_of (row e octets)) e.outs) (lane_of k.plan (row e octets ∷ reverse k.rows))
-            (λ q. lane_framed k.plan (reverse k.rows) (row e octets) q was.off port stamp (held (reverse k.rows)) (length octets) act_is) (numbers_of k.plan.ports);
+            ∙ map_twice (lane_of k.plan k.base (reverse k.rows)) (with_frame (item_of (row e octets)) e.outs) (lane_of k.plan k.base (row e octets ∷ reverse k.rows))
+            (λ q. lane_framed k.plan k.base (reverse k.rows) (row e octets) q was.off port stamp (held (reverse k.rows)) (length octets) act_is) (numbers_of k.plan.ports);
         octets = omega (arith, room.1, may.1);
         room = λ near. absurd (omega (arith, near, room.0));
       })
 
   -- one lane has changed to that of the new row, and the others are as they were
   one_lane : (r : Row) (number p : ℕ) (v : Lane Queued) → has_port k.plan number ≡ true → p ≡ place_of k.plan number
-      → shown_lane (k.rows ++ r ∷ []) v ≡ lane_of k.plan (r ∷ reverse k.rows) number
-      → ((q : ℕ) → has_port k.plan q ≡ true → q ≢ number → lane_of k.plan (reverse k.rows) q ≡ lane_of k.plan (r ∷ reverse k.rows) q)
-      → map (shown_lane (k.rows ++ r ∷ [])) (set k.lanes p v) ≡ map (lane_of k.plan (r ∷ reverse k.rows)) (numbers_of k.plan.ports)
+      → shown_lane (k.rows ++ r ∷ []) v ≡ lane_of k.plan k.base (r ∷ reverse k.rows) number
+      → ((q : ℕ) → has_port k.plan q ≡ true → q ≢ number → lane_of k.plan k.base (reverse k.rows) q ≡ lane_of k.plan k.base (r ∷ reverse k.rows) q)
+      → map (shown_lane (k.rows ++ r ∷ [])) (set k.lanes p v) ≡ map (lane_of k.plan k.base (r ∷ reverse k.rows)) (numbers_of k.plan.ports)
   one_lane r number p v known place_is here others =
       let numbers = numbers_of k.plan.ports in
       let place = placed k.plan number known in
@@ -129,8 +127,8 @@ module _ {k : Kept} (was : Remembers k) where
       map-set (shown_lane (k.rows ++ r ∷ [])) k.lanes p v
       ∙ ap (λ (lanes : List (Lane Item)). set lanes p (shown_lane (k.rows ++ r ∷ []) v))
       (same_at (HoldsFrames k.rows) (shown_lane k.rows) (shown_lane (k.rows ++ r ∷ [])) (λ lane frames. shown_more k.rows r lane frames) k.lanes was.frames ∙ was.queues)
-      ∙ ap (λ (lane : Lane Item). set (map (lane_of k.plan (reverse k.rows)) (numbers_of k.plan.ports)) p lane) (here ∙ ap (lane_of k.plan (r ∷ reverse k.rows)) (sym at))
-      ∙ one_changed (lane_of k.plan (reverse k.rows)) (lane_of k.plan (r ∷ reverse k.rows)) (numbers_of k.plan.ports) p within
+      ∙ ap (λ (lane : Lane Item). set (map (lane_of k.plan k.base (reverse k.rows)) (numbers_of k.plan.ports)) p lane) (here ∙ ap (lane_of k.plan k.base (r ∷ reverse k.rows)) (sym at))
+      ∙ one_changed (lane_of k.plan k.base (reverse k.rows)) (lane_of k.plan k.base (r ∷ reverse k.rows)) (numbers_of k.plan.ports) p within
       (λ n inside other. others (get_or (numbers_of k.plan.ports) n 0) (known_at k.plan n (omega (arith, inside, length-numbers k.plan.ports))) (λ same. apart (numbers_of k.plan.ports) n p was.valid.ports inside within other (same ∙ sym at)))
 
   frames_set : (r : Row) (p : ℕ) (v : Lane Queued) → HoldsFrames (k.rows ++ r ∷ []) v → All (HoldsFrames (k.rows ++ r ∷ [])) (set k.lanes p v)
@@ -144,29 +142,29 @@ module _ {k : Kept} (was : Remembers k) where
   pub frames_in : (number p : ℕ) (d : Lane Queued) → has_port k.plan number ≡ true → p ≡ place_of k.plan number → HoldsFrames k.rows (get_or k.lanes p d)
   frames_in number p d known place_is = was.frames p d (lane_in number p known place_is)
 
-  drained_fewer : (r : Row) (port : Port) (count : ℕ) → r.entry.act ≡ acts.Drain port count → (number : ℕ) → length (queue k.plan empty number (r ∷ reverse k.rows)) ≤ length (queue k.plan empty number (reverse k.rows))
+  drained_fewer : (r : Row) (port : Port) (count : ℕ) → r.entry.act ≡ acts.Drain port count → (number : ℕ) → length (queue k.plan k.base number (r ∷ reverse k.rows)) ≤ length (queue k.plan k.base number (reverse k.rows))
   drained_fewer r port count act_is number =
-      let waited = queue k.plan empty number (reverse k.rows) in
-      let step : queue k.plan empty number (r ∷ reverse k.rows) ≡ cond (number_of port == number) (drop count waited) waited = ap (λ (a : Act). waiting_after k.plan empty (reverse k.rows) number r a waited) act_is in
+      let waited = queue k.plan k.base number (reverse k.rows) in
+      let step : queue k.plan k.base number (r ∷ reverse k.rows) ≡ cond (number_of port == number) (drop count waited) waited = ap (λ (a : Act). waiting_after k.plan k.base (reverse k.rows) number r a waited) act_is in
       elim (cases_Bool (number_of port == number)) [
         | inl here ↦ omega (arith, ap length (step ∙ cond-true _ _ _ here), length-drop count waited)
         | inr elsewhere ↦ omega (arith, ap length (step ∙ cond-false _ _ _ elsewhere))
       ]
 
-  pub drain_less : (r : Row) (port : Port) (count : ℕ) → r.entry.act ≡ acts.Drain port count → has_port k.plan (number_of port) ≡ true → 1 ≤ count → count ≤ length (queue k.plan empty (number_of port) (reverse k.rows)) → still_to_come k.plan (r ∷ reverse k.rows) + 1 ≤ still_to_come k.plan (reverse k.rows)
+  pub drain_less : (r : Row) (port : Port) (count : ℕ) → r.entry.act ≡ acts.Drain port count → has_port k.plan (number_of port) ≡ true → 1 ≤ count → count ≤ length (queue k.plan k.base (number_of port) (reverse k.rows)) → still_to_come k.plan k.base (r ∷ reverse k.rows) + 1 ≤ still_to_come k.plan k.base (reverse k.rows)
   drain_less r port count act_is known least most =
       let place = placed k.plan (number_of port) known in
       let number = number_of port in
-      let waited = queue k.plan empty number (reverse k.rows) in
-      let step : queue k.plan empty number (r ∷ reverse k.rows) ≡ drop count waited = ap (λ (a : Act). waiting_after k.plan empty (reverse k.rows) number r a waited) act_is ∙ cond-true _ _ _ (eq-eqb number number refl) in
-      let fewer : length (queue k.plan empty number (r ∷ reverse k.rows)) < length waited = omega (arith, ap length step, length-drop count waited, least, most) in
-      let at_place : length (queue k.plan empty (get_or (numbers_of k.plan.ports) (place_of k.plan number) 0) (r ∷ reverse k.rows)) < length (queue k.plan empty (get_or (numbers_of k.plan.ports) (place_of k.plan number) 0) (reverse k.rows)) =
-      subst (λ n. length (queue k.plan empty n (r ∷ reverse k.rows)) < length (queue k.plan empty n (reverse k.rows))) (sym place.number_is) fewer in
-      let opened : open_below (r ∷ reverse k.rows) (pass_count k.plan) ≤ open_below (reverse k.rows) (pass_count k.plan) =
-      open_below-later (reverse k.rows) (r ∷ reverse k.rows) (λ pass before. or_right _ _ before) (pass_count k.plan) in
-      omega (arith, opened, waiting_at-taken k.plan (reverse k.rows) (r ∷ reverse k.rows) (drained_fewer r port count act_is) (numbers_of k.plan.ports) (place_of k.plan number) place.within at_place)
+      let waited = queue k.plan k.base number (reverse k.rows) in
+      let step : queue k.plan k.base number (r ∷ reverse k.rows) ≡ drop count waited = ap (λ (a : Act). waiting_after k.plan k.base (reverse k.rows) number r a waited) act_is ∙ cond-true _ _ _ (eq-eqb number number refl) in
+      let fewer : length (queue k.plan k.base number (r ∷ reverse k.rows)) < length waited = omega (arith, ap length step, length-drop count waited, least, most) in
+      let at_place : length (queue k.plan k.base (get_or (numbers_of k.plan.ports) (place_of k.plan number) 0) (r ∷ reverse k.rows)) < length (queue k.plan k.base (get_or (numbers_of k.plan.ports) (place_of k.plan number) 0) (reverse k.rows)) =
+      subst (λ n. length (queue k.plan k.base n (r ∷ reverse k.rows)) < length (queue k.plan k.base n (reverse k.rows))) (sym place.number_is) fewer in
+      let opened : open_below k.base (r ∷ reverse k.rows) (pass_count k.plan) ≤ open_below k.base (reverse k.rows) (pass_count k.plan) =
+      open_below-later k.base (reverse k.rows) (r ∷ reverse k.rows) (λ pass before. or_right _ _ before) (pass_count k.plan) in
+      omega (arith, opened, waiting_at-taken k.plan k.base (reverse k.rows) (r ∷ reverse k.rows) (drained_fewer r port count act_is) (numbers_of k.plan.ports) (place_of k.plan number) place.within at_place)
 
-  pub remembers_drain : (port : Port) (count p : ℕ) (d : Lane Queued) (e : Entry) (lanes' : List (Lane Queued)) → MayCome k.plan empty (reverse k.rows) (events.Drain port count) → e ≡ (row_of k.plan empty (reverse k.rows) (events.Drain port count)).entry → p ≡ place_of k.plan (number_of port)
+  pub remembers_drain : (port : Port) (count p : ℕ) (d : Lane Queued) (e : Entry) (lanes' : List (Lane Queued)) → MayCome k.plan k.base (reverse k.rows) (events.Drain port count) → e ≡ (row_of k.plan k.base (reverse k.rows) (events.Drain port count)).entry → p ≡ place_of k.plan (number_of port)
       → lanes' ≡ set k.lanes p (with_drained count (get_or k.lanes p d)) → Remembers (record k { rows = k.rows ++ row e [] ∷ []; moment = e.moment; lanes = lanes' })
   remembers_drain port count p d e lanes' may e_is place_is are =
       let number = number_of port in
@@ -182,42 +180,42 @@ module _ {k : Kept} (was : Remembers k) where
             ∙ one_lane (row e []) (number_of port) p (with_drained count (get_or k.lanes p d)) may.0.known place_is
             (shown_drained k.rows (row e []) count (get_or k.lanes p d) frames
             ∙ ap (with_drained count) (lane_at was (number_of port) p d may.0.known place_is)
-            ∙ lane_drained k.plan (reverse k.rows) (row e []) port count act_is)
-            (λ q known other. lane_elsewhere k.plan (reverse k.rows) (row e []) q port count act_is (λ same. other (sym same)));
+            ∙ lane_drained k.plan k.base (reverse k.rows) (row e []) port count act_is)
+            (λ q known other. lane_elsewhere k.plan k.base (reverse k.rows) (row e []) q port count act_is (λ same. other (sym same)));
         octets = omega (arith, was.octets);
         room = room_less was (row e []) (drain_less (row e []) port count act_is may.0.known may.1 may.2);
       })
 
-  pub end_less : (r : Row) (who : Who) (how : How) → r.entry.act ≡ acts.End who how → r.entry.by ≡ pass_of k.plan who → pass_of k.plan who < pass_count k.plan → has_ended empty (pass_of k.plan who) (reverse k.rows) ≡ false → still_to_come k.plan (r ∷ reverse k.rows) + 1 ≤ still_to_come k.plan (reverse k.rows)
+  pub end_less : (r : Row) (who : Who) (how : How) → r.entry.act ≡ acts.End who how → r.entry.by ≡ pass_of k.plan who → pass_of k.plan who < pass_count k.plan → has_ended k.base (pass_of k.plan who) (reverse k.rows) ≡ false → still_to_come k.plan k.base (r ∷ reverse k.rows) + 1 ≤ still_to_come k.plan k.base (reverse k.rows)
   end_less r who how act_is by_is within runs =
       let pass = pass_of k.plan who in
-      let now_ended : has_ended empty pass (r ∷ reverse k.rows) ≡ true =
+      let now_ended : has_ended k.base pass (r ∷ reverse k.rows) ≡ true =
       or_left _ _ (ap (λ (a : Act). is_end a && (r.entry.by == pass)) act_is ∙ eq-eqb r.entry.by pass by_is) in
-      let fewer : (number : ℕ) → length (queue k.plan empty number (r ∷ reverse k.rows)) ≤ length (queue k.plan empty number (reverse k.rows)) =
-      λ number. omega (arith, ap length (ap (λ (a : Act). waiting_after k.plan empty (reverse k.rows) number r a (queue k.plan empty number (reverse k.rows))) act_is), ended_fewer k.plan empty (reverse k.rows) number r who how (queue k.plan empty number (reverse k.rows))) in
+      let fewer : (number : ℕ) → length (queue k.plan k.base number (r ∷ reverse k.rows)) ≤ length (queue k.plan k.base number (reverse k.rows)) =
+      λ number. omega (arith, ap length (ap (λ (a : Act). waiting_after k.plan k.base (reverse k.rows) number r a (queue k.plan k.base number (reverse k.rows))) act_is), ended_fewer k.plan k.base (reverse k.rows) number r who how (queue k.plan k.base number (reverse k.rows))) in
       omega (
         arith,
-        waiting_at-later k.plan (reverse k.rows) (r ∷ reverse k.rows) fewer (numbers_of k.plan.ports),
-        open_below-ended (reverse k.rows) (r ∷ reverse k.rows) (λ q before. or_right _ _ before) pass (pass_count k.plan) within runs now_ended,
+        waiting_at-later k.plan k.base (reverse k.rows) (r ∷ reverse k.rows) fewer (numbers_of k.plan.ports),
+        open_below-ended k.base (reverse k.rows) (r ∷ reverse k.rows) (λ q before. or_right _ _ before) pass (pass_count k.plan) within runs now_ended,
       )
 
   -- the end of a pass that is open fits
-  pub end_fits : (who : Who) → IsOpen k.plan empty (reverse k.rows) who → length k.rows < k.plan.entries
+  pub end_fits : (who : Who) → IsOpen k.plan k.base (reverse k.rows) who → length k.rows < k.plan.entries
   end_fits who open_pass =
       fits was
-      (omega (arith, open_below-some (reverse k.rows) (pass_of k.plan who) (pass_count k.plan) (pass_within k.plan who open_pass.known) open_pass.running))
+      (omega (arith, open_below-some k.base (reverse k.rows) (pass_of k.plan who) (pass_count k.plan) (pass_within k.plan who open_pass.known) open_pass.running))
 
   -- a drain of something fits
-  pub drain_fits : (number : ℕ) → has_port k.plan number ≡ true → 0 < length (queue k.plan empty number (reverse k.rows)) → length k.rows < k.plan.entries
+  pub drain_fits : (number : ℕ) → has_port k.plan number ≡ true → 0 < length (queue k.plan k.base number (reverse k.rows)) → length k.rows < k.plan.entries
   drain_fits number known some =
       let place = placed k.plan number known in
-      let there : 0 < length (queue k.plan empty (get_or (numbers_of k.plan.ports) (place_of k.plan number) 0) (reverse k.rows)) =
-      subst (λ n. 0 < length (queue k.plan empty n (reverse k.rows))) (sym place.number_is) some in
-      fits was (omega (arith, waiting_at-some k.plan (reverse k.rows) (numbers_of k.plan.ports) (place_of k.plan number) place.within there))
+      let there : 0 < length (queue k.plan k.base (get_or (numbers_of k.plan.ports) (place_of k.plan number) 0) (reverse k.rows)) =
+      subst (λ n. 0 < length (queue k.plan k.base n (reverse k.rows))) (sym place.number_is) some in
+      fits was (omega (arith, waiting_at-some k.plan k.base (reverse k.rows) (numbers_of k.plan.ports) (place_of k.plan number) place.within there))
 
   -- an end of a pass, and the lanes behind it
-  remembers_end : (who : Who) (how : How) (e : Entry) (ended' : List Bool) (lanes' : List (Lane Queued)) → MayCome k.plan empty (reverse k.rows) (events.End who how) → e ≡ (row_of k.plan empty (reverse k.rows) (events.End who how)).entry → ended' ≡ set k.ended e.by true
-      → All (HoldsFrames (k.rows ++ row e [] ∷ [])) lanes' → map (shown_lane (k.rows ++ row e [] ∷ [])) lanes' ≡ map (lane_of k.plan (row e [] ∷ reverse k.rows)) (numbers_of k.plan.ports)
+  remembers_end : (who : Who) (how : How) (e : Entry) (ended' : List Bool) (lanes' : List (Lane Queued)) → MayCome k.plan k.base (reverse k.rows) (events.End who how) → e ≡ (row_of k.plan k.base (reverse k.rows) (events.End who how)).entry → ended' ≡ set k.ended e.by true
+      → All (HoldsFrames (k.rows ++ row e [] ∷ [])) lanes' → map (shown_lane (k.rows ++ row e [] ∷ [])) lanes' ≡ map (lane_of k.plan k.base (row e [] ∷ reverse k.rows)) (numbers_of k.plan.ports)
       → Remembers (record k { rows = k.rows ++ row e [] ∷ []; moment = e.moment; ended = ended'; lanes = lanes' })
   remembers_end who how e ended' lanes' may e_is ended_is frames_now queues_now =
       let act_is : e.act ≡ acts.End who how = ap (λ (x : Entry). x.act) e_is in
@@ -243,7 +241,7 @@ module _ {k : Kept} (was : Remembers k) where
       })
 
   -- the end of an input or of the ticker leaves the lanes
-  remembers_input : (who : Who) (how : How) (e : Entry) (ended' : List Bool) → MayCome k.plan empty (reverse k.rows) (events.End who how) → e ≡ (row_of k.plan empty (reverse k.rows) (events.End who how)).entry → ended' ≡ set k.ended e.by true → IsNoEgress who
+  remembers_input : (who : Who) (how : How) (e : Entry) (ended' : List Bool) → MayCome k.plan k.base (reverse k.rows) (events.End who how) → e ≡ (row_of k.plan k.base (reverse k.rows) (events.End who how)).entry → ended' ≡ set k.ended e.by true → IsNoEgress who
       → Remembers (record k { rows = k.rows ++ row e [] ∷ []; moment = e.moment; ended = ended' })
   remembers_input who how e ended' may e_is ended_is no_egress =
       let act_is : e.act ≡ acts.End who how = ap (λ (x : Entry). x.act) e_is in
@@ -252,11 +250,11 @@ module _ {k : Kept} (was : Remembers k) where
       (All-weaker (HoldsFrames k.rows) (HoldsFrames (k.rows ++ row e [] ∷ [])) (λ lane frames. frames_still k.rows (row e []) lane frames) k.lanes was.frames)
       (same_at (HoldsFrames k.rows) (shown_lane k.rows) (shown_lane (k.rows ++ row e [] ∷ [])) (λ lane frames. shown_more k.rows (row e []) lane frames) k.lanes was.frames
       ∙ was.queues
-      ∙ map_all (lane_of k.plan (reverse k.rows)) (lane_of k.plan (row e [] ∷ reverse k.rows)) (numbers_of k.plan.ports)
-      (λ n within. lane_behind_input k.plan (reverse k.rows) (row e []) (get_or (numbers_of k.plan.ports) n 0) who how act_is by_is no_egress may.0.known))
+      ∙ map_all (lane_of k.plan k.base (reverse k.rows)) (lane_of k.plan k.base (row e [] ∷ reverse k.rows)) (numbers_of k.plan.ports)
+      (λ n within. lane_behind_input k.plan k.base (reverse k.rows) (row e []) (get_or (numbers_of k.plan.ports) n 0) who how act_is by_is no_egress may.0.known))
 
   -- the end of an egress ends its lane
-  remembers_egress : (port : Port) (how : How) (p : ℕ) (d : Lane Queued) (e : Entry) (ended' : List Bool) (lanes' : List (Lane Queued)) → MayCome k.plan empty (reverse k.rows) (events.End (Egress port) how) → e ≡ (row_of k.plan empty (reverse k.rows) (events.End (Egress port) how)).entry
+  remembers_egress : (port : Port) (how : How) (p : ℕ) (d : Lane Queued) (e : Entry) (ended' : List Bool) (lanes' : List (Lane Queued)) → MayCome k.plan k.base (reverse k.rows) (events.End (Egress port) how) → e ≡ (row_of k.plan k.base (reverse k.rows) (events.End (Egress port) how)).entry
       → ended' ≡ set k.ended e.by true → p ≡ place_of k.plan (number_of port) → lanes' ≡ set k.lanes p (with_ended how (get_or k.lanes p d)) → Remembers (record k { rows = k.rows ++ row e [] ∷ []; moment = e.moment; ended = ended'; lanes = lanes' })
   remembers_egress port how p d e ended' lanes' may e_is ended_is place_is are =
       let act_is : e.act ≡ acts.End (Egress port) how = ap (λ (x : Entry). x.act) e_is in
@@ -268,11 +266,11 @@ module _ {k : Kept} (was : Remembers k) where
       ∙ one_lane (row e []) (number_of port) p (with_ended how (get_or k.lanes p d)) may.0.known place_is
       (shown_ended k.rows (row e []) how (get_or k.lanes p d) frames
       ∙ ap (with_ended how) (lane_at was (number_of port) p d may.0.known place_is)
-      ∙ lane_ended k.plan (reverse k.rows) (row e []) port how act_is by_is)
-      (λ q known other. lane_apart k.plan (reverse k.rows) (row e []) q port how act_is by_is may.0.known known (λ same. other (sym same))))
+      ∙ lane_ended k.plan k.base (reverse k.rows) (row e []) port how act_is by_is)
+      (λ q known other. lane_apart k.plan k.base (reverse k.rows) (row e []) q port how act_is by_is may.0.known known (λ same. other (sym same))))
 
   -- the end of a pass ends the lane of a port whose egress it is
-  pub remembers_pass : (who : Who) (how : How) (e : Entry) (ended' : List Bool) (lanes' : List (Lane Queued)) → MayCome k.plan empty (reverse k.rows) (events.End who how) → e ≡ (row_of k.plan empty (reverse k.rows) (events.End who how)).entry
+  pub remembers_pass : (who : Who) (how : How) (e : Entry) (ended' : List Bool) (lanes' : List (Lane Queued)) → MayCome k.plan k.base (reverse k.rows) (events.End who how) → e ≡ (row_of k.plan k.base (reverse k.rows) (events.End who how)).entry
       → ended' ≡ set k.ended e.by true → AreEnded k.plan who how k.lanes lanes' → Remembers (record k { rows = k.rows ++ row e [] ∷ []; moment = e.moment; ended = ended'; lanes = lanes' })
   remembers_pass (Ingress port) how e ended' lanes' may e_is ended_is are = rw are (remembers_input (Ingress port) how e ended' may e_is ended_is tt)
   remembers_pass Control how e ended' lanes' may e_is ended_is are = rw are (remembers_input Control how e ended' may e_is ended_is tt)

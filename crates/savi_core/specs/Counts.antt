@@ -3,19 +3,19 @@ use Rattle.std.specs.Prelude.{ℕ, zero, suc, ◌+◌, if◌then◌else◌, List
 use Rattle.savi_kinds.specs.declared.plan.Plan.{Plan}
 use Rattle.savi_kinds.specs.ValidPlan.{numbers_of}
 use Rattle.hist_store.specs.Rows.{Row}
-use Rattle.savi_history.specs.Bases.{empty}
+use Rattle.savi_history.specs.Bases.{Base}
 use Rattle.savi_history.specs.Passes.{has_ended, pass_count}
 use Rattle.savi_history.specs.Queues.{queue}
 
 -- how many of the passes below a number haven't ended
-abbrev pub open_below : List Row → ℕ → ℕ
-open_below past zero = 0
-open_below past (suc n) = open_below past n + (if has_ended empty n past then 0 else 1)
+abbrev pub open_below : Base → List Row → ℕ → ℕ
+open_below base past zero = 0
+open_below base past (suc n) = open_below base past n + (if has_ended base n past then 0 else 1)
 
 -- how many items wait at these ports
-abbrev pub waiting_at : Plan → List Row → List ℕ → ℕ
-waiting_at plan past [] = 0
-waiting_at plan past (n ∷ ns) = length (queue plan empty n past) + waiting_at plan past ns
+abbrev pub waiting_at : Plan → Base → List Row → List ℕ → ℕ
+waiting_at plan base past [] = 0
+waiting_at plan base past (n ∷ ns) = length (queue plan base n past) + waiting_at plan base past ns
 
-abbrev pub still_to_come : Plan → List Row → ℕ
-still_to_come plan past = waiting_at plan past (numbers_of plan.ports) + open_below past (pass_count plan)
+abbrev pub still_to_come : Plan → Base → List Row → ℕ
+still_to_come plan base past = waiting_at plan base past (numbers_of plan.ports) + open_below base past (pass_count plan)

@@ -12,7 +12,7 @@ use Rattle.savi_kinds.specs.declared.entry.How.TheVariants as hows
 use Rattle.savi_kinds.specs.Ports.{number_of}
 use Rattle.savi_kinds.specs.PortSets.{is_member, set_of}
 use Rattle.hist_store.specs.Rows.{Row}
-use Rattle.savi_history.specs.Bases.{empty}
+use Rattle.savi_history.specs.Bases.{Base}
 use Rattle.savi_history.specs.Passes.{place_of}
 use Rattle.savi_history.specs.Queues.{Item, room_at, queue}
 
@@ -58,8 +58,8 @@ with_ended hows.Failed lane = record lane { room = 0; items = [] }
 with_ended how lane = record lane { room = 0 }
 
 -- the lane of a port by the history
-abbrev pub lane_of : Plan → List Row → ℕ → Lane Item
-lane_of plan past q = record { number = q; room = room_at plan empty past q; items = queue plan empty q past }
+abbrev pub lane_of : Plan → Base → List Row → ℕ → Lane Item
+lane_of plan base past q = record { number = q; room = room_at plan base past q; items = queue plan base q past }
 
 -- a lane of no port, as what stands outside of a list of lanes
 abbrev pub no_lane : {A : Type 0} → Lane A

@@ -1,6 +1,8 @@
 pub mod Batches
 pub mod Machines
 pub mod Steps
+pub mod PortTables
+pub mod PassMarks
 pub mod Lanes
 pub mod Waits
 pub mod Counts

@@ -5,7 +5,7 @@ use Rattle.savi_kinds.specs.declared.port.Port.{Port}
 use Rattle.savi_kinds.specs.Ports.{number_of}
 use Rattle.savi_kinds.specs.ValidPlan.{numbers_of}
 use Rattle.hist_store.specs.Rows.{Row}
-use Rattle.savi_history.specs.Bases.{empty}
+use Rattle.savi_history.specs.Bases.{Base, empty}
 use Rattle.savi_history.specs.Passes.{has_port}
 use Rattle.savi_history.specs.Queues.{Item, queue}
 use Rattle.savi_history.specs.Events.{Event, row_of}
@@ -18,9 +18,13 @@ pub record Machine : Type 0 where
 abbrev pub started : Plan → Machine
 started plan = record { plan = plan; past = [] }
 
+-- what its history goes on from: nothing came before
+abbrev pub base_of : Machine → Base
+base_of m = empty
+
 -- the switch with the row of this event in front
 abbrev pub with_event : Machine → Event → Machine
-with_event m event = record m { past = row_of m.plan empty m.past event ∷ m.past }
+with_event m event = record m { past = row_of m.plan (base_of m) m.past event ∷ m.past }
 
 -- the row with this number, counted from 0 and from the oldest on
 abbrev pub row_at : Machine → ℕ → Option Row
@@ -28,7 +32,7 @@ row_at m n = slice_get (reverse m.past) n
 
 -- what waits at a port
 abbrev pub queue_at : Machine → Port → List Item
-queue_at m port = queue m.plan empty (number_of port) m.past
+queue_at m port = queue m.plan (base_of m) (number_of port) m.past
 
 -- no queue of a port of the plan is longer than the plan's depth
 abbrev pub HasShortQueues : Machine → Type 0

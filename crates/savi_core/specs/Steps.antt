@@ -4,7 +4,6 @@ use Rattle.savi_kinds.specs.declared.port.Port.{Port}
 use Rattle.savi_kinds.specs.declared.entry.Who.TheVariants.{Ingress}
 use Rattle.savi_kinds.specs.declared.entry.Entry.{Entry}
 use Rattle.frame_class.specs.Reading.{IsClassOf}
-use Rattle.savi_history.specs.Bases.{empty}
 use Rattle.savi_history.specs.Limits.{has_room}
 use Rattle.savi_history.specs.Queues.{Item}
 use Rattle.savi_history.specs.Events as events
@@ -14,7 +13,7 @@ use Rattle.savi_core.specs.declared.event.Event.{Event}
 use Rattle.savi_core.specs.declared.event.Event.TheVariants as given
 use Rattle.savi_core.specs.declared.event.Stepped.{Stepped}
 use Rattle.savi_core.specs.declared.event.Stepped.TheVariants.{Done, Full, Nothing}
-use Rattle.savi_core.specs.Machines.{Machine, with_event, queue_at}
+use Rattle.savi_core.specs.Machines.{Machine, base_of, with_event, queue_at}
 
 -- the event that is put to the switch
 abbrev pub event_of : Event → events.Event
@@ -30,10 +29,10 @@ IsClassed (given.End who how) = Unit {0}
 
 -- an event that may be put to the switch: its pass is open, and it has the size or the reason of its kind
 abbrev pub MayStep : Machine → events.Event → Type 0
-MayStep m (events.Frame port stamp octets) = IsOpen m.plan empty m.past (Ingress port) × (length octets ≤ 1518)
-MayStep m (events.Long port stamp len) = IsOpen m.plan empty m.past (Ingress port) × (1518 < len)
+MayStep m (events.Frame port stamp octets) = IsOpen m.plan (base_of m) m.past (Ingress port) × (length octets ≤ 1518)
+MayStep m (events.Long port stamp len) = IsOpen m.plan (base_of m) m.past (Ingress port) × (1518 < len)
 MayStep m (events.Drain port count) = ⊥
-MayStep m (events.End who how) = IsOpen m.plan empty m.past who × MayEnd m.plan empty m.past who how
+MayStep m (events.End who how) = IsOpen m.plan (base_of m) m.past who × MayEnd m.plan (base_of m) m.past who how
 
 -- there is room for the event: an end needs none
 abbrev pub HasRoomFor : Machine → events.Event → Type 0
@@ -51,7 +50,7 @@ HasNoRoomFor m (events.End who how) = ⊥
 
 -- the entry of the event's row
 abbrev pub entry_of : Machine → events.Event → Entry
-entry_of m event = (row_of m.plan empty m.past event).entry
+entry_of m event = (row_of m.plan (base_of m) m.past event).entry
 
 -- The row of the event is in front of the history, or there was no room for it and nothing has changed.
 abbrev pub Did : Machine → events.Event → Machine → Stepped → Type 0

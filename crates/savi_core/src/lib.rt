@@ -12,9 +12,10 @@ mod batch;
 mod entries;
 mod event;
 mod machine;
-mod outs;
 mod passes;
 mod port_queue;
+mod port_sets;
+mod ports;
 mod queues;
 
 pub use batch::Batch;

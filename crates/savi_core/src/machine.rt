@@ -4,7 +4,6 @@ ghost use Rattle.std.specs.Prelude.{◌≡◌, ◌≤◌, ◌<◌, true, false, 
 ghost use Rattle.savi_kinds.specs.Ports.{number_of};
 ghost use Rattle.savi_kinds.specs.PortSets.{is_member};
 ghost use Rattle.savi_kinds.specs.ValidPlan.{IsValidPlan, IsWithin};
-ghost use Rattle.savi_history.specs.Bases.{empty};
 ghost use Rattle.savi_history.specs.Judged.{verdict_by};
 ghost use Rattle.savi_history.specs.Passes.{role_of, has_port, has_pass, pass_of, control_pass, has_ended};
 ghost use Rattle.savi_history.specs.Limits.{has_room};
@@ -12,7 +11,7 @@ ghost use Rattle.savi_history.specs.Outs.{outs};
 ghost use Rattle.savi_history.specs.Events.{the_vlan};
 ghost use Rattle.savi_history.specs.Events as events;
 ghost use Rattle.savi_history.specs.Legal.{IsLegal};
-ghost use Rattle.savi_core.specs.Machines.{HasShortQueues, started, row_at, queue_at, number_at};
+ghost use Rattle.savi_core.specs.Machines.{HasShortQueues, base_of, started, row_at, queue_at, number_at};
 ghost use Rattle.savi_core.specs.Counts.{open_below};
 ghost use Rattle.frame_class.specs.Reading.{IsClassOf};
 ghost use Rattle.frame_class.specs.ClassOf.{class_of};
@@ -22,45 +21,45 @@ ghost use Rattle.savi_core.specs.Steps.{event_of, IsClassed, MayStep, Did, Drain
 use crate::batch::Batch;
 use crate::entries::{moment_at, plain_entry, verdict_by};
 use crate::event::{Event, Stepped};
-use crate::outs::ports_of;
-use crate::passes::{pass_of, place_of, role_of};
+use crate::passes::Passes;
+use crate::ports::Ports;
 use crate::queues::Queues;
 use frame_class::Class;
 use hist_store::Hist;
 use ra_guard::guard;
 use savi_kinds::{
-    Act, ENTRIES_RESERVED, Entry, FRAME_OCTETS_MOST, How, LAST_MOMENT, Moment, PORTS_MOST, Plan,
-    Port, PortSet, Rule, Verdict, Who,
+    Act, ENTRIES_RESERVED, Entry, FRAME_OCTETS_MOST, How, Moment, Plan, Port, PortSet, Rule,
+    Verdict, Who,
 };
 use std::alloc::{AllocError, Global};
 use std::marker::Model;
-
-/// The most passes of a switch: an ingress and an egress for each port, control and the ticker.
-const PASSES_MOST: usize = 2 * PORTS_MOST + 2;
 
 /// A switch that guards messages and floods what passes. Contracts see its plan, and its history with the newest row
 /// first; the history is always legal. All memory is taken by `make`.
 #[derive(Drop)]
 pub struct Core {
-    plan: Plan,
+    ports: Ports,
     hist: Hist,
     moment: Moment,
-    closed: [bool; PASSES_MOST],
+    passes: Passes,
     queues: Queues,
 }
 
 impl Model for Core {
-    ghost use Rattle.std.specs.Prelude.{◌≡◌, reverse};
+    ghost use Rattle.std.specs.Prelude.{◌≡◌, ◌+◌, reverse};
+    ghost use Rattle.savi_history.specs.Bases.{empty};
+    ghost use Rattle.savi_history.specs.Passes.{control_pass};
     ghost use Rattle.savi_core.specs.Machines.{Machine};
     ghost use Rattle.savi_core.specs.Remembers.{Remembers};
 
     ghost Value = { Machine };
 
-    ghost view = { λ c. record { plan = c.plan; past = reverse c.hist.rows } };
+    ghost view = { λ c. record { plan = c.ports; past = reverse c.hist.rows } };
 
-    ghost invariant = { λ c. Remembers (record { plan = c.plan; rows = c.hist.rows; moment = c.moment; ended = c.closed; lanes = c.queues })
-        × (c.hist.entry_room ≡ c.plan.entries)
-        × (c.hist.byte_room ≡ c.plan.bytes) };
+    ghost invariant = { λ c. Remembers (record { plan = c.ports; base = empty; rows = c.hist.rows; moment = c.moment; ended = c.passes.ended; lanes = c.queues })
+        × (c.hist.entry_room ≡ c.ports.entries)
+        × (c.hist.byte_room ≡ c.ports.bytes)
+        × (c.passes.inputs ≡ control_pass c.ports + 1) };
 }
 
 impl Core {
@@ -72,18 +71,19 @@ impl Core {
     {
         let hist = Hist::make(alloc, plan.entries, plan.bytes)?;
         let queues = Queues::make(alloc, plan.ports.as_slice(), plan.depth)?;
+        let passes = Passes::make(plan.ports.as_slice().len() as u32 + 1);
         Ok(Core {
-            plan,
+            ports: Ports::make(plan),
             hist,
             moment: 0,
-            closed: [false; PASSES_MOST],
+            passes,
             queues,
         })
     }
 
     /// Enters an event. The answer is `Full`, and nothing has changed, exactly where it is a frame and the history has
     /// no room for another input; else it is the one entry that was made. A frame is judged by its class, which the
-    /// caller has read of its octets. O(ports) beside the copy of the octets.
+    /// caller has read of its octets. O(n) in the ports to which it goes, beside the copy of the octets.
     pub fn step(&mut self, ev: Event<'_>) -> Stepped
         requires may { MayStep self.old (event_of ev) }
         requires class { IsClassed ev }
@@ -101,16 +101,16 @@ impl Core {
         }
     }
 
-    /// Takes at most so many items, frames or probes, from the front of a port's queue into the batch, in place of what it held. The
-    /// answer is `Nothing`, and the core has not changed, exactly where nothing waits; it is never `Full`. O(items)
-    /// beside the copy of their octets.
+    /// Takes at most so many items, frames or probes, from the front of a port's queue into the batch, in place of what it
+    /// held. The answer is `Nothing`, and the core has not changed, exactly where nothing waits; it is never `Full`.
+    /// O(items) beside the copy of their octets.
     pub fn drain(&mut self, port: Port, most: u32, into: &mut Batch) -> Stepped
         requires most { IsWithin 1 256 most }
         requires port { has_port self.old.plan (number_of port) ≡ true }
         ensures { Drained self.old port most self.new into.new result }
     {
         into.clear();
-        let place = place_of(&self.plan, port);
+        let place = self.ports.place_of(port);
         let count = most.min(self.queues.len(place));
         if count == 0 {
             return Stepped::Nothing;
@@ -126,7 +126,7 @@ impl Core {
     pub fn plan(&self) -> &Plan
         ensures { result.now ≡ self.now.plan }
     {
-        &self.plan
+        self.ports.plan()
     }
 
     /// The history, as it is stored: its rows are those of the switch, the oldest first, and it is legal by the plan, which
@@ -134,7 +134,7 @@ impl Core {
     pub fn history(&self) -> &Hist
         ensures rows { reverse result.now.rows ≡ self.now.past }
         ensures few { length result.now.rows ≤ self.now.plan.entries }
-        ensures legal { IsLegal self.now.plan empty self.now.past }
+        ensures legal { IsLegal self.now.plan (base_of self.now) self.now.past }
         ensures valid { IsValidPlan self.now.plan }
     {
         &self.hist
@@ -143,7 +143,7 @@ impl Core {
     /// How many entries the history has, which is legal; no queue is longer than the plan's depth. O(1).
     pub fn len(&self) -> u64
         ensures len { result ≡ length self.now.past }
-        ensures legal { IsLegal self.now.plan empty self.now.past }
+        ensures legal { IsLegal self.now.plan (base_of self.now) self.now.past }
         ensures within { HasShortQueues self.now }
     {
         let _moment = self.moment;
@@ -166,41 +166,36 @@ impl Core {
         self.hist.octets(n)
     }
 
-    /// How many items wait at a port of the plan. O(ports), at most 16.
+    /// How many items wait at a port of the plan. O(1).
     pub fn queued(&self, port: Port) -> u32
         requires { has_port self.now.plan (number_of port) ≡ true }
         ensures { result ≡ length (queue_at self.now port) }
     {
-        self.queues.len(place_of(&self.plan, port))
+        self.queues.len(self.ports.place_of(port))
     }
 
-    /// Whether a pass of the plan has ended. O(ports), at most 16.
+    /// Whether a pass of the plan has ended. O(1).
     pub fn ended(&self, who: Who) -> bool
         requires { has_pass self.now.plan who ≡ true }
-        ensures { result ≡ has_ended empty (pass_of self.now.plan who) self.now.past }
+        ensures { result ≡ has_ended (base_of self.now) (pass_of self.now.plan who) self.now.past }
     {
-        self.closed[pass_of(&self.plan, who) as usize]
+        self.passes.has_ended(self.ports.pass_of(who))
     }
 
-    /// How many of the ingress passes and control haven't ended. O(ports), at most 16.
+    /// How many of the ingress passes and control haven't ended. O(1).
     pub fn inputs_left(&self) -> u32
-        ensures { result ≡ open_below self.now.past (control_pass self.now.plan + 1) }
+        ensures { result ≡ open_below (base_of self.now) self.now.past (control_pass self.now.plan + 1) }
     {
-        let mut left = 0;
-        for pass in 0..self.plan.ports.as_slice().len() + 1 {
-            if !self.closed[pass] {
-                left += 1;
-            }
-        }
-        left
+        self.passes.inputs_left()
     }
 
     // Whether there is room for another input.
     fn has_room(&self) -> bool
         ensures { result ≡ has_room self.now.plan self.now.past }
     {
-        self.hist.len() + ENTRIES_RESERVED < self.plan.entries
-            && self.hist.held() + FRAME_OCTETS_MOST as u64 <= self.plan.bytes
+        let plan = self.ports.plan();
+        self.hist.len() + ENTRIES_RESERVED < plan.entries
+            && self.hist.held() + FRAME_OCTETS_MOST as u64 <= plan.bytes
     }
 
     // Enters a frame.
@@ -214,10 +209,10 @@ impl Core {
                 len: self.hist.len(),
             };
         }
-        let by = pass_of(&self.plan, Who::Ingress(port));
+        let by = self.ports.pass_of(Who::Ingress(port));
         let verdict = self.judge(port, class);
         let outs = self.outs(port, verdict);
-        let cuts = self.queues.offer_frame(outs, self.hist.len());
+        let cuts = self.queues.offer_frame(&self.ports, outs, self.hist.len());
         let entry = Entry {
             by,
             moment: moment_at(self.moment, stamp),
@@ -242,15 +237,15 @@ impl Core {
     fn judge(&self, port: Port, class: &Class) -> Verdict
         ensures { (octets : List ℕ) → IsClassOf octets class.now → result ≡ verdict_by (guard_of (role_of self.now.plan (number_of port)) self.now.plan.drop_unknown (class_of octets)) }
     {
-        let role = role_of(&self.plan, port);
-        verdict_by(guard(role, self.plan.drop_unknown, class))
+        let role = self.ports.role_of(port);
+        verdict_by(guard(role, self.ports.plan().drop_unknown, class))
     }
 
     // The entry of a drain.
     fn drain_entry(&self, port: Port, count: u32) -> Entry
         ensures { result ≡ entry_of self.now (events.Drain port count) }
     {
-        let by = pass_of(&self.plan, Who::Egress(port));
+        let by = self.ports.pass_of(Who::Egress(port));
         plain_entry(by, self.moment, Act::Drain { port, count })
     }
 
@@ -274,7 +269,7 @@ impl Core {
     fn long_entry(&self, port: Port, stamp: u64, len: u32) -> Entry
         ensures { result ≡ entry_of self.now (events.Long port stamp len) }
     {
-        let by = pass_of(&self.plan, Who::Ingress(port));
+        let by = self.ports.pass_of(Who::Ingress(port));
         let moment = moment_at(self.moment, stamp);
         Entry {
             verdict: Some(Verdict::Drop(Rule::Malformed)),
@@ -288,8 +283,8 @@ impl Core {
         ensures { Did self.old (events.End who how) self.new result }
     {
         let entry = self.end_entry(who, how);
-        self.closed[entry.by as usize] = true;
-        self.queues.end(&self.plan, who, how);
+        self.passes.end(entry.by);
+        self.queues.end(&self.ports, who, how);
         self.moment = entry.moment;
         self.hist.append(entry, &[]);
         Stepped::Done(entry)
@@ -299,16 +294,17 @@ impl Core {
     fn end_entry(&self, who: Who, how: How) -> Entry
         ensures { result ≡ entry_of self.now (events.End who how) }
     {
-        let by = pass_of(&self.plan, who);
+        let by = self.ports.pass_of(who);
         plain_entry(by, self.moment, Act::End { who, how })
     }
 
     // The ports to which a frame with this verdict goes, whatever its octets.
     fn outs(&self, port: Port, verdict: Verdict) -> PortSet
-        ensures { (moment : ℕ) (octets : List ℕ) → result ≡ outs the_vlan self.now.plan empty self.now.past (number_of port) moment octets verdict }
+        ensures known { (n : ℕ) → 1 ≤ n → is_member result n ≡ true → has_port self.now.plan n ≡ true }
+        ensures outs { (moment : ℕ) (octets : List ℕ) → result ≡ outs the_vlan self.now.plan (base_of self.now) self.now.past (number_of port) moment octets verdict }
     {
         match verdict {
-            Verdict::Pass(scope) => ports_of(&self.plan, scope, port),
+            Verdict::Pass(scope) => self.ports.others_in(scope, port),
             Verdict::Drop(_) => PortSet::empty(),
         }
     }

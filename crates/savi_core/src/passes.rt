@@ -1,48 +1,70 @@
-//! Ports and passes of a plan, by their places.
+//! Which passes of a switch have ended.
 
-ghost use Rattle.std.specs.Prelude.{◌≡◌, ◌≤◌, length};
-ghost use Rattle.savi_kinds.specs.Ports.{number_of};
-ghost use Rattle.savi_kinds.specs.ValidPlan.{IsValidPlan};
-ghost use Rattle.savi_history.specs.Passes.{role_of, place_of, pass_of};
+ghost use Rattle.std.specs.Prelude.{◌≡◌, ◌≤◌, ◌<◌, true, false, slice_index_or, slice_set};
+ghost use Rattle.savi_core.specs.PassMarks.{all_open, open_among};
 
-use savi_kinds::{Plan, Port, Role, Who};
+use savi_kinds::PORTS_MOST;
+use std::marker::Model;
 
-/// The role of a port of the plan. O(ports), at most 16.
-pub fn role_of(plan: &Plan, port: Port) -> Role
-    ensures { result ≡ role_of plan.now (number_of port) }
-{
-    for p in plan.ports.as_slice() {
-        if p.number.get() == port.get() {
-            return p.role;
-        }
-    }
-    Role::Host
+/// The most passes of a switch: an ingress and an egress for each port, control and the ticker.
+const PASSES_MOST: usize = 2 * PORTS_MOST + 2;
+
+/// Which passes have ended, by number, and how many inputs have not. The inputs have the first numbers.
+#[derive(Drop)]
+pub struct Passes {
+    inputs: u32,
+    ended: [bool; PASSES_MOST],
+    inputs_left: u32,
 }
 
-/// The place of a port among those of the plan, or their number where it is none of them. O(ports), at most 16.
-pub fn place_of(plan: &Plan, port: Port) -> usize
-    ensures place { result ≡ place_of plan.now (number_of port) }
-    ensures within { result ≤ length plan.now.ports }
-{
-    let ports = plan.ports.as_slice();
-    for (i, p) in ports.iter().enumerate() {
-        if p.number.get() == port.get() {
-            return i;
-        }
-    }
-    ports.len()
+impl Model for Passes {
+    ghost use Rattle.std.specs.Prelude.{◌≡◌, ◌≤◌};
+    ghost use Rattle.savi_core.specs.PassMarks.{PassMarks, open_among};
+
+    ghost Value = { PassMarks };
+
+    ghost view = { λ p. record { inputs = p.inputs; ended = p.ended } };
+
+    ghost invariant = { λ p. (p.inputs_left ≡ open_among p.ended p.inputs) × (p.inputs ≤ 34) };
 }
 
-/// The number of a pass: the ingress of each port, control, the ticker, and the egress of each port. O(ports).
-pub fn pass_of(plan: &Plan, who: Who) -> u32
-    requires { IsValidPlan plan.now }
-    ensures { result ≡ pass_of plan.now who }
-{
-    let ports = plan.ports.as_slice().len() as u32;
-    match who {
-        Who::Ingress(port) => place_of(plan, port) as u32,
-        Who::Control => ports,
-        Who::Ticker => ports + 1,
-        Who::Egress(port) => ports + 2 + place_of(plan, port) as u32,
+impl Passes {
+    /// No pass has ended; so many of them are inputs.
+    pub fn make(inputs: u32) -> Passes
+        requires { inputs ≤ 34 }
+        ensures { result ≡ all_open inputs }
+    {
+        Passes {
+            inputs,
+            ended: [false; PASSES_MOST],
+            inputs_left: inputs,
+        }
+    }
+
+    /// Whether the pass of this number has ended. O(1).
+    pub fn has_ended(&self, pass: u32) -> bool
+        requires { pass < 34 }
+        ensures { result ≡ slice_index_or self.now.ended pass false }
+    {
+        self.ended[pass as usize]
+    }
+
+    /// How many inputs haven't ended. O(1).
+    pub fn inputs_left(&self) -> u32
+        ensures { result ≡ open_among self.now.ended self.now.inputs }
+    {
+        self.inputs_left
+    }
+
+    /// The pass of this number, which was open, has ended. O(1).
+    pub fn end(&mut self, pass: u32)
+        requires pass { pass < 34 }
+        requires running { slice_index_or self.old.ended pass false ≡ false }
+        ensures { self.new ≡ record self.old { ended = slice_set self.old.ended pass true } }
+    {
+        if pass < self.inputs {
+            self.inputs_left -= 1;
+        }
+        self.ended[pass as usize] = true;
     }
 }

@@ -1,15 +1,14 @@
 //! The queue of one port, with all that decides on what joins it.
 
 ghost use Rattle.std.specs.Prelude.{◌≡◌, ◌≤◌, not, [], length, map, take, drop, All, IfOk};
-ghost use Rattle.savi_kinds.specs.Ports.{number_of};
-ghost use Rattle.savi_core.specs.Lanes.{empty_lane, takes_none, is_cut, with_offered, with_frame, with_drained, with_ended};
+ghost use Rattle.savi_core.specs.Lanes.{empty_lane, takes_none, with_offered, with_drained, with_ended};
 ghost use Rattle.egress_ring.specs.declared.item.Item.TheVariants as entries;
 ghost use Rattle.savi_core.specs.Waits.{HoldsFrames, IsFrameOf, shown};
 
 use crate::batch::Batch;
 use egress_ring::{EgressRing, Item};
 use hist_store::Hist;
-use savi_kinds::{How, Port, PortPlan, PortSet};
+use savi_kinds::{How, Port, PortPlan};
 use std::alloc::{AllocError, Global};
 use std::marker::Model;
 
@@ -46,13 +45,6 @@ impl PortQueue {
         })
     }
 
-    /// The port. O(1).
-    pub fn port(&self) -> Port
-        ensures { number_of result ≡ self.now.number }
-    {
-        self.port
-    }
-
     /// How many items wait. O(1).
     pub fn len(&self) -> u32
         ensures { result ≡ length self.now.items }
@@ -71,14 +63,11 @@ impl PortQueue {
         self.ring.queue(item)
     }
 
-    /// Offers the frame of the entry with this number, where it goes to this port. The answer is whether it is left out. O(1).
-    pub fn offer_frame(&mut self, outs: PortSet, n: u64) -> bool
-        ensures lane { self.new ≡ with_frame (entries.Frame n) outs self.old }
-        ensures cut { result ≡ is_cut outs self.old }
+    /// Offers the frame of the entry with this number. The answer is whether it is left out. O(1).
+    pub fn offer_frame(&mut self, n: u64) -> bool
+        ensures lane { self.new ≡ with_offered (entries.Frame n) self.old }
+        ensures cut { result ≡ takes_none self.old }
     {
-        if !outs.contains(self.port) {
-            return false;
-        }
         !self.offer(Item::Frame(n))
     }
 

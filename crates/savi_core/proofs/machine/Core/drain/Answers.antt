@@ -1,4 +1,4 @@
-use Rattle.std.proofs.Common.{◌≡◌, ◌≢◌, ◌≤◌, ◌<◌, min, take, length, map, reverse, sym, subst, ap, ◌∙◌, arith, true, refl, []}
+use Rattle.std.proofs.Common.{◌≡◌, ◌≤◌, min, take, length, reverse, sym, subst, ap, ◌∙◌, arith, true, refl, []}
 use Rattle.std.proofs.lemmas.List.{nil_from_length}
 use Rattle.savi_kinds.specs.Ports.{number_of}
 use Rattle.savi_kinds.specs.declared.entry.Entry.{Entry}
@@ -20,37 +20,37 @@ pub len-requires : goal.len-requires
 len-requires c =
     let inside = c.self.inside in
     let number = number_of c.args.port in
-    let known : has_port inside.plan number ≡ true = ap (λ (m : Machine). has_port m.plan number) c.self.view_is ∙ c.requires.port in
+    let known : has_port inside.ports number ≡ true = ap (λ (m : Machine). has_port m.plan number) c.self.view_is ∙ c.requires.port in
     lane_in c.self.invariant.0 number c.place_of-place.result known c.place_of-place.ensures.place
 
 pub returns-then-count-eq0 : goal.returns-then-count-eq0
 returns-then-count-eq0 c =
     let inside = c.self.inside in
     let number = number_of c.args.port in
-    let known : has_port inside.plan number ≡ true = ap (λ (m : Machine). has_port m.plan number) c.self.view_is ∙ c.requires.port in
+    let known : has_port inside.ports number ≡ true = ap (λ (m : Machine). has_port m.plan number) c.self.view_is ∙ c.requires.port in
     let size = waits_at c.self.invariant.0 number c.place_of-place.result no_lane known c.place_of-place.ensures.place in
-    let none : length (queue inside.plan empty number (reverse inside.hist.rows)) ≡ 0 = omega (arith, size, c.len.ensures, c.min-count.ensures, c.if-count-eq0.true, c.requires.most.0) in
-    (ap (λ (m : Machine). queue_at m c.args.port) (sym c.self.view_is) ∙ nil_from_length (queue inside.plan empty number (reverse inside.hist.rows)) none, c.clear.ensures, refl)
+    let none : length (queue inside.ports empty number (reverse inside.hist.rows)) ≡ 0 = omega (arith, size, c.len.ensures, c.min-count.ensures, c.if-count-eq0.true, c.requires.most.0) in
+    (ap (λ (m : Machine). queue_at m c.args.port) (sym c.self.view_is) ∙ nil_from_length (queue inside.ports empty number (reverse inside.hist.rows)) none, c.clear.ensures, refl)
 
 pub drain-requires-clause-place : goal.drain-requires-clause-place
 drain-requires-clause-place c =
     let inside = c.self.inside in
     let number = number_of c.args.port in
-    let known : has_port inside.plan number ≡ true = ap (λ (m : Machine). has_port m.plan number) c.self.view_is ∙ c.requires.port in
+    let known : has_port inside.ports number ≡ true = ap (λ (m : Machine). has_port m.plan number) c.self.view_is ∙ c.requires.port in
     lane_in c.self.invariant.0 number c.place_of-place.result known c.place_of-place.ensures.place
 
 pub drain-requires-clause-frames : goal.drain-requires-clause-frames
 drain-requires-clause-frames c =
     let inside = c.self.inside in
     let number = number_of c.args.port in
-    let known : has_port inside.plan number ≡ true = ap (λ (m : Machine). has_port m.plan number) c.self.view_is ∙ c.requires.port in
+    let known : has_port inside.ports number ≡ true = ap (λ (m : Machine). has_port m.plan number) c.self.view_is ∙ c.requires.port in
     frames_in c.self.invariant.0 number c.place_of-place.result no_lane known c.place_of-place.ensures.place
 
 pub append-requires-clause-room : goal.append-requires-clause-room
 append-requires-clause-room c =
     let inside = c.self.inside in
     let number = number_of c.args.port in
-    let known : has_port inside.plan number ≡ true = ap (λ (m : Machine). has_port m.plan number) c.self.view_is ∙ c.requires.port in
+    let known : has_port inside.ports number ≡ true = ap (λ (m : Machine). has_port m.plan number) c.self.view_is ∙ c.requires.port in
     let size = waits_at c.self.invariant.0 number c.place_of-place.result no_lane known c.place_of-place.ensures.place in
     omega (arith, drain_fits c.self.invariant.0 number known (omega (arith, size, c.len.ensures, c.min-count.ensures, c.if-count-eq0.false)), c.self.invariant.1)
 
@@ -62,17 +62,18 @@ invariant_of-self c =
     let count = c.min-count.result in
     let e = c.drain_entry-entry.result in
     let event = events.Drain c.args.port count in
-    let known : has_port inside.plan number ≡ true = ap (λ (m : Machine). has_port m.plan number) c.self.view_is ∙ c.requires.port in
+    let known : has_port inside.ports number ≡ true = ap (λ (m : Machine). has_port m.plan number) c.self.view_is ∙ c.requires.port in
     let size = waits_at c.self.invariant.0 number c.place_of-place.result no_lane known c.place_of-place.ensures.place in
     let least : 1 ≤ count = omega (arith, c.if-count-eq0.false) in
-    let most : count ≤ length (queue inside.plan empty number (reverse rows)) = omega (arith, size, c.len.ensures, c.min-count.ensures) in
-    let open_pass : IsOpen inside.plan empty (reverse rows) (Egress c.args.port) =
-    record { known = known; running = waits_open inside.plan (reverse rows) number c.self.invariant.0.legal known (omega (arith, least, most)) } in
+    let most : count ≤ length (queue inside.ports empty number (reverse rows)) = omega (arith, size, c.len.ensures, c.min-count.ensures) in
+    let open_pass : IsOpen inside.ports empty (reverse rows) (Egress c.args.port) =
+    record { known = known; running = waits_open inside.ports (reverse rows) number c.self.invariant.0.legal known (omega (arith, least, most)) } in
     let e_is = subst (λ (m : Machine). e ≡ entry_of m event) (sym c.self.view_is) c.drain_entry-entry.ensures in
     rw c.append.ensures (
       remembers_drain c.self.invariant.0 c.args.port count c.place_of-place.result no_lane e c.drain.new.self (open_pass, least, most) e_is c.place_of-place.ensures.place c.drain.ensures.left,
       c.self.invariant.1,
       c.self.invariant.2,
+      c.self.invariant.3,
     )
 
 pub returns : goal.returns
@@ -84,8 +85,8 @@ returns c =
     let m = c.args.self.now in
     let count = c.min-count.result in
     let e = c.drain_entry-entry.result in
-    let known : has_port inside.plan number ≡ true = ap (λ (x : Machine). has_port x.plan number) c.self.view_is ∙ c.requires.port in
-    let queue_is : queue inside.plan empty number (reverse rows) ≡ queue_at m port = ap (λ (x : Machine). queue_at x port) c.self.view_is in
+    let known : has_port inside.ports number ≡ true = ap (λ (x : Machine). has_port x.plan number) c.self.view_is ∙ c.requires.port in
+    let queue_is : queue inside.ports empty number (reverse rows) ≡ queue_at m port = ap (λ (x : Machine). queue_at x port) c.self.view_is in
     let size = waits_at c.self.invariant.0 number c.place_of-place.result no_lane known c.place_of-place.ensures.place in
     let items_are = ap (λ (lane : Lane Item). lane.items) (lane_at c.self.invariant.0 number c.place_of-place.result no_lane known c.place_of-place.ensures.place) in
     let waits : c.len.result ≡ length (queue_at m port) = omega (arith, c.len.ensures, size, ap length queue_is) in
@@ -93,7 +94,7 @@ returns c =
     let e_is = subst (λ (x : Machine). e ≡ entry_of x (events.Drain port count)) (sym c.self.view_is) c.drain_entry-entry.ensures in (
       (λ none. c.if-count-eq0.false (omega (arith, count_is, ap length none))),
       c.drain.ensures.taken ∙ ap (take count) (items_are ∙ queue_is) ∙ ap (λ n. take n (queue_at m port)) count_is,
-      rw c.append.ensures (stepped_view inside.plan rows e [] (events.Drain port count) m c.self.view_is (ap (λ (x : Entry). row x []) e_is)
+      rw c.append.ensures (stepped_view inside.ports rows e [] (events.Drain port count) m c.self.view_is (ap (λ (x : Entry). row x []) e_is)
           ∙ ap (λ n. with_event m (events.Drain port n)) count_is),
       c.drain_entry-entry.ensures ∙ ap (λ n. entry_of m (events.Drain port n)) count_is,
     )

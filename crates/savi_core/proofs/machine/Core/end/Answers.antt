@@ -1,46 +1,59 @@
-use Rattle.std.proofs.Common.{◌≡◌, ◌<◌, sym, subst, ap, arith, true, refl}
+use Rattle.std.proofs.Common.{◌≡◌, get_or, sym, subst, ap, ◌∙◌, arith, false}
 use Rattle.savi_kinds.specs.declared.entry.Entry.{Entry}
-use Rattle.savi_history.specs.Bases.{empty}
-use Rattle.savi_history.specs.Passes.{has_pass}
+use Rattle.savi_history.specs.Passes.{pass_of}
 use Rattle.savi_history.specs.Events as events
 use Rattle.savi_history.specs.Legal.{MayCome}
-use Rattle.savi_core.specs.Machines.{Machine}
+use Rattle.savi_core.specs.Machines.{Machine, base_of}
 use Rattle.savi_core.specs.Steps.{entry_of}
+use Rattle.savi_core.specs.PassMarks.{PassMarks}
+use Rattle.savi_core.proofs.Places.{pass_within}
 use Rattle.savi_core.proofs.Remembering.{pass_small, lane_count}
-use Rattle.savi_core.proofs.Stepping.{row, end_fits, remembers_pass}
+use Rattle.savi_core.proofs.Stepping.{end_fits, remembers_pass}
 use Rattle.savi_core.proofs.machine.Core.end.Goals as goal
 
-pub bounds-self-inside-entry : goal.bounds-self-inside-entry
-bounds-self-inside-entry c =
+pub end-requires-clause-pass : goal.end-requires-clause-pass
+end-requires-clause-pass c =
     let event = events.End c.args.who c.args.how in
     let e = c.end_entry-entry.result in
-    let may = subst (λ (m : Machine). MayCome m.plan empty m.past event) (sym c.self.view_is) c.requires in
+    let may = subst (λ (m : Machine). MayCome m.plan (base_of m) m.past event) (sym c.self.view_is) c.requires in
     let e_is = subst (λ (m : Machine). e ≡ entry_of m event) (sym c.self.view_is) c.end_entry-entry.ensures in
     omega (arith, ap (λ (x : Entry). x.by) e_is, pass_small c.self.invariant.0 c.args.who may.0.known)
 
-pub end-requires-clause-known : goal.end-requires-clause-known
-end-requires-clause-known c =
+pub end-requires-clause-running : goal.end-requires-clause-running
+end-requires-clause-running c =
+    let inside = c.self.inside in
     let event = events.End c.args.who c.args.how in
-    let may = subst (λ (m : Machine). MayCome m.plan empty m.past event) (sym c.self.view_is) c.requires in
+    let e = c.end_entry-entry.result in
+    let may = subst (λ (m : Machine). MayCome m.plan (base_of m) m.past event) (sym c.self.view_is) c.requires in
+    let e_is = subst (λ (m : Machine). e ≡ entry_of m event) (sym c.self.view_is) c.end_entry-entry.ensures in
+    ap (λ (x : Entry). get_or inside.passes.ended x.by false) e_is
+    ∙ c.self.invariant.0.passes (pass_of inside.ports c.args.who) (pass_within inside.ports c.args.who may.0.known)
+    ∙ may.0.running
+
+pub end-requires-2-clause-known : goal.end-requires-2-clause-known
+end-requires-2-clause-known c =
+    let event = events.End c.args.who c.args.how in
+    let may = subst (λ (m : Machine). MayCome m.plan (base_of m) m.past event) (sym c.self.view_is) c.requires in
     may.0.known
 
-pub end-requires-clause-count : goal.end-requires-clause-count
-end-requires-clause-count c = lane_count c.self.invariant.0
+pub end-requires-2-clause-count : goal.end-requires-2-clause-count
+end-requires-2-clause-count c = lane_count c.self.invariant.0
 
 pub append-requires-clause-room : goal.append-requires-clause-room
 append-requires-clause-room c =
     let event = events.End c.args.who c.args.how in
-    let may = subst (λ (m : Machine). MayCome m.plan empty m.past event) (sym c.self.view_is) c.requires in
+    let may = subst (λ (m : Machine). MayCome m.plan (base_of m) m.past event) (sym c.self.view_is) c.requires in
     omega (arith, end_fits c.self.invariant.0 c.args.who may.0, c.self.invariant.1)
 
 pub invariant_of-self : goal.invariant_of-self
 invariant_of-self c =
     let event = events.End c.args.who c.args.how in
     let e = c.end_entry-entry.result in
-    let may = subst (λ (m : Machine). MayCome m.plan empty m.past event) (sym c.self.view_is) c.requires in
+    let may = subst (λ (m : Machine). MayCome m.plan (base_of m) m.past event) (sym c.self.view_is) c.requires in
     let e_is = subst (λ (m : Machine). e ≡ entry_of m event) (sym c.self.view_is) c.end_entry-entry.ensures in
     rw c.append.ensures (
-      remembers_pass c.self.invariant.0 c.args.who c.args.how e _ c.end.new.self may e_is refl c.end.ensures,
+      remembers_pass c.self.invariant.0 c.args.who c.args.how e c.end.new.self.ended c.end-2.new.self may e_is (ap (λ (m : PassMarks). m.ended) c.end.ensures) c.end-2.ensures,
       c.self.invariant.1,
       c.self.invariant.2,
+      ap (λ (m : PassMarks). m.inputs) c.end.ensures ∙ c.self.invariant.3,
     )

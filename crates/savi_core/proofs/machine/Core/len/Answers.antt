@@ -10,4 +10,4 @@ pub returns-clause-within : goal.returns-clause-within
 returns-clause-within c =
     let inside = c.self.inside in
     subst HasShortQueues c.self.view_is
-    (λ port known. queue_within inside.plan empty (number_of port) (reverse inside.hist.rows))
+    (λ port known. queue_within inside.ports empty (number_of port) (reverse inside.hist.rows))

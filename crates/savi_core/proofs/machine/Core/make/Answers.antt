@@ -1,4 +1,4 @@
-use Rattle.std.proofs.Common.{refl, ap, ◌∙◌, map}
+use Rattle.std.proofs.Common.{refl, ap, ◌∙◌, map, length, arith}
 use Rattle.savi_core.specs.Lanes.{empty_lane}
 use Rattle.savi_core.proofs.Remembering.{remembers_start}
 use Rattle.savi_core.proofs.machine.Core.make.Goals as goal
@@ -6,8 +6,9 @@ use Rattle.savi_core.proofs.machine.Core.make.Goals as goal
 pub invariant_of-result : goal.invariant_of-result
 invariant_of-result c =
     let plan = c.args.plan in
-    rw c.in_ok-hist.ensures (
+    rw (c.in_ok-hist.ensures, c.make-3.ensures, c.make-passes.ensures) (
       remembers_start plan c.in_ok-queues.queues c.requires.valid c.requires.guard_only (c.in_ok-queues.ensures ∙ ap (map (empty_lane plan.depth)) c.as_slice.ensures),
       refl,
       refl,
+      omega (arith, ap length c.as_slice-2.ensures),
     )

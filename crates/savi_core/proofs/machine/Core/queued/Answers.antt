@@ -10,12 +10,12 @@ use Rattle.savi_core.proofs.machine.Core.queued.Goals as goal
 pub len-requires : goal.len-requires
 len-requires c =
     let inside = c.self.inside in
-    let known : has_port inside.plan (number_of c.args.port) ≡ true = ap (λ (m : Machine). has_port m.plan (number_of c.args.port)) c.self.view_is ∙ c.requires in
+    let known : has_port inside.ports (number_of c.args.port) ≡ true = ap (λ (m : Machine). has_port m.plan (number_of c.args.port)) c.self.view_is ∙ c.requires in
     lane_in c.self.invariant.0 (number_of c.args.port) c.place_of.result known c.place_of.ensures.place
 
 pub returns : goal.returns
 returns c =
     let inside = c.self.inside in
     let number = number_of c.args.port in
-    let known : has_port inside.plan number ≡ true = ap (λ (m : Machine). has_port m.plan number) c.self.view_is ∙ c.requires in
+    let known : has_port inside.ports number ≡ true = ap (λ (m : Machine). has_port m.plan number) c.self.view_is ∙ c.requires in
     rw (← c.self.view_is) (c.len.ensures ∙ sym (waits_at c.self.invariant.0 number c.place_of.result no_lane known c.place_of.ensures.place))

@@ -1,5 +1,4 @@
 use Rattle.std.proofs.Common.{◌≡◌, List, length, true, ap, sym, ◌∙◌, arith}
-use Rattle.savi_kinds.specs.declared.entry.Who.{Who}
 use Rattle.savi_kinds.specs.Ports.{number_of}
 use Rattle.savi_history.specs.Passes.{has_pass, has_port}
 use Rattle.egress_ring.specs.declared.item.Item.{Item as Queued}
@@ -9,5 +8,5 @@ use Rattle.savi_core.proofs.queues.Queues.end.Goals as goal
 
 pub index_mut-requires : goal.index_mut-requires
 index_mut-requires c =
-    let known : has_port c.args.plan.now (number_of c.in-Egress.port) ≡ true = sym (ap (has_pass c.args.plan.now) c.in-Egress.is) ∙ c.requires.known in
-    omega (arith, place_within c.args.plan.now (number_of c.in-Egress.port) known, c.place_of.ensures.place, c.requires.count, ap (λ (l : List (Lane Queued)). length l) c.self.view_is)
+    let known : has_port c.args.ports.now (number_of c.in-Egress.port) ≡ true = sym (ap (has_pass c.args.ports.now) c.in-Egress.is) ∙ c.requires.known in
+    omega (arith, place_within c.args.ports.now (number_of c.in-Egress.port) known, c.place_of.ensures.place, c.requires.count, ap (λ (l : List (Lane Queued)). length l) c.self.view_is)
