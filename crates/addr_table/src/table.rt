@@ -30,9 +30,9 @@ use timer_wheel::TimerWheel;
 
 /// The states of all addresses, and for each address the moment at which something is due first in its state.
 ///
-/// Each address that has a state is held at one port at least, of 16, and none holds more addresses than it may; a new state
-/// comes only where its port has room for one more. So there is always a place for it, and no call but `make` takes memory
-/// or can refuse.
+/// Each address that has a state is held at one port at least, of 16, and no port holds more addresses than it may; a new
+/// state comes only where its port has room for one more. So there is always a place for it, and no call but `make` takes
+/// memory or can refuse.
 #[derive(Drop)]
 pub struct AddrTable {
     table: BindTable,
