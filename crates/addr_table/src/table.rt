@@ -167,8 +167,8 @@ impl AddrTable {
     }
 
     /// An event at moment `t` (ms) on an address of a prefix of method `m`, where all states have been aged to `t`. The room
-    /// of its port is what the port has before the event. An event that leaves the state as it was costs one look-up, O(1) on
-    /// average; one that changes the state also one change of a row and one arming: O(1) on average where the address has a
+    /// of its port is what the port has before the event. An event that leaves the state as it was costs one look-up, O(1)
+    /// on average; one that changes it also one change of a row and one arming: O(1) on average where the address has a
     /// state before and after, and O(n) of `BindTable::put` and `remove` where a row comes or goes.
     pub fn event(&mut self, a: Addr, m: Method, ev: Ev, t: Moment) -> Answer
         requires moment { t ≤ 2 ^ 62 }
