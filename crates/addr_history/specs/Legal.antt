@@ -58,7 +58,7 @@ pub record MayFollow (r : AddrRules) (base : AddrBase) (past : List Named) (name
   pub room : named.room ≡ room_for r.per_port (rows_at r base past named.moment named.vlan) named.event
   pub fix : IsFixable r.per_port (rows_at r base past named.moment named.vlan) named.address named.event
 
--- each mark stands after those before it
+-- each mark may follow those before it
 abbrev pub IsPast : AddrRules → AddrBase → List Named → Type 0
 IsPast r base [] = Unit {0}
 IsPast r base (named ∷ past) = MayFollow r base past named × IsPast r base past

@@ -220,8 +220,8 @@ pub fn few_probes_at_once()
         → sum_by (λ vlan. length (probes_between r base past from t vlan)) vlans ≤ 48 * r.per_port }
 {}
 
-/// What may still fall due falls: each probe takes one off it, and so does each change of a state. An address has at most six
-/// such things to come, so no VLAN has more than 96 times what a port may hold.
+/// What may still fall due falls: each probe takes one off it, and so does each change of a state. An address has at most
+/// six such things to come, so no VLAN has more than 96 times what a port may hold.
 pub fn what_may_fall_due_falls()
     ensures probes { (r : AddrRules) (base : AddrBase) (past : List Named) (t u vlan : ℕ)
         → AreTimes r.times → AreTables base → t ≤ u

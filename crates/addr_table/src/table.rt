@@ -30,9 +30,9 @@ use timer_wheel::TimerWheel;
 
 /// The states of all addresses, and for each address the moment at which something is due first in its state.
 ///
-/// Each address that has a state is held at one port at least, of 16, and none holds more addresses than it may; a new state
-/// comes only where its port has room for one more. So there is always a place for it, and no call but `make` takes memory
-/// or can refuse.
+/// Each address that has a state is held at one port at least, of 16, and no port holds more addresses than it may; a new
+/// state comes only where its port has room for one more. So there is always a place for it, and no call but `make` takes
+/// memory or can refuse.
 #[derive(Drop)]
 pub struct AddrTable {
     table: BindTable,
@@ -167,8 +167,8 @@ impl AddrTable {
     }
 
     /// An event at moment `t` (ms) on an address of a prefix of method `m`, where all states have been aged to `t`. The room
-    /// of its port is what the port has before the event. An event that leaves the state as it was costs one look-up, O(1) on
-    /// average; one that changes the state also one change of a row and one arming: O(1) on average where the address has a
+    /// of its port is what the port has before the event. An event that leaves the state as it was costs one look-up, O(1)
+    /// on average; one that changes it also one change of a row and one arming: O(1) on average where the address has a
     /// state before and after, and O(n) of `BindTable::put` and `remove` where a row comes or goes.
     pub fn event(&mut self, a: Addr, m: Method, ev: Ev, t: Moment) -> Answer
         requires moment { t ≤ 2 ^ 62 }
