@@ -11,8 +11,6 @@ mod looking;
 mod outputs;
 mod port_ends;
 mod session;
-#[cfg(test)]
-mod tests;
 mod turns;
 
 pub use port_ends::PortEnds;

@@ -8,12 +8,8 @@
 #![tactic(auto)]
 
 mod ends_told;
-#[cfg(test)]
-mod recording_world;
 mod session;
 mod summing;
-#[cfg(test)]
-mod tests;
 mod top;
 
 pub use top::{

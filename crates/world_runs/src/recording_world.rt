@@ -7,25 +7,30 @@ ghost use Rattle.savi_ends.specs.Places.{OthersStay};
 
 use arrayvec::ArrayVec;
 use savi_ends::{MemClock, MemEnds, MemSink, MemSource, MemWorld, OpenFailed, Std, World};
-use savi_kinds::{Format, Port, PortPlan, Role};
+use savi_kinds::{Port, PortPlan};
 use switch_report::port_name;
 
 /// A world in memory, and a text with one line for each opening.
 #[derive(Drop)]
 pub struct RecordingWorld {
     pub world: MemWorld,
-    pub openings: ArrayVec<u8, 256>,
+    pub openings: ArrayVec<u8, 512>,
 }
 
 // Adds these words as a line. What there is no room for is left out, and the text is another one then.
-fn record(openings: &mut ArrayVec<u8, 256>, words: &[&str]) {
-    for word in words {
-        for octet in word.as_bytes() {
-            let _full = openings.try_push(*octet);
-        }
+fn record(openings: &mut ArrayVec<u8, 512>, first: &str, others: &[&str]) {
+    add_word(openings, first);
+    for word in others {
         let _full = openings.try_push(b' ');
+        add_word(openings, *word);
     }
     let _full = openings.try_push(b'\n');
+}
+
+fn add_word(openings: &mut ArrayVec<u8, 512>, word: &str) {
+    for octet in word.as_bytes() {
+        let _full = openings.try_push(*octet);
+    }
 }
 
 impl World for RecordingWorld {
@@ -42,42 +47,31 @@ impl World for RecordingWorld {
     }
 
     fn input(&mut self, name: &str) -> Result<MemSource, OpenFailed> {
-        record(&mut self.openings, &["input", name]);
+        record(&mut self.openings, "input", &[name]);
         self.world.input(name)
     }
 
     fn output(&mut self, name: &str) -> Result<MemSink, OpenFailed> {
-        record(&mut self.openings, &["output", name]);
+        record(&mut self.openings, "output", &[name]);
         self.world.output(name)
     }
 
     fn port(&mut self, n: Port, plan: &PortPlan) -> Result<MemEnds, OpenFailed> {
-        let role = match plan.role {
-            Role::Host => "host",
-            Role::Server => "server",
-            Role::Trusted => "trusted",
-        };
-        let format = match plan.format {
-            Format::Pcap => "pcap",
-            Format::Stream => "stream",
-        };
         let name = port_name(n);
-        let input = plan.input.as_str();
-        let output = plan.output.as_str();
-        record(
-            &mut self.openings,
-            &[name.as_str(), role, format, input, output],
-        );
+        let (role, format) = (plan.role.word(), plan.format.word());
+        let (input, output) = (plan.input.as_str(), plan.output.as_str());
+        let others = [role, format, input, output];
+        record(&mut self.openings, name.as_str(), &others);
         self.world.port(n, plan)
     }
 
     fn control(&mut self, source: &str, sink: &str, live: bool) -> Result<MemEnds, OpenFailed> {
-        record(&mut self.openings, &["control", source, sink]);
+        record(&mut self.openings, "control", &[source, sink]);
         self.world.control(source, sink, live)
     }
 
     fn ticker(&mut self) -> MemClock {
-        record(&mut self.openings, &["ticker"]);
+        record(&mut self.openings, "ticker", &[]);
         self.world.ticker()
     }
 
@@ -86,7 +80,7 @@ impl World for RecordingWorld {
             Std::Out => "out",
             Std::Err => "err",
         };
-        record(&mut self.openings, &["std", name]);
+        record(&mut self.openings, "std", &[name]);
         self.world.std(which)
     }
 

@@ -1,0 +1,64 @@
+//! What a run leaves.
+
+use crate::recording_world::RecordingWorld;
+use crate::scene::Scene;
+use savi_ends::MemSink;
+use std::alloc::{AllocError, Global};
+
+/// Prints the status, what standard error and standard output were told, what was written at each port, and the journal.
+pub fn print_left(
+    rt: &impl Print,
+    alloc: Global,
+    scene: &Scene,
+    left: &RecordingWorld,
+    status: u8,
+) -> anyhow::Result<()> {
+    println!(rt; "status {status}")?;
+    if scene.tells_openings {
+        let openings = String::from_utf8_lossy(alloc, left.openings.as_slice())?;
+        print!(rt; "openings:\n{openings}")?;
+    }
+    let errors = text_of(alloc, &left.world.err)?;
+    print!(rt; "standard error:\n{errors}")?;
+    let summary = text_of(alloc, &left.world.out)?;
+    print!(rt; "standard output:\n{summary}")?;
+    for (port, ends) in left.world.ports.as_slice() {
+        if let Some(ends) = ends {
+            let digits = hex::encode(alloc, ends.sink.written())?;
+            let named = with_names(alloc, scene, digits, " ")?;
+            println!(rt; "port {}:{named}", port.get())?;
+        }
+    }
+    for (_, sink) in left.world.outputs.as_slice() {
+        let text = with_names(alloc, scene, text_of(alloc, sink)?, "")?;
+        let head = scene.head.as_str();
+        let rest = text.as_str().strip_prefix(head).unwrap_or(text.as_str());
+        print!(rt; "journal:\n{rest}")?;
+    }
+    Ok(())
+}
+
+// What was written.
+fn text_of(alloc: Global, sink: &Option<MemSink>) -> Result<String, AllocError> {
+    match sink {
+        Some(sink) => String::from_utf8_lossy(alloc, sink.written()),
+        None => Ok(String::new(alloc)),
+    }
+}
+
+// A text where a name, behind this space, stands for the digits of each.
+fn with_names(
+    alloc: Global,
+    scene: &Scene,
+    text: String,
+    space: &str,
+) -> Result<String, AllocError> {
+    let mut text = text;
+    for (name, digits) in &scene.names {
+        let spaced = format!(in alloc; "{space}{name}")?;
+        text = text
+            .as_str()
+            .replace(alloc, digits.as_str(), spaced.as_str())?;
+    }
+    Ok(text)
+}

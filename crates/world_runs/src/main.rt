@@ -1,0 +1,55 @@
+//! Runs of the whole program over a world in memory, whose openings, reads and writes fail where the input says so.
+//!
+//! The input is lines: those of a scene, and `run NAME`, which runs the program over that scene and prints what it leaves:
+//! the status, what standard error and standard output were told, what was written at each port, and the journal. A scene
+//! stays for the next run, but for the calls that fail. Its lines, where a word of `OCTETS` is digits or a name:
+//!
+//!     name NAME DIGITS     octets in hexadecimal digits; in what is printed their name stands for them
+//!     plan                 forgets the plan, the head of its journal and the captures
+//!     line TEXT            a line of the configuration
+//!     head TEXT            a line that its journal begins with; where it does, that head isn't printed
+//!     capture OCTETS..     what the next port's input holds
+//!     drops PORT RULE NAME..   says which rule drops these frames at a port, and is passed over here
+//!     words TEXT..         the words of the command line
+//!     fails NUMBER WHICH   the call that fails, counted from 1: an `opening`, a read of the `plan`, `read N` or `write N`
+//!                          at port N, or a write of the `journal`, of the `summary` or of an `error`
+//!     openings             prints also what the program asks of its world
+//!
+//! `tools/world-runs` works out what has to be printed, from the scenes and by the rules of `docs/FORMATS.md`.
+#![tactic(auto)]
+
+mod left;
+mod recording_world;
+mod scene;
+mod staging;
+
+use left::print_left;
+use scene::Scene;
+use staging::stage;
+use std::alloc::Global;
+use switch_run::run;
+
+fn main(rt: HostRuntime) -> anyhow::Result<()> {
+    let alloc = rt.alloc();
+    let mut scene = Scene::new(alloc);
+    for line in rt.lines(rt.alloc()) {
+        let line = line?;
+        match line.as_str().strip_prefix("run ") {
+            Some(name) => play(&rt, alloc, &mut scene, name)?,
+            None => scene.set(alloc, line.as_str())?,
+        }
+    }
+    Ok(())
+}
+
+// Runs the program over a scene, and prints what it leaves.
+fn play(rt: &impl Print, alloc: Global, scene: &mut Scene, name: &str) -> anyhow::Result<()> {
+    println!(rt; "== {name}")?;
+    let mut staged = stage(alloc, scene)?;
+    if staged.world.is_fresh() {
+        let status = run(alloc, scene.words.as_slice(), &mut staged);
+        print_left(rt, alloc, scene, &staged, status)?;
+    }
+    scene.forget_faults(alloc);
+    Ok(())
+}

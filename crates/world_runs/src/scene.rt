@@ -1,0 +1,128 @@
+//! What a run is a run of.
+
+use anyhow::bail;
+use std::alloc::{AllocError, Global};
+
+/// What a run is a run of.
+#[derive(Drop)]
+pub struct Scene {
+    /// Octets in hexadecimal digits, each behind its name.
+    pub names: Vec<(String, String)>,
+    /// The text of the configuration.
+    pub plan: String,
+    /// What its journal begins with.
+    pub head: String,
+    /// What the inputs of the ports hold, from port 1 on.
+    pub captures: Vec<Vec<u8>>,
+    /// The words behind the program's name.
+    pub words: Vec<String>,
+    /// Which calls fail, each with the number of the one that does.
+    pub faults: Vec<(String, u64)>,
+    /// Whether what the program asks of its world is printed.
+    pub tells_openings: bool,
+}
+
+impl Scene {
+    /// A scene without a plan.
+    pub fn new(alloc: Global) -> Scene {
+        Scene {
+            names: Vec::new(alloc),
+            plan: String::new(alloc),
+            head: String::new(alloc),
+            captures: Vec::new(alloc),
+            words: Vec::new(alloc),
+            faults: Vec::new(alloc),
+            tells_openings: false,
+        }
+    }
+
+    /// The number of the call of this kind that fails, counted from 1, or 0. O(faults).
+    pub fn fault(&self, which: &str) -> u64 {
+        for (name, number) in &self.faults {
+            if name.as_str() == which {
+                return *number;
+            }
+        }
+        0
+    }
+
+    /// No call fails in the next run, and its openings aren't printed.
+    pub fn forget_faults(&mut self, alloc: Global) {
+        self.faults = Vec::new(alloc);
+        self.tells_openings = false;
+    }
+
+    /// Does what a line says. The error is a line that says nothing, or want of memory.
+    pub fn set(&mut self, alloc: Global, line: &str) -> anyhow::Result<()> {
+        let (word, rest) = line.split_once(' ').unwrap_or((line, ""));
+        match word {
+            "" | "#" | "drops" => {}
+            "name" => self.set_name(alloc, rest)?,
+            "plan" => {
+                self.plan = String::new(alloc);
+                self.head = String::new(alloc);
+                self.captures = Vec::new(alloc);
+            }
+            "line" => add_line(&mut self.plan, rest)?,
+            "head" => add_line(&mut self.head, rest)?,
+            "capture" => {
+                let octets = self.octets_of(alloc, rest)?;
+                self.captures.push(octets)?;
+            }
+            "words" => self.words = words_of(alloc, rest)?,
+            "fails" => self.set_fault(alloc, rest)?,
+            "openings" => self.tells_openings = true,
+            _ => bail!("no line of a scene: {line}"),
+        }
+        Ok(())
+    }
+
+    // Takes a name and its digits.
+    fn set_name(&mut self, alloc: Global, rest: &str) -> anyhow::Result<()> {
+        let (name, digits) = rest.split_once(' ').unwrap_or((rest, ""));
+        let name = String::from_str(alloc, name)?;
+        self.names.push((name, String::from_str(alloc, digits)?))?;
+        Ok(())
+    }
+
+    // Takes a call that fails.
+    fn set_fault(&mut self, alloc: Global, rest: &str) -> anyhow::Result<()> {
+        let (number, which) = rest.split_once(' ').unwrap_or((rest, ""));
+        let which = String::from_str(alloc, which)?;
+        self.faults.push((which, number.parse::<u64>()?))?;
+        Ok(())
+    }
+
+    // The octets of these words, one behind the other.
+    fn octets_of(&self, alloc: Global, text: &str) -> anyhow::Result<Vec<u8>> {
+        let mut all = Vec::new(alloc);
+        for word in text.split_whitespace() {
+            let part = hex::decode(alloc, self.digits_of(word))?;
+            all.extend_from_slice(part.as_slice())?;
+        }
+        Ok(all)
+    }
+
+    // The digits of this name, or the word itself where it is none.
+    fn digits_of<'a>(&'a self, word: &'a str) -> &'a str {
+        for (name, digits) in &self.names {
+            if name.as_str() == word {
+                return digits.as_str();
+            }
+        }
+        word
+    }
+}
+
+fn add_line(text: &mut String, line: &str) -> Result<(), AllocError> {
+    text.push_str(line)?;
+    text.push('\n')
+}
+
+fn words_of(alloc: Global, text: &str) -> Result<Vec<String>, AllocError> {
+    let mut words = Vec::new(alloc);
+    for word in text.split_whitespace() {
+        words.push(String::from_str(alloc, word)?)?;
+    }
+    Ok(words)
+}

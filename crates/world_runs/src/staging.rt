@@ -1,0 +1,92 @@
+//! The world in memory of a scene.
+
+ghost use Rattle.std.specs.Prelude.{◌≡◌, IfOk, length};
+
+use crate::recording_world::RecordingWorld;
+use crate::scene::Scene;
+use anyhow::bail;
+use arrayvec::ArrayVec;
+use savi_ends::{Ends, MemClock, MemEnds, MemSink, MemSource, MemWorld};
+use savi_kinds::{Port, Text};
+use std::alloc::{AllocError, Global};
+
+/// The most octets that a source gives in a read.
+const READ_MOST: usize = 65_536;
+
+/// Room for what is written at a port, or of a journal.
+const FILE_ROOM: usize = 8_192;
+
+/// Room for what standard output and standard error are told.
+const TEXT_ROOM: usize = 256;
+
+/// The world of a scene: the configuration under the name `plan`, a port for each capture, and room for a journal.
+pub fn stage(alloc: Global, scene: &Scene) -> anyhow::Result<RecordingWorld> {
+    let journal = Text::new(String::from_str(alloc, "journal.txt")?);
+    let mut outputs = Vec::new(alloc);
+    let sink = MemSink::make(alloc, FILE_ROOM, fault_of(alloc, scene, "journal")?)?;
+    outputs.push((journal, Some(sink)))?;
+    let world = MemWorld {
+        inputs: plan_of(alloc, scene)?,
+        outputs,
+        ports: ports_of(alloc, scene)?,
+        control: Some(ends_of(alloc, Vec::new(alloc), Vec::new(alloc), Vec::new(alloc))?),
+        ticker: Some(MemClock::new(Vec::new(alloc))),
+        out: Some(MemSink::make(alloc, TEXT_ROOM, fault_of(alloc, scene, "summary")?)?),
+        err: Some(MemSink::make(alloc, TEXT_ROOM, fault_of(alloc, scene, "error")?)?),
+        fails: fault_of(alloc, scene, "opening")?,
+        opened: 0,
+        faulty: 0,
+    };
+    Ok(RecordingWorld {
+        world,
+        openings: ArrayVec::new(),
+    })
+}
+
+// The number of the call of this kind that fails, as a list.
+fn fault_of(alloc: Global, scene: &Scene, which: &str) -> Result<Vec<u64>, AllocError> {
+    [scene.fault(which)].to_vec(alloc)
+}
+
+// The configuration.
+fn plan_of(alloc: Global, scene: &Scene) -> Result<Vec<(Text, Option<MemSource>)>, AllocError>
+    ensures { IfOk result (λ inputs. length inputs.items ≡ 1) }
+{
+    let name = Text::new(String::from_str(alloc, "plan")?);
+    let octets = scene.plan.as_bytes().to_vec(alloc)?;
+    let source = MemSource::new(octets, READ_MOST, fault_of(alloc, scene, "plan")?);
+    let mut inputs = Vec::new(alloc);
+    inputs.push((name, Some(source)))?;
+    Ok(inputs)
+}
+
+// The ports, numbered from 1 on, each with its capture.
+fn ports_of(alloc: Global, scene: &Scene) -> anyhow::Result<Vec<(Port, Option<MemEnds>)>> {
+    let mut ports = Vec::new(alloc);
+    for (number, capture) in (1..).zip(&scene.captures) {
+        let Some(port) = Port::new(number) else {
+            bail!("more than 16 ports");
+        };
+        let read = format!(in alloc; "read {number}")?;
+        let write = format!(in alloc; "write {number}")?;
+        let reads = fault_of(alloc, scene, read.as_str())?;
+        let writes = fault_of(alloc, scene, write.as_str())?;
+        let ends = ends_of(alloc, capture.clone()?, reads, writes)?;
+        ports.push((port, Some(ends)))?;
+    }
+    Ok(ports)
+}
+
+// Ends of which these reads and these writes fail.
+fn ends_of(
+    alloc: Global,
+    octets: Vec<u8>,
+    reads: Vec<u64>,
+    writes: Vec<u64>,
+) -> Result<MemEnds, AllocError> {
+    Ok(Ends {
+        source: MemSource::new(octets, READ_MOST, reads),
+        sink: MemSink::make(alloc, FILE_ROOM, writes)?,
+        clock: MemClock::new(Vec::new(alloc)),
+    })
+}
