@@ -1,5 +1,5 @@
 -- A line says one entry, and the line that is written of an entry says it.
-use Rattle.std.proofs.Common.{ℕ, ◌≡◌, ◌^◌, ◌<◌, ◌≤◌, List, [], ◌∷◌, length, decimal, codes, Option, Some, None, IsSome, IsNone, refl, sym, ap, ap₂, ◌∙◌, arith, true≢false}
+use Rattle.std.proofs.Common.{ℕ, ◌≡◌, ◌^◌, ◌<◌, List, [], ◌∷◌, length, decimal, codes, Option, Some, None, IsSome, IsNone, refl, sym, ap, ap₂, ◌∙◌, arith, true≢false}
 use Rattle.std.proofs.lemmas.Fmt.{decimal_injective}
 use Rattle.hex.specs.Hex.{IsBytes}
 use Rattle.savi_kinds.specs.declared.verdict.Scope.{Scope}
@@ -11,9 +11,8 @@ use Rattle.savi_kinds.specs.declared.entry.Act.{Act}
 use Rattle.savi_kinds.specs.declared.entry.Act.TheVariants.{Frame, Long, Tick, Command, Drain, End}
 use Rattle.savi_kinds.specs.declared.entry.How.{How}
 use Rattle.savi_kinds.specs.declared.entry.How.TheVariants as hows
-use Rattle.savi_kinds.specs.PortSets.{no_ports}
 use Rattle.hist_store.specs.Rows.{Row}
-use Rattle.hist_store.specs.PortTexts.{port_text, ports_text}
+use Rattle.hist_store.specs.PortTexts.{port_text}
 use Rattle.hist_store.specs.VerdictTexts.{scope_text, verdict_text, entry_verdict_text}
 use Rattle.hist_store.specs.EndTexts.{how_fields}
 use Rattle.hist_store.specs.LineTexts.{hex_text, act_fields, line_fields, line_text, FitsAct, FitsLine}
