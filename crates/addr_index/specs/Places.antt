@@ -7,9 +7,9 @@ use Rattle.addr_index.specs.Indexes.{is_of, HasOneEach}
 use Rattle.addr_index.specs.Homes.{home_of}
 use Rattle.addr_index.specs.Ways.{IsOnWay, IsOffWay, IsRound, IsPassed, IsAhead}
 
--- the entry of an address and its key, where there is one
-abbrev pub entry_if : Bool → ℕ → ℕ → Option Entry
-entry_if is_taken address key = if is_taken then Some (record { address = address; key = key }) else None
+-- the entry of an address, given by its upper and its lower 64 bits, and its key, where there is one
+abbrev pub entry_if : Bool → ℕ → ℕ → ℕ → Option Entry
+entry_if is_taken high low key = if is_taken then Some (record { address = high * 2 ^ 64 + low; key = key }) else None
 
 -- what a place has
 abbrev pub in_place : List (Option Entry) → ℕ → Option Entry

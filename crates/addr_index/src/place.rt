@@ -5,11 +5,12 @@ ghost use Rattle.std.specs.Prelude.{◌≡◌, Some, None};
 use crate::entry::Entry;
 use std::marker::Model;
 
-/// A place, which has an entry or none. It takes 32 octets, so that two fit a line of a processor's cache; an
-/// `Option<Entry>` takes 48.
+/// A place, which has an entry or none. It takes 24 octets, with the address as two halves, so that a search touches few
+/// lines of a processor's cache; an `Option<Entry>` takes 48.
 #[derive(Drop)]
 pub(crate) struct Place {
-    address: u128,
+    high: u64,
+    low: u64,
     key: u32,
     is_taken: bool,
 }
@@ -21,7 +22,7 @@ impl Model for Place {
 
     ghost Value = { Option Entry };
 
-    ghost view = { λ p. entry_if p.is_taken p.address p.key };
+    ghost view = { λ p. entry_if p.is_taken p.high p.low p.key };
 }
 
 impl Place {
@@ -31,7 +32,8 @@ impl Place {
         ensures { result ≡ None }
     {
         Place {
-            address: 0,
+            high: 0,
+            low: 0,
             key: 0,
             is_taken: false,
         }
@@ -43,7 +45,8 @@ impl Place {
         ensures { result ≡ Some entry }
     {
         Place {
-            address: entry.address,
+            high: (entry.address >> 64) as u64,
+            low: (entry.address % (1 << 64)) as u64,
             key: entry.key,
             is_taken: true,
         }
@@ -56,7 +59,7 @@ impl Place {
     {
         if self.is_taken {
             Some(Entry {
-                address: self.address,
+                address: u128::from(self.high) * (1 << 64) + u128::from(self.low),
                 key: self.key,
             })
         } else {

@@ -2,11 +2,11 @@
 
 ghost use Rattle.std.specs.Prelude.{◌≡◌, ◌≤◌, ◌<◌, ◌++◌, ◌∷◌, Some, IsSome, IfOk, take, drop, length, vec_capacity};
 ghost use Rattle.slab.specs.Slab.{get, slab_len, Updates};
-ghost use Rattle.bind_table.specs.Rows.{row_of};
+ghost use Rattle.bind_table.specs.declared.row.Row.{Row};
 
 use crate::row::Row;
 use mix_rules::AddrState;
-use savi_kinds::{Addr, PortSet};
+use savi_kinds::PortSet;
 use slab::Slab;
 use std::alloc::{AllocError, Global};
 
@@ -22,22 +22,17 @@ pub(crate) fn row_under(rows: &Slab<Row>, key: u32) -> &Row
     }
 }
 
-// Puts the row of an address and a state in place of the one under a key. O(1). It is a call of its own, which copies the
-// state as a whole: laid open where it is called, the copy is done part by part, which takes twice as long.
+// Gives the row under a key another state. O(1). It is a call of its own, which copies the state as a whole: laid open where
+// it is called, the copy is done part by part, which takes twice as long.
 #[inline(never)]
-pub(crate) fn replace(rows: &mut Slab<Row>, key: u32, address: Addr, state: &AddrState)
+pub(crate) fn renew(rows: &mut Slab<Row>, key: u32, state: &AddrState)
     requires { IsSome (get rows.old key) }
-    ensures updates { Updates rows.old rows.new key (Some (row_of address.0 state.now)) }
+    ensures updates { (row : Row) → get rows.old key ≡ Some row → Updates rows.old rows.new key (Some (record row { state = state.now })) }
     ensures len { slab_len rows.new ≡ slab_len rows.old }
     ensures capacity { rows.new.capacity ≡ rows.old.capacity }
 {
     match rows.get_mut(key as usize) {
-        Some(row) => {
-            *row = Row {
-                address,
-                state: *state,
-            }
-        }
+        Some(row) => row.state = *state,
         None => unreachable!(),
     }
 }

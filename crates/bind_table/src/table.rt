@@ -9,7 +9,7 @@ ghost use Rattle.bind_table.specs.Rows.{state_in, with_state, count_at, pair_of,
 use crate::counts::{count, holders, recount};
 use crate::row::Row;
 use crate::search::count_lower;
-use crate::stored::{empty_sets, insert, replace, row_under};
+use crate::stored::{empty_sets, insert, renew, row_under};
 use addr_index::AddrIndex;
 use mix_rules::AddrState;
 use savi_kinds::{Addr, PORTS_MOST, Port, PortSet};
@@ -98,7 +98,7 @@ impl BindTable {
             Some(key) => {
                 recount(&mut self.counts, self.held[key as usize], came);
                 self.held[key as usize] = came;
-                replace(&mut self.rows, key, a, &s);
+                renew(&mut self.rows, key, &s);
             }
             None => {
                 let at = count_lower(&self.rows, self.order.as_slice(), a);

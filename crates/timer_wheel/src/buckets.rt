@@ -10,6 +10,7 @@ ghost use Rattle.timer_wheel.specs.declared.armed.Armed.{Armed};
 
 use crate::armed::Armed;
 use crate::rings::{Gap, Rings};
+use crate::timer::Timer;
 use slab::Slab;
 
 /// How many buckets there are, one for each slice of 64 ms: a turn of them is 65,536 ms.
@@ -26,20 +27,23 @@ pub(crate) struct Found {
 
 // The row of a node, or None at an end.
 #[inline(always)]
-fn row_of(rows: &Slab<Armed>, node: u32) -> Option<Armed>
+fn row_of(rows: &Slab<Timer>, node: u32) -> Option<Armed>
     ensures { result ≡ row_of_node rows.now.slots node }
 {
     if node < BUCKETS {
         None
     } else {
-        rows.get((node - BUCKETS) as usize).copied()
+        match rows.get((node - BUCKETS) as usize) {
+            Some(row) => Some(row.armed()),
+            None => None,
+        }
     }
 }
 
 // The gap into which a pair belongs among the rows of other addresses, where these alone are linked. It goes back from the end
 // of the pair's bucket over the rows that are due later.
 #[inline(always)]
-fn gap_for(rows: &Slab<Armed>, rings: &Rings, armed: Armed) -> Gap
+fn gap_for(rows: &Slab<Timer>, rings: &Rings, armed: Armed) -> Gap
     requires wired { IsWired (others_than armed.address.0 rows.now) rings.now.later.items rings.now.earlier.items }
     requires fits { armed.address.0 < 2 ^ 128 }
     ensures before { GoesBehind (others_than armed.address.0 rows.now).slots rings.now.later.items armed result.before }
@@ -58,7 +62,7 @@ fn gap_for(rows: &Slab<Armed>, rings: &Rings, armed: Armed) -> Gap
 }
 
 // The least row of a bucket.
-fn first_of(rows: &Slab<Armed>, rings: &Rings, bucket: u64) -> Option<Armed>
+fn first_of(rows: &Slab<Timer>, rings: &Rings, bucket: u64) -> Option<Armed>
     requires wired { IsWired rows.now rings.now.later.items rings.now.earlier.items }
     requires bucket { bucket < 1024 }
     ensures { LeastOf rows.now.slots (λ armed. bucket_of armed ≡ bucket) result }
@@ -89,7 +93,7 @@ fn is_in(armed: Option<Armed>, slice: u64) -> bool
 
 // The least row, found by the slices from this one on until one in which a row is due, or the last one that is asked for.
 // It looks at each bucket at most once.
-pub(crate) fn seek(rows: &Slab<Armed>, rings: &Rings, from: u64, last: u64) -> Found
+pub(crate) fn seek(rows: &Slab<Timer>, rings: &Rings, from: u64, last: u64) -> Found
     requires wired { IsWired rows.now rings.now.later.items rings.now.earlier.items }
     requires early { IsEarly rows.now.slots from }
     requires from_fits { from ≤ 2 ^ 58 }
@@ -126,7 +130,7 @@ pub(crate) fn seek(rows: &Slab<Armed>, rings: &Rings, from: u64, last: u64) -> F
 
 // Puts a row in whose address none has: its key.
 #[inline(never)]
-pub(crate) fn put_in(rows: &mut Slab<Armed>, rings: &mut Rings, armed: Armed) -> u32
+pub(crate) fn put_in(rows: &mut Slab<Timer>, rings: &mut Rings, armed: Armed) -> u32
     requires wired { IsWired rows.old rings.old.later.items rings.old.earlier.items }
     requires fits { armed.address.0 < 2 ^ 128 }
     requires absent { (key : ℕ) (row : Armed) → row_at rows.old.slots key ≡ Some row → row.address.0 ≢ armed.address.0 }
@@ -139,13 +143,13 @@ pub(crate) fn put_in(rows: &mut Slab<Armed>, rings: &mut Rings, armed: Armed) ->
     ensures capacity { rows.new.capacity ≡ rows.old.capacity }
 {
     let gap = gap_for(rows, rings, armed);
-    let key = rows.insert_reserved(armed) as u32;
+    let key = rows.insert_reserved(Timer::of(armed)) as u32;
     rings.link(BUCKETS + key, gap);
     key
 }
 
 // Takes the row under a key out. The key is the next one.
-pub(crate) fn take_out(rows: &mut Slab<Armed>, rings: &mut Rings, key: u32)
+pub(crate) fn take_out(rows: &mut Slab<Timer>, rings: &mut Rings, key: u32)
     requires wired { IsWired rows.old rings.old.later.items rings.old.earlier.items }
     requires there { IsSome (row_at rows.old.slots key) }
     ensures wired { IsWired rows.new rings.new.later.items rings.new.earlier.items }
@@ -161,7 +165,7 @@ pub(crate) fn take_out(rows: &mut Slab<Armed>, rings: &mut Rings, key: u32)
 
 // Gives the row under a key another moment. It stays under its key, and moves to its place in the order.
 #[inline(always)]
-pub(crate) fn renew(rows: &mut Slab<Armed>, rings: &mut Rings, key: u32, armed: Armed)
+pub(crate) fn renew(rows: &mut Slab<Timer>, rings: &mut Rings, key: u32, armed: Armed)
     requires wired { IsWired rows.old rings.old.later.items rings.old.earlier.items }
     requires fits { armed.address.0 < 2 ^ 128 }
     requires there { HasRow rows.old.slots key armed.address.0 }
@@ -179,14 +183,14 @@ pub(crate) fn renew(rows: &mut Slab<Armed>, rings: &mut Rings, key: u32, armed: 
 
 // Gives the row under a key, which has the address of a pair, the pair's moment. O(1).
 #[inline(always)]
-fn postpone(rows: &mut Slab<Armed>, key: u32, armed: Armed)
+fn postpone(rows: &mut Slab<Timer>, key: u32, armed: Armed)
     requires { HasRow rows.old.slots key armed.address.0 }
     ensures updates { Updates rows.old rows.new key (Some armed) }
     ensures len { slab_len rows.new ≡ slab_len rows.old }
     ensures capacity { rows.new.capacity ≡ rows.old.capacity }
 {
     match rows.get_mut(key as usize) {
-        Some(row) => row.due = armed.due,
+        Some(row) => row.set_due(armed.due),
         None => unreachable!(),
     }
 }

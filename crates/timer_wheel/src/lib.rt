@@ -13,6 +13,7 @@ mod laws;
 mod rings;
 #[cfg(test)]
 mod tests;
+mod timer;
 mod wheel;
 
 pub use armed::Armed;

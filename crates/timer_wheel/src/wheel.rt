@@ -6,6 +6,7 @@ ghost use Rattle.timer_wheel.specs.Arms.{IsRising, due_in, with_due, first_armed
 use crate::armed::{Armed, SLICE_MS};
 use crate::buckets::{BUCKETS, put_in, renew, seek, take_out};
 use crate::rings::Rings;
+use crate::timer::Timer;
 use addr_index::AddrIndex;
 use savi_kinds::{Addr, Moment};
 use slab::Slab;
@@ -18,7 +19,7 @@ use std::marker::Model;
 /// linked in order of moment, then address. A cursor stands at no later slice of 64 ms than the least row.
 #[derive(Drop)]
 pub struct TimerWheel {
-    rows: Slab<Armed>,
+    rows: Slab<Timer>,
     index: AddrIndex,
     rings: Rings,
     cursor: u64,

@@ -1,5 +1,5 @@
-use Rattle.std.proofs.Common.{sym, subst}
-use Rattle.slab.specs.Slab.{Slab}
+use Rattle.std.proofs.Common.{Some, sym, subst}
+use Rattle.slab.specs.Slab.{Slab, Updates}
 use Rattle.timer_wheel.specs.declared.armed.Armed.{Armed}
 use Rattle.timer_wheel.specs.Kept.{IsWired}
 use Rattle.timer_wheel.specs.Searches.{GoesBehind}
@@ -29,7 +29,7 @@ returns-clause-wired c =
     let added : IsAdded c.args.rows.now c.insert_reserved-key.new.self c.insert_reserved-key.result c.args.armed =
     record {
       empty = c.insert_reserved-key.ensures.was_vacant;
-      updates = c.insert_reserved-key.ensures.updates;
+      updates = subst (λ (row : Armed). Updates c.args.rows.now c.insert_reserved-key.new.self c.insert_reserved-key.result (Some row)) c.of.ensures c.insert_reserved-key.ensures.updates;
       len = c.insert_reserved-key.ensures.len;
       capacity = c.insert_reserved-key.ensures.capacity;
       absent = c.requires.absent;

@@ -1,11 +1,11 @@
 use Rattle.std.proofs.Common.{◌≡◌, ◌<◌, List, Some, None, refl, length, get_or, vec_capacity, sym, ◌∙◌, subst, arith}
 use Rattle.std.proofs.Math.ListN.{set}
-use Rattle.slab.specs.Slab.{Slab, get}
+use Rattle.slab.specs.Slab.{Slab, get, Updates}
 use Rattle.addr_index.specs.Indexes.{key_in}
 use Rattle.savi_kinds.specs.PortSets.{no_ports}
 use Rattle.mix_rules.specs.States.{nobody}
 use Rattle.bind_table.specs.declared.row.Row.{Row}
-use Rattle.bind_table.specs.Rows.{state_in, with_state}
+use Rattle.bind_table.specs.Rows.{state_in, row_of, with_state}
 use Rattle.bind_table.specs.Places.{place_of}
 use Rattle.bind_table.specs.Counts.{AreHolders}
 use Rattle.bind_table.specs.Kept.{rows_under, IsKept, HasRoom, HasPorts, HasHolders}
@@ -26,38 +26,41 @@ recount-requires-clause-least c =
     let there : HasPorts c.self.inside.held.items c.in-Some.key (state_in (rows_under c.self.inside.rows c.self.inside.order.items) c.args.a.0) = ports_of c.self.inside.rows c.self.inside.index c.self.inside.order.items c.self.inside.counts (rows_under c.self.inside.rows c.self.inside.order.items) c.self.inside.held.items c.args.a.0 c.in-Some.key c.self.invariant.0 c.self.invariant.2 (sym c.in-Some.ensures) in
     ports_least c.self.inside.rows c.self.inside.index c.self.inside.order.items c.self.inside.counts (rows_under c.self.inside.rows c.self.inside.order.items) c.self.inside.held.items c.args.a.0 c.in-Some.key c.index.result.now c.self.invariant.0 c.self.invariant.2 (sym c.in-Some.ensures) (read_ports c.self.inside.held.items c.in-Some.key c.index.result.now there.within c.index.ensures)
 
-pub replace-requires : goal.replace-requires
-replace-requires c = rw (row_by_key c.self.inside.rows c.self.inside.index c.self.inside.order.items c.self.inside.counts (rows_under c.self.inside.rows c.self.inside.order.items) c.args.a.0 c.in-Some.key c.self.invariant.0 (sym c.in-Some.ensures)) refl
+pub renew-requires : goal.renew-requires
+renew-requires c = rw (row_by_key c.self.inside.rows c.self.inside.index c.self.inside.order.items c.self.inside.counts (rows_under c.self.inside.rows c.self.inside.order.items) c.args.a.0 c.in-Some.key c.self.invariant.0 (sym c.in-Some.ensures)) refl
 
-renewed_here : (c : goal.After-replace) → IsKept c.replace.new.rows c.self.inside.index c.self.inside.order.items c.recount.new.counts (with_state c.args.a.0 c.args.s (rows_under c.self.inside.rows c.self.inside.order.items))
+updates : (c : goal.After-renew) → Updates c.self.inside.rows c.renew.new.rows c.in-Some.key (Some (row_of c.args.a.0 c.args.s))
+updates c = c.renew.ensures.updates (row_of c.args.a.0 (state_in (rows_under c.self.inside.rows c.self.inside.order.items) c.args.a.0)) (row_by_key c.self.inside.rows c.self.inside.index c.self.inside.order.items c.self.inside.counts (rows_under c.self.inside.rows c.self.inside.order.items) c.args.a.0 c.in-Some.key c.self.invariant.0 (sym c.in-Some.ensures))
+
+renewed_here : (c : goal.After-renew) → IsKept c.renew.new.rows c.self.inside.index c.self.inside.order.items c.recount.new.counts (with_state c.args.a.0 c.args.s (rows_under c.self.inside.rows c.self.inside.order.items))
 renewed_here c =
     let rows : List Row = rows_under c.self.inside.rows c.self.inside.order.items in
     let is : key_in c.self.inside.index c.args.a.0 ≡ Some c.in-Some.key = sym c.in-Some.ensures in
     let there : HasPorts c.self.inside.held.items c.in-Some.key (state_in rows c.args.a.0) = ports_of c.self.inside.rows c.self.inside.index c.self.inside.order.items c.self.inside.counts (rows_under c.self.inside.rows c.self.inside.order.items) c.self.inside.held.items c.args.a.0 c.in-Some.key c.self.invariant.0 c.self.invariant.2 is in
     let same : c.index.result.now ≡ get_or c.self.inside.held.items c.in-Some.key no_ports = read_ports c.self.inside.held.items c.in-Some.key c.index.result.now there.within c.index.ensures in
     let left : AreHolders (state_in rows c.args.a.0) c.index.result.now = subst (AreHolders (state_in rows c.args.a.0)) (sym same) there.are in
-    renewed c.self.inside.rows c.replace.new.rows c.self.inside.index c.self.inside.order.items c.self.inside.counts c.recount.new.counts rows c.args.a.0 c.in-Some.key c.args.s c.self.invariant.0 is c.requires.state c.replace.ensures.updates c.replace.ensures.len
+    renewed c.self.inside.rows c.renew.new.rows c.self.inside.index c.self.inside.order.items c.self.inside.counts c.recount.new.counts rows c.args.a.0 c.in-Some.key c.args.s c.self.invariant.0 is c.requires.state (updates c) c.renew.ensures.len
     (recounted_by c.index.result.now c.holders-came.result (state_in rows c.args.a.0) c.args.s c.self.inside.counts c.recount.new.counts left c.holders-came.ensures c.recount.ensures)
 
-holders_renewed : (c : goal.After-replace) → HasHolders c.replace.new.rows (set c.self.inside.held.items c.in-Some.key c.holders-came.result)
+holders_renewed : (c : goal.After-renew) → HasHolders c.renew.new.rows (set c.self.inside.held.items c.in-Some.key c.holders-came.result)
 holders_renewed c =
     let there : HasPorts c.self.inside.held.items c.in-Some.key (state_in (rows_under c.self.inside.rows c.self.inside.order.items) c.args.a.0) = ports_of c.self.inside.rows c.self.inside.index c.self.inside.order.items c.self.inside.counts (rows_under c.self.inside.rows c.self.inside.order.items) c.self.inside.held.items c.args.a.0 c.in-Some.key c.self.invariant.0 c.self.invariant.2 (sym c.in-Some.ensures) in
-    HasHolders-put c.self.inside.rows c.replace.new.rows c.self.inside.held.items c.in-Some.key c.args.a.0 c.args.s c.holders-came.result c.self.invariant.2 c.replace.ensures.updates c.replace.ensures.capacity there.within c.holders-came.ensures
+    HasHolders-put c.self.inside.rows c.renew.new.rows c.self.inside.held.items c.in-Some.key c.args.a.0 c.args.s c.holders-came.result c.self.invariant.2 (updates c) c.renew.ensures.capacity there.within c.holders-came.ensures
 
 pub invariant_of-self : goal.invariant_of-self
 invariant_of-self c =
     let rows : List Row = rows_under c.self.inside.rows c.self.inside.order.items in
     let now : List Row = with_state c.args.a.0 c.args.s rows in
     let size : length now ≡ length rows = sym (renewed_here c).index_size ∙ c.self.invariant.0.index_size in
-    let room : HasRoom c.replace.new.rows c.self.inside.index (vec_capacity c.self.inside.order) c.self.inside.most (length now) = record {
+    let room : HasRoom c.renew.new.rows c.self.inside.index (vec_capacity c.self.inside.order) c.self.inside.most (length now) = record {
       within = omega (arith, size, c.self.invariant.1.within);
-      slab_room = omega (arith, c.replace.ensures.capacity, c.self.invariant.1.slab_room);
+      slab_room = omega (arith, c.renew.ensures.capacity, c.self.invariant.1.slab_room);
       index_room = c.self.invariant.1.index_room;
       order_room = c.self.invariant.1.order_room;
       limit = c.self.invariant.1.limit;
-      narrow = omega (arith, c.replace.ensures.capacity, c.self.invariant.1.narrow);
+      narrow = omega (arith, c.renew.ensures.capacity, c.self.invariant.1.narrow);
     } in
-    whole_kept c.replace.new.rows c.self.inside.index c.self.inside.order.items c.recount.new.counts now (set c.self.inside.held.items c.in-Some.key c.holders-came.result) (vec_capacity c.self.inside.order) c.self.inside.most (renewed_here c) room (holders_renewed c)
+    whole_kept c.renew.new.rows c.self.inside.index c.self.inside.order.items c.recount.new.counts now (set c.self.inside.held.items c.in-Some.key c.holders-came.result) (vec_capacity c.self.inside.order) c.self.inside.most (renewed_here c) room (holders_renewed c)
 
 pub insert_reserved-key-requires : goal.insert_reserved-key-requires
 insert_reserved-key-requires c =
@@ -117,7 +120,7 @@ index_mut-requires-in-None c = omega (arith, c.insert_reserved-key.ensures.key_i
 pub returns-in-Some : goal.returns-in-Some
 returns-in-Some c =
     rw (← c.self.view_is)
-    (whole_view c.replace.new.rows c.self.inside.index c.self.inside.order.items c.recount.new.counts (with_state c.args.a.0 c.args.s (rows_under c.self.inside.rows c.self.inside.order.items)) c.self.inside.most (renewed_here c))
+    (whole_view c.renew.new.rows c.self.inside.index c.self.inside.order.items c.recount.new.counts (with_state c.args.a.0 c.args.s (rows_under c.self.inside.rows c.self.inside.order.items)) c.self.inside.most (renewed_here c))
 
 pub returns-in-None : goal.returns-in-None
 returns-in-None c =
