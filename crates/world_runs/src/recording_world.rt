@@ -60,8 +60,11 @@ impl World for RecordingWorld {
         let name = port_name(n);
         let (role, format) = (plan.role.word(), plan.format.word());
         let (input, output) = (plan.input.as_str(), plan.output.as_str());
-        let others = [role, format, input, output];
-        record(&mut self.openings, name.as_str(), &others);
+        record(
+            &mut self.openings,
+            name.as_str(),
+            &[role, format, input, output],
+        );
         self.world.port(n, plan)
     }
 
