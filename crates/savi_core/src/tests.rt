@@ -5,10 +5,9 @@ ghost use Rattle.std.specs.List.{range_with_len};
 ghost use Rattle.savi_kinds.specs.Ports.{number_of};
 ghost use Rattle.savi_kinds.specs.ValidPlan.{IsValidPlan, IsWithin, numbers_of};
 ghost use Rattle.savi_history.specs.Bases.{empty};
-ghost use Rattle.savi_history.specs.Passes.{has_port, has_pass, control_pass, AllEnded};
+ghost use Rattle.savi_history.specs.Passes.{has_port, has_pass, place_of, control_pass, AllEnded};
 ghost use Rattle.savi_history.specs.Legal.{IsOpen, MayEnd, MayEndEgress};
 
-use crate::passes::place_of;
 use crate::{Batch, Core, Event, Stepped};
 use frame_class::class;
 use savi_kinds::{
@@ -294,6 +293,19 @@ fn has_port(plan: &Plan, port: Port) -> bool
     ensures { result ≡ has_port plan.now (number_of port) }
 {
     place_of(plan, port) < plan.ports.as_slice().len()
+}
+
+// The place of a port among those of the plan, or their number where it is none of them.
+fn place_of(plan: &Plan, port: Port) -> usize
+    ensures place { result ≡ place_of plan.now (number_of port) }
+{
+    let ports = plan.ports.as_slice();
+    for (i, p) in ports.iter().enumerate() {
+        if p.number.get() == port.get() {
+            return i;
+        }
+    }
+    ports.len()
 }
 
 // Whether a pass is one of the plan's and hasn't ended.
