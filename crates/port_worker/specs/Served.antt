@@ -1,4 +1,4 @@
--- What a replay was to the ends of the ports: one history, and at each port what it says of the ends there, before and after.
+-- What a replay was to the ends of the ports: one history, and at each port what it says of its ends, before and after.
 use Rattle.std.specs.Prelude.{◌≡◌, ℕ, ◌<◌, ◌≤◌, List, length, slice_index_or, Option, Some}
 use Rattle.savi_kinds.specs.declared.plan.Plan.{Plan}
 use Rattle.savi_kinds.specs.declared.entry.How.{How}

@@ -1,5 +1,5 @@
--- What a frame at a port comes to: the verdict, what it tells, and the probe with which it is answered (RFC 6620 section 3.2,
--- RFC 7513 section 6, RFC 8074).
+-- What a frame at a port comes to: the verdict, what it tells, and the probe with which it is answered (RFC 6620 section
+-- 3.2, RFC 7513 section 6, RFC 8074).
 use Rattle.std.specs.Prelude.{ℕ, ◌==◌, ◌||◌, Bool, true, false, if◌then◌else◌, Option, Some, None, is_some, option_map, unwrap_or, List, [], ◌∷◌}
 use Rattle.arrayvec.specs.ArrayVec.{ArrayVec}
 use Rattle.savi_kinds.specs.declared.port.Port.{Port}

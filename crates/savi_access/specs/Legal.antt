@@ -6,8 +6,8 @@ use Rattle.addr_history.specs.Legal.{MayFollow as MayBeTold}
 use Rattle.savi_access.specs.Rules.{AccessRules, AccessBase}
 use Rattle.savi_access.specs.Marks.{Mark, Told, Asked, Met, told, moment_of, newest_moment, open_requests}
 
--- what the kind of a mark asks: an event on an address may come; a request is one at a port of its VLAN that isn't refused; what is
--- met is an open request
+-- what the kind of a mark asks: an event on an address may come; a request is one at a port of its VLAN that isn't refused;
+-- what is met is an open request
 abbrev pub MayBe : AccessRules → AccessBase → List Mark → Mark → Type 0
 MayBe r base past (Told named) = MayBeTold r.addresses base.addresses (told past) named
 MayBe r base past (Asked vlan request) =

@@ -1,4 +1,5 @@
--- What happened, as a list of marks, the newest first: to addresses, and to the requests of DHCPv6 clients (RFC 7513 section 6).
+-- What happened, as a list of marks, the newest first: to addresses, and to the requests of DHCPv6 clients (RFC 7513
+-- section 6).
 use Rattle.std.specs.Prelude.{ℕ, ◌==◌, if◌then◌else◌, List, [], ◌∷◌}
 use Rattle.dhcp_states.specs.declared.request.Request.{Request}
 use Rattle.dhcp_states.specs.Requests.{open_at, with_request, without_pair}
@@ -30,7 +31,8 @@ abbrev pub newest_moment : AccessBase → List Mark → ℕ
 newest_moment base [] = base.addresses.moment
 newest_moment base (mark ∷ past) = moment_of mark
 
--- the requests of a VLAN: those of the base; one that was asked stands for the one with its pair, and one that was met is gone
+-- the requests of a VLAN: those of the base; one that was asked stands for the one with its pair, and one that was met is
+-- gone
 abbrev pub requests_after : AccessBase → ℕ → List Mark → List Request
 requests_after base vlan [] = base.requests vlan
 requests_after base vlan (Told named ∷ past) = requests_after base vlan past

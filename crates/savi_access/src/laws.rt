@@ -24,8 +24,8 @@ ghost use Rattle.savi_access.specs.Legal.{AreMarks, HasFront};
 ghost use Rattle.savi_access.specs.Judged.{judged, judged_without};
 ghost use Rattle.savi_access.specs.Access.{IsIpv6, HasAccess};
 
-/// A host's packet passes exactly where no rule on messages stops it and its source is live at the port, or a named exception
-/// permits it. The port is of the packet's VLAN, and `::` isn't on-link.
+/// A host's packet passes exactly where no rule on messages stops it and its source is live at the port, or a named
+/// exception permits it. The port is of the packet's VLAN, and `::` isn't on-link.
 pub fn a_packet_passes_where_its_source_is_live()
     ensures { (r : AccessRules) (base : AccessBase) (vlan : ℕ) (port : Port) (t : ℕ) (past : List Mark) (class : Class)
         → IsAccessBase r base → AreMarks r base past → newest_moment base past ≤ t → t ≤ 2 ^ 62
@@ -34,9 +34,9 @@ pub fn a_packet_passes_where_its_source_is_live()
         → (IsPass (Some (judged r base vlan port t past class).verdict) ↔ HasAccess r base vlan port t past class) }
 {}
 
-/// First come, first served, for frames. An address that was live at a port, after `early` at t0, and from which a packet now
-/// passes at another one, after `late` too, was lost by one of three causes: its host's silence for as long as a test takes,
-/// the operator, or the end of a binding by DHCP there.
+/// First come, first served, for frames. An address that was live at a port, after `early` at t0, and from which a packet
+/// now passes at another one, after `late` too, was lost by one of three causes: its host's silence for as long as a test
+/// takes, the operator, or the end of a binding by DHCP there.
 pub fn frames_keep_who_came_first()
     ensures { (r : AccessRules) (base : AccessBase) (vlan : ℕ) (p q : Port) (from t0 t : ℕ) (early late : List Mark)
         (eth : Eth) (ip : Ip) (read : Read) (m : Method)

@@ -2,8 +2,8 @@
 //! addresses (RFC 6620, RFC 7513, RFC 8074). A frame also tells of addresses and requests, and these marks are what the
 //! verdicts on later frames follow from.
 //!
-//! `specs/Access.antt` says which packets of a host may pass, in terms of who is live where. `specs/Judged.antt` says step by
-//! step what a frame comes to. That the two agree is a law, as are the others in `laws`.
+//! `specs/Access.antt` says which packets of a host may pass, in terms of who is live where. `specs/Judged.antt` says step
+//! by step what a frame comes to. That the two agree is a law, as are the others in `laws`.
 #![tactic(auto)]
 
 mod laws;

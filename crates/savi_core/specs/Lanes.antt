@@ -1,5 +1,5 @@
--- The queues of all ports: a lane for each, in the order of the plan. A lane's items are what its port keeps of them, or what
--- they stand for.
+-- The queues of all ports: a lane for each, in the order of the plan. A lane's items are what its port keeps of them, or
+-- what they stand for.
 use Rattle.std.specs.Prelude.{◌≡◌, ℕ, ◌&&◌, nat_lt, nat_le, Bool, if◌then◌else◌, List, [], ◌∷◌, ◌++◌, length, map, drop, slice_set, slice_index_or}
 use Rattle.std.specs.List.{filter}
 use Rattle.savi_kinds.specs.declared.port.PortSet.{PortSet}

@@ -1,8 +1,8 @@
 //! The switch as one machine: each event makes one entry of the history.
 //!
-//! Contracts see a `Core` as its plan and its history, the newest row first. `step` and `drain` put the row of their
-//! event in front of the history, which is always legal. What isn't allowed can't be put; where there is no room for an entry,
-//! or nothing to drain, the answer says so and nothing changes.
+//! Contracts see a `Core` as its plan and its history, the newest row first. `step` and `drain` put the row of their event
+//! in front of the history, which is always legal. What isn't allowed can't be put; where there is no room for an entry, or
+//! nothing to drain, the answer says so and nothing changes.
 //!
 //! Read: RFC 6105 and RFC 7113 (router advertisements), RFC 7112 (first fragments), RFC 8200 (IPv6), IEEE 802.1Q
 //! clause 8 (bridges).

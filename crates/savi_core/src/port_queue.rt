@@ -83,7 +83,7 @@ impl PortQueue {
         move_frames(&mut self.ring, hist, count, into);
     }
 
-    /// Nothing joins any more, since the port's egress has ended for this reason; after a failed write what waits is given up.
+    /// Nothing joins any more, since the port's egress has ended for this reason; after a failed write all is given up.
     /// O(n) in what is given up.
     pub fn end(&mut self, how: How)
         ensures { self.new ≡ with_ended how self.old }

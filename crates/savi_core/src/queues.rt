@@ -53,8 +53,8 @@ impl Queues {
         self.queues[place].len()
     }
 
-    /// Offers the frame of the entry with this number to each of these ports of the plan, the lowest first. The answer is the
-    /// ports where there is no room for it. O(n) in these ports.
+    /// Offers the frame of the entry with this number to each of these ports of the plan, the lowest first. The answer is
+    /// the ports where there is no room for it. O(n) in these ports.
     pub fn offer_frame(&mut self, ports: &Ports, outs: PortSet, n: u64) -> PortSet
         requires valid { IsValidPlan ports.now }
         requires lanes { map (λ lane. lane.number) self.old ≡ numbers_of ports.now.ports }

@@ -10,24 +10,39 @@ use savi_ends::{MemClock, MemEnds, MemSink, MemSource, MemWorld, OpenFailed, Std
 use savi_kinds::{Port, PortPlan};
 use switch_report::port_name;
 
+/// What was asked for, a line each. What there is no room for is left out, and the text is another one then.
+pub type Openings = ArrayVec<u8, 512>;
+
 /// A world in memory, and a text with one line for each opening.
 #[derive(Drop)]
 pub struct RecordingWorld {
     pub world: MemWorld,
-    pub openings: ArrayVec<u8, 512>,
+    pub openings: Openings,
 }
 
-// Adds these words as a line. What there is no room for is left out, and the text is another one then.
-fn record(openings: &mut ArrayVec<u8, 512>, first: &str, others: &[&str]) {
-    add_word(openings, first);
-    for word in others {
-        let _full = openings.try_push(b' ');
-        add_word(openings, *word);
-    }
+// Begins a line by this word.
+fn begin_line(openings: &mut Openings, word: &str) {
+    add_octets(openings, word);
+}
+
+// Goes on with a line by this word.
+fn add_word(openings: &mut Openings, word: &str) {
+    let _full = openings.try_push(b' ');
+    add_octets(openings, word);
+}
+
+fn end_line(openings: &mut Openings) {
     let _full = openings.try_push(b'\n');
 }
 
-fn add_word(openings: &mut ArrayVec<u8, 512>, word: &str) {
+// A line of two words.
+fn record(openings: &mut Openings, first: &str, second: &str) {
+    begin_line(openings, first);
+    add_word(openings, second);
+    end_line(openings);
+}
+
+fn add_octets(openings: &mut Openings, word: &str) {
     for octet in word.as_bytes() {
         let _full = openings.try_push(*octet);
     }
@@ -47,34 +62,37 @@ impl World for RecordingWorld {
     }
 
     fn input(&mut self, name: &str) -> Result<MemSource, OpenFailed> {
-        record(&mut self.openings, "input", &[name]);
+        record(&mut self.openings, "input", name);
         self.world.input(name)
     }
 
     fn output(&mut self, name: &str) -> Result<MemSink, OpenFailed> {
-        record(&mut self.openings, "output", &[name]);
+        record(&mut self.openings, "output", name);
         self.world.output(name)
     }
 
     fn port(&mut self, n: Port, plan: &PortPlan) -> Result<MemEnds, OpenFailed> {
         let name = port_name(n);
-        let (role, format) = (plan.role.word(), plan.format.word());
-        let (input, output) = (plan.input.as_str(), plan.output.as_str());
-        record(
-            &mut self.openings,
-            name.as_str(),
-            &[role, format, input, output],
-        );
+        begin_line(&mut self.openings, name.as_str());
+        add_word(&mut self.openings, plan.role.word());
+        add_word(&mut self.openings, plan.format.word());
+        add_word(&mut self.openings, plan.input.as_str());
+        add_word(&mut self.openings, plan.output.as_str());
+        end_line(&mut self.openings);
         self.world.port(n, plan)
     }
 
     fn control(&mut self, source: &str, sink: &str, live: bool) -> Result<MemEnds, OpenFailed> {
-        record(&mut self.openings, "control", &[source, sink]);
+        begin_line(&mut self.openings, "control");
+        add_word(&mut self.openings, source);
+        add_word(&mut self.openings, sink);
+        end_line(&mut self.openings);
         self.world.control(source, sink, live)
     }
 
     fn ticker(&mut self) -> MemClock {
-        record(&mut self.openings, "ticker", &[]);
+        begin_line(&mut self.openings, "ticker");
+        end_line(&mut self.openings);
         self.world.ticker()
     }
 
@@ -83,7 +101,7 @@ impl World for RecordingWorld {
             Std::Out => "out",
             Std::Err => "err",
         };
-        record(&mut self.openings, "std", &[name]);
+        record(&mut self.openings, "std", name);
         self.world.std(which)
     }
 
