@@ -30,8 +30,9 @@ use timer_wheel::TimerWheel;
 
 /// The states of all addresses, and for each address the moment at which something is due first in its state.
 ///
-/// A new state comes only where its port has room, and each address is held at one of 16 ports. So there is always a place
-/// for it, and no call but `make` takes memory or can refuse.
+/// A new state comes only where its port has room, and each address is held at one of 16 ports, or at two of them while one
+/// is tested since the other claims it. So there is always a place for it, and no call but `make` takes memory or can
+/// refuse.
 #[derive(Drop)]
 pub struct AddrTable {
     table: BindTable,
@@ -147,8 +148,8 @@ impl AddrTable {
 
     /// The first of the probes that fall due by `t` (ms), by moment and then by address; what is due before it has come to
     /// pass. None once nothing is due by `t`: then all states are aged to `t`. Each state that is passed costs what
-    /// `TimerWheel::next_due` does and one look-up, one change and one arming; at most six things fall due in a state
-    /// that no event touches.
+    /// `TimerWheel::next_due` does and one look-up, one change and one arming, and O(n) of `BindTable::remove` where its row
+    /// goes; at most six things fall due in a state that no event touches.
     pub fn next_probe(&mut self, t: Moment) -> Option<SentProbe>
         requires { t ≤ 2 ^ 62 }
         ensures given { Gives t self.old self.new result }
