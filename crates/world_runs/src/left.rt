@@ -31,11 +31,18 @@ pub fn print_left(
     }
     for (_, sink) in left.world.outputs.as_slice() {
         let text = with_names(alloc, scene, text_of(alloc, sink)?, "")?;
-        let head = scene.head.as_str();
-        let rest = text.as_str().strip_prefix(head).unwrap_or(text.as_str());
-        print!(rt; "journal:\n{rest}")?;
+        let (place, rest) = behind_head(text.as_str(), scene.head.as_str());
+        print!(rt; "journal{place}:\n{rest}")?;
     }
     Ok(())
+}
+
+// Where what is printed of a journal stands, and what it is: all but its head, where it begins with one, or all.
+fn behind_head<'a>(text: &'a str, head: &str) -> (&'static str, &'a str) {
+    match text.strip_prefix(head) {
+        Some(rest) if !head.is_empty() => (" behind its head", rest),
+        _ => ("", text),
+    }
 }
 
 // What was written.

@@ -7,7 +7,7 @@
 //!     name NAME DIGITS     octets in hexadecimal digits; in what is printed their name stands for them
 //!     plan                 forgets the plan, the head of its journal and the captures
 //!     line TEXT            a line of the configuration
-//!     head TEXT            a line that its journal begins with; where it does, that head isn't printed
+//!     head TEXT            a line that its journal begins with; where it does, what stands behind that head is printed
 //!     capture OCTETS..     what the next port's input holds
 //!     drops PORT RULE NAME..   says which rule drops these frames at a port, and is passed over here
 //!     words TEXT..         the words of the command line
