@@ -34,7 +34,7 @@ use Rattle.addr_history.specs.Tables.{rows_at}
 use Rattle.savi_access.specs.Rules.{AccessRules, AccessBase, IsRequestOf, IsAccessBase}
 use Rattle.savi_access.specs.Marks.{Mark, Told, Asked, Met, told, moment_of, newest_moment, requests_after, open_requests}
 use Rattle.savi_access.specs.Legal.{Follows, AreMarks, HasFront}
-use Rattle.savi_access.specs.Frames.{HasLifetimes, ShowsLifetimes, AreLifetimes, solicited, advertised, dhcp_to, is_router_solicitation, is_listener_message, asking_duid, answered_duid, gives_up}
+use Rattle.savi_access.specs.Frames.{HasLifetimes, ShowsLifetimes, AreLifetimes, dad_target, advertised, dhcp_to, is_router_solicitation, is_listener_message, asking_duid, answered_duid, gives_up}
 use Rattle.savi_access.specs.Judged.{Judged, judged, judged_by, judged_for, validated, trusted, heard_or, unspecified, unspecified_by, sourced, followed, message, message_by, dhcp_or_other, to_server, to_server_by, to_client_or_other, to_client, replied, replied_by, asked, asked_by, answered, answered_or, named_for, with_event, with_events, is_on_link, is_passed, comes_to, passes, drops}
 use Rattle.savi_access.proofs.States.{none_some, true_not_false, told_past, told_before}
 
@@ -243,7 +243,7 @@ module _ (r : AccessRules) (base : AccessBase) (is : IsAccessBase r base) (vlan 
     unspecified_right past right ip read None = excepted_right (is_router_solicitation read || is_listener_message ip read) past right
 
     packet_right : (b : Bool) (past : List Mark) → Right past → (ip : Ip) (read : Read) → ShowsLifetimes read → Right (if b then unspecified r base vlan port t past ip read else sourced r base vlan port t past ip read).marks
-    packet_right true past right ip read short = unspecified_right past right ip read (solicited read)
+    packet_right true past right ip read short = unspecified_right past right ip read (dad_target read)
     packet_right false past right ip read short =
         let sent : Judged = answered_or r base vlan port t OffLink past ip.src.0 (Sent port) in
         followed_right_by (is_passed sent.verdict) sent (answered_right past right OffLink ip.src.0 (Sent port) (record { lease = tt; of_vlan = own; fix = λ rows a. tt })) read short
@@ -274,7 +274,7 @@ module _ (r : AccessRules) (base : AccessBase) (is : IsAccessBase r base) (vlan 
       let client : Judged = to_client_or_other r base vlan port t past (dhcp_to 546 read) in
       let right_client : Right client.marks = client_right past right (dhcp_to 546 read) (short_to 546 read short) in
       let heard : Judged = heard_or r base vlan port t past (advertised read) TpNa client in
-      heard_right past right (solicited read) TpDad free_dad heard (heard_right past right (advertised read) TpNa free_na client right_client)
+      heard_right past right (dad_target read) TpDad free_dad heard (heard_right past right (advertised read) TpNa free_na client right_client)
 
   for_role : (role : Role) → (role ≢ roles.Trusted → r.addresses.vlan_of (number_of port) ≡ Some vlan) → (past : List Mark) → Right past → (class : Class) → AreLifetimes class → Right (judged_for r base vlan port t past class role).marks
   for_role roles.Host own past right class short = validated_right (own (λ same. true_not_false (is_validating roles.Host) refl (ap is_validating same))) past right class short

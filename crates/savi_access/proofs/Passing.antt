@@ -31,9 +31,9 @@ use Rattle.mix_rules.specs.Next.{IsPass, IsPassing}
 use Rattle.savi_access.specs.Rules.{AccessRules, AccessBase, IsAccessBase}
 use Rattle.savi_access.specs.Marks.{Mark, newest_moment, open_requests}
 use Rattle.savi_access.specs.Legal.{AreMarks}
-use Rattle.savi_access.specs.Frames.{solicited, advertised, is_router_solicitation, is_listener_message, dhcp_to, asking_duid}
+use Rattle.savi_access.specs.Frames.{dad_target, advertised, is_router_solicitation, is_listener_message, dhcp_to, asking_duid}
 use Rattle.savi_access.specs.Judged.{Judged, judged, judged_by, judged_for, validated, unspecified, unspecified_by, sourced, followed, message, message_by, dhcp_or_other, to_server, to_server_by, to_client_or_other, passes, asked, asked_by, answered, answered_or, with_event, answer_to, is_on_link, is_passed, comes_to, drops}
-use Rattle.savi_access.specs.Access.{IsIpv6, IsLiveHere, AdvertisesOther, IsRefusedRequest, IsStopped, MaySolicit, IsPermitted, HasAccess}
+use Rattle.savi_access.specs.Access.{IsIpv6, IsLiveHere, AdvertisesOther, IsRefusedRequest, IsStopped, MayDetect, IsPermitted, HasAccess}
 use Rattle.savi_access.proofs.Keeping.{told_follows}
 use Rattle.savi_access.proofs.States.{true_not_false, none_some, state_now, alive_or_not, off_link, sent_passes, na_passes, dad_passes, same_target}
 
@@ -42,13 +42,13 @@ abbrev pub Passes : Judged → Type 0
 Passes judged = IsPass (Some judged.verdict)
 
 -- what a neighbor solicitation, an exception or an advertisement is, it is nothing else
-solicits_alone : (read : Read) (target : ℕ) → solicited read ≡ Some target → (advertised read ≡ None) × (dhcp_to 547 read ≡ None)
+solicits_alone : (read : Read) (target : ℕ) → dad_target read ≡ Some target → (advertised read ≡ None) × (dhcp_to 547 read ≡ None)
 solicits_alone read target is = search rules
 
 excepted_alone : (ip : Ip) (read : Read) → (is_router_solicitation read || is_listener_message ip read) ≡ true → (advertised read ≡ None) × (dhcp_to 547 read ≡ None)
 excepted_alone ip read is = search rules
 
-not_excepted : (ip : Ip) (read : Read) (target : ℕ) → solicited read ≡ Some target → ¬ (IsTrue (is_router_solicitation read) ⊎ IsTrue (is_listener_message ip read))
+not_excepted : (ip : Ip) (read : Read) (target : ℕ) → dad_target read ≡ Some target → ¬ (IsTrue (is_router_solicitation read) ⊎ IsTrue (is_listener_message ip read))
 not_excepted ip read target is = search rules
 
 excepted_either : (ip : Ip) (read : Read) → (is_router_solicitation read || is_listener_message ip read) ≡ true → IsTrue (is_router_solicitation read) ⊎ IsTrue (is_listener_message ip read)
@@ -121,7 +121,7 @@ module _ (r : AccessRules) (base : AccessBase) (is : IsAccessBase r base) (vlan 
     right_kind not (inl never) = none_some never
     right_kind not (inr wrong) = not wrong
 
-    unspecified_is : (s : Option ℕ) → solicited read ≡ s → (Passes (unspecified_by r base vlan port t past ip read s) ↔ Allowed s)
+    unspecified_is : (s : Option ℕ) → dad_target read ≡ s → (Passes (unspecified_by r base vlan port t past ip read s) ↔ Allowed s)
     unspecified_is (Some target) asks = (
       λ passed.
           let both = (or_passes OffLink target (Dad port)).0 passed in
@@ -280,7 +280,7 @@ module _ (r : AccessRules) (base : AccessBase) (is : IsAccessBase r base) (vlan 
   validated_is eth ip read off =
       elim (cases_Bool (ip.src.0 == 0)) [
         | inl zero ↦ subst (λ b. Passes (if b then unspecified r base vlan port t past ip read else sourced r base vlan port t past ip read) ↔ ((¬ (IsSome {T = Rule} None ⊎ Wrong read)) × (IsLiveHere r base vlan port t past ip.src.0 ⊎ IsPermitted r base vlan port t past ip read))) (sym zero)
-            (unspecified_is ip read (eqb-true ip.src.0 0 zero) off (solicited read) refl)
+            (unspecified_is ip read (eqb-true ip.src.0 0 zero) off (dad_target read) refl)
         | inr other ↦ subst (λ b. Passes (if b then unspecified r base vlan port t past ip read else sourced r base vlan port t past ip read) ↔ ((¬ (IsSome {T = Rule} None ⊎ Wrong read)) × (IsLiveHere r base vlan port t past ip.src.0 ⊎ IsPermitted r base vlan port t past ip read))) (sym other)
             (followed_is ip read (λ zero. true_not_false (ip.src.0 == 0) (eq-eqb ip.src.0 0 zero) other))
       ]

@@ -26,7 +26,7 @@ use Rattle.addr_history.specs.States.{outcome_by, state_of}
 use Rattle.addr_history.specs.Marks.{mark_of}
 use Rattle.savi_access.specs.Rules.{AccessRules, AccessBase}
 use Rattle.savi_access.specs.Marks.{Mark, told}
-use Rattle.savi_access.specs.Frames.{solicited, advertised, dhcp_to}
+use Rattle.savi_access.specs.Frames.{dad_target, advertised, dhcp_to}
 use Rattle.savi_access.specs.Judged.{Judged, judged, judged_by, judged_for, judged_without, trusted, heard_or, to_client_or_other, answered, answer_to, named_for, is_on_link, passes}
 use Rattle.savi_access.proofs.States.{true_not_false}
 
@@ -81,7 +81,7 @@ module _ (r : AccessRules) (base : AccessBase) (vlan : ℕ) (port : Port) (t : �
   trusted_passes (BadIp eth) = tt
   trusted_passes (Ip6 eth ip read) =
       let client : Judged = to_client_or_other r base vlan port t past (dhcp_to 546 read) in
-      heard_passes (solicited read) TpDad dad_answered (heard_or r base vlan port t past (advertised read) TpNa client)
+      heard_passes (dad_target read) TpDad dad_answered (heard_or r base vlan port t past (advertised read) TpNa client)
       (heard_passes (advertised read) TpNa na_answered client (client_passes (dhcp_to 546 read)))
 
   for_trusted : (role : Role) (class : Class) → role ≡ roles.Trusted → Passes (judged_for r base vlan port t past class role)

@@ -14,7 +14,7 @@ use Rattle.mix_rules.specs.Next.{IsPassing}
 use Rattle.addr_history.specs.States.{IsLiveAfter}
 use Rattle.savi_access.specs.Rules.{AccessRules, AccessBase}
 use Rattle.savi_access.specs.Marks.{Mark, told, open_requests}
-use Rattle.savi_access.specs.Frames.{solicited, advertised, is_router_solicitation, is_listener_message, dhcp_to, asking_duid}
+use Rattle.savi_access.specs.Frames.{dad_target, advertised, is_router_solicitation, is_listener_message, dhcp_to, asking_duid}
 use Rattle.savi_access.specs.Judged.{answer_to}
 
 -- the frame should carry a packet of IPv6, by its EtherType
@@ -33,7 +33,8 @@ module _ (r : AccessRules) (base : AccessBase) (vlan : ℕ) (port : Port) (t : �
   abbrev pub AdvertisesOther : Read → Type 0
   AdvertisesOther read = IsSomeAnd (advertised read) (λ target. ¬ IsLiveHere target)
 
-  -- it asks for addresses by DHCPv6, and is refused: the port has too many open requests, or another port asks the same
+  -- it asks for addresses by DHCPv6, and is refused: the port has 16 open requests and none of them is this one, or another
+  -- port has one with the same transaction id and DUID
   abbrev pub IsRefusedRequest : Read → Type 0
   IsRefusedRequest read =
       IsSomeAnd (dhcp_to 547 read) (λ dhcp.
@@ -46,16 +47,16 @@ module _ (r : AccessRules) (base : AccessBase) (vlan : ℕ) (port : Port) (t : �
       IsSome (guard_of (r.role_of (number_of port)) r.drop_unknown class) ⊎ (AdvertisesOther read ⊎ IsRefusedRequest read)
 
   -- duplicate address detection of an on-link address, which its row of the state tables lets pass
-  abbrev pub MaySolicit : Read → Type 0
-  MaySolicit read =
-      IsSomeAnd (solicited read) (λ target.
+  abbrev pub MayDetect : Read → Type 0
+  MayDetect read =
+      IsSomeAnd (dad_target read) (λ target.
       IsSome (r.addresses.method_of vlan target) × IsPassing (answer_to r base vlan port t past target (Dad port)))
 
   -- An exception permits it: it has no source address yet (RFC 4861 section 4.1, RFC 4862 section 5.4, RFC 3590), and is a
   -- solicitation for duplicate address detection, a router solicitation, or a message of a multicast listener.
   abbrev pub IsPermitted : Ip → Read → Type 0
   IsPermitted ip read =
-      (ip.src.0 ≡ 0) × (MaySolicit read ⊎ (IsTrue (is_router_solicitation read) ⊎ IsTrue (is_listener_message ip read)))
+      (ip.src.0 ≡ 0) × (MayDetect read ⊎ (IsTrue (is_router_solicitation read) ⊎ IsTrue (is_listener_message ip read)))
 
   -- a packet of IPv6 that may pass
   abbrev pub HasAccess : Class → Type 0

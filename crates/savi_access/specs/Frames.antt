@@ -24,9 +24,9 @@ AreLifetimes (Ip6 eth ip read) = ShowsLifetimes read
 AreLifetimes _ = Unit {0}
 
 -- the target of a solicitation for duplicate address detection (RFC 4862 section 5.4.2)
-abbrev pub solicited : Read → Option ℕ
-solicited (Icmp kind fragmented (Some (Ns target true))) = Some target.0
-solicited _ = None
+abbrev pub dad_target : Read → Option ℕ
+dad_target (Icmp kind fragmented (Some (Ns target true))) = Some target.0
+dad_target _ = None
 
 -- the target of a neighbor advertisement (RFC 4861 section 4.4)
 abbrev pub advertised : Read → Option ℕ
@@ -61,6 +61,6 @@ asking_duid dhcp = if is_asking dhcp then dhcp.duid else None
 abbrev pub answered_duid : Dhcp → Option (ArrayVec ℕ)
 answered_duid dhcp = if dhcp.kind == 7 then dhcp.duid else None
 
--- a Release (8) or a Decline (9), by which a client gives its addresses up
+-- a Release (8) or a Decline (9), after which a client doesn't use its addresses (RFC 8415 sections 18.2.7, 18.2.8)
 abbrev pub gives_up : Dhcp → Bool
 gives_up dhcp = (dhcp.kind == 8) || (dhcp.kind == 9)

@@ -1,4 +1,4 @@
--- What a frame at a port comes to: the verdict, what it tells, and the probe with which it is answered (RFC 6620 section
+-- What a frame at a port comes to: the verdict, what it tells, and the probe that it causes (RFC 6620 section
 -- 3.2, RFC 7513 section 6, RFC 8074).
 use Rattle.std.specs.Prelude.{ℕ, ◌==◌, ◌||◌, Bool, true, false, if◌then◌else◌, Option, Some, None, is_some, option_map, unwrap_or, List, [], ◌∷◌}
 use Rattle.arrayvec.specs.ArrayVec.{ArrayVec}
@@ -29,7 +29,7 @@ use Rattle.addr_history.specs.States.{answer_at}
 use Rattle.addr_history.specs.Tables.{rows_at}
 use Rattle.savi_access.specs.Rules.{AccessRules, AccessBase}
 use Rattle.savi_access.specs.Marks.{Mark, Told, Asked, Met, told, open_requests}
-use Rattle.savi_access.specs.Frames.{solicited, advertised, is_router_solicitation, is_listener_message, dhcp_to, asking_duid, answered_duid, gives_up}
+use Rattle.savi_access.specs.Frames.{dad_target, advertised, is_router_solicitation, is_listener_message, dhcp_to, asking_duid, answered_duid, gives_up}
 
 pub record Judged : Type 0 where
   pub verdict : Verdict
@@ -103,7 +103,7 @@ module _ (r : AccessRules) (base : AccessBase) (vlan : ℕ) (port : Port) (t : �
       if is_router_solicitation read || is_listener_message ip read then comes_to (Pass TrustedOnly) past else drops UnspecifiedSource past
 
   abbrev pub unspecified : List Mark → Ip → Read → Judged
-  unspecified past ip read = unspecified_by past ip read (solicited read)
+  unspecified past ip read = unspecified_by past ip read (dad_target read)
 
   -- a client asks for addresses: refused, or a request is opened or renewed
   abbrev pub asked_by : List Mark → ℕ → List ℕ → Option Rule → Judged
@@ -170,7 +170,7 @@ module _ (r : AccessRules) (base : AccessBase) (vlan : ℕ) (port : Port) (t : �
   -- a frame at a trusted port: it passes, and solicitations, advertisements and Replies are heard
   abbrev pub trusted : List Mark → Class → Judged
   trusted past (Ip6 eth ip read) =
-      heard_or past (solicited read) TpDad (heard_or past (advertised read) TpNa (to_client_or_other past (dhcp_to 546 read)))
+      heard_or past (dad_target read) TpDad (heard_or past (advertised read) TpNa (to_client_or_other past (dhcp_to 546 read)))
   trusted past _ = passes past
 
   abbrev pub judged_for : List Mark → Class → Role → Judged

@@ -4,7 +4,8 @@ use Rattle.std.specs.Prelude.{ℕ, ◌==◌, if◌then◌else◌, List, [], ◌�
 use Rattle.dhcp_states.specs.declared.request.Request.{Request}
 use Rattle.dhcp_states.specs.Requests.{open_at, with_request, without_pair}
 use Rattle.addr_history.specs.Marks.{Named}
-use Rattle.savi_access.specs.Rules.{AccessBase}
+use Rattle.addr_history.specs.Legal.{base_at as addr_base_at}
+use Rattle.savi_access.specs.Rules.{AccessRules, AccessBase}
 
 pub data Mark : Type 0 where
   -- something happened to an address
@@ -44,3 +45,10 @@ requests_after base vlan (Met of moment tid duid ∷ past) =
 -- those of them that are open at t
 abbrev pub open_requests : AccessBase → ℕ → List Mark → ℕ → List Request
 open_requests base vlan past t = open_at t (requests_after base vlan past)
+
+-- the states and the open requests at t, as what goes on from there has them for a base
+abbrev pub base_at : AccessRules → AccessBase → List Mark → ℕ → AccessBase
+base_at r base past t = record {
+  addresses = addr_base_at r.addresses base.addresses (told past) t;
+  requests = λ vlan. open_requests base vlan past t;
+}

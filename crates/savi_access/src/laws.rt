@@ -17,14 +17,18 @@ ghost use Rattle.mix_rules.specs.Next.{IsPass};
 ghost use Rattle.addr_history.specs.Marks.{AreInTurn};
 ghost use Rattle.addr_history.specs.States.{IsLiveAfter};
 ghost use Rattle.addr_history.specs.FirstCome.{IsKeptOn};
-ghost use Rattle.savi_access.specs.Rules.{AccessRules, AccessBase, IsAccessBase};
-ghost use Rattle.savi_access.specs.Marks.{Mark, told, newest_moment, open_requests};
+ghost use Rattle.savi_access.specs.Rules.{AccessRules, AccessBase, HasHostPorts, IsAccessBase, nothing_yet};
+ghost use Rattle.savi_access.specs.Marks.{Mark, told, newest_moment, open_requests, base_at};
 ghost use Rattle.savi_access.specs.Frames.{AreLifetimes};
 ghost use Rattle.savi_access.specs.Legal.{AreMarks, HasFront};
 ghost use Rattle.savi_access.specs.Judged.{judged, judged_without};
+ghost use Rattle.savi_access.specs.Cases.{IsCase};
 ghost use Rattle.savi_access.specs.Access.{IsIpv6, HasAccess};
+ghost use Rattle.fcfs_states.specs.Premises.{AreTimes};
 
-/// A host's packet passes exactly where no rule on messages stops it and its source is live at the port, or a named
+use addr_history::states_stay_a_base;
+
+/// A packet at the port of a host or a server passes exactly where no rule on messages stops it and its source is live at the port, or a named
 /// exception permits it. The port is of the packet's VLAN, and `::` isn't on-link.
 pub fn a_packet_passes_where_its_source_is_live()
     ensures { (r : AccessRules) (base : AccessBase) (vlan : ℕ) (port : Port) (t : ℕ) (past : List Mark) (class : Class)
@@ -49,8 +53,26 @@ pub fn frames_keep_who_came_first()
         → IsKeptOn r.addresses base.addresses m (told early) t0 (told late) t vlan ip.src.0 p }
 {}
 
-/// What a frame tells may come after what was told before: so the marks of a history are always marks that may come. They
-/// are of the frame's moment, in front of those before it, which stay.
+/// Each frame comes to the case that it meets, with its verdict, its scope, all that it tells and the probe that it causes.
+/// The cases are stated by what stands in its packet.
+pub fn a_frame_comes_to_its_case()
+    ensures { (r : AccessRules) (base : AccessBase) (vlan : ℕ) (port : Port) (t : ℕ) (past : List Mark) (class : Class)
+        → IsCase r base vlan port t past class (judged r base vlan port t past class) }
+{}
+
+/// The states and the open requests at a moment, from the last mark on, are within the limits as the base was: each request
+/// is open, and at a port of its VLAN. So is the start of a switch.
+pub fn states_and_requests_stay_a_base()
+    ensures start { (r : AccessRules) → AreTimes r.addresses.times → HasHostPorts r → IsAccessBase r nothing_yet }
+    ensures kept { (r : AccessRules) (base : AccessBase) (past : List Mark) (t : ℕ)
+        → IsAccessBase r base → AreMarks r base past → newest_moment base past ≤ t → t ≤ 2 ^ 62
+        → IsAccessBase r (base_at r base past t) }
+{
+    states_stay_a_base();
+}
+
+/// What a frame tells may come after what was told before, where the lifetimes in it are numbers of 32 bits. It is of the
+/// frame's moment, in front of what was told before, which stays.
 pub fn frames_keep_the_marks()
     ensures { (r : AccessRules) (base : AccessBase) (vlan : ℕ) (port : Port) (t : ℕ) (past : List Mark) (class : Class)
         → IsAccessBase r base → AreMarks r base past → newest_moment base past ≤ t → t ≤ 2 ^ 62 → AreLifetimes class
@@ -60,14 +82,14 @@ pub fn frames_keep_the_marks()
         × HasFront t past (judged r base vlan port t past class).marks }
 {}
 
-/// No port has more than 16 open requests, and no two open requests of a VLAN have the same transaction id and DUID.
+/// In each VLAN no port has more than 16 open requests, and no two open requests have the same transaction id and DUID.
 pub fn requests_stay_within_limits()
     ensures { (r : AccessRules) (base : AccessBase) (vlan t : ℕ) (past : List Mark)
         → IsAccessBase r base → AreMarks r base past → newest_moment base past ≤ t
         → IsWithinLimits (open_requests base vlan past t) }
 {}
 
-/// At a trusted port each frame passes that no rule on its Ethernet header stops.
+/// At a trusted port each frame passes that no rule on its length or its Ethernet header stops.
 pub fn trusted_ports_are_not_validated()
     ensures { (r : AccessRules) (base : AccessBase) (vlan : ℕ) (port : Port) (t : ℕ) (past : List Mark) (class : Class)
         → r.role_of (number_of port) ≡ Trusted → guard_of (r.role_of (number_of port)) r.drop_unknown class ≡ None

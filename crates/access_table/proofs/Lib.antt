@@ -1,0 +1,5 @@
+pub mod Standing
+pub mod Starts
+pub mod Own
+pub mod Stepping
+pub mod Following

@@ -1,0 +1,18 @@
+use Rattle.std.proofs.Common.{◌≡◌, ℕ, ◌≤◌, List, fold, refl, ap, ◌∙◌, subst}
+use Rattle.savi_access.specs.Rules.{AccessRules, AccessBase}
+use Rattle.savi_access.specs.Marks.{Mark, told}
+use Rattle.addr_history.specs.Probes.{probes_between}
+use Rattle.access_table.specs.Kept.{Kept, Represents}
+use Rattle.access_table.proofs.Standing.{aged_stands, sent_between}
+use Rattle.access_table.proofs.table.AccessTable.age_to.Goals as goal
+
+pub returns-clause-kept : goal.returns-clause-kept
+returns-clause-kept g c =
+    let new : Kept = record { addresses = c.age_to.new.self; requests = c.self.inside.requests } in
+    subst (λ (old : Kept). (r : AccessRules) (base : AccessBase) (past : List Mark) (from : ℕ) → Represents r base past from old → from ≤ c.args.t → Represents r base past c.args.t new) c.self.view_is
+    (λ r base past from is after. aged_stands r base past from c.args.t (record { addresses = c.self.inside.addresses; requests = c.self.inside.requests }) new is after c.age_to.ensures.rows refl)
+
+pub returns-clause-sent : goal.returns-clause-sent
+returns-clause-sent g c =
+    subst (λ (old : Kept). (r : AccessRules) (base : AccessBase) (past : List Mark) (from : ℕ) → Represents r base past from old → from ≤ c.args.t → c.age_to.new.sink ≡ fold g.S.ProbeSink.after c.args.sink.now (probes_between r.addresses base.addresses (told past) from c.args.t 1)) c.self.view_is
+    (λ r base past from is after. c.age_to.ensures.sent ∙ ap (fold g.S.ProbeSink.after c.args.sink.now) (sent_between r base past from c.args.t (record { addresses = c.self.inside.addresses; requests = c.self.inside.requests }) is after))

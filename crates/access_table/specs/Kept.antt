@@ -1,0 +1,33 @@
+-- What a contract sees of the machine that judges frames, and what that says of the past.
+use Rattle.std.specs.Prelude.{◌≡◌, ℕ, ◌≤◌, List}
+use Rattle.dhcp_states.specs.declared.request.Request.{Request}
+use Rattle.dhcp_states.specs.Requests.{open_at}
+use Rattle.addr_table.specs.Addresses.{Addresses}
+use Rattle.addr_table.specs.Ages.{AllStill}
+use Rattle.addr_table.specs.Keeps.{AreSound}
+use Rattle.addr_history.specs.Tables.{rows_at}
+use Rattle.savi_access.specs.Rules.{AccessRules, AccessBase, IsAccessBase}
+use Rattle.savi_access.specs.Marks.{Mark, told, newest_moment, open_requests}
+use Rattle.savi_access.specs.Legal.{AreMarks}
+
+pub record Kept : Type 0 where
+  -- the states of addresses
+  pub addresses : Addresses
+  -- the requests, the one that was asked last at the end
+  pub requests : List Request
+
+-- all that was told since a base within the limits, by these rules: the states are those that the marks leave at t, and the
+-- open requests are those that are open then
+pub record Represents (r : AccessRules) (base : AccessBase) (past : List Mark) (t : ℕ) (kept : Kept) : Type 0 where
+  pub base_is : IsAccessBase r base
+  pub marks : AreMarks r base past
+  pub last : newest_moment base past ≤ t
+  pub rows : kept.addresses.rows ≡ rows_at r.addresses base.addresses (told past) t 1
+  pub requests : open_at t kept.requests ≡ open_requests base 1 past t
+  pub times : kept.addresses.times ≡ r.addresses.times
+  pub per_port : kept.addresses.per_port ≡ r.addresses.per_port
+
+-- all states are aged to t, and each is sound for the method of its address
+pub record IsReady (r : AccessRules) (t : ℕ) (kept : Kept) : Type 0 where
+  pub still : AllStill kept.addresses.times t kept.addresses.rows
+  pub sound : AreSound (r.addresses.method_of 1) kept.addresses.rows

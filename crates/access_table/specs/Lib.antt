@@ -1,0 +1,4 @@
+pub mod Plans
+pub mod Kept
+pub mod Events
+pub mod Steps
