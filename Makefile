@@ -13,8 +13,8 @@ build/%: FORCE
 look:
 	@tools/look
 
-# Replays of the examples: a host that attacks and its router, and a link of five ports. The first time takes the build, a
-# later one a second.
+# Replays of the examples: a host that attacks and its router, a link of five ports, and three links whose sources are
+# validated. The first time takes the build, a later one a second.
 demo: build
 	@tools/demo
 
@@ -33,7 +33,8 @@ bench: build build/capture_bench build/lock_bench build/fdb_bench build/tables_b
 	bench/stations build/fdb_bench
 	bench/tables build/tables_bench
 
-# The merge gate: `rt ci`, and then the examples. From nothing it takes about 40 minutes on 4 cores.
+# The merge gate: `rt ci`, then the examples, and the program beside the second implementation. From nothing it takes about 40
+# minutes on 4 cores.
 check:
 	.ci/run
 

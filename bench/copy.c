@@ -1,9 +1,11 @@
 /* The octet work of a replay, without any judgement. It reads the captures 1.pcap, 2.pcap and so on in order of stamp, and
- * writes each record to the output of each other port, 1.copy, 2.copy and so on, by one write(2) each. It writes the entries
- * of the journal to copy.txt: a line for each record with its frame in hexadecimal, one for each output that it went to, and
- * one for each end. Only the journal's header isn't written.
+ * writes each record to the output of the port where its destination was seen last, or of each other port where it wasn't
+ * seen within 300 s: 1.copy, 2.copy and so on, by one write(2) each. It writes the entries of the journal to copy.txt: a line
+ * for each record with its frame in hexadecimal, one for each output that it went to, and one for each end. Only the journal's
+ * header isn't written.
  *
- * It takes little-endian captures with microseconds and without fault.
+ * It takes little-endian captures with microseconds and without fault, of frames of at least 14 octets from at most 32,768
+ * stations.
  *
  * usage: copy PORTS
  */
@@ -15,6 +17,9 @@
 #include <unistd.h>
 
 enum { PORTS = 16, PIECE = 65536, FRAME = 1518, RECORD = 16, LINES = 8192 };
+
+/* places of the table of stations, and the most that are used; how many stations a port has at most, and for how many ms */
+enum { PLACES = 65536, USED = 32768, STATIONS = 256, AGEING = 300000 };
 
 struct input {
     int fd;
@@ -31,6 +36,62 @@ static int out[PORTS], journal, ports;
 static unsigned char text[PIECE + LINES];
 static size_t pending;
 static uint64_t entries, moment;
+
+/* where a MAC address was seen last, and when: found by a hash of the address, or in the places behind it */
+static struct station {
+    uint64_t mac, last;
+    int used, port;
+} table[PLACES];
+static int used;
+
+static uint64_t mac_at(const unsigned char *p)
+{
+    uint64_t mac = 0;
+    for (int k = 0; k < 6; k++)
+        mac = mac << 8 | p[k];
+    return mac;
+}
+
+/* the place of an address, or the empty one where it would be */
+static struct station *find(uint64_t mac)
+{
+    size_t k = (mac * 0x9e3779b97f4a7c15ull) >> 48;
+    while (table[k].used && table[k].mac != mac)
+        k = (k + 1) % PLACES;
+    return &table[k];
+}
+
+static int is_live(const struct station *s)
+{
+    return s->used && moment < s->last + AGEING;
+}
+
+static int is_full(int port)
+{
+    int count = 0;
+    for (int k = 0; k < PLACES; k++)
+        count += is_live(&table[k]) && table[k].port == port;
+    return count >= STATIONS;
+}
+
+/* the port where this address is known, or -1; the address of a group is nowhere */
+static int known_port(const unsigned char *mac)
+{
+    const struct station *s = mac[0] & 1 ? NULL : find(mac_at(mac));
+    return s && is_live(s) ? s->port : -1;
+}
+
+static void learn(const unsigned char *mac, int port)
+{
+    struct station *s = find(mac_at(mac));
+    if (!(is_live(s) && s->port == port) && is_full(port))
+        return;
+    if (!s->used && ++used > USED) {
+        fprintf(stderr, "copy: too many stations\n");
+        exit(1);
+    }
+    *s = (struct station){ .mac = mac_at(mac), .last = moment, .used = 1, .port = port };
+}
 
 static int fill(struct input *p, unsigned char *into, size_t want)
 {
@@ -138,14 +199,19 @@ static int least(void)
     return best;
 }
 
-static void flood(int i)
+static void forward(int i)
 {
     static const char digit[] = "0123456789abcdef";
     struct input *p = &in[i];
     unsigned char record[RECORD + FRAME];
-    int first = 1;
+    int first = 1, outs[PORTS], count = 0;
     if (p->stamp > moment)
         moment = p->stamp;
+    int known = known_port(p->frame);
+    for (int j = 0; j < ports; j++)
+        if (j != i && (known < 0 || known == j))
+            outs[count++] = j;
+    learn(p->frame + 6, i);
     begin_entry(i);
     put_text("F ");
     put_number((uint64_t)i + 1, " ");
@@ -155,25 +221,23 @@ static void flood(int i)
         text[pending++] = (unsigned char)digit[p->frame[k] & 15];
     }
     put_text(" pass-all ");
-    for (int j = 0; j < ports; j++)
-        if (j != i) {
-            put_text(first ? "" : ",");
-            put_number((uint64_t)j + 1, "");
-            first = 0;
-        }
-    put_text(" - 0 0\n");
+    for (int k = 0; k < count; k++) {
+        put_text(first ? "" : ",");
+        put_number((uint64_t)outs[k] + 1, "");
+        first = 0;
+    }
+    put_text(count ? " - 0 0\n" : "- - 0 0\n");
     put32(record, (uint32_t)(moment / 1000));
     put32(record + 4, (uint32_t)(1000 * (moment % 1000)));
     put32(record + 8, p->size);
     put32(record + 12, p->size);
     memcpy(record + RECORD, p->frame, p->size);
-    for (int j = 0; j < ports; j++)
-        if (j != i) {
-            begin_entry(ports + 2 + j);
-            put_text("D ");
-            put_number((uint64_t)j + 1, " 1\n");
-            whole(out[j], record, RECORD + p->size);
-        }
+    for (int k = 0; k < count; k++) {
+        begin_entry(ports + 2 + outs[k]);
+        put_text("D ");
+        put_number((uint64_t)outs[k] + 1, " 1\n");
+        whole(out[outs[k]], record, RECORD + p->size);
+    }
     if (pending >= PIECE) {
         whole(journal, text, pending);
         pending = 0;
@@ -207,7 +271,7 @@ int main(int argc, char **argv)
     for (int i = 0; i < ports; i++)
         look(i);
     for (int i = least(); i >= 0; i = least()) {
-        flood(i);
+        forward(i);
         look(i);
     }
     put_end(ports + 1, "E ticker", 0);

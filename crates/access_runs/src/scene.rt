@@ -2,7 +2,7 @@
 
 ghost use Rattle.std.specs.Prelude.{◌≡◌, ◌≤◌, ◌^◌, ℕ};
 ghost use Rattle.savi_kinds.specs.ValidPlan.{IsValidPlan};
-ghost use Rattle.access_table.specs.Plans.{rules_of};
+ghost use Rattle.savi_access.specs.Plans.{rules_of};
 ghost use Rattle.access_table.specs.Kept.{IsReady};
 
 use crate::switch::{age, at_start, verdict_on};
@@ -11,11 +11,12 @@ use savi_conf::read_plan;
 use savi_kinds::{LAST_MOMENT, Moment, Plan, Port, put_addr};
 use std::alloc::{AllocError, Global};
 
-/// The ports of hosts 1, 2 and 3, a trusted port 4, that of a server 5, and a prefix of each method.
+/// A switch that validates sources: the ports of hosts 1, 2 and 3, a trusted port 4, that of a server 5, and a prefix of
+/// each method.
 const PLAN: &str = r#"
 mac = "02:00:00:00:00:01"
 journal = "journal.txt"
-savi = "off"
+savi = "on"
 port = [
   { number = 1, role = "host", input = "1.pcap", output = "1.out" },
   { number = 2, role = "host", input = "2.pcap", output = "2.out" },
@@ -93,17 +94,9 @@ pub fn play(rt: &impl Print, alloc: Global, scene: &Scene) -> anyhow::Result<()>
     let per_port = scene.per_port.as_str();
     let text = format!(in alloc; "per_port = {per_port}\n{PLAN}")?;
     match read_plan(alloc, text.as_bytes(), true) {
-        Ok(plan) => play_on(rt, alloc, scene, &validating(plan)),
+        Ok(plan) => play_on(rt, alloc, scene, &plan),
         Err(fault) => Ok(println!(rt; "{fault:?}")?),
     }
-}
-
-// The plan of a switch that validates sources: a configuration can't say so yet.
-fn validating(plan: Plan) -> Plan
-    requires { IsValidPlan plan }
-    ensures { IsValidPlan result }
-{
-    Plan { savi: true, ..plan }
 }
 
 // Plays it on a switch of this plan.

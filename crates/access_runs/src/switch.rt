@@ -3,7 +3,7 @@
 ghost use Rattle.std.specs.Prelude.{◌≡◌, ◌≤◌, ◌^◌, ℕ, IfOk};
 ghost use Rattle.savi_kinds.specs.Ports.{number_of};
 ghost use Rattle.savi_kinds.specs.ValidPlan.{IsValidPlan};
-ghost use Rattle.access_table.specs.Plans.{rules_of, has_port};
+ghost use Rattle.savi_access.specs.Plans.{rules_of, has_port};
 ghost use Rattle.access_table.specs.Kept.{IsReady};
 
 use access_table::AccessTable;

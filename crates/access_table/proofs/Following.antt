@@ -4,7 +4,7 @@ use Rattle.savi_kinds.specs.declared.port.Port.{Port}
 use Rattle.savi_kinds.specs.declared.plan.Role.{Role}
 use Rattle.savi_kinds.specs.declared.plan.Role.TheVariants as roles
 use Rattle.savi_access.proofs.States.{none_some, true_not_false}
-use Rattle.access_table.specs.Plans.{vlan_by}
+use Rattle.savi_access.specs.Plans.{vlan_by}
 use Rattle.savi_kinds.specs.declared.verdict.Rule.{Rule}
 use Rattle.savi_kinds.specs.declared.verdict.Scope.TheVariants.{All}
 use Rattle.savi_kinds.specs.declared.verdict.Verdict.TheVariants.{Pass}

@@ -1,5 +1,4 @@
 pub mod Standing
 pub mod Starts
-pub mod Own
 pub mod Stepping
 pub mod Following

@@ -9,7 +9,7 @@ ghost use Rattle.addr_history.specs.Legal.{IsOfVlan};
 ghost use Rattle.savi_access.specs.Judged.{judged, judged_for, validated, trusted, unspecified, sourced, message, to_server, to_client_or_other, replied, asked, answered, with_events, is_on_link, comes_to};
 ghost use Rattle.savi_access.specs.Frames.{answered_duid, dhcp_to, gives_up};
 ghost use Rattle.fcfs_states.specs.declared.event.Ev.TheVariants.{Release};
-ghost use Rattle.access_table.specs.Plans.{rules_of, has_port, role_of, vlan_among};
+ghost use Rattle.savi_access.specs.Plans.{rules_of, has_port, role_of, vlan_among};
 ghost use Rattle.access_table.specs.Kept.{Represents, IsReady};
 ghost use Rattle.access_table.specs.Events.{IsOfFrame, port_of, event_of};
 ghost use Rattle.access_table.specs.Steps.{Moves, Follows};

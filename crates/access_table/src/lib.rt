@@ -4,7 +4,7 @@
 //! Contracts see an `AccessTable` as its states and its requests (`specs/Kept.antt`), and say of each call what it does to
 //! whatever these stand for: a list of all that frames have told since a start, as `savi_access` has it. `judge` gives each
 //! frame the verdict and the probe that `judged` there says, and then stands for the marks with those of the frame.
-//! `specs/Plans.antt` has the rules of a plan. Nothing takes memory but `AccessTable::make`.
+//! Nothing takes memory but `AccessTable::make`.
 #![tactic(auto)]
 
 mod change;

@@ -5,7 +5,7 @@ ghost use Rattle.savi_kinds.specs.Ports.{number_of};
 ghost use Rattle.savi_kinds.specs.ValidPlan.{IsValidPlan};
 ghost use Rattle.nd_read.specs.InPrefix.{lies_in};
 ghost use Rattle.ra_guard.specs.GuardOf.{is_validating};
-ghost use Rattle.access_table.specs.Plans.{role_of, method_in};
+ghost use Rattle.savi_access.specs.Plans.{role_of, method_in};
 
 use savi_kinds::{Addr, Method, Plan, Port, Prefix, Role};
 

@@ -15,7 +15,7 @@ ghost use Rattle.addr_table.specs.Sends.{sends};
 ghost use Rattle.addr_history.specs.Probes.{probes_between};
 ghost use Rattle.savi_access.specs.Rules.{AccessRules, AccessBase, nothing_yet};
 ghost use Rattle.savi_access.specs.Marks.{Mark, Asked, Met, told, open_requests};
-ghost use Rattle.access_table.specs.Plans.{rules_of};
+ghost use Rattle.savi_access.specs.Plans.{rules_of};
 ghost use Rattle.access_table.specs.Kept.{Represents, IsReady};
 ghost use Rattle.access_table.specs.Events.{IsOfFrame};
 ghost use Rattle.access_table.specs.Steps.{Hears, Moves};

@@ -43,7 +43,7 @@ fn switch_meaning(number: u8) -> &'static str {
     }
 }
 
-// A fault of the ports, of the prefixes, or of what the switch can do.
+// A fault of the ports, of the prefixes, or of control.
 fn list_meaning(number: u8) -> &'static str {
     match number {
         13 => "port: there is none, or there are more than 16",
@@ -59,9 +59,6 @@ fn list_meaning(number: u8) -> &'static str {
         }
         19 => "method of a [[prefix]]: not \"fcfs\", \"dhcp\" or \"mixed\"",
         20 => "format of a [[port]]: \"stream\", where a replay reads captures alone",
-        _ => {
-            "savi, control or control_out: it asks for what isn't built yet; write savi = \"off\", and neither \
-             control nor control_out"
-        }
+        _ => "control and control_out: commands aren't built yet; leave both keys out",
     }
 }

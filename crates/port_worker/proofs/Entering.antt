@@ -11,7 +11,7 @@ use Rattle.savi_history.specs.Events.{End}
 use Rattle.savi_history.specs.Turns.{Arrives}
 use Rattle.savi_history.specs.Replay as replay
 use Rattle.savi_core.specs.Machines.{Machine, with_event}
-use Rattle.savi_core.specs.Steps.{Did, HasRoomFor, HasNoRoomFor}
+use Rattle.savi_core.specs.Steps.{Did, HasRoomFor, HasNoRoomFor, IsIdle}
 use Rattle.savi_core.specs.declared.event.Stepped.{Stepped}
 use Rattle.savi_core.specs.declared.event.Stepped.TheVariants as stepped
 use Rattle.port_worker.specs.Steps.{Enters, IfFull, IfDone}
@@ -23,6 +23,11 @@ room m port (arrivals.Long stamp len) has = has
 no_room : (m : Machine) (port : Port) (arrival : Arrival) → HasNoRoomFor m (replay.event_of port arrival) → has_room m.plan m.past ≡ false
 no_room m port (arrivals.Frame stamp octets) has = has
 no_room m port (arrivals.Long stamp len) has = has
+
+-- an arrival is always worth an entry
+never_idle : (m : Machine) (port : Port) (arrival : Arrival) → IsIdle m (replay.event_of port arrival) → ⊥
+never_idle m port (arrivals.Frame stamp octets) idle = idle
+never_idle m port (arrivals.Long stamp len) idle = idle
 
 module _ (old mid new : Machine) (port : Port) (arrival : Arrival) where
   entered_done : (result : Bool) → HasRoomFor old (replay.event_of port arrival) → mid ≡ with_event old (replay.event_of port arrival) → result ≡ true → new ≡ mid → Enters old.plan port (Arrives port arrival) old.past result new.past
@@ -41,6 +46,6 @@ module _ (old mid new : Machine) (port : Port) (arrival : Arrival) where
       → IfFull answer (λ len. (result ≡ false) × (new ≡ with_event mid (End (Ingress port) (hows.Full len))) × R)
       → IfDone answer ((result ≡ true) × (new ≡ mid) × Q)
       → Enters old.plan port (Arrives port arrival) old.past result new.past
-  entered_arrival R Q result (stepped.Done entry) did full done = entered_done result did.0 did.1 done.0 done.1
+  entered_arrival R Q result (stepped.Done entry) did full done = entered_done result did.0 did.2 done.0 done.1
   entered_arrival R Q result (stepped.Full len) did full done = entered_full result len did.0 did.1 did.2 full.0 full.1
-  entered_arrival R Q result stepped.Nothing did full done = absurd did
+  entered_arrival R Q result stepped.Nothing did full done = absurd (never_idle old port arrival did.1)

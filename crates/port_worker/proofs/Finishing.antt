@@ -32,9 +32,9 @@ use Rattle.savi_core.specs.declared.event.Stepped.TheVariants as stepped
 
 -- an end is always entered
 pub did_end : (old : Machine) (who : Who) (how : How) (new : Machine) (answer : Stepped) → Did old (End who how) new answer → new ≡ with_event old (End who how)
-did_end old who how new (stepped.Done entry) did = did.1
+did_end old who how new (stepped.Done entry) did = did.2
 did_end old who how new (stepped.Full len) did = absurd did.0
-did_end old who how new stepped.Nothing did = absurd did
+did_end old who how new stepped.Nothing did = absurd did.1
 
 pub record FinishesSoFar (plan : Plan) (place : ℕ) (first now : Machine) : Type 0 where
   pub plan_is : now.plan ≡ plan

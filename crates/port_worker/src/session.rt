@@ -36,7 +36,6 @@ pub fn replay_session<S: Source, K: Sink, C: Clock>(
     ready: Ready<S, K, C>,
 ) -> Result<Closed<S, K, C>, Ready<S, K, C>>
     requires valid { IsValidPlan plan }
-    requires guard_only { plan.savi ≡ false }
     requires planned { ports_held ready.ports.items ≡ ports_planned plan }
     requires unread { All IsUnread ready.ports.items }
     ensures none { IfErr result (λ back. back ≡ ready) }

@@ -1,5 +1,5 @@
 -- What a run reads of its configuration.
-use Rattle.std.specs.Prelude.{◌≡◌, ◌≢◌, ◌+◌, ◌<◌, ◌≤◌, ℕ, true, false, List, Option, None, IfSome, IsSomeAnd, Ok, Err, length, ◌⊎◌}
+use Rattle.std.specs.Prelude.{◌≡◌, ◌≢◌, ◌+◌, ◌<◌, ◌≤◌, ℕ, true, List, Option, None, IfSome, IsSomeAnd, Ok, Err, length, ◌⊎◌}
 use Rattle.savi_kinds.specs.declared.plan.Plan.{Plan}
 use Rattle.savi_kinds.specs.ValidPlan.{IsValidPlan}
 use Rattle.savi_conf.specs.declared.fault.ConfFault.{ConfFault}
@@ -8,10 +8,9 @@ use Rattle.savi_conf.specs.Answers.{IsAnswer, most_octets}
 use Rattle.savi_ends.specs.Octets.{IsFront, Takes}
 use Rattle.savi_ends.specs.Places.{Place}
 
--- a plan of what is built: valid, without source validation and without control
+-- a plan of what is built: valid, and without control
 pub record IsBuilt (plan : Plan) : Type 0 where
   pub valid : IsValidPlan plan
-  pub guard_only : plan.savi ≡ false
   pub no_control : plan.control ≡ None
 
 -- the text that stands in an input is one for which this holds, where the input tells its octets

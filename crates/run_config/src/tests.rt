@@ -32,19 +32,29 @@ input = \"2.pcap\"
 output = \"2.out\"
 ";
 
-// Changes of the plan, and what is wrong with it then.
-const CHANGES: [(&str, &str, Option<ConfFault>); 7] = [
-    ("# format", "# none", None),
+// Changes of the plan, and whether it validates sources then, or what is wrong with it.
+const CHANGES: [(&str, &str, Result<bool, ConfFault>); 9] = [
+    ("# format", "# none", Ok(false)),
     (
         "02:00:00:00:00:01",
         "03:00:00:00:00:01",
-        Some(ConfFault::Bad(5)),
+        Err(ConfFault::Bad(5)),
     ),
-    ("savi = \"off\"", "savi = \"on\"", Some(ConfFault::Bad(21))),
-    ("savi = \"off\"\n", "", Some(ConfFault::Bad(21))),
-    ("journal = \"journal.txt\"\n", "", Some(ConfFault::Bad(4))),
-    ("# format", "format = \"stream\"", Some(ConfFault::Bad(20))),
-    ("mac = ", "mac ", Some(ConfFault::NotToml)),
+    ("savi = \"off\"", "savi = \"on\"", Ok(true)),
+    ("savi = \"off\"\n", "", Ok(true)),
+    (
+        "savi = \"off\"",
+        "savi = \"off\"\ncontrol = \"c\"\ncontrol_out = \"d\"",
+        Err(ConfFault::Bad(21)),
+    ),
+    (
+        "savi = \"off\"",
+        "control = \"c\"\ncontrol_out = \"d\"",
+        Err(ConfFault::Bad(21)),
+    ),
+    ("journal = \"journal.txt\"\n", "", Err(ConfFault::Bad(4))),
+    ("# format", "format = \"stream\"", Err(ConfFault::Bad(20))),
+    ("mac = ", "mac ", Err(ConfFault::NotToml)),
 ];
 
 // The text with the first `old` in it changed.
@@ -111,16 +121,18 @@ fn faults_of(world: &MemWorld) -> Option<u64> {
 #[test]
 fn a_plan_is_taken_or_refused(rt: HostRuntime) -> Result<(), Fail> {
     let alloc = rt.alloc();
-    for (old, new, fault) in &CHANGES {
+    for (old, new, wanted) in &CHANGES {
         let text = changed(alloc, PLAN, old, new)?;
         let mut world = world_of(alloc, text.as_bytes(), 64, 0, 0)?;
         assert!(rt; world.is_fresh());
         match configured(alloc, "plan", &mut world) {
             Ok(plan) => {
                 assert_eq!(rt; plan.ports.as_slice().len(), 3);
-                assert_eq!(rt; *fault, None, "{new}");
+                assert_eq!(rt; *wanted, Ok(plan.savi), "{new}");
             }
-            Err(refusal) => assert_eq!(rt; Some(refusal), fault.map(Refusal::Refused), "{new}"),
+            Err(refusal) => {
+                assert_eq!(rt; Some(refusal), wanted.err().map(Refusal::Refused), "{new}");
+            }
         }
         assert_eq!(rt; faults_of(&world), Some(0));
         assert_eq!(rt; (world.opened, world.faulty), (1, 0));

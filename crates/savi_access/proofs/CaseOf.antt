@@ -1,5 +1,5 @@
 -- Each frame comes to its case.
-use Rattle.std.proofs.Common.{◌≡◌, ◌≢◌, ℕ, ◌==◌, ◌||◌, Bool, true, false, Option, Some, None, IsSome, is_some, option_map, unwrap_or, if◌then◌else◌, List, [], ◌∷◌, refl, sym, ap, ◌∙◌, subst, inl, inr, ◌⊎◌, rules}
+use Rattle.std.proofs.Common.{◌≡◌, ◌≢◌, ℕ, ◌==◌, ◌||◌, Bool, true, false, Option, Some, None, IsSome, is_some, unwrap_or, if◌then◌else◌, List, [], ◌∷◌, refl, sym, ap, ◌∙◌, subst, inl, inr, ◌⊎◌, rules}
 use Rattle.std.proofs.lemmas.Bool.{cases_Bool, eq-eqb, eqb-true}
 use Rattle.arrayvec.specs.ArrayVec.{ArrayVec}
 use Rattle.savi_kinds.specs.declared.port.Port.{Port}
@@ -12,16 +12,14 @@ use Rattle.savi_kinds.specs.declared.verdict.Scope.TheVariants.{All, TrustedOnly
 use Rattle.savi_kinds.specs.declared.verdict.Verdict.{Verdict}
 use Rattle.savi_kinds.specs.declared.verdict.Verdict.TheVariants.{Pass, Drop}
 use Rattle.savi_kinds.specs.Ports.{number_of}
-use Rattle.eth_frame.specs.declared.header.Eth.{Eth}
 use Rattle.v6_chain.specs.declared.packet.Ip.{Ip}
-use Rattle.nd_read.specs.declared.message.Nd.{Nd}
 use Rattle.nd_read.specs.declared.message.Nd.TheVariants as messages
 use Rattle.dhcp6_read.specs.declared.message.Dhcp.{Dhcp}
 use Rattle.dhcp6_read.specs.declared.message.Lease.{Lease as Offered}
 use Rattle.frame_class.specs.declared.classes.Class.{Class}
 use Rattle.frame_class.specs.declared.classes.Class.TheVariants.{Runt, Tagged, Other, BadIp, Ip6}
 use Rattle.frame_class.specs.declared.classes.Read.{Read}
-use Rattle.frame_class.specs.declared.classes.Read.TheVariants.{Bad, Hidden, Unknown, Later, Icmp, Udp, Plain}
+use Rattle.frame_class.specs.declared.classes.Read.TheVariants.{Icmp}
 use Rattle.ra_guard.specs.GuardOf.{guard_of, is_validating}
 use Rattle.fcfs_states.specs.declared.event.Ev.{Ev}
 use Rattle.fcfs_states.specs.declared.event.Ev.TheVariants.{Sent, Dad, Na, TpDad, TpNa, Lease, Release}
@@ -33,9 +31,9 @@ use Rattle.mix_rules.specs.Ageing.{aged_state}
 use Rattle.addr_history.specs.Marks.{mark_of}
 use Rattle.addr_history.specs.States.{outcome_by, state_of}
 use Rattle.savi_access.specs.Rules.{AccessRules, AccessBase}
-use Rattle.savi_access.specs.Marks.{Mark, Told, Asked, Met, told, open_requests}
-use Rattle.savi_access.specs.Frames.{dad_target, advertised, is_router_solicitation, is_listener_message, dhcp_to, is_asking, asking_duid, answered_duid, gives_up}
-use Rattle.savi_access.specs.Judged.{Judged, judged, judged_by, judged_for, validated, trusted, heard_or, unspecified, unspecified_by, sourced, followed, message, message_by, dhcp_or_other, to_server, to_server_by, to_client_or_other, to_client, replied, replied_by, asked, asked_by, answered, answered_or, answer_to, named_for, with_event, with_events, is_on_link, is_passed, comes_to, passes, drops}
+use Rattle.savi_access.specs.Marks.{Mark, Met, told, open_requests}
+use Rattle.savi_access.specs.Frames.{dad_target, advertised, is_router_solicitation, is_listener_message, dhcp_to, is_asking, gives_up}
+use Rattle.savi_access.specs.Judged.{Judged, judged, judged_by, judged_for, validated, trusted, heard_or, unspecified, unspecified_by, sourced, followed, message, message_by, dhcp_or_other, to_server, to_server_by, to_client_or_other, to_client, replied, replied_by, asked_by, answered, answered_or, named_for, with_event, with_events, is_on_link, is_passed, comes_to, passes, drops}
 use Rattle.savi_access.specs.Cases.{HasRow, Is, AreTold, none, on_link, off_link, IsReply, met, unasked, nameless, no_reply, SaysMore, advertises, advertises_off_link, asks_in_vain, asks, asks_nameless, lets_go, to_client as to_clients, nothing, IsValidated, IsHeard, IsCase, guarded, off, other, heard, validated as by_source, AsksFor, LetsGo, ShowsNd, ShowsDhcp, ShowsListener, IsOtherFrame}
 use Rattle.savi_access.specs.Cases as cases
 use Rattle.savi_access.proofs.States.{true_not_false, none_some}

@@ -1,5 +1,5 @@
 -- Who came first keeps an address, for frames.
-use Rattle.std.proofs.Common.{◌≡◌, ◌≢◌, ℕ, ◌≤◌, ◌^◌, true, is_some, Option, Some, None, List, [], ◌∷◌, ◌++◌, refl, sym, ap, ◌∙◌, subst, inl, inr, ◌⊎◌, arith}
+use Rattle.std.proofs.Common.{◌≡◌, ◌≢◌, ℕ, ◌≤◌, ◌^◌, true, is_some, Some, None, List, [], ◌∷◌, ◌++◌, refl, sym, ap, ◌∙◌, subst, inl, inr, ◌⊎◌}
 use Rattle.savi_kinds.specs.declared.port.Port.{Port}
 use Rattle.savi_kinds.specs.declared.plan.Method.{Method}
 use Rattle.savi_kinds.specs.declared.plan.Role.TheVariants as roles
@@ -14,7 +14,7 @@ use Rattle.mix_rules.specs.Next.{IsPass}
 use Rattle.mix_rules.proofs.EventLemmas.{one_port}
 use Rattle.bind_table.specs.Rows.{state_in}
 use Rattle.addr_table.specs.Keeps.{IsSoundBy}
-use Rattle.addr_history.specs.Marks.{Named, AreInTurn}
+use Rattle.addr_history.specs.Marks.{AreInTurn}
 use Rattle.addr_history.specs.States.{state_at, IsLiveAfter}
 use Rattle.addr_history.specs.FirstCome.{IsKeptOn}
 use Rattle.addr_history.proofs.FirstCome.{keeps}

@@ -1,7 +1,7 @@
 -- What a frame tells may come after what was told before.
-use Rattle.std.proofs.Common.{◌≡◌, ◌≢◌, ℕ, ◌≤◌, ◌<◌, ◌^◌, ◌==◌, ◌||◌, Bool, true, false, not, Option, Some, None, IsSome, is_some, IsTrue, if◌then◌else◌, List, [], ◌∷◌, ◌++◌, find, All, refl, sym, ap, ◌∙◌, subst, inl, inr, ◌⊎◌, arith, rules}
+use Rattle.std.proofs.Common.{◌≡◌, ◌≢◌, ℕ, ◌≤◌, ◌<◌, ◌^◌, ◌==◌, ◌||◌, Bool, true, false, not, Option, Some, None, IsSome, is_some, if◌then◌else◌, List, [], ◌∷◌, find, All, refl, sym, ap, subst, inl, inr, arith}
 use Rattle.std.specs.Option.{option_map}
-use Rattle.std.proofs.lemmas.Bool.{cases_Bool, eq-eqb, eqb-true}
+use Rattle.std.proofs.lemmas.Bool.{cases_Bool, eqb-true}
 use Rattle.std.proofs.lemmas.List.Elements.{All-filter, All-push, All-cons, All-nil, All-weaker, All-head, All-tail}
 use Rattle.arrayvec.specs.ArrayVec.{ArrayVec}
 use Rattle.savi_kinds.specs.declared.port.Port.{Port}
@@ -13,7 +13,6 @@ use Rattle.savi_kinds.specs.declared.verdict.Rule.TheVariants.{OffLink, NaTarget
 use Rattle.savi_kinds.specs.declared.verdict.Scope.TheVariants.{TrustedOnly}
 use Rattle.savi_kinds.specs.declared.verdict.Verdict.TheVariants.{Pass}
 use Rattle.v6_chain.specs.declared.packet.Ip.{Ip}
-use Rattle.eth_frame.specs.declared.header.Eth.{Eth}
 use Rattle.dhcp6_read.specs.declared.message.Dhcp.{Dhcp}
 use Rattle.dhcp6_read.specs.declared.message.Lease.{Lease as Offered}
 use Rattle.frame_class.specs.declared.classes.Class.{Class}
@@ -24,9 +23,9 @@ use Rattle.ra_guard.specs.GuardOf.{guard_of, is_validating}
 use Rattle.bind_table.specs.declared.row.Row.{Row}
 use Rattle.savi_kinds.specs.Ports.{number_of}
 use Rattle.fcfs_states.specs.declared.event.Ev.{Ev}
-use Rattle.fcfs_states.specs.declared.event.Ev.TheVariants.{Sent, Dad, Na, TpDad, TpNa, Lease, Release, Fix, Clear}
+use Rattle.fcfs_states.specs.declared.event.Ev.TheVariants.{Sent, Dad, Na, TpDad, TpNa, Lease, Release}
 use Rattle.dhcp_states.specs.declared.request.Request.{Request}
-use Rattle.dhcp_states.specs.Requests.{request_of, is_open, open_at, has_pair, without_pair, with_request, refusal, asker}
+use Rattle.dhcp_states.specs.Requests.{request_of, is_open, has_pair, without_pair, with_request, refusal, asker}
 use Rattle.mix_rules.specs.Premises.{IsLeaseInRange}
 use Rattle.addr_table.specs.Rooms.{port_of, IsFixable}
 use Rattle.addr_history.specs.Legal.{IsOfVlan}
@@ -35,8 +34,8 @@ use Rattle.savi_access.specs.Rules.{AccessRules, AccessBase, IsRequestOf, IsAcce
 use Rattle.savi_access.specs.Marks.{Mark, Told, Asked, Met, told, moment_of, newest_moment, requests_after, open_requests}
 use Rattle.savi_access.specs.Legal.{Follows, AreMarks, HasFront}
 use Rattle.savi_access.specs.Frames.{HasLifetimes, ShowsLifetimes, AreLifetimes, dad_target, advertised, dhcp_to, is_router_solicitation, is_listener_message, asking_duid, answered_duid, gives_up}
-use Rattle.savi_access.specs.Judged.{Judged, judged, judged_by, judged_for, validated, trusted, heard_or, unspecified, unspecified_by, sourced, followed, message, message_by, dhcp_or_other, to_server, to_server_by, to_client_or_other, to_client, replied, replied_by, asked, asked_by, answered, answered_or, named_for, with_event, with_events, is_on_link, is_passed, comes_to, passes, drops}
-use Rattle.savi_access.proofs.States.{none_some, true_not_false, told_past, told_before}
+use Rattle.savi_access.specs.Judged.{Judged, judged, judged_by, judged_for, validated, trusted, heard_or, unspecified, unspecified_by, sourced, message, message_by, dhcp_or_other, to_server_by, to_client_or_other, replied, replied_by, asked, asked_by, answered, answered_or, named_for, with_event, with_events, is_on_link, is_passed, comes_to, passes, drops}
+use Rattle.savi_access.proofs.States.{none_some, true_not_false, told_before}
 
 module _ (r : AccessRules) (base : AccessBase) (is : IsAccessBase r base) (vlan : ℕ) (port : Port) (t : ℕ) (early : t ≤ 2 ^ 62) where
   pub told_follows : (past : List Mark) → AreMarks r base past → newest_moment base past ≤ t → (a : ℕ) (event : Ev) → IsSome (r.addresses.method_of vlan a) → IsLeaseInRange event → IsOfVlan r.addresses vlan (port_of event)

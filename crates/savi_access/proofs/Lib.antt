@@ -6,3 +6,5 @@ pub mod Passing
 pub mod FirstCome
 pub mod Trusting
 pub mod CaseOf
+pub mod PlanRules
+pub mod Lifetimes

@@ -1,5 +1,5 @@
 -- A packet passes exactly where it has access.
-use Rattle.std.proofs.Common.{◌≡◌, ◌≢◌, ℕ, ◌≤◌, ◌^◌, ◌==◌, ◌||◌, Bool, true, false, Option, Some, None, IsSome, IsSomeAnd, is_some, IsTrue, if◌then◌else◌, List, [], ◌∷◌, refl, sym, ap, ◌∙◌, subst, T, inl, inr, ◌⊎◌, ◌↔◌, arith, rules, unwrap_or}
+use Rattle.std.proofs.Common.{◌≡◌, ◌≢◌, ℕ, ◌≤◌, ◌^◌, ◌==◌, ◌||◌, true, false, Option, Some, None, IsSome, IsSomeAnd, is_some, IsTrue, if◌then◌else◌, List, refl, sym, ap, ◌∙◌, subst, inl, inr, ◌⊎◌, ◌↔◌, arith, rules}
 use Rattle.std.proofs.lemmas.Bool.{cases_Bool, eq-eqb, eqb-true}
 use Rattle.arrayvec.specs.ArrayVec.{ArrayVec}
 use Rattle.savi_kinds.specs.declared.port.Port.{Port}
@@ -14,13 +14,10 @@ use Rattle.savi_kinds.specs.declared.verdict.Verdict.TheVariants.{Pass, Drop}
 use Rattle.savi_kinds.specs.Ports.{number_of}
 use Rattle.v6_chain.specs.declared.packet.Ip.{Ip}
 use Rattle.eth_frame.specs.declared.header.Eth.{Eth}
-use Rattle.nd_read.specs.declared.message.Nd.{Nd}
-use Rattle.nd_read.specs.declared.message.Nd.TheVariants as messages
 use Rattle.dhcp6_read.specs.declared.message.Dhcp.{Dhcp}
 use Rattle.frame_class.specs.declared.classes.Class.{Class}
 use Rattle.frame_class.specs.declared.classes.Class.TheVariants.{Runt, Tagged, Other, BadIp, Ip6}
 use Rattle.frame_class.specs.declared.classes.Read.{Read}
-use Rattle.frame_class.specs.declared.classes.Read.TheVariants.{Bad, Hidden, Unknown, Later, Icmp, Udp, Plain}
 use Rattle.ra_guard.specs.Guard.{Applies, IsFirst}
 use Rattle.ra_guard.specs.GuardOf.{guard_of}
 use Rattle.ra_guard.proofs.RuleOf.{guard_is}
@@ -32,8 +29,8 @@ use Rattle.savi_access.specs.Rules.{AccessRules, AccessBase, IsAccessBase}
 use Rattle.savi_access.specs.Marks.{Mark, newest_moment, open_requests}
 use Rattle.savi_access.specs.Legal.{AreMarks}
 use Rattle.savi_access.specs.Frames.{dad_target, advertised, is_router_solicitation, is_listener_message, dhcp_to, asking_duid}
-use Rattle.savi_access.specs.Judged.{Judged, judged, judged_by, judged_for, validated, unspecified, unspecified_by, sourced, followed, message, message_by, dhcp_or_other, to_server, to_server_by, to_client_or_other, passes, asked, asked_by, answered, answered_or, with_event, answer_to, is_on_link, is_passed, comes_to, drops}
-use Rattle.savi_access.specs.Access.{IsIpv6, IsLiveHere, AdvertisesOther, IsRefusedRequest, IsStopped, MayDetect, IsPermitted, HasAccess}
+use Rattle.savi_access.specs.Judged.{Judged, judged, judged_by, judged_for, validated, unspecified, unspecified_by, sourced, followed, message, message_by, dhcp_or_other, to_server_by, to_client_or_other, passes, asked_by, answered, answered_or, with_event, answer_to, is_passed, comes_to, drops}
+use Rattle.savi_access.specs.Access.{IsIpv6, IsLiveHere, AdvertisesOther, IsRefusedRequest, IsPermitted, HasAccess}
 use Rattle.savi_access.proofs.Keeping.{told_follows}
 use Rattle.savi_access.proofs.States.{true_not_false, none_some, state_now, alive_or_not, off_link, sent_passes, na_passes, dad_passes, same_target}
 

@@ -1,20 +1,18 @@
 -- The states of addresses after marks that may come, at the moment of a frame.
-use Rattle.std.proofs.Common.{◌≡◌, ◌≢◌, ℕ, ◌≤◌, ◌^◌, ◌==◌, Bool, true, false, Option, Some, None, List, [], ◌∷◌, refl, sym, ap, ◌∙◌, subst, inl, inr, ◌⊎◌, ◌↔◌, arith, rules, unwrap_or, T}
-use Rattle.std.proofs.lemmas.Bool.{cases_Bool, eq-eqb, eqb-true}
+use Rattle.std.proofs.Common.{◌≡◌, ℕ, ◌≤◌, ◌^◌, Bool, true, false, Option, Some, None, List, [], ◌∷◌, refl, sym, ap, ◌∙◌, subst, inl, inr, ◌⊎◌, ◌↔◌, arith, rules, unwrap_or, T}
+use Rattle.std.proofs.lemmas.Bool.{cases_Bool, eq-eqb}
 use Rattle.savi_kinds.specs.declared.port.Port.{Port}
 use Rattle.savi_kinds.specs.declared.plan.Method.{Method}
 use Rattle.savi_kinds.specs.declared.verdict.Scope.TheVariants.{All}
-use Rattle.savi_kinds.specs.declared.verdict.Verdict.{Verdict}
-use Rattle.savi_kinds.specs.declared.verdict.Verdict.TheVariants.{Pass, Drop}
+use Rattle.savi_kinds.specs.declared.verdict.Verdict.TheVariants.{Pass}
 use Rattle.fcfs_states.specs.declared.event.Ev.{Ev}
 use Rattle.fcfs_states.specs.declared.event.Ev.TheVariants.{Sent, Dad, Na}
 use Rattle.fcfs_states.specs.declared.times.Times.{Times}
 use Rattle.fcfs_states.specs.Premises.{AreTimes}
-use Rattle.fcfs_states.proofs.RunLemmas.{live_or_not}
 use Rattle.mix_rules.specs.declared.state.AddrState.{AddrState}
 use Rattle.mix_rules.specs.States.{nobody, IsLiveAt, IsSoundFor}
 use Rattle.mix_rules.specs.Next.{next_state, IsPass, IsPassing}
-use Rattle.mix_rules.specs.Ageing.{aged_state, IsStill}
+use Rattle.mix_rules.specs.Ageing.{aged_state}
 use Rattle.mix_rules.proofs.EventLemmas.{next-still, sent-stays}
 use Rattle.addr_table.specs.Keeps.{IsSoundBy}
 use Rattle.addr_history.specs.Marks.{Named, mark_of, names, last_moment}

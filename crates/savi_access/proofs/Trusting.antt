@@ -1,33 +1,28 @@
 -- Frames whose sources aren't validated: those at trusted ports, and all where validation is off.
-use Rattle.std.proofs.Common.{◌≡◌, ℕ, Bool, true, false, Option, Some, None, is_some, if◌then◌else◌, List, [], ◌∷◌, refl, sym, ap, ◌∙◌, subst, rules, unwrap_or}
+use Rattle.std.proofs.Common.{◌≡◌, ℕ, Bool, true, false, Option, Some, None, is_some, if◌then◌else◌, List, refl, sym, ap, ◌∙◌, subst, rules, unwrap_or}
 use Rattle.savi_kinds.specs.declared.port.Port.{Port}
 use Rattle.savi_kinds.specs.declared.plan.Method.{Method}
 use Rattle.savi_kinds.specs.declared.plan.Role.{Role}
 use Rattle.savi_kinds.specs.declared.plan.Role.TheVariants as roles
 use Rattle.savi_kinds.specs.declared.verdict.Rule.{Rule}
 use Rattle.savi_kinds.specs.declared.verdict.Scope.TheVariants.{All}
-use Rattle.savi_kinds.specs.declared.verdict.Verdict.TheVariants.{Pass, Drop}
+use Rattle.savi_kinds.specs.declared.verdict.Verdict.TheVariants.{Pass}
 use Rattle.savi_kinds.specs.Ports.{number_of}
-use Rattle.eth_frame.specs.declared.header.Eth.{Eth}
-use Rattle.v6_chain.specs.declared.packet.Ip.{Ip}
 use Rattle.dhcp6_read.specs.declared.message.Dhcp.{Dhcp}
 use Rattle.frame_class.specs.declared.classes.Class.{Class}
 use Rattle.frame_class.specs.declared.classes.Class.TheVariants.{Runt, Tagged, Other, BadIp, Ip6}
-use Rattle.frame_class.specs.declared.classes.Read.{Read}
 use Rattle.ra_guard.specs.GuardOf.{guard_of}
 use Rattle.fcfs_states.specs.declared.event.Ev.{Ev}
 use Rattle.fcfs_states.specs.declared.event.Ev.TheVariants.{TpDad, TpNa}
 use Rattle.fcfs_states.specs.declared.times.Times.{Times}
-use Rattle.fcfs_states.specs.FirstCome.{Mark as Event}
 use Rattle.mix_rules.specs.declared.state.AddrState.{AddrState}
 use Rattle.mix_rules.specs.Next.{next_state, IsPass}
 use Rattle.mix_rules.specs.Ageing.{aged_state}
 use Rattle.addr_history.specs.States.{outcome_by, state_of}
-use Rattle.addr_history.specs.Marks.{mark_of}
 use Rattle.savi_access.specs.Rules.{AccessRules, AccessBase}
 use Rattle.savi_access.specs.Marks.{Mark, told}
 use Rattle.savi_access.specs.Frames.{dad_target, advertised, dhcp_to}
-use Rattle.savi_access.specs.Judged.{Judged, judged, judged_by, judged_for, judged_without, trusted, heard_or, to_client_or_other, answered, answer_to, named_for, is_on_link, passes}
+use Rattle.savi_access.specs.Judged.{Judged, judged, judged_by, judged_for, judged_without, trusted, heard_or, to_client_or_other, answered, named_for, is_on_link, passes}
 use Rattle.savi_access.proofs.States.{true_not_false}
 
 dad-row : (m : Method) (k : Times) (t : ℕ) (room : Bool) (s : AddrState) → IsPass (Some (unwrap_or (next_state m k t room s TpDad).0.verdict (Pass All)))

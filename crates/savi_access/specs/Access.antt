@@ -1,11 +1,11 @@
 -- Which packets of a host pass: those that no rule on messages stops, and whose source is live at the port or which a named
 -- exception permits. All of it is read before what the packet itself tells.
-use Rattle.std.specs.Prelude.{ℕ, ◌≡◌, ◌≢◌, ◌⊎◌, IsSome, IsSomeAnd, IsTrue, List}
+use Rattle.std.specs.Prelude.{ℕ, ◌≡◌, ◌⊎◌, IsSome, IsSomeAnd, IsTrue, List}
 use Rattle.savi_kinds.specs.declared.port.Port.{Port}
 use Rattle.savi_kinds.specs.Ports.{number_of}
 use Rattle.v6_chain.specs.declared.packet.Ip.{Ip}
 use Rattle.frame_class.specs.declared.classes.Class.{Class}
-use Rattle.frame_class.specs.declared.classes.Class.TheVariants.{Runt, Tagged, Other, BadIp, Ip6}
+use Rattle.frame_class.specs.declared.classes.Class.TheVariants.{BadIp, Ip6}
 use Rattle.frame_class.specs.declared.classes.Read.{Read}
 use Rattle.ra_guard.specs.GuardOf.{guard_of}
 use Rattle.fcfs_states.specs.declared.event.Ev.TheVariants.{Dad}

@@ -1,12 +1,11 @@
 -- What a frame comes to, case by case, each by what stands in its packet: a second reading of the rules beside `Judged`. A
 -- law says that `judged` gives the one case that a frame meets.
-use Rattle.std.specs.Prelude.{ℕ, ◌≡◌, ◌≢◌, ◌⊎◌, ◌==◌, Bool, true, false, Option, Some, None, IsSome, IsNone, IsTrue, option_map, if◌then◌else◌, List, [], ◌∷◌}
+use Rattle.std.specs.Prelude.{ℕ, ◌≡◌, ◌≢◌, ◌⊎◌, true, false, Some, None, IsSome, option_map, List, [], ◌∷◌}
 use Rattle.arrayvec.specs.ArrayVec.{ArrayVec}
 use Rattle.savi_kinds.specs.declared.port.Port.{Port}
 use Rattle.savi_kinds.specs.declared.plan.Role.TheVariants.{Trusted}
 use Rattle.savi_kinds.specs.declared.verdict.Rule.{Rule}
 use Rattle.savi_kinds.specs.declared.verdict.Rule.TheVariants.{UnspecifiedSource, OffLink, NaTarget}
-use Rattle.savi_kinds.specs.declared.verdict.Scope.{Scope}
 use Rattle.savi_kinds.specs.declared.verdict.Scope.TheVariants.{All, TrustedOnly}
 use Rattle.savi_kinds.specs.declared.verdict.Verdict.{Verdict}
 use Rattle.savi_kinds.specs.declared.verdict.Verdict.TheVariants.{Pass, Drop}
@@ -24,10 +23,8 @@ use Rattle.frame_class.specs.declared.classes.Read.TheVariants.{Icmp, Udp}
 use Rattle.ra_guard.specs.GuardOf.{guard_of}
 use Rattle.fcfs_states.specs.declared.event.Ev.{Ev}
 use Rattle.fcfs_states.specs.declared.event.Ev.TheVariants.{Sent, Dad, Na, TpDad, TpNa, Lease, Release}
-use Rattle.dhcp_states.specs.declared.request.Request.{Request}
 use Rattle.dhcp_states.specs.Requests.{request_of, refusal, asker}
 use Rattle.mix_rules.specs.Next.{IsPass}
-use Rattle.addr_table.specs.declared.sent.SentProbe.{SentProbe}
 use Rattle.addr_table.specs.Rooms.{room_for}
 use Rattle.addr_history.specs.Marks.{Named}
 use Rattle.addr_history.specs.States.{answer_at}

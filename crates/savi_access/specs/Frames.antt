@@ -2,12 +2,12 @@
 use Rattle.std.specs.Prelude.{ℕ, ◌<◌, ◌^◌, All, ◌==◌, ◌&&◌, ◌||◌, Bool, true, false, if◌then◌else◌, Option, Some, None}
 use Rattle.arrayvec.specs.ArrayVec.{ArrayVec}
 use Rattle.v6_chain.specs.declared.packet.Ip.{Ip}
-use Rattle.nd_read.specs.declared.message.Nd.TheVariants.{Rs, Ra, Ns, Na, Redirect, Other}
+use Rattle.nd_read.specs.declared.message.Nd.TheVariants.{Rs, Ns, Na, Other}
 use Rattle.dhcp6_read.specs.declared.message.Dhcp.{Dhcp}
 use Rattle.frame_class.specs.declared.classes.Class.{Class}
 use Rattle.frame_class.specs.declared.classes.Class.TheVariants.{Ip6}
 use Rattle.frame_class.specs.declared.classes.Read.{Read}
-use Rattle.frame_class.specs.declared.classes.Read.TheVariants.{Bad, Hidden, Unknown, Later, Icmp, Udp, Plain}
+use Rattle.frame_class.specs.declared.classes.Read.TheVariants.{Icmp, Udp}
 
 -- valid lifetimes are numbers of 32 bits (RFC 8415 section 21.6)
 abbrev pub HasLifetimes : Dhcp → Type 0

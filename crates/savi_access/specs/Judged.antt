@@ -15,7 +15,7 @@ use Rattle.v6_chain.specs.declared.packet.Ip.{Ip}
 use Rattle.dhcp6_read.specs.declared.message.Dhcp.{Dhcp}
 use Rattle.dhcp6_read.specs.declared.message.Lease.{Lease as Offered}
 use Rattle.frame_class.specs.declared.classes.Class.{Class}
-use Rattle.frame_class.specs.declared.classes.Class.TheVariants.{Runt, Tagged, Other, BadIp, Ip6}
+use Rattle.frame_class.specs.declared.classes.Class.TheVariants.{Ip6}
 use Rattle.frame_class.specs.declared.classes.Read.{Read}
 use Rattle.ra_guard.specs.GuardOf.{guard_of}
 use Rattle.fcfs_states.specs.declared.answer.Answer.{Answer}

@@ -5,3 +5,4 @@ pub mod Judged
 pub mod Cases
 pub mod Access
 pub mod Legal
+pub mod Plans

@@ -1,11 +1,10 @@
 -- What a plan says on access, and what states and requests go on from.
-use Rattle.std.specs.Prelude.{◌≡◌, ◌≢◌, ℕ, ◌<◌, ◌≤◌, ◌+◌, Bool, IsSome, None, Some, List, [], All}
+use Rattle.std.specs.Prelude.{◌≡◌, ◌≢◌, ℕ, ◌<◌, ◌≤◌, ◌+◌, Bool, Some, List, [], All}
 use Rattle.savi_kinds.specs.declared.plan.Role.{Role}
 use Rattle.savi_kinds.specs.declared.plan.Role.TheVariants.{Trusted}
 use Rattle.savi_kinds.specs.Ports.{number_of}
 use Rattle.dhcp_states.specs.declared.request.Request.{Request}
 use Rattle.dhcp_states.specs.Limits.{IsWithinLimits}
-use Rattle.fcfs_states.specs.Premises.{AreTimes}
 use Rattle.addr_history.specs.Bases.{AddrRules, AddrBase, no_states}
 use Rattle.addr_history.specs.Legal.{IsAddrBase}
 

@@ -5,8 +5,12 @@ ghost use Rattle.savi_kinds.specs.Ports.{number_of};
 ghost use Rattle.savi_kinds.specs.declared.port.Port.{Port};
 ghost use Rattle.savi_kinds.specs.declared.plan.Role.TheVariants.{Trusted};
 ghost use Rattle.savi_kinds.specs.declared.plan.Method.{Method};
+ghost use Rattle.savi_kinds.specs.declared.plan.Plan.{Plan};
+ghost use Rattle.savi_kinds.specs.ValidPlan.{IsValidPlan};
 ghost use Rattle.eth_frame.specs.declared.header.Eth.{Eth};
 ghost use Rattle.v6_chain.specs.declared.packet.Ip.{Ip};
+ghost use Rattle.hex.specs.Hex.{IsBytes};
+ghost use Rattle.frame_class.specs.ClassOf.{class_of};
 ghost use Rattle.frame_class.specs.declared.classes.Class.{Class};
 ghost use Rattle.frame_class.specs.declared.classes.Class.TheVariants.{Ip6};
 ghost use Rattle.frame_class.specs.declared.classes.Read.{Read};
@@ -24,6 +28,7 @@ ghost use Rattle.savi_access.specs.Legal.{AreMarks, HasFront};
 ghost use Rattle.savi_access.specs.Judged.{judged, judged_without};
 ghost use Rattle.savi_access.specs.Cases.{IsCase};
 ghost use Rattle.savi_access.specs.Access.{IsIpv6, HasAccess};
+ghost use Rattle.savi_access.specs.Plans.{rules_of, has_port};
 ghost use Rattle.fcfs_states.specs.Premises.{AreTimes};
 
 use addr_history::states_stay_a_base;
@@ -60,6 +65,15 @@ pub fn a_frame_comes_to_its_case()
         → IsCase r base vlan port t past class (judged r base vlan port t past class) }
 {}
 
+/// The rules of a valid plan are such as the other laws want: its start is within the limits, each of its ports whose sources
+/// are validated is of the VLAN, and `::` isn't on-link.
+pub fn a_valid_plan_has_rules()
+    ensures start { (plan : Plan) → IsValidPlan plan → IsAccessBase (rules_of plan) nothing_yet }
+    ensures ports { (plan : Plan) (number : ℕ) → has_port plan number ≡ true → (rules_of plan).role_of number ≢ Trusted
+        → (rules_of plan).addresses.vlan_of number ≡ Some 1 }
+    ensures unspecified { (plan : Plan) (vlan : ℕ) → IsValidPlan plan → (rules_of plan).addresses.method_of vlan 0 ≡ None }
+{}
+
 /// The states and the open requests at a moment, from the last mark on, are within the limits as the base was: each request
 /// is open, and at a port of its VLAN. So is the start of a switch.
 pub fn states_and_requests_stay_a_base()
@@ -80,6 +94,11 @@ pub fn frames_keep_the_marks()
         → AreMarks r base (judged r base vlan port t past class).marks
         × (newest_moment base (judged r base vlan port t past class).marks ≤ t)
         × HasFront t past (judged r base vlan port t past class).marks }
+{}
+
+/// The valid lifetimes in a frame of octets are numbers of 32 bits.
+pub fn lifetimes_are_of_32_bits()
+    ensures { (frame : List ℕ) → IsBytes frame → AreLifetimes (class_of frame) }
 {}
 
 /// In each VLAN no port has more than 16 open requests, and no two open requests have the same transaction id and DUID.

@@ -10,7 +10,8 @@
 mod laws;
 
 pub use laws::{
-    a_frame_comes_to_its_case, a_packet_passes_where_its_source_is_live, frames_keep_the_marks,
-    frames_keep_who_came_first, requests_stay_within_limits, states_and_requests_stay_a_base,
-    trusted_ports_are_not_validated, without_validation_the_guard_decides,
+    a_frame_comes_to_its_case, a_packet_passes_where_its_source_is_live, a_valid_plan_has_rules,
+    frames_keep_the_marks, frames_keep_who_came_first, lifetimes_are_of_32_bits,
+    requests_stay_within_limits, states_and_requests_stay_a_base, trusted_ports_are_not_validated,
+    without_validation_the_guard_decides,
 };

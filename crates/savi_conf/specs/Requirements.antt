@@ -113,10 +113,9 @@ savi_in document = text_or (codes "savi") (savi_word true) document
 abbrev pub unknown_in : Members → List ℕ
 unknown_in document = text_or (codes "unknown") (unknown_word true) document
 
--- nothing is asked for that isn't there yet: validation of sources and control
-pub record AsksForBuilt (document : Members) : Type 0 where
-  pub savi : savi_in document ≡ savi_word false
-  pub control : text_at (codes "control") document ≡ None
+-- control isn't named: it isn't built yet
+abbrev pub HasNoControl : Members → Type 0
+HasNoControl document = text_at (codes "control") document ≡ None
 
 -- what a document has to meet, so that it hasn't this fault; `replay` is the form of the command line
 abbrev pub Meets : Bool → Members → Fault → Type 0
@@ -139,7 +138,7 @@ Meets replay document PrefixTexts = HasPrefixTexts (prefixes_in document)
 Meets replay document PrefixRanges = HasPrefixRanges (prefixes_in document)
 Meets replay document MethodWord = All (HasWord (codes "method") method_word) (prefixes_in document)
 Meets replay document StreamInReplay = replay ≡ true → All (λ port. text_at (codes "format") port ≢ Some (format_word Stream)) (ports_in document)
-Meets replay document NotBuilt = AsksForBuilt document
+Meets replay document NotBuilt = HasNoControl document
 
 -- the fault applies, and none with a lower number does
 pub record IsFirstFault (replay : Bool) (document : Members) (fault : Fault) : Type 0 where

@@ -45,7 +45,7 @@ pub enum Fault {
     MethodWord,
     /// 20: a port with the format of streams, in a replay.
     StreamInReplay,
-    /// 21: a part that isn't built yet.
+    /// 21: `control` is named, which isn't built yet.
     NotBuilt,
 }
 

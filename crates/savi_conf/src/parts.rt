@@ -17,9 +17,9 @@ ghost use Rattle.savi_conf.specs.Documents.{text_at};
 ghost use Rattle.savi_conf.specs.KeyNames.{keys_of};
 ghost use Rattle.savi_conf.specs.Keys.{HasKinds, HasOnly, HasRequired};
 ghost use Rattle.savi_conf.specs.Requirements.{
-  AsksForBuilt,
   EachTable,
   HasBothControls,
+  HasNoControl,
   HasNumbers,
   HasPrefixRanges,
   HasPrefixTexts,
@@ -138,7 +138,7 @@ impl Parts<'_> {
             Fault::PrefixRanges => self.has_prefix_ranges(),
             Fault::MethodWord => self.has_methods(),
             Fault::StreamInReplay => self.fits_command(),
-            Fault::NotBuilt => asks_for_built(self.document),
+            Fault::NotBuilt => has_no_control(self.document),
         }
     }
 
@@ -293,9 +293,9 @@ fn is_switch_mac(text: &str) -> bool
     }
 }
 
-// Whether nothing is asked for that isn't there yet.
-fn asks_for_built(document: &Table) -> bool
-    ensures { IsTrue result ↔ AsksForBuilt (table_view document.now) }
+// Whether control, which isn't built yet, isn't named.
+fn has_no_control(document: &Table) -> bool
+    ensures { IsTrue result ↔ HasNoControl (table_view document.now) }
 {
-    text_at(document, "savi").unwrap_or("on") == "off" && text_at(document, "control").is_none()
+    text_at(document, "control").is_none()
 }

@@ -87,7 +87,7 @@ const CHANGES: [(&str, &str, u8); 20] = [
 ];
 
 // More changes that make one fault, at the edges of ranges.
-const EDGES: [(&str, &str, u8); 41] = [
+const EDGES: [(&str, &str, u8); 46] = [
     ("# format", "speed = 10", 2),
     ("# prefixes", "[[prefix]]\nvlan = 1", 2),
     ("[[prefix]]", "[prefix]", 3),
@@ -132,7 +132,16 @@ const EDGES: [(&str, &str, u8); 41] = [
         "[[prefix]]\nprefix = \"2001:db8:1:0:8000::/65\"\nmethod = \"fcfs\"",
         18,
     ),
-    ("savi = \"off\"\n", "", 21),
+    ("savi = \"off\"\n", "", 0),
+    ("savi = \"off\"", "savi = \"on\"", 0),
+    ("savi = \"off\"", "savi = \"On\"", 6),
+    ("savi = \"off\"", "savi = \"\"", 6),
+    ("savi = \"off\"", "control = \"c\"\ncontrol_out = \"d\"", 21),
+    (
+        "savi = \"off\"",
+        "savi = \"on\"\ncontrol = \"c\"\ncontrol_out = \"d\"",
+        21,
+    ),
 ];
 
 // Whole texts.
@@ -274,15 +283,32 @@ prefix = [
 ]
 ";
 
+// What stands in front of a plan, and whether sources are validated then.
+const VALIDATIONS: [(&str, bool); 3] = [
+    ("", true),
+    ("savi = \"on\"\n", true),
+    ("savi = \"off\"\n", false),
+];
+
+#[test]
+fn sources_are_validated_where_the_text_says_so(rt: HostRuntime) -> Result<(), Fail> {
+    let alloc = rt.alloc();
+    for (front, savi) in &VALIDATIONS {
+        for (ports, replay) in [(TWO_PORTS, true), (FIVE_PORTS, false)] {
+            let text = format!(in alloc; "{front}{ports}")?;
+            let plan = read_plan(alloc, text.as_bytes(), replay)?;
+            assert_eq!(rt; plan.savi, *savi, "{front}");
+        }
+    }
+    Ok(())
+}
+
 #[test]
 fn a_plan_has_what_the_text_says(rt: HostRuntime) -> Result<(), Fail> {
     let alloc = rt.alloc();
-    assert_eq!(rt; fault_in(alloc, TWO_PORTS.as_bytes(), true), 21);
-    assert_eq!(rt; fault_in(alloc, FIVE_PORTS.as_bytes(), false), 21);
-    let two = format!(in alloc; "savi = \"off\"\n{TWO_PORTS}")?;
-    let plan = read_plan(alloc, two.as_bytes(), true)?;
+    let plan = read_plan(alloc, TWO_PORTS.as_bytes(), true)?;
     assert_eq!(rt; plan.mac, Mac([2, 0, 0, 0, 0, 1]));
-    assert!(rt; !plan.savi && plan.drop_unknown && plan.control.is_none());
+    assert!(rt; plan.savi && plan.drop_unknown && plan.control.is_none());
     assert_eq!(rt; (plan.per_port, plan.depth), (32, 256));
     assert_eq!(rt; (plan.entries, plan.bytes), (262_144, 67_108_864));
     assert_eq!(rt; (plan.gap, plan.test, plan.life), (250, 500, 300_000));
@@ -299,10 +325,9 @@ fn a_plan_has_what_the_text_says(rt: HostRuntime) -> Result<(), Fail> {
 #[test]
 fn ports_and_prefixes_are_in_order(rt: HostRuntime) -> Result<(), Fail> {
     let alloc = rt.alloc();
-    let five = format!(in alloc; "savi = \"off\"\n{FIVE_PORTS}")?;
-    assert_eq!(rt; fault_in(alloc, five.as_bytes(), true), 20);
-    let plan = read_plan(alloc, five.as_bytes(), false)?;
-    assert!(rt; !plan.drop_unknown);
+    assert_eq!(rt; fault_in(alloc, FIVE_PORTS.as_bytes(), true), 20);
+    let plan = read_plan(alloc, FIVE_PORTS.as_bytes(), false)?;
+    assert!(rt; plan.savi && !plan.drop_unknown);
     assert_eq!(rt; (plan.per_port, plan.depth), (64, 1));
     assert_eq!(rt; (plan.entries, plan.bytes), (1_000_000, 1_073_741_824));
     assert_eq!(rt;

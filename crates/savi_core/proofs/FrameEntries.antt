@@ -1,5 +1,5 @@
 -- The entry of a frame.
-use Rattle.std.proofs.Common.{ℕ, ◌≡◌, Bool, false, List, [], length, Option, Some, sym, ap, ◌∙◌}
+use Rattle.std.proofs.Common.{ℕ, ◌≡◌, Bool, List, [], length, Option, Some, None, ap, ◌∙◌}
 use Rattle.savi_kinds.specs.PortSets.{no_ports}
 use Rattle.savi_kinds.specs.declared.plan.Role.{Role}
 use Rattle.savi_kinds.specs.declared.verdict.Rule.{Rule}
@@ -17,46 +17,49 @@ use Rattle.savi_kinds.specs.declared.verdict.Verdict.{Verdict}
 use Rattle.savi_kinds.specs.declared.verdict.Verdict.TheVariants.{Drop}
 use Rattle.savi_kinds.specs.declared.entry.Entry.{Entry}
 use Rattle.savi_kinds.specs.declared.entry.Act.TheVariants as acts
-use Rattle.savi_kinds.specs.declared.entry.Who.TheVariants.{Ingress}
+use Rattle.savi_kinds.specs.declared.entry.Who.TheVariants.{Ingress, Ticker}
 use Rattle.savi_kinds.specs.Ports.{number_of}
 use Rattle.hist_store.specs.Rows.{held}
 use Rattle.savi_history.specs.Passes.{pass_of}
 use Rattle.savi_history.specs.Moments.{moment_at}
 use Rattle.savi_history.specs.Outs.{outs}
 use Rattle.savi_history.specs.Queues.{cuts, probes, lost}
-use Rattle.savi_history.proofs.Offered.{probes_off, lost_off}
 use Rattle.savi_history.specs.Events.{the_vlan, verdict_of}
 use Rattle.savi_history.specs.Events as events
 use Rattle.savi_core.specs.Machines.{Machine, base_of}
 use Rattle.savi_core.specs.Steps.{entry_of}
 
-abbrev pub long_made : Port → ℕ → ℕ → ℕ → ℕ → Entry
-long_made port stamp len by moment = record { by = by; moment = moment; act = acts.Long port stamp len; verdict = Some (Drop Malformed); outs = no_ports; cuts = no_ports; probes = 0; lost = 0 }
+abbrev pub long_made : Port → ℕ → ℕ → ℕ → ℕ → ℕ → ℕ → Entry
+long_made port stamp len by moment queued missed = record { by = by; moment = moment; act = acts.Long port stamp len; verdict = Some (Drop Malformed); outs = no_ports; cuts = no_ports; probes = queued; lost = missed }
 
-abbrev pub made : Port → ℕ → ℕ → ℕ → ℕ → ℕ → Verdict → PortSet → PortSet → Entry
-made port stamp len by moment at verdict out cut = record { by = by; moment = moment; act = acts.Frame port stamp at len; verdict = Some verdict; outs = out; cuts = cut; probes = 0; lost = 0 }
+abbrev pub made : Port → ℕ → ℕ → ℕ → ℕ → ℕ → Verdict → PortSet → PortSet → ℕ → ℕ → Entry
+made port stamp len by moment at verdict out cut queued missed = record { by = by; moment = moment; act = acts.Frame port stamp at len; verdict = Some verdict; outs = out; cuts = cut; probes = queued; lost = missed }
 
 -- an entry whose parts are those of a frame's row is that row's
-pub frame_entry_is : (m : Machine) (port : Port) (stamp : ℕ) (octets : List ℕ) (by moment at : ℕ) (verdict : Verdict) (out cut : PortSet) → m.plan.savi ≡ false → by ≡ pass_of m.plan (Ingress port) → moment ≡ moment_at (base_of m) m.past stamp → at ≡ held m.past → verdict ≡ verdict_of m.plan (base_of m) m.past port stamp octets
-    → out ≡ outs the_vlan m.plan (base_of m) m.past (number_of port) (moment_at (base_of m) m.past stamp) octets verdict → cut ≡ cuts m.plan (base_of m) m.past (events.frame_act m.past port stamp octets) octets out → made port stamp (length octets) by moment at verdict out cut ≡ entry_of m (events.Frame port stamp octets)
-frame_entry_is m port stamp octets by moment at verdict out cut off by_is moment_is at_is verdict_is out_is cut_is =
+pub frame_entry_is : (m : Machine) (port : Port) (stamp : ℕ) (octets : List ℕ) (by moment at : ℕ) (verdict : Verdict) (out cut : PortSet) (queued missed : ℕ) → by ≡ pass_of m.plan (Ingress port) → moment ≡ moment_at (base_of m) m.past stamp → at ≡ held m.past → verdict ≡ verdict_of m.plan (base_of m) m.past port stamp octets
+    → out ≡ outs the_vlan m.plan (base_of m) m.past (number_of port) (moment_at (base_of m) m.past stamp) octets verdict → cut ≡ cuts m.plan (base_of m) m.past (events.frame_act m.past port stamp octets) octets out
+    → queued ≡ probes m.plan (base_of m) m.past (events.frame_act m.past port stamp octets) octets → missed ≡ lost m.plan (base_of m) m.past (events.frame_act m.past port stamp octets) octets
+    → made port stamp (length octets) by moment at verdict out cut queued missed ≡ entry_of m (events.Frame port stamp octets)
+frame_entry_is m port stamp octets by moment at verdict out cut queued missed by_is moment_is at_is verdict_is out_is cut_is queued_is missed_is =
     let act = events.frame_act m.past port stamp octets in
     let goes : out ≡ events.outs_of m.plan (base_of m) m.past port stamp octets =
     out_is ∙ ap (λ (v : Verdict). outs the_vlan m.plan (base_of m) m.past (number_of port) (moment_at (base_of m) m.past stamp) octets v) verdict_is in
     let left_out : cut ≡ cuts m.plan (base_of m) m.past act octets (events.outs_of m.plan (base_of m) m.past port stamp octets) =
     cut_is ∙ ap (λ (o : PortSet). cuts m.plan (base_of m) m.past act octets o) goes in
-    let queued : 0 ≡ probes m.plan (base_of m) m.past act octets = sym (probes_off m.plan (base_of m) m.past act octets off) in
-    let missed : 0 ≡ lost m.plan (base_of m) m.past act octets = sym (lost_off m.plan (base_of m) m.past act octets off) in
-    cc (by_is, moment_is, at_is, verdict_is, goes, left_out, queued, missed)
+    cc (by_is, moment_is, at_is, verdict_is, goes, left_out, queued_is, missed_is)
 
 -- so is the entry of a frame that is too long
-pub long_entry_is : (m : Machine) (port : Port) (stamp len by moment : ℕ) → m.plan.savi ≡ false → by ≡ pass_of m.plan (Ingress port) → moment ≡ moment_at (base_of m) m.past stamp
-    → long_made port stamp len by moment ≡ entry_of m (events.Long port stamp len)
-long_entry_is m port stamp len by moment off by_is moment_is =
-    let act = acts.Long port stamp len in
-    let queued : 0 ≡ probes m.plan (base_of m) m.past (acts.Long port stamp len) [] = sym (probes_off m.plan (base_of m) m.past act [] off) in
-    let missed : 0 ≡ lost m.plan (base_of m) m.past (acts.Long port stamp len) [] = sym (lost_off m.plan (base_of m) m.past act [] off) in
-    cc (by_is, moment_is, queued, missed)
+pub long_entry_is : (m : Machine) (port : Port) (stamp len by moment queued missed : ℕ) → by ≡ pass_of m.plan (Ingress port) → moment ≡ moment_at (base_of m) m.past stamp
+    → queued ≡ probes m.plan (base_of m) m.past (acts.Long port stamp len) [] → missed ≡ lost m.plan (base_of m) m.past (acts.Long port stamp len) [] → long_made port stamp len by moment queued missed ≡ entry_of m (events.Long port stamp len)
+long_entry_is m port stamp len by moment queued missed by_is moment_is queued_is missed_is = cc (by_is, moment_is, queued_is, missed_is)
+
+-- so is the entry of a tick
+abbrev pub tick_made : ℕ → ℕ → ℕ → ℕ → ℕ → Entry
+tick_made stamp by moment queued missed = record { by = by; moment = moment; act = acts.Tick stamp; verdict = None; outs = no_ports; cuts = no_ports; probes = queued; lost = missed }
+
+pub tick_entry_is : (m : Machine) (stamp by moment queued missed : ℕ) → by ≡ pass_of m.plan Ticker → moment ≡ moment_at (base_of m) m.past stamp
+    → queued ≡ probes m.plan (base_of m) m.past (acts.Tick stamp) [] → missed ≡ lost m.plan (base_of m) m.past (acts.Tick stamp) [] → tick_made stamp by moment queued missed ≡ entry_of m (events.Tick stamp)
+tick_entry_is m stamp by moment queued missed by_is moment_is queued_is missed_is = cc (by_is, moment_is, queued_is, missed_is)
 
 -- the rule that stops a frame of this class is the one for its octets
 pub guard_by_class : (role : Role) (drop_unknown : Bool) (octets : List ℕ) (class : Class) (rule : Option Rule) → IsClassOf octets class → IsFirst (Applies role drop_unknown class) rule → rule ≡ guard_of role drop_unknown (class_of octets)

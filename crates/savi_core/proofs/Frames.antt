@@ -1,14 +1,15 @@
--- The frames that the numbers of entries stand for.
+-- The frames that the numbers of entries stand for, and what else waits.
 use Rattle.std.proofs.Common.{ℕ, zero, suc, ◌≡◌, ◌<◌, ◌≤◌, List, [], ◌∷◌, ◌++◌, length, map, All, refl, ap, ◌∙◌, arith, length-append}
 use Rattle.std.specs.Prelude.{IsSomeAnd, slice_get}
 use Rattle.std.proofs.lemmas.List.Elements.{All-head, All-tail, All-weaker}
 use Rattle.savi_kinds.specs.declared.entry.Entry.{Entry}
+use Rattle.savi_kinds.specs.declared.address.Mac.{Mac}
 use Rattle.egress_ring.specs.declared.item.Item.{Item as Queued}
 use Rattle.egress_ring.specs.declared.item.Item.TheVariants.{Frame, Probe}
 use Rattle.hist_store.specs.Rows.{Row}
 use Rattle.savi_history.specs.Queues.{item_of}
 use Rattle.savi_core.specs.Batches.{sent_item}
-use Rattle.savi_core.specs.Waits.{frame_of, shown, IsFrameOf}
+use Rattle.savi_core.specs.Waits.{frame_of, shown, IsThere}
 
 pub frame_of-more : (rows more : List Row) (n : ℕ) → n < length rows → frame_of (rows ++ more) n ≡ frame_of rows n
 frame_of-more [] more n within = absurd (omega arith)
@@ -19,26 +20,26 @@ pub frame_of-last : (rows : List Row) (r : Row) → frame_of (rows ++ r ∷ []) 
 frame_of-last [] r = refl
 frame_of-last (first ∷ rows) r = frame_of-last rows r
 
-pub shown-more : (rows more : List Row) (it : Queued) → IsFrameOf rows it → shown (rows ++ more) it ≡ shown rows it
-shown-more rows more (Frame n) was = frame_of-more rows more n was.0
-shown-more rows more (Probe due target) was = absurd was
+pub shown-more : (mac : Mac) (rows more : List Row) (it : Queued) → IsThere rows it → shown mac (rows ++ more) it ≡ shown mac rows it
+shown-more mac rows more (Frame n) was = frame_of-more rows more n was.0
+shown-more mac rows more (Probe due target) was = refl
 
--- numbers stand for the same frames in a longer history
-pub shown_all : (rows more : List Row) (its : List Queued) → All (IsFrameOf rows) its → map (shown (rows ++ more)) its ≡ map (shown rows) its
-shown_all rows more [] all = refl
-shown_all rows more (it ∷ its) all =
-    ap (λ first. first ∷ map (shown (rows ++ more)) its) (shown-more rows more it (All-head (IsFrameOf rows) it its all))
-    ∙ ap (λ rest. shown rows it ∷ rest) (shown_all rows more its (All-tail (IsFrameOf rows) it its all))
+-- items stand for the same in a longer history
+pub shown_all : (mac : Mac) (rows more : List Row) (its : List Queued) → All (IsThere rows) its → map (shown mac (rows ++ more)) its ≡ map (shown mac rows) its
+shown_all mac rows more [] all = refl
+shown_all mac rows more (it ∷ its) all =
+    ap (λ first. first ∷ map (shown mac (rows ++ more)) its) (shown-more mac rows more it (All-head (IsThere rows) it its all))
+    ∙ ap (λ rest. shown mac rows it ∷ rest) (shown_all mac rows more its (All-tail (IsThere rows) it its all))
 
-is_frame-more : (rows more : List Row) (it : Queued) → IsFrameOf rows it → IsFrameOf (rows ++ more) it
-is_frame-more rows more (Frame n) was = (omega (arith, was.0, length-append rows more), rw (frame_of-more rows more n was.0) was.1)
-is_frame-more rows more (Probe due target) was = was
+is_there-more : (rows more : List Row) (it : Queued) → IsThere rows it → IsThere (rows ++ more) it
+is_there-more rows more (Frame n) was = (omega (arith, was.0, length-append rows more), rw (frame_of-more rows more n was.0) was.1)
+is_there-more rows more (Probe due target) was = tt
 
-pub frames_more : (rows more : List Row) (its : List Queued) → All (IsFrameOf rows) its → All (IsFrameOf (rows ++ more)) its
-frames_more rows more its all = All-weaker (IsFrameOf rows) (IsFrameOf (rows ++ more)) (is_frame-more rows more) its all
+pub there_more : (rows more : List Row) (its : List Queued) → All (IsThere rows) its → All (IsThere (rows ++ more)) its
+there_more rows more its all = All-weaker (IsThere rows) (IsThere (rows ++ more)) (is_there-more rows more) its all
 
-pub is_frame-last : (rows : List Row) (r : Row) → length r.octets ≤ 1518 → IsFrameOf (rows ++ r ∷ []) (Frame (length rows))
-is_frame-last rows r short = (omega (arith, length-append rows (r ∷ [])), rw (frame_of-last rows r) short)
+pub is_there-last : (rows : List Row) (r : Row) → length r.octets ≤ 1518 → IsThere (rows ++ r ∷ []) (Frame (length rows))
+is_there-last rows r short = (omega (arith, length-append rows (r ∷ [])), rw (frame_of-last rows r) short)
 
 -- an entry and its octets, as a store tells them, are its frame
 pub frame_read : (rows : List Row) (n : ℕ) (e : Entry) (octets : List ℕ) → IsSomeAnd (slice_get rows n) (λ row. row.entry ≡ e) → IsSomeAnd (slice_get rows n) (λ row. row.octets ≡ octets) → frame_of rows n ≡ sent_item e.moment octets

@@ -16,18 +16,18 @@ use Rattle.savi_kinds.specs.declared.entry.How.{How}
 use Rattle.savi_kinds.specs.declared.entry.How.TheVariants as hows
 use Rattle.savi_kinds.specs.Ports.{number_of}
 use Rattle.savi_kinds.specs.PortSets.{is_member}
+use Rattle.savi_kinds.specs.declared.address.Mac.{Mac}
 use Rattle.egress_ring.specs.declared.item.Item.{Item as Queued}
 use Rattle.egress_ring.specs.declared.item.Item.TheVariants as queued
 use Rattle.hist_store.specs.Rows.{Row}
 use Rattle.savi_history.specs.Bases.{Base}
-use Rattle.savi_history.specs.Passes.{has_ended, has_port, has_pass, pass_of, egress_pass, is_end}
-use Rattle.savi_history.specs.Queues.{Item, item_of, room_at, framed, waiting_after, queue}
-use Rattle.savi_history.proofs.Offered.{probed_off}
+use Rattle.savi_history.specs.Passes.{has_ended, has_port, has_pass, pass_of, egress_pass, is_end, role_of, is_trusted}
+use Rattle.savi_history.specs.Queues.{Item, item_of, room_at, probed, framed, waiting_after, queue}
 use Rattle.savi_history.proofs.Closed.{same_port}
 use Rattle.savi_history.proofs.PortPlaces.{place_within}
 use Rattle.savi_core.specs.Lanes.{Lane, with_frame, is_cut, with_drained, with_ended, lane_of}
-use Rattle.savi_core.specs.Waits.{shown, shown_lane, IsFrameOf, HoldsFrames}
-use Rattle.savi_core.proofs.Frames.{frame_of-last, shown_all, frames_more, is_frame-last}
+use Rattle.savi_core.specs.Waits.{shown, shown_lane, IsThere, AreThere}
+use Rattle.savi_core.proofs.Frames.{frame_of-last, shown_all, there_more, is_there-last}
 
 and_false : (b : Bool) → (b && false) ≡ false
 and_false true = refl
@@ -65,137 +65,155 @@ one_changed f g (n ∷ ns) (suc p) within others =
 
 -- what lanes show
 
-abbrev laned : {A : Type 0} → ℕ → ℕ → List A → Lane A
-laned number room items = record { number = number; room = room; items = items }
+abbrev pub laned : {A : Type 0} → ℕ → Bool → ℕ → List A → Lane A
+laned number trusted room items = record { number = number; trusted = trusted; room = room; items = items }
 
 -- a lane shows the same in a longer history
-pub shown_more : (rows : List Row) (r : Row) (lane : Lane Queued) → HoldsFrames rows lane → shown_lane (rows ++ r ∷ []) lane ≡ shown_lane rows lane
-shown_more rows r lane frames = ap (λ (items : List Item). laned lane.number lane.room items) (shown_all rows (r ∷ []) lane.items frames)
+pub shown_more : (mac : Mac) (rows : List Row) (r : Row) (lane : Lane Queued) → AreThere rows lane → shown_lane mac (rows ++ r ∷ []) lane ≡ shown_lane mac rows lane
+shown_more mac rows r lane there = ap (λ (items : List Item). laned lane.number lane.trusted lane.room items) (shown_all mac rows (r ∷ []) lane.items there)
 
-pub frames_still : (rows : List Row) (r : Row) (lane : Lane Queued) → HoldsFrames rows lane → HoldsFrames (rows ++ r ∷ []) lane
-frames_still rows r lane frames = frames_more rows (r ∷ []) lane.items frames
+pub there_still : (rows : List Row) (r : Row) (lane : Lane Queued) → AreThere rows lane → AreThere (rows ++ r ∷ []) lane
+there_still rows r lane there = there_more rows (r ∷ []) lane.items there
 
-module _ (rows : List Row) (r : Row) (outs : PortSet) (lane : Lane Queued) (frames : HoldsFrames rows lane) where
-  abbrev item : Queued
-  item = queued.Frame (length rows)
-
-  pushed : map (shown (rows ++ r ∷ [])) (lane.items ++ queued.Frame (length rows) ∷ []) ≡ map (shown rows) lane.items ++ item_of r ∷ []
+module _ (mac : Mac) (rows : List Row) (r : Row) (outs : PortSet) (lane : Lane Queued) (there : AreThere rows lane) where
+  pushed : map (shown mac (rows ++ r ∷ [])) (lane.items ++ queued.Frame (length rows) ∷ []) ≡ map (shown mac rows) lane.items ++ item_of r ∷ []
   pushed =
-      map-append (shown (rows ++ r ∷ [])) lane.items (queued.Frame (length rows) ∷ [])
-      ∙ ap (λ front. front ++ shown (rows ++ r ∷ []) (queued.Frame (length rows)) ∷ []) (shown_all rows (r ∷ []) lane.items frames)
-      ∙ ap (λ last. map (shown rows) lane.items ++ last ∷ []) (frame_of-last rows r)
+      map-append (shown mac (rows ++ r ∷ [])) lane.items (queued.Frame (length rows) ∷ [])
+      ∙ ap (λ front. front ++ shown mac (rows ++ r ∷ []) (queued.Frame (length rows)) ∷ []) (shown_all mac rows (r ∷ []) lane.items there)
+      ∙ ap (λ last. map (shown mac rows) lane.items ++ last ∷ []) (frame_of-last rows r)
 
-  framed_at : (b c : Bool) → shown_lane (rows ++ r ∷ []) (if b then (if c then record lane { items = lane.items ++ queued.Frame (length rows) ∷ [] } else lane) else lane)
-      ≡ (if b then (if c then record (shown_lane rows lane) { items = map (shown rows) lane.items ++ item_of r ∷ [] } else shown_lane rows lane) else shown_lane rows lane)
-  framed_at true true = ap (λ (items : List Item). laned lane.number lane.room items) pushed
-  framed_at true false = shown_more rows r lane frames
-  framed_at false c = shown_more rows r lane frames
+  framed_at : (b c : Bool) → shown_lane mac (rows ++ r ∷ []) (if b then (if c then record lane { items = lane.items ++ queued.Frame (length rows) ∷ [] } else lane) else lane)
+      ≡ (if b then (if c then record (shown_lane mac rows lane) { items = map (shown mac rows) lane.items ++ item_of r ∷ [] } else shown_lane mac rows lane) else shown_lane mac rows lane)
+  framed_at true true = ap (λ (items : List Item). laned lane.number lane.trusted lane.room items) pushed
+  framed_at true false = shown_more mac rows r lane there
+  framed_at false c = shown_more mac rows r lane there
 
   -- a frame of a new row, offered, shows as that frame offered
-  pub shown_framed : shown_lane (rows ++ r ∷ []) (with_frame (queued.Frame (length rows)) outs lane) ≡ with_frame (item_of r) outs (shown_lane rows lane)
+  pub shown_framed : shown_lane mac (rows ++ r ∷ []) (with_frame (queued.Frame (length rows)) outs lane) ≡ with_frame (item_of r) outs (shown_lane mac rows lane)
   shown_framed =
       framed_at (is_member outs lane.number) (nat_lt (length lane.items) lane.room)
-      ∙ ap (λ (n : ℕ). if is_member outs lane.number then (if nat_lt n lane.room then record (shown_lane rows lane) { items = map (shown rows) lane.items ++ item_of r ∷ [] } else shown_lane rows lane) else shown_lane rows lane) (sym (length-map lane.items (shown rows)))
+      ∙ ap (λ (n : ℕ). if is_member outs lane.number then (if nat_lt n lane.room then record (shown_lane mac rows lane) { items = map (shown mac rows) lane.items ++ item_of r ∷ [] } else shown_lane mac rows lane) else shown_lane mac rows lane)
+      (sym (length-map lane.items (shown mac rows)))
 
-  frames_at : length r.octets ≤ 1518 → (b c : Bool) → HoldsFrames (rows ++ r ∷ []) (if b then (if c then record lane { items = lane.items ++ queued.Frame (length rows) ∷ [] } else lane) else lane)
-  frames_at short true true = All-push (IsFrameOf (rows ++ r ∷ [])) lane.items (queued.Frame (length rows)) (frames_more rows (r ∷ []) lane.items frames) (is_frame-last rows r short)
-  frames_at short true false = frames_still rows r lane frames
-  frames_at short false c = frames_still rows r lane frames
+  there_at : length r.octets ≤ 1518 → (b c : Bool) → AreThere (rows ++ r ∷ []) (if b then (if c then record lane { items = lane.items ++ queued.Frame (length rows) ∷ [] } else lane) else lane)
+  there_at short true true = All-push (IsThere (rows ++ r ∷ [])) lane.items (queued.Frame (length rows)) (there_more rows (r ∷ []) lane.items there) (is_there-last rows r short)
+  there_at short true false = there_still rows r lane there
+  there_at short false c = there_still rows r lane there
 
-  pub frames_framed : length r.octets ≤ 1518 → HoldsFrames (rows ++ r ∷ []) (with_frame (queued.Frame (length rows)) outs lane)
-  frames_framed short = frames_at short (is_member outs lane.number) (nat_lt (length lane.items) lane.room)
+  pub there_framed : length r.octets ≤ 1518 → AreThere (rows ++ r ∷ []) (with_frame (queued.Frame (length rows)) outs lane)
+  there_framed short = there_at short (is_member outs lane.number) (nat_lt (length lane.items) lane.room)
 
-pub shown_drained : (rows : List Row) (r : Row) (count : ℕ) (lane : Lane Queued) → HoldsFrames rows lane → shown_lane (rows ++ r ∷ []) (with_drained count lane) ≡ with_drained count (shown_lane rows lane)
-shown_drained rows r count lane frames =
-    ap (λ (items : List Item). laned lane.number lane.room items)
-    (sym (drop-map (shown (rows ++ r ∷ [])) count lane.items) ∙ ap (drop count) (shown_all rows (r ∷ []) lane.items frames))
+pub shown_drained : (mac : Mac) (rows : List Row) (r : Row) (count : ℕ) (lane : Lane Queued) → AreThere rows lane → shown_lane mac (rows ++ r ∷ []) (with_drained count lane) ≡ with_drained count (shown_lane mac rows lane)
+shown_drained mac rows r count lane there =
+    ap (λ (items : List Item). laned lane.number lane.trusted lane.room items)
+    (sym (drop-map (shown mac (rows ++ r ∷ [])) count lane.items) ∙ ap (drop count) (shown_all mac rows (r ∷ []) lane.items there))
 
-pub frames_drained : (rows : List Row) (r : Row) (count : ℕ) (lane : Lane Queued) → HoldsFrames rows lane → HoldsFrames (rows ++ r ∷ []) (with_drained count lane)
-frames_drained rows r count lane frames = All-drop (IsFrameOf (rows ++ r ∷ [])) count lane.items (frames_more rows (r ∷ []) lane.items frames)
+pub there_drained : (rows : List Row) (r : Row) (count : ℕ) (lane : Lane Queued) → AreThere rows lane → AreThere (rows ++ r ∷ []) (with_drained count lane)
+there_drained rows r count lane there = All-drop (IsThere (rows ++ r ∷ [])) count lane.items (there_more rows (r ∷ []) lane.items there)
 
-closed_shown : (rows : List Row) (r : Row) (lane : Lane Queued) → HoldsFrames rows lane → shown_lane (rows ++ r ∷ []) (record lane { room = 0 }) ≡ record (shown_lane rows lane) { room = 0 }
-closed_shown rows r lane frames = ap (λ (items : List Item). laned lane.number 0 items) (shown_all rows (r ∷ []) lane.items frames)
+closed_shown : (mac : Mac) (rows : List Row) (r : Row) (lane : Lane Queued) → AreThere rows lane → shown_lane mac (rows ++ r ∷ []) (record lane { room = 0 }) ≡ record (shown_lane mac rows lane) { room = 0 }
+closed_shown mac rows r lane there = ap (λ (items : List Item). laned lane.number lane.trusted 0 items) (shown_all mac rows (r ∷ []) lane.items there)
 
-pub shown_ended : (rows : List Row) (r : Row) (how : How) (lane : Lane Queued) → HoldsFrames rows lane → shown_lane (rows ++ r ∷ []) (with_ended how lane) ≡ with_ended how (shown_lane rows lane)
-shown_ended rows r hows.Failed lane frames = refl
-shown_ended rows r hows.End lane frames = closed_shown rows r lane frames
-shown_ended rows r hows.Quit lane frames = closed_shown rows r lane frames
-shown_ended rows r (hows.Malformed at) lane frames = closed_shown rows r lane frames
-shown_ended rows r (hows.Overlong at) lane frames = closed_shown rows r lane frames
-shown_ended rows r hows.Unwritten lane frames = closed_shown rows r lane frames
-shown_ended rows r (hows.Full len) lane frames = closed_shown rows r lane frames
+pub shown_ended : (mac : Mac) (rows : List Row) (r : Row) (how : How) (lane : Lane Queued) → AreThere rows lane → shown_lane mac (rows ++ r ∷ []) (with_ended how lane) ≡ with_ended how (shown_lane mac rows lane)
+shown_ended mac rows r hows.Failed lane there = refl
+shown_ended mac rows r hows.End lane there = closed_shown mac rows r lane there
+shown_ended mac rows r hows.Quit lane there = closed_shown mac rows r lane there
+shown_ended mac rows r (hows.Malformed at) lane there = closed_shown mac rows r lane there
+shown_ended mac rows r (hows.Overlong at) lane there = closed_shown mac rows r lane there
+shown_ended mac rows r hows.Unwritten lane there = closed_shown mac rows r lane there
+shown_ended mac rows r (hows.Full len) lane there = closed_shown mac rows r lane there
 
-pub frames_ended : (rows : List Row) (r : Row) (how : How) (lane : Lane Queued) → HoldsFrames rows lane → HoldsFrames (rows ++ r ∷ []) (with_ended how lane)
-frames_ended rows r hows.Failed lane frames = All-nil (IsFrameOf (rows ++ r ∷ []))
-frames_ended rows r hows.End lane frames = frames_still rows r lane frames
-frames_ended rows r hows.Quit lane frames = frames_still rows r lane frames
-frames_ended rows r (hows.Malformed at) lane frames = frames_still rows r lane frames
-frames_ended rows r (hows.Overlong at) lane frames = frames_still rows r lane frames
-frames_ended rows r hows.Unwritten lane frames = frames_still rows r lane frames
-frames_ended rows r (hows.Full len) lane frames = frames_still rows r lane frames
+pub there_ended : (rows : List Row) (r : Row) (how : How) (lane : Lane Queued) → AreThere rows lane → AreThere (rows ++ r ∷ []) (with_ended how lane)
+there_ended rows r hows.Failed lane there = All-nil (IsThere (rows ++ r ∷ []))
+there_ended rows r hows.End lane there = there_still rows r lane there
+there_ended rows r hows.Quit lane there = there_still rows r lane there
+there_ended rows r (hows.Malformed at) lane there = there_still rows r lane there
+there_ended rows r (hows.Overlong at) lane there = there_still rows r lane there
+there_ended rows r hows.Unwritten lane there = there_still rows r lane there
+there_ended rows r (hows.Full len) lane there = there_still rows r lane there
 
 -- cuts
 
-module _ (rows : List Row) (outs : PortSet) where
-  cut_shown : (lane : Lane Queued) → is_cut outs (shown_lane rows lane) ≡ is_cut outs lane
-  cut_shown lane = ap (λ (n : ℕ). is_member outs lane.number && nat_le lane.room n) (length-map lane.items (shown rows))
+module _ (mac : Mac) (rows : List Row) (outs : PortSet) where
+  cut_shown : (lane : Lane Queued) → is_cut outs (shown_lane mac rows lane) ≡ is_cut outs lane
+  cut_shown lane = ap (λ (n : ℕ). is_member outs lane.number && nat_le lane.room n) (length-map lane.items (shown mac rows))
 
-  cuts_at : (lane : Lane Queued) (lanes : List (Lane Queued)) (b : Bool) → map (λ (x : Lane Queued). x.number) (filter (is_cut outs) lanes) ≡ map (λ (x : Lane Item). x.number) (filter (is_cut outs) (map (shown_lane rows) lanes))
+  cuts_at : (lane : Lane Queued) (lanes : List (Lane Queued)) (b : Bool) → map (λ (x : Lane Queued). x.number) (filter (is_cut outs) lanes) ≡ map (λ (x : Lane Item). x.number) (filter (is_cut outs) (map (shown_lane mac rows) lanes))
       → map (λ (x : Lane Queued). x.number) (if b then lane ∷ filter (is_cut outs) lanes else filter (is_cut outs) lanes)
-      ≡ map (λ (x : Lane Item). x.number) (if b then shown_lane rows lane ∷ filter (is_cut outs) (map (shown_lane rows) lanes) else filter (is_cut outs) (map (shown_lane rows) lanes))
+      ≡ map (λ (x : Lane Item). x.number) (if b then shown_lane mac rows lane ∷ filter (is_cut outs) (map (shown_lane mac rows) lanes) else filter (is_cut outs) (map (shown_lane mac rows) lanes))
   cuts_at lane lanes true same = ap (λ ns. lane.number ∷ ns) same
   cuts_at lane lanes false same = same
 
-  pub cuts_shown : (lanes : List (Lane Queued)) → map (λ (x : Lane Queued). x.number) (filter (is_cut outs) lanes) ≡ map (λ (x : Lane Item). x.number) (filter (is_cut outs) (map (shown_lane rows) lanes))
+  pub cuts_shown : (lanes : List (Lane Queued)) → map (λ (x : Lane Queued). x.number) (filter (is_cut outs) lanes) ≡ map (λ (x : Lane Item). x.number) (filter (is_cut outs) (map (shown_lane mac rows) lanes))
   cuts_shown [] = refl
   cuts_shown (lane ∷ lanes) = rw (cut_shown lane) (cuts_at lane lanes (is_cut outs lane) (cuts_shown lanes))
 
-module _ (plan : Plan) (base : Base) (past : List Row) (outs : PortSet) where
-  numbers_at : (n : ℕ) (ns : List ℕ) (b : Bool) → map (λ (x : Lane Item). x.number) (filter (is_cut outs) (map (lane_of plan base past) ns)) ≡ filter (λ (q : ℕ). is_cut outs (lane_of plan base past q)) ns
-      → map (λ (x : Lane Item). x.number) (if b then lane_of plan base past n ∷ filter (is_cut outs) (map (lane_of plan base past) ns) else filter (is_cut outs) (map (lane_of plan base past) ns))
-      ≡ (if b then n ∷ filter (λ (q : ℕ). is_cut outs (lane_of plan base past q)) ns else filter (λ (q : ℕ). is_cut outs (lane_of plan base past q)) ns)
-  numbers_at n ns true same = ap (λ ms. n ∷ ms) same
+-- lanes made for ports
+module _ (by : ℕ → Lane Item) (named : (q : ℕ) → (by q).number ≡ q) (outs : PortSet) where
+  numbers_at : (n : ℕ) (ns : List ℕ) (b : Bool) → map (λ (x : Lane Item). x.number) (filter (is_cut outs) (map by ns)) ≡ filter (λ (q : ℕ). is_cut outs (by q)) ns
+      → map (λ (x : Lane Item). x.number) (if b then by n ∷ filter (is_cut outs) (map by ns) else filter (is_cut outs) (map by ns))
+      ≡ (if b then n ∷ filter (λ (q : ℕ). is_cut outs (by q)) ns else filter (λ (q : ℕ). is_cut outs (by q)) ns)
+  numbers_at n ns true same = ap (λ m. m ∷ map (λ (x : Lane Item). x.number) (filter (is_cut outs) (map by ns))) (named n) ∙ ap (λ ms. n ∷ ms) same
   numbers_at n ns false same = same
 
-  pub cuts_numbers : (ns : List ℕ) → map (λ (x : Lane Item). x.number) (filter (is_cut outs) (map (lane_of plan base past) ns)) ≡ filter (λ (q : ℕ). is_cut outs (lane_of plan base past q)) ns
+  pub cuts_numbers : (ns : List ℕ) → map (λ (x : Lane Item). x.number) (filter (is_cut outs) (map by ns)) ≡ filter (λ (q : ℕ). is_cut outs (by q)) ns
   cuts_numbers [] = refl
-  cuts_numbers (n ∷ ns) = numbers_at n ns (is_cut outs (lane_of plan base past n)) (cuts_numbers ns)
+  cuts_numbers (n ∷ ns) = numbers_at n ns (is_cut outs (by n)) (cuts_numbers ns)
 
 -- lanes by the history
+
+-- the lane of a port once the probes of an entry with this act and these octets were offered
+abbrev pub probed_lane : Plan → Base → List Row → Act → List ℕ → ℕ → Lane Item
+probed_lane plan base past act octets q = laned q (is_trusted (role_of plan q)) (room_at plan base past q) (probed plan base past act octets q (queue plan base q past))
 
 module _ (plan : Plan) (base : Base) (past : List Row) (r : Row) (q : ℕ) where
   -- an entry that ends no pass leaves the room as it is
   room_kept : is_end r.entry.act ≡ false → room_at plan base (r ∷ past) q ≡ room_at plan base past q
   room_kept none = rw none refl
 
-  lane_at : (b c : Bool) (waiting : List Item) → (if b then (if c then laned q (room_at plan base past q) (waiting ++ item_of r ∷ []) else laned q (room_at plan base past q) waiting) else laned q (room_at plan base past q) waiting)
-      ≡ laned q (room_at plan base past q) (if b then (if c then waiting ++ item_of r ∷ [] else waiting) else waiting)
+  abbrev trust : Bool
+  trust = is_trusted (role_of plan q)
+
+  lane_at : (b c : Bool) (waiting : List Item)
+      → (if b then (if c then laned q trust (room_at plan base past q) (waiting ++ item_of r ∷ []) else laned q trust (room_at plan base past q) waiting) else laned q trust (room_at plan base past q) waiting)
+      ≡ laned q trust (room_at plan base past q) (if b then (if c then waiting ++ item_of r ∷ [] else waiting) else waiting)
   lane_at true true waiting = refl
   lane_at true false waiting = refl
   lane_at false c waiting = refl
 
-  pub lane_framed : plan.savi ≡ false → (port : Port) (stamp at len : ℕ) → r.entry.act ≡ acts.Frame port stamp at len → with_frame (item_of r) r.entry.outs (lane_of plan base past q) ≡ lane_of plan base (r ∷ past) q
-  lane_framed off port stamp at len act_is =
-      let waiting = queue plan base q past in
-      let act = acts.Frame port stamp at len in
-      let items_are : queue plan base q (r ∷ past) ≡ framed (room_at plan base past q) q r (queue plan base q past) =
-      ap (λ (a : Act). waiting_after plan base past q r a (queue plan base q past)) act_is
-      ∙ ap (λ (items : List Item). framed (room_at plan base past q) q r items) (probed_off plan base past (acts.Frame port stamp at len) r.octets off q (queue plan base q past)) in
-      let room_is = room_kept (ap is_end act_is) in
-      lane_at (is_member r.entry.outs q) (nat_lt (length (queue plan base q past)) (room_at plan base past q)) (queue plan base q past)
-      ∙ ap (λ (items : List Item). laned q (room_at plan base past q) items) (sym items_are)
-      ∙ ap (λ (room : ℕ). laned q room (queue plan base q (r ∷ past))) (sym room_is)
+  -- the lane of the new row, by what it lets wait and the room before it
+  stamped : (waiting : List Item) → queue plan base q (r ∷ past) ≡ waiting → is_end r.entry.act ≡ false → laned q trust (room_at plan base past q) waiting ≡ lane_of plan base (r ∷ past) q
+  stamped waiting items_are none =
+      ap (λ (items : List Item). laned q trust (room_at plan base past q) items) (sym items_are)
+      ∙ ap (λ (room : ℕ). laned q trust room (queue plan base q (r ∷ past))) (sym (room_kept none))
+
+  -- a frame joins behind the probes of its entry
+  pub lane_framed : (port : Port) (stamp at len : ℕ) → r.entry.act ≡ acts.Frame port stamp at len → with_frame (item_of r) r.entry.outs (probed_lane plan base past (acts.Frame port stamp at len) r.octets q) ≡ lane_of plan base (r ∷ past) q
+  lane_framed port stamp at len act_is =
+      let waiting = probed plan base past (acts.Frame port stamp at len) r.octets q (queue plan base q past) in
+      lane_at (is_member r.entry.outs q) (nat_lt (length waiting) (room_at plan base past q)) waiting
+      ∙ stamped (framed (room_at plan base past q) q r waiting) (ap (λ (a : Act). waiting_after plan base past q r a (queue plan base q past)) act_is) (ap is_end act_is)
+
+  -- the other entries with a stamp offer their probes alone
+  pub lane_long : (port : Port) (stamp len : ℕ) → r.entry.act ≡ acts.Long port stamp len → probed_lane plan base past (acts.Long port stamp len) r.octets q ≡ lane_of plan base (r ∷ past) q
+  lane_long port stamp len act_is =
+      stamped (probed plan base past (acts.Long port stamp len) r.octets q (queue plan base q past))
+      (ap (λ (a : Act). waiting_after plan base past q r a (queue plan base q past)) act_is) (ap is_end act_is)
+
+  pub lane_ticked : (stamp : ℕ) → r.entry.act ≡ acts.Tick stamp → probed_lane plan base past (acts.Tick stamp) r.octets q ≡ lane_of plan base (r ∷ past) q
+  lane_ticked stamp act_is =
+      stamped (probed plan base past (acts.Tick stamp) r.octets q (queue plan base q past))
+      (ap (λ (a : Act). waiting_after plan base past q r a (queue plan base q past)) act_is) (ap is_end act_is)
+
+  pub lane_commanded : (stamp at len : ℕ) → r.entry.act ≡ acts.Command stamp at len → probed_lane plan base past (acts.Command stamp at len) r.octets q ≡ lane_of plan base (r ∷ past) q
+  lane_commanded stamp at len act_is =
+      stamped (probed plan base past (acts.Command stamp at len) r.octets q (queue plan base q past))
+      (ap (λ (a : Act). waiting_after plan base past q r a (queue plan base q past)) act_is) (ap is_end act_is)
 
   -- an entry that leaves what waits and the room leaves the lane
   pub lane_kept : queue plan base q (r ∷ past) ≡ queue plan base q past → room_at plan base (r ∷ past) q ≡ room_at plan base past q → lane_of plan base past q ≡ lane_of plan base (r ∷ past) q
   lane_kept items_are room_is =
-      ap (λ (items : List Item). laned q (room_at plan base past q) items) (sym items_are) ∙ ap (λ (room : ℕ). laned q room (queue plan base q (r ∷ past))) (sym room_is)
-
-  pub lane_long : plan.savi ≡ false → (port : Port) (stamp len : ℕ) → r.entry.act ≡ acts.Long port stamp len → lane_of plan base past q ≡ lane_of plan base (r ∷ past) q
-  lane_long off port stamp len act_is =
-      lane_kept
-      (ap (λ (a : Act). waiting_after plan base past q r a (queue plan base q past)) act_is ∙ probed_off plan base past (acts.Long port stamp len) r.octets off q (queue plan base q past))
-      (room_kept (ap is_end act_is))
+      ap (λ (items : List Item). laned q trust (room_at plan base past q) items) (sym items_are) ∙ ap (λ (room : ℕ). laned q trust room (queue plan base q (r ∷ past))) (sym room_is)
 
   -- a drain
 
@@ -249,16 +267,17 @@ lane_drained plan base past r port count act_is =
     let items_are : queue plan base (number_of port) (r ∷ past) ≡ drop count (queue plan base (number_of port) past) =
     ap (λ (a : Act). waiting_after plan base past (number_of port) r a (queue plan base (number_of port) past)) act_is
     ∙ ap (λ (b : Bool). if b then drop count (queue plan base (number_of port) past) else queue plan base (number_of port) past) (eq-eqb (number_of port) (number_of port) refl) in
-    ap (λ (items : List Item). laned (number_of port) (room_at plan base past (number_of port)) items) (sym items_are)
-    ∙ ap (λ (room : ℕ). laned (number_of port) room (queue plan base (number_of port) (r ∷ past))) (sym (room_kept plan base past r (number_of port) (ap is_end act_is)))
+    let trusted = is_trusted (role_of plan (number_of port)) in
+    ap (λ (items : List Item). laned (number_of port) trusted (room_at plan base past (number_of port)) items) (sym items_are)
+    ∙ ap (λ (room : ℕ). laned (number_of port) trusted room (queue plan base (number_of port) (r ∷ past))) (sym (room_kept plan base past r (number_of port) (ap is_end act_is)))
 
 -- the lane of an egress that ended
 
 failed_waits : (plan : Plan) (base : Base) (past : List Row) (r : Row) (port : Port) (waiting : List Item) → [] ≡ waiting_after plan base past (number_of port) r (acts.End (Egress port) hows.Failed) waiting
 failed_waits plan base past r port waiting = sym (ap (λ (b : Bool). if b then [] else waiting) (eq-eqb (number_of port) (number_of port) refl))
 
-ended_at : (plan : Plan) (base : Base) (past : List Row) (r : Row) (port : Port) (how : How) → with_ended how (lane_of plan base past (number_of port)) ≡ laned (number_of port) 0 (waiting_after plan base past (number_of port) r (acts.End (Egress port) how) (queue plan base (number_of port) past))
-ended_at plan base past r port hows.Failed = ap (λ (items : List Item). laned (number_of port) 0 items) (failed_waits plan base past r port (queue plan base (number_of port) past))
+ended_at : (plan : Plan) (base : Base) (past : List Row) (r : Row) (port : Port) (how : How) → with_ended how (lane_of plan base past (number_of port)) ≡ laned (number_of port) (is_trusted (role_of plan (number_of port))) 0 (waiting_after plan base past (number_of port) r (acts.End (Egress port) how) (queue plan base (number_of port) past))
+ended_at plan base past r port hows.Failed = ap (λ (items : List Item). laned (number_of port) (is_trusted (role_of plan (number_of port))) 0 items) (failed_waits plan base past r port (queue plan base (number_of port) past))
 ended_at plan base past r port hows.End = refl
 ended_at plan base past r port hows.Quit = refl
 ended_at plan base past r port (hows.Malformed at) = refl
@@ -269,8 +288,8 @@ ended_at plan base past r port (hows.Full len) = refl
 pub lane_ended : (plan : Plan) (base : Base) (past : List Row) (r : Row) (port : Port) (how : How) → r.entry.act ≡ acts.End (Egress port) how → r.entry.by ≡ egress_pass plan (number_of port) → with_ended how (lane_of plan base past (number_of port)) ≡ lane_of plan base (r ∷ past) (number_of port)
 lane_ended plan base past r port how act_is by_is =
     ended_at plan base past r port how
-    ∙ ap (λ (a : Act). laned (number_of port) 0 (waiting_after plan base past (number_of port) r a (queue plan base (number_of port) past))) (sym act_is)
-    ∙ ap (λ (room : ℕ). laned (number_of port) room (queue plan base (number_of port) (r ∷ past))) (sym (room_now plan base past r (number_of port) by_is (ap is_end act_is)))
+    ∙ ap (λ (a : Act). laned (number_of port) (is_trusted (role_of plan (number_of port))) 0 (waiting_after plan base past (number_of port) r a (queue plan base (number_of port) past))) (sym act_is)
+    ∙ ap (λ (room : ℕ). laned (number_of port) (is_trusted (role_of plan (number_of port))) room (queue plan base (number_of port) (r ∷ past))) (sym (room_now plan base past r (number_of port) by_is (ap is_end act_is)))
 
 apart_waits : (plan : Plan) (base : Base) (past : List Row) (q : ℕ) (r : Row) (port : Port) (how : How) (waiting : List Item) → number_of port ≢ q → waiting_after plan base past q r (acts.End (Egress port) how) waiting ≡ waiting
 apart_waits plan base past q r port hows.Failed waiting other = ap (λ (b : Bool). if b then [] else waiting) (ne_eqb (number_of port) q other)

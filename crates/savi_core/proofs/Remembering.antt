@@ -6,27 +6,31 @@ use Rattle.std.proofs.lemmas.List.Elements.{All-nil, All-cons}
 use Rattle.std.proofs.lemmas.Bool.{cases_lt, ltb-true, leb-true, and_parts}
 use Rattle.savi_kinds.specs.declared.plan.Plan.{Plan}
 use Rattle.savi_kinds.specs.declared.plan.PortPlan.{PortPlan}
+use Rattle.savi_kinds.specs.declared.plan.Role.{Role}
 use Rattle.savi_kinds.specs.declared.entry.Who.{Who}
 use Rattle.savi_kinds.specs.Ports.{number_of}
 use Rattle.savi_kinds.specs.ValidPlan.{IsValidPlan, numbers_of}
 use Rattle.egress_ring.specs.declared.item.Item.{Item as Queued}
 use Rattle.hist_store.specs.Rows.{Row, held}
 use Rattle.hist_store.proofs.StoreLemmas.{held-append}
-use Rattle.savi_history.specs.Bases.{Base, empty}
-use Rattle.savi_history.specs.Passes.{has_ended, has_port, has_pass, pass_of, place_of, is_end, pass_count}
+use Rattle.savi_history.specs.Bases.{empty}
+use Rattle.savi_history.specs.Passes.{has_ended, has_port, has_pass, pass_of, place_of, place_among, role_of, is_trusted, is_end, pass_count}
 use Rattle.savi_history.specs.Limits.{has_room}
 use Rattle.savi_history.specs.Queues.{Item, queue}
 use Rattle.savi_history.specs.Events.{Event, row_of}
 use Rattle.savi_history.specs.Legal.{MayCome}
 use Rattle.savi_history.proofs.Depth.{queue_within}
-use Rattle.savi_core.specs.Machines.{number_at}
+use Rattle.savi_history.proofs.Starting.{empty_within}
 use Rattle.savi_core.specs.Lanes.{Lane, empty_lane, lane_of}
-use Rattle.savi_core.specs.Waits.{shown, shown_lane, IsFrameOf, HoldsFrames}
+use Rattle.savi_core.specs.Waits.{shown, shown_lane, IsThere, AreThere, Show}
 use Rattle.savi_core.specs.Counts.{still_to_come, waiting_at, open_below}
 use Rattle.savi_core.specs.PassMarks.{open_among}
 use Rattle.savi_core.proofs.Ending.{none_ended}
 use Rattle.savi_core.specs.Remembers.{Kept, Remembers}
-use Rattle.savi_core.proofs.Places.{length-numbers, placed, place_within, pass_within}
+use Rattle.savi_core.proofs.Places.{length-numbers, place_at, pass_within}
+use Rattle.savi_core.proofs.PlaceTable.{role_at}
+use Rattle.savi_core.proofs.Lanes.{laned}
+use Rattle.savi_core.proofs.Showing.{lane_at}
 use Rattle.savi_core.proofs.Counting.{open_below-le, waiting_at-le}
 
 pub reverse_push : (rows : List Row) (r : Row) → reverse (rows ++ r ∷ []) ≡ r ∷ reverse rows
@@ -40,45 +44,50 @@ held-reverse (r ∷ rows) =
 
 -- at the start
 
-start_shown : (plan : Plan) (ports : List PortPlan) → map (shown_lane []) (map (empty_lane plan.depth) ports) ≡ map (lane_of plan empty []) (numbers_of ports)
-start_shown plan [] = refl
-start_shown plan (p ∷ ports) = ap (λ lanes. lane_of plan empty [] (number_of p.number) ∷ lanes) (start_shown plan ports)
+-- the lane of a port is that of its part of the plan
+start_role : (plan : Plan) (k : ℕ) (d : PortPlan) → IsValidPlan plan → k < length plan.ports → role_of plan (number_of (get_or plan.ports k d).number) ≡ (get_or plan.ports k d).role
+start_role plan k d valid within =
+    let in_numbers : k < length (numbers_of plan.ports) = omega (arith, within, length-numbers plan.ports) in
+    let number : PortPlan → ℕ = λ p. number_of p.number in
+    let number_is : get_or (numbers_of plan.ports) k 0 ≡ number_of (get_or plan.ports k d).number = get_or-map number plan.ports k d 0 within in
+    let place_is : place_among (numbers_of plan.ports) (number_of (get_or plan.ports k d).number) ≡ k = ap (place_among (numbers_of plan.ports)) (sym number_is) ∙ place_at (numbers_of plan.ports) k valid.ports in_numbers in
+    sym (role_at plan.ports (number_of (get_or plan.ports k d).number) d (omega (arith, place_is, within)))
+    ∙ ap (λ (n : ℕ). (get_or plan.ports n d).role) place_is
 
-start_frames : (depth : ℕ) (ports : List PortPlan) → All (HoldsFrames []) (map (empty_lane depth) ports)
-start_frames depth [] = All-nil (HoldsFrames [])
-start_frames depth (p ∷ ports) = All-cons (HoldsFrames []) (empty_lane depth p) (map (empty_lane depth) ports) (All-nil (IsFrameOf [])) (start_frames depth ports)
+start_shown : (plan : Plan) (ports : List PortPlan) → ((k : ℕ) (d : PortPlan) → k < length ports → role_of plan (number_of (get_or ports k d).number) ≡ (get_or ports k d).role)
+    → map (shown_lane plan.mac []) (map (empty_lane plan.depth) ports) ≡ map (lane_of plan empty []) (numbers_of ports)
+start_shown plan [] roles = refl
+start_shown plan (p ∷ ports) roles =
+    ap (λ (role : Role). laned (number_of p.number) (is_trusted role) plan.depth [] ∷ map (shown_lane plan.mac []) (map (empty_lane plan.depth) ports)) (sym (roles 0 p (omega arith)))
+    ∙ ap (λ lanes. lane_of plan empty [] (number_of p.number) ∷ lanes) (start_shown plan ports (λ k d within. roles (suc k) d (omega (arith, within))))
+
+start_there : (depth : ℕ) (ports : List PortPlan) → All (AreThere []) (map (empty_lane depth) ports)
+start_there depth [] = All-nil (AreThere [])
+start_there depth (p ∷ ports) = All-cons (AreThere []) (empty_lane depth p) (map (empty_lane depth) ports) (All-nil (IsThere [])) (start_there depth ports)
 
 -- what a core keeps at its start
-pub remembers_start : (plan : Plan) (lanes : List (Lane Queued)) → IsValidPlan plan → plan.savi ≡ false → lanes ≡ map (empty_lane plan.depth) plan.ports
+pub remembers_start : (plan : Plan) (lanes : List (Lane Queued)) → IsValidPlan plan → lanes ≡ map (empty_lane plan.depth) plan.ports
     → Remembers (record { plan = plan; base = empty; rows = []; moment = 0; ended = replicate 34 false; lanes = lanes })
-remembers_start plan lanes valid off are = record {
+remembers_start plan lanes valid are = record {
   valid = valid;
-  off = off;
-  within = record { moment = omega arith; ended = All-nil (λ pass. pass < pass_count plan) };
+  within = empty_within plan valid;
   legal = tt;
   last = refl;
   passes = λ pass below. none_ended 34 pass;
   marks = refl;
-  frames = subst (λ (ls : List (Lane Queued)). All (HoldsFrames []) ls) (sym are) (start_frames plan.depth plan.ports);
-  queues = ap (map (shown_lane [])) are ∙ start_shown plan plan.ports;
+  queues = record {
+    there = subst (λ (ls : List (Lane Queued)). All (AreThere []) ls) (sym are) (start_there plan.depth plan.ports);
+    same = ap (map (shown_lane plan.mac [])) are ∙ start_shown plan plan.ports (λ k d within. start_role plan k d valid within);
+  };
   octets = omega arith;
   room = λ near. absurd (omega (arith, near, valid.entries.0));
 }
-
-numbers_shown : (rows : List Row) (lanes : List (Lane Queued)) → map (λ (x : Lane Item). x.number) (map (shown_lane rows) lanes) ≡ map (λ (x : Lane Queued). x.number) lanes
-numbers_shown rows [] = refl
-numbers_shown rows (lane ∷ lanes) = ap (λ ns. lane.number ∷ ns) (numbers_shown rows lanes)
-
-numbers_laned : (plan : Plan) (base : Base) (past : List Row) (ns : List ℕ) → map (λ (x : Lane Item). x.number) (map (lane_of plan base past) ns) ≡ ns
-numbers_laned plan base past [] = refl
-numbers_laned plan base past (n ∷ ns) = ap (λ rest. n ∷ rest) (numbers_laned plan base past ns)
 
 -- one more row, by the event that it is of
 pub record HasNext (k : Kept) (r : Row) (ended' : List Bool) (lanes' : List (Lane Queued)) : Type 0 where
   pub passes : (pass : ℕ) → pass < pass_count k.plan → get_or ended' pass false ≡ ((is_end r.entry.act && (r.entry.by == pass)) || get_or k.ended pass false)
   pub marks : length ended' ≡ length k.ended
-  pub frames : All (HoldsFrames (k.rows ++ r ∷ [])) lanes'
-  pub queues : map (shown_lane (k.rows ++ r ∷ [])) lanes' ≡ map (lane_of k.plan k.base (r ∷ reverse k.rows)) (numbers_of k.plan.ports)
+  pub queues : Show k.plan (k.rows ++ r ∷ []) lanes' (lane_of k.plan k.base (r ∷ reverse k.rows))
   pub octets : held k.rows + length r.octets ≤ k.plan.bytes
   pub room : k.plan.entries < length k.rows + 1 + 4130 → length k.rows + 1 + still_to_come k.plan k.base (r ∷ reverse k.rows) ≤ k.plan.entries
 
@@ -93,34 +102,15 @@ module _ {k : Kept} (was : Remembers k) where
       let longer : length (k.rows ++ r ∷ []) ≡ length k.rows + 1 = omega (arith, length-append k.rows (r ∷ [])) in
       record {
         valid = was.valid;
-        off = was.off;
         within = was.within;
         legal = rw at ((event, may, is_row), was.legal);
         last = rw at moment_is;
         passes = λ pass below. rw at (next.passes pass below ∙ ap (λ b. (is_end r.entry.act && (r.entry.by == pass)) || b) (was.passes pass below));
         marks = next.marks ∙ was.marks;
-        frames = next.frames;
         queues = rw at next.queues;
         octets = omega (arith, held-append k.rows (r ∷ []), next.octets);
         room = rw (at, longer) next.room;
       }
-
-  pub lane_count : length k.lanes ≡ length k.plan.ports
-  lane_count =
-      omega (
-        arith,
-        ap (λ (lanes : List (Lane Item)). length lanes) was.queues,
-        length-map k.lanes (shown_lane k.rows),
-        length-map (numbers_of k.plan.ports) (lane_of k.plan k.base (reverse k.rows)),
-        length-numbers k.plan.ports,
-      )
-
-  -- the lanes are those of the plan's ports
-  pub lane_numbers : map (λ (lane : Lane Queued). lane.number) k.lanes ≡ numbers_of k.plan.ports
-  lane_numbers =
-      sym (numbers_shown k.rows k.lanes)
-      ∙ ap (map (λ (lane : Lane Item). lane.number)) was.queues
-      ∙ numbers_laned k.plan k.base (reverse k.rows) (numbers_of k.plan.ports)
 
   -- how many passes are open
   pub open_is : (n : ℕ) → n ≤ pass_count k.plan → open_among k.ended n ≡ open_below k.base (reverse k.rows) n
@@ -129,27 +119,10 @@ module _ {k : Kept} (was : Remembers k) where
       let here : ◌≡◌ {A = ℕ} (cond (get_or k.ended n false) 0 1) (cond (has_ended k.base n (reverse k.rows)) 0 1) = ap (λ (b : Bool). cond b 0 1) (was.passes n (omega (arith, within))) in
       omega (arith, open_is n (omega (arith, within)), here)
 
-  -- the lane at a place shows that of its port
-  pub lane_is : (p : ℕ) (d : Lane Queued) → p < length k.plan.ports → shown_lane k.rows (get_or k.lanes p d) ≡ lane_of k.plan k.base (reverse k.rows) (number_at k.plan p)
-  lane_is p d within =
-      let count = lane_count in
-      let size = length-numbers k.plan.ports in
-      let e : Lane Item = shown_lane k.rows d in
-      sym (get_or-map (shown_lane k.rows) k.lanes p d e (omega (arith, within, count)))
-      ∙ ap (λ (lanes : List (Lane Item)). get_or lanes p e) was.queues
-      ∙ get_or-map (lane_of k.plan k.base (reverse k.rows)) (numbers_of k.plan.ports) p 0 e (omega (arith, within, size))
-
-  -- the same by the number of a port
-  pub lane_at : (number p : ℕ) (d : Lane Queued) → has_port k.plan number ≡ true → p ≡ place_of k.plan number → shown_lane k.rows (get_or k.lanes p d) ≡ lane_of k.plan k.base (reverse k.rows) number
-  lane_at number p d known place_is =
-      let place = placed k.plan number known in
-      lane_is p d (omega (arith, place_is, place_within k.plan number known))
-      ∙ ap (lane_of k.plan k.base (reverse k.rows)) (ap (number_at k.plan) place_is ∙ place.number_is)
-
   -- how many items wait there
   pub waits_at : (number p : ℕ) (d : Lane Queued) → has_port k.plan number ≡ true → p ≡ place_of k.plan number → length (queue k.plan k.base number (reverse k.rows)) ≡ length (get_or k.lanes p d).items
   waits_at number p d known place_is =
-      ap (λ (lane : Lane Item). length lane.items) (sym (lane_at number p d known place_is)) ∙ length-map (get_or k.lanes p d).items (shown k.rows)
+      ap (λ (lane : Lane Item). length lane.items) (sym (lane_at was.queues number p d known place_is)) ∙ length-map (get_or k.lanes p d).items (shown k.plan.mac k.rows)
 
   pub few_to_come : still_to_come k.plan k.base (reverse k.rows) ≤ 4130
   few_to_come =

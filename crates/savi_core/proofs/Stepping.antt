@@ -1,9 +1,6 @@
 -- What a core keeps after each kind of event.
-use Rattle.std.proofs.Common.{ℕ, ◌≡◌, ◌≢◌, ◌+◌, ◌^◌, ◌<◌, ◌≤◌, ◌==◌, ◌&&◌, ◌||◌, Bool, true, false, List, [], ◌∷◌, ◌++◌, length, map, get_or, set, drop, cond, inl, inr, refl, sym, ap, subst, ◌∙◌, arith, length-drop, length-set, get_or-set_same, get_or-set_other}
-use Rattle.std.specs.Prelude.{All, reverse}
-use Rattle.std.specs.List.{filter}
-use Rattle.std.proofs.lemmas.List.{map-set}
-use Rattle.std.proofs.lemmas.List.Elements.{All-weaker, All-map, All-set, filter_agree}
+use Rattle.std.proofs.Common.{ℕ, ◌≡◌, ◌+◌, ◌^◌, ◌<◌, ◌≤◌, ◌==◌, ◌&&◌, ◌||◌, Bool, true, false, List, [], ◌∷◌, ◌++◌, length, map, fold, get_or, set, drop, cond, inl, inr, refl, sym, ap, subst, ◌∙◌, arith, length-drop, length-set, get_or-set_same, get_or-set_other}
+use Rattle.std.specs.Prelude.{reverse}
 use Rattle.std.proofs.lemmas.Bool.{cases_eq, cases_Bool, eq-eqb, ne_eqb, or_left, or_right, cond-true, cond-false}
 use Rattle.savi_kinds.specs.declared.plan.Plan.{Plan}
 use Rattle.savi_kinds.specs.declared.port.Port.{Port}
@@ -14,31 +11,34 @@ use Rattle.savi_kinds.specs.declared.entry.Who.{Who}
 use Rattle.savi_kinds.specs.declared.entry.Who.TheVariants.{Ingress, Control, Ticker, Egress}
 use Rattle.savi_kinds.specs.declared.entry.How.{How}
 use Rattle.savi_kinds.specs.Ports.{number_of}
-use Rattle.savi_kinds.specs.declared.port.PortSet.{PortSet}
-use Rattle.savi_kinds.specs.PortSets.{is_member, set_of}
 use Rattle.savi_kinds.specs.ValidPlan.{numbers_of}
+use Rattle.addr_table.specs.declared.sent.SentProbe.{SentProbe}
 use Rattle.egress_ring.specs.declared.item.Item.{Item as Queued}
 use Rattle.egress_ring.specs.declared.item.Item.TheVariants as queued
 use Rattle.hist_store.specs.Rows.{Row, held}
+use Rattle.savi_history.specs.Offers.{offer_of, offers}
 use Rattle.savi_history.specs.Passes.{has_ended, has_port, pass_of, egress_pass, place_of, pass_count, is_end}
 use Rattle.savi_history.specs.Limits.{has_room}
-use Rattle.savi_history.specs.Queues.{Item, item_of, queue, waiting_after, is_closed, cuts}
-use Rattle.savi_history.proofs.PassNumbers.{known_at}
+use Rattle.savi_history.specs.Queues.{queue, waiting_after, probes, lost}
 use Rattle.savi_history.proofs.Depth.{ended_fewer}
-use Rattle.savi_history.proofs.Offered.{closed_off}
 use Rattle.savi_history.specs.Events as events
 use Rattle.savi_history.specs.Events.{Event, row_of}
 use Rattle.savi_history.specs.Legal.{IsOpen, MayCome}
+use Rattle.savi_history.specs.Ticks.{HasChangedBy}
 use Rattle.savi_core.specs.Machines.{Machine, base_of, with_event}
-use Rattle.savi_core.specs.Steps.{MayStep}
+use Rattle.savi_core.specs.Steps.{MayStep, tick_moment}
 use Rattle.savi_core.specs.Counts.{still_to_come, open_below}
-use Rattle.savi_core.specs.Lanes.{Lane, with_frame, is_cut, cut_at, with_drained, with_ended, no_lane, lane_of, AreEnded}
-use Rattle.savi_core.specs.Waits.{shown_lane, HoldsFrames}
+use Rattle.savi_core.specs.Lanes.{Lane, with_frame, with_drained, with_ended, no_lane, lane_of, AreEnded}
+use Rattle.savi_core.specs.Waits.{Show}
+use Rattle.savi_core.specs.Rings.{Rings, after_probe}
 use Rattle.savi_core.specs.Remembers.{Kept, Remembers}
-use Rattle.savi_core.proofs.Places.{placed, place_within, length-numbers, pass_within, apart}
-use Rattle.savi_core.proofs.Lanes.{across, same_at, map_all, map_twice, one_changed, shown_more, frames_still, shown_framed, frames_framed, shown_drained, frames_drained, shown_ended, frames_ended, cuts_shown, cuts_numbers, lane_framed, lane_long, lane_drained, lane_elsewhere, IsNoEgress, lane_behind_input, lane_ended, lane_apart}
+use Rattle.savi_core.proofs.Places.{placed, pass_within}
+use Rattle.savi_core.proofs.Lanes.{probed_lane, there_drained, shown_drained, there_ended, shown_ended, lane_long, lane_ticked, lane_drained, lane_elsewhere, IsNoEgress, lane_behind_input, lane_ended, lane_apart}
+use Rattle.savi_core.proofs.Probing.{show_probed}
+use Rattle.savi_core.proofs.ProbeCounts.{queued_exact, lost_exact}
+use Rattle.savi_core.proofs.Showing.{lane_at, there_in, show_more, show_by, show_set, show_framed}
 use Rattle.savi_core.proofs.Counting.{open_below-later, open_below-ended, open_below-some, waiting_at-later, waiting_at-taken, waiting_at-some}
-use Rattle.savi_core.proofs.Remembering.{reverse_push, remembers_next, lane_count, lane_at, fits, room_less, room_for}
+use Rattle.savi_core.proofs.Remembering.{reverse_push, remembers_next, fits, room_less, room_for}
 
 -- a row of an entry and its octets
 abbrev pub row : Entry → List ℕ → Row
@@ -54,93 +54,69 @@ may_long m port stamp len may room fits len_fits = (record { open_pass = may.0; 
 pub may_frame : (m : Machine) (port : Port) (stamp : ℕ) (octets : List ℕ) → MayStep m (events.Frame port stamp octets) → has_room m.plan m.past ≡ true → stamp < 2 ^ 64 → MayCome m.plan (base_of m) m.past (events.Frame port stamp octets)
 may_frame m port stamp octets may room fits = (record { open_pass = may.0; room = room; fits = fits }, may.1)
 
+pub may_tick : (m : Machine) (stamp : ℕ) → MayStep m (events.Tick stamp) → has_room m.plan m.past ≡ true → stamp < 2 ^ 64 → HasChangedBy m.plan (base_of m) m.past (tick_moment m stamp) → MayCome m.plan (base_of m) m.past (events.Tick stamp)
+may_tick m stamp may room fits changed = record { open_pass = may; room = room; fits = fits; changed = changed }
+
 -- a switch with the row of an event behind the others, as a contract says it
 pub stepped_view : (plan : Plan) (rows : List Row) (e : Entry) (octets : List ℕ) (event : Event) (m : Machine) → machine plan (reverse rows) ≡ m → row e octets ≡ row_of plan (base_of (machine plan (reverse rows))) (reverse rows) event → machine plan (reverse (rows ++ row e octets ∷ [])) ≡ with_event m event
 stepped_view plan rows e octets event m view is_row =
     ap (machine plan) (reverse_push rows (row e octets) ∙ ap (λ (r : Row). r ∷ reverse rows) is_row) ∙ ap (λ (x : Machine). with_event x event) view
 
 module _ {k : Kept} (was : Remembers k) where
-  pub remembers_long : (port : Port) (stamp len : ℕ) (e : Entry) → MayCome k.plan k.base (reverse k.rows) (events.Long port stamp len) → e ≡ (row_of k.plan k.base (reverse k.rows) (events.Long port stamp len)).entry
-      → Remembers (record k { rows = k.rows ++ row e [] ∷ []; moment = e.moment })
-  remembers_long port stamp len e may e_is =
-      let r = row e [] in
+  -- the lanes once the probes of an entry were offered, whatever they are
+  pub probed_now : (act : Act) (octets : List ℕ) (sents : List SentProbe) (rings : Rings) → map offer_of sents ≡ offers k.plan k.base (reverse k.rows) act octets → rings.lanes ≡ k.lanes
+      → Show k.plan k.rows (fold after_probe rings sents).lanes (probed_lane k.plan k.base (reverse k.rows) act octets)
+  probed_now act octets sents rings came are =
+      show_probed k.plan k.base (reverse k.rows) k.rows act octets sents rings came
+      (subst (λ (lanes : List (Lane Queued)). Show k.plan k.rows lanes (lane_of k.plan k.base (reverse k.rows))) (sym are) was.queues)
+
+  -- how many of them joined, and how many were left out, since the counts were reset
+  pub probes_now : (act : Act) (octets : List ℕ) (sents : List SentProbe) (rings : Rings) → map offer_of sents ≡ offers k.plan k.base (reverse k.rows) act octets → rings ≡ record { lanes = k.lanes; queued = 0; lost = 0 }
+      → length sents < 268435456 → ((fold after_probe rings sents).queued ≡ probes k.plan k.base (reverse k.rows) act octets) × ((fold after_probe rings sents).lost ≡ lost k.plan k.base (reverse k.rows) act octets)
+  probes_now act octets sents rings came are short =
+      let start : Rings = record { lanes = k.lanes; queued = 0; lost = 0 } in
+      rw are (
+        queued_exact k.plan k.base (reverse k.rows) act octets k.rows sents start came was.queues was.valid refl,
+        lost_exact k.plan k.base (reverse k.rows) act octets k.rows sents start came was.queues was.valid short refl,
+      )
+
+  pub remembers_long : (port : Port) (stamp len : ℕ) (e : Entry) (lanes' : List (Lane Queued)) → MayCome k.plan k.base (reverse k.rows) (events.Long port stamp len) → e ≡ (row_of k.plan k.base (reverse k.rows) (events.Long port stamp len)).entry
+      → Show k.plan k.rows lanes' (probed_lane k.plan k.base (reverse k.rows) (acts.Long port stamp len) []) → Remembers (record k { rows = k.rows ++ row e [] ∷ []; moment = e.moment; lanes = lanes' })
+  remembers_long port stamp len e lanes' may e_is shows =
       let act_is : e.act ≡ acts.Long port stamp len = ap (λ (x : Entry). x.act) e_is in
-      remembers_next was (events.Long port stamp len) (row e []) e.moment k.ended k.lanes may (ap (λ (x : Entry). row x []) e_is) refl (record {
+      remembers_next was (events.Long port stamp len) (row e []) e.moment k.ended lanes' may (ap (λ (x : Entry). row x []) e_is) refl (record {
         passes = λ pass below. ap (λ (a : Act). (is_end a && (e.by == pass)) || get_or k.ended pass false) (sym act_is);
         marks = refl;
-        frames = All-weaker (HoldsFrames k.rows) (HoldsFrames (k.rows ++ row e [] ∷ [])) (λ lane frames. frames_still k.rows (row e []) lane frames) k.lanes was.frames;
-        queues =
-            same_at (HoldsFrames k.rows) (shown_lane k.rows) (shown_lane (k.rows ++ row e [] ∷ [])) (λ lane frames. shown_more k.rows (row e []) lane frames) k.lanes was.frames
-            ∙ was.queues
-            ∙ map_all (lane_of k.plan k.base (reverse k.rows)) (lane_of k.plan k.base (row e [] ∷ reverse k.rows)) (numbers_of k.plan.ports)
-            (λ n within. lane_long k.plan k.base (reverse k.rows) (row e []) (get_or (numbers_of k.plan.ports) n 0) was.off port stamp len act_is);
+        queues = show_by (show_more shows (row e [])) (lane_of k.plan k.base (row e [] ∷ reverse k.rows)) (λ q known. lane_long k.plan k.base (reverse k.rows) (row e []) q port stamp len act_is);
         octets = omega (arith, was.octets);
         room = λ near. absurd (omega (arith, near, (room_for was may.0.room).0));
       })
 
-  -- the ports where a frame is left out
-  pub cuts_are : (port : Port) (stamp : ℕ) (octets : List ℕ) (outs : PortSet) → cut_at outs k.lanes ≡ cuts k.plan k.base (reverse k.rows) (events.frame_act (reverse k.rows) port stamp octets) octets outs
-  cuts_are port stamp octets outs =
-      let act = events.frame_act (reverse k.rows) port stamp octets in
-      ap set_of
-      (cuts_shown k.rows outs k.lanes
-      ∙ ap (λ (lanes : List (Lane Item)). map (λ (x : Lane Item). x.number) (filter (is_cut outs) lanes)) was.queues
-      ∙ cuts_numbers k.plan k.base (reverse k.rows) outs (numbers_of k.plan.ports)
-      ∙ filter_agree (λ (q : ℕ). is_cut outs (lane_of k.plan k.base (reverse k.rows) q)) (λ (q : ℕ). is_member outs q && is_closed k.plan k.base (reverse k.rows) (events.frame_act (reverse k.rows) port stamp octets) octets q)
-      (λ q. ap (λ (b : Bool). is_member outs q && b) (sym (closed_off k.plan k.base (reverse k.rows) (events.frame_act (reverse k.rows) port stamp octets) octets was.off q))) (numbers_of k.plan.ports))
+  pub remembers_tick : (stamp : ℕ) (e : Entry) (lanes' : List (Lane Queued)) → MayCome k.plan k.base (reverse k.rows) (events.Tick stamp) → e ≡ (row_of k.plan k.base (reverse k.rows) (events.Tick stamp)).entry
+      → Show k.plan k.rows lanes' (probed_lane k.plan k.base (reverse k.rows) (acts.Tick stamp) []) → Remembers (record k { rows = k.rows ++ row e [] ∷ []; moment = e.moment; lanes = lanes' })
+  remembers_tick stamp e lanes' may e_is shows =
+      let act_is : e.act ≡ acts.Tick stamp = ap (λ (x : Entry). x.act) e_is in
+      remembers_next was (events.Tick stamp) (row e []) e.moment k.ended lanes' may (ap (λ (x : Entry). row x []) e_is) refl (record {
+        passes = λ pass below. ap (λ (a : Act). (is_end a && (e.by == pass)) || get_or k.ended pass false) (sym act_is);
+        marks = refl;
+        queues = show_by (show_more shows (row e [])) (lane_of k.plan k.base (row e [] ∷ reverse k.rows)) (λ q known. lane_ticked k.plan k.base (reverse k.rows) (row e []) q stamp act_is);
+        octets = omega (arith, was.octets);
+        room = λ near. absurd (omega (arith, near, (room_for was may.room).0));
+      })
 
-  pub remembers_frame : (port : Port) (stamp : ℕ) (octets : List ℕ) (e : Entry) (lanes' : List (Lane Queued)) → MayCome k.plan k.base (reverse k.rows) (events.Frame port stamp octets) → e ≡ (row_of k.plan k.base (reverse k.rows) (events.Frame port stamp octets)).entry
-      → lanes' ≡ map (with_frame (queued.Frame (length k.rows)) e.outs) k.lanes → Remembers (record k { rows = k.rows ++ row e octets ∷ []; moment = e.moment; lanes = lanes' })
-  remembers_frame port stamp octets e lanes' may e_is are =
-      let r = row e octets in
+  pub remembers_frame : (port : Port) (stamp : ℕ) (octets : List ℕ) (e : Entry) (lanes lanes' : List (Lane Queued)) → MayCome k.plan k.base (reverse k.rows) (events.Frame port stamp octets) → e ≡ (row_of k.plan k.base (reverse k.rows) (events.Frame port stamp octets)).entry
+      → Show k.plan k.rows lanes (probed_lane k.plan k.base (reverse k.rows) (events.frame_act (reverse k.rows) port stamp octets) octets)
+      → lanes' ≡ map (with_frame (queued.Frame (length k.rows)) e.outs) lanes → Remembers (record k { rows = k.rows ++ row e octets ∷ []; moment = e.moment; lanes = lanes' })
+  remembers_frame port stamp octets e lanes lanes' may e_is shows are =
       let act_is : e.act ≡ acts.Frame port stamp (held (reverse k.rows)) (length octets) = ap (λ (x : Entry). x.act) e_is in
       let room = room_for was may.0.room in
-      let change : Lane Queued → Lane Queued = with_frame (queued.Frame (length k.rows)) e.outs in
       remembers_next was (events.Frame port stamp octets) (row e octets) e.moment k.ended lanes' may (ap (λ (x : Entry). row x octets) e_is) refl (record {
         passes = λ pass below. ap (λ (a : Act). (is_end a && (e.by == pass)) || get_or k.ended pass false) (sym act_is);
         marks = refl;
-        frames =
-            subst (λ (lanes : List (Lane Queued)). All (HoldsFrames (k.rows ++ row e octets ∷ [])) lanes) (sym are)
-            (All-map (HoldsFrames (k.rows ++ row e octets ∷ [])) (with_frame (queued.Frame (length k.rows)) e.outs) k.lanes
-            (All-weaker (HoldsFrames k.rows) (λ (lane : Lane Queued). HoldsFrames (k.rows ++ row e octets ∷ []) (with_frame (queued.Frame (length k.rows)) e.outs lane)) (λ lane frames. frames_framed k.rows (row e octets) e.outs lane frames may.1) k.lanes was.frames));
-        queues =
-            ap (map (shown_lane (k.rows ++ row e octets ∷ []))) are
-            ∙ across (HoldsFrames k.rows) (shown_lane k.rows) (shown_lane (k.rows ++ row e octets ∷ [])) (with_frame (queued.Frame (length k.rows)) e.outs) (with_frame (item_of (row e octets)) e.outs)
-            (λ lane frames. shown_framed k.rows (row e octets) e.outs lane frames) k.lanes was.frames
-            ∙ ap (map (with_frame (item_of (row e octets)) e.outs)) was.queues
-            ∙ map_twice (lane_of k.plan k.base (reverse k.rows)) (with_frame (item_of (row e octets)) e.outs) (lane_of k.plan k.base (row e octets ∷ reverse k.rows))
-            (λ q. lane_framed k.plan k.base (reverse k.rows) (row e octets) q was.off port stamp (held (reverse k.rows)) (length octets) act_is) (numbers_of k.plan.ports);
+        queues = show_framed k.plan k.base (reverse k.rows) k.rows (row e octets) lanes lanes' port stamp (held (reverse k.rows)) (length octets) act_is may.1 are shows;
         octets = omega (arith, room.1, may.1);
         room = λ near. absurd (omega (arith, near, room.0));
       })
-
-  -- one lane has changed to that of the new row, and the others are as they were
-  one_lane : (r : Row) (number p : ℕ) (v : Lane Queued) → has_port k.plan number ≡ true → p ≡ place_of k.plan number
-      → shown_lane (k.rows ++ r ∷ []) v ≡ lane_of k.plan k.base (r ∷ reverse k.rows) number
-      → ((q : ℕ) → has_port k.plan q ≡ true → q ≢ number → lane_of k.plan k.base (reverse k.rows) q ≡ lane_of k.plan k.base (r ∷ reverse k.rows) q)
-      → map (shown_lane (k.rows ++ r ∷ [])) (set k.lanes p v) ≡ map (lane_of k.plan k.base (r ∷ reverse k.rows)) (numbers_of k.plan.ports)
-  one_lane r number p v known place_is here others =
-      let numbers = numbers_of k.plan.ports in
-      let place = placed k.plan number known in
-      let within : p < length (numbers_of k.plan.ports) = omega (arith, place_is, place.within) in
-      let at : get_or (numbers_of k.plan.ports) p 0 ≡ number = ap (λ n. get_or (numbers_of k.plan.ports) n 0) place_is ∙ place.number_is in
-      map-set (shown_lane (k.rows ++ r ∷ [])) k.lanes p v
-      ∙ ap (λ (lanes : List (Lane Item)). set lanes p (shown_lane (k.rows ++ r ∷ []) v))
-      (same_at (HoldsFrames k.rows) (shown_lane k.rows) (shown_lane (k.rows ++ r ∷ [])) (λ lane frames. shown_more k.rows r lane frames) k.lanes was.frames ∙ was.queues)
-      ∙ ap (λ (lane : Lane Item). set (map (lane_of k.plan k.base (reverse k.rows)) (numbers_of k.plan.ports)) p lane) (here ∙ ap (lane_of k.plan k.base (r ∷ reverse k.rows)) (sym at))
-      ∙ one_changed (lane_of k.plan k.base (reverse k.rows)) (lane_of k.plan k.base (r ∷ reverse k.rows)) (numbers_of k.plan.ports) p within
-      (λ n inside other. others (get_or (numbers_of k.plan.ports) n 0) (known_at k.plan n (omega (arith, inside, length-numbers k.plan.ports))) (λ same. apart (numbers_of k.plan.ports) n p was.valid.ports inside within other (same ∙ sym at)))
-
-  frames_set : (r : Row) (p : ℕ) (v : Lane Queued) → HoldsFrames (k.rows ++ r ∷ []) v → All (HoldsFrames (k.rows ++ r ∷ [])) (set k.lanes p v)
-  frames_set r p v frames =
-      All-set (HoldsFrames (k.rows ++ r ∷ [])) k.lanes p v frames
-      (All-weaker (HoldsFrames k.rows) (HoldsFrames (k.rows ++ r ∷ [])) (λ lane held_there. frames_still k.rows r lane held_there) k.lanes was.frames)
-
-  pub lane_in : (number p : ℕ) → has_port k.plan number ≡ true → p ≡ place_of k.plan number → p < length k.lanes
-  lane_in number p known place_is = omega (arith, place_is, place_within k.plan number known, lane_count was)
-
-  pub frames_in : (number p : ℕ) (d : Lane Queued) → has_port k.plan number ≡ true → p ≡ place_of k.plan number → HoldsFrames k.rows (get_or k.lanes p d)
-  frames_in number p d known place_is = was.frames p d (lane_in number p known place_is)
 
   drained_fewer : (r : Row) (port : Port) (count : ℕ) → r.entry.act ≡ acts.Drain port count → (number : ℕ) → length (queue k.plan k.base number (r ∷ reverse k.rows)) ≤ length (queue k.plan k.base number (reverse k.rows))
   drained_fewer r port count act_is number =
@@ -167,21 +143,20 @@ module _ {k : Kept} (was : Remembers k) where
   pub remembers_drain : (port : Port) (count p : ℕ) (d : Lane Queued) (e : Entry) (lanes' : List (Lane Queued)) → MayCome k.plan k.base (reverse k.rows) (events.Drain port count) → e ≡ (row_of k.plan k.base (reverse k.rows) (events.Drain port count)).entry → p ≡ place_of k.plan (number_of port)
       → lanes' ≡ set k.lanes p (with_drained count (get_or k.lanes p d)) → Remembers (record k { rows = k.rows ++ row e [] ∷ []; moment = e.moment; lanes = lanes' })
   remembers_drain port count p d e lanes' may e_is place_is are =
-      let number = number_of port in
-      let lane = get_or k.lanes p d in
       let act_is : e.act ≡ acts.Drain port count = ap (λ (x : Entry). x.act) e_is in
-      let frames = frames_in (number_of port) p d may.0.known place_is in
+      let r = row e [] in
+      let there = there_in was.queues (number_of port) p d may.0.known place_is in
       remembers_next was (events.Drain port count) (row e []) e.moment k.ended lanes' may (ap (λ (x : Entry). row x []) e_is) refl (record {
         passes = λ pass below. ap (λ (a : Act). (is_end a && (e.by == pass)) || get_or k.ended pass false) (sym act_is);
         marks = refl;
-        frames = subst (λ (lanes : List (Lane Queued)). All (HoldsFrames (k.rows ++ row e [] ∷ [])) lanes) (sym are) (frames_set (row e []) p (with_drained count (get_or k.lanes p d)) (frames_drained k.rows (row e []) count (get_or k.lanes p d) frames));
         queues =
-            ap (map (shown_lane (k.rows ++ row e [] ∷ []))) are
-            ∙ one_lane (row e []) (number_of port) p (with_drained count (get_or k.lanes p d)) may.0.known place_is
-            (shown_drained k.rows (row e []) count (get_or k.lanes p d) frames
-            ∙ ap (with_drained count) (lane_at was (number_of port) p d may.0.known place_is)
+            subst (λ (lanes : List (Lane Queued)). Show k.plan (k.rows ++ row e [] ∷ []) lanes (lane_of k.plan k.base (row e [] ∷ reverse k.rows))) (sym are)
+            (show_set was.queues (row e []) (lane_of k.plan k.base (row e [] ∷ reverse k.rows)) (number_of port) p (with_drained count (get_or k.lanes p d)) was.valid may.0.known place_is
+            (there_drained k.rows (row e []) count (get_or k.lanes p d) there)
+            (shown_drained k.plan.mac k.rows (row e []) count (get_or k.lanes p d) there
+            ∙ ap (with_drained count) (lane_at was.queues (number_of port) p d may.0.known place_is)
             ∙ lane_drained k.plan k.base (reverse k.rows) (row e []) port count act_is)
-            (λ q known other. lane_elsewhere k.plan k.base (reverse k.rows) (row e []) q port count act_is (λ same. other (sym same)));
+            (λ q known other. lane_elsewhere k.plan k.base (reverse k.rows) (row e []) q port count act_is (λ same. other (sym same))));
         octets = omega (arith, was.octets);
         room = room_less was (row e []) (drain_less (row e []) port count act_is may.0.known may.1 may.2);
       })
@@ -215,9 +190,9 @@ module _ {k : Kept} (was : Remembers k) where
 
   -- an end of a pass, and the lanes behind it
   remembers_end : (who : Who) (how : How) (e : Entry) (ended' : List Bool) (lanes' : List (Lane Queued)) → MayCome k.plan k.base (reverse k.rows) (events.End who how) → e ≡ (row_of k.plan k.base (reverse k.rows) (events.End who how)).entry → ended' ≡ set k.ended e.by true
-      → All (HoldsFrames (k.rows ++ row e [] ∷ [])) lanes' → map (shown_lane (k.rows ++ row e [] ∷ [])) lanes' ≡ map (lane_of k.plan k.base (row e [] ∷ reverse k.rows)) (numbers_of k.plan.ports)
+      → Show k.plan (k.rows ++ row e [] ∷ []) lanes' (lane_of k.plan k.base (row e [] ∷ reverse k.rows))
       → Remembers (record k { rows = k.rows ++ row e [] ∷ []; moment = e.moment; ended = ended'; lanes = lanes' })
-  remembers_end who how e ended' lanes' may e_is ended_is frames_now queues_now =
+  remembers_end who how e ended' lanes' may e_is ended_is shows =
       let act_is : e.act ≡ acts.End who how = ap (λ (x : Entry). x.act) e_is in
       let by_is : e.by ≡ pass_of k.plan who = ap (λ (x : Entry). x.by) e_is in
       let within : pass_of k.plan who < pass_count k.plan = pass_within k.plan who may.0.known in
@@ -234,8 +209,7 @@ module _ {k : Kept} (was : Remembers k) where
       remembers_next was (events.End who how) (row e []) e.moment ended' lanes' may (ap (λ (x : Entry). row x []) e_is) refl (record {
         passes = λ pass below. mark pass;
         marks = ap length ended_is ∙ length-set k.ended e.by true;
-        frames = frames_now;
-        queues = queues_now;
+        queues = shows;
         octets = omega (arith, was.octets);
         room = room_less was (row e []) (end_less (row e []) who how act_is by_is within may.0.running);
       })
@@ -247,11 +221,7 @@ module _ {k : Kept} (was : Remembers k) where
       let act_is : e.act ≡ acts.End who how = ap (λ (x : Entry). x.act) e_is in
       let by_is : e.by ≡ pass_of k.plan who = ap (λ (x : Entry). x.by) e_is in
       remembers_end who how e ended' k.lanes may e_is ended_is
-      (All-weaker (HoldsFrames k.rows) (HoldsFrames (k.rows ++ row e [] ∷ [])) (λ lane frames. frames_still k.rows (row e []) lane frames) k.lanes was.frames)
-      (same_at (HoldsFrames k.rows) (shown_lane k.rows) (shown_lane (k.rows ++ row e [] ∷ [])) (λ lane frames. shown_more k.rows (row e []) lane frames) k.lanes was.frames
-      ∙ was.queues
-      ∙ map_all (lane_of k.plan k.base (reverse k.rows)) (lane_of k.plan k.base (row e [] ∷ reverse k.rows)) (numbers_of k.plan.ports)
-      (λ n within. lane_behind_input k.plan k.base (reverse k.rows) (row e []) (get_or (numbers_of k.plan.ports) n 0) who how act_is by_is no_egress may.0.known))
+      (show_by (show_more was.queues (row e [])) (lane_of k.plan k.base (row e [] ∷ reverse k.rows)) (λ q known. lane_behind_input k.plan k.base (reverse k.rows) (row e []) q who how act_is by_is no_egress may.0.known))
 
   -- the end of an egress ends its lane
   remembers_egress : (port : Port) (how : How) (p : ℕ) (d : Lane Queued) (e : Entry) (ended' : List Bool) (lanes' : List (Lane Queued)) → MayCome k.plan k.base (reverse k.rows) (events.End (Egress port) how) → e ≡ (row_of k.plan k.base (reverse k.rows) (events.End (Egress port) how)).entry
@@ -259,15 +229,15 @@ module _ {k : Kept} (was : Remembers k) where
   remembers_egress port how p d e ended' lanes' may e_is ended_is place_is are =
       let act_is : e.act ≡ acts.End (Egress port) how = ap (λ (x : Entry). x.act) e_is in
       let by_is : e.by ≡ egress_pass k.plan (number_of port) = ap (λ (x : Entry). x.by) e_is in
-      let frames = frames_in (number_of port) p d may.0.known place_is in
+      let there = there_in was.queues (number_of port) p d may.0.known place_is in
       remembers_end (Egress port) how e ended' lanes' may e_is ended_is
-      (subst (λ (lanes : List (Lane Queued)). All (HoldsFrames (k.rows ++ row e [] ∷ [])) lanes) (sym are) (frames_set (row e []) p (with_ended how (get_or k.lanes p d)) (frames_ended k.rows (row e []) how (get_or k.lanes p d) frames)))
-      (ap (map (shown_lane (k.rows ++ row e [] ∷ []))) are
-      ∙ one_lane (row e []) (number_of port) p (with_ended how (get_or k.lanes p d)) may.0.known place_is
-      (shown_ended k.rows (row e []) how (get_or k.lanes p d) frames
-      ∙ ap (with_ended how) (lane_at was (number_of port) p d may.0.known place_is)
+      (subst (λ (lanes : List (Lane Queued)). Show k.plan (k.rows ++ row e [] ∷ []) lanes (lane_of k.plan k.base (row e [] ∷ reverse k.rows))) (sym are)
+      (show_set was.queues (row e []) (lane_of k.plan k.base (row e [] ∷ reverse k.rows)) (number_of port) p (with_ended how (get_or k.lanes p d)) was.valid may.0.known place_is
+      (there_ended k.rows (row e []) how (get_or k.lanes p d) there)
+      (shown_ended k.plan.mac k.rows (row e []) how (get_or k.lanes p d) there
+      ∙ ap (with_ended how) (lane_at was.queues (number_of port) p d may.0.known place_is)
       ∙ lane_ended k.plan k.base (reverse k.rows) (row e []) port how act_is by_is)
-      (λ q known other. lane_apart k.plan k.base (reverse k.rows) (row e []) q port how act_is by_is may.0.known known (λ same. other (sym same))))
+      (λ q known other. lane_apart k.plan k.base (reverse k.rows) (row e []) q port how act_is by_is may.0.known known (λ same. other (sym same)))))
 
   -- the end of a pass ends the lane of a port whose egress it is
   pub remembers_pass : (who : Who) (how : How) (e : Entry) (ended' : List Bool) (lanes' : List (Lane Queued)) → MayCome k.plan k.base (reverse k.rows) (events.End who how) → e ≡ (row_of k.plan k.base (reverse k.rows) (events.End who how)).entry

@@ -1,4 +1,4 @@
--- A frame on its way out.
+-- A frame or a probe on its way out.
 use Rattle.std.specs.Prelude.{ℕ, List}
 use Rattle.savi_history.specs.Queues.{Item}
 

@@ -1,6 +1,6 @@
 -- The queues of all ports: a lane for each, in the order of the plan. A lane's items are what its port keeps of them, or
 -- what they stand for.
-use Rattle.std.specs.Prelude.{◌≡◌, ℕ, ◌&&◌, nat_lt, nat_le, Bool, if◌then◌else◌, List, [], ◌∷◌, ◌++◌, length, map, drop, slice_set, slice_index_or}
+use Rattle.std.specs.Prelude.{◌≡◌, ℕ, ◌==◌, ◌&&◌, not, nat_lt, nat_le, Bool, false, if◌then◌else◌, List, [], ◌∷◌, ◌++◌, length, map, drop, slice_set, slice_index_or}
 use Rattle.std.specs.List.{filter}
 use Rattle.savi_kinds.specs.declared.port.PortSet.{PortSet}
 use Rattle.savi_kinds.specs.declared.plan.Plan.{Plan}
@@ -11,14 +11,17 @@ use Rattle.savi_kinds.specs.declared.entry.How.{How}
 use Rattle.savi_kinds.specs.declared.entry.How.TheVariants as hows
 use Rattle.savi_kinds.specs.Ports.{number_of}
 use Rattle.savi_kinds.specs.PortSets.{is_member, set_of}
+use Rattle.fcfs_states.specs.declared.answer.Probe.{Probe}
+use Rattle.fcfs_states.specs.declared.answer.Probe.TheVariants.{Trusted, To}
 use Rattle.hist_store.specs.Rows.{Row}
 use Rattle.savi_history.specs.Bases.{Base}
-use Rattle.savi_history.specs.Passes.{place_of}
+use Rattle.savi_history.specs.Passes.{place_of, role_of, is_trusted}
 use Rattle.savi_history.specs.Queues.{Item, room_at, queue}
 
 pub record Lane (A : Type 0) : Type 0 where
-  -- of its port
+  -- of its port, and whether that is trusted
   pub number : ℕ
+  pub trusted : Bool
   -- how many items may wait
   pub room : ℕ
   -- those that wait, the oldest first
@@ -26,15 +29,39 @@ pub record Lane (A : Type 0) : Type 0 where
 
 -- the lane of a port at the start of a switch
 abbrev pub empty_lane : {A : Type 0} → ℕ → PortPlan → Lane A
-empty_lane depth p = record { number = number_of p.number; room = depth; items = [] }
+empty_lane depth p = record { number = number_of p.number; trusted = is_trusted p.role; room = depth; items = [] }
 
 -- as many items wait as may
 abbrev pub takes_none : {A : Type 0} → Lane A → Bool
 takes_none lane = nat_le lane.room (length lane.items)
 
+-- one more item may wait
+abbrev pub takes_one : {A : Type 0} → Lane A → Bool
+takes_one lane = nat_lt (length lane.items) lane.room
+
 -- the lane once an item was offered: it joins where there is room
 abbrev pub with_offered : {A : Type 0} → A → Lane A → Lane A
-with_offered item lane = if nat_lt (length lane.items) lane.room then record lane { items = lane.items ++ item ∷ [] } else lane
+with_offered item lane = if takes_one lane then record lane { items = lane.items ++ item ∷ [] } else lane
+
+-- a probe goes to the port of this number, which is trusted or not
+abbrev pub goes_at : Probe → ℕ → Bool → Bool
+goes_at Trusted number trusted = trusted
+goes_at (To port) number trusted = number_of port == number
+
+-- a probe goes to the lane's port
+abbrev pub goes_to : {A : Type 0} → Probe → Lane A → Bool
+goes_to probe lane = goes_at probe lane.number lane.trusted
+
+-- the lane once a probe was offered, which shows as this item
+abbrev pub with_probe : {A : Type 0} → A → Probe → Lane A → Lane A
+with_probe item probe lane = if goes_to probe lane then with_offered item lane else lane
+
+-- the lane takes a probe, or leaves it out
+abbrev pub takes : {A : Type 0} → Probe → Lane A → Bool
+takes probe lane = goes_to probe lane && takes_one lane
+
+abbrev pub leaves_out : {A : Type 0} → Probe → Lane A → Bool
+leaves_out probe lane = goes_to probe lane && not (takes_one lane)
 
 -- the lane once a frame was offered to these ports
 abbrev pub with_frame : {A : Type 0} → A → PortSet → Lane A → Lane A
@@ -59,11 +86,11 @@ with_ended how lane = record lane { room = 0 }
 
 -- the lane of a port by the history
 abbrev pub lane_of : Plan → Base → List Row → ℕ → Lane Item
-lane_of plan base past q = record { number = q; room = room_at plan base past q; items = queue plan base q past }
+lane_of plan base past q = record { number = q; trusted = is_trusted (role_of plan q); room = room_at plan base past q; items = queue plan base q past }
 
 -- a lane of no port, as what stands outside of a list of lanes
 abbrev pub no_lane : {A : Type 0} → Lane A
-no_lane = record { number = 0; room = 0; items = [] }
+no_lane = record { number = 0; trusted = false; room = 0; items = [] }
 
 -- the lanes once a pass has ended for this reason: the lane of a port whose egress it is has ended
 abbrev pub AreEnded : {A : Type 0} → Plan → Who → How → List (Lane A) → List (Lane A) → Type 0

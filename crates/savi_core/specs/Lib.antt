@@ -5,5 +5,9 @@ pub mod PortTables
 pub mod PassMarks
 pub mod Lanes
 pub mod Waits
+pub mod Rings
 pub mod Counts
 pub mod Remembers
+pub mod Knows
+pub mod Tells
+pub mod Judges

@@ -1,7 +1,7 @@
 -- What a core keeps, and how it stands with its history.
-use Rattle.std.specs.Prelude.{◌≡◌, ℕ, ◌+◌, ◌<◌, ◌≤◌, Bool, false, List, length, map, reverse, slice_index_or, All}
+use Rattle.std.specs.Prelude.{◌≡◌, ℕ, ◌+◌, ◌<◌, ◌≤◌, Bool, false, List, length, reverse, slice_index_or}
 use Rattle.savi_kinds.specs.declared.plan.Plan.{Plan}
-use Rattle.savi_kinds.specs.ValidPlan.{IsValidPlan, numbers_of}
+use Rattle.savi_kinds.specs.ValidPlan.{IsValidPlan}
 use Rattle.egress_ring.specs.declared.item.Item.{Item as Queued}
 use Rattle.hist_store.specs.Rows.{Row, held}
 use Rattle.savi_history.specs.Bases.{Base}
@@ -10,7 +10,7 @@ use Rattle.savi_history.specs.Moments.{last_moment}
 use Rattle.savi_history.specs.Passes.{has_ended, pass_count}
 use Rattle.savi_history.specs.Legal.{IsLegal}
 use Rattle.savi_core.specs.Lanes.{Lane, lane_of}
-use Rattle.savi_core.specs.Waits.{HoldsFrames, shown_lane}
+use Rattle.savi_core.specs.Waits.{Show}
 use Rattle.savi_core.specs.Counts.{still_to_come}
 
 -- the plan, what its history goes on from, the rows with the oldest first, the moment of the last one, which passes have
@@ -25,15 +25,12 @@ pub record Kept : Type 0 where
 
 pub record Remembers (k : Kept) : Type 0 where
   pub valid : IsValidPlan k.plan
-  -- no source is validated yet
-  pub off : k.plan.savi ≡ false
   pub within : IsWithinLimits k.plan k.base
   pub legal : IsLegal k.plan k.base (reverse k.rows)
   pub last : k.moment ≡ last_moment k.base (reverse k.rows)
   pub passes : (pass : ℕ) → pass < pass_count k.plan → slice_index_or k.ended pass false ≡ has_ended k.base pass (reverse k.rows)
   pub marks : length k.ended ≡ 34
-  pub frames : All (HoldsFrames k.rows) k.lanes
-  pub queues : map (shown_lane k.rows) k.lanes ≡ map (lane_of k.plan k.base (reverse k.rows)) (numbers_of k.plan.ports)
+  pub queues : Show k.plan k.rows k.lanes (lane_of k.plan k.base (reverse k.rows))
   pub octets : held k.rows ≤ k.plan.bytes
   -- a drain or an end always fits
   pub room : k.plan.entries < length k.rows + 4130 → length k.rows + still_to_come k.plan k.base (reverse k.rows) ≤ k.plan.entries

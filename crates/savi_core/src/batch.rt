@@ -7,7 +7,7 @@ use savi_kinds::{DEPTH_MOST, FRAME_OCTETS_MOST, Moment};
 use std::alloc::{AllocError, Global};
 use std::marker::Model;
 
-/// One frame with its moment.
+/// One frame or probe with its moment.
 #[derive(Drop)]
 pub struct Slot {
     moment: Moment,
@@ -35,7 +35,7 @@ impl Slot {
         }
     }
 
-    /// Puts a frame in place of what is there.
+    /// Puts an item in place of what is there.
     fn set(&mut self, moment: Moment, octets: &[u8])
         requires { length octets.now ≤ 1518 }
         ensures { self.new ≡ sent_item moment octets.now }
@@ -70,7 +70,7 @@ impl Model for Batch {
 impl Batch {
     ghost use Rattle.savi_core.specs.Batches.{sent_item};
 
-    /// An empty batch, with room for 256 frames of 1,518 octets. It takes all its memory here.
+    /// An empty batch, with room for 256 items of 1,518 octets. It takes all its memory here.
     pub fn make(alloc: Global) -> Result<Batch, AllocError>
         ensures { IfOk result (λ batch. batch ≡ []) }
     {
@@ -81,14 +81,14 @@ impl Batch {
         Ok(Batch { slots, used: 0 })
     }
 
-    /// How many frames there are. O(1).
+    /// How many items there are. O(1).
     pub fn len(&self) -> u32
         ensures { result ≡ length self.now }
     {
         self.used as u32
     }
 
-    /// The frame with this number, counted from 0, with its moment (ms). O(1).
+    /// The octets of the item with this number, counted from 0, and its moment (ms). O(1).
     pub fn item(&self, i: u32) -> (u64, &[u8])
         requires { i < length self.now }
         ensures item { slice_get self.now i ≡ Some (sent_item result.0 result.1.now) }
@@ -98,14 +98,14 @@ impl Batch {
         (slot.moment, slot.octets.as_slice())
     }
 
-    /// Gives up all frames. O(1).
+    /// Gives up all items. O(1).
     pub(crate) fn clear(&mut self)
         ensures { self.new ≡ [] }
     {
         self.used = 0;
     }
 
-    /// Adds a frame. O(1) beside the copy of the octets.
+    /// Adds a frame or a probe. O(1) beside the copy of its octets.
     pub(crate) fn put(&mut self, moment: Moment, octets: &[u8])
         requires room { length self.old < 256 }
         requires size { length octets.now ≤ 1518 }

@@ -1,20 +1,9 @@
 //! Parts of entries.
 
 ghost use Rattle.std.specs.Prelude.{◌≡◌, ◌^◌, min, max};
-ghost use Rattle.savi_history.specs.Judged.{verdict_by};
 ghost use Rattle.savi_history.specs.Events.{plain_row};
 
-use savi_kinds::{Act, Entry, LAST_MOMENT, Moment, PortSet, Rule, Scope, Verdict};
-
-/// The verdict by the rule that stops a frame, if one does.
-pub fn verdict_by(rule: Option<Rule>) -> Verdict
-    ensures { result ≡ verdict_by rule }
-{
-    match rule {
-        None => Verdict::Pass(Scope::All),
-        Some(rule) => Verdict::Drop(rule),
-    }
-}
+use savi_kinds::{Act, Entry, LAST_MOMENT, Moment, PortSet};
 
 /// The moment of an entry with a stamp behind one at this moment.
 pub fn moment_at(last: Moment, stamp: u64) -> Moment

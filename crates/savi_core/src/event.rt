@@ -19,6 +19,10 @@ pub enum Event<'a> {
         stamp: u64,
         len: u32,
     },
+    /// Time passed, up to this stamp in ms.
+    Tick {
+        stamp: u64,
+    },
     /// A pass ended.
     End {
         who: Who,
@@ -33,6 +37,7 @@ pub enum Stepped {
     Done(Entry),
     /// The history has `len` entries and no room for another input. Nothing has changed.
     Full { len: u64 },
-    /// Nothing was to be done, and nothing has changed.
+    /// Nothing was to be done, and nothing has changed: no address has another state by the moment of a tick, or nothing
+    /// waits where a port is drained.
     Nothing,
 }

@@ -4,19 +4,21 @@
 //! in front of the history, which is always legal. What isn't allowed can't be put; where there is no room for an entry, or
 //! nothing to drain, the answer says so and nothing changes.
 //!
-//! Read: RFC 6105 and RFC 7113 (router advertisements), RFC 7112 (first fragments), RFC 8200 (IPv6), IEEE 802.1Q
-//! clause 8 (bridges).
+//! Read: RFC 6105 and RFC 7113 (router advertisements), RFC 7112 (first fragments), RFC 8200 (IPv6), RFC 6620, RFC 7513 and
+//! RFC 8074 (validation of sources), IEEE 802.1Q clause 8 (bridges).
 #![tactic(auto)]
 
 mod batch;
 mod entries;
 mod event;
+mod judging;
 mod machine;
 mod passes;
 mod port_queue;
 mod port_sets;
 mod ports;
 mod queues;
+mod stations;
 
 pub use batch::Batch;
 pub use event::{Event, Stepped};

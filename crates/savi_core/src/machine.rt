@@ -2,40 +2,38 @@
 
 ghost use Rattle.std.specs.Prelude.{◌≡◌, ◌≤◌, ◌<◌, true, false, ◌&&◌, ◌||◌, ℕ, List, [], length, reverse, IfOk, IsSomeAnd, Some, ◌+◌, Option};
 ghost use Rattle.savi_kinds.specs.Ports.{number_of};
-ghost use Rattle.savi_kinds.specs.PortSets.{is_member};
 ghost use Rattle.savi_kinds.specs.ValidPlan.{IsValidPlan, IsWithin};
-ghost use Rattle.savi_history.specs.Judged.{verdict_by};
-ghost use Rattle.savi_history.specs.Passes.{role_of, has_port, has_pass, pass_of, control_pass, has_ended};
+ghost use Rattle.savi_history.specs.Passes.{has_port, has_pass, pass_of, control_pass, has_ended};
 ghost use Rattle.savi_history.specs.Limits.{has_room};
-ghost use Rattle.savi_history.specs.Outs.{outs};
-ghost use Rattle.savi_history.specs.Events.{the_vlan};
 ghost use Rattle.savi_history.specs.Events as events;
 ghost use Rattle.savi_history.specs.Legal.{IsLegal};
 ghost use Rattle.savi_core.specs.Machines.{HasShortQueues, base_of, started, row_at, queue_at, number_at};
 ghost use Rattle.savi_core.specs.Counts.{open_below};
 ghost use Rattle.frame_class.specs.Reading.{IsClassOf};
-ghost use Rattle.frame_class.specs.ClassOf.{class_of};
-ghost use Rattle.ra_guard.specs.GuardOf.{guard_of};
 ghost use Rattle.savi_core.specs.Steps.{event_of, IsClassed, MayStep, Did, Drained, entry_of};
 
 use crate::batch::Batch;
-use crate::entries::{moment_at, plain_entry, verdict_by};
+use crate::entries::{moment_at, plain_entry};
 use crate::event::{Event, Stepped};
+use crate::judging::{age, judge};
 use crate::passes::Passes;
 use crate::ports::Ports;
 use crate::queues::Queues;
+use crate::stations::{outs, teach};
+use access_table::AccessTable;
+use bridge_fdb::Fdb;
 use frame_class::Class;
 use hist_store::Hist;
-use ra_guard::guard;
 use savi_kinds::{
-    Act, ENTRIES_RESERVED, Entry, FRAME_OCTETS_MOST, How, Moment, Plan, Port, PortSet, Rule,
-    Verdict, Who,
+    Act, ENTRIES_RESERVED, Entry, FRAME_OCTETS_MOST, How, Moment, Plan, Port, Rule, Verdict, Who,
 };
 use std::alloc::{AllocError, Global};
 use std::marker::Model;
 
-/// A switch that guards messages and floods what passes. Contracts see its plan, and its history with the newest row
-/// first; the history is always legal. All memory is taken by `make`.
+/// A switch that guards messages, validates sources, learns stations, and sends what passes to the port of its destination
+/// where that is known.
+/// Contracts see its plan, and its history with the newest row first; the history is always legal. All memory is taken by
+/// `make`.
 #[derive(Drop)]
 pub struct Core {
     ports: Ports,
@@ -43,6 +41,8 @@ pub struct Core {
     moment: Moment,
     passes: Passes,
     queues: Queues,
+    access: AccessTable,
+    fdb: Fdb,
 }
 
 impl Model for Core {
@@ -51,26 +51,31 @@ impl Model for Core {
     ghost use Rattle.savi_history.specs.Passes.{control_pass};
     ghost use Rattle.savi_core.specs.Machines.{Machine};
     ghost use Rattle.savi_core.specs.Remembers.{Remembers};
+    ghost use Rattle.savi_core.specs.Knows.{Knows};
+    ghost use Rattle.savi_core.specs.Tells.{Tells};
 
     ghost Value = { Machine };
 
     ghost view = { λ c. record { plan = c.ports; past = reverse c.hist.rows } };
 
-    ghost invariant = { λ c. Remembers (record { plan = c.ports; base = empty; rows = c.hist.rows; moment = c.moment; ended = c.passes.ended; lanes = c.queues })
+    ghost invariant = { λ c. Remembers (record { plan = c.ports; base = empty; rows = c.hist.rows; moment = c.moment; ended = c.passes.ended; lanes = c.queues.lanes })
         × (c.hist.entry_room ≡ c.ports.entries)
         × (c.hist.byte_room ≡ c.ports.bytes)
-        × (c.passes.inputs ≡ control_pass c.ports + 1) };
+        × (c.passes.inputs ≡ control_pass c.ports + 1)
+        × Knows c.fdb c.moment empty (reverse c.hist.rows)
+        × Tells c.ports empty (reverse c.hist.rows) c.moment c.access };
 }
 
 impl Core {
     /// The switch of this plan at its start. It takes all its memory here.
     pub fn make(alloc: Global, plan: Plan) -> Result<Core, AllocError>
-        requires valid { IsValidPlan plan }
-        requires guard_only { plan.savi ≡ false }
+        requires { IsValidPlan plan }
         ensures { IfOk result (λ core. core ≡ started plan) }
     {
         let hist = Hist::make(alloc, plan.entries, plan.bytes)?;
         let queues = Queues::make(alloc, plan.ports.as_slice(), plan.depth)?;
+        let access = AccessTable::make(alloc, &plan)?;
+        let fdb = Fdb::make(alloc)?;
         let passes = Passes::make(plan.ports.as_slice().len() as u32 + 1);
         Ok(Core {
             ports: Ports::make(plan),
@@ -78,12 +83,18 @@ impl Core {
             moment: 0,
             passes,
             queues,
+            access,
+            fdb,
         })
     }
 
-    /// Enters an event. The answer is `Full`, and nothing has changed, exactly where it is a frame and the history has
-    /// no room for another input; else it is the one entry that was made. A frame is judged by its class, which the
-    /// caller has read of its octets. O(n) in the ports to which it goes, beside the copy of the octets.
+    /// Enters an event. The answer is `Full`, and nothing has changed, exactly where it is a frame or a tick and the history
+    /// has no room for another input. It is `Nothing`, and nothing has changed, exactly where it is a tick for which there
+    /// is room and no address has another state by its moment; then no probe is due either. Else it is the one entry that was
+    /// made. A frame is judged by its class, which the caller has read of its octets. It costs what `AccessTable::age_to`
+    /// costs of what falls due by then, with O(ports) for each probe, and for a frame what `AccessTable::judge` costs, then
+    /// O(n) in the ports to which it goes and O(log n) in the stations that are kept, beside the copy of the octets and what
+    /// `Fdb::learn` takes for a station that is new at its port.
     pub fn step(&mut self, ev: Event<'_>) -> Stepped
         requires may { MayStep self.old (event_of ev) }
         requires class { IsClassed ev }
@@ -97,6 +108,7 @@ impl Core {
                 class,
             } => self.frame(port, stamp, octets, class),
             Event::Long { port, stamp, len } => self.long(port, stamp, len),
+            Event::Tick { stamp } => self.tick(stamp),
             Event::End { who, how } => self.end(who, how),
         }
     }
@@ -116,7 +128,8 @@ impl Core {
             return Stepped::Nothing;
         }
         let entry = self.drain_entry(port, count);
-        self.queues.drain(place, &self.hist, count, into);
+        self.queues
+            .drain(place, &self.hist, self.ports.plan().mac, count, into);
         self.moment = entry.moment;
         self.hist.append(entry, &[]);
         Stepped::Done(entry)
@@ -210,12 +223,21 @@ impl Core {
             };
         }
         let by = self.ports.pass_of(Who::Ingress(port));
-        let verdict = self.judge(port, class);
-        let outs = self.outs(port, verdict);
+        let moment = moment_at(self.moment, stamp);
+        let verdict = judge(
+            &mut self.access,
+            &mut self.queues,
+            self.ports.plan(),
+            port,
+            class,
+            self.moment,
+            moment,
+        );
+        let outs = outs(&self.ports, &self.fdb, port, moment, class, verdict);
         let cuts = self.queues.offer_frame(&self.ports, outs, self.hist.len());
         let entry = Entry {
             by,
-            moment: moment_at(self.moment, stamp),
+            moment,
             act: Act::Frame {
                 port,
                 stamp,
@@ -225,20 +247,13 @@ impl Core {
             verdict: Some(verdict),
             outs,
             cuts,
-            probes: 0,
-            lost: 0,
+            probes: self.queues.queued(),
+            lost: self.queues.lost(),
         };
-        self.moment = entry.moment;
+        teach(&mut self.fdb, port, moment, class, verdict);
+        self.moment = moment;
         self.hist.append(entry, octets);
         Stepped::Done(entry)
-    }
-
-    // The verdict on a frame of this class at a port.
-    fn judge(&self, port: Port, class: &Class) -> Verdict
-        ensures { (octets : List ℕ) → IsClassOf octets class.now → result ≡ verdict_by (guard_of (role_of self.now.plan (number_of port)) self.now.plan.drop_unknown (class_of octets)) }
-    {
-        let role = self.ports.role_of(port);
-        verdict_by(guard(role, self.ports.plan().drop_unknown, class))
     }
 
     // The entry of a drain.
@@ -259,22 +274,56 @@ impl Core {
                 len: self.hist.len(),
             };
         }
-        let entry = self.long_entry(port, stamp, len);
+        let by = self.ports.pass_of(Who::Ingress(port));
+        let moment = moment_at(self.moment, stamp);
+        age(
+            &mut self.access,
+            &mut self.queues,
+            self.ports.plan(),
+            self.moment,
+            moment,
+        );
+        let entry = Entry {
+            verdict: Some(Verdict::Drop(Rule::Malformed)),
+            probes: self.queues.queued(),
+            lost: self.queues.lost(),
+            ..plain_entry(by, moment, Act::Long { port, stamp, len })
+        };
         self.moment = entry.moment;
         self.hist.append(entry, &[]);
         Stepped::Done(entry)
     }
 
-    // The entry of a frame that is too long.
-    fn long_entry(&self, port: Port, stamp: u64, len: u32) -> Entry
-        ensures { result ≡ entry_of self.now (events.Long port stamp len) }
+    // Enters a tick, where something is due by its moment.
+    fn tick(&mut self, stamp: u64) -> Stepped
+        requires { MayStep self.old (events.Tick stamp) }
+        ensures { Did self.old (events.Tick stamp) self.new result }
     {
-        let by = self.ports.pass_of(Who::Ingress(port));
-        let moment = moment_at(self.moment, stamp);
-        Entry {
-            verdict: Some(Verdict::Drop(Rule::Malformed)),
-            ..plain_entry(by, moment, Act::Long { port, stamp, len })
+        if !self.has_room() {
+            return Stepped::Full {
+                len: self.hist.len(),
+            };
         }
+        let moment = moment_at(self.moment, stamp);
+        if !self.access.is_due(moment) {
+            return Stepped::Nothing;
+        }
+        let by = self.ports.pass_of(Who::Ticker);
+        age(
+            &mut self.access,
+            &mut self.queues,
+            self.ports.plan(),
+            self.moment,
+            moment,
+        );
+        let entry = Entry {
+            probes: self.queues.queued(),
+            lost: self.queues.lost(),
+            ..plain_entry(by, moment, Act::Tick { stamp })
+        };
+        self.moment = entry.moment;
+        self.hist.append(entry, &[]);
+        Stepped::Done(entry)
     }
 
     // Enters the end of a pass.
@@ -296,16 +345,5 @@ impl Core {
     {
         let by = self.ports.pass_of(who);
         plain_entry(by, self.moment, Act::End { who, how })
-    }
-
-    // The ports to which a frame with this verdict goes, whatever its octets.
-    fn outs(&self, port: Port, verdict: Verdict) -> PortSet
-        ensures known { (n : ℕ) → 1 ≤ n → is_member result n ≡ true → has_port self.now.plan n ≡ true }
-        ensures outs { (moment : ℕ) (octets : List ℕ) → result ≡ outs the_vlan self.now.plan (base_of self.now) self.now.past (number_of port) moment octets verdict }
-    {
-        match verdict {
-            Verdict::Pass(scope) => self.ports.others_in(scope, port),
-            Verdict::Drop(_) => PortSet::empty(),
-        }
     }
 }

@@ -1,14 +1,19 @@
 //! The queue of one port, with all that decides on what joins it.
 
-ghost use Rattle.std.specs.Prelude.{◌≡◌, ◌≤◌, not, [], length, map, take, drop, All, IfOk};
-ghost use Rattle.savi_core.specs.Lanes.{empty_lane, takes_none, with_offered, with_drained, with_ended};
+ghost use Rattle.std.specs.Prelude.{◌≡◌, ◌≤◌, not, [], length, map, take, drop, All, IfOk, Some, None, if◌then◌else◌};
+ghost use Rattle.savi_core.specs.Lanes.{empty_lane, goes_to, takes_one, takes_none, with_offered, with_probe, with_drained, with_ended};
 ghost use Rattle.egress_ring.specs.declared.item.Item.TheVariants as entries;
-ghost use Rattle.savi_core.specs.Waits.{HoldsFrames, IsFrameOf, shown};
+ghost use Rattle.savi_core.specs.Rings.{ring_item};
+ghost use Rattle.savi_core.specs.Waits.{AreThere, IsThere, shown};
 
 use crate::batch::Batch;
+use crate::ports::is_trusted;
+use addr_table::SentProbe;
 use egress_ring::{EgressRing, Item};
+use fcfs_states::Probe;
 use hist_store::Hist;
-use savi_kinds::{How, Port, PortPlan};
+use probe_write::probe;
+use savi_kinds::{How, Mac, Port, PortPlan};
 use std::alloc::{AllocError, Global};
 use std::marker::Model;
 
@@ -16,6 +21,7 @@ use std::marker::Model;
 #[derive(Drop)]
 pub struct PortQueue {
     port: Port,
+    trusted: bool,
     room: u32,
     ring: EgressRing,
 }
@@ -28,7 +34,7 @@ impl Model for PortQueue {
 
     ghost Value = { Lane Queued };
 
-    ghost view = { λ q. record { number = number_of q.port; room = q.room; items = q.ring.items } };
+    ghost view = { λ q. record { number = number_of q.port; trusted = q.trusted; room = q.room; items = q.ring.items } };
 
     ghost invariant = { λ q. q.room ≤ q.ring.depth };
 }
@@ -40,6 +46,7 @@ impl PortQueue {
     {
         Ok(PortQueue {
             port: plan.number,
+            trusted: is_trusted(plan.role),
             room: depth,
             ring: EgressRing::make(alloc, depth)?,
         })
@@ -55,12 +62,37 @@ impl PortQueue {
     // Offers an item, which joins where there is room. The answer is whether it did.
     fn offer(&mut self, item: Item) -> bool
         ensures lane { self.new ≡ with_offered item self.old }
-        ensures joined { result ≡ not (takes_none self.old) }
+        ensures joined { result ≡ takes_one self.old }
+        ensures left_out { not result ≡ takes_none self.old }
     {
         if self.ring.len() >= self.room {
             return false;
         }
         self.ring.queue(item)
+    }
+
+    // Whether a probe that is sent there goes to this port.
+    fn is_for(&self, probe: Probe) -> bool
+        ensures { result ≡ goes_to probe self.now }
+    {
+        match probe {
+            Probe::Trusted => self.trusted,
+            Probe::To(port) => port.get() == self.port.get(),
+        }
+    }
+
+    /// Offers a probe, where it goes to this port. The answer is whether it joins; `None` where it goes elsewhere. O(1).
+    pub fn offer_probe(&mut self, sent: SentProbe) -> Option<bool>
+        ensures lane { self.new ≡ with_probe (ring_item sent) sent.probe self.old }
+        ensures joined { result ≡ (if goes_to sent.probe self.old then Some (takes_one self.old) else None) }
+    {
+        if !self.is_for(sent.probe) {
+            return None;
+        }
+        Some(self.offer(Item::Probe {
+            due: sent.due,
+            target: sent.address,
+        }))
     }
 
     /// Offers the frame of the entry with this number. The answer is whether it is left out. O(1).
@@ -71,16 +103,17 @@ impl PortQueue {
         !self.offer(Item::Frame(n))
     }
 
-    /// Moves so many frames from the front into an empty batch. O(count) beside the copies of their octets.
-    pub fn drain(&mut self, hist: &Hist, count: u32, into: &mut Batch)
-        requires frames { HoldsFrames hist.now.rows self.old }
+    /// Moves so many items from the front into an empty batch; `mac` is the source of probes. O(count) beside the copies of
+    /// their octets.
+    pub fn drain(&mut self, hist: &Hist, mac: Mac, count: u32, into: &mut Batch)
+        requires there { AreThere hist.now.rows self.old }
         requires count { count ≤ length self.old.items }
         requires most { count ≤ 256 }
         requires empty { into.old ≡ [] }
         ensures left { self.new ≡ with_drained count self.old }
-        ensures taken { into.new ≡ take count (map (shown hist.now.rows) self.old.items) }
+        ensures taken { into.new ≡ take count (map (shown mac hist.now.rows) self.old.items) }
     {
-        move_frames(&mut self.ring, hist, count, into);
+        move_items(&mut self.ring, hist, mac, count, into);
     }
 
     /// Nothing joins any more, since the port's egress has ended for this reason; after a failed write all is given up.
@@ -96,19 +129,19 @@ impl PortQueue {
     }
 }
 
-// Moves so many frames from the front of a ring into an empty batch.
-fn move_frames(queue: &mut EgressRing, hist: &Hist, count: u32, into: &mut Batch)
-    requires frames { All (IsFrameOf hist.now.rows) queue.old.items }
+// Moves so many items from the front of a ring into an empty batch.
+fn move_items(queue: &mut EgressRing, hist: &Hist, mac: Mac, count: u32, into: &mut Batch)
+    requires there { All (IsThere hist.now.rows) queue.old.items }
     requires count { count ≤ length queue.old.items }
     requires most { count ≤ 256 }
     requires empty { into.old ≡ [] }
     ensures left { queue.new ≡ record queue.old { items = drop count queue.old.items } }
-    ensures taken { into.new ≡ take count (map (shown hist.now.rows) queue.old.items) }
+    ensures taken { into.new ≡ take count (map (shown mac hist.now.rows) queue.old.items) }
 {
     while into.len() < count {
         match queue.take() {
             Some(Item::Frame(n)) => into.put(hist.entry(n).moment, hist.octets(n)),
-            Some(Item::Probe { .. }) => unreachable!(),
+            Some(Item::Probe { due, target }) => into.put(due, &probe(mac, target)),
             None => unreachable!(),
         }
     }

@@ -6,7 +6,7 @@ ghost use Rattle.std.specs.List.Sorted.{IsStrictlyIncreasing};
 ghost use Rattle.savi_kinds.specs.Ports.{number_of};
 ghost use Rattle.savi_kinds.specs.PortSets.{is_member, set_of};
 ghost use Rattle.savi_kinds.specs.ValidPlan.{IsValidPlan, IsWithin, numbers_of};
-ghost use Rattle.savi_history.specs.Passes.{has_port, role_of, place_of, place_among, pass_of, is_trusted};
+ghost use Rattle.savi_history.specs.Passes.{has_port, place_of, place_among, pass_of, is_trusted};
 ghost use Rattle.savi_history.specs.Outs.{is_in_scope, others_in};
 
 use crate::port_sets::without;
@@ -65,19 +65,6 @@ impl Ports {
         ensures within { result ≤ length self.now.ports }
     {
         self.places[port.get() as usize] as usize
-    }
-
-    /// The role of a port of the plan. O(1).
-    pub fn role_of(&self, port: Port) -> Role
-        ensures { result ≡ role_of self.now (number_of port) }
-    {
-        let ports = self.plan.ports.as_slice();
-        let place = self.place_of(port);
-        if place < ports.len() {
-            ports[place].role
-        } else {
-            Role::Host
-        }
     }
 
     /// The number of a pass: the ingress of each port, control, the ticker, and the egress of each port. O(1).
@@ -156,8 +143,8 @@ fn is_in_scope(scope: Scope, other: &PortPlan) -> bool
     }
 }
 
-// Whether a port of this role is trusted.
-fn is_trusted(role: Role) -> bool
+/// Whether a port of this role is trusted. O(1).
+pub fn is_trusted(role: Role) -> bool
     ensures { result ≡ is_trusted role }
 {
     match role {

@@ -6,49 +6,93 @@ ghost use Rattle.savi_core.specs.Lanes.{cut_at, empty_lane, with_frame, with_dra
 ghost use Rattle.savi_kinds.specs.PortSets.{is_member};
 ghost use Rattle.savi_kinds.specs.ValidPlan.{IsValidPlan, numbers_of};
 ghost use Rattle.savi_history.specs.Passes.{has_port, has_pass};
-ghost use Rattle.savi_core.specs.Waits.{HoldsFrames, shown};
+ghost use Rattle.savi_core.specs.Rings.{Rings, uncounted, after_probe};
+ghost use Rattle.savi_core.specs.Waits.{AreThere, shown};
 
 use crate::batch::Batch;
 use crate::port_queue::PortQueue;
 use crate::port_sets::{first, without};
 use crate::ports::Ports;
+use addr_table::{ProbeSink, SentProbe};
 use hist_store::Hist;
-use savi_kinds::{How, PortPlan, PortSet, Who};
+use savi_kinds::{How, Mac, PortPlan, PortSet, Who};
 use std::alloc::{AllocError, Global};
 use std::marker::Model;
 
-/// The queue of each port of a plan, in its order. Contracts see the list of their lanes.
+/// The queue of each port of a plan, in its order, and how many probes joined and were left out since the counts were
+/// reset. Contracts see the list of their lanes with both counts.
 #[derive(Drop)]
 pub struct Queues {
     queues: Vec<PortQueue>,
+    queued: u32,
+    lost: u32,
 }
 
 impl Model for Queues {
-    ghost use Rattle.std.specs.Prelude.{List};
-    ghost use Rattle.egress_ring.specs.declared.item.Item.{Item as Queued};
-    ghost use Rattle.savi_core.specs.Lanes.{Lane};
+    ghost use Rattle.savi_core.specs.Rings.{Rings};
 
-    ghost Value = { List (Lane Queued) };
+    ghost Value = { Rings };
 
-    ghost view = { λ q. q.queues.items };
+    ghost view = { λ q. record { lanes = q.queues.items; queued = q.queued; lost = q.lost } };
+}
+
+impl ProbeSink for Queues {
+    ghost after = { after_probe };
+
+    /// Offers a probe to the queue of each port to which it goes, in their order. O(n) in the ports of the plan, at most 16.
+    fn take(&mut self, sent: SentProbe) {
+        for place in 0..self.queues.len() {
+            match self.queues[place].offer_probe(sent) {
+                Some(true) => self.queued = self.queued.saturating_add(1),
+                Some(false) => self.lost = self.lost.saturating_add(1),
+                None => {}
+            }
+        }
+    }
 }
 
 impl Queues {
     /// Empty queues for these ports, each for `depth` items. They take all their memory here.
     pub fn make(alloc: Global, ports: &[PortPlan], depth: u32) -> Result<Queues, AllocError>
-        ensures { IfOk result (λ queues. queues ≡ map (empty_lane depth) ports.now) }
+        ensures { IfOk result (λ queues. queues ≡ record { lanes = map (empty_lane depth) ports.now; queued = 0; lost = 0 }) }
     {
         let mut queues = Vec::with_capacity(alloc, ports.len())?;
         for port in ports {
             queues.push(PortQueue::make(alloc, port, depth)?)?;
         }
-        Ok(Queues { queues })
+        Ok(Queues {
+            queues,
+            queued: 0,
+            lost: 0,
+        })
+    }
+
+    /// Counts probes from 0 on. O(1).
+    pub fn reset_counts(&mut self)
+        ensures { self.new ≡ uncounted self.old }
+    {
+        self.queued = 0;
+        self.lost = 0;
+    }
+
+    /// How many probes joined at a port since the counts were reset; those at two ports are two. O(1).
+    pub fn queued(&self) -> u32
+        ensures { result ≡ self.now.queued }
+    {
+        self.queued
+    }
+
+    /// How many probes were left out at a port since the counts were reset. O(1).
+    pub fn lost(&self) -> u32
+        ensures { result ≡ self.now.lost }
+    {
+        self.lost
     }
 
     /// How many items wait at the port at this place of the plan. O(1).
     pub fn len(&self, place: usize) -> u32
-        requires { place < length self.now }
-        ensures { result ≡ length (slice_index_or self.now place no_lane).items }
+        requires { place < length self.now.lanes }
+        ensures { result ≡ length (slice_index_or self.now.lanes place no_lane).items }
     {
         self.queues[place].len()
     }
@@ -57,10 +101,10 @@ impl Queues {
     /// the ports where there is no room for it. O(n) in these ports.
     pub fn offer_frame(&mut self, ports: &Ports, outs: PortSet, n: u64) -> PortSet
         requires valid { IsValidPlan ports.now }
-        requires lanes { map (λ lane. lane.number) self.old ≡ numbers_of ports.now.ports }
+        requires lanes { map (λ lane. lane.number) self.old.lanes ≡ numbers_of ports.now.ports }
         requires outs { (q : ℕ) → 1 ≤ q → is_member outs q ≡ true → has_port ports.now q ≡ true }
-        ensures lanes { self.new ≡ map (with_frame (entries.Frame n) outs) self.old }
-        ensures cuts { result ≡ cut_at outs self.old }
+        ensures lanes { self.new ≡ record self.old { lanes = map (with_frame (entries.Frame n) outs) self.old.lanes } }
+        ensures cuts { result ≡ cut_at outs self.old.lanes }
     {
         let mut left = outs;
         let mut cuts = PortSet::empty();
@@ -74,26 +118,27 @@ impl Queues {
         cuts
     }
 
-    /// Moves so many frames from the front of the queue at this place of the plan into an empty batch. O(count) beside the
-    /// copies of their octets.
-    pub fn drain(&mut self, place: usize, hist: &Hist, count: u32, into: &mut Batch)
-        requires place { place < length self.old }
-        requires frames { HoldsFrames hist.now.rows (slice_index_or self.old place no_lane) }
-        requires count { count ≤ length (slice_index_or self.old place no_lane).items }
+    /// Moves so many items from the front of the queue at this place of the plan into an empty batch; `mac` is the source of
+    /// probes. O(count) beside the copies of their octets.
+    pub fn drain(&mut self, place: usize, hist: &Hist, mac: Mac, count: u32, into: &mut Batch)
+        requires place { place < length self.old.lanes }
+        requires there { AreThere hist.now.rows (slice_index_or self.old.lanes place no_lane) }
+        requires count { count ≤ length (slice_index_or self.old.lanes place no_lane).items }
         requires most { count ≤ 256 }
         requires empty { into.old ≡ [] }
-        ensures left { self.new ≡ slice_set self.old place (with_drained count (slice_index_or self.old place no_lane)) }
-        ensures taken { into.new ≡ take count (map (shown hist.now.rows) (slice_index_or self.old place no_lane).items) }
+        ensures left { self.new ≡ record self.old { lanes = slice_set self.old.lanes place (with_drained count (slice_index_or self.old.lanes place no_lane)) } }
+        ensures taken { into.new ≡ take count (map (shown mac hist.now.rows) (slice_index_or self.old.lanes place no_lane).items) }
     {
-        self.queues[place].drain(hist, count, into);
+        self.queues[place].drain(hist, mac, count, into);
     }
 
     /// A pass of the plan has ended for this reason. Where it is an egress nothing joins at its port any more, and after a
     /// failed write what waits there is given up. O(n) in what is given up.
     pub fn end(&mut self, ports: &Ports, who: Who, how: How)
         requires known { has_pass ports.now who ≡ true }
-        requires count { length self.old ≡ length ports.now.ports }
-        ensures { AreEnded ports.now who how self.old self.new }
+        requires count { length self.old.lanes ≡ length ports.now.ports }
+        ensures lanes { AreEnded ports.now who how self.old.lanes self.new.lanes }
+        ensures counts { self.new ≡ record self.old { lanes = self.new.lanes } }
     {
         if let Who::Egress(port) = who {
             self.queues[ports.place_of(port)].end(how);

@@ -8,10 +8,15 @@ ghost use Rattle.savi_history.specs.Bases.{empty};
 ghost use Rattle.savi_history.specs.Passes.{has_port, has_pass, place_of};
 ghost use Rattle.savi_history.specs.Legal.{IsOpen};
 
+use crate::ports::Ports;
+use crate::queues::Queues;
 use crate::{Batch, Core, Event, Stepped};
+use addr_table::{ProbeSink, SentProbe};
+use fcfs_states::Probe;
 use frame_class::class;
 use savi_kinds::{
-    Format, How, Mac, Plan, Port, PortPlan, PortPlans, PortSet, PrefixPlans, Role, Text, Who,
+    Addr, Format, How, Mac, Plan, Port, PortPlan, PortPlans, PortSet, PrefixPlans, Role, Scope,
+    Text, Who,
 };
 use std::alloc::{AllocError, Global};
 use std::test::Fail;
@@ -39,6 +44,9 @@ fn port_at(n: u8) -> Port
 // A host at port 1 and a trusted port 2.
 const TWO: [Role; 2] = [Role::Host, Role::Trusted];
 
+// A host at port 1 and trusted ports 2 and 3.
+const THREE: [Role; 3] = [Role::Host, Role::Trusted, Role::Trusted];
+
 // Hosts at the ports 1, 2 and 3, a trusted port 4 and a server at port 5.
 const FIVE: [Role; 5] = [
     Role::Host,
@@ -48,9 +56,10 @@ const FIVE: [Role; 5] = [
     Role::Server,
 ];
 
-// A port for each role, numbered from 1 on, where sources aren't validated.
+// A port for each role, numbered from 1 on, where sources are validated or not.
 fn plan_of(
     alloc: Global,
+    savi: bool,
     roles: &[Role],
     depth: u32,
     entries: u64,
@@ -61,12 +70,12 @@ fn plan_of(
     requires entries { IsWithin 4131 1000000 entries }
     requires bytes { IsWithin 1518 1073741824 bytes }
     ensures valid { IfOk result (λ plan. IsValidPlan plan) }
-    ensures guard_only { IfOk result (λ plan. plan.savi ≡ false) }
+    ensures savi { IfOk result (λ plan. plan.savi ≡ savi) }
 {
     let ports = ports_of(alloc, roles)?;
     Ok(Plan {
         mac: Mac([2, 0, 0, 0, 0, 1]),
-        savi: false,
+        savi,
         drop_unknown: true,
         per_port: 32,
         depth,
@@ -144,6 +153,7 @@ fn is_open(core: &Core, who: Who) -> bool
 // A switch of a plan with these roles and limits.
 fn core_of(
     alloc: Global,
+    savi: bool,
     roles: &[Role],
     depth: u32,
     entries: u64,
@@ -155,7 +165,8 @@ fn core_of(
     if entries < 4131 || entries > 1_000_000 || bytes < 1518 || bytes > 1_073_741_824 {
         return Err(Fail::from("entries or bytes"));
     }
-    Ok(Core::make(alloc, plan_of(alloc, roles, depth, entries, bytes)?)?)
+    let plan = plan_of(alloc, savi, roles, depth, entries, bytes)?;
+    Ok(Core::make(alloc, plan)?)
 }
 
 // Enters a frame at a port. The answer is `Nothing` where its ingress isn't open.
@@ -170,6 +181,14 @@ fn enter_frame(core: &mut Core, port: Port, stamp: u64, octets: &[u8]) -> Steppe
         octets,
         class: &class,
     })
+}
+
+// Lets time pass. The answer is none where the ticker isn't open.
+fn enter_tick(core: &mut Core, stamp: u64) -> Option<Stepped> {
+    if !is_open(core, Who::Ticker) {
+        return None;
+    }
+    Some(core.step(Event::Tick { stamp }))
 }
 
 // Ends the input of a port. The answer is false where its ingress isn't open.
@@ -216,7 +235,7 @@ fn limits_are_exact(rt: HostRuntime) -> Result<(), Fail> {
     let packet = hex::decode(rt.alloc(), PACKET)?;
     let mut batch = Batch::make(rt.alloc())?;
     for (entries, bytes, frames) in LIMITS {
-        let mut core = core_of(rt.alloc(), &TWO, 256, entries, bytes)?;
+        let mut core = core_of(rt.alloc(), false, &TWO, 256, entries, bytes)?;
         assert_eq!(rt; frames_until_full(&mut core, one, &packet), Some(frames));
         assert!(rt; drains(&mut core, two, &mut batch));
         assert!(rt; ends_input(&mut core, one));
@@ -229,7 +248,7 @@ fn a_full_queue_cuts_its_frame(rt: HostRuntime) -> Result<(), Fail> {
     let (two, four) = (port_at(2), port_at(4));
     let advert = hex::decode(rt.alloc(), ADVERT)?;
     let mut batch = Batch::make(rt.alloc())?;
-    let mut core = core_of(rt.alloc(), &FIVE, 1, 262_144, 67_108_864)?;
+    let mut core = core_of(rt.alloc(), false, &FIVE, 1, 262_144, 67_108_864)?;
     let first = enter_frame(&mut core, four, 1000, &advert);
     assert!(rt; goes_out_but(first, 0));
     for port in [two, port_at(3), port_at(5)] {
@@ -248,5 +267,140 @@ fn goes_out_but(stepped: Stepped, cuts: u16) -> bool {
     match stepped {
         Stepped::Done(entry) => entry.outs == PortSet(0b10111) && entry.cuts == PortSet(cuts),
         Stepped::Full { .. } | Stepped::Nothing => false,
+    }
+}
+
+// The queues of a plan's ports.
+fn queues_of(alloc: Global, ports: &Ports, depth: u32) -> Result<Queues, AllocError>
+    ensures { IfOk result (λ queues. map (λ lane. lane.number) queues.lanes ≡ numbers_of ports.now.ports) }
+{
+    let queues = Queues::make(alloc, ports.plan().ports.as_slice(), depth)?;
+    Ok(queues)
+}
+
+// Ends the egress of a port, where it is one of the plan's.
+fn end_egress(queues: &mut Queues, ports: &Ports, port: Port)
+    requires { map (λ lane. lane.number) queues.old.lanes ≡ numbers_of ports.now.ports }
+    ensures { map (λ lane. lane.number) queues.new.lanes ≡ numbers_of ports.now.ports }
+{
+    let who = Who::Egress(port);
+    if has_pass(ports.plan(), who) {
+        queues.end(ports, who, How::End);
+    }
+}
+
+// A probe to the port of this number, or for any other number to the trusted ports.
+fn probe_to(n: u8) -> SentProbe {
+    let probe = match Port::new(n) {
+        Some(port) => Probe::To(port),
+        None => Probe::Trusted,
+    };
+    SentProbe {
+        due: 1000,
+        address: Addr(0x11),
+        probe,
+    }
+}
+
+// Offers a probe.
+fn offer_probe(queues: &mut Queues, sent: SentProbe)
+    ensures { map (λ lane. lane.number) queues.new.lanes ≡ map (λ lane. lane.number) queues.old.lanes }
+{
+    queues.take(sent);
+}
+
+/// How many probes joined and how many were left out, and where the frame behind them was cut.
+type Fate = (u32, u32, PortSet);
+
+// Offers probes at a host at port 1 and trusted ports 2 and 3, and then a frame for the ports 1 and 2.
+fn fate_of(alloc: Global, depth: u32, ended: bool, probes: &[u8]) -> Result<Fate, Fail> {
+    if depth == 0 || depth > 256 {
+        return Err(Fail::from("depth"));
+    }
+    let ports = Ports::make(plan_of(alloc, false, &THREE, depth, 4131, 1518)?);
+    let mut queues = queues_of(alloc, &ports, depth)?;
+    if ended {
+        end_egress(&mut queues, &ports, port_at(2));
+    }
+    for to in probes {
+        offer_probe(&mut queues, probe_to(*to));
+    }
+    let outs = ports.others_in(Scope::All, port_at(3));
+    let cuts = queues.offer_frame(&ports, outs, 0);
+    Ok((queues.queued(), queues.lost(), cuts))
+}
+
+/// A name, the depth, whether the egress of port 2 has ended, where each probe goes (0: to the trusted ports), and what
+/// comes of it: probes that joined, probes that were left out, and the ports where the frame is cut, as bits.
+const FATES: [(&str, u32, bool, &[u8], u32, u32, u16); 7] = [
+    ("no probe", 1, false, &[], 0, 0, 0),
+    (
+        "a probe comes first and the frame is cut",
+        1,
+        false,
+        &[0],
+        2,
+        0,
+        0b10,
+    ),
+    ("a probe and the frame", 2, false, &[0], 2, 0, 0),
+    ("two probes for one place", 1, false, &[0, 0], 2, 2, 0b10),
+    (
+        "a probe to the host's port alone",
+        1,
+        false,
+        &[1],
+        1,
+        0,
+        0b01,
+    ),
+    ("three probes to one port", 2, false, &[1, 1, 1], 2, 1, 0b01),
+    ("an egress that has ended", 2, true, &[0, 2], 1, 2, 0b10),
+];
+
+#[test]
+fn probes_come_before_the_frame(rt: HostRuntime) -> Result<(), Fail> {
+    for (name, depth, ended, probes, queued, lost, cuts) in FATES {
+        let fate = fate_of(rt.alloc(), depth, ended, probes)?;
+        assert_eq!(rt; fate, (queued, lost, PortSet(cuts)), "{name}");
+    }
+    Ok(())
+}
+
+/// Stamps of ticks, one after the other, behind a packet of a host at 1000, and the probes of each that is entered: the
+/// second probe of its claim goes to two trusted ports, and two others to the host when it has been silent for its lifetime.
+const TICKS: [(u64, Option<u32>); 8] = [
+    (1249, None),
+    (1500, Some(2)),
+    (1500, None),
+    (301_499, None),
+    (301_500, Some(1)),
+    (301_500, None),
+    (302_000, Some(1)),
+    (400_000, None),
+];
+
+#[test]
+fn ticks_are_entered_where_states_change(rt: HostRuntime) -> Result<(), Fail> {
+    let packet = hex::decode(rt.alloc(), PACKET)?;
+    let mut core = core_of(rt.alloc(), true, &THREE, 256, 5000, 4000)?;
+    let claim = enter_frame(&mut core, port_at(1), 1000, &packet);
+    assert_eq!(rt; probes_of(claim), Some(2));
+    for (stamp, probes) in TICKS {
+        let before = core.len();
+        match enter_tick(&mut core, stamp) {
+            Some(stepped) => assert_eq!(rt; probes_of(stepped), probes, "{stamp}"),
+            None => return Err(Fail::from("the ticker has ended")),
+        }
+        assert_eq!(rt; core.len() != before, probes.is_some(), "{stamp}");
+    }
+    Ok(())
+}
+
+// How many probes were queued by an entry, where one was made.
+fn probes_of(stepped: Stepped) -> Option<u32> {
+    match stepped {
+        Stepped::Done(entry) => Some(entry.probes),
+        Stepped::Full { .. } | Stepped::Nothing => None,
     }
 }

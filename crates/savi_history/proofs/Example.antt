@@ -23,7 +23,8 @@ use Rattle.hist_store.specs.Rows.{Row}
 use Rattle.savi_history.specs.Bases.{empty}
 use Rattle.savi_history.specs.Replay.{Stops, replayed}
 use Rattle.savi_history.specs.Summary.{summary_of}
-use Rattle.savi_history.specs.Judged.{judged}
+use Rattle.savi_access.specs.Judged.{judged}
+use Rattle.savi_history.specs.Judged.{verdict_of}
 use Rattle.savi_history.specs.Offers.{offers}
 use Rattle.savi_history.specs.Queues.{sent, probes, lost}
 
@@ -72,8 +73,8 @@ frame by moment act verdict outs octets = record { entry = record { by = by; mom
 abbrev pub no_failure : Stops
 no_failure port = None
 
-pub advert_dropped : (judged 1 plan empty [] 1 1000 (class_of advert)).verdict ≡ verdicts.Drop rules.RouterAdvert
-unfolding class_of nd_of named message_passes kind_of guard_of
+pub advert_dropped : verdict_of plan empty [] port_one 1000 advert ≡ verdicts.Drop rules.RouterAdvert
+unfolding class_of nd_of named message_passes kind_of guard_of judged
 advert_dropped = refl
 
 pub two_captures : replayed plan empty inputs no_failure ≡
@@ -89,15 +90,15 @@ pub two_captures : replayed plan empty inputs no_failure ≡
     ∷ frame 0 1000 (acts.Frame port_one 1000 0 70) (verdicts.Drop rules.RouterAdvert) 0 advert
     ∷ other 2 0 (acts.End passes.Control hows.End)
     ∷ []
-unfolding class_of nd_of named message_passes kind_of guard_of offers probes lost
+unfolding class_of nd_of named message_passes kind_of guard_of judged offers probes lost
 two_captures = refl
 
 pub summed_up : summary_of (replayed plan empty inputs no_failure) ≡ record { entries = 11; frames = 3; passed = 2; dropped = 1; probes = 0; lost = 0; cut = 0 }
-unfolding class_of nd_of named message_passes kind_of guard_of lib.Count.ones offers probes lost
+unfolding class_of nd_of named message_passes kind_of guard_of judged lib.Count.ones offers probes lost
 summed_up = refl
 
 pub sent_at_two : sent plan empty 2 (replayed plan empty inputs no_failure) ≡ record { moment = 1001; octets = packet } ∷ []
-unfolding class_of nd_of named message_passes kind_of guard_of offers
+unfolding class_of nd_of named message_passes kind_of guard_of judged offers
 sent_at_two = refl
 
 -- the record of the packet isn't written, and the header is
@@ -117,5 +118,5 @@ pub an_output_fails : replayed plan empty inputs second_fails ≡
     ∷ frame 0 1000 (acts.Frame port_one 1000 0 70) (verdicts.Drop rules.RouterAdvert) 0 advert
     ∷ other 2 0 (acts.End passes.Control hows.End)
     ∷ []
-unfolding class_of nd_of named message_passes kind_of guard_of offers probes lost
+unfolding class_of nd_of named message_passes kind_of guard_of judged offers probes lost
 an_output_fails = refl

@@ -11,6 +11,7 @@ use Rattle.savi_kinds.specs.declared.verdict.Rule.{Rule}
 use Rattle.savi_kinds.specs.declared.entry.Act.{Act}
 use Rattle.savi_kinds.specs.declared.entry.Act.TheVariants as acts
 use Rattle.savi_kinds.specs.Ports.{number_of}
+use Rattle.frame_class.specs.declared.classes.Class.{Class}
 use Rattle.frame_class.specs.ClassOf.{class_of}
 use Rattle.frame_class.proofs.ClassIs.{class_is}
 use Rattle.ra_guard.specs.GuardOf.{guard_of}
@@ -18,9 +19,15 @@ use Rattle.ra_guard.specs.Refused.{IsAdvertFrame, IsHiddenFrame, IsStopped as Is
 use Rattle.ra_guard.proofs.RuleOf.{guard_is}
 use Rattle.ra_guard.proofs.Stopping.{advert_frames, hidden_frames}
 use Rattle.hist_store.specs.Rows.{Row}
-use Rattle.savi_history.specs.Bases.{Base}
+use Rattle.savi_access.specs.Rules.{AccessRules, AccessBase}
+use Rattle.savi_access.specs.Marks.{Mark}
+use Rattle.savi_access.specs.Judged.{judged, judged_by}
+use Rattle.savi_access.specs.Plans.{rules_of}
+use Rattle.savi_history.specs.Bases.{Base, access_of}
 use Rattle.savi_history.specs.Passes.{role_of, is_trusted}
-use Rattle.savi_history.specs.Judged.{verdict_by}
+use Rattle.savi_history.specs.Moments.{moment_at}
+use Rattle.savi_history.specs.Vlans.{the_vlan}
+use Rattle.savi_history.specs.Marks.{marks}
 use Rattle.savi_history.specs.Adverts.{NotPassed, NonePasses, IsGuarded}
 use Rattle.savi_history.specs.Summary.{is_pass}
 use Rattle.savi_history.specs.Events.{Event, row_of}
@@ -28,9 +35,13 @@ use Rattle.savi_history.specs.Events as events
 use Rattle.savi_history.specs.Legal.{Stands, IsLegal}
 
 -- a rule that stops a frame leaves it no pass
-stopped-not_pass : (rule : Option Rule) → is_none rule ≡ false → is_pass (Some (verdict_by rule)) ≡ false
-stopped-not_pass None some = absurd (false≢true (sym some))
-stopped-not_pass (Some rule) some = refl
+stopped_by : (r : AccessRules) (base : AccessBase) (vlan : ℕ) (port : Port) (t : ℕ) (told : List Mark) (class : Class) (rule : Option Rule) → is_none rule ≡ false → is_pass (Some (judged_by r base vlan port t told class rule).verdict) ≡ false
+stopped_by r base vlan port t told class None some = absurd (false≢true (sym some))
+stopped_by r base vlan port t told class (Some rule) some = refl
+
+pub stopped-not_pass : (r : AccessRules) (base : AccessBase) (vlan : ℕ) (port : Port) (t : ℕ) (told : List Mark) (class : Class) → is_none (guard_of (r.role_of (number_of port)) r.drop_unknown class) ≡ false → is_pass (Some (judged r base vlan port t told class).verdict) ≡ false
+unfolding judged
+stopped-not_pass r base vlan port t told class some = stopped_by r base vlan port t told class (guard_of (r.role_of (number_of port)) r.drop_unknown class) some
 
 -- a rule with this property is one
 given : (P : Rule → Type 0) (rule : Option Rule) → IsSomeAnd rule P → is_none rule ≡ false
@@ -72,8 +83,9 @@ event_stopped : (Has : List ℕ → Type 0) → IsStopped Has → (plan : Plan) 
 event_stopped Has stopped plan base past (events.Frame port stamp octets) = λ at_port frame host has.
     let same : port ≡ at_port = ap (port_in port) frame.frame in
     let here : is_trusted (role_of plan (number_of port)) ≡ false = subst (λ (p : Port). is_trusted (role_of plan (number_of p)) ≡ false) (sym same) host in
-    stopped-not_pass (guard_of (role_of plan (number_of port)) plan.drop_unknown (class_of octets)) (stopped octets (role_of plan (number_of port)) plan.drop_unknown has here)
+    stopped-not_pass (rules_of plan) (access_of base) the_vlan port (moment_at base past stamp) (marks plan base past) (class_of octets) (stopped octets (role_of plan (number_of port)) plan.drop_unknown has here)
 event_stopped Has stopped plan base past (events.Long port stamp len) = λ at_port frame host has. refl
+event_stopped Has stopped plan base past (events.Tick stamp) = λ at_port frame host has. refl
 event_stopped Has stopped plan base past (events.Drain port count) = λ at_port frame host has. refl
 event_stopped Has stopped plan base past (events.End who how) = λ at_port frame host has. refl
 

@@ -5,11 +5,15 @@ pub mod Ends
 pub mod Order
 pub mod Reaching
 pub mod Guarded
+pub mod Teaching
+pub mod Individuals
+pub mod Directing
 pub mod PassNumbers
 pub mod PortPlaces
 pub mod PortMembers
 pub mod Joining
 pub mod Depth
+pub mod Unvalidated
 pub mod Offered
 pub mod Cutting
 pub mod Closed
@@ -31,3 +35,7 @@ pub mod FailedWrites
 pub mod EndedOutputs
 pub mod TakenPieces
 pub mod FittingOutputs
+pub mod Telling
+pub mod Starting
+pub mod CameFirst
+pub mod Ticking

@@ -1,6 +1,5 @@
 -- What is offered to a queue joins it, in order, and is counted.
-use Rattle.std.proofs.Common.{◌≡◌, ℕ, ◌-◌, ◌==◌, nat_le, Bool, true, false, if◌then◌else◌, List, [], ◌∷◌, ◌++◌, length, map, take, drop, refl, sym, ap, subst, ◌∙◌, arith, append_assoc, append-nil, length-append}
-use Rattle.std.specs.List.{filter}
+use Rattle.std.proofs.Common.{◌≡◌, ℕ, ◌-◌, ◌==◌, Bool, true, false, if◌then◌else◌, List, [], ◌∷◌, ◌++◌, length, take, drop, refl, sym, ap, subst, ◌∙◌, arith, append_assoc, append-nil, length-append}
 use Rattle.std.proofs.lemmas.List.{take-append-drop}
 use Rattle.savi_kinds.specs.declared.plan.Plan.{Plan}
 use Rattle.savi_kinds.specs.declared.entry.Act.{Act}
@@ -14,11 +13,9 @@ use Rattle.savi_kinds.specs.PortSets.{is_member}
 use Rattle.savi_kinds.specs.ValidPlan.{numbers_of}
 use Rattle.hist_store.specs.Rows.{Row}
 use Rattle.savi_history.specs.Bases.{Base}
-use Rattle.savi_history.specs.Marks.{Offer}
-use Rattle.savi_history.specs.Offers.{offers}
-use Rattle.savi_history.specs.Queues.{Item, item_of, probe_item, is_probed, room_at, joined, all_joined, offered_at, probed, waiting_after, taken_by, queue, sent, queued_at, lost_at, over_ports, probes, lost, is_closed}
+use Rattle.savi_history.specs.Queues.{Item, item_of, room_at, joined, all_joined, offered_at, waiting_after, taken_by, queue, sent, queued_at, lost_at, over_ports, probes, lost}
 use Rattle.savi_history.specs.QueueLaws.{frame_to, all_offered, room_left, added, came, is_failure_at, NeverFailed, probes_taken, probes_left, IsCounted, AreCounted}
-use Rattle.savi_history.specs.Events.{Event, Frame, Long, Drain, End, row_of, frame_act}
+use Rattle.savi_history.specs.Events.{Event, Frame, Long, Tick, Drain, End, row_of, frame_act}
 use Rattle.savi_history.specs.Legal.{IsLegal}
 use Rattle.savi_history.proofs.Joining.{no_items, take_none, all_joined-is, length-all_joined}
 
@@ -109,6 +106,8 @@ row_counted plan base past (Frame port stamp octets) =
     (probes_counted plan base past (frame_act past port stamp octets) octets, lost_counted plan base past (frame_act past port stamp octets) octets)
 row_counted plan base past (Long port stamp len) =
     (probes_counted plan base past (acts.Long port stamp len) [], lost_counted plan base past (acts.Long port stamp len) [])
+row_counted plan base past (Tick stamp) =
+    (probes_counted plan base past (acts.Tick stamp) [], lost_counted plan base past (acts.Tick stamp) [])
 row_counted plan base past (Drain port count) = (refl, refl)
 row_counted plan base past (End who how) = (refl, refl)
 
@@ -116,38 +115,3 @@ pub all_counted : (plan : Plan) (base : Base) (past : List Row) → IsLegal plan
 all_counted plan base [] legal = tt
 all_counted plan base (r ∷ past) legal =
     (subst (λ (x : Row). IsCounted plan base past x x.entry.act) (sym legal.0.2) (row_counted plan base past legal.0.0), all_counted plan base past legal.1)
-
--- without validation
-
--- a switch that validates no sources sends no probes
-pub no_offers : (plan : Plan) (base : Base) (past : List Row) (act : Act) (octets : List ℕ) → plan.savi ≡ false → offers plan base past act octets ≡ []
-unfolding offers
-no_offers plan base past act octets off = refl
-
-module _ (plan : Plan) (base : Base) (past : List Row) (act : Act) (octets : List ℕ) (off : plan.savi ≡ false) where
-  pub offered_off : (q : ℕ) → offered_at plan base past act octets q ≡ []
-  offered_off q = ap (λ (all : List Offer). map (probe_item plan) (filter (λ (offer : Offer). is_probed plan base past q offer.probe) all)) (no_offers plan base past act octets off)
-
-  pub probed_off : (q : ℕ) (waiting : List Item) → probed plan base past act octets q waiting ≡ waiting
-  probed_off q waiting = ap (λ (items : List Item). all_joined (room_at plan base past q) waiting items) (offered_off q)
-
-  none_counted : (f : ℕ → ℕ) → ((q : ℕ) → f q ≡ 0) → (qs : List ℕ) → over_ports qs f ≡ 0
-  none_counted f none [] = refl
-  none_counted f none (q ∷ qs) = omega (arith, none q, none_counted f none qs)
-
-  queued_off : (q : ℕ) → queued_at plan base past act octets q ≡ 0
-  queued_off q = omega (arith, ap (λ (items : List Item). length items) (probed_off q (queue plan base q past)))
-
-  lost_off_at : (q : ℕ) → lost_at plan base past act octets q ≡ 0
-  lost_off_at q = omega (arith, ap (λ (items : List Item). length items) (offered_off q))
-
-  pub probes_off : probes plan base past act octets ≡ 0
-  unfolding probes
-  probes_off = none_counted (queued_at plan base past act octets) queued_off (numbers_of plan.ports)
-
-  pub lost_off : lost plan base past act octets ≡ 0
-  unfolding lost
-  lost_off = none_counted (lost_at plan base past act octets) lost_off_at (numbers_of plan.ports)
-
-  pub closed_off : (q : ℕ) → is_closed plan base past act octets q ≡ nat_le (room_at plan base past q) (length (queue plan base q past))
-  closed_off q = ap (λ (items : List Item). nat_le (room_at plan base past q) (length items)) (probed_off q (queue plan base q past))

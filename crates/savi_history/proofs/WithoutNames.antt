@@ -1,6 +1,7 @@
 -- The row of an event doesn't depend on the names of a plan.
-use Rattle.std.proofs.Common.{◌≡◌, ℕ, ◌+◌, ◌-◌, ◌==◌, ◌&&◌, not, nat_le, if◌then◌else◌, Bool, true, false, if◌then◌else◌, List, [], ◌∷◌, length, map, refl, ap, sym, ◌∙◌}
+use Rattle.std.proofs.Common.{◌≡◌, ℕ, ◌+◌, ◌-◌, ◌==◌, ◌&&◌, not, nat_le, if◌then◌else◌, Bool, true, false, if◌then◌else◌, Option, List, [], ◌∷◌, ◌++◌, length, map, refl, ap, sym, ◌∙◌}
 use Rattle.std.specs.List.{filter}
+use Rattle.std.proofs.Math.Path.{fun_ext}
 use Rattle.std.proofs.lemmas.List.{length-map}
 use Rattle.std.proofs.lemmas.List.Elements.{filter_agree}
 use Rattle.savi_kinds.specs.declared.port.Port.{Port}
@@ -24,18 +25,25 @@ use Rattle.savi_kinds.specs.Ports.{number_of}
 use Rattle.savi_kinds.specs.PortSets.{is_member, set_of}
 use Rattle.savi_kinds.specs.ValidPlan.{numbers_of}
 use Rattle.hist_store.specs.Rows.{Row}
-use Rattle.savi_history.specs.Bases.{Base}
+use Rattle.savi_history.specs.Bases.{Base, access_of}
 use Rattle.savi_history.specs.Passes.{role_among, is_trusted, pass_of, egress_pass, place_among, has_ended}
-use Rattle.savi_history.specs.Marks.{Offer}
-use Rattle.savi_history.specs.Offers.{offers}
-use Rattle.savi_history.specs.Moments.{moment_at}
+use Rattle.savi_history.specs.Offers.{Offer, offer_of, due_by, in_answer, probes_of, offers}
+use Rattle.savi_history.specs.Moments.{last_moment, moment_at}
+use Rattle.frame_class.specs.declared.classes.Class.{Class}
 use Rattle.frame_class.specs.ClassOf.{class_of}
-use Rattle.ra_guard.specs.GuardOf.{guard_of}
-use Rattle.savi_history.specs.Judged.{verdict_by}
-use Rattle.savi_history.specs.Outs.{is_in_scope, outs}
+use Rattle.addr_table.specs.declared.sent.SentProbe.{SentProbe}
+use Rattle.addr_history.specs.Probes.{probes_between}
+use Rattle.savi_access.specs.Rules.{AccessRules}
+use Rattle.savi_access.specs.Marks.{Mark, told}
+use Rattle.savi_access.specs.Judged.{Judged, judged}
+use Rattle.savi_access.specs.Plans.{vlan_by, vlan_among, rules_of}
+use Rattle.savi_history.specs.Vlans.{the_vlan}
+use Rattle.savi_history.specs.Marks.{judged_after, marked, marks}
+use Rattle.savi_history.specs.Judged.{judged_of, verdict_of}
+use Rattle.savi_history.specs.Stations.{known_port}
+use Rattle.savi_history.specs.Outs.{is_in_scope, directed, outs}
 use Rattle.savi_history.specs.Queues.{Item, probe_item, is_probed, offered_at, room_at, all_joined, probed, framed, waiting_after, queue, queued_at, lost_at, over_ports, probes, lost, is_closed, cuts}
-use Rattle.savi_history.specs.Events.{Event, Frame, Long, Drain, End, the_vlan, frame_act, plain_row, verdict_of, outs_of, row_of}
-use Rattle.savi_history.specs.Moments.{last_moment}
+use Rattle.savi_history.specs.Events.{Event, Frame, Long, Tick, Drain, End, frame_act, plain_row, outs_of, row_of}
 use Rattle.savi_history.specs.Journals.{without_port_names, without_names}
 
 numbers_kept : (ports : List PortPlan) → numbers_of (map without_port_names ports) ≡ numbers_of ports
@@ -73,8 +81,61 @@ role_among_kept : (ports : List PortPlan) (number : ℕ) → role_among (map wit
 role_among_kept [] number = refl
 role_among_kept (p ∷ ports) number = role_at p (map without_port_names ports) ports number (number_of p.number == number) (role_among_kept ports number)
 
+vlan_at : (p : PortPlan) (ports ports' : List PortPlan) (number : ℕ) (b : Bool) → vlan_among ports number ≡ vlan_among ports' number → (if b then vlan_by p.role else vlan_among ports number) ≡ (if b then vlan_by p.role else vlan_among ports' number)
+vlan_at p ports ports' number true same = refl
+vlan_at p ports ports' number false same = same
+
+vlan_among_kept : (ports : List PortPlan) (number : ℕ) → vlan_among (map without_port_names ports) number ≡ vlan_among ports number
+vlan_among_kept [] number = refl
+vlan_among_kept (p ∷ ports) number = vlan_at p (map without_port_names ports) ports number (number_of p.number == number) (vlan_among_kept ports number)
+
+-- the rules by these roles and VLANs of ports
+abbrev pub rules_by : Plan → (ℕ → Role) → (ℕ → Option ℕ) → AccessRules
+rules_by plan roles vlans = record (rules_of plan) { addresses = record ((rules_of plan).addresses) { vlan_of = vlans }; role_of = roles }
+
+rules_kept : (plan : Plan) → rules_of (without_names plan) ≡ rules_of plan
+rules_kept plan =
+    ap (λ (roles : ℕ → Role). rules_by plan roles (vlan_among (map without_port_names plan.ports))) (fun_ext (role_among_kept plan.ports))
+    ∙ ap (λ (vlans : ℕ → Option ℕ). rules_by plan (role_among plan.ports) vlans) (fun_ext (vlan_among_kept plan.ports))
+
+module _ (plan : Plan) (base : Base) where
+  after_is : (past : List Mark) (port : Port) (moment : ℕ) (class : Class) → judged_after (without_names plan) base past port moment class ≡ judged_after plan base past port moment class
+  after_is past port moment class = ap (λ (r : AccessRules). judged r (access_of base) the_vlan port moment past class) (rules_kept plan)
+
+  marked_kept : (r : Row) (act : Act) (past : List Mark) → marked (without_names plan) base r act past ≡ marked plan base r act past
+  marked_kept r (acts.Frame port stamp at len) past = ap (λ (j : Judged). j.marks) (after_is past port r.entry.moment (class_of r.octets))
+  marked_kept r (acts.Long port stamp len) past = refl
+  marked_kept r (acts.Tick stamp) past = refl
+  marked_kept r (acts.Command stamp at len) past = refl
+  marked_kept r (acts.Drain port count) past = refl
+  marked_kept r (acts.End who how) past = refl
+
+  marks_kept : (past : List Row) → marks (without_names plan) base past ≡ marks plan base past
+  marks_kept [] = refl
+  marks_kept (r ∷ past) = marked_kept r r.entry.act (marks (without_names plan) base past) ∙ ap (λ (all : List Mark). marked plan base r r.entry.act all) (marks_kept past)
+
+  judged_kept : (past : List Row) (port : Port) (stamp : ℕ) (octets : List ℕ) → judged_of (without_names plan) base past port stamp octets ≡ judged_of plan base past port stamp octets
+  judged_kept past port stamp octets =
+      after_is (marks (without_names plan) base past) port (moment_at base past stamp) (class_of octets)
+      ∙ ap (λ (all : List Mark). judged_after plan base all port (moment_at base past stamp) (class_of octets)) (marks_kept past)
+
+  due_kept : (past : List Row) (moment : ℕ) → due_by (without_names plan) base past moment ≡ due_by plan base past moment
+  due_kept past moment =
+      ap (λ (r : AccessRules). probes_between r.addresses (access_of base).addresses (told (marks (without_names plan) base past)) (last_moment base past) moment the_vlan) (rules_kept plan)
+      ∙ ap (λ (all : List Mark). probes_between (rules_of plan).addresses (access_of base).addresses (told all) (last_moment base past) moment the_vlan) (marks_kept past)
+
+  probes_of_kept : (past : List Row) (act : Act) (octets : List ℕ) → probes_of (without_names plan) base past act octets ≡ probes_of plan base past act octets
+  probes_of_kept past (acts.Frame port stamp at len) octets =
+      ap (λ (due : List SentProbe). due ++ in_answer (judged_of (without_names plan) base past port stamp octets).probe) (due_kept past (moment_at base past stamp))
+      ∙ ap (λ (j : Judged). due_by plan base past (moment_at base past stamp) ++ in_answer j.probe) (judged_kept past port stamp octets)
+  probes_of_kept past (acts.Long port stamp len) octets = due_kept past (moment_at base past stamp)
+  probes_of_kept past (acts.Tick stamp) octets = due_kept past (moment_at base past stamp)
+  probes_of_kept past (acts.Command stamp at len) octets = due_kept past (moment_at base past stamp)
+  probes_of_kept past (acts.Drain port count) octets = refl
+  probes_of_kept past (acts.End who how) octets = refl
+
 verdict_kept : (plan : Plan) (base : Base) (past : List Row) (port : Port) (stamp : ℕ) (octets : List ℕ) → verdict_of (without_names plan) base past port stamp octets ≡ verdict_of plan base past port stamp octets
-verdict_kept plan base past port stamp octets = ap (λ (role : Role). verdict_by (guard_of role plan.drop_unknown (class_of octets))) (role_among_kept plan.ports (number_of port))
+verdict_kept plan base past port stamp octets = ap (λ (j : Judged). j.verdict) (judged_kept plan base past port stamp octets)
 
 -- the ports of a scope, as a test
 abbrev is_other : Scope → ℕ → PortPlan → Bool
@@ -96,7 +157,8 @@ others_kept scope port [] = refl
 others_kept scope port (p ∷ ports) = rw (test_kept scope port p) (others_at scope port p ports (is_other scope port p) (others_kept scope port ports))
 
 outs_kept : (plan : Plan) (base : Base) (past : List Row) (port moment : ℕ) (octets : List ℕ) (verdict : Verdict) → outs the_vlan (without_names plan) base past port moment octets verdict ≡ outs the_vlan plan base past port moment octets verdict
-outs_kept plan base past port moment octets (Pass scope) = ap set_of (others_kept scope port plan.ports)
+outs_kept plan base past port moment octets (Pass scope) =
+    ap (λ (ns : List ℕ). set_of (directed (known_port the_vlan base past moment octets) ns)) (others_kept scope port plan.ports)
 outs_kept plan base past port moment octets (Drop rule) = refl
 
 -- what waits
@@ -119,7 +181,7 @@ module _ (plan : Plan) (base : Base) where
 
   offers_kept : (past : List Row) (act : Act) (octets : List ℕ) → offers bare base past act octets ≡ offers plan base past act octets
   unfolding offers
-  offers_kept past act octets = refl
+  offers_kept past act octets = ap (λ (all : List SentProbe). map offer_of all) (probes_of_kept plan base past act octets)
 
   offered_kept : (past : List Row) (act : Act) (octets : List ℕ) (q : ℕ) → offered_at bare base past act octets q ≡ offered_at plan base past act octets q
   offered_kept past act octets q =
@@ -220,6 +282,11 @@ row_kept plan base past (Long port stamp len) =
     let by = pass_kept plan (passes.Ingress port) in
     let queued = probes_kept plan base past (acts.Long port stamp len) [] in
     let missed = lost_kept plan base past (acts.Long port stamp len) [] in
+    cc (by, queued, missed)
+row_kept plan base past (Tick stamp) =
+    let by = pass_kept plan passes.Ticker in
+    let queued = probes_kept plan base past (acts.Tick stamp) [] in
+    let missed = lost_kept plan base past (acts.Tick stamp) [] in
     cc (by, queued, missed)
 row_kept plan base past (Drain port count) =
     ap (λ (by : ℕ). plain_row by (last_moment base past) (acts.Drain port count)) (pass_kept plan (passes.Egress port))

@@ -11,12 +11,13 @@ use Rattle.savi_kinds.specs.declared.entry.Who.TheVariants as passes
 use Rattle.savi_kinds.specs.declared.entry.How.{How}
 use Rattle.savi_kinds.specs.Ports.{number_of}
 use Rattle.savi_kinds.specs.PortSets.{no_ports}
-use Rattle.frame_class.specs.ClassOf.{class_of}
 use Rattle.hist_store.specs.Rows.{Row, held}
 use Rattle.savi_history.specs.Bases.{Base}
 use Rattle.savi_history.specs.Passes.{pass_of}
 use Rattle.savi_history.specs.Moments.{last_moment, moment_at}
-use Rattle.savi_history.specs.Judged.{Judged, judged, judged_long}
+pub use Rattle.savi_history.specs.Vlans.{the_vlan}
+pub use Rattle.savi_history.specs.Judged.{judged_of, verdict_of}
+use Rattle.savi_history.specs.Judged.{judged_long}
 use Rattle.savi_history.specs.Outs.{outs}
 use Rattle.savi_history.specs.Queues.{cuts, probes, lost}
 
@@ -25,14 +26,12 @@ pub data Event : Type 0 where
   Frame : (port : Port) (stamp : ℕ) (octets : List ℕ) → Event
   -- a longer frame came in
   Long : (port : Port) (stamp len : ℕ) → Event
+  -- time passed
+  Tick : (stamp : ℕ) → Event
   -- so many items were taken from the front of a port's queue
   Drain : (port : Port) (count : ℕ) → Event
   -- a pass ended
   End : (who : Who) (how : How) → Event
-
--- the VLAN of each frame, until there are others
-abbrev pub the_vlan : ℕ
-the_vlan = 1
 
 -- the act of a frame, whose octets are kept behind those of the past
 abbrev pub frame_act : List Row → Port → ℕ → List ℕ → Act
@@ -70,20 +69,28 @@ long_row plan base past port stamp len = record {
   octets = [];
 }
 
+-- the row of a tick, on which there is no verdict: only its probes go anywhere
+abbrev pub tick_row : Plan → Base → List Row → ℕ → Row
+tick_row plan base past stamp = record {
+  entry = record {
+    by = pass_of plan passes.Ticker;
+    moment = moment_at base past stamp;
+    act = acts.Tick stamp;
+    verdict = None;
+    outs = no_ports;
+    cuts = no_ports;
+    probes = probes plan base past (acts.Tick stamp) [];
+    lost = lost plan base past (acts.Tick stamp) [];
+  };
+  octets = [];
+}
+
 -- an entry without a stamp: it has the last moment, goes nowhere and keeps no octets
 abbrev pub plain_row : ℕ → ℕ → Act → Row
 plain_row by moment act = record {
   entry = record { by = by; moment = moment; act = act; verdict = None; outs = no_ports; cuts = no_ports; probes = 0; lost = 0 };
   octets = [];
 }
-
--- what a frame at a port comes to after this past
-abbrev pub judged_of : Plan → Base → List Row → Port → ℕ → List ℕ → Judged
-judged_of plan base past port stamp octets =
-    judged the_vlan plan base past (number_of port) (moment_at base past stamp) (class_of octets)
-
-abbrev pub verdict_of : Plan → Base → List Row → Port → ℕ → List ℕ → Verdict
-verdict_of plan base past port stamp octets = (judged_of plan base past port stamp octets).verdict
 
 -- the ports to which it goes
 abbrev pub outs_of : Plan → Base → List Row → Port → ℕ → List ℕ → PortSet
@@ -94,6 +101,7 @@ abbrev pub row_of : Plan → Base → List Row → Event → Row
 row_of plan base past (Frame port stamp octets) =
     frame_row plan base past port stamp octets (verdict_of plan base past port stamp octets) (outs_of plan base past port stamp octets)
 row_of plan base past (Long port stamp len) = long_row plan base past port stamp len
+row_of plan base past (Tick stamp) = tick_row plan base past stamp
 row_of plan base past (Drain port count) =
     plain_row (pass_of plan (passes.Egress port)) (last_moment base past) (acts.Drain port count)
 row_of plan base past (End who how) = plain_row (pass_of plan who) (last_moment base past) (acts.End who how)

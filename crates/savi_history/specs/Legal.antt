@@ -12,7 +12,9 @@ use Rattle.savi_history.specs.Bases.{Base}
 use Rattle.savi_history.specs.Passes.{has_pass, pass_of, pass_count, control_pass, ticker_pass, has_ended, AllEnded}
 use Rattle.savi_history.specs.Limits.{has_room}
 use Rattle.savi_history.specs.Queues.{queue}
-use Rattle.savi_history.specs.Events.{Event, Frame, Long, Drain, End, row_of}
+use Rattle.savi_history.specs.Moments.{moment_at}
+use Rattle.savi_history.specs.Ticks.{HasChangedBy}
+use Rattle.savi_history.specs.Events.{Event, Frame, Long, Tick, Drain, End, row_of}
 
 -- a number of 64 bits, and one of 32
 abbrev pub IsU64 : ℕ → Type 0
@@ -31,6 +33,13 @@ pub record MayArrive (plan : Plan) (base : Base) (past : List Row) (port : Port)
   pub open_pass : IsOpen plan base past (Ingress port)
   pub room : has_room plan past ≡ true
   pub fits : IsU64 stamp
+
+-- a tick may come: the ticker's pass is open, there is room, and some address has another state by its moment
+pub record MayTick (plan : Plan) (base : Base) (past : List Row) (stamp : ℕ) : Type 0 where
+  pub open_pass : IsOpen plan base past Ticker
+  pub room : has_room plan past ≡ true
+  pub fits : IsU64 stamp
+  pub changed : HasChangedBy plan base past (moment_at base past stamp)
 
 -- the history has no room, and this is its length
 pub record IsFull (plan : Plan) (past : List Row) (len : ℕ) : Type 0 where
@@ -90,6 +99,7 @@ MayEnd plan base past (Egress p) how = MayEndEgress plan base past (number_of p)
 abbrev pub MayCome : Plan → Base → List Row → Event → Type 0
 MayCome plan base past (Frame port stamp octets) = MayArrive plan base past port stamp × (length octets ≤ 1518)
 MayCome plan base past (Long port stamp len) = MayArrive plan base past port stamp × (1518 < len) × IsU32 len
+MayCome plan base past (Tick stamp) = MayTick plan base past stamp
 MayCome plan base past (Drain port count) = IsOpen plan base past (Egress port) × (1 ≤ count) × (count ≤ length (queue plan base (number_of port) past))
 MayCome plan base past (End who how) = IsOpen plan base past who × MayEnd plan base past who how
 

@@ -1,4 +1,8 @@
+pub mod Vlans
 pub mod Bases
+pub mod StationLimits
+pub mod Stations
+pub mod StationLaws
 pub mod Passes
 pub mod Moments
 pub mod Limits
@@ -8,6 +12,7 @@ pub mod Offers
 pub mod Outs
 pub mod Queues
 pub mod Events
+pub mod Ticks
 pub mod Legal
 pub mod Merges
 pub mod Turns
@@ -24,3 +29,5 @@ pub mod Fits
 pub mod Journals
 pub mod Readable
 pub mod QueueLaws
+pub mod Accesses
+pub mod CameFirst

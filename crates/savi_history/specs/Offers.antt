@@ -1,11 +1,53 @@
--- Which probes an entry calls for. Validation of sources isn't defined yet, so no entry calls for any.
-use Rattle.std.specs.Prelude.{ℕ, List, []}
+-- Which probes an entry calls for, neighbor solicitations for duplicate address detection that the switch sends (RFC 6620
+-- section 3.2.3, RFC 7513 section 6.4): those that fell due since the entry before it, in the order in which they are due and
+-- then of address, and last the one with which its own frame is answered.
+use Rattle.std.specs.Prelude.{ℕ, Option, Some, None, List, [], ◌∷◌, ◌++◌, map}
 use Rattle.savi_kinds.specs.declared.plan.Plan.{Plan}
+use Rattle.savi_kinds.specs.declared.address.Addr.{Addr}
 use Rattle.savi_kinds.specs.declared.entry.Act.{Act}
+use Rattle.savi_kinds.specs.declared.entry.Act.TheVariants.{Frame, Long, Tick, Command, Drain, End}
+use Rattle.fcfs_states.specs.declared.answer.Probe.{Probe}
+use Rattle.addr_table.specs.declared.sent.SentProbe.{SentProbe}
+use Rattle.addr_history.specs.Probes.{probes_between}
 use Rattle.hist_store.specs.Rows.{Row}
-use Rattle.savi_history.specs.Bases.{Base}
-use Rattle.savi_history.specs.Marks.{Offer}
+use Rattle.savi_access.specs.Marks.{told}
+use Rattle.savi_access.specs.Plans.{rules_of}
+use Rattle.savi_history.specs.Bases.{Base, access_of}
+use Rattle.savi_history.specs.Moments.{last_moment, moment_at}
+use Rattle.savi_history.specs.Vlans.{the_vlan}
+use Rattle.savi_history.specs.Marks.{marks}
+use Rattle.savi_history.specs.Judged.{judged_of}
 
--- the probes that an entry with this act and these octets calls for, in the order in which they are queued
+-- a probe for an address in a VLAN, due at this moment, and where it goes: to the trusted ports or to one port
+pub record Offer : Type 0 where
+  pub vlan : ℕ
+  pub due : ℕ
+  pub address : Addr
+  pub probe : Probe
+
+abbrev pub offer_of : SentProbe → Offer
+offer_of sent = record { vlan = the_vlan; due = sent.due; address = sent.address; probe = sent.probe }
+
+-- the probes that fall due behind the last entry, up to this moment
+abbrev pub due_by : Plan → Base → List Row → ℕ → List SentProbe
+due_by plan base past moment =
+    probes_between (rules_of plan).addresses (access_of base).addresses (told (marks plan base past)) (last_moment base past) moment the_vlan
+
+-- the probe with which a frame is answered, if it is
+abbrev pub in_answer : Option SentProbe → List SentProbe
+in_answer None = []
+in_answer (Some sent) = sent ∷ []
+
+-- the probes that an entry with this act and these octets calls for, in order
+abbrev pub probes_of : Plan → Base → List Row → Act → List ℕ → List SentProbe
+probes_of plan base past (Frame port stamp at len) octets =
+    due_by plan base past (moment_at base past stamp) ++ in_answer (judged_of plan base past port stamp octets).probe
+probes_of plan base past (Long port stamp len) octets = due_by plan base past (moment_at base past stamp)
+probes_of plan base past (Tick stamp) octets = due_by plan base past (moment_at base past stamp)
+probes_of plan base past (Command stamp at len) octets = due_by plan base past (moment_at base past stamp)
+probes_of plan base past (Drain port count) octets = []
+probes_of plan base past (End who how) octets = []
+
+-- the same, as they are offered to the queues of the ports
 unfoldable pub offers : Plan → Base → List Row → Act → List ℕ → List Offer
-offers plan base past act octets = []
+offers plan base past act octets = map offer_of (probes_of plan base past act octets)

@@ -1,8 +1,10 @@
--- The ports to which a frame goes: where no station is known, each port of its scope but the ingress port.
-use Rattle.std.specs.Prelude.{ℕ, ◌==◌, ◌&&◌, ◌||◌, not, Bool, true, List}
+-- The ports to which a frame goes: where its destination is known, the port of that station, else each port; of these, those
+-- of its scope, without the ingress port (IEEE 802.1Q section 8.6.3).
+use Rattle.std.specs.Prelude.{ℕ, ◌==◌, ◌&&◌, ◌||◌, not, Bool, true, List, Option, Some, None}
 use Rattle.std.specs.List.{filter}
 use Rattle.savi_kinds.specs.declared.plan.Plan.{Plan}
 use Rattle.savi_kinds.specs.declared.plan.PortPlan.{PortPlan}
+use Rattle.savi_kinds.specs.declared.port.Port.{Port}
 use Rattle.savi_kinds.specs.declared.port.PortSet.{PortSet}
 use Rattle.savi_kinds.specs.declared.verdict.Scope.{Scope}
 use Rattle.savi_kinds.specs.declared.verdict.Scope.TheVariants.{All, TrustedOnly, TrustedAnd}
@@ -14,6 +16,7 @@ use Rattle.savi_kinds.specs.ValidPlan.{numbers_of}
 use Rattle.hist_store.specs.Rows.{Row}
 use Rattle.savi_history.specs.Bases.{Base}
 use Rattle.savi_history.specs.Passes.{is_trusted}
+use Rattle.savi_history.specs.Stations.{known_port}
 
 -- whether a port of the plan is in a scope
 abbrev pub is_in_scope : Scope → PortPlan → Bool
@@ -25,7 +28,16 @@ is_in_scope (TrustedAnd p) q = is_trusted q.role || (number_of q.number == numbe
 abbrev pub others_in : Plan → Scope → ℕ → List PortPlan
 others_in plan scope port = filter (λ q. is_in_scope scope q && not (number_of q.number == port)) plan.ports
 
+-- of these ports, the one at which the destination is known; all of them where it isn't
+abbrev pub directed : Option Port → List ℕ → List ℕ
+directed None numbers = numbers
+directed (Some port) numbers = filter (λ n. n == number_of port) numbers
+
+-- the ports to which a frame with this verdict goes, by the port at which its destination is known
+abbrev pub outs_by : Plan → ℕ → Option Port → Verdict → PortSet
+outs_by plan port known (Pass scope) = set_of (directed known (numbers_of (others_in plan scope port)))
+outs_by plan port known (Drop rule) = no_ports
+
 -- the ports to which these octets go in this VLAN with this verdict, at this moment and after this past
 abbrev pub outs : ℕ → Plan → Base → List Row → ℕ → ℕ → List ℕ → Verdict → PortSet
-outs vlan plan base past port moment octets (Pass scope) = set_of (numbers_of (others_in plan scope port))
-outs vlan plan base past port moment octets (Drop rule) = no_ports
+outs vlan plan base past port moment octets verdict = outs_by plan port (known_port vlan base past moment octets) verdict

@@ -3,7 +3,6 @@
 use Rattle.std.specs.Prelude.{ℕ, suc, ◌+◌, ◌*◌, ◌<◌, ◌≡◌, ◌==◌, ◌&&◌, ◌||◌, Bool, true, false, if◌then◌else◌, List, [], ◌∷◌, length}
 use Rattle.std.specs.List.{list_any}
 use Rattle.savi_kinds.specs.declared.plan.Plan.{Plan}
-use Rattle.savi_kinds.specs.declared.plan.PortPlan.{PortPlan}
 use Rattle.savi_kinds.specs.declared.plan.Role.{Role}
 use Rattle.savi_kinds.specs.declared.plan.Role.TheVariants as roles
 use Rattle.savi_kinds.specs.declared.entry.Act.{Act}
@@ -13,19 +12,8 @@ use Rattle.savi_kinds.specs.declared.entry.Who.TheVariants.{Ingress, Control, Ti
 use Rattle.savi_kinds.specs.Ports.{number_of}
 use Rattle.savi_kinds.specs.ValidPlan.{numbers_of}
 use Rattle.hist_store.specs.Rows.{Row}
+pub use Rattle.savi_access.specs.Plans.{has_port, role_among, role_of}
 use Rattle.savi_history.specs.Bases.{Base}
-
--- the port is one of the plan's
-abbrev pub has_port : Plan → ℕ → Bool
-has_port plan number = list_any (λ n. n == number) (numbers_of plan.ports)
-
--- the role of a port of the plan
-abbrev pub role_among : List PortPlan → ℕ → Role
-role_among [] number = roles.Host
-role_among (p ∷ ports) number = if number_of p.number == number then p.role else role_among ports number
-
-abbrev pub role_of : Plan → ℕ → Role
-role_of plan number = role_among plan.ports number
 
 abbrev pub is_trusted : Role → Bool
 is_trusted roles.Host = false

@@ -18,8 +18,7 @@ use Rattle.probe_write.specs.ProbeFrame.{probe_of}
 use Rattle.hist_store.specs.Rows.{Row}
 use Rattle.savi_history.specs.Bases.{Base}
 use Rattle.savi_history.specs.Passes.{egress_pass, has_ended, role_of, is_trusted}
-use Rattle.savi_history.specs.Marks.{Offer}
-use Rattle.savi_history.specs.Offers.{offers}
+use Rattle.savi_history.specs.Offers.{Offer, offers}
 
 -- a frame or a probe on its way out, with the moment that it carries
 pub record Item : Type 0 where

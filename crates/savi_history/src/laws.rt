@@ -1,6 +1,6 @@
 //! The laws on whole histories. Each function does nothing: its contract is the law.
 
-ghost use Rattle.std.specs.Prelude.{◌≡◌, ◌<◌, ◌≤◌, ◌++◌, ℕ, true, false, List, [], length, slice_index, Option, Some, All};
+ghost use Rattle.std.specs.Prelude.{◌≡◌, ◌≢◌, ◌<◌, ◌≤◌, ◌++◌, ℕ, true, false, List, [], length, slice_index, Option, Some, All};
 ghost use Rattle.savi_kinds.specs.Arrivals.{Input};
 ghost use Rattle.savi_kinds.specs.ValidPlan.{IsValidPlan, numbers_of};
 ghost use Rattle.savi_kinds.specs.declared.entry.Act.{Act};
@@ -8,28 +8,92 @@ ghost use Rattle.savi_kinds.specs.declared.entry.How.TheVariants as hows;
 ghost use Rattle.savi_kinds.specs.declared.plan.Plan.{Plan};
 ghost use Rattle.hist_store.specs.JournalTexts.{address_text};
 ghost use Rattle.hist_store.specs.Rows.{Row};
-ghost use Rattle.savi_history.specs.Bases.{Base, empty};
-ghost use Rattle.savi_history.specs.Legal.{IsLegal, IsFinished};
+ghost use Rattle.savi_history.specs.Bases.{Base, empty, access_of};
+ghost use Rattle.savi_history.specs.Legal.{IsLegal, IsFinished, MayCome};
+ghost use Rattle.savi_history.specs.CameFirst.{IsLiveAtEnd, IsLostSince};
+ghost use Rattle.savi_history.specs.Events.{Frame};
+ghost use Rattle.savi_history.specs.Moments.{last_moment, moment_at};
+ghost use Rattle.savi_access.specs.Rules.{IsAccessBase};
+ghost use Rattle.savi_access.specs.Marks.{base_at};
+ghost use Rattle.savi_history.specs.Vlans.{the_vlan};
+ghost use Rattle.savi_access.specs.Plans.{rules_of};
+ghost use Rattle.savi_kinds.specs.declared.plan.Method.{Method};
+ghost use Rattle.savi_kinds.specs.declared.plan.Role.TheVariants.{Trusted};
+ghost use Rattle.eth_frame.specs.declared.header.Eth.{Eth};
+ghost use Rattle.v6_chain.specs.declared.packet.Ip.{Ip};
+ghost use Rattle.frame_class.specs.declared.classes.Class.TheVariants.{Ip6};
+ghost use Rattle.frame_class.specs.declared.classes.Read.{Read};
+ghost use Rattle.fcfs_states.specs.States.{Same};
+ghost use Rattle.mix_rules.specs.Next.{IsPass};
 ghost use Rattle.savi_history.specs.Readable.{IsInput};
 ghost use Rattle.savi_history.specs.Replay.{Stops, replayed};
 ghost use Rattle.savi_history.specs.Adverts.{IsGuarded};
+ghost use Rattle.savi_history.specs.Accesses.{AllPassedRightly, IsTold};
+ghost use Rattle.hex.specs.Hex.{IsBytes};
 ghost use Rattle.savi_history.specs.Endings.{has_failed, has_failed_write};
 ghost use Rattle.savi_history.specs.PortInputs.{input_end};
 ghost use Rattle.savi_history.specs.PortOutputs.{FitsOutputAt, TookPieces, output_end, pieces};
-ghost use Rattle.savi_history.specs.Judged.{judged, unmarked, verdict_by};
+ghost use Rattle.savi_history.specs.Judged.{judged_of, verdict_of};
+ghost use Rattle.savi_history.specs.Limits.{IsWithinLimits};
+ghost use Rattle.savi_history.specs.Marks.{marks};
+ghost use Rattle.savi_access.specs.Judged.{judged_without};
 ghost use Rattle.savi_history.specs.Offers.{offers};
+ghost use Rattle.savi_history.specs.Ticks.{TickLeaves};
 ghost use Rattle.savi_history.specs.Passes.{role_of};
-ghost use Rattle.frame_class.specs.declared.classes.Class.{Class};
+ghost use Rattle.frame_class.specs.ClassOf.{class_of};
+ghost use Rattle.savi_kinds.specs.Ports.{number_of};
+ghost use Rattle.savi_kinds.specs.declared.port.Port.{Port};
 ghost use Rattle.ra_guard.specs.GuardOf.{guard_of};
 ghost use Rattle.savi_history.specs.Queues.{queue, sent};
 ghost use Rattle.savi_history.specs.QueueLaws.{came, NeverFailed, AreCounted, AreCut};
 ghost use Rattle.savi_history.specs.Journals.{IsAddressText, IsJournalOfOne};
+
+use savi_access::states_and_requests_stay_a_base;
 
 /// In a legal history no router advertisement that the header chain shows, and no first fragment whose chain is cut,
 /// passes a port of a host or a server (RFC 6105, RFC 7113, RFC 7112 section 5).
 pub fn adverts_are_stopped()
     ensures { (plan : Plan) (base : Base) (past : List Row) → IsLegal plan base past → IsGuarded plan past }
 {}
+
+/// In a legal history of a switch that validates sources, an IPv6 frame at a port of a host or a server passes exactly where no
+/// rule on messages stops it and its source is live there, or a named exception permits it (RFC 6620 section 3.2, RFC 7513
+/// section 5, RFC 8074).
+pub fn packets_pass_where_their_source_is_live()
+    ensures { (plan : Plan) (base : Base) (past : List Row) → IsValidPlan plan → IsWithinLimits plan base → plan.savi ≡ true
+        → IsLegal plan base past → All (λ r. IsBytes r.octets) past → AllPassedRightly plan base past }
+{}
+
+/// First come, first served, over histories of a switch that validates sources. An address was live at a port at some
+/// moment, and a frame that came in later at another port of a host or a server passes with that address as its source. Then
+/// its first port had lost it by one of three causes.
+pub fn histories_keep_who_came_first()
+    ensures { (plan : Plan) (base : Base) (early late : List Row) (p q : Port) (stamp : ℕ) (octets : List ℕ) (eth : Eth) (ip : Ip) (read : Read) (m : Method)
+        → IsValidPlan plan → IsWithinLimits plan base → plan.savi ≡ true
+        → IsLegal plan base (late ++ early) → All (λ r. IsBytes r.octets) (late ++ early)
+        → MayCome plan base (late ++ early) (Frame q stamp octets) → class_of octets ≡ Ip6 eth ip read
+        → role_of plan (number_of q) ≢ Trusted → (rules_of plan).addresses.method_of the_vlan ip.src.0 ≡ Some m
+        → IsLiveAtEnd plan base early ip.src.0 p → ¬ Same q p
+        → IsPass (Some (verdict_of plan base (late ++ early) q stamp octets))
+        → IsLostSince plan base early late (moment_at base (late ++ early) stamp) ip.src.0 m p }
+{}
+
+/// The start of a switch with a valid plan is within the limits.
+pub fn a_switch_starts_within_limits()
+    ensures { (plan : Plan) → IsValidPlan plan → IsWithinLimits plan empty }
+{}
+
+/// What the frames of a legal history tell may be told one after the other. So the states of addresses and the open requests
+/// at its last moment are within their limits: no port holds more addresses than it may, or has more than 16 requests.
+pub fn histories_tell_rightly()
+    ensures told { (plan : Plan) (base : Base) (past : List Row) → IsValidPlan plan → IsWithinLimits plan base
+        → IsLegal plan base past → All (λ r. IsBytes r.octets) past → IsTold plan base past }
+    ensures limits { (plan : Plan) (base : Base) (past : List Row) → IsValidPlan plan → IsWithinLimits plan base
+        → IsLegal plan base past → All (λ r. IsBytes r.octets) past
+        → IsAccessBase (rules_of plan) (base_at (rules_of plan) (access_of base) (marks plan base past) (last_moment base past)) }
+{
+    states_and_requests_stay_a_base();
+}
 
 /// No more items wait at a port than the plan's depth.
 pub fn queues_stay_within_depth()
@@ -54,11 +118,20 @@ pub fn frames_are_cut_for_want_of_room()
     ensures { (plan : Plan) (base : Base) (past : List Row) → IsLegal plan base past → AreCut plan base past }
 {}
 
-/// Validation isn't defined yet: where sources aren't validated, no entry calls for probes, and no frame tells anything of
-/// addresses.
+/// A tick lets time pass, and changes nothing of what comes: from its moment on all states of addresses, open requests and
+/// live stations are as they are without it, and so are the verdict on a frame that comes next and the ports to which it
+/// goes. Only the probes that fall due by then are queued by the tick, and no longer by the entry that comes next.
+pub fn ticks_change_nothing_later()
+    ensures { (plan : Plan) (base : Base) (past : List Row) (stamp : ℕ) → TickLeaves plan base past stamp }
+{}
+
+/// Where sources aren't validated, no frame tells anything of addresses and the guard decides alone. No entry calls for probes
+/// then, if no address had a state to begin with.
 pub fn probes_come_with_validation()
-    ensures offers { (plan : Plan) (base : Base) (past : List Row) (act : Act) (octets : List ℕ) → plan.savi ≡ false → offers plan base past act octets ≡ [] }
-    ensures marks { (vlan port moment : ℕ) (plan : Plan) (base : Base) (past : List Row) (class : Class) → plan.savi ≡ false → judged vlan plan base past port moment class ≡ unmarked (verdict_by (guard_of (role_of plan port) plan.drop_unknown class)) }
+    ensures offers { (plan : Plan) (base : Base) (past : List Row) (act : Act) (octets : List ℕ) → plan.savi ≡ false → base.rows the_vlan ≡ [] → offers plan base past act octets ≡ [] }
+    ensures marks { (plan : Plan) (base : Base) (past : List Row) → plan.savi ≡ false → marks plan base past ≡ [] }
+    ensures judged { (plan : Plan) (base : Base) (past : List Row) (port : Port) (stamp : ℕ) (octets : List ℕ) → plan.savi ≡ false
+        → judged_of plan base past port stamp octets ≡ judged_without [] (guard_of (role_of plan (number_of port)) plan.drop_unknown (class_of octets)) }
 {}
 
 /// In the history of a replay of one input for each port of the plan, every pass has ended, whichever writes failed.

@@ -43,6 +43,7 @@ moved_did left written source_faults sink_faults plan Says Says' old new f f' i 
   alone = r.alone;
   summed = moved_summed written sink_faults Says Says' r.past r.journal_written (old.std Out) (new.std Out) (s Out) (s' Out) status same same' says r.summed;
   guarded = r.guarded;
+  access = r.access;
 }
 
 pub moved_session : {S K C : Type 0} (left : S → Option (List ℕ)) (written : K → Option (List ℕ)) (source_faults : S → ℕ) (sink_faults : K → ℕ) (plan : Plan) (Says Says' : List ℕ → Type 0) (old new : Book S K C) (f f' : ℕ) (i i' : List ℕ → Place S) (s s' : Std → Place K) (status : ℕ)

@@ -24,6 +24,8 @@ use Rattle.hist_store.specs.Rows.{Row}
 use Rattle.hist_store.specs.JournalTexts.{journal_text, address_text}
 use Rattle.savi_history.specs.Bases.{empty}
 use Rattle.savi_history.proofs.Guarded.{guarded}
+use Rattle.savi_history.proofs.Starting.{empty_within}
+use Rattle.savi_history.proofs.Telling.{passed_rightly}
 use Rattle.savi_history.proofs.AddressTexts.{written-IsAddressText}
 use Rattle.savi_history.proofs.OneHistory.{journal_tells}
 use Rattle.port_worker.specs.declared.port_ends.PortEnds.{PortEnds}
@@ -212,6 +214,7 @@ session_of left written source_faults sink_faults plan Says held back sink sink'
     alone = λ plan' past' other. journal_tells address_text written-IsAddressText plan plan' past past' _ played.tells other;
     summed = summed;
     guarded = guarded plan empty past played.legal;
+    access = λ on. passed_rightly plan played.tells.valid empty (empty_within plan played.tells.valid) on past played.legal played.tells.octets;
   };
 }
 

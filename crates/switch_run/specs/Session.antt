@@ -14,6 +14,7 @@ use Rattle.savi_history.specs.Legal.{IsLegal}
 use Rattle.savi_history.specs.Endings.{has_failed, has_failed_write, has_malformed, has_full}
 use Rattle.savi_history.specs.EndLines.{end_lines}
 use Rattle.savi_history.specs.Adverts.{IsGuarded}
+use Rattle.savi_history.specs.Accesses.{AllPassedRightly}
 use Rattle.savi_history.specs.Journals.{IsJournalOf, IsSame}
 use Rattle.savi_history.specs.Summary.{summary_of, summary_text}
 use Rattle.savi_conf.specs.declared.fault.ConfFault.{ConfFault}
@@ -53,8 +54,9 @@ pub record IsSummed {K : Type 0} (written : K → Option (List ℕ)) (faults : K
 -- A replay with this plan: one history, legal and finished, is the replay of what the sources of the plan's ports gave to
 -- sinks that stop so; the ends of each port are kept in their own place, and the history fits what was given up and taken
 -- there; the journal took its text, which is that of no other legal history, or a front of it where a write failed; the
--- history is summed up on the standard outputs and in the status; and no advertisement and no hidden fragment passed the
--- port of a host or a server.
+-- history is summed up on the standard outputs and in the status; no advertisement and no hidden fragment passed the port of a
+-- host or a server; and where sources are validated, an IPv6 frame passed such a port exactly where no rule on messages
+-- stopped it and its source was live there, or a named exception permitted it.
 pub record IsReplayOf {S K C : Type 0} (left : S → Option (List ℕ)) (written : K → Option (List ℕ)) (source_faults : S → ℕ) (sink_faults : K → ℕ) (plan : Plan) (Says : List ℕ → Type 0) (old new : Book S K C) (status : ℕ) : Type 0 where
   pub past : List Row
   pub legal : IsLegal plan empty past
@@ -67,6 +69,8 @@ pub record IsReplayOf {S K C : Type 0} (left : S → Option (List ℕ)) (written
   pub alone : (plan' : Plan) (past' : List Row) → IsJournalOf address_text plan' past' (journal_text address_text plan (reverse past)) → IsSame plan past plan' past'
   pub summed : IsSummed written sink_faults Says past journal_written (old.std Out) (new.std Out) status
   pub guarded : IsGuarded plan past
+  -- where sources are validated
+  pub access : plan.savi ≡ true → AllPassedRightly plan empty past
 
 -- A session of this plan: it was a replay, and no other port or output was touched.
 pub record IsSessionOf {S K C : Type 0} (left : S → Option (List ℕ)) (written : K → Option (List ℕ)) (source_faults : S → ℕ) (sink_faults : K → ℕ) (plan : Plan) (Says : List ℕ → Type 0) (old new : Book S K C) (status : ℕ) : Type 0 where

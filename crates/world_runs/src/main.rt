@@ -6,6 +6,7 @@
 //!
 //!     name NAME DIGITS     octets in hexadecimal digits; in what is printed their name stands for them
 //!     plan                 forgets the plan, the head of its journal and the captures
+//!     captures             forgets the captures
 //!     line TEXT            a line of the configuration
 //!     head TEXT            a line that its journal begins with; where it does, what stands behind that head is printed
 //!     capture OCTETS..     what the next port's input holds

@@ -63,6 +63,7 @@ impl Scene {
                 self.head = String::new(alloc);
                 self.captures = Vec::new(alloc);
             }
+            "captures" => self.captures = Vec::new(alloc),
             "line" => add_line(&mut self.plan, rest)?,
             "head" => add_line(&mut self.head, rest)?,
             "capture" => {

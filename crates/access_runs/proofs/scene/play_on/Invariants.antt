@@ -1,5 +1,5 @@
 use Rattle.std.proofs.Common.{ℕ}
-use Rattle.access_table.specs.Plans.{rules_of}
+use Rattle.savi_access.specs.Plans.{rules_of}
 use Rattle.access_table.specs.Kept.{IsReady}
 use Rattle.access_runs.proofs.scene.play_on.Given as goal
 

@@ -1,4 +1,4 @@
-use Rattle.access_table.specs.Plans.{rules_of}
+use Rattle.savi_access.specs.Plans.{rules_of}
 use Rattle.access_runs.proofs.switch.age.Goals as goal
 
 pub returns : goal.returns

@@ -1,5 +1,5 @@
 use Rattle.std.proofs.Common.{◌≡◌, drop}
-use Rattle.access_table.specs.Plans.{method_among}
+use Rattle.savi_access.specs.Plans.{method_among}
 use Rattle.access_table.proofs.plans.method_of.Given as goal
 
 abbrev pub invariant-loop-p : goal.invariant-loop-p

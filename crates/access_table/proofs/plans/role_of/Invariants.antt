@@ -1,6 +1,6 @@
 use Rattle.std.proofs.Common.{◌≡◌, drop}
 use Rattle.savi_kinds.specs.Ports.{number_of}
-use Rattle.access_table.specs.Plans.{role_among}
+use Rattle.savi_access.specs.Plans.{role_among}
 use Rattle.access_table.proofs.plans.role_of.Given as goal
 
 abbrev pub invariant-loop-p : goal.invariant-loop-p

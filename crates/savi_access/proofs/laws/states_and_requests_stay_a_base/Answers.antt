@@ -1,4 +1,4 @@
-use Rattle.std.proofs.Common.{ℕ, ◌≤◌, ◌^◌, List, arith}
+use Rattle.std.proofs.Common.{arith}
 use Rattle.std.proofs.lemmas.List.Elements.{All-nil}
 use Rattle.savi_access.specs.Rules.{IsRequestOf}
 use Rattle.savi_access.specs.Marks.{told}

@@ -1,4 +1,4 @@
-use Rattle.access_table.specs.Plans.{rules_of}
+use Rattle.savi_access.specs.Plans.{rules_of}
 use Rattle.access_table.proofs.Stepping.{answers_follow}
 use Rattle.access_table.proofs.table.AccessTable.event.Goals as goal
 

@@ -3,7 +3,7 @@ use Rattle.dhcp6_read.specs.declared.message.Lease.{Lease as Offered}
 use Rattle.fcfs_states.specs.declared.event.Ev.TheVariants.{Release}
 use Rattle.savi_access.specs.Rules.{AccessRules}
 use Rattle.savi_access.specs.Judged.{with_events}
-use Rattle.access_table.specs.Plans.{rules_of}
+use Rattle.savi_access.specs.Plans.{rules_of}
 use Rattle.access_table.specs.Steps.{Moves}
 use Rattle.access_table.proofs.table.AccessTable.give_up.Goals as goal
 

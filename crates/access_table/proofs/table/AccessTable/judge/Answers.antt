@@ -9,8 +9,8 @@ use Rattle.savi_access.specs.Rules.{AccessRules}
 use Rattle.savi_access.specs.Marks.{Mark}
 use Rattle.savi_access.specs.Judged.{Judged, judged_by}
 use Rattle.access_table.specs.declared.judgement.Judgement.{Judgement}
-use Rattle.access_table.specs.Plans.{rules_of, role_of}
-use Rattle.access_table.proofs.Own.{own_vlan}
+use Rattle.savi_access.specs.Plans.{rules_of, role_of}
+use Rattle.savi_access.proofs.PlanRules.{own_vlan}
 use Rattle.access_table.proofs.Following.{comes_plainly, judged_first, judged_next, judged_off, judged_host, trusted_role, vlan_of_role}
 use Rattle.access_table.proofs.table.AccessTable.judge.Goals as goal
 

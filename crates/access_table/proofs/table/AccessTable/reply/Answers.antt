@@ -4,7 +4,7 @@ use Rattle.savi_access.specs.Rules.{AccessRules}
 use Rattle.savi_access.specs.Frames.{answered_duid}
 use Rattle.savi_access.specs.Judged.{with_events}
 use Rattle.access_table.specs.declared.change.Change.TheVariants.{Leased}
-use Rattle.access_table.specs.Plans.{rules_of}
+use Rattle.savi_access.specs.Plans.{rules_of}
 use Rattle.access_table.specs.Events.{event_of}
 use Rattle.access_table.specs.Steps.{Moves}
 use Rattle.access_table.proofs.Stepping.{reply_asked}

@@ -4,7 +4,7 @@ use Rattle.fcfs_states.specs.declared.event.Ev.TheVariants.{Sent}
 use Rattle.savi_access.specs.Rules.{AccessRules, AccessBase}
 use Rattle.savi_access.specs.Marks.{Mark}
 use Rattle.savi_access.specs.Judged.{Judged, answered_or, is_passed}
-use Rattle.access_table.specs.Plans.{rules_of}
+use Rattle.savi_access.specs.Plans.{rules_of}
 use Rattle.access_table.proofs.Following.{passes_on, stops_here}
 use Rattle.access_table.proofs.table.AccessTable.sourced.Goals as goal
 

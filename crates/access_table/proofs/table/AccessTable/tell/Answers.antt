@@ -1,6 +1,6 @@
 use Rattle.std.proofs.Common.{◌≡◌, Some, is_some, refl, ap, sym, ◌∙◌, subst}
 use Rattle.savi_access.specs.Rules.{AccessRules}
-use Rattle.access_table.specs.Plans.{rules_of, method_in}
+use Rattle.savi_access.specs.Plans.{rules_of, method_in}
 use Rattle.access_table.specs.Kept.{Kept, IsReady}
 use Rattle.access_table.specs.Steps.{Hears}
 use Rattle.access_table.proofs.Standing.{event_answer, event_stands, event_ready}

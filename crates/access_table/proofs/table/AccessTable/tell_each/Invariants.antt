@@ -2,7 +2,7 @@ use Rattle.std.proofs.Common.{◌≡◌, Some, take}
 use Rattle.savi_kinds.specs.Ports.{number_of}
 use Rattle.savi_kinds.specs.declared.port.Port.{Port}
 use Rattle.savi_access.specs.Judged.{with_events}
-use Rattle.access_table.specs.Plans.{rules_of, vlan_among}
+use Rattle.savi_access.specs.Plans.{rules_of, vlan_among}
 use Rattle.access_table.specs.Kept.{IsReady}
 use Rattle.access_table.specs.Events.{port_of, event_of}
 use Rattle.access_table.specs.Steps.{Moves}

@@ -2,7 +2,7 @@ use Rattle.std.proofs.Common.{Some, None, ap}
 use Rattle.savi_access.specs.Rules.{AccessRules}
 use Rattle.savi_access.specs.Frames.{asking_duid}
 use Rattle.access_table.specs.declared.judgement.Judgement.{Judgement}
-use Rattle.access_table.specs.Plans.{rules_of}
+use Rattle.savi_access.specs.Plans.{rules_of}
 use Rattle.access_table.proofs.Stepping.{asks_for}
 use Rattle.access_table.proofs.table.AccessTable.to_server.Goals as goal
 

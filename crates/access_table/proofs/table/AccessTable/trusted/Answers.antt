@@ -4,7 +4,7 @@ use Rattle.fcfs_states.specs.declared.event.Ev.TheVariants.{TpDad, TpNa}
 use Rattle.savi_access.specs.Rules.{AccessRules}
 use Rattle.savi_access.specs.Frames.{advertised, dhcp_to}
 use Rattle.savi_access.specs.Judged.{trusted, heard_or, to_client_or_other}
-use Rattle.access_table.specs.Plans.{rules_of}
+use Rattle.savi_access.specs.Plans.{rules_of}
 use Rattle.access_table.specs.Steps.{ComesTo}
 use Rattle.access_table.proofs.table.AccessTable.trusted.Goals as goal
 

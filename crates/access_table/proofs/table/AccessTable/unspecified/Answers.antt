@@ -1,7 +1,7 @@
 use Rattle.std.proofs.Common.{ℕ, Option, subst}
 use Rattle.savi_access.specs.Rules.{AccessRules}
 use Rattle.savi_access.specs.Judged.{unspecified_by}
-use Rattle.access_table.specs.Plans.{rules_of}
+use Rattle.savi_access.specs.Plans.{rules_of}
 use Rattle.access_table.specs.Steps.{ComesTo}
 use Rattle.access_table.proofs.table.AccessTable.unspecified.Goals as goal
 

@@ -1,6 +1,7 @@
-use Rattle.std.proofs.Common.{◌≡◌, ◌≤◌, min, take, length, reverse, sym, subst, ap, ◌∙◌, arith, true, refl, []}
+use Rattle.std.proofs.Common.{◌≡◌, ◌≤◌, min, take, map, get_or, length, reverse, sym, subst, ap, ◌∙◌, arith, true, refl, []}
 use Rattle.std.proofs.lemmas.List.{nil_from_length}
 use Rattle.savi_kinds.specs.Ports.{number_of}
+use Rattle.savi_kinds.specs.declared.plan.Plan.{Plan}
 use Rattle.savi_kinds.specs.declared.entry.Entry.{Entry}
 use Rattle.savi_kinds.specs.declared.entry.Who.TheVariants.{Egress}
 use Rattle.savi_history.specs.Bases.{empty}
@@ -12,8 +13,13 @@ use Rattle.savi_history.proofs.Closed.{waits_open}
 use Rattle.savi_core.specs.Machines.{Machine, queue_at, with_event}
 use Rattle.savi_core.specs.Steps.{entry_of, count_of}
 use Rattle.savi_core.specs.Lanes.{Lane, no_lane}
-use Rattle.savi_core.proofs.Remembering.{lane_at, waits_at}
-use Rattle.savi_core.proofs.Stepping.{row, lane_in, frames_in, drain_fits, remembers_drain, stepped_view}
+use Rattle.savi_core.specs.Rings.{Rings}
+use Rattle.savi_core.specs.Waits.{shown}
+use Rattle.savi_core.proofs.Remembering.{waits_at}
+use Rattle.savi_core.proofs.Showing.{lane_at, lane_in, there_in}
+use Rattle.savi_core.proofs.Stepping.{row, drain_fits, remembers_drain, stepped_view}
+use Rattle.savi_core.proofs.Knowing.{knows_drain}
+use Rattle.savi_core.proofs.Telling.{tells_drain}
 use Rattle.savi_core.proofs.machine.Core.drain.Goals as goal
 
 pub len-requires : goal.len-requires
@@ -21,7 +27,7 @@ len-requires c =
     let inside = c.self.inside in
     let number = number_of c.args.port in
     let known : has_port inside.ports number ≡ true = ap (λ (m : Machine). has_port m.plan number) c.self.view_is ∙ c.requires.port in
-    lane_in c.self.invariant.0 number c.place_of-place.result known c.place_of-place.ensures.place
+    lane_in c.self.invariant.0.queues number c.place_of-place.result known c.place_of-place.ensures.place
 
 pub returns-then-count-eq0 : goal.returns-then-count-eq0
 returns-then-count-eq0 c =
@@ -37,14 +43,14 @@ drain-requires-clause-place c =
     let inside = c.self.inside in
     let number = number_of c.args.port in
     let known : has_port inside.ports number ≡ true = ap (λ (m : Machine). has_port m.plan number) c.self.view_is ∙ c.requires.port in
-    lane_in c.self.invariant.0 number c.place_of-place.result known c.place_of-place.ensures.place
+    lane_in c.self.invariant.0.queues number c.place_of-place.result known c.place_of-place.ensures.place
 
-pub drain-requires-clause-frames : goal.drain-requires-clause-frames
-drain-requires-clause-frames c =
+pub drain-requires-clause-there : goal.drain-requires-clause-there
+drain-requires-clause-there c =
     let inside = c.self.inside in
     let number = number_of c.args.port in
     let known : has_port inside.ports number ≡ true = ap (λ (m : Machine). has_port m.plan number) c.self.view_is ∙ c.requires.port in
-    frames_in c.self.invariant.0 number c.place_of-place.result no_lane known c.place_of-place.ensures.place
+    there_in c.self.invariant.0.queues number c.place_of-place.result no_lane known c.place_of-place.ensures.place
 
 pub append-requires-clause-room : goal.append-requires-clause-room
 append-requires-clause-room c =
@@ -70,10 +76,12 @@ invariant_of-self c =
     record { known = known; running = waits_open inside.ports (reverse rows) number c.self.invariant.0.legal known (omega (arith, least, most)) } in
     let e_is = subst (λ (m : Machine). e ≡ entry_of m event) (sym c.self.view_is) c.drain_entry-entry.ensures in
     rw c.append.ensures (
-      remembers_drain c.self.invariant.0 c.args.port count c.place_of-place.result no_lane e c.drain.new.self (open_pass, least, most) e_is c.place_of-place.ensures.place c.drain.ensures.left,
+      remembers_drain c.self.invariant.0 c.args.port count c.place_of-place.result no_lane e c.drain.new.self.lanes (open_pass, least, most) e_is c.place_of-place.ensures.place (ap (λ (r : Rings). r.lanes) c.drain.ensures.left),
       c.self.invariant.1,
       c.self.invariant.2,
       c.self.invariant.3,
+      knows_drain c.self.invariant.0 inside.fdb c.self.invariant.4 c.args.port count e e_is,
+      tells_drain c.self.invariant.0 inside.access c.self.invariant.5 c.args.port count e e_is,
     )
 
 pub returns : goal.returns
@@ -88,12 +96,13 @@ returns c =
     let known : has_port inside.ports number ≡ true = ap (λ (x : Machine). has_port x.plan number) c.self.view_is ∙ c.requires.port in
     let queue_is : queue inside.ports empty number (reverse rows) ≡ queue_at m port = ap (λ (x : Machine). queue_at x port) c.self.view_is in
     let size = waits_at c.self.invariant.0 number c.place_of-place.result no_lane known c.place_of-place.ensures.place in
-    let items_are = ap (λ (lane : Lane Item). lane.items) (lane_at c.self.invariant.0 number c.place_of-place.result no_lane known c.place_of-place.ensures.place) in
+    let items_are = ap (λ (lane : Lane Item). lane.items) (lane_at c.self.invariant.0.queues number c.place_of-place.result no_lane known c.place_of-place.ensures.place) in
     let waits : c.len.result ≡ length (queue_at m port) = omega (arith, c.len.ensures, size, ap length queue_is) in
     let count_is : count ≡ count_of m port c.args.most = c.min-count.ensures ∙ ap (min c.args.most) waits in
     let e_is = subst (λ (x : Machine). e ≡ entry_of x (events.Drain port count)) (sym c.self.view_is) c.drain_entry-entry.ensures in (
       (λ none. c.if-count-eq0.false (omega (arith, count_is, ap length none))),
-      c.drain.ensures.taken ∙ ap (take count) (items_are ∙ queue_is) ∙ ap (λ n. take n (queue_at m port)) count_is,
+      c.drain.ensures.taken ∙ ap (λ (p : Plan). take count (map (shown p.mac rows) (get_or inside.queues.lanes c.place_of-place.result no_lane).items)) c.plan.ensures.plan
+          ∙ ap (take count) (items_are ∙ queue_is) ∙ ap (λ n. take n (queue_at m port)) count_is,
       rw c.append.ensures (stepped_view inside.ports rows e [] (events.Drain port count) m c.self.view_is (ap (λ (x : Entry). row x []) e_is)
           ∙ ap (λ n. with_event m (events.Drain port n)) count_is),
       c.drain_entry-entry.ensures ∙ ap (λ n. entry_of m (events.Drain port n)) count_is,

@@ -7,8 +7,11 @@ use Rattle.savi_core.specs.Machines.{Machine, base_of}
 use Rattle.savi_core.specs.Steps.{entry_of}
 use Rattle.savi_core.specs.PassMarks.{PassMarks}
 use Rattle.savi_core.proofs.Places.{pass_within}
-use Rattle.savi_core.proofs.Remembering.{pass_small, lane_count}
+use Rattle.savi_core.proofs.Remembering.{pass_small}
+use Rattle.savi_core.proofs.Showing.{lane_count}
 use Rattle.savi_core.proofs.Stepping.{end_fits, remembers_pass}
+use Rattle.savi_core.proofs.Knowing.{knows_end}
+use Rattle.savi_core.proofs.Telling.{tells_end}
 use Rattle.savi_core.proofs.machine.Core.end.Goals as goal
 
 pub end-requires-clause-pass : goal.end-requires-clause-pass
@@ -37,7 +40,7 @@ end-requires-2-clause-known c =
     may.0.known
 
 pub end-requires-2-clause-count : goal.end-requires-2-clause-count
-end-requires-2-clause-count c = lane_count c.self.invariant.0
+end-requires-2-clause-count c = lane_count c.self.invariant.0.queues
 
 pub append-requires-clause-room : goal.append-requires-clause-room
 append-requires-clause-room c =
@@ -52,8 +55,10 @@ invariant_of-self c =
     let may = subst (λ (m : Machine). MayCome m.plan (base_of m) m.past event) (sym c.self.view_is) c.requires in
     let e_is = subst (λ (m : Machine). e ≡ entry_of m event) (sym c.self.view_is) c.end_entry-entry.ensures in
     rw c.append.ensures (
-      remembers_pass c.self.invariant.0 c.args.who c.args.how e c.end.new.self.ended c.end-2.new.self may e_is (ap (λ (m : PassMarks). m.ended) c.end.ensures) c.end-2.ensures,
+      remembers_pass c.self.invariant.0 c.args.who c.args.how e c.end.new.self.ended c.end-2.new.self.lanes may e_is (ap (λ (m : PassMarks). m.ended) c.end.ensures) c.end-2.ensures.lanes,
       c.self.invariant.1,
       c.self.invariant.2,
       ap (λ (m : PassMarks). m.inputs) c.end.ensures ∙ c.self.invariant.3,
+      knows_end c.self.invariant.0 c.self.inside.fdb c.self.invariant.4 c.args.who c.args.how e e_is,
+      tells_end c.self.invariant.0 c.self.inside.access c.self.invariant.5 c.args.who c.args.how e e_is,
     )

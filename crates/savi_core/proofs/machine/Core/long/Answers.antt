@@ -1,21 +1,84 @@
-use Rattle.std.proofs.Common.{◌≡◌, sym, subst, ◌∙◌}
+use Rattle.std.proofs.Common.{ℕ, ◌≡◌, ◌^◌, min, max, [], reverse, Some, refl, sym, subst, ap, ◌∙◌, arith}
+use Rattle.savi_kinds.specs.declared.plan.Plan.{Plan}
+use Rattle.savi_kinds.specs.declared.entry.Entry.{Entry}
+use Rattle.savi_kinds.specs.declared.entry.Act.TheVariants as acts
+use Rattle.savi_kinds.specs.declared.verdict.Rule.TheVariants.{Malformed}
+use Rattle.savi_kinds.specs.declared.verdict.Verdict.TheVariants.{Drop}
+use Rattle.savi_access.specs.Plans.{rules_of}
+use Rattle.access_table.specs.Kept.{IsReady}
+use Rattle.savi_history.specs.Bases.{empty, access_of}
+use Rattle.savi_history.specs.Moments.{moment_at}
+use Rattle.savi_history.specs.Marks.{marks}
 use Rattle.savi_history.specs.Events as events
 use Rattle.savi_history.specs.Legal.{MayCome}
 use Rattle.savi_core.specs.Machines.{Machine, base_of}
+use Rattle.savi_core.specs.Judges.{Ages}
 use Rattle.savi_core.specs.Steps.{entry_of}
-use Rattle.savi_core.proofs.Stepping.{may_long, remembers_long}
+use Rattle.savi_core.proofs.FrameEntries.{long_entry_is}
+use Rattle.savi_core.proofs.Knowing.{knows_long}
+use Rattle.savi_core.proofs.Telling.{long_offers, tells_long}
+use Rattle.savi_core.proofs.AgedAndJudged.{early_now, aged_here, states_aged, shows_aged, counts_aged}
+use Rattle.savi_core.proofs.Stepping.{row, may_long, remembers_long, stepped_view}
 use Rattle.savi_core.proofs.machine.Core.long.Goals as goal
+
+moment_is : (c : goal.After-append) → c.moment_at-moment.result ≡ moment_at empty (reverse c.self.inside.hist.rows) c.args.stamp
+moment_is c = c.moment_at-moment.ensures ∙ ap (λ n. max n (min c.args.stamp (2 ^ 62))) c.self.invariant.0.last
+
+pub age-requires-clause-moment : goal.age-requires-clause-moment
+age-requires-clause-moment c = early_now c.self.invariant.0 c.args.stamp c.moment_at-moment.result (c.moment_at-moment.ensures ∙ ap (λ n. max n (min c.args.stamp (2 ^ 62))) c.self.invariant.0.last)
+
+pub age-requires-clause-ready : goal.age-requires-clause-ready
+age-requires-clause-ready c = subst (λ (p : Plan). IsReady (rules_of p) c.self.inside.moment c.self.inside.access) (sym c.plan.ensures.plan) c.self.invariant.5.ready
+
+ages : (c : goal.After-append) → Ages (rules_of c.self.inside.ports) c.self.inside.moment c.moment_at-moment.result c.age.new.access c.self.inside.queues c.age.new.queues (access_of empty) (marks c.self.inside.ports empty (reverse c.self.inside.hist.rows))
+ages c =
+    let inside = c.self.inside in
+    aged_here c.self.invariant.0 inside.access c.self.invariant.5 c.plan.result.now c.plan.ensures.plan c.moment_at-moment.result (omega (arith, c.moment_at-moment.ensures)) c.age.new.access inside.queues c.age.new.queues c.age.ensures.aged
+
+ready : (c : goal.After-append) → IsReady (rules_of c.self.inside.ports) (moment_at empty (reverse c.self.inside.hist.rows) c.args.stamp) c.age.new.access
+ready c =
+    subst (λ (t : ℕ). IsReady (rules_of c.self.inside.ports) t c.age.new.access) (moment_is c)
+    (subst (λ (p : Plan). IsReady (rules_of p) c.moment_at-moment.result c.age.new.access) c.plan.ensures.plan c.age.ensures.ready)
+
+abbrev inner : (c : goal.After-append) → Machine
+inner c = record { plan = c.self.inside.ports; past = reverse c.self.inside.hist.rows }
+
+abbrev stored : (c : goal.After-append) → Entry
+stored c = record c.plain_entry.result { verdict = Some (Drop Malformed); probes = c.queued.result; lost = c.lost.result }
+
+-- the entry is that of the row, by what the core keeps
+inner_is : (c : goal.After-append) → stored c ≡ entry_of (inner c) (events.Long c.args.port c.args.stamp c.args.len)
+inner_is c =
+    let inside = c.self.inside in
+    let counts = counts_aged c.self.invariant.0 inside.access c.self.invariant.5 c.age.new.access inside.queues c.age.new.queues refl c.moment_at-moment.result c.args.stamp (moment_is c) (ages c) (acts.Long c.args.port c.args.stamp c.args.len) (long_offers inside.ports empty (reverse inside.hist.rows) c.args.port c.args.stamp c.args.len []) in
+    ap (λ (e : Entry). record e { verdict = Some (Drop Malformed); probes = c.queued.result; lost = c.lost.result }) c.plain_entry.ensures
+    ∙ long_entry_is (inner c) c.args.port c.args.stamp c.args.len c.pass_of-by.result c.moment_at-moment.result c.queued.result c.lost.result
+    c.pass_of-by.ensures (moment_is c) (c.queued.ensures ∙ counts.0) (c.lost.ensures ∙ counts.1)
+
+stored_is : (c : goal.After-append) → stored c ≡ entry_of c.args.self.now (events.Long c.args.port c.args.stamp c.args.len)
+stored_is c = inner_is c ∙ ap (λ (m : Machine). entry_of m (events.Long c.args.port c.args.stamp c.args.len)) c.self.view_is
 
 pub invariant_of-self : goal.invariant_of-self
 invariant_of-self c =
     let inside = c.self.inside in
     let event = events.Long c.args.port c.args.stamp c.args.len in
-    let e = c.long_entry-entry.result in
     let may = subst (λ (m : Machine). MayCome m.plan (base_of m) m.past event) (sym c.self.view_is) (may_long c.args.self.now c.args.port c.args.stamp c.args.len c.requires (sym c.has_room.ensures ∙ c.if-not-has_room.false) c.ranges.stamp.fits c.ranges.len.fits) in
-    let e_is = subst (λ (m : Machine). e ≡ entry_of m event) (sym c.self.view_is) c.long_entry-entry.ensures in
+    let shows = shows_aged c.self.invariant.0 inside.access c.self.invariant.5 c.age.new.access inside.queues c.age.new.queues refl c.moment_at-moment.result c.args.stamp (moment_is c) (ages c) (acts.Long c.args.port c.args.stamp c.args.len) (long_offers inside.ports empty (reverse inside.hist.rows) c.args.port c.args.stamp c.args.len []) in
+    let states = states_aged c.self.invariant.0 inside.access c.self.invariant.5 c.age.new.access inside.queues c.age.new.queues refl c.moment_at-moment.result c.args.stamp (moment_is c) (ages c) in
     rw c.append.ensures (
-      remembers_long c.self.invariant.0 c.args.port c.args.stamp c.args.len e may e_is,
+      remembers_long c.self.invariant.0 c.args.port c.args.stamp c.args.len (stored c) c.age.new.queues.lanes may (inner_is c) shows,
       c.self.invariant.1,
       c.self.invariant.2,
       c.self.invariant.3,
+      knows_long c.self.invariant.0 inside.fdb c.self.invariant.4 c.args.port c.args.stamp c.args.len (stored c) (inner_is c),
+      tells_long c.self.invariant.0 inside.access c.self.invariant.5 c.args.port c.args.stamp c.args.len (stored c) c.age.new.access (inner_is c) states (ready c),
+    )
+
+pub returns : goal.returns
+returns c =
+    let inside = c.self.inside in (
+      sym c.has_room.ensures ∙ c.if-not-has_room.false,
+      tt,
+      rw c.append.ensures (stepped_view inside.ports inside.hist.rows (stored c) [] (events.Long c.args.port c.args.stamp c.args.len) c.args.self.now c.self.view_is (ap (λ (x : Entry). row x []) (inner_is c))),
+      stored_is c,
     )

@@ -3,6 +3,7 @@ use Rattle.std.proofs.lemmas.List.{take_more, take_all, map-append}
 use Rattle.savi_kinds.specs.declared.plan.PortPlan.{PortPlan}
 use Rattle.egress_ring.specs.declared.item.Item.{Item as Queued}
 use Rattle.savi_core.specs.Lanes.{Lane, empty_lane}
+use Rattle.savi_core.specs.Rings.{Rings}
 use Rattle.savi_core.proofs.queues.Queues.make.Goals as goal
 
 pub loop-port-init : goal.loop-port-init
@@ -20,4 +21,6 @@ loop-port-preserved c =
     ∙ ap (map (empty_lane c.args.depth)) (sym (take_more ports i c.port-item.result (omega arith) ∙ ap (λ (p : PortPlan). take i ports ++ p ∷ []) (sym c.port-item.is)))
 
 pub returns : goal.returns
-returns c = c.loop-port.invariant ∙ ap (map (empty_lane c.args.depth)) (take_all c.loop-port.port-index c.args.ports.now (omega arith))
+returns c =
+    ap (λ (lanes : List (Lane Queued)). let r : Rings = record { lanes = lanes; queued = 0; lost = 0 } in r)
+    (c.loop-port.invariant ∙ ap (map (empty_lane c.args.depth)) (take_all c.loop-port.port-index c.args.ports.now (omega arith)))

@@ -1,0 +1,33 @@
+-- The queues of all ports, and the probes that they took and left out since both were last counted anew.
+use Rattle.std.specs.Prelude.{ℕ, ◌+◌, min, List, map}
+use Rattle.std.specs.List.{count_by}
+use Rattle.egress_ring.specs.declared.item.Item.{Item as Queued}
+use Rattle.egress_ring.specs.declared.item.Item.TheVariants as entries
+use Rattle.addr_table.specs.declared.sent.SentProbe.{SentProbe}
+use Rattle.savi_core.specs.Lanes.{Lane, with_probe, takes, leaves_out}
+
+pub record Rings : Type 0 where
+  pub lanes : List (Lane Queued)
+  -- how many probes joined, and how many were left out, over all ports; a count stays at 4,294,967,295 once it is there
+  pub queued : ℕ
+  pub lost : ℕ
+
+-- a count after so many more
+abbrev pub counted : ℕ → ℕ → ℕ
+counted count more = min (count + more) 4294967295
+
+-- the same with both counts at 0
+abbrev pub uncounted : Rings → Rings
+uncounted rings = record rings { queued = 0; lost = 0 }
+
+-- a probe as a ring keeps it
+abbrev pub ring_item : SentProbe → Queued
+ring_item sent = entries.Probe sent.due sent.address
+
+-- the queues once a probe was offered to each port to which it goes
+abbrev pub after_probe : Rings → SentProbe → Rings
+after_probe rings sent = record {
+  lanes = map (with_probe (ring_item sent) sent.probe) rings.lanes;
+  queued = counted rings.queued (count_by (takes sent.probe) rings.lanes);
+  lost = counted rings.lost (count_by (leaves_out sent.probe) rings.lanes);
+}

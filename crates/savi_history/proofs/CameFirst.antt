@@ -1,0 +1,121 @@
+-- First come, first served, over whole histories.
+use Rattle.std.proofs.Common.{◌≡◌, ◌≢◌, ℕ, ◌≤◌, ◌^◌, true, Some, List, [], ◌∷◌, ◌++◌, All, refl, sym, ap, subst, ◌∙◌, arith, append_assoc}
+use Rattle.std.proofs.lemmas.List.Elements.{All-head, All-tail}
+use Rattle.hex.specs.Hex.{IsBytes}
+use Rattle.savi_kinds.specs.declared.plan.Plan.{Plan}
+use Rattle.savi_kinds.specs.declared.plan.Method.{Method}
+use Rattle.savi_kinds.specs.declared.plan.Role.TheVariants as roles
+use Rattle.savi_kinds.specs.declared.port.Port.{Port}
+use Rattle.savi_kinds.specs.Ports.{number_of}
+use Rattle.savi_kinds.specs.ValidPlan.{IsValidPlan}
+use Rattle.eth_frame.specs.declared.header.Eth.{Eth}
+use Rattle.v6_chain.specs.declared.packet.Ip.{Ip}
+use Rattle.frame_class.specs.declared.classes.Class.{Class}
+use Rattle.frame_class.specs.declared.classes.Class.TheVariants.{Ip6}
+use Rattle.frame_class.specs.declared.classes.Read.{Read}
+use Rattle.frame_class.specs.ClassOf.{class_of}
+use Rattle.fcfs_states.specs.States.{Same}
+use Rattle.mix_rules.specs.Next.{IsPass}
+use Rattle.hist_store.specs.Rows.{Row}
+use Rattle.addr_history.specs.Marks.{Named, AreInTurn}
+use Rattle.savi_access.specs.Rules.{AccessRules, AccessBase}
+use Rattle.savi_access.specs.Marks.{Mark, Told, Asked, Met, told, moment_of, newest_moment}
+use Rattle.savi_access.specs.Legal.{AreMarks}
+use Rattle.savi_access.specs.Judged.{judged}
+use Rattle.savi_access.specs.Plans.{rules_of, role_of}
+use Rattle.savi_access.proofs.PlanRules.{own_ports, unspecified_off_link}
+use Rattle.savi_access.proofs.FirstCome.{keeps_first}
+use Rattle.savi_history.specs.Bases.{Base, access_of}
+use Rattle.savi_history.specs.Vlans.{the_vlan}
+use Rattle.savi_history.specs.Limits.{IsWithinLimits}
+use Rattle.savi_history.specs.Moments.{last_moment, moment_at}
+use Rattle.savi_history.specs.Marks.{marks}
+use Rattle.savi_history.specs.Judged.{verdict_of}
+use Rattle.savi_history.specs.Accesses.{IsTold}
+use Rattle.savi_history.specs.CameFirst.{IsLiveAtEnd, IsLostSince}
+use Rattle.savi_history.specs.Events.{Frame}
+use Rattle.savi_history.specs.Legal.{MayCome, IsLegal}
+use Rattle.savi_history.proofs.Telling.{AreOctets, early, risen, told_rightly, next_told}
+
+told_joined : (late before : List Mark) → told (late ++ before) ≡ told late ++ told before
+told_joined [] before = refl
+told_joined (Told named ∷ late) before = ap (λ l. named ∷ l) (told_joined late before)
+told_joined (Asked vlan request ∷ late) before = told_joined late before
+told_joined (Met vlan moment tid duid ∷ late) before = told_joined late before
+
+-- marks that may be told are in turn
+turns : (r : AccessRules) (base : AccessBase) (past : List Mark) (t : ℕ) → AreMarks r base past → newest_moment base past ≤ t → AreInTurn base.addresses.moment t (told past)
+turns r base [] t right after = after
+turns r base (Told named ∷ past) t right after = (after, turns r base past named.moment right.1 right.0.order)
+turns r base (Asked vlan request ∷ past) t right after = turns r base past t right.1 (omega (arith, right.0.order, after))
+turns r base (Met vlan moment tid duid ∷ past) t right after = turns r base past t right.1 (omega (arith, right.0.order, after))
+
+turn_later : (from t later : ℕ) (past : List Named) → t ≤ later → AreInTurn from t past → AreInTurn from later past
+turn_later from t later [] order turn = omega (arith, order, turn)
+turn_later from t later (named ∷ past) order turn = (omega (arith, order, turn.0), turn.1)
+
+-- marks of one moment in front
+turn_front : (from t : ℕ) (new : List Mark) (past : List Named) → All (λ (m : Mark). moment_of m ≡ t) new → AreInTurn from t past → AreInTurn from t (told new ++ past)
+turn_front from t [] past moments turn = turn
+turn_front from t (Told named ∷ new) past moments turn =
+    let here : named.moment ≡ t = All-head (λ (m : Mark). moment_of m ≡ t) (Told named) new moments in
+    let behind : AreInTurn from t (told new ++ past) = turn_front from t new past (All-tail (λ (m : Mark). moment_of m ≡ t) (Told named) new moments) turn in
+    (omega (arith, here), subst (λ (m : ℕ). AreInTurn from m (told new ++ past)) (sym here) behind)
+turn_front from t (Asked vlan request ∷ new) past moments turn = turn_front from t new past (All-tail (λ (m : Mark). moment_of m ≡ t) (Asked vlan request) new moments) turn
+turn_front from t (Met vlan moment tid duid ∷ new) past moments turn = turn_front from t new past (All-tail (λ (m : Mark). moment_of m ≡ t) (Met vlan moment tid duid) new moments) turn
+
+module _ (plan : Plan) (valid : IsValidPlan plan) (base : Base) (within : IsWithinLimits plan base) (first : List Row) where
+  -- what the rows behind the first ones told
+  record IsBehind (late : List Row) : Type 0 where
+    pub new : List Mark
+    pub is : marks plan base (late ++ first) ≡ new ++ marks plan base first
+    pub turn : AreInTurn (last_moment base first) (last_moment base (late ++ first)) (told new)
+
+  behind : (late : List Row) → IsLegal plan base (late ++ first) → AreOctets (late ++ first) → IsBehind late
+  behind [] legal bytes = record { new = []; is = refl; turn = omega arith }
+  behind (r ∷ late) legal bytes =
+      let rest : IsBehind late = behind late legal.1 (All-tail (λ (x : Row). IsBytes x.octets) r (late ++ first) bytes) in
+      let front = (next_told plan valid base within r (late ++ first) legal bytes).front in
+      record {
+        new = front.new ++ rest.new;
+        is = front.is ∙ ap (λ (l : List Mark). front.new ++ l) rest.is ∙ sym (append_assoc front.new rest.new (marks plan base first));
+        turn =
+            subst (λ (l : List Named). AreInTurn (last_moment base first) r.entry.moment l) (sym (told_joined front.new rest.new))
+            (turn_front (last_moment base first) r.entry.moment front.new (told rest.new) front.moments
+            (turn_later (last_moment base first) (last_moment base (late ++ first)) r.entry.moment (told rest.new) (risen plan valid base within r (late ++ first) legal) rest.turn));
+      }
+
+  first_legal : (late : List Row) → IsLegal plan base (late ++ first) → IsLegal plan base first
+  first_legal [] legal = legal
+  first_legal (r ∷ late) legal = first_legal late legal.1
+
+  first_octets : (late : List Row) → AreOctets (late ++ first) → AreOctets first
+  first_octets [] bytes = bytes
+  first_octets (r ∷ late) bytes = first_octets late (All-tail (λ (x : Row). IsBytes x.octets) r (late ++ first) bytes)
+
+  module _ (late : List Row) (legal : IsLegal plan base (late ++ first)) (bytes : AreOctets (late ++ first)) (on : plan.savi ≡ true) where
+    pub kept_since : (p q : Port) (stamp : ℕ) (octets : List ℕ) (eth : Eth) (ip : Ip) (read : Read) (m : Method) → MayCome plan base (late ++ first) (Frame q stamp octets) → class_of octets ≡ Ip6 eth ip read → role_of plan (number_of q) ≢ roles.Trusted
+        → (rules_of plan).addresses.method_of the_vlan ip.src.0 ≡ Some m → IsLiveAtEnd plan base first ip.src.0 p → ¬ Same q p
+        → IsPass (Some (verdict_of plan base (late ++ first) q stamp octets)) → IsLostSince plan base first late (moment_at base (late ++ first) stamp) ip.src.0 m p
+    kept_since p q stamp octets eth ip read m may class_is host found live apart passed =
+        let r = rules_of plan in
+        let start = access_of base in
+        let t = moment_at base (late ++ first) stamp in
+        let more : IsBehind late = behind late legal bytes in
+        let told_all : IsTold plan base (late ++ first) = told_rightly plan valid base within (late ++ first) legal bytes in
+        let told_first : IsTold plan base first = told_rightly plan valid base within first (first_legal late legal) (first_octets late bytes) in
+        let soon : moment_at base (late ++ first) stamp ≤ 2 ^ 62 = omega (arith, early plan valid base within (late ++ first) legal) in
+        let right : AreMarks (rules_of plan) (access_of base) (more.new ++ marks plan base first) = subst (AreMarks (rules_of plan) (access_of base)) more.is told_all.right in
+        let after : newest_moment (access_of base) (more.new ++ marks plan base first) ≤ moment_at base (late ++ first) stamp =
+        subst (λ (l : List Mark). newest_moment (access_of base) l ≤ moment_at base (late ++ first) stamp) more.is (omega (arith, told_all.last)) in
+        let passed_so : IsPass (Some (judged (rules_of plan) (access_of base) the_vlan q (moment_at base (late ++ first) stamp) (more.new ++ marks plan base first) (Ip6 eth ip read)).verdict) =
+        subst (λ (l : List Mark). IsPass (Some (judged (rules_of plan) (access_of base) the_vlan q (moment_at base (late ++ first) stamp) l (Ip6 eth ip read)).verdict)) more.is
+        (subst (λ (c : Class). IsPass (Some (judged (rules_of plan) (access_of base) the_vlan q (moment_at base (late ++ first) stamp) (marks plan base (late ++ first)) c).verdict)) class_is passed) in
+        record {
+          new = more.new;
+          told_so = more.is;
+          lost =
+              keeps_first r start within.access the_vlan q t soon more.new (marks plan base first) right after (own_ports plan (number_of q) may.0.open_pass.known host) on (unspecified_off_link plan valid) host eth ip read m found
+              base.moment (last_moment base first) (turns r start (marks plan base first) (last_moment base first) told_first.right told_first.last)
+              (turn_later (last_moment base first) (last_moment base (late ++ first)) (moment_at base (late ++ first) stamp) (told more.new) (omega arith) more.turn) p live apart passed_so;
+        }

@@ -1,0 +1,133 @@
+-- What frames tell in a legal history, and that they pass exactly where they have access.
+use Rattle.std.proofs.Common.{◌≡◌, ◌≢◌, ℕ, ◌≤◌, ◌^◌, ◌↔◌, Bool, true, false, List, [], ◌∷◌, All, refl, sym, ap, subst, arith}
+use Rattle.std.proofs.lemmas.Bool.{false≢true}
+use Rattle.std.proofs.lemmas.List.Elements.{All-nil, All-head, All-tail}
+use Rattle.hex.specs.Hex.{IsBytes}
+use Rattle.savi_kinds.specs.declared.plan.Plan.{Plan}
+use Rattle.savi_kinds.specs.declared.plan.Role.TheVariants as roles
+use Rattle.savi_kinds.specs.declared.port.Port.{Port}
+use Rattle.savi_kinds.specs.declared.entry.Act.{Act}
+use Rattle.savi_kinds.specs.declared.entry.Act.TheVariants as acts
+use Rattle.savi_kinds.specs.Ports.{number_of}
+use Rattle.savi_kinds.specs.ValidPlan.{IsValidPlan}
+use Rattle.frame_class.specs.ClassOf.{class_of}
+use Rattle.hist_store.specs.Rows.{Row}
+use Rattle.mix_rules.specs.Next.{IsPass}
+use Rattle.savi_access.specs.Marks.{Mark, moment_of, newest_moment}
+use Rattle.savi_access.specs.Legal.{HasFront}
+use Rattle.savi_access.specs.Plans.{rules_of, role_of}
+use Rattle.savi_access.proofs.PlanRules.{own_ports, unspecified_off_link}
+use Rattle.savi_access.proofs.Lifetimes.{lifetimes}
+use Rattle.savi_access.proofs.Keeping.{judged_marks}
+use Rattle.savi_access.proofs.Passing.{accessed}
+use Rattle.savi_history.specs.Bases.{Base, access_of}
+use Rattle.savi_history.specs.Limits.{IsWithinLimits}
+use Rattle.savi_history.specs.Moments.{last_moment, moment_at}
+use Rattle.savi_history.specs.Vlans.{the_vlan}
+use Rattle.savi_history.specs.Marks.{marks}
+use Rattle.savi_history.specs.Accesses.{HadAccess, PassedRightly, AllPassedRightly, IsTold}
+use Rattle.savi_history.specs.Events.{Event, Frame, Long, Tick, Drain, End, row_of}
+use Rattle.savi_history.specs.Legal.{MayCome, Stands, IsLegal}
+
+-- rows of octets
+abbrev pub AreOctets : List Row → Type 0
+AreOctets past = All (λ (r : Row). IsBytes r.octets) past
+
+abbrev is_frame : Act → Bool
+is_frame (acts.Frame port stamp at len) = true
+is_frame (acts.Long port stamp len) = false
+is_frame (acts.Tick stamp) = false
+is_frame (acts.Command stamp at len) = false
+is_frame (acts.Drain port count) = false
+is_frame (acts.End who how) = false
+
+abbrev port_in : Port → Act → Port
+port_in other (acts.Frame port stamp at len) = port
+port_in other (acts.Long port stamp len) = other
+port_in other (acts.Tick stamp) = other
+port_in other (acts.Command stamp at len) = other
+port_in other (acts.Drain port count) = other
+port_in other (acts.End who how) = other
+
+-- moments don't fall, and stay within 62 bits
+rises : (plan : Plan) (base : Base) (past : List Row) (event : Event) → last_moment base past ≤ (row_of plan base past event).entry.moment
+rises plan base past (Frame port stamp octets) = omega arith
+rises plan base past (Long port stamp len) = omega arith
+rises plan base past (Tick stamp) = omega arith
+rises plan base past (Drain port count) = omega arith
+rises plan base past (End who how) = omega arith
+
+stays_early : (plan : Plan) (base : Base) (past : List Row) (event : Event) → last_moment base past ≤ 2 ^ 62 → (row_of plan base past event).entry.moment ≤ 2 ^ 62
+stays_early plan base past (Frame port stamp octets) early = omega (arith, early)
+stays_early plan base past (Long port stamp len) early = omega (arith, early)
+stays_early plan base past (Tick stamp) early = omega (arith, early)
+stays_early plan base past (Drain port count) early = early
+stays_early plan base past (End who how) early = early
+
+module _ (plan : Plan) (valid : IsValidPlan plan) (base : Base) (within : IsWithinLimits plan base) where
+  pub early : (past : List Row) → IsLegal plan base past → last_moment base past ≤ 2 ^ 62
+  early [] legal = within.access.addresses.early
+  early (r ∷ past) legal =
+      let stands : Stands plan base past r = legal.0 in
+      subst (λ (x : Row). x.entry.moment ≤ 2 ^ 62) (sym stands.2) (stays_early plan base past stands.0 (early past legal.1))
+
+  pub risen : (r : Row) (past : List Row) → IsLegal plan base (r ∷ past) → last_moment base past ≤ r.entry.moment
+  risen r past legal = let stands : Stands plan base past r = legal.0 in subst (λ (x : Row). last_moment base past ≤ x.entry.moment) (sym stands.2) (rises plan base past stands.0)
+
+  -- what the row of an event tells is in front of what was told
+  pub record IsNext (past : List Row) (r : Row) : Type 0 where
+    pub told : IsTold plan base (r ∷ past)
+    pub front : HasFront r.entry.moment (marks plan base past) (marks plan base (r ∷ past))
+
+  nothing_told : (past : List Row) (t : ℕ) → HasFront t (marks plan base past) (marks plan base past)
+  nothing_told past t = record { new = []; is = refl; moments = All-nil (λ (m : Mark). moment_of m ≡ t) }
+
+  one_more : (past : List Row) (event : Event) → IsLegal plan base past → IsTold plan base past → MayCome plan base past event → IsBytes (row_of plan base past event).octets → IsNext past (row_of plan base past event)
+  one_more past (Frame port stamp octets) legal told may bytes =
+      let t = moment_at base past stamp in
+      let soon : moment_at base past stamp ≤ 2 ^ 62 = stays_early plan base past (Frame port stamp octets) (early past legal) in
+      let after : newest_moment (access_of base) (marks plan base past) ≤ moment_at base past stamp = omega (arith, told.last) in
+      let all = judged_marks (rules_of plan) (access_of base) within.access the_vlan port (moment_at base past stamp) soon (marks plan base past) told.right after (class_of octets) (lifetimes octets bytes)
+      (λ host. own_ports plan (number_of port) may.0.open_pass.known host) in
+      record { told = record { right = all.0; last = all.1 }; front = all.2 }
+  one_more past (Long port stamp len) legal told may bytes = record { told = record { right = told.right; last = omega (arith, told.last) }; front = nothing_told past (moment_at base past stamp) }
+  one_more past (Tick stamp) legal told may bytes = record { told = record { right = told.right; last = omega (arith, told.last) }; front = nothing_told past (moment_at base past stamp) }
+  one_more past (Drain port count) legal told may bytes = record { told = record { right = told.right; last = told.last }; front = nothing_told past (last_moment base past) }
+  one_more past (End who how) legal told may bytes = record { told = record { right = told.right; last = told.last }; front = nothing_told past (last_moment base past) }
+
+  mutual_next : (r : Row) (past : List Row) → IsLegal plan base (r ∷ past) → AreOctets (r ∷ past) → IsTold plan base past → IsNext past r
+  mutual_next r past legal bytes told =
+      let stands : Stands plan base past r = legal.0 in
+      subst (λ (x : Row). IsNext past x) (sym stands.2)
+      (one_more past stands.0 legal.1 told stands.1 (subst (λ (x : Row). IsBytes x.octets) stands.2 (All-head (λ (x : Row). IsBytes x.octets) r past bytes)))
+
+  -- what was told in a legal history
+  pub told_rightly : (past : List Row) → IsLegal plan base past → AreOctets past → IsTold plan base past
+  told_rightly [] legal bytes = record { right = tt; last = omega arith }
+  told_rightly (r ∷ past) legal bytes = (mutual_next r past legal bytes (told_rightly past legal.1 (All-tail (λ (x : Row). IsBytes x.octets) r past bytes))).told
+
+  pub next_told : (r : Row) (past : List Row) → IsLegal plan base (r ∷ past) → AreOctets (r ∷ past) → IsNext past r
+  next_told r past legal bytes = mutual_next r past legal bytes (told_rightly past legal.1 (All-tail (λ (x : Row). IsBytes x.octets) r past bytes))
+
+  module _ (on : plan.savi ≡ true) where
+    event_passed : (past : List Row) (event : Event) → IsLegal plan base past → IsTold plan base past → MayCome plan base past event → PassedRightly plan base past (row_of plan base past event)
+    event_passed past (Frame port stamp octets) legal told may at_port frame host ipv6 =
+        let same : port ≡ at_port = ap (port_in port) frame.frame in
+        let soon : moment_at base past stamp ≤ 2 ^ 62 = stays_early plan base past (Frame port stamp octets) (early past legal) in
+        let after : newest_moment (access_of base) (marks plan base past) ≤ moment_at base past stamp = omega (arith, told.last) in
+        let here : role_of plan (number_of port) ≢ roles.Trusted = subst (λ (p : Port). role_of plan (number_of p) ≢ roles.Trusted) (sym same) host in
+        subst (λ (p : Port). IsPass (row_of plan base past (Frame port stamp octets)).entry.verdict ↔ HadAccess plan base past (row_of plan base past (Frame port stamp octets)) p) same
+        (accessed (rules_of plan) (access_of base) within.access the_vlan port (moment_at base past stamp) soon (marks plan base past) told.right after
+        (own_ports plan (number_of port) may.0.open_pass.known here) on (unspecified_off_link plan valid) (class_of octets) here ipv6)
+    event_passed past (Long port stamp len) legal told may at_port frame host ipv6 = absurd (false≢true (ap is_frame frame.frame))
+    event_passed past (Tick stamp) legal told may at_port frame host ipv6 = absurd (false≢true (ap is_frame frame.frame))
+    event_passed past (Drain port count) legal told may at_port frame host ipv6 = absurd (false≢true (ap is_frame frame.frame))
+    event_passed past (End who how) legal told may at_port frame host ipv6 = absurd (false≢true (ap is_frame frame.frame))
+
+    -- each frame passed exactly where it had access
+    pub passed_rightly : (past : List Row) → IsLegal plan base past → AreOctets past → AllPassedRightly plan base past
+    passed_rightly [] legal bytes = tt
+    passed_rightly (r ∷ past) legal bytes =
+        let stands : Stands plan base past r = legal.0 in
+        let rest = All-tail (λ (x : Row). IsBytes x.octets) r past bytes in
+        (subst (λ (x : Row). PassedRightly plan base past x) (sym stands.2) (event_passed past stands.0 legal.1 (told_rightly past legal.1 rest) stands.1), passed_rightly past legal.1 rest)

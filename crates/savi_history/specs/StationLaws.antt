@@ -1,0 +1,43 @@
+-- Where the frames of a history go, by the stations that are known before each (IEEE 802.1Q section 8.6.3).
+use Rattle.std.specs.Prelude.{◌≡◌, ◌≢◌, ℕ, ◌≤◌, true, false, List, [], ◌∷◌, Some}
+use Rattle.savi_kinds.specs.declared.plan.Plan.{Plan}
+use Rattle.savi_kinds.specs.declared.port.Port.{Port}
+use Rattle.savi_kinds.specs.declared.verdict.Scope.TheVariants as scopes
+use Rattle.savi_kinds.specs.declared.verdict.Verdict.TheVariants.{Pass}
+use Rattle.savi_kinds.specs.declared.entry.Act.{Act}
+use Rattle.savi_kinds.specs.declared.entry.Act.TheVariants.{Frame}
+use Rattle.savi_kinds.specs.Ports.{number_of}
+use Rattle.savi_kinds.specs.PortSets.{is_member}
+use Rattle.savi_kinds.specs.Macs.{is_group}
+use Rattle.bridge_fdb.specs.declared.station.Station.{Station}
+use Rattle.hist_store.specs.Rows.{Row}
+use Rattle.savi_history.specs.Bases.{Base}
+use Rattle.savi_history.specs.Vlans.{the_vlan}
+use Rattle.savi_history.specs.Passes.{has_port}
+use Rattle.savi_history.specs.Stations.{known_port}
+
+-- the port at which the destination of the row's frame was known before it
+abbrev pub KnownBefore : Base → List Row → Row → Port → Type 0
+KnownBefore base past r port = known_port the_vlan base past r.entry.moment r.octets ≡ Some port
+
+-- where a row's frame goes that came in at this port
+pub record IsDirected (plan : Plan) (base : Base) (past : List Row) (r : Row) (port : Port) : Type 0 where
+  -- not back to where it came from
+  pub not_back : is_member r.entry.outs (number_of port) ≡ false
+  -- to the port of the station that it is for, and to no other
+  pub alone : (place : Port) (n : ℕ) → KnownBefore base past r place → 1 ≤ n → is_member r.entry.outs n ≡ true → n ≡ number_of place
+  -- there it does go, if it may go everywhere and that is another port of the plan
+  pub reached : (place : Port) → KnownBefore base past r place → r.entry.verdict ≡ Some (Pass scopes.All) → has_port plan (number_of place) ≡ true → number_of place ≢ number_of port → is_member r.entry.outs (number_of place) ≡ true
+
+abbrev pub IsDirectedBy : Plan → Base → List Row → Row → Act → Type 0
+IsDirectedBy plan base past r (Frame port stamp at len) = IsDirected plan base past r port
+IsDirectedBy plan base past r act = Unit {0}
+
+-- each frame of a history goes so
+abbrev pub AreDirected : Plan → Base → List Row → Type 0
+AreDirected plan base [] = Unit {0}
+AreDirected plan base (r ∷ past) = IsDirectedBy plan base past r r.entry.act × AreDirected plan base past
+
+-- the MAC address of a station has no group bit (IEEE 802.3 section 3.2.3)
+abbrev pub IsIndividual : Station → Type 0
+IsIndividual station = is_group station.mac ≡ false

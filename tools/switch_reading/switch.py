@@ -1,0 +1,290 @@
+"""The switch: one event, one entry of the history (docs/RULES.md, docs/OPERATIONS.md)."""
+from dataclasses import dataclass, field
+
+from . import commands
+from .frame import ADVERTISEMENT, DHCP_CLIENT, DHCP_SERVER, ICMPV6, MLD_OF_HOSTS, ROUTER_SOLICITATION, SOLICITED_NODES
+from .frame import guard, internet_sum, read_frame
+from .dhcp import DECLINE, RELEASE, REPLY
+from .states import ALL, DAD, NA, SENT, TRUSTED, TRUSTED_DAD, TRUSTED_NA, TRUSTED_ONLY, Address, Scope
+
+# Entries that are kept back for drains and ends, and octets for one more frame.
+ENTRIES_KEPT, OCTETS_KEPT = 4130, 1518
+LATEST = 2**62
+
+# How long a request stays open, and a station known, in ms; how many of them a port may have.
+REQUEST_TIME, STATION_TIME = 120000, 300000
+REQUESTS, STATIONS = 16, 256
+
+GROUP_BIT = 1 << 40
+
+
+@dataclass
+class Entry:
+    """`text` is the line of the journal behind number, pass and moment."""
+
+    by: int
+    moment: int
+    text: str
+    verdict: object = None
+    cuts: list = field(default_factory=list)
+    probes: int = 0
+    lost: int = 0
+
+
+def set_text(ports):
+    return ",".join(map(str, ports)) or "-"
+
+
+def verdict_text(verdict):
+    if not isinstance(verdict, Scope):
+        return f"drop-{verdict}"
+    if not verdict.only_trusted:
+        return "pass-all"
+    return "pass-trusted" if verdict.more is None else f"pass-trusted+{verdict.more}"
+
+
+def digits(octets):
+    return octets.hex() or "-"
+
+
+def probe_frame(mac, target):
+    """A solicitation as in duplicate address detection, from the switch (RFC 4861 section 4.3, RFC 2464 section 7)."""
+    low = target & 0xFFFFFF
+    group = SOLICITED_NODES[0] | low
+    addresses = bytes(16) + group.to_bytes(16, "big")
+    message = bytes.fromhex("8700000000000000") + target.to_bytes(16, "big")
+    checksum = internet_sum(addresses + bytes([0, 0, 0, len(message), 0, 0, 0, ICMPV6]) + message)
+    message = message[:2] + checksum.to_bytes(2, "big") + message[4:]
+    ethernet = (0x3333FF << 24 | low).to_bytes(6, "big") + mac.to_bytes(6, "big") + bytes.fromhex("86dd")
+    return ethernet + bytes.fromhex("6000000000183aff") + addresses + message
+
+
+class Switch:
+    """`floods` makes it a switch that knows no station."""
+
+    station_time = STATION_TIME
+
+    def __init__(self, plan, floods=False):
+        self.plan, self.floods = plan, floods
+        self.ports = {port.number: port for port in plan.ports}
+        self.trusted = [port.number for port in plan.ports if port.is_trusted]
+        numbers = list(self.ports)
+        self.control_pass, self.ticker_pass = len(numbers), len(numbers) + 1
+        self.ingress_pass = {n: at for at, n in enumerate(numbers)}
+        self.egress_pass = {n: len(numbers) + 2 + at for at, n in enumerate(numbers)}
+        self.entries, self.octets, self.moment = [], 0, 0
+        self.addresses, self.requests, self.stations = {}, {}, {}
+        self.shut, self.closed = set(), set()
+        self.queues = {n: [] for n in numbers}
+        self.probes = self.lost = 0
+
+    # Entries.
+
+    def is_full(self):
+        return len(self.entries) >= self.plan.entries - ENTRIES_KEPT or self.octets + OCTETS_KEPT > self.plan.bytes
+
+    def enter(self, by, text, **fields):
+        self.entries.append(Entry(by, self.moment, text, **fields))
+
+    def begin(self, stamp):
+        """Comes to the moment of an event, and lets every address age."""
+        self.moment = max(self.moment, min(stamp, LATEST))
+        self.probes = self.lost = 0
+        due = []
+        for address, state in self.addresses.items():
+            due += [(at, address, probe) for at, probe in state.age(self.moment, self.plan)]
+        self.forget()
+        for at, address, probe in sorted(due, key=lambda item: item[:2]):
+            self.queue_probe(probe, address, at)
+
+    def forget(self):
+        self.addresses = {address: state for address, state in self.addresses.items() if not state.is_free}
+        self.requests = {key: until for key, until in self.requests.items() if until > self.moment}
+
+    def frame(self, port, stamp, octets):
+        self.begin(stamp)
+        frame = read_frame(octets)
+        verdict = self.judge(self.ports[port], frame)
+        outs = self.outs(port, frame, verdict) if isinstance(verdict, Scope) else []
+        if isinstance(verdict, Scope):
+            self.learn(frame.source, port)
+        cuts = [out for out in outs if not self.queue(out, (self.moment, octets))]
+        sets = f"{set_text(outs)} {set_text(cuts)}"
+        text = f"F {port} {stamp} {digits(octets)} {verdict_text(verdict)} {sets} {self.probes} {self.lost}"
+        self.enter(self.ingress_pass[port], text, verdict=verdict, cuts=cuts, probes=self.probes, lost=self.lost)
+        self.octets += len(octets)
+
+    def long_frame(self, port, stamp, length):
+        self.begin(stamp)
+        verdict = "PortDown" if port in self.shut else "Malformed"
+        text = f"L {port} {stamp} {length} {verdict_text(verdict)} {self.probes} {self.lost}"
+        self.enter(self.ingress_pass[port], text, verdict=verdict, probes=self.probes, lost=self.lost)
+
+    def command(self, stamp, line):
+        """A command of control. Answers the reply."""
+        self.begin(stamp)
+        apply = commands.command(self, line)
+        self.octets += len(line)
+        text = f"C {stamp} {digits(line)} {self.probes} {self.lost}"
+        self.enter(self.control_pass, text, probes=self.probes, lost=self.lost)
+        return "".join(f"{text}\n" for text in apply())
+
+    def drain(self, port):
+        items, self.queues[port] = self.queues[port], []
+        self.enter(self.egress_pass[port], f"D {port} {len(items)}")
+        return items
+
+    def end(self, by, text):
+        self.enter(by, f"E {text}")
+
+    def end_output(self, port, how):
+        self.end(self.egress_pass[port], f"out{port} {how}")
+        self.closed.add(port)
+        self.queues[port] = []
+
+    # Queues, stations, outs.
+
+    def queue(self, port, item):
+        has_place = port not in self.closed and len(self.queues[port]) < self.plan.depth
+        if has_place:
+            self.queues[port].append(item)
+        return has_place
+
+    def queue_probe(self, probe, address, due):
+        for port in self.trusted if probe == TRUSTED else [probe]:
+            if port in self.shut:
+                continue
+            if self.queue(port, (due, probe_frame(self.plan.mac, address))):
+                self.probes += 1
+            else:
+                self.lost += 1
+
+    def is_live(self, mac):
+        return mac in self.stations and self.moment < self.stations[mac][1] + STATION_TIME
+
+    def learn(self, mac, port):
+        is_here = self.is_live(mac) and self.stations[mac][0] == port
+        here = sum(at == port and self.is_live(other) for other, (at, _) in self.stations.items()) if not is_here else 0
+        if is_here or here < STATIONS:
+            self.stations[mac] = (port, self.moment)
+
+    def outs(self, port, frame, scope):
+        """The port of the destination's station, or all ports; of these the ones in scope, without the frame's own."""
+        is_known = not self.floods and not frame.destination & GROUP_BIT and self.is_live(frame.destination)
+        base = [self.stations[frame.destination][0]] if is_known else list(self.ports)
+        in_scope = [out for out in base if not scope.only_trusted or out in self.trusted or out == scope.more]
+        return [out for out in in_scope if out != port and out not in self.shut]
+
+    # Addresses.
+
+    def state(self, address):
+        """The state of an address that is on-link."""
+        return self.addresses.get(address) or Address(self.plan.method(address))
+
+    def keep(self, address, state):
+        self.addresses[address] = state
+        if state.is_free:
+            del self.addresses[address]
+
+    def held(self, port):
+        return sum(state.holds(port) for state in self.addresses.values())
+
+    def has_room(self, port):
+        return self.held(port) < self.plan.per_port
+
+    def mark(self, address, name, port=None):
+        """An event on an on-link address. Answers its verdict; its probe is due now."""
+        state = self.state(address)
+        verdict, probe = state.step((name, port, port is not None and self.has_room(port)), self.moment, self.plan)
+        self.keep(address, state)
+        if probe is not None:
+            self.queue_probe(probe, address, self.moment)
+        return verdict
+
+    def is_on_link(self, address):
+        return address is not None and self.plan.method(address) is not None
+
+    # The verdict.
+
+    def judge(self, port, frame):
+        if port.number in self.shut:
+            return "PortDown"
+        rule = guard(port.role, self.plan.drop_unknown, frame)
+        if rule:
+            return rule
+        if not self.plan.savi or frame.packet is None:
+            return ALL
+        return self.judge_trusted(port, frame.packet) if port.is_trusted else self.judge_source(port, frame.packet)
+
+    def judge_trusted(self, port, packet):
+        verdict = ALL
+        if self.is_on_link(target := packet.solicited()):
+            verdict = self.mark(target, TRUSTED_DAD)
+        elif self.is_on_link(target := packet.advertised()):
+            self.mark(target, TRUSTED_NA)
+        self.judge_dhcp(port, packet)
+        return verdict
+
+    def judge_source(self, port, packet):
+        """At the port of a host or a server: the source, then what the packet says."""
+        if packet.source == 0:
+            return self.judge_unspecified(port, packet)
+        if not self.is_on_link(packet.source):
+            return "OffLink"
+        verdict = self.mark(packet.source, SENT, port.number)
+        if not isinstance(verdict, Scope):
+            return verdict
+        if packet.icmp == ADVERTISEMENT:
+            target = packet.advertised()
+            return self.mark(target, NA, port.number) if self.is_on_link(target) else "NaTarget"
+        return self.judge_dhcp(port, packet) or verdict
+
+    def judge_unspecified(self, port, packet):
+        """What a host without an address may send (RFC 4862, RFC 4861, RFC 3810)."""
+        target = packet.solicited()
+        if target is not None:
+            return self.mark(target, DAD, port.number) if self.is_on_link(target) else "OffLink"
+        is_report = packet.icmp in MLD_OF_HOSTS and not packet.is_fragmented and packet.hop_limit == 1
+        return TRUSTED_ONLY if packet.icmp == ROUTER_SOLICITATION or is_report else "UnspecifiedSource"
+
+    def judge_dhcp(self, port, packet):
+        """Requests, releases and replies. Answers the rule that stops a request, or None."""
+        message = packet.dhcp()
+        if message is None:
+            return None
+        if packet.udp == DHCP_SERVER and not port.is_trusted:
+            if message.asks:
+                return self.ask(port.number, message)
+            if message.kind in (RELEASE, DECLINE):
+                self.give_up(port.number, message)
+        elif packet.udp == DHCP_CLIENT and port.role != "host" and message.kind == REPLY:
+            self.reply(message)
+        return None
+
+    def ask(self, port, message):
+        key = (port, message.transaction, message.client)
+        if key not in self.requests and sum(other[0] == port for other in self.requests) >= REQUESTS:
+            return "PendingFull"
+        if any(other[0] != port and other[1:] == key[1:] for other in self.requests):
+            return "DhcpContested"
+        self.requests[key] = self.moment + REQUEST_TIME
+        return None
+
+    def give_up(self, port, message):
+        for address, _ in message.leases:
+            if self.is_on_link(address):
+                state = self.state(address)
+                state.release(port)
+                self.keep(address, state)
+
+    def reply(self, message):
+        asked = [key for key in self.requests if key[1:] == (message.transaction, message.client)]
+        if not asked:
+            return
+        del self.requests[asked[0]]
+        port = asked[0][0]
+        for address, lifetime in message.leases:
+            if self.is_on_link(address):
+                state = self.state(address)
+                state.lease(port, lifetime, self.moment, self.has_room(port))
+                self.keep(address, state)

@@ -1,0 +1,67 @@
+"""Frames in words."""
+from .dhcp import RELAY_FORW, RELAY_REPL
+from .frame import ADVERTISEMENT, DHCP_CLIENT, DHCP_SERVER, REDIRECT, ROUTER_ADVERTISEMENT, ROUTER_SOLICITATION
+from .frame import SOLICITATION, discovery_fault, number, read_frame
+from .plan import address_text, mac_text
+
+ICMP_NAMES = {
+    1: "destination unreachable", 128: "echo request", 129: "echo reply", 131: "MLD report", 132: "MLD done",
+    143: "MLD report", ROUTER_SOLICITATION: "router solicitation", ROUTER_ADVERTISEMENT: "router advertisement",
+    SOLICITATION: "solicitation", ADVERTISEMENT: "neighbor advertisement", REDIRECT: "redirect",
+}
+DHCP_NAMES = {
+    1: "solicit", 2: "advertise", 3: "request", 4: "confirm", 5: "renew", 6: "rebind", 7: "reply", 8: "release",
+    9: "decline", RELAY_FORW: "relay-forward", RELAY_REPL: "relay-reply",
+}
+UPPER_NAMES = {6: "TCP", 17: "UDP", 59: "no next header"}
+
+
+def row(words):
+    """A frame's line of the journal, in words."""
+    port = words[4]
+    if words[3] == "L":
+        return f"port {port} {words[6]} octets: {words[7]}"
+    outs = "" if words[8] == "-" else f" to {words[8]}"
+    cuts = "" if words[9] == "-" else f" cut {words[9]}"
+    probes = "" if words[10] == "0" else f" probes {words[10]}"
+    octets = b"" if words[6] == "-" else bytes.fromhex(words[6])
+    return f"port {port} {tell(octets)}: {words[7]}{outs}{cuts}{probes}"
+
+
+def tell(octets):
+    frame = read_frame(octets)
+    if frame is None:
+        return f"{len(octets)} octets"
+    if not frame.is_ipv6:
+        return f"EtherType {frame.kind:04x} from {mac_text(frame.source)}"
+    if frame.packet is None:
+        return f"bad IPv6 from {mac_text(frame.source)}"
+    return tell_packet(frame.packet)
+
+
+def tell_packet(packet):
+    names = f"{address_text(packet.source)} > {address_text(packet.destination)}"
+    if packet.outcome != "upper":
+        return f"{names} {packet.outcome} chain"
+    fragment = " in a first fragment" if packet.is_fragmented else ""
+    if packet.icmp is not None:
+        return names + " " + tell_icmp(packet) + fragment
+    message = packet.dhcp()
+    if message is not None:
+        name = DHCP_NAMES.get(message.kind, f"type {message.kind}")
+        leases = "".join(f" {address_text(address)} for {valid} s" for address, valid in message.leases)
+        return f"{names} DHCPv6 {name} {message.transaction:06x}{leases}{fragment}"
+    name = UPPER_NAMES.get(packet.upper, f"header {packet.upper}")
+    at = f" to port {number(packet.message[2:4])}" if packet.upper in (6, 17) else ""
+    is_bad = packet.udp in (DHCP_CLIENT, DHCP_SERVER) and not packet.is_fragmented
+    return f"{names} {name}{at}{' unreadable' if is_bad else ''}{fragment}"
+
+
+def tell_icmp(packet):
+    name = ICMP_NAMES.get(packet.icmp, f"ICMPv6 type {packet.icmp}")
+    if packet.icmp not in (SOLICITATION, ADVERTISEMENT) or len(packet.message) < 24:
+        return name
+    name = "claim" if packet.icmp == SOLICITATION and packet.source == 0 else name
+    flags = f" flags {packet.message[4] >> 5:03b}" if packet.icmp == ADVERTISEMENT else ""
+    fault = discovery_fault(packet)
+    return f"{name} of {address_text(number(packet.message[8:24]))}{flags}{f' ({fault})' if fault else ''}"

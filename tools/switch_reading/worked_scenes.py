@@ -1,0 +1,273 @@
+"""What the scenes of crates/world_runs with the validation of sources come to, worked out by hand from the rules of
+docs/RULES.md and docs/OPERATIONS.md. Ports 1, 2, 3 are hosts, 4 is trusted and 5 a server, and 2001:db8:1::/64 is fcfs,
+2001:db8:2::/64 dhcp and 2001:db8:3::/64 mixed, unless a scene says otherwise. How long an address is bound shows in the
+moments of the probes that ask for it then, when a frame comes long after."""
+from . import making
+from .making import advertisement, claim, data, to_server
+from .worked import A11, A12, A22, ADVERTS, CUT, G11, G22, LATER, LEASED, M1, M2, M3, MIXED, NAMED, REPLY, REQUEST
+from .worked import ROUTER_MAC, ask
+
+SWITCH_MAC = 0x020000000001
+SERVER = making.option(2, making.identity(M2))
+
+
+def filled(octets):
+    """A frame of so many octets, whose EtherType is IPv4's."""
+    return making.frame((1 << 48) - 1, ROUTER_MAC, 0x0800, bytes(octets - 14))
+
+
+# The frames of these scenes, by their names there. A name without a host is of host 1, whose address is fe80::11.
+FRAMES = {
+    "address_question": claim(M1, A11),
+    "question_for_2001:db8:1::11": claim(M1, G11),
+    "question_for_2001:db8:1::11_by_host_2": claim(M2, G11),
+    "question_for_2001:db8:1::22_by_host_2": claim(M2, G22),
+    "question_for_2001:db8:3::33": claim(M1, MIXED),
+    "question_for_2001:db8:3::33_by_host_2": claim(M2, MIXED),
+    "question_for_fe80::12_by_host_2": claim(M2, A12),
+    "question_for_fe80::22_by_host_2": claim(M2, A22),
+    "question_for_fe80::200_by_host_2": claim(M2, making.LINK_LOCAL | 0x200),
+    "PACKET": data(M1, A11),
+    "packet_of_fe80::11_by_host_2": data(M2, A11),
+    "packet_of_fe80::11_by_host_3": data(M3, A11),
+    "packet_of_2001:db8:1::11": data(M1, G11),
+    "packet_of_2001:db8:2::101": data(M1, LEASED),
+    "packet_of_2001:db8:2::102": data(M1, LEASED + 1),
+    "packet_of_2001:db8:3::33": data(M1, MIXED),
+    "answer_of_host_1": advertisement(M1, A11),
+    "answer_of_the_router_for_fe80::11": advertisement(ROUTER_MAC, A11),
+    "listener_report": NAMED["report"][1],
+    "router_question": NAMED["router solicitation"][1],
+    "advert_of_the_router": making.router_advertisement(ROUTER_MAC, making.ROUTER),
+    "ADVERT": ADVERTS[0],
+    "advert_behind_destination_options": ADVERTS[1],
+    "advert_in_an_atomic_fragment": ADVERTS[2],
+    "advert_with_a_hop_limit_of_64": ADVERTS[3],
+    "cut_chain_in_a_first_fragment": CUT,
+    "later_fragment": LATER,
+    "two_fragment_headers": making.in_first_fragment(making.in_first_fragment(data(M2, G22))),
+    "dhcp_request": REQUEST,
+    "dhcp_request_by_host_2": ask(M2, A12, 0x0A0B0C),
+    "dhcp_reply": REPLY,
+    "lease_of_2001:db8:3::33": making.to_client(
+        ROUTER_MAC, making.ROUTER, M1, A11, making.message(7, 0x0A0B0C, making.identity(M1), [(MIXED, 600)], more=SERVER)),
+    "release_of_2001:db8:3::33": to_server(
+        M1, A11, making.message(8, 0x0A0B0C, making.identity(M1), [(MIXED, 0)], more=SERVER)),
+    "thirteen_octets": data(M1, A11)[:13],
+    "frame_of_1518_octets": filled(1518),
+    "frame_of_1519_octets": filled(1519),
+    "probe_for_fe80::11": claim(SWITCH_MAC, A11),
+    "probe_for_fe80::22": claim(SWITCH_MAC, A22),
+    "probe_for_2001:db8:1::11": claim(SWITCH_MAC, G11),
+    "probe_for_2001:db8:3::33": claim(SWITCH_MAC, MIXED),
+}
+FRAMES |= {f"dhcp_request_{k}": ask(M1, A11, k) for k in range(1, 18)}
+FRAMES |= {f"question_for_fe80::{k:x}": claim(M1, making.LINK_LOCAL | k) for k in range(0x100, 0x121)}
+
+# Each scene: its frames in the order in which they are judged, as PORT@STAMP FRAME VERDICT OUTS PROBES; and further lines
+# that it leaves. A long frame stands there by its length.
+WORKED = {
+    "a host boots": (
+        ["1@1000 listener_report pass-trusted 4 0",
+         "1@1100 address_question pass-trusted 4 0",
+         "1@2100 router_question pass-all 2,3,4,5 0",
+         "4@2110 advert_of_the_router pass-all 1,2,3,5 0",
+         "1@2200 question_for_2001:db8:1::11 pass-trusted 4 0",
+         "1@3000 packet_of_2001:db8:1::11 pass-all 4 0"], ["status 0"]),
+    "a host boots, and is silent then": (
+        ["1@1000 listener_report pass-trusted 4 0",
+         "1@1100 address_question pass-trusted 4 0",
+         "1@2100 router_question pass-all 2,3,4,5 0",
+         "4@2110 advert_of_the_router pass-all 1,2,3,5 0",
+         "1@2200 question_for_2001:db8:1::11 pass-trusted 4 0",
+         "1@3000 packet_of_2001:db8:1::11 pass-all 4 0",
+         "4@400000 advert_of_the_router pass-all 1,2,3,5 4"],
+        ["port 1: HEADER AT_2110_70 advert_of_the_router AT_302100_78 probe_for_fe80::11"
+         " AT_302350_78 probe_for_fe80::11 AT_303000_78 probe_for_2001:db8:1::11"
+         " AT_303250_78 probe_for_2001:db8:1::11 AT_400000_70 advert_of_the_router"]),
+    "data while an address is tentative": (
+        ["1@1000 address_question pass-trusted 4 0",
+         "1@1100 PACKET drop-Unverified - 0",
+         "4@400000 advert_of_the_router pass-all 1,2,3,5 2"],
+        ["port 1: HEADER AT_301500_78 probe_for_fe80::11 AT_301750_78 probe_for_fe80::11"
+         " AT_400000_70 advert_of_the_router"]),
+    "data of an address that nobody has claimed": (
+        ["1@1000 PACKET drop-Unverified - 1",
+         "1@1499 PACKET drop-Unverified - 1",
+         "1@1500 PACKET pass-all 2,3,4,5 0"],
+        ["port 4: HEADER AT_1000_78 probe_for_fe80::11 AT_1250_78 probe_for_fe80::11 AT_1500_54 PACKET",
+         "5 0 1000 F 1 1000 PACKET drop-Unverified - - 1 0",
+         "9 0 1500 F 1 1500 PACKET pass-all 2,3,4,5 - 0 0",
+         "entries 21 frames 3 passed 1 dropped 2 probes 2 lost 0 cut 0"]),
+    "another host claims an address, and its holder answers": (
+        ["1@1000 address_question pass-trusted 4 0",
+         "2@2000 packet_of_fe80::11_by_host_2 drop-WrongPort - 1",
+         "1@2400 answer_of_host_1 pass-all 2,3,4,5 1"],
+        ["port 1: HEADER AT_2000_78 probe_for_fe80::11 AT_2250_78 probe_for_fe80::11"]),
+    "another host claims an address, and its holder answers, and is silent then": (
+        ["1@1000 address_question pass-trusted 4 0",
+         "2@2000 packet_of_fe80::11_by_host_2 drop-WrongPort - 1",
+         "1@2400 answer_of_host_1 pass-all 2,3,4,5 1",
+         "4@400000 advert_of_the_router pass-all 1,2,3,5 2"],
+        ["port 1: HEADER AT_2000_78 probe_for_fe80::11 AT_2250_78 probe_for_fe80::11 AT_302400_78 probe_for_fe80::11"
+         " AT_302650_78 probe_for_fe80::11 AT_400000_70 advert_of_the_router"]),
+    "another host claims an address, and its holder is gone": (
+        ["1@1000 address_question pass-trusted 4 0",
+         "2@2000 packet_of_fe80::11_by_host_2 drop-WrongPort - 1",
+         "2@2500 packet_of_fe80::11_by_host_2 pass-all 1,3,4,5 1",
+         "4@400000 advert_of_the_router pass-all 1,2,3,5 2"],
+        ["port 1: HEADER AT_2000_78 probe_for_fe80::11 AT_2250_78 probe_for_fe80::11"
+         " AT_2500_54 packet_of_fe80::11_by_host_2 AT_400000_70 advert_of_the_router",
+         "port 2: HEADER AT_302500_78 probe_for_fe80::11 AT_302750_78 probe_for_fe80::11"
+         " AT_400000_70 advert_of_the_router"]),
+    "a third host claims an address under a test": (
+        ["1@1000 address_question pass-trusted 4 0",
+         "2@2000 packet_of_fe80::11_by_host_2 drop-WrongPort - 1",
+         "3@2300 packet_of_fe80::11_by_host_3 drop-Contested - 1",
+         "4@400000 advert_of_the_router pass-all 1,2,3,5 2"],
+        ["port 1: HEADER AT_2000_78 probe_for_fe80::11 AT_2250_78 probe_for_fe80::11 AT_400000_70 advert_of_the_router",
+         "port 2: HEADER AT_302500_78 probe_for_fe80::11 AT_302750_78 probe_for_fe80::11"
+         " AT_400000_70 advert_of_the_router",
+         "port 3: HEADER AT_400000_70 advert_of_the_router"]),
+    "an objection from a trusted port": (
+        ["1@1000 address_question pass-trusted 4 0",
+         "4@1200 answer_of_the_router_for_fe80::11 pass-all 1,2,3,5 0",
+         "4@400000 advert_of_the_router pass-all 1,2,3,5 0"], ["status 0"]),
+    "router advertisements of a host": (
+        ["2@1000 ADVERT drop-RouterAdvert - 0",
+         "2@1001 advert_behind_destination_options drop-RouterAdvert - 0",
+         "2@1002 advert_in_an_atomic_fragment drop-RouterAdvert - 0",
+         "2@1003 advert_with_a_hop_limit_of_64 drop-Unverified - 1"],
+        ["port 4: HEADER AT_1003_78 probe_for_fe80::22"]),
+    "fragments": (
+        ["2@1000 question_for_2001:db8:1::22_by_host_2 pass-trusted 4 0",
+         "2@2000 cut_chain_in_a_first_fragment drop-HiddenUpper - 0",
+         "2@2001 later_fragment pass-all 1,3,4,5 0",
+         "2@2002 two_fragment_headers drop-BadIpv6 - 0"], ["status 0"]),
+    "a request and its reply": (
+        ["1@1000 address_question pass-trusted 4 0",
+         "5@1000 question_for_fe80::22_by_host_2 pass-trusted 4 0",
+         "1@2000 dhcp_request pass-all 2,3,4,5 0",
+         "5@2100 dhcp_reply pass-all 1 0",
+         "1@2300 packet_of_2001:db8:2::102 drop-NotAssigned - 0",
+         "2@2400 dhcp_reply drop-DhcpServer - 0",
+         "4@400000 advert_of_the_router pass-all 1,2,3,5 4",
+         "1@400001 packet_of_2001:db8:2::101 pass-all 4 0"],
+        ["port 1: HEADER AT_2100_166 dhcp_reply AT_302000_78 probe_for_fe80::11 AT_302250_78 probe_for_fe80::11"
+         " AT_400000_70 advert_of_the_router",
+         "port 5: HEADER AT_2000_96 dhcp_request AT_302100_78 probe_for_fe80::22 AT_302350_78 probe_for_fe80::22"
+         " AT_400000_70 advert_of_the_router"]),
+    "another host asks with the same identity": (
+        ["1@1000 address_question pass-trusted 4 0",
+         "2@1000 question_for_fe80::12_by_host_2 pass-trusted 4 0",
+         "5@1000 question_for_fe80::22_by_host_2 pass-trusted 4 0",
+         "1@2000 dhcp_request pass-all 2,3,4,5 0",
+         "2@2050 dhcp_request_by_host_2 drop-DhcpContested - 0"], ["status 0"]),
+    "sixteen requests, and one more": (
+        ["1@1000 address_question pass-trusted 4 0"]
+        + [f"1@{2000 + k} dhcp_request_{k} pass-all 2,3,4,5 0" for k in range(1, 17)]
+        + ["1@2017 dhcp_request_17 drop-PendingFull - 0",
+           "1@122001 dhcp_request_17 pass-all 2,3,4,5 0"], ["status 0"]),
+    "a lease of an address that another port claimed first": (
+        ["1@1000 address_question pass-trusted 4 0",
+         "2@1000 question_for_2001:db8:3::33_by_host_2 pass-trusted 4 0",
+         "1@2000 dhcp_request pass-all 2,3,4,5 0",
+         "4@2100 lease_of_2001:db8:3::33 pass-all 1 0",
+         "4@400000 advert_of_the_router pass-all 1,2,3,5 4"],
+        ["port 1: HEADER AT_2100_138 lease_of_2001:db8:3::33 AT_302000_78 probe_for_fe80::11"
+         " AT_302250_78 probe_for_fe80::11 AT_400000_70 advert_of_the_router",
+         "port 2: HEADER AT_2000_96 dhcp_request AT_301500_78 probe_for_2001:db8:3::33"
+         " AT_301750_78 probe_for_2001:db8:3::33 AT_400000_70 advert_of_the_router"]),
+    "a lease of an address that its own port claimed first, to its end": (
+        ["1@1000 question_for_2001:db8:3::33 pass-trusted 4 0",
+         "1@1000 address_question pass-trusted 4 0",
+         "1@2000 dhcp_request pass-all 2,3,4,5 0",
+         "4@2100 lease_of_2001:db8:3::33 pass-all 1 0",
+         "1@722099 packet_of_2001:db8:3::33 pass-all 2,3,4,5 4",
+         "1@722100 packet_of_2001:db8:3::33 drop-Unverified - 1"],
+        ["port 1: HEADER AT_2100_138 lease_of_2001:db8:3::33 AT_301500_78 probe_for_2001:db8:3::33"
+         " AT_301750_78 probe_for_2001:db8:3::33 AT_302000_78 probe_for_fe80::11 AT_302250_78 probe_for_fe80::11",
+         "port 4: HEADER AT_1000_78 question_for_2001:db8:3::33 AT_1000_78 address_question AT_2000_96 dhcp_request"
+         " AT_722099_54 packet_of_2001:db8:3::33 AT_722100_78 probe_for_2001:db8:3::33"]),
+    "a lease of an address that its own port claimed first, and its release": (
+        ["1@1000 question_for_2001:db8:3::33 pass-trusted 4 0",
+         "1@1000 address_question pass-trusted 4 0",
+         "1@2000 dhcp_request pass-all 2,3,4,5 0",
+         "4@2100 lease_of_2001:db8:3::33 pass-all 1 0",
+         "1@2300 release_of_2001:db8:3::33 pass-all 2,3,4,5 0",
+         "1@2400 packet_of_2001:db8:3::33 pass-all 4 0",
+         "4@400000 advert_of_the_router pass-all 1,2,3,5 4"],
+        ["port 1: HEADER AT_2100_138 lease_of_2001:db8:3::33 AT_302300_78 probe_for_fe80::11"
+         " AT_302400_78 probe_for_2001:db8:3::33 AT_302550_78 probe_for_fe80::11"
+         " AT_302650_78 probe_for_2001:db8:3::33 AT_400000_70 advert_of_the_router"]),
+    "32 addresses at a port, and one more": (
+        [f"1@{1000 + k} question_for_fe80::{0x100 + k:x} pass-trusted 4 0" for k in range(32)]
+        + ["1@1032 question_for_fe80::120 drop-PortFull - 0",
+           "2@1033 question_for_fe80::200_by_host_2 pass-trusted 4 0"], ["status 0"]),
+    "a claim long after the holder was last heard": (
+        ["1@1000 address_question pass-trusted 4 0",
+         "2@4000000 packet_of_fe80::11_by_host_2 drop-Unverified - 3"],
+        ["port 1: HEADER AT_301500_78 probe_for_fe80::11 AT_301750_78 probe_for_fe80::11",
+         "port 4: HEADER AT_1000_78 address_question AT_4000000_78 probe_for_fe80::11"]),
+    "frames that are too short or too long": (
+        ["4@1000 thirteen_octets drop-Malformed - 0",
+         "4@1001 1519 drop-Malformed - 0",
+         "4@1002 frame_of_1518_octets pass-all 1,2,3,5 0"], ["status 0"]),
+    # One address for each port.
+    "an address at a port that may have one, and one more": (
+        ["1@1000 address_question pass-trusted 4 0",
+         "1@1100 question_for_2001:db8:1::11 drop-PortFull - 0",
+         "2@1200 question_for_2001:db8:1::11_by_host_2 pass-trusted 4 0"], ["status 0"]),
+    # Queues of one item: a probe takes the place of a frame.
+    "a probe and a frame for a queue of one item": (
+        ["1@1000 address_question pass-trusted 4 0",
+         "2@2000 packet_of_fe80::11_by_host_2 drop-WrongPort - 1",
+         "2@2500 packet_of_fe80::11_by_host_2 pass-all 1,3,4,5 1"],
+        ["9 1 2500 F 2 2500 packet_of_fe80::11_by_host_2 pass-all 1,3,4,5 1 1 0",
+         "port 1: HEADER AT_2000_78 probe_for_fe80::11 AT_2250_78 probe_for_fe80::11"]),
+    # Port 1 is a host's and port 2 is trusted.
+    "falling stamps, and a record that is cut": (
+        ["1@5000 PACKET drop-Unverified - 1",
+         "1@4000 PACKET drop-Unverified - 0"],
+        ["status 4", "port 1: malformed at 164", "port 2: HEADER AT_5000_78 probe_for_fe80::11",
+         "2 0 5000 F 1 5000 PACKET drop-Unverified - - 1 0",
+         "4 0 5000 F 1 4000 PACKET drop-Unverified - - 0 0",
+         "5 0 5000 E in1 malformed 164"]),
+    # Port 1 is trusted, 2 and 3 are hosts'. Room for one frame, then for all.
+    "a history that is full behind its first frame": (
+        ["1@1000 ADVERT pass-all 2,3 0"],
+        ["status 8", "port 1: history full at 6", "3 0 1000 F 1 1000 ADVERT pass-all 2,3 - 0 0", "4 6 1000 D 2 1",
+         "5 7 1000 D 3 1", "6 0 1000 E in1 full 6", "end 11"]),
+    "an output that fails at its second frame": (
+        ["1@1000 ADVERT pass-all 2,3 0",
+         "1@1001 ADVERT pass-all 2,3 0",
+         "1@1002 ADVERT pass-all 2,3 0"],
+        ["status 6", "port 2: HEADER AT_1000 ADVERT", "8 6 1001 E out2 failed",
+         "10 0 1002 F 1 1002 ADVERT pass-all 2,3 2 0 0",
+         "entries 16 frames 3 passed 3 dropped 0 probes 0 lost 0 cut 1"]),
+}
+
+
+def judged(entry):
+    """A line of what is printed of a journal, where it is a frame's, as PORT@STAMP FRAME VERDICT OUTS PROBES; else None."""
+    words = entry.split()
+    if len(words) == 12 and words[3] == "F":
+        return f"{words[4]}@{words[5]} {words[6]} {words[7]} {words[8]} {words[10]}"
+    if len(words) == 10 and words[3] == "L":
+        return f"{words[4]}@{words[5]} {words[6]} {words[7]} - {words[8]}"
+    return None
+
+
+def faults(scenes, names):
+    """What isn't as it was worked out. `scenes` has the lines that each scene with the validation of sources leaves, by its
+    name; `names` the digits of the scenes' frames, by their names."""
+    found = [f"{name}: isn't that frame" for name, frame in FRAMES.items() if names.get(name) != frame.hex()]
+    found += [f"{name}: is worked out, or run, alone" for name in sorted(WORKED.keys() ^ scenes.keys())]
+    for name in sorted(WORKED.keys() & scenes.keys()):
+        frames, more = WORKED[name]
+        lines = scenes[name]
+        got = [row for line in lines if (row := judged(line))]
+        found += [f"{name}: {row} should be there" for row in frames if row not in got]
+        found += [f"{name}: the frames are {len(got)}, or in another order"] if got != frames else []
+        found += [f"{name}: {line} should be there" for line in more if line not in lines]
+    return found
