@@ -1,6 +1,6 @@
 # The switch, its demonstration and its benchmark. Each needs the Rattle toolchain (`rt` on the path) and no network.
 
-.PHONY: build look demo plan bench check clean FORCE
+.PHONY: build look demo plan bench check install uninstall clean FORCE
 
 # The proved program. The first build proves each crate, 15 to 30 minutes on 4 cores; where the program was built from these
 # very sources, by `make` or by the gate, it is taken as it is.
@@ -37,6 +37,35 @@ bench: build build/capture_bench build/lock_bench build/fdb_bench build/tables_b
 # minutes on 4 cores.
 check:
 	.ci/run
+
+# Installs the program with its manual, its documents, two configurations to begin with, and the tools that read journals (by
+# Python 3.11 or later): make install PREFIX=/usr DESTDIR=DIR. Nothing is built here: `make build` comes before.
+PREFIX = /usr/local
+DESTDIR =
+PROGRAM = build/savi_switch
+bin = $(DESTDIR)$(PREFIX)/bin
+lib = $(DESTDIR)$(PREFIX)/lib/savi_switch
+doc = $(DESTDIR)$(PREFIX)/share/doc/savi_switch
+man = $(DESTDIR)$(PREFIX)/share/man/man8
+TOOLS = journal-table journal-picture tell-journal
+
+install:
+	@test -x "$(PROGRAM)" || { echo "$(PROGRAM) isn't there: run 'make build' first, which proves and builds it" >&2; exit 1; }
+	install -d "$(bin)" "$(lib)/switch_reading" "$(doc)/examples" "$(man)"
+	install -m 755 "$(PROGRAM)" "$(bin)/savi_switch"
+	install -m 755 $(TOOLS:%=tools/%) "$(lib)"
+	install -m 644 tools/switch_reading/*.py tools/switch_reading/picture.html "$(lib)/switch_reading"
+	for tool in $(TOOLS); do ln -sf "../lib/savi_switch/$$tool" "$(bin)/savi-$$tool" || exit 1; done
+	install -m 644 docs/CONFIGURATION.md docs/FORMATS.md docs/OPERATIONS.md docs/RULES.md "$(doc)"
+	install -m 644 examples/commented.toml "$(doc)/examples/commented.toml"
+	install -m 644 examples/shared-network/plan.toml "$(doc)/examples/shared-network.toml"
+	sed 's|/usr/local|$(PREFIX)|' docs/savi_switch.8 > "$(man)/savi_switch.8"
+	chmod 644 "$(man)/savi_switch.8"
+
+# Removes what `make install` put there, by the same PREFIX and DESTDIR.
+uninstall:
+	rm -f "$(bin)/savi_switch" $(TOOLS:%="$(bin)/savi-%") "$(man)/savi_switch.8"
+	rm -rf "$(lib)" "$(doc)"
 
 clean:
 	rm -rf build

@@ -3,6 +3,7 @@ from .dhcp import RELAY_FORW, RELAY_REPL
 from .frame import ADVERTISEMENT, DHCP_CLIENT, DHCP_SERVER, REDIRECT, ROUTER_ADVERTISEMENT, ROUTER_SOLICITATION
 from .frame import SOLICITATION, discovery_fault, number, read_frame
 from .plan import address_text, mac_text
+from .switch import set_text
 
 ICMP_NAMES = {
     1: "destination unreachable", 128: "echo request", 129: "echo reply", 131: "MLD report", 132: "MLD done",
@@ -16,16 +17,19 @@ DHCP_NAMES = {
 UPPER_NAMES = {6: "TCP", 17: "UDP", 59: "no next header"}
 
 
-def row(words):
-    """A frame's line of the journal, in words."""
-    port = words[4]
-    if words[3] == "L":
-        return f"port {port} {words[6]} octets: {words[7]}"
-    outs = "" if words[8] == "-" else f" to {words[8]}"
-    cuts = "" if words[9] == "-" else f" cut {words[9]}"
-    probes = "" if words[10] == "0" else f" probes {words[10]}"
-    octets = b"" if words[6] == "-" else bytes.fromhex(words[6])
-    return f"port {port} {tell(octets)}: {words[7]}{outs}{cuts}{probes}"
+def row(entry):
+    """A frame's entry of a journal, in words."""
+    if entry.kind == "L":
+        return f"port {entry.port} {tell_whole(entry)}: {entry.verdict}"
+    outs = f" to {set_text(entry.outs)}" if entry.outs else ""
+    cuts = f" cut {set_text(entry.cuts)}" if entry.cuts else ""
+    probes = f" probes {entry.probes}" if entry.probes else ""
+    return f"port {entry.port} {tell_whole(entry)}: {entry.verdict}{outs}{cuts}{probes}"
+
+
+def tell_whole(arrival):
+    """A frame with its octets, or a long one, of which the journal has the length alone."""
+    return tell(arrival.octets) if arrival.length == len(arrival.octets) else f"{arrival.length} octets"
 
 
 def tell(octets):

@@ -245,7 +245,56 @@ WORKED = {
         ["status 6", "port 2: HEADER AT_1000 ADVERT", "8 6 1001 E out2 failed",
          "10 0 1002 F 1 1002 ADVERT pass-all 2,3 2 0 0",
          "entries 16 frames 3 passed 3 dropped 0 probes 0 lost 0 cut 1"]),
+    # Ports 1 and 2 are a host's and trusted.
+    "two ports, and nothing to do": (
+        [],
+        ["status 0", "entries 6 frames 0 passed 0 dropped 0 probes 0 lost 0 cut 0", "port 1: HEADER", "port 2: HEADER",
+         "0 2 0 E control end", "1 0 0 E in1 end", "2 1 0 E in2 end", "3 3 0 E ticker end", "4 4 0 E out1 end",
+         "5 5 0 E out2 end", "end 6"]),
 }
+
+SILENT = ["status 0", "standard error:"]
+# What a run with five ports opens.
+OPENED = ("plan", "port 1", "port 2", "port 3", "port 4", "port 5", "journal")
+# A packet of an address that nobody has claimed, three times; and what the frames come to.
+PROBED = ["1@1000 PACKET drop-Unverified - 1", "1@1499 PACKET drop-Unverified - 1", "1@1500 PACKET pass-all 2,3,4,5 0"]
+UNPROBED = [row[:-1] + "0" for row in PROBED]
+SENT_AT_4 = ["", " AT_1000_78 probe_for_fe80::11", " AT_1250_78 probe_for_fe80::11", " AT_1500_54 PACKET"]
+
+
+def calls_of_ports():
+    """A read of a port gives a header, of the capture or of a record, or a frame. Port 4 is sent both probes and the last
+    packet, and ports 2, 3 and 5 that packet."""
+    worked = {}
+    for k in range(1, 9):
+        worked[f"read {k} at port 1 of five"] = PROBED[: max(0, (k - 2) // 2)], ["status 5", "port 1: read failed"]
+    worked["read 9 at port 1 of five"] = PROBED, SILENT
+    for n in (2, 3, 4, 5):
+        for k in (1, 2):
+            worked[f"read {k} at port {n} of five"] = PROBED, ["status 5", f"port {n}: read failed"]
+        worked[f"read 3 at port {n} of five"] = PROBED, SILENT
+        if n != 4:
+            last = [f"10 0 1500 F 1 1500 PACKET pass-all 2,3,4,5 {n} 0 0", f"0 {6 + n} 0 E out{n} failed"]
+            worked[f"write 1 at port {n} of five"] = PROBED, ["status 6", f"port {n}: write failed"] + last
+            worked[f"write 2 at port {n} of five"] = PROBED, ["status 6", f"port {n}: write failed", f"port {n}: HEADER"]
+            worked[f"write 3 at port {n} of five"] = PROBED, SILENT
+    worked["write 1 at port 1 of five"] = PROBED, ["status 6", "port 1: write failed", "port 1:"]
+    worked["write 2 at port 1 of five"] = PROBED, SILENT
+    for k in range(1, 5):
+        asked = min(k - 1, 2)
+        frames = PROBED[:asked] + UNPROBED[asked:]
+        text = "port 4:" + ("" if k == 1 else " HEADER" + "".join(SENT_AT_4[: k - 1]))
+        worked[f"write {k} at port 4 of five"] = frames, ["status 6", "port 4: write failed", text]
+    worked["write 5 at port 4 of five"] = PROBED, SILENT + ["port 4: HEADER" + "".join(SENT_AT_4)]
+    for k, name in enumerate(OPENED, 1):
+        worked[f"opening {k} of five ports"] = [], ["status 7", f"cannot open {name}", "journal:"]
+    worked["opening 8 of five ports"] = PROBED, SILENT
+    worked["the journal of five ports"] = [], ["status 6", "journal: write failed", "journal:"]
+    worked["the summary of five ports"] = PROBED, ["status 6"]
+    return worked
+
+
+WORKED |= calls_of_ports()
 
 
 def judged(entry):
@@ -259,10 +308,9 @@ def judged(entry):
 
 
 def faults(scenes, names):
-    """What isn't as it was worked out. `scenes` has the lines that each scene with the validation of sources leaves, by its
-    name; `names` the digits of the scenes' frames, by their names."""
+    """What isn't as it was worked out. `scenes` has the lines that each scene leaves, by its name; `names` the digits of the
+    scenes' frames, by their names."""
     found = [f"{name}: isn't that frame" for name, frame in FRAMES.items() if names.get(name) != frame.hex()]
-    found += [f"{name}: is worked out, or run, alone" for name in sorted(WORKED.keys() ^ scenes.keys())]
     for name in sorted(WORKED.keys() & scenes.keys()):
         frames, more = WORKED[name]
         lines = scenes[name]

@@ -2,3 +2,4 @@ pub mod Standing
 pub mod Starts
 pub mod Stepping
 pub mod Following
+pub mod Commands

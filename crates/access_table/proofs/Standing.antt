@@ -1,5 +1,5 @@
 -- What stands for a past, and for that past with one mark more.
-use Rattle.std.proofs.Common.{◌≡◌, ℕ, ◌≤◌, ◌^◌, Option, Some, None, is_some, if◌then◌else◌, List, [], ◌∷◌, ◌++◌, find, refl, sym, ap, ◌∙◌, subst, inl, inr, arith, rules}
+use Rattle.std.proofs.Common.{◌≡◌, ℕ, ◌≤◌, ◌^◌, Option, Some, None, is_some, if◌then◌else◌, List, [], ◌∷◌, ◌++◌, find, refl, sym, ap, ◌∙◌, subst, inl, inr, arith}
 use Rattle.std.specs.Option.{option_map}
 use Rattle.std.proofs.lemmas.Bool.{cases_Bool}
 use Rattle.savi_kinds.specs.declared.port.Port.{Port}
@@ -37,13 +37,6 @@ use Rattle.savi_access.proofs.States.{none_some}
 use Rattle.savi_access.proofs.Requests.{open_with, open_without}
 use Rattle.savi_access.proofs.Keeping.{told_follows}
 use Rattle.access_table.specs.Kept.{Kept, Represents, IsReady}
-use Rattle.access_table.specs.Events.{IsOfFrame}
-
-pub leases_fit : (event : Ev) → IsOfFrame event → IsLeaseInRange event
-leases_fit event frame = search rules
-
-pub fixes_none : (event : Ev) → IsOfFrame event → (per_port : ℕ) (rows : List Row) (a : ℕ) → IsFixable per_port rows a event
-fixes_none event frame per_port rows a = search rules
 
 -- where none asked there is nothing to take away
 pub none_without : (tid : ℕ) (duid : List ℕ) (requests : List Request) → asker tid duid requests ≡ None → without_pair tid duid requests ≡ requests
@@ -127,11 +120,16 @@ module _ (r : AccessRules) (base : AccessBase) (past : List Mark) where
           ∙ ap (with_state a by_marks.1) is.rows
           ∙ sym (at_mark r.addresses base.addresses tables times named (told past) m found)
 
-      pub event_stands : IsOfFrame event → IsOfVlan r.addresses 1 (port_of event) → (new : Kept) → new.addresses ≡ record old.addresses { rows = with_state a by_table.1 old.addresses.rows } → new.requests ≡ old.requests → Represents r base (with_event r base 1 port t a event past) t new
-      event_stands frame own new addresses requests = record {
+      fixable_by_marks : IsFixable old.addresses.per_port old.addresses.rows a event → IsFixable r.addresses.per_port (rows_at r.addresses base.addresses (told past) t 1) a event
+      fixable_by_marks fix =
+          subst (λ (n : ℕ). IsFixable n (rows_at r.addresses base.addresses (told past) t 1) a event) is.per_port
+          (subst (λ (rows : List Row). IsFixable old.addresses.per_port rows a event) is.rows fix)
+
+      pub event_stands : IsLeaseInRange event → IsFixable old.addresses.per_port old.addresses.rows a event → IsOfVlan r.addresses 1 (port_of event) → (new : Kept) → new.addresses ≡ record old.addresses { rows = with_state a by_table.1 old.addresses.rows } → new.requests ≡ old.requests → Represents r base (with_event r base 1 port t a event past) t new
+      event_stands lease fix own new addresses requests = record {
         base_is = is.base_is;
         marks = (
-          told_follows r base is.base_is 1 port t early past is.marks is.last a event (ap is_some found) (leases_fit event frame) own (fixes_none event frame r.addresses.per_port (rows_at r.addresses base.addresses (told past) t 1) a),
+          told_follows r base is.base_is 1 port t early past is.marks is.last a event (ap is_some found) lease own (fixable_by_marks fix),
           is.marks,
         );
         last = omega arith;

@@ -4,15 +4,18 @@
 //! Contracts see an `AccessTable` as its states and its requests (`specs/Kept.antt`), and say of each call what it does to
 //! whatever these stand for: a list of all that frames have told since a start, as `savi_access` has it. `judge` gives each
 //! frame the verdict and the probe that `judged` there says, and then stands for the marks with those of the frame.
-//! Nothing takes memory but `AccessTable::make`.
+//! `fix` and `clear` are the commands of an operator, which are told as frames are. Nothing takes memory but
+//! `AccessTable::make`.
 #![tactic(auto)]
 
 mod change;
 mod frames;
 mod judgement;
 mod judging;
+mod operator;
 mod plans;
 mod table;
 
 pub use judgement::Judgement;
+pub use operator::is_on_link;
 pub use table::AccessTable;

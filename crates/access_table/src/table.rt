@@ -8,16 +8,17 @@ ghost use Rattle.savi_kinds.specs.ValidPlan.{IsValidPlan};
 ghost use Rattle.fcfs_states.specs.declared.event.Ev.{Ev};
 ghost use Rattle.dhcp_states.specs.Requests.{request_of, open_at, count_at as requests_at, refusal, asker};
 ghost use Rattle.mix_rules.specs.States.{IsLiveAt};
+ghost use Rattle.mix_rules.specs.Premises.{IsLeaseInRange};
 ghost use Rattle.bind_table.specs.Rows.{state_in, count_at, pair_of};
 ghost use Rattle.addr_table.specs.Ages.{aged_rows, AllStill};
 ghost use Rattle.addr_table.specs.declared.sent.SentProbe.{SentProbe};
 ghost use Rattle.addr_table.specs.Sends.{sends};
+ghost use Rattle.addr_table.specs.Rooms.{has_room, IsFixable};
 ghost use Rattle.addr_history.specs.Probes.{probes_between};
 ghost use Rattle.savi_access.specs.Rules.{AccessRules, AccessBase, nothing_yet};
 ghost use Rattle.savi_access.specs.Marks.{Mark, Asked, Met, told, open_requests};
 ghost use Rattle.savi_access.specs.Plans.{rules_of};
 ghost use Rattle.access_table.specs.Kept.{Represents, IsReady};
-ghost use Rattle.access_table.specs.Events.{IsOfFrame};
 ghost use Rattle.access_table.specs.Steps.{Hears, Moves};
 
 use crate::plans::method_of;
@@ -113,12 +114,27 @@ impl AccessTable {
         self.requests.count(port, t)
     }
 
-    // An event that a frame makes of an address, at t. It costs what `AddrTable::event` and `method_of` cost.
+    // The state of an address. O(1) on average.
+    pub(crate) fn state(&self, a: Addr) -> AddrState
+        ensures { result ≡ state_in self.now.addresses.rows a.0 }
+    {
+        self.addresses.get(a)
+    }
+
+    // Whether the port holds fewer addresses than it may. O(1).
+    pub(crate) fn has_room(&self, port: Port) -> bool
+        ensures { result ≡ has_room self.now.addresses.per_port self.now.addresses.rows port }
+    {
+        self.addresses.has_room(port)
+    }
+
+    // An event on an address, at t. It costs what `AddrTable::event` and `method_of` cost.
     pub(crate) fn tell(&mut self, plan: &Plan, a: Addr, ev: Ev, t: Moment) -> Option<Answer>
         requires plan { IsValidPlan plan.now }
         requires moment { t ≤ 2 ^ 62 }
         requires ready { IsReady (rules_of plan.now) t self.old }
-        requires frame { IsOfFrame ev }
+        requires lease { IsLeaseInRange ev }
+        requires fixable { IsFixable self.old.addresses.per_port self.old.addresses.rows a.0 ev }
         ensures ready { IsReady (rules_of plan.now) t self.new }
         ensures heard { Hears (rules_of plan.now) t self.old self.new a.0 ev result }
     {

@@ -1,10 +1,11 @@
 -- Lists of stations parted by a MAC address: those below it, the one with it, those above it.
-use Rattle.std.proofs.Common.{◌≡◌, ℕ, ◌+◌, ◌<◌, nat_lt, zero, suc, get_or, Bool, true, false, ◌&&◌, cond, List, [], ◌∷◌, ◌++◌, length, filter, find, take, drop, count_by, Option, None, Some, All, refl, sym, ◌∙◌, ap, subst, arith, inl, inr}
+use Rattle.std.proofs.Common.{◌≡◌, ℕ, ◌+◌, ◌<◌, nat_lt, zero, suc, get_or, Bool, true, false, ◌&&◌, cond, List, [], ◌∷◌, ◌++◌, length, filter, find, take, drop, count_by, Option, None, Some, All, refl, sym, ◌∙◌, ap, ap₂, subst, arith, inl, inr}
 use Rattle.std.specs.List.{list_any, slice_get}
 use Rattle.std.specs.Option.{option_to_list, option_map}
 use Rattle.std.proofs.lemmas.Bool.{cases_Bool, ltb-true, ltb-false, le-ltb, eqb-true, eq-eqb}
 use Rattle.std.proofs.lemmas.List.{take-append-drop, take-set, drop-set}
 use Rattle.std.proofs.Math.ListN.{set}
+use Rattle.std.proofs.Math.Seq.{drop-cons}
 use Rattle.std.proofs.lemmas.List.Sums.{sum_by-append}
 use Rattle.std.proofs.lemmas.List.Elements.{All-filter, All-head, All-tail, filter-append}
 use Rattle.std.proofs.lemmas.Option.{slice_get_read}
@@ -186,6 +187,18 @@ known_found s xs i x rising at is = known_live (number_of s.port) s.last (mac_nu
 
 pub known_missing : (s : Station) (xs : List Station) (i : ℕ) → IsRising xs → BelongsAt (mac_number s.mac) xs i → is_known s (live_at s.last xs) ≡ false
 known_missing s xs i rising at = known_live (number_of s.port) s.last (mac_number s.mac) xs rising ∙ ap (known_in (number_of s.port) s.last) at.none
+
+-- the list from a place on begins with the station there
+from_here : (xs : List Station) (i : ℕ) (x : Station) → i < length xs → x ≡ get_or xs i x → drop i xs ≡ x ∷ drop (i + 1) xs
+from_here xs i x within is =
+    let next : suc i ≡ i + 1 = omega arith in
+    drop-cons xs i x within ∙ ap₂ (λ (y : Station) (n : ℕ). y ∷ drop n xs) (sym is) next
+
+pub live_here : (t : ℕ) (xs : List Station) (i : ℕ) (x : Station) → i < length xs → x ≡ get_or xs i x → is_live t x ≡ true → live_at t (drop i xs) ≡ x ∷ live_at t (drop (i + 1) xs)
+live_here t xs i x within is live = ap (live_at t) (from_here xs i x within is) ∙ rw live refl
+
+pub ended_here : (t : ℕ) (xs : List Station) (i : ℕ) (x : Station) → i < length xs → x ≡ get_or xs i x → is_live t x ≡ false → live_at t (drop i xs) ≡ live_at t (drop (i + 1) xs)
+ended_here t xs i x within is ended = ap (live_at t) (from_here xs i x within is) ∙ rw ended refl
 
 -- the item that passes a filter behind i others
 pub nth_passing : {X : Type 0} (p : X → Bool) (xs : List X) (k i : ℕ) (x : X) → k < length xs → x ≡ get_or xs k x → p x ≡ true → count_by p (take k xs) ≡ i → slice_get (filter p xs) i ≡ Some x

@@ -1,5 +1,5 @@
 -- The stations of a bridge, in order of MAC address, and which of them are live (IEEE 802.1Q sections 8.8 and 8.8.3).
-use Rattle.std.specs.Prelude.{ℕ, ◌+◌, ◌==◌, nat_lt, Bool, Option, List, ◌∷◌, filter, count_by, find}
+use Rattle.std.specs.Prelude.{ℕ, ◌+◌, ◌==◌, nat_lt, Bool, Option, List, ◌∷◌, map, filter, drop, count_by, find}
 use Rattle.std.specs.Int.{w64, from_be_bytes}
 use Rattle.std.specs.Option.{option_map}
 use Rattle.savi_kinds.specs.Ports.{number_of}
@@ -54,3 +54,7 @@ place_of mac stations = option_map (λ station. station.port) (find (is_of (mac_
 -- what is told of a station: its MAC address, its port, and the moment at which it ends
 abbrev pub row_of : Station → Mac × Port × ℕ
 row_of station = (station.mac, station.port, end_of station)
+
+-- what is told of those that are live at t, from a place in the list on
+abbrev pub rows_from : ℕ → ℕ → List Station → List (Mac × Port × ℕ)
+rows_from t from stations = map row_of (live_at t (drop from stations))

@@ -1,10 +1,10 @@
 //! The filtering database.
 
-ghost use Rattle.std.specs.Prelude.{◌≡◌, ◌≤◌, ◌<◌, ◌^◌, ℕ, Some, None, false, [], find, IfOk, slice_get};
+ghost use Rattle.std.specs.Prelude.{◌≡◌, ◌≤◌, ◌<◌, ◌^◌, ◌∷◌, ℕ, Some, None, false, [], find, drop, length, IfOk, IfSome, MatchOption, slice_get};
 ghost use Rattle.std.specs.Bool.{OnTrue, OnFalse};
 ghost use Rattle.std.specs.Option.{option_map};
 ghost use Rattle.savi_kinds.specs.Ports.{number_of};
-ghost use Rattle.bridge_fdb.specs.Stations.{mac_number, station_of, is_of, is_live, live_at, place_of, row_of};
+ghost use Rattle.bridge_fdb.specs.Stations.{mac_number, station_of, is_of, is_live, live_at, place_of, row_of, rows_from};
 ghost use Rattle.bridge_fdb.specs.Learning.{is_known, learned, with_station};
 ghost use Rattle.bridge_fdb.specs.Limits.{IsWithinLimits};
 ghost use Rattle.bridge_fdb.specs.Kept.{Keeps, IsFree, IsSlotOf, in_slot, listed, without};
@@ -41,6 +41,15 @@ impl Model for Fdb {
     ghost view = { λ f. listed f.kept };
 
     ghost invariant = { λ f. Keeps f.kept × IsWithinLimits (listed f.kept) × Tells f.full (listed f.kept) };
+}
+
+/// What is told of a live station, and where the next one is looked for.
+#[derive(Clone, Copy, PartialEq, Eq, Debug)]
+pub struct NextRow {
+    /// Its MAC address, its port, and the moment (ms) at which it ends.
+    pub row: (Mac, Port, Moment),
+    /// The place behind it among the stations that are kept.
+    pub behind: usize,
 }
 
 impl Fdb {
@@ -96,6 +105,24 @@ impl Fdb {
         }
     }
 
+    /// The next of the stations that are live at moment `t` (ms), in order of MAC address: the first one at place `from` of
+    /// the stations that are kept, or behind it. None exactly where none is left. From place 0 on, and then from the place
+    /// behind each row, all live stations come in order, each once. O(1) beside the stations passed over, which have ended:
+    /// O(n) for all of them together.
+    pub fn next_row(&self, from: usize, t: Moment) -> Option<NextRow>
+        ensures rows { MatchOption result (rows_from t from self.now ≡ []) (λ next. rows_from t from self.now ≡ next.row ∷ rows_from t next.behind self.now) }
+        ensures behind { IfSome result (λ next. (from < next.behind) × (next.behind ≤ length self.now)) }
+        ensures limits { IsWithinLimits self.now }
+    {
+        match live_from(&self.kept, from, t) {
+            Some((station, behind)) => Some(NextRow {
+                row: (station.mac, station.port, station.end()),
+                behind,
+            }),
+            None => None,
+        }
+    }
+
     /// The `i`-th of the stations that are live at moment `t` (ms), in order of MAC address, from 0, with its port and the
     /// moment (ms) at which it ends: None exactly past the last one. O(n).
     pub fn row(&self, i: u32, t: Moment) -> Option<(Mac, Port, Moment)>
@@ -107,6 +134,21 @@ impl Fdb {
             None => None,
         }
     }
+}
+
+// The first station at a place or behind it that is live at t, and the place behind that station.
+fn live_from(kept: &Kept, from: usize, t: Moment) -> Option<(Station, usize)>
+    requires { Keeps kept.now }
+    ensures live { MatchOption result (live_at t (drop from (listed kept.now)) ≡ []) (λ found. live_at t (drop from (listed kept.now)) ≡ found.0 ∷ live_at t (drop found.1 (listed kept.now))) }
+    ensures behind { IfSome result (λ found. (from < found.1) × (found.1 ≤ length (listed kept.now))) }
+{
+    for at in from..kept.len() {
+        let station = kept.at(at);
+        if station.is_live(t) {
+            return Some((station, at + 1));
+        }
+    }
+    None
 }
 
 // The i-th of the stations that are live at t.

@@ -15,6 +15,6 @@ mod station;
 #[cfg(test)]
 mod tests;
 
-pub use fdb::Fdb;
+pub use fdb::{Fdb, NextRow};
 pub use laws::{learning_stays_within_limits, stations_age_once};
 pub use station::{AGEING_TIME_MS, STATIONS_MOST, Station};

@@ -1,7 +1,11 @@
 //! Stations as frames come in.
 
+ghost use Rattle.std.specs.Prelude.{◌≡◌, IfOk, map};
+ghost use Rattle.bridge_fdb.specs.Stations.{live_at, row_of};
+
 use crate::Fdb;
-use savi_kinds::{Mac, Port};
+use savi_kinds::{Mac, Moment, Port};
+use std::alloc::{AllocError, Global};
 use std::test::Fail;
 
 fn port(number: u8) -> Result<Port, Fail> {
@@ -46,5 +50,33 @@ fn stations_are_learned_and_end(rt: HostRuntime) -> Result<(), Fail> {
     for (i, wanted) in rows {
         assert_eq!(rt; fdb.row(i, 301_000), wanted, "row {i}");
     }
+    Ok(())
+}
+
+// What is told of all stations that are live at t, in order.
+fn rows(alloc: Global, fdb: &Fdb, t: Moment) -> Result<Vec<(Mac, Port, Moment)>, AllocError>
+    ensures { IfOk result (λ rows. rows.items ≡ map row_of (live_at t fdb.now)) }
+{
+    let mut rows = Vec::new(alloc);
+    let mut from = 0;
+    while let Some(next) = fdb.next_row(from, t) {
+        rows.push(next.row)?;
+        from = next.behind;
+    }
+    Ok(rows)
+}
+
+#[test]
+fn live_stations_are_told_in_order(rt: HostRuntime) -> Result<(), Fail> {
+    let mut fdb = Fdb::make(rt.alloc())?;
+    let p1 = port(1)?;
+    for (n, t) in [(5, 1_000), (3, 2_000), (9, 1_500), (1, 1_001)] {
+        fdb.learn(mac(n), p1, t);
+    }
+    let told = [(mac(3), p1, 302_000), (mac(9), p1, 301_500)];
+    assert_eq!(rt;
+        rows(rt.alloc(), &fdb, 301_001)?.as_slice(),
+        told.as_slice()
+    );
     Ok(())
 }

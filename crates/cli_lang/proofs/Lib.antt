@@ -1,6 +1,8 @@
 pub mod WordsFound
 pub mod PortRead
 pub mod OneAnswer
+pub mod AddrFound
+pub mod CommandFound
 pub mod WordsJoined
 pub mod TextSays
 pub mod LineTaken

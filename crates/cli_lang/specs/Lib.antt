@@ -1,5 +1,6 @@
 pub mod Words
 pub mod Commands
+pub mod CommandOf
 pub mod Pieces
 pub mod Arrivals
 pub mod Readers

@@ -1,5 +1,6 @@
 ghost use Rattle.std.specs.Prelude.{◌≡◌, [], ◌∷◌, ◌↔◌, IsTrue, IfSome, IfNone, codes};
 ghost use Rattle.cli_lang.specs.Commands.{IsNoPort, IsPortText, WordsGive, LineGives};
+ghost use Rattle.cli_lang.specs.CommandOf.{command_of};
 
 use crate::kinds::{CmdFault, Command};
 use crate::words::{Words, words_of};
@@ -10,7 +11,8 @@ use savi_kinds::{PORTS_MOST, Port, read_addr, read_decimal};
 /// `Unknown` where the word and the number of words are those of no command, then `Address` where the address is none
 /// (RFC 4291 section 2.2), then `PortNumber` where the port isn't from 1 to 16 without a leading zero. O(n).
 pub fn command(line: &[u8]) -> Result<Command, CmdFault>
-    ensures { LineGives line.now result }
+    ensures gives { LineGives line.now result }
+    ensures value { result ≡ command_of line.now }
 {
     match words_of(line) {
         Words::One(word) => one_word(word),

@@ -4,12 +4,18 @@ ghost use Rattle.cli_lang.specs.declared.kinds.Command.{Command};
 ghost use Rattle.cli_lang.specs.declared.kinds.CmdFault.{CmdFault};
 ghost use Rattle.cli_lang.specs.Words.{space, words_of};
 ghost use Rattle.cli_lang.specs.Commands.{LineGives};
+ghost use Rattle.cli_lang.specs.CommandOf.{command_of};
 ghost use Rattle.cli_lang.specs.Arrivals.{Line, Input, Arrive};
 ghost use Rattle.cli_lang.specs.Calls.{CallsGiveInput, CallsBeforeFault};
 
 /// Law: a line comes to one answer.
 pub fn a_line_has_one_answer()
     ensures { (line : List ℕ) (one other : Result Command CmdFault) → LineGives line one → LineGives line other → one ≡ other }
+{}
+
+/// Law: a line comes to the command, or to the fault, that `command_of` gives of it.
+pub fn every_line_comes_to_its_command()
+    ensures { (line : List ℕ) → LineGives line (command_of line) }
 {}
 
 /// Law: the words of a line with one space between each two are the line.

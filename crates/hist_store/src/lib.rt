@@ -36,4 +36,6 @@ pub use read_header::{
     read_savi_line, read_setting, read_unknown_line,
 };
 pub use read_hex::LineOctets;
+pub use read_verdict::RULES;
 pub use reading::read_line;
+pub use verdict_fields::name_of;

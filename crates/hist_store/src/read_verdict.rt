@@ -9,8 +9,8 @@ use crate::read_fields::{behind, is_word, read_port, take_field};
 use crate::verdict_fields::name_of;
 use savi_kinds::{Rule, Scope, Verdict};
 
-// The rules, in the order of their numbers.
-const RULES: [Rule; 23] = [
+/// The rules, in the order of their numbers.
+pub const RULES: [Rule; 23] = [
     Rule::PortDown,
     Rule::Malformed,
     Rule::ReservedGroup,

@@ -54,7 +54,7 @@ fn put_scope(into: &mut JournalLine, scope: Scope)
     }
 }
 
-// The name of a rule, as the journal writes it.
+/// The name of a rule, as the journal writes it: at most 17 octets.
 pub fn name_of(rule: Rule) -> &'static str
     ensures name { result.now ≡ rule_name rule }
     ensures short { length result.now ≤ 17 }

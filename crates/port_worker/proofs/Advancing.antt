@@ -91,16 +91,16 @@ module _ {S K C : Type 0} (written : K → Option (List ℕ)) (faults : K → �
           record {
             port = port_kept k d ∙ one.port;
             later = subst (λ (s : K). faults (get_or first k d).ends.sink ≤ faults s) (sym sink_is) one.later;
-            output = subst (λ (s : K). IsOutput written faults plan mid n (get_or first k d).ends.sink s (known n)) (sym sink_is)
-                (output_kept written faults plan n past mid (get_or first k d).ends.sink (get_or old k d).ends.sink (known n) here one.output);
+            output = subst (λ (s : K). IsOutput written faults plan mid n (get_or first k d).ends.sink s (known.ports n)) (sym sink_is)
+                (output_kept written faults plan n past mid (get_or first k d).ends.sink (get_or old k d).ends.sink (known.ports n) here one.output);
           };
     }
 
     pub allowed_kept : (known stops : Stops) → AreAllowed plan known stops mid → AreAllowed plan known stops past
     allowed_kept known stops allowed k d within =
         let size = length-numbers plan.ports in
-        subst (λ (n : ℕ). Allows (known n) (stops n) (pieces_by plan empty n past)) (get_or_default (numbers_of plan.ports) k 0 d within)
-        (subst (λ (c : ℕ). Allows (known (number_at plan k)) (stops (number_at plan k)) c) (keeps_pieces plan (number_at plan k) past mid (keeps k (omega (arith, within)))) (allowed k 0 within))
+        subst (λ (n : ℕ). Allows (known.ports n) (stops.ports n) (pieces_by plan empty n past)) (get_or_default (numbers_of plan.ports) k 0 d within)
+        (subst (λ (c : ℕ). Allows (known.ports (number_at plan k)) (stops.ports (number_at plan k)) c) (keeps_pieces plan (number_at plan k) past mid (keeps k (omega (arith, within)))) (allowed k 0 within))
 
     -- an entry behind which nothing is drained
     pub goes_on_only : (made : Stops → List Row) → ((stops : Stops) → mid ≡ made stops) → OutputsGoOn written faults plan past mid old (set old place y) made
@@ -138,19 +138,19 @@ drainable_then plan plan' port here here' (Some turn) past mid result k depth pl
 module _ {S K C : Type 0} (written : K → Option (List ℕ)) (faults : K → ℕ) (old : List (PortEnds S K C)) (place : ℕ) (x y : PortEnds S K C) (inside : place < length old) (is : (d : PortEnds S K C) → get_or old place d ≡ x) (rest : y ≡ record x { ahead = y.ahead }) (plan : Plan) (planned : ports_held old ≡ ports_planned plan)
     (past mid : List Row) (port : Port) where
   pub outputs_arrived : (o : Option Turn) (plan' : Plan) (now : List Row) (new : List (PortEnds S K C)) (result : Bool) → result ≡ true → plan' ≡ plan → IfSome o (λ turn. Enters plan port turn past result mid)
-      → OutputsGoOn written faults plan' mid now (set old place y) new (λ stops. drained plan' empty stops plan'.ports mid) → IfSome o (λ turn. OutputsGoOn written faults plan past now old new (λ stops. entered plan empty stops turn past))
+      → OutputsGoOn written faults plan' mid now (set old place y) new (λ stops. drained plan' empty stops.ports plan'.ports mid) → IfSome o (λ turn. OutputsGoOn written faults plan past now old new (λ stops. entered plan empty stops turn past))
   outputs_arrived None plan' now new result answer plan_is enters goes = tt
   outputs_arrived (Some turn) plan' now new result answer plan_is enters goes =
       let e : Enters plan port turn past true mid = subst (λ (b : Bool). Enters plan port turn past b mid) answer enters in
-      let goes_plan : OutputsGoOn written faults plan mid now (set old place y) new (λ stops. drained plan empty stops plan.ports mid) =
-      subst (λ (p : Plan). OutputsGoOn written faults p mid now (set old place y) new (λ stops. drained p empty stops p.ports mid)) plan_is goes in
+      let goes_plan : OutputsGoOn written faults plan mid now (set old place y) new (λ stops. drained plan empty stops.ports plan.ports mid) =
+      subst (λ (p : Plan). OutputsGoOn written faults p mid now (set old place y) new (λ stops. drained p empty stops.ports p.ports mid)) plan_is goes in
       goes_on_then written faults old place x y inside is rest plan past mid planned
       (λ k within. subst (λ (l : List Row). KeepsOutput plan (number_at plan k) past l) (sym e.3) (keeps_arrival plan past port e.0 k within))
-      now new (λ stops. entered plan empty stops turn past) (λ stops. drained plan empty stops plan.ports mid) goes_plan (λ stops. made_arrival stops turn e.0 e.1 e.2 e.3)
+      now new (λ stops. entered plan empty stops turn past) (λ stops. drained plan empty stops.ports plan.ports mid) goes_plan (λ stops. made_arrival stops turn e.0 e.1 e.2 e.3)
     where
-      made_arrival : (stops : Stops) (turn : Turn) (arrival : Arrival) → turn ≡ Arrives port arrival → has_room plan past ≡ true → mid ≡ with_event plan empty past (event_of port arrival) → drained plan empty stops plan.ports mid ≡ entered plan empty stops turn past
+      made_arrival : (stops : Stops) (turn : Turn) (arrival : Arrival) → turn ≡ Arrives port arrival → has_room plan past ≡ true → mid ≡ with_event plan empty past (event_of port arrival) → drained plan empty stops.ports plan.ports mid ≡ entered plan empty stops turn past
       made_arrival stops turn arrival turn_is room mid_is =
-          ap (drained plan empty stops plan.ports) mid_is
+          ap (drained plan empty stops.ports plan.ports) mid_is
           ∙ rw (turn_is, room) refl
 
   pub outputs_ended : (o : Option Turn) (result : Bool) → result ≡ false → pass_of plan (Ingress port) ≤ ticker_pass plan → IfSome o (λ turn. Enters plan port turn past result mid) → IfSome o (λ turn. OutputsGoOn written faults plan past mid old (set old place y) (λ stops. entered plan empty stops turn past))

@@ -51,7 +51,7 @@ module _ {K : Type 0} (written : K → Option (List ℕ)) (faults : K → ℕ) (
   one_piece = ap (λ (l : List Item). suc (length l)) fresh.unsent
 
   -- the header was written, or that failed
-  begun_step : IsWritten written faults plan port past now (header_text ∷ []) old new → PortStep written faults plan port now old new (λ stops. with_failure plan empty stops port past)
+  begun_step : IsWritten written faults plan port past now (header_text ∷ []) old new → PortStep written faults plan port now old new (λ stops. with_failure plan empty stops.ports port past)
   begun_step (inl all) =
       let here : RunsOn written plan past q old new = record {
         running = fresh.running;
@@ -61,7 +61,7 @@ module _ {K : Type 0} (written : K → Option (List ℕ)) (faults : K → ℕ) (
       record {
         later = None;
         output = subst (λ (l : List Row). RunsOn written plan l q old new) (sym all.past) here;
-        made_so = λ stops allowed. all.past ∙ sym (no_failure plan stops port past (subst (λ (l : List Row). is_stopped (stops q) (pieces_by plan empty q l) ≡ false) all.past allowed));
+        made_so = λ stops allowed. all.past ∙ sym (no_failure plan stops port past (subst (λ (l : List Row). is_stopped (stops.ports q) (pieces_by plan empty q l) ≡ false) all.past allowed));
       }
   begun_step (inr front) =
       let failed = with_failed plan port past in
@@ -96,7 +96,7 @@ fresh_kept plan n past now keeps fresh = record {
 
 -- what is allowed at the ports below a place
 abbrev pub AllowedBelow : Plan → ℕ → Stops → Stops → List Row → Type 0
-AllowedBelow plan place known stops past = (k : ℕ) → k < place → Allows (known (number_at plan k)) (stops (number_at plan k)) (pieces_by plan empty (number_at plan k) past)
+AllowedBelow plan place known stops past = (k : ℕ) → k < place → Allows (known.ports (number_at plan k)) (stops.ports (number_at plan k)) (pieces_by plan empty (number_at plan k) past)
 
 -- the outputs of the ports below a place are begun
 pub record BeginsSoFar {S K C : Type 0} (written : K → Option (List ℕ)) (faults : K → ℕ) (place : ℕ) (first now : Machine) (old new : List (PortEnds S K C)) : Type 0 where
@@ -105,16 +105,16 @@ pub record BeginsSoFar {S K C : Type 0} (written : K → Option (List ℕ)) (fau
   pub fresh : (k : ℕ) → place ≤ k → k < length old → IsFresh first.plan now.past (number_at first.plan k)
   pub known : Stops
   pub outputs : (k : ℕ) (d : PortEnds S K C) → k < place → IsOutputOf written faults first.plan known now.past (get_or old k d) (get_or new k d)
-  pub made_so : (stops : Stops) → AllowedBelow first.plan place known stops now.past → begun first.plan empty stops (drop place first.plan.ports) now.past ≡ begun first.plan empty stops first.plan.ports []
+  pub made_so : (stops : Stops) → AllowedBelow first.plan place known stops now.past → begun first.plan empty stops.ports (drop place first.plan.ports) now.past ≡ begun first.plan empty stops.ports first.plan.ports []
 
 pub begins_none : {S K C : Type 0} (written : K → Option (List ℕ)) (faults : K → ℕ) (first : Machine) (old : List (PortEnds S K C)) → first.past ≡ [] → BeginsSoFar written faults 0 first first old old
 begins_none written faults first old start = record {
   plan = refl;
   sinks = pairs_none (OnlySink written faults) old;
   fresh = λ k above within. rw start (record { running = refl; none = refl; unsent = refl; unsure = refl });
-  known = λ n. None;
+  known = record { ports = λ n. None; control = None };
   outputs = λ k d below. absurd (omega arith);
-  made_so = λ stops allowed. ap (begun first.plan empty stops first.plan.ports) start;
+  made_so = λ stops allowed. ap (begun first.plan empty stops.ports first.plan.ports) start;
 }
 
 module _ {S K C : Type 0} (written : K → Option (List ℕ)) (faults : K → ℕ) (place : ℕ) (first now next : Machine) (old new : List (PortEnds S K C)) (x y : PortEnds S K C)
@@ -145,7 +145,7 @@ module _ {S K C : Type 0} (written : K → Option (List ℕ)) (faults : K → �
 
   module _ (plan_is : next.plan ≡ now.plan) (only : OnlySink written faults x y) (begun_now : IsBegun written faults now.plan now.past next.past x y) where
     abbrev made : Stops → List Row
-    made stops = with_failure first.plan empty stops x.port now.past
+    made stops = with_failure first.plan empty stops.ports x.port now.past
 
     begun_one : IsBegun written faults first.plan now.past next.past x y
     begun_one = subst (λ (p : Plan). IsBegun written faults p now.past next.past x y) so_far.plan begun_now
@@ -185,21 +185,21 @@ module _ {S K C : Type 0} (written : K → Option (List ℕ)) (faults : K → �
     allowed_below : (stops : Stops) → AllowedBelow first.plan (place + 1) known_now stops next.past → AllowedBelow first.plan place so_far.known stops now.past
     allowed_below stops allowed k below =
         let here = inside_old in
-        allowed_there written faults first.plan so_far.known now.past next.past x x y made refl (omega arith) only leaves step (number_at first.plan k) (stops (number_at first.plan k)) (apart k (omega arith) (omega arith)) (passes_apart k (omega arith) (omega arith)) (allowed k (omega arith))
+        allowed_there written faults first.plan so_far.known now.past next.past x x y made refl (omega arith) only leaves step (number_at first.plan k) (stops.ports (number_at first.plan k)) (apart k (omega arith) (omega arith)) (passes_apart k (omega arith) (omega arith)) (allowed k (omega arith))
 
     next_is : (stops : Stops) → AllowedBelow first.plan (place + 1) known_now stops next.past → next.past ≡ made stops
     next_is stops allowed =
         made_here written faults first.plan so_far.known now.past next.past x x y made refl (omega arith) only leaves step stops
-        (subst (λ (n : ℕ). Allows (known_now n) (stops n) (pieces_by first.plan empty n next.past)) (sym number_here) (allowed place (omega arith)))
+        (subst (λ (n : ℕ). Allows (known_now.ports n) (stops.ports n) (pieces_by first.plan empty n next.past)) (sym number_here) (allowed place (omega arith)))
 
-    rest_is : (stops : Stops) → AllowedBelow first.plan (place + 1) known_now stops next.past → begun first.plan empty stops (drop (place + 1) first.plan.ports) next.past ≡ begun first.plan empty stops (drop place first.plan.ports) now.past
+    rest_is : (stops : Stops) → AllowedBelow first.plan (place + 1) known_now stops next.past → begun first.plan empty stops.ports (drop (place + 1) first.plan.ports) next.past ≡ begun first.plan empty stops.ports (drop place first.plan.ports) now.past
     rest_is stops allowed =
         let q = held_at old first.plan place y planned inside_old in
         let port_is : q.0.number ≡ x.port = q.2 ∙ ap (λ (p : PortEnds S K C). p.port) old_is in
-        let one : begun first.plan empty stops (drop place first.plan.ports) now.past ≡ begun first.plan empty stops (drop (suc place) first.plan.ports) next.past =
-        ap (λ (l : List PortPlan). begun first.plan empty stops l now.past) q.1
-        ∙ ap (λ (p : Port). begun first.plan empty stops (drop (suc place) first.plan.ports) (with_failure first.plan empty stops p now.past)) port_is
-        ∙ ap (begun first.plan empty stops (drop (suc place) first.plan.ports)) (sym (next_is stops allowed)) in
+        let one : begun first.plan empty stops.ports (drop place first.plan.ports) now.past ≡ begun first.plan empty stops.ports (drop (suc place) first.plan.ports) next.past =
+        ap (λ (l : List PortPlan). begun first.plan empty stops.ports l now.past) q.1
+        ∙ ap (λ (p : Port). begun first.plan empty stops.ports (drop (suc place) first.plan.ports) (with_failure first.plan empty stops.ports p now.past)) port_is
+        ∙ ap (begun first.plan empty stops.ports (drop (suc place) first.plan.ports)) (sym (next_is stops allowed)) in
         rw add-one (sym one)
 
     pub begins_more : BeginsSoFar written faults (place + 1) first next old (set new place y)
@@ -214,11 +214,11 @@ module _ {S K C : Type 0} (written : K → Option (List ℕ)) (faults : K → �
 
 -- behind the last port
 pub begins_all : {S K C : Type 0} (written : K → Option (List ℕ)) (faults : K → ℕ) (place : ℕ) (first now : Machine) (old new : List (PortEnds S K C)) → place ≡ length first.plan.ports → length old ≡ length first.plan.ports → BeginsSoFar written faults place first now old new
-    → (known : Stops) × AreOutputs written faults first.plan known now.past old new × ((stops : Stops) → AreAllowed first.plan known stops now.past → now.past ≡ begun first.plan empty stops first.plan.ports [])
+    → (known : Stops) × AreOutputs written faults first.plan known now.past old new × ((stops : Stops) → AreAllowed first.plan known stops now.past → now.past ≡ begun first.plan empty stops.ports first.plan.ports [])
 begins_all written faults place first now old new all count so_far =
     let none : drop place first.plan.ports ≡ [] = drop_all place first.plan.ports (omega arith) in
     let size = length-numbers first.plan.ports in (
       so_far.known,
       record { size = so_far.sinks.size; each = λ k d within. so_far.outputs k d (omega arith) },
-      λ stops allowed. ap (λ (l : List PortPlan). begun first.plan empty stops l now.past) (sym none) ∙ so_far.made_so stops (λ k below. allowed k 0 (omega arith)),
+      λ stops allowed. ap (λ (l : List PortPlan). begun first.plan empty stops.ports l now.past) (sym none) ∙ so_far.made_so stops (λ k below. allowed k 0 (omega arith)),
     )

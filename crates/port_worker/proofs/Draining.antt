@@ -34,12 +34,12 @@ only_itself written faults p = record { same = refl; later = omega arith; took =
 
 -- what is known, with what is known now of one port
 abbrev pub with_known : Stops → ℕ → Option ℕ → Stops
-with_known known q later = λ n. if n == q then later else known n
+with_known known q later = record { ports = λ n. if n == q then later else known.ports n; control = known.control }
 
-known_here : (known : Stops) (q n : ℕ) (later : Option ℕ) → n ≡ q → with_known known q later n ≡ later
+known_here : (known : Stops) (q n : ℕ) (later : Option ℕ) → n ≡ q → (with_known known q later).ports n ≡ later
 known_here known q n later same = let is : (n == q) ≡ true = grind (arith, nat_tests) in rw is refl
 
-known_there : (known : Stops) (q n : ℕ) (later : Option ℕ) → n ≢ q → with_known known q later n ≡ known n
+known_there : (known : Stops) (q n : ℕ) (later : Option ℕ) → n ≢ q → (with_known known q later).ports n ≡ known.ports n
 known_there known q n later other = let is : (n == q) ≡ false = grind (arith, nat_tests) in rw is refl
 
 pub egress_apart : (plan : Plan) (j k : ℕ) → IsStrictlyIncreasing (numbers_of plan.ports) → j < length plan.ports → k < length plan.ports → j ≢ k → egress_pass plan (number_at plan j) ≢ egress_pass plan (number_at plan k)
@@ -61,7 +61,7 @@ module _ {S K C : Type 0} (written : K → Option (List ℕ)) (faults : K → �
     port = ap (λ (p : PortEnds S K C). p.port) only.same ∙ same_port;
     later = omega (arith, no_less, only.later);
     output =
-        subst (λ (p : Port). IsOutput written faults plan now (number_of p) first.ends.sink y.ends.sink (later (number_of p))) same_port
+        subst (λ (p : Port). IsOutput written faults plan now (number_of p) first.ends.sink y.ends.sink (later.ports (number_of p))) same_port
         (subst (λ (o : Option ℕ). IsOutput written faults plan now (number_of x.port) first.ends.sink y.ends.sink o) (sym (known_here known (number_of x.port) (number_of x.port) step.later refl)) step.output);
   }
 
@@ -75,19 +75,19 @@ module _ {S K C : Type 0} (written : K → Option (List ℕ)) (faults : K → �
         later = was.later;
         output =
             subst (λ (o : Option ℕ). IsOutput written faults plan now n other.ends.sink now_there.ends.sink o) (sym (known_there known (number_of x.port) n step.later (λ same. apart (sym same))))
-            (output_kept written faults plan n past now other.ends.sink now_there.ends.sink (known n) (leaves.keeps n apart passes) was.output);
+            (output_kept written faults plan n past now other.ends.sink now_there.ends.sink (known.ports n) (leaves.keeps n apart passes) was.output);
       }
 
   -- what is allowed behind the step was allowed before it, and the step made it
-  pub allowed_here : (stop : Option ℕ) → Allows (later (number_of x.port)) stop (pieces_by plan empty (number_of x.port) now) → Allows step.later stop (pieces_by plan empty (number_of x.port) now)
+  pub allowed_here : (stop : Option ℕ) → Allows (later.ports (number_of x.port)) stop (pieces_by plan empty (number_of x.port) now) → Allows step.later stop (pieces_by plan empty (number_of x.port) now)
   allowed_here stop = subst (λ (o : Option ℕ). Allows o stop (pieces_by plan empty (number_of x.port) now)) (known_here known (number_of x.port) (number_of x.port) step.later refl)
 
-  pub made_here : (stops : Stops) → Allows (later (number_of x.port)) (stops (number_of x.port)) (pieces_by plan empty (number_of x.port) now) → now ≡ made stops
-  made_here stops allowed = step.made_so stops (allowed_here (stops (number_of x.port)) allowed)
+  pub made_here : (stops : Stops) → Allows (later.ports (number_of x.port)) (stops.ports (number_of x.port)) (pieces_by plan empty (number_of x.port) now) → now ≡ made stops
+  made_here stops allowed = step.made_so stops (allowed_here (stops.ports (number_of x.port)) allowed)
 
-  pub allowed_there : (n : ℕ) (stop : Option ℕ) → number_of x.port ≢ n → egress_pass plan (number_of x.port) ≢ egress_pass plan n → Allows (later n) stop (pieces_by plan empty n now) → Allows (known n) stop (pieces_by plan empty n past)
+  pub allowed_there : (n : ℕ) (stop : Option ℕ) → number_of x.port ≢ n → egress_pass plan (number_of x.port) ≢ egress_pass plan n → Allows (later.ports n) stop (pieces_by plan empty n now) → Allows (known.ports n) stop (pieces_by plan empty n past)
   allowed_there n stop apart passes allowed =
-      subst (λ (c : ℕ). Allows (known n) stop c) (keeps_pieces plan n past now (leaves.keeps n apart passes))
+      subst (λ (c : ℕ). Allows (known.ports n) stop c) (keeps_pieces plan n past now (leaves.keeps n apart passes))
       (subst (λ (o : Option ℕ). Allows o stop (pieces_by plan empty n now)) (known_there known (number_of x.port) n step.later (λ same. apart (sym same))) allowed)
 
 -- what the ports below a place made of the outputs, from what was known before
@@ -95,7 +95,7 @@ pub record DrainedSoFar {S K C : Type 0} (written : K → Option (List ℕ)) (fa
   pub later : Stops
   pub outputs : AreOutputs written faults plan later now first new
   pub before : (stops : Stops) → AreAllowed plan later stops now → AreAllowed plan known stops past
-  pub made_so : (stops : Stops) → AreAllowed plan later stops now → drained plan empty stops (drop place plan.ports) now ≡ drained plan empty stops plan.ports past
+  pub made_so : (stops : Stops) → AreAllowed plan later stops now → drained plan empty stops.ports (drop place plan.ports) now ≡ drained plan empty stops.ports plan.ports past
 
 -- the queues of the ports below a place are drained and what they held is written
 pub record DrainsSoFar {S K C : Type 0} (written : K → Option (List ℕ)) (faults : K → ℕ) (place : ℕ) (first now : Machine) (old new : List (PortEnds S K C)) : Type 0 where
@@ -181,7 +181,7 @@ module _ {S K C : Type 0} (written : K → Option (List ℕ)) (faults : K → �
 
   module _ (start : List (PortEnds S K C)) (known : Stops) (before : DrainedSoFar written faults first.plan place known first.past now.past start new) where
     abbrev made : Stops → List Row
-    made stops = with_drain first.plan empty stops x.port (length (waiting_at first.plan x.port now.past)) now.past
+    made stops = with_drain first.plan empty stops.ports x.port (length (waiting_at first.plan x.port now.past)) now.past
 
     inside_start : place < length start
     inside_start = let size = before.outputs.size in omega arith
@@ -193,10 +193,10 @@ module _ {S K C : Type 0} (written : K → Option (List ℕ)) (faults : K → �
     unfolding o
     was = subst (λ (p : PortEnds S K C). IsOutputOf written faults first.plan before.later now.past (get_or start place y) p) is (before.outputs.each place y inside_start)
 
-    drain : DrainStep written faults first.plan x.port (before.later (number_of x.port)) now.past next.past o.ends.sink y.ends.sink made
+    drain : DrainStep written faults first.plan x.port (before.later.ports (number_of x.port)) now.past next.past o.ends.sink y.ends.sink made
     drain =
-        drain_step written faults first.plan now.past next.past o.ends.sink x y (before.later (number_of x.port)) was.later
-        (subst (λ (p : Port). IsOutput written faults first.plan now.past (number_of p) o.ends.sink x.ends.sink (before.later (number_of p))) (sym was.port) was.output) drained_one
+        drain_step written faults first.plan now.past next.past o.ends.sink x y (before.later.ports (number_of x.port)) was.later
+        (subst (λ (p : Port). IsOutput written faults first.plan now.past (number_of p) o.ends.sink x.ends.sink (before.later.ports (number_of p))) (sym was.port) was.output) drained_one
 
     abbrev step : PortStep written faults first.plan x.port next.past o.ends.sink y.ends.sink made
     step = drain.step
@@ -228,22 +228,22 @@ module _ {S K C : Type 0} (written : K → Option (List ℕ)) (faults : K → �
         (output_there written faults first.plan before.later now.past next.past o x y made was.port was.later only leaves step (get_or start k d) (get_or new k d)
         (λ e. apart k (within_old k within) other (e ∙ number_start k d within)) (λ e. passes_apart k (within_old k within) other (e ∙ ap (egress_pass first.plan) (number_start k d within))) (before.outputs.each k d within))
 
-    allowed_at : (stops : Stops) (k : ℕ) → k < length old → (k ≡ place) ⊎ (k ≢ place) → Allows (known_now (number_at first.plan k)) (stops (number_at first.plan k)) (pieces_by first.plan empty (number_at first.plan k) next.past)
-        → Allows (before.later (number_at first.plan k)) (stops (number_at first.plan k)) (pieces_by first.plan empty (number_at first.plan k) now.past)
+    allowed_at : (stops : Stops) (k : ℕ) → k < length old → (k ≡ place) ⊎ (k ≢ place) → Allows (known_now.ports (number_at first.plan k)) (stops.ports (number_at first.plan k)) (pieces_by first.plan empty (number_at first.plan k) next.past)
+        → Allows (before.later.ports (number_at first.plan k)) (stops.ports (number_at first.plan k)) (pieces_by first.plan empty (number_at first.plan k) now.past)
     allowed_at stops k within (inl same) allowed =
         let here : number_of x.port ≡ number_at first.plan k = number_here ∙ ap (number_at first.plan) (sym same) in
-        subst (λ (n : ℕ). Allows (before.later n) (stops n) (pieces_by first.plan empty n now.past)) here
-        (drain.before (stops (number_of x.port))
-        (allowed_here written faults first.plan before.later now.past next.past o x y made was.port was.later only leaves step (stops (number_of x.port))
-        (subst (λ (n : ℕ). Allows (known_now n) (stops n) (pieces_by first.plan empty n next.past)) (sym here) allowed)))
+        subst (λ (n : ℕ). Allows (before.later.ports n) (stops.ports n) (pieces_by first.plan empty n now.past)) here
+        (drain.before (stops.ports (number_of x.port))
+        (allowed_here written faults first.plan before.later now.past next.past o x y made was.port was.later only leaves step (stops.ports (number_of x.port))
+        (subst (λ (n : ℕ). Allows (known_now.ports n) (stops.ports n) (pieces_by first.plan empty n next.past)) (sym here) allowed)))
     allowed_at stops k within (inr other) allowed =
-        allowed_there written faults first.plan before.later now.past next.past o x y made was.port was.later only leaves step (number_at first.plan k) (stops (number_at first.plan k)) (apart k within other) (passes_apart k within other) allowed
+        allowed_there written faults first.plan before.later now.past next.past o x y made was.port was.later only leaves step (number_at first.plan k) (stops.ports (number_at first.plan k)) (apart k within other) (passes_apart k within other) allowed
 
     allowed_before : (stops : Stops) → AreAllowed first.plan known_now stops next.past → AreAllowed first.plan before.later stops now.past
     allowed_before stops allowed k d within =
         let count = count_is old first.plan planned in
         let size = length-numbers first.plan.ports in
-        subst (λ (n : ℕ). Allows (before.later n) (stops n) (pieces_by first.plan empty n now.past)) (get_or_default (numbers_of first.plan.ports) k 0 d within)
+        subst (λ (n : ℕ). Allows (before.later.ports n) (stops.ports n) (pieces_by first.plan empty n now.past)) (get_or_default (numbers_of first.plan.ports) k 0 d within)
         (allowed_at stops k (omega arith) (cases_eq k place) (allowed k 0 within))
 
     next_is : (stops : Stops) → AreAllowed first.plan known_now stops next.past → next.past ≡ made stops
@@ -252,16 +252,16 @@ module _ {S K C : Type 0} (written : K → Option (List ℕ)) (faults : K → �
         let size = length-numbers first.plan.ports in
         let here = inside_old in
         made_here written faults first.plan before.later now.past next.past o x y made was.port was.later only leaves step stops
-        (subst (λ (n : ℕ). Allows (known_now n) (stops n) (pieces_by first.plan empty n next.past)) (sym number_here) (allowed place 0 (omega arith)))
+        (subst (λ (n : ℕ). Allows (known_now.ports n) (stops.ports n) (pieces_by first.plan empty n next.past)) (sym number_here) (allowed place 0 (omega arith)))
 
-    rest_is : (stops : Stops) → AreAllowed first.plan known_now stops next.past → drained first.plan empty stops (drop (place + 1) first.plan.ports) next.past ≡ drained first.plan empty stops (drop place first.plan.ports) now.past
+    rest_is : (stops : Stops) → AreAllowed first.plan known_now stops next.past → drained first.plan empty stops.ports (drop (place + 1) first.plan.ports) next.past ≡ drained first.plan empty stops.ports (drop place first.plan.ports) now.past
     rest_is stops allowed =
         let q = held_at old first.plan place y planned inside_old in
         let port_is : q.0.number ≡ x.port = q.2 ∙ ap (λ (p : PortEnds S K C). p.port) old_is in
-        let one : drained first.plan empty stops (drop place first.plan.ports) now.past ≡ drained first.plan empty stops (drop (suc place) first.plan.ports) next.past =
-        ap (λ (l : List PortPlan). drained first.plan empty stops l now.past) q.1
-        ∙ ap (λ (p : Port). drained first.plan empty stops (drop (suc place) first.plan.ports) (with_drain first.plan empty stops p (length (waiting_at first.plan p now.past)) now.past)) port_is
-        ∙ ap (drained first.plan empty stops (drop (suc place) first.plan.ports)) (sym (next_is stops allowed)) in
+        let one : drained first.plan empty stops.ports (drop place first.plan.ports) now.past ≡ drained first.plan empty stops.ports (drop (suc place) first.plan.ports) next.past =
+        ap (λ (l : List PortPlan). drained first.plan empty stops.ports l now.past) q.1
+        ∙ ap (λ (p : Port). drained first.plan empty stops.ports (drop (suc place) first.plan.ports) (with_drain first.plan empty stops.ports p (length (waiting_at first.plan p now.past)) now.past)) port_is
+        ∙ ap (drained first.plan empty stops.ports (drop (suc place) first.plan.ports)) (sym (next_is stops allowed)) in
         rw add-one (sym one)
 
     pub drained_more : DrainedSoFar written faults first.plan (place + 1) known first.past next.past start (set new place y)
@@ -284,7 +284,7 @@ module _ {S K C : Type 0} (written : K → Option (List ℕ)) (faults : K → �
 
 -- behind the last port
 pub drains_all : {S K C : Type 0} (written : K → Option (List ℕ)) (faults : K → ℕ) (place : ℕ) (first now : Machine) (old new : List (PortEnds S K C)) → place ≡ length first.plan.ports → DrainsSoFar written faults place first now old new
-    → OutputsGoOn written faults first.plan first.past now.past old new (λ stops. drained first.plan empty stops first.plan.ports first.past)
+    → OutputsGoOn written faults first.plan first.past now.past old new (λ stops. drained first.plan empty stops.ports first.plan.ports first.past)
 drains_all written faults place first now old new all so_far start known was =
     let done = so_far.outputs start known was in
     let none : drop place first.plan.ports ≡ [] = drop_all place first.plan.ports (omega arith) in (
@@ -292,6 +292,6 @@ drains_all written faults place first now old new all so_far start known was =
       done.outputs,
       record {
         before = done.before;
-        made_so = λ stops allowed. ap (λ (l : List PortPlan). drained first.plan empty stops l now.past) (sym none) ∙ done.made_so stops allowed;
+        made_so = λ stops allowed. ap (λ (l : List PortPlan). drained first.plan empty stops.ports l now.past) (sym none) ∙ done.made_so stops allowed;
       },
     )

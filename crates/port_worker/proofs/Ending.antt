@@ -17,13 +17,13 @@ use Rattle.savi_history.specs.Bases.{empty}
 use Rattle.savi_history.specs.Passes.{AllEnded, has_ended, control_pass}
 use Rattle.savi_history.specs.Events.{End}
 use Rattle.savi_history.specs.Legal.{IsFinished}
-use Rattle.savi_history.specs.Turns.{Turn, turn_at, turns, port_turns}
+use Rattle.savi_history.specs.Turns.{Turn, turn_at, turns, port_turns, control_turns}
 use Rattle.savi_history.specs.Merges.{merged}
-use Rattle.savi_history.specs.Replay.{begun, with_event, after_all, egress_ended, control_turns}
+use Rattle.savi_history.specs.Replay.{begun, with_event, after_all, inputs_taken, egress_ended}
 use Rattle.savi_history.specs.PortInputs.{input_end}
 use Rattle.savi_history.proofs.PortInputs.{same_finished}
 use Rattle.savi_history.proofs.Ends.{AreOf}
-use Rattle.savi_history.proofs.Reaching.{Head, Done, Agrees, IsLeft, AreLeft, joined, reaches_end}
+use Rattle.savi_history.proofs.Reaching.{pass_at, Head, Done, Agrees, IsLeft, AreLeft, joined, reaches_end}
 use Rattle.port_worker.specs.declared.port_ends.Ahead.{Ahead}
 use Rattle.port_worker.specs.declared.port_ends.Ahead.TheVariants as ahead
 use Rattle.port_worker.specs.declared.port_ends.PortEnds.{PortEnds}
@@ -33,6 +33,7 @@ use Rattle.port_worker.specs.Outputs.{IsOutput, IsOutputEnded}
 use Rattle.port_worker.specs.Replays.{ports_held, ports_planned}
 use Rattle.port_worker.specs.Served.{IsInputOf, IsServed, ServesEnds}
 use Rattle.port_worker.proofs.Allowed.{allowed_itself}
+use Rattle.port_worker.proofs.ControlFirst.{control_taken, agree_all, done_all}
 use Rattle.port_worker.proofs.EndedOutputs.{took_of, fit_of, broken_of}
 use Rattle.port_worker.proofs.Fitting.{IsFit, HasCause}
 use Rattle.port_worker.proofs.Later.{IsLater}
@@ -168,15 +169,23 @@ module _ {S K C : Type 0} (left : S → Option (List ℕ)) (written : K → Opti
   left_at k (inl inside) = rw (heads_done k inside) tt
   left_at k (inr outside) = rw (get_or_past (map head_of ports) k Done outside) tt
 
-  rests_left : AreLeft plan (map head_of ports) rests
+  of_all : (k : ℕ) → AreOf plan (pass_at plan k) (get_or ([] ∷ rests) k [])
+  of_all zero = tt
+  of_all (suc k) = of_at k (cases_lt k (length first))
+
+  left_all : (k : ℕ) → IsLeft (get_or (Done ∷ map head_of ports) k Done) (get_or ([] ∷ rests) k [])
+  left_all zero = tt
+  left_all (suc k) = left_at k (cases_lt k (length (map head_of ports)))
+
+  rests_left : AreLeft plan (Done ∷ map head_of ports) ([] ∷ rests)
   rests_left =
       let size = r.later.size in
       let sizes = length-map ports head_of in
       let count = rests_count in
       record {
         size = omega arith;
-        of = λ k. of_at k (cases_lt k (length first));
-        each = λ k. left_at k (cases_lt k (length (map head_of ports)));
+        of = of_all;
+        each = left_all;
       }
 
   port_at : (k : ℕ) (d : PortEnds S K C) → k < length first → get_or (ports_planned plan) k d.port ≡ (get_or first k d).port
@@ -200,18 +209,18 @@ module _ {S K C : Type 0} (left : S → Option (List ℕ)) (written : K → Opti
       ∙ ap (λ (p : Port). turns p (get_or inputs_of k both_default.0)) (sym (port_at k e within))
       ∙ sym (port_turns_at plan.ports inputs_of k d e.port both_default.0 (omega arith) (omega arith)))
 
-  past_is : past ≡ after_all plan empty r.known (merged turn_at (control_turns ∷ port_turns plan.ports inputs_of)) (begun plan empty r.known plan.ports [])
+  past_is : past ≡ inputs_taken plan empty None inputs_of r.known
   past_is =
-      let begins = begun plan empty r.known plan.ports [] in
-      reaches_end plan empty r.known begins (map head_of ports) r.taken past rests heads_done r.agree rests_left (r.reaches r.known (allowed_itself plan r.known past))
-      ∙ ap (λ (l : List (List Turn)). after_all plan empty r.known (merged turn_at (control_turns ∷ l)) begins) turns_are
+      let begins = begun plan empty r.known.ports plan.ports [] in
+      reaches_end plan empty r.known begins (Done ∷ map head_of ports) (control_taken ∷ r.taken) past ([] ∷ rests) (done_all (map head_of ports) heads_done) (agree_all plan past (map head_of ports) r.control r.agree) rests_left (r.reaches r.known (allowed_itself plan r.known past))
+      ∙ ap (λ (l : List (List Turn)). after_all plan empty r.known (merged turn_at (control_turns None ∷ l)) begins) turns_are
 
   end_same : (now : List Row) → now ≡ egress_ended plan empty plan.ports (with_event plan empty past (End Ticker hows.End)) → (n : ℕ) → input_end n now ≡ input_end n past
   end_same now finished n = ap (λ (l : List Row). input_end n l) finished ∙ (same_finished plan empty past n).end_same
 
   module _ (now : List Row) (finished : now ≡ egress_ended plan empty plan.ports (with_event plan empty past (End Ticker hows.End))) (outputs : All (λ p. IsOutputEnded plan past now (number_of p.port)) ports) where
     -- the output of a port, and what the end left of it
-    output_at : (k : ℕ) (d : PortEnds S K C) → k < length first → IsOutput written sink_faults plan past (number_of (get_or first k d).port) (get_or first k d).ends.sink (get_or ports k d).ends.sink (r.known (number_of (get_or first k d).port))
+    output_at : (k : ℕ) (d : PortEnds S K C) → k < length first → IsOutput written sink_faults plan past (number_of (get_or first k d).port) (get_or first k d).ends.sink (get_or ports k d).ends.sink (r.known.ports (number_of (get_or first k d).port))
     output_at k d inside = (r.outputs.each k d inside).output
 
     ended_output : (k : ℕ) (d : PortEnds S K C) → k < length first → IsOutputEnded plan past now (number_of (get_or first k d).port)
@@ -219,7 +228,7 @@ module _ {S K C : Type 0} (left : S → Option (List ℕ)) (written : K → Opti
 
     module _ (finishes : IsFinished plan empty now) (fits : EachPair (IsFit left now) first ports) (causes : EachPair (HasCause source_faults now) first ports) where
       served_at : (k : ℕ) (d : PortEnds S K C) (i : Input) → k < length first
-          → let n = number_of (get_or first k d).port in IsServed left written source_faults sink_faults (Comes (get_or first k d).reader) plan empty now n (get_or inputs_of k i) (r.known n) (get_or first k d).ends (get_or ports k d).ends
+          → let n = number_of (get_or first k d).port in IsServed left written source_faults sink_faults (Comes (get_or first k d).reader) plan empty now n (get_or inputs_of k i) (r.known.ports n) (get_or first k d).ends (get_or ports k d).ends
       served_at k d i inside =
           let p = get_or first k d in
           let q = get_or ports k d in
@@ -230,12 +239,12 @@ module _ {S K C : Type 0} (left : S → Option (List ℕ)) (written : K → Opti
             gave = subst (λ (input : Input). IsInputAt left now p q input) (sym (input_at k i inside))
                 (input_later left past now p q (get_or wholes.0 k both_default).0 (end_same now finished n) ((wholes.2 k both_default inside).came d));
             fits = fits.each k d inside;
-            took = took_of written sink_faults plan past now n p.ends.sink q.ends.sink (r.known n) (output_at k d inside) (ended_output k d inside);
-            fits_out = fit_of written sink_faults plan past now n p.ends.sink q.ends.sink (r.known n) (output_at k d inside) (ended_output k d inside);
+            took = took_of written sink_faults plan past now n p.ends.sink q.ends.sink (r.known.ports n) (output_at k d inside) (ended_output k d inside);
+            fits_out = fit_of written sink_faults plan past now n p.ends.sink q.ends.sink (r.known.ports n) (output_at k d inside) (ended_output k d inside);
             source = later.source;
             sink = later.sink;
             broken = causes.each k d inside;
-            broken_out = broken_of written sink_faults plan past now n p.ends.sink q.ends.sink (r.known n) (output_at k d inside) (ended_output k d inside);
+            broken_out = broken_of written sink_faults plan past now n p.ends.sink q.ends.sink (r.known.ports n) (output_at k d inside) (ended_output k d inside);
           }
 
       pub serves : ServesEnds left written source_faults sink_faults plan empty now first ports
@@ -247,6 +256,6 @@ module _ {S K C : Type 0} (left : S → Option (List ℕ)) (written : K → Opti
         finished = finishes;
         each = λ k i within d.
             let inside : k < length first = omega (arith, count_is first plan planned, within) in
-            subst (λ (n : ℕ). IsServed left written source_faults sink_faults (Comes (get_or first k d).reader) plan empty now n (get_or inputs_of k i) (r.known n) (get_or first k d).ends (get_or ports k d).ends)
+            subst (λ (n : ℕ). IsServed left written source_faults sink_faults (Comes (get_or first k d).reader) plan empty now n (get_or inputs_of k i) (r.known.ports n) (get_or first k d).ends (get_or ports k d).ends)
             (number_is first plan k d planned inside) (served_at k d i inside);
       }

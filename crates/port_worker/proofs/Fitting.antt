@@ -30,6 +30,7 @@ use Rattle.port_worker.specs.Inputs.{IsKnown, IsLooked, IsReadAs, turn_ahead, tu
 use Rattle.port_worker.specs.SentFrames.{OnlySink}
 use Rattle.port_worker.specs.Steps.{IsStepped, ends_input, ahead_after}
 use Rattle.port_worker.specs.Replays.{IsUnread}
+use Rattle.port_worker.specs.Served.{AreInput}
 use Rattle.port_worker.specs.Pairs.{EachPair}
 use Rattle.port_worker.proofs.Joining.{IsRunning, front_none, takes_twice, read_twice, read_behind}
 use Rattle.port_worker.proofs.FaultCounts.{rose_later, rose_before}
@@ -39,10 +40,10 @@ abbrev pub FitsAhead : State → State → List ℕ → List ℕ → Option (Lis
 FitsAhead first now gave buf before after entered_so ending ahead.Unread = (ending ≡ None) × HasRead first now gave entered_so
 FitsAhead first now gave buf before after entered_so ending (ahead.Frame stamp len) = (ending ≡ None) × HasRead first now gave (entered_so ++ arrivals.Frame stamp (take len buf) ∷ []) × IsRunning now
 FitsAhead first now gave buf before after entered_so ending (ahead.Long stamp len) = (ending ≡ None) × HasRead first now gave (entered_so ++ arrivals.Long stamp len ∷ []) × IsRunning now
-FitsAhead first now gave buf before after entered_so ending ahead.End = (ending ≡ None) × IsWhole (Comes first) before entered_so hows.End
-FitsAhead first now gave buf before after entered_so ending (ahead.Malformed at) = (ending ≡ None) × IsWhole (Comes first) before entered_so (hows.Malformed at)
-FitsAhead first now gave buf before after entered_so ending ahead.Failed = (ending ≡ None) × IsBroken (Comes first) before after entered_so
-FitsAhead first now gave buf before after entered_so ending ahead.Done = Fits (Comes first) before after entered_so ending
+FitsAhead first now gave buf before after entered_so ending ahead.End = (ending ≡ None) × IsWhole (AreInput (Comes first)) before entered_so hows.End
+FitsAhead first now gave buf before after entered_so ending (ahead.Malformed at) = (ending ≡ None) × IsWhole (AreInput (Comes first)) before entered_so (hows.Malformed at)
+FitsAhead first now gave buf before after entered_so ending ahead.Failed = (ending ≡ None) × IsBroken (AreInput (Comes first)) before after entered_so
+FitsAhead first now gave buf before after entered_so ending ahead.Done = Fits (AreInput (Comes first)) before after entered_so ending
 
 pub record FitsSoFar {S K C : Type 0} (left : S → Option (List ℕ)) (source_faults : S → ℕ) (past : List Row) (old new : PortEnds S K C) : Type 0 where
   pub gave : List ℕ
@@ -55,7 +56,7 @@ pub record FitsSoFar {S K C : Type 0} (left : S → Option (List ℕ)) (source_f
 
 -- the input ends behind what was read
 whole_at : (first mid : State) (one two : List ℕ) (front : List Arrival) (how : How) (a b c : Option (List ℕ)) → Takes a b one → Takes b c two → HasRead first mid one front
-    → IfSome c (λ rest. Comes mid (two ++ rest) (ended how)) → IsWhole (Comes first) a front how
+    → IfSome c (λ rest. Comes mid (two ++ rest) (ended how)) → IsWhole (AreInput (Comes first)) a front how
 whole_at first mid one two front how a b None take_one take_two read_one is =
     rw (take_one, take_two) tt
 whole_at first mid one two front how a b (Some rest) take_one take_two read_one is =
@@ -185,7 +186,7 @@ arrival_fits first reader gave buf before after plan stops past port arrival tru
     (more.end_same ∙ none, subst (λ (list : List Arrival). HasRead first reader gave list) (sym more.arrivals_more) read)
 arrival_fits first reader gave buf before after plan stops past port arrival false takes room_is none read running =
     let full = full_entered plan empty stops past port arrival room_is in
-    subst (λ (e : Option How). Fits (Comes first) before after (arrived (number_of port) (entered plan empty stops (Arrives port arrival) past)) e) (sym full.ended_so) (record {
+    subst (λ (e : Option How). Fits (AreInput (Comes first)) before after (arrived (number_of port) (entered plan empty stops (Arrives port arrival) past)) e) (sym full.ended_so) (record {
       gave = gave;
       takes = takes;
       refused = arrival;
@@ -202,15 +203,15 @@ arrival_turn first reader gave buf before after plan stops past port arrival b t
     (arrival_fits first reader gave buf before after plan stops past port arrival (has_room plan past) takes refl none read running))
 
 end_turn : (first reader : State) (gave buf : List ℕ) (before after : Option (List ℕ)) (plan : Plan) (stops : Stops) (past : List Row) (port : Port) (how : How) (b : Ahead) (turn : Turn) → turn ≡ Ends (Ingress port) how
-    → b ≡ ahead_after (ends_input plan past turn) → Fits (Comes first) before after (arrived (number_of port) past) (Some how)
+    → b ≡ ahead_after (ends_input plan past turn) → Fits (AreInput (Comes first)) before after (arrived (number_of port) past) (Some how)
     → FitsAhead first reader gave buf before after (arrived (number_of port) (entered plan empty stops turn past)) (input_end (number_of port) (entered plan empty stops turn past)) b
 end_turn first reader gave buf before after plan stops past port how b turn turn_is b_is fits =
     let held = end_entered plan empty past port how in
     let b_now : b ≡ ahead.Done = b_is ∙ ap (λ (t : Turn). ahead_after (ends_input plan past t)) turn_is in
     let now = with_event plan empty past (End (Ingress port) how) in
-    let at_end : Fits (Comes first) before after (arrived (number_of port) now) (input_end (number_of port) now) =
-    subst (λ (e : Option How). Fits (Comes first) before after (arrived (number_of port) now) e) (sym held.ended_so)
-    (subst (λ (list : List Arrival). Fits (Comes first) before after list (Some how)) (sym held.arrivals_same) fits) in
+    let at_end : Fits (AreInput (Comes first)) before after (arrived (number_of port) now) (input_end (number_of port) now) =
+    subst (λ (e : Option How). Fits (AreInput (Comes first)) before after (arrived (number_of port) now) e) (sym held.ended_so)
+    (subst (λ (list : List Arrival). Fits (AreInput (Comes first)) before after list (Some how)) (sym held.arrivals_same) fits) in
     subst (λ (t : Turn). FitsAhead first reader gave buf before after (arrived (number_of port) (entered plan empty stops t past)) (input_end (number_of port) (entered plan empty stops t past)) b) (sym turn_is)
     (subst (λ (c : Ahead). FitsAhead first reader gave buf before after (arrived (number_of port) now) (input_end (number_of port) now) c) (sym b_now) at_end)
 
@@ -316,7 +317,7 @@ module _ {S K C : Type 0} (left : S → Option (List ℕ)) (written : K → Opti
 -- what the source of a port gave up fits what the history holds of its input
 abbrev pub IsFit : {S K C : Type 0} → (S → Option (List ℕ)) → List Row → PortEnds S K C → PortEnds S K C → Type 0
 IsFit left past old new =
-    Fits (Comes old.reader) (left old.ends.source) (left new.ends.source) (arrived (number_of old.port) past) (input_end (number_of old.port) past)
+    Fits (AreInput (Comes old.reader)) (left old.ends.source) (left new.ends.source) (arrived (number_of old.port) past) (input_end (number_of old.port) past)
 
 -- a failed read that the history tells of has a cause
 abbrev pub HasCause : {S K C : Type 0} → (S → ℕ) → List Row → PortEnds S K C → PortEnds S K C → Type 0

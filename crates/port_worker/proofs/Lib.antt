@@ -14,6 +14,7 @@ pub mod Allowed
 pub mod Entered
 pub mod Progress
 pub mod Measures
+pub mod ControlFirst
 pub mod Running
 pub mod Fitting
 pub mod Stepping

@@ -14,8 +14,9 @@ use Rattle.savi_history.specs.Bases.{empty}
 use Rattle.savi_history.specs.Limits.{has_room}
 use Rattle.savi_history.specs.Queues.{queue}
 use Rattle.savi_history.specs.Events.{Drain, End}
-use Rattle.savi_history.specs.Turns.{Turn, Arrives, Ends}
+use Rattle.savi_history.specs.Turns.{Turn, Arrives, Commands, Ends}
 use Rattle.savi_history.specs.Replay.{Stops, is_stopped, pieces_by, event_of, with_event, with_failure, with_drain, drained, entered}
+use Rattle.savi_history.proofs.PortInputs.{IsTurnOf}
 use Rattle.port_worker.specs.declared.port_ends.Ahead.{Ahead}
 use Rattle.port_worker.specs.declared.port_ends.Ahead.TheVariants as ahead
 use Rattle.port_worker.specs.declared.port_ends.PortEnds.{PortEnds}
@@ -60,27 +61,28 @@ failure_longer : (plan : Plan) (past : List Row) (port : Port) (b : Bool) → le
 failure_longer plan past port true = omega arith
 failure_longer plan past port false = omega arith
 
-drain_longer : (plan : Plan) (stops : Stops) (port : Port) (count : ℕ) (past : List Row) (b : Bool) → length past ≤ length (if b then past else with_failure plan empty stops port (with_event plan empty past (Drain port count)))
+drain_longer : (plan : Plan) (stops : Stops) (port : Port) (count : ℕ) (past : List Row) (b : Bool) → length past ≤ length (if b then past else with_failure plan empty stops.ports port (with_event plan empty past (Drain port count)))
 drain_longer plan stops port count past true = omega arith
 drain_longer plan stops port count past false =
     let mid = with_event plan empty past (Drain port count) in
-    let more = failure_longer plan mid port (is_stopped (stops (number_of port)) (pieces_by plan empty (number_of port) mid)) in omega arith
+    let more = failure_longer plan mid port (is_stopped (stops.ports (number_of port)) (pieces_by plan empty (number_of port) mid)) in omega arith
 
-drained_longer : (plan : Plan) (stops : Stops) (ports : List PortPlan) (past : List Row) → length past ≤ length (drained plan empty stops ports past)
+drained_longer : (plan : Plan) (stops : Stops) (ports : List PortPlan) (past : List Row) → length past ≤ length (drained plan empty stops.ports ports past)
 drained_longer plan stops [] past = omega arith
 drained_longer plan stops (q ∷ qs) past =
     let count = length (queue plan empty (number_of q.number) past) in
     let one = drain_longer plan stops q.number count past (count == 0) in
-    let more = drained_longer plan stops qs (with_drain plan empty stops q.number count past) in
+    let more = drained_longer plan stops qs (with_drain plan empty stops.ports q.number count past) in
     omega arith
 
-longer_at : (plan : Plan) (stops : Stops) (past : List Row) (port : Port) (a : Arrival) (b : Bool) → length past + 1 ≤ length (if b then drained plan empty stops plan.ports (with_event plan empty past (event_of port a)) else with_event plan empty past (End (Ingress port) (hows.Full (length past))))
+longer_at : (plan : Plan) (stops : Stops) (past : List Row) (port : Port) (a : Arrival) (b : Bool) → length past + 1 ≤ length (if b then drained plan empty stops.ports plan.ports (with_event plan empty past (event_of port a)) else with_event plan empty past (End (Ingress port) (hows.Full (length past))))
 longer_at plan stops past port a true = let more = drained_longer plan stops plan.ports (with_event plan empty past (event_of port a)) in omega arith
 longer_at plan stops past port a false = omega arith
 
-pub entered_longer : (plan : Plan) (stops : Stops) (past : List Row) (t : Turn) → length past + 1 ≤ length (entered plan empty stops t past)
-entered_longer plan stops past (Arrives port a) = longer_at plan stops past port a (has_room plan past)
-entered_longer plan stops past (Ends who how) = omega arith
+pub entered_longer : (plan : Plan) (stops : Stops) (past : List Row) (of : Port) (t : Turn) → IsTurnOf of t → length past + 1 ≤ length (entered plan empty stops t past)
+entered_longer plan stops past of (Arrives port a) whose = longer_at plan stops past port a (has_room plan past)
+entered_longer plan stops past of (Commands line) whose = absurd whose
+entered_longer plan stops past of (Ends who how) whose = omega arith
 
 not_false : (b : Bool) → not b ≡ false → b ≡ true
 not_false true is = refl
@@ -91,6 +93,7 @@ room_below plan past room =
     let first : nat_lt (length past + 4130) plan.entries ≡ true = (and_parts (nat_lt (length past + 4130) plan.entries) (nat_le (held past + 1518) plan.bytes) room).0 in
     grind (arith, nat_tests)
 
-pub goes_below : (plan : Plan) (past : List Row) (t : Turn) → ends_input plan past t ≡ false → length past < plan.entries
-goes_below plan past (Arrives port a) goes = room_below plan past (not_false (has_room plan past) goes)
-goes_below plan past (Ends who how) goes = cc
+pub goes_below : (plan : Plan) (past : List Row) (of : Port) (t : Turn) → IsTurnOf of t → ends_input plan past t ≡ false → length past < plan.entries
+goes_below plan past of (Arrives port a) whose goes = room_below plan past (not_false (has_room plan past) goes)
+goes_below plan past of (Commands line) whose goes = absurd whose
+goes_below plan past of (Ends who how) whose goes = cc

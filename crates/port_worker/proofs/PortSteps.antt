@@ -41,10 +41,10 @@ not_stopped whole m less = grind (arith, nat_tests)
 pub stopped_more : (whole m : ℕ) → whole < m → is_stopped (Some whole) m ≡ true
 stopped_more whole m less = grind (arith, nat_tests)
 
-pub no_failure : (plan : Plan) (stops : Stops) (port : Port) (past : List Row) → is_stopped (stops (number_of port)) (pieces_by plan empty (number_of port) past) ≡ false → with_failure plan empty stops port past ≡ past
+pub no_failure : (plan : Plan) (stops : Stops) (port : Port) (past : List Row) → is_stopped (stops.ports (number_of port)) (pieces_by plan empty (number_of port) past) ≡ false → with_failure plan empty stops.ports port past ≡ past
 no_failure plan stops port past is = rw is refl
 
-pub a_failure : (plan : Plan) (stops : Stops) (port : Port) (past : List Row) → is_stopped (stops (number_of port)) (pieces_by plan empty (number_of port) past) ≡ true → with_failure plan empty stops port past ≡ with_failed plan port past
+pub a_failure : (plan : Plan) (stops : Stops) (port : Port) (past : List Row) → is_stopped (stops.ports (number_of port)) (pieces_by plan empty (number_of port) past) ≡ true → with_failure plan empty stops.ports port past ≡ with_failed plan port past
 a_failure plan stops port past is = rw is refl
 
 some_length : (items : List Item) → items ≢ [] → (length items == 0) ≡ false
@@ -55,7 +55,7 @@ some_length (x ∷ items) some = grind (arith, nat_tests)
 pub record PortStep {K : Type 0} (written : K → Option (List ℕ)) (faults : K → ℕ) (plan : Plan) (port : Port) (now : List Row) (first new : K) (made : Stops → List Row) : Type 0 where
   pub later : Option ℕ
   pub output : IsOutput written faults plan now (number_of port) first new later
-  pub made_so : (stops : Stops) → Allows later (stops (number_of port)) (pieces_by plan empty (number_of port) now) → now ≡ made stops
+  pub made_so : (stops : Stops) → Allows later (stops.ports (number_of port)) (pieces_by plan empty (number_of port) now) → now ≡ made stops
 
 -- the same of a drain, before which something was known already
 pub record DrainStep {K : Type 0} (written : K → Option (List ℕ)) (faults : K → ℕ) (plan : Plan) (port : Port) (known : Option ℕ) (past now : List Row) (first new : K) (made : Stops → List Row) : Type 0 where
@@ -154,7 +154,7 @@ module _ {K : Type 0} (written : K → Option (List ℕ)) (faults : K → ℕ) (
   items = waiting_at plan port past
 
   abbrev made : Stops → List Row
-  made stops = with_drain plan empty stops port (length items) past
+  made stops = with_drain plan empty stops.ports port (length items) past
 
   abbrev mid : List Row
   mid = with_event plan empty past (Drain port (length items))
@@ -173,7 +173,7 @@ module _ {K : Type 0} (written : K → Option (List ℕ)) (faults : K → ℕ) (
       }
 
   module _ (some : items ≢ []) where
-    drained_is : (stops : Stops) → made stops ≡ with_failure plan empty stops port mid
+    drained_is : (stops : Stops) → made stops ≡ with_failure plan empty stops.ports port mid
     drained_is stops = rw (some_length items some) refl
 
     sent_mid : sent plan empty q mid ≡ sent plan empty q past ++ items
@@ -196,7 +196,7 @@ module _ {K : Type 0} (written : K → Option (List ℕ)) (faults : K → ℕ) (
           step = record {
             later = None;
             output = subst (λ (l : List Row). RunsOn written plan l q first new) (sym now_is) here;
-            made_so = λ stops allowed. now_is ∙ sym (drained_is stops ∙ no_failure plan stops port mid (subst (λ (l : List Row). is_stopped (stops q) (pieces_by plan empty q l) ≡ false) now_is allowed));
+            made_so = λ stops allowed. now_is ∙ sym (drained_is stops ∙ no_failure plan stops port mid (subst (λ (l : List Row). is_stopped (stops.ports q) (pieces_by plan empty q l) ≡ false) now_is allowed));
           };
           before = λ stop allowed.
               stopped_less stop (pieces_by plan empty q past) (pieces_by plan empty q mid) (omega (arith, more)) (subst (λ (l : List Row). is_stopped stop (pieces_by plan empty q l) ≡ false) now_is allowed);
@@ -257,11 +257,11 @@ module _ {K : Type 0} (written : K → Option (List ℕ)) (faults : K → ℕ) (
 
 -- the part of one port in the drains behind an arrival
 pub drain_step : {S K C : Type 0} (written : K → Option (List ℕ)) (faults : K → ℕ) (plan : Plan) (past now : List Row) (first : K) (x y : PortEnds S K C) (known : Option ℕ) → faults first ≤ faults x.ends.sink → IsOutput written faults plan past (number_of x.port) first x.ends.sink known
-    → IsDrained written faults plan past now x y → DrainStep written faults plan x.port known past now first y.ends.sink (λ stops. with_drain plan empty stops x.port (length (waiting_at plan x.port past)) past)
+    → IsDrained written faults plan past now x y → DrainStep written faults plan x.port known past now first y.ends.sink (λ stops. with_drain plan empty stops.ports x.port (length (waiting_at plan x.port past)) past)
 drain_step {S} {K} {C} written faults plan past now first x y known later output (inl quiet) =
     quiet_step written faults plan x.port past now first x.ends.sink y.ends.sink known quiet.none quiet.past_same (ap (λ (p : PortEnds S K C). p.ends.sink) quiet.same) output
 drain_step written faults plan past now first x y None later output (inr drained) =
-    elim drained.wrote as (λ w. DrainStep written faults plan x.port None past now first y.ends.sink (λ stops. with_drain plan empty stops x.port (length (waiting_at plan x.port past)) past)) [
+    elim drained.wrote as (λ w. DrainStep written faults plan x.port None past now first y.ends.sink (λ stops. with_drain plan empty stops.ports x.port (length (waiting_at plan x.port past)) past)) [
       | inl all ↦ drained_step written faults plan x.port past now first x.ends.sink y.ends.sink drained.some all.past all.took output
       | inr front ↦ failed_step written faults plan x.port past now first x.ends.sink y.ends.sink drained.some front.whole front.took front.rose later output front.past
     ]

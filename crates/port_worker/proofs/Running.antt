@@ -1,5 +1,5 @@
 -- The state of a replay between two turns.
-use Rattle.std.proofs.Common.{◌≡◌, ℕ, ◌<◌, ◌≤◌, true, false, List, [], ◌∷◌, ◌++◌, length, map, get_or, refl, sym, ap, ◌∙◌, subst, arith, ◌⊎◌, inl, inr, Option}
+use Rattle.std.proofs.Common.{◌≡◌, ℕ, zero, suc, ◌<◌, ◌≤◌, true, false, List, [], ◌∷◌, ◌++◌, length, map, get_or, refl, sym, ap, ◌∙◌, subst, arith, ◌⊎◌, inl, inr, Option}
 use Rattle.std.proofs.lemmas.Bool.{cases_lt}
 use Rattle.std.proofs.lemmas.List.{length-map, get_or-map, get_or_past}
 use Rattle.std.specs.List.{All}
@@ -14,7 +14,7 @@ use Rattle.savi_history.specs.Queues.{queue}
 use Rattle.savi_history.specs.Turns.{Turn, turns}
 use Rattle.savi_history.specs.Replay.{Stops, begun}
 use Rattle.savi_history.proofs.PassNumbers.{number_at}
-use Rattle.savi_history.proofs.Reaching.{Head, Unread, Known, Done, IsLeft, AreLeft, AllRead, AllAgree, Agrees, Reaches, joined, reaches_start, reaches_take}
+use Rattle.savi_history.proofs.Reaching.{Head, Unread, Known, Done, IsLeft, AreLeft, AllRead, Agrees, Reaches}
 use Rattle.savi_history.proofs.Reaching as reaching
 use Rattle.port_worker.specs.declared.port_ends.Ahead.{Ahead}
 use Rattle.port_worker.specs.declared.port_ends.Ahead.TheVariants as ahead
@@ -22,6 +22,7 @@ use Rattle.port_worker.specs.declared.port_ends.PortEnds.{PortEnds}
 use Rattle.port_worker.specs.Pairs.{EachPair}
 use Rattle.port_worker.specs.Inputs.{IsSound, IsKnown, IsLooked, moment_of}
 use Rattle.port_worker.specs.Outputs.{IsOutput, AreOutputs, AreAllowed}
+use Rattle.port_worker.proofs.ControlFirst.{control_taken, PortsAgree}
 use Rattle.port_worker.proofs.Measures.{weight, undone, undone_same}
 use Rattle.port_worker.proofs.Joining.{takes_twice}
 use Rattle.port_worker.proofs.Later.{IsLater, looked_later}
@@ -33,8 +34,8 @@ pub record Running {S K C : Type 0} (left : S → Option (List ℕ)) (written : 
   pub taken : List (List Turn)
   pub taken_size : length taken ≡ length first
   pub known : Stops
-  pub reaches : (stops : Stops) → AreAllowed plan known stops past → Reaches plan empty stops (begun plan empty stops plan.ports []) (map head_of ports) taken past
-  pub agree : AllAgree empty past (map head_of ports)
+  pub reaches : (stops : Stops) → AreAllowed plan known stops past → Reaches plan empty stops (begun plan empty stops.ports plan.ports []) (Done ∷ map head_of ports) (control_taken ∷ taken) past
+  pub agree : PortsAgree past (map head_of ports)
   pub progress : (k : ℕ) (d : PortEnds S K C) → k < length first → Progress left plan k past (get_or first k d) (get_or ports k d) (get_or taken k [])
   pub control : has_ended empty (control_pass plan) past ≡ true
   pub ticker : has_ended empty (ticker_pass plan) past ≡ false
@@ -145,7 +146,7 @@ outputs_looked {S} {K} {C} written sink_faults left source_faults plan known pas
       record {
         port = look.port ∙ was.port;
         later = subst (λ (s : K). sink_faults (get_or first k d).ends.sink ≤ sink_faults s) (sym look.sink) was.later;
-        output = subst (λ (s : K). IsOutput written sink_faults plan past n (get_or first k d).ends.sink s (known n)) (sym look.sink) was.output;
+        output = subst (λ (s : K). IsOutput written sink_faults plan past n (get_or first k d).ends.sink s (known.ports n)) (sym look.sink) was.output;
       };
 }
 
@@ -157,14 +158,18 @@ module _ {S K C : Type 0} (left : S → Option (List ℕ)) (written : K → Opti
     size_ports : length ports ≡ length first
     size_ports = r.later.size
 
-    left_at : (rest : List (List Turn)) (k : ℕ) → AreLeft plan (map head_of new) rest → (k < length ports) ⊎ (length ports ≤ k) → IsLeft (get_or (map head_of ports) k Done) (get_or rest k [])
+    left_at : (rest : List (List Turn)) (k : ℕ) → AreLeft plan (Done ∷ map head_of new) rest → (k < length ports) ⊎ (length ports ≤ k) → IsLeft (get_or (map head_of ports) k Done) (get_or rest (suc k) [])
     left_at rest k there (inl inside) =
         let d = element ports k inside in
         let size = looked.size in
         rw (head_at ports k d Done inside)
-        (left_less (get_or ports k d) (get_or new k d) (get_or ports k d).ahead (get_or rest k []) refl (looked.each k d inside).same
-        (subst (λ (h : Head). IsLeft h (get_or rest k [])) (head_at new k d Done (omega arith)) (there.each k)))
+        (left_less (get_or ports k d) (get_or new k d) (get_or ports k d).ahead (get_or rest (suc k) []) refl (looked.each k d inside).same
+        (subst (λ (h : Head). IsLeft h (get_or rest (suc k) [])) (head_at new k d Done (omega arith)) (there.each (suc k))))
     left_at rest k there (inr outside) = let size = length-map ports head_of in rw (get_or_past (map head_of ports) k Done (omega arith)) tt
+
+    left_all : (rest : List (List Turn)) (k : ℕ) → AreLeft plan (Done ∷ map head_of new) rest → IsLeft (get_or (Done ∷ map head_of ports) k Done) (get_or rest k [])
+    left_all rest zero there = tt
+    left_all rest (suc k) there = left_at rest k there (cases_lt k (length ports))
 
     agree_at : (k : ℕ) → k < length (map head_of new) → Agrees empty past k (get_or (map head_of new) k Done)
     agree_at k inside =
@@ -192,7 +197,7 @@ module _ {S K C : Type 0} (left : S → Option (List ℕ)) (written : K → Opti
           let sizes_new = length-map new head_of in
           let size = looked.size in
           let there_size = there.size in
-          r.reaches stops allowed rest (record { size = omega arith; of = there.of; each = λ k. left_at rest k there (cases_lt k (length ports)) });
+          r.reaches stops allowed rest (record { size = omega arith; of = there.of; each = λ k. left_all rest k there });
       agree = agree_at;
       progress = λ k d inside. let within : k < length ports = omega (arith, size_ports) in
           progress_look left source_faults plan k past (get_or first k d) (get_or ports k d) (get_or new k d) (get_or r.taken k []) (get_or ports k d).ahead refl (looked.each k d within) (r.progress k d inside);

@@ -19,7 +19,7 @@ use Rattle.savi_history.specs.Replay.{Stops, begun, with_event}
 use Rattle.savi_history.proofs.PassNumbers.{number_at, place_at, known_at}
 use Rattle.savi_history.proofs.Waiting.{ended_now, ended_other, ended_begun, empty_end, empty_begun}
 use Rattle.savi_history.proofs.PortInputs.{HoldsSame, same_begun, same_control}
-use Rattle.savi_history.proofs.Reaching.{Done, Agrees, Reaches, joined, reaches_start}
+use Rattle.savi_history.proofs.Reaching.{Done, Agrees, Reaches, joined}
 use Rattle.port_worker.specs.declared.port_ends.Ahead.{Ahead}
 use Rattle.port_worker.specs.declared.port_ends.Ahead.TheVariants as ahead
 use Rattle.port_worker.specs.declared.port_ends.PortEnds.{PortEnds}
@@ -29,6 +29,7 @@ use Rattle.port_worker.specs.SentFrames.{OnlySink}
 use Rattle.port_worker.specs.Outputs.{AreOutputs, Allows, AreAllowed}
 use Rattle.port_worker.specs.Replays.{IsUnread, ports_held, ports_planned}
 use Rattle.port_worker.proofs.Allowed.{allowed_itself}
+use Rattle.port_worker.proofs.ControlFirst.{control_taken, reaches_control}
 use Rattle.port_worker.proofs.KeptOutputs.{KeepsOutput, keeps_control, keeps_pieces, output_kept}
 use Rattle.port_worker.proofs.Planned.{count_is, number_is}
 use Rattle.port_worker.proofs.Joining.{front_none}
@@ -69,17 +70,17 @@ held_same {S} {K} {C} left written source_faults sink_faults first ports later =
 module _ {S K C : Type 0} (left : S → Option (List ℕ)) (written : K → Option (List ℕ)) (source_faults : S → ℕ) (sink_faults : K → ℕ) (plan : Plan) (first ports : List (PortEnds S K C))
     (planned : ports_held first ≡ ports_planned plan) (rising : IsStrictlyIncreasing (numbers_of plan.ports)) where
   module _ (before : List Row) (known : Stops) (unread : All IsUnread first) (only : EachPair (OnlySink written sink_faults) first ports) (outputs : AreOutputs written sink_faults plan known before first ports)
-      (begun_is : (stops : Stops) → AreAllowed plan known stops before → before ≡ begun plan empty stops plan.ports []) where
+      (begun_is : (stops : Stops) → AreAllowed plan known stops before → before ≡ begun plan empty stops.ports plan.ports []) where
     abbrev past : List Row
     past = with_event plan empty before (End Control hows.End)
 
-    before_is : before ≡ begun plan empty known plan.ports []
+    before_is : before ≡ begun plan empty known.ports plan.ports []
     before_is = begun_is known (allowed_itself plan known before)
 
     -- nothing came in yet
     pub holds : (n : ℕ) → HoldsSame n [] past
     holds n =
-        let begins : HoldsSame n [] before = subst (λ (l : List Row). HoldsSame n [] l) (sym before_is) (same_begun plan empty known plan.ports [] n) in
+        let begins : HoldsSame n [] before = subst (λ (l : List Row). HoldsSame n [] l) (sym before_is) (same_begun plan empty known.ports plan.ports [] n) in
         let last = same_control plan empty before hows.End n in
         record { arrivals_same = last.arrivals_same ∙ begins.arrivals_same; end_same = last.end_same ∙ begins.end_same }
 
@@ -93,7 +94,7 @@ module _ {S K C : Type 0} (left : S → Option (List ℕ)) (written : K → Opti
     reader_is k d inside = sym (ap (λ (p : PortEnds S K C). p.reader) (only.each k d inside).same)
 
     ended_before : (pass : ℕ) → pass ≤ ticker_pass plan → has_ended empty pass before ≡ false
-    ended_before pass low = ap (λ (l : List Row). has_ended empty pass l) before_is ∙ ended_begun plan empty known plan.ports [] pass low
+    ended_before pass low = ap (λ (l : List Row). has_ended empty pass l) before_is ∙ ended_begun plan empty known.ports plan.ports [] pass low
 
     -- control may end
     pub control_open : (plan' : Plan) → plan' ≡ plan → IsOpen plan' empty before Control
@@ -129,16 +130,16 @@ module _ {S K C : Type 0} (left : S → Option (List ℕ)) (written : K → Opti
     allowed_before : (stops : Stops) → AreAllowed plan known stops past → AreAllowed plan known stops before
     allowed_before stops allowed k d within =
         let n = get_or (numbers_of plan.ports) k d in
-        subst (λ (c : ℕ). Allows (known n) (stops n) c) (keeps_pieces plan n before past (keeps n)) (allowed k d within)
+        subst (λ (c : ℕ). Allows (known.ports n) (stops.ports n) c) (keeps_pieces plan n before past (keeps n)) (allowed k d within)
 
-    reaches_past : (stops : Stops) → AreAllowed plan known stops past → Reaches plan empty stops (begun plan empty stops plan.ports []) (map head_of ports) (nothing_taken first) past
+    reaches_past : (stops : Stops) → AreAllowed plan known stops past → Reaches plan empty stops (begun plan empty stops.ports plan.ports []) (Done ∷ map head_of ports) (control_taken ∷ nothing_taken first) past
     reaches_past stops allowed =
         let size = only.size in
         let sizes = length-map ports head_of in
-        let begins = begun plan empty stops plan.ports [] in
+        let begins = begun plan empty stops.ports plan.ports [] in
         let same : before ≡ begins = begun_is stops (allowed_before stops allowed) in
-        subst (λ (l : List Row). Reaches plan empty stops begins (map head_of ports) (nothing_taken first) (with_event plan empty l (End Control hows.End))) (sym same)
-        (reaches_start plan empty stops begins (map head_of ports) (nothing_taken first) (ended_begun plan empty stops plan.ports [] (control_pass plan) (omega arith)) (λ rest size_r. nothing_joined first rest (omega arith)))
+        subst (λ (l : List Row). Reaches plan empty stops begins (Done ∷ map head_of ports) (control_taken ∷ nothing_taken first) (with_event plan empty l (End Control hows.End))) (sym same)
+        (reaches_control plan stops begins (map head_of ports) (nothing_taken first) (ended_begun plan empty stops.ports plan.ports [] (control_pass plan) (omega arith)) (λ rest size_r. nothing_joined first rest (omega arith)))
 
     pub start : Running left written source_faults sink_faults plan first ports past
     start = record {
@@ -152,7 +153,7 @@ module _ {S K C : Type 0} (left : S → Option (List ℕ)) (written : K → Opti
       progress = λ k d inside. rw (nothing_at first k) (subst (λ (a : Ahead). ProgressBy left plan k past (get_or first k d) (get_or ports k d) [] a) (sym (ahead_is k d inside)) (goes_at_first k d inside));
       control = ended_now plan empty before Control hows.End;
       ticker = ended_none (ticker_pass plan) (omega arith) (λ same. absurd (omega arith));
-      quiet = λ k inside. empty_end plan empty before Control hows.End (number_at plan k) (ap (λ (l : List Row). queue plan empty (number_at plan k) l) before_is ∙ empty_begun plan empty known plan.ports [] (number_at plan k) refl);
+      quiet = λ k inside. empty_end plan empty before Control hows.End (number_at plan k) (ap (λ (l : List Row). queue plan empty (number_at plan k) l) before_is ∙ empty_begun plan empty known.ports plan.ports [] (number_at plan k) refl);
       outputs = record {
         size = outputs.size;
         each = λ k d inside.
@@ -161,7 +162,7 @@ module _ {S K C : Type 0} (left : S → Option (List ℕ)) (written : K → Opti
             record {
               port = was.port;
               later = was.later;
-              output = output_kept written sink_faults plan n before past (get_or first k d).ends.sink (get_or ports k d).ends.sink (known n) (keeps n) was.output;
+              output = output_kept written sink_faults plan n before past (get_or first k d).ends.sink (get_or ports k d).ends.sink (known.ports n) (keeps n) was.output;
             };
       };
     }

@@ -1,5 +1,5 @@
 -- One turn of a replay.
-use Rattle.std.proofs.Common.{◌≡◌, ◌≢◌, ℕ, ◌+◌, ◌-◌, ◌<◌, ◌≤◌, Bool, true, false, List, [], ◌∷◌, ◌++◌, length, map, get_or, set, refl, sym, ap, ◌∙◌, subst, arith, ◌⊎◌, inl, inr, Option, Some, None, IfSome, IsSome}
+use Rattle.std.proofs.Common.{◌≡◌, ◌≢◌, ℕ, suc, ◌+◌, ◌-◌, ◌<◌, ◌≤◌, Bool, true, false, List, [], ◌∷◌, ◌++◌, length, map, get_or, set, refl, sym, ap, ◌∙◌, subst, arith, ◌⊎◌, inl, inr, Option, Some, None, IfSome, IsSome}
 use Rattle.std.proofs.lemmas.Bool.{cases_eq}
 use Rattle.std.proofs.lemmas.List.{length-map, length-set, get_or-map, get_or-set_same, get_or-set_other, get_or_default, ext_get_or}
 use Rattle.std.specs.List.{All}
@@ -37,6 +37,7 @@ use Rattle.port_worker.proofs.Planned.{count_is, number_is, numbers_differ}
 use Rattle.port_worker.proofs.Fitting.{FitsSoFar, fits_turned, turn_port}
 use Rattle.port_worker.proofs.Entered.{ended_entered_other, ended_entered_open, ended_entered_done, quiet_entered}
 use Rattle.port_worker.proofs.Progress.{head_of, head_ahead, turn_at_moment, AtTurn, AtFailure, at_turn, Goes, Progress, goes_at, goes_on_at, stops_at, ends_at, fails_at, progress_kept}
+use Rattle.port_worker.proofs.ControlFirst.{control_taken, read_all, agree_all, least_all}
 use Rattle.port_worker.proofs.Measures.{weight, undone, undone_same, undone_less, entered_longer, goes_below}
 use Rattle.port_worker.proofs.Later.{stepped_later}
 use Rattle.port_worker.proofs.Running.{Running, head_at, element, moments_same, all_read, agrees_same}
@@ -76,6 +77,10 @@ module _ {S K C : Type 0} (left : S → Option (List ℕ)) (written : K → Opti
 
   abbrev pub turn : Turn
   turn = turn_here.0
+
+  -- it is a turn of the port
+  of_port : IsTurnOf here.port turn
+  of_port = turn_port here.port here.buf here.ahead turn turn_here.1
 
   pass_is : (k : ℕ) (d : PortEnds S K C) → k < length first → pass_of plan (Ingress (get_or first k d).port) ≡ k
   pass_is k d within =
@@ -161,20 +166,21 @@ module _ {S K C : Type 0} (left : S → Option (List ℕ)) (written : K → Opti
         let size_set = length-set (map head_of ports) j (head_of there) in
         ext_get_or Done (map head_of new) (set (map head_of ports) j (head_of there)) (omega arith) (λ k within. heads_at k (omega arith) (cases_eq k j))
 
-    reaches_new : (stops : Stops) → AreAllowed plan later stops now → Reaches plan empty stops (begun plan empty stops plan.ports []) (map head_of new) (set r.taken j (get_or r.taken j [] ++ turn ∷ [])) now
+    reaches_new : (stops : Stops) → AreAllowed plan later stops now → Reaches plan empty stops (begun plan empty stops.ports plan.ports []) (Done ∷ map head_of new) (control_taken ∷ set r.taken j (get_or r.taken j [] ++ turn ∷ [])) now
     reaches_new stops allowed =
-        let begins = begun plan empty stops plan.ports [] in
+        let begins = begun plan empty stops.ports plan.ports [] in
         let least_heads : IsLeast (map reaching.moment_of (map head_of ports)) j = rw (moments_same ports) least in
-        let step = reaches_take plan empty stops begins (map head_of ports) r.taken past j turn (head_of there) head_here who_is (all_read ports known) r.agree least_heads (r.reaches stops (gone.2.before stops allowed)) in
-        subst (λ (hs : List Head). Reaches plan empty stops begins hs (set r.taken j (get_or r.taken j [] ++ turn ∷ [])) now) (sym heads_new)
-        (subst (λ (l : List Row). Reaches plan empty stops begins (set (map head_of ports) j (head_of there)) (set r.taken j (get_or r.taken j [] ++ turn ∷ [])) l) (after_open plan empty stops turn past running_turn ∙ sym (gone.2.made_so stops allowed)) step)
+        let step = reaches_take plan empty stops begins (Done ∷ map head_of ports) (control_taken ∷ r.taken) past (suc j) turn (head_of there) head_here who_is (read_all (map head_of ports) (all_read ports known)) (agree_all plan past (map head_of ports) r.control r.agree)
+        (least_all (map reaching.moment_of (map head_of ports)) j least_heads) (r.reaches stops (gone.2.before stops allowed)) in
+        subst (λ (hs : List Head). Reaches plan empty stops begins (Done ∷ hs) (control_taken ∷ set r.taken j (get_or r.taken j [] ++ turn ∷ [])) now) (sym heads_new)
+        (subst (λ (l : List Row). Reaches plan empty stops begins (Done ∷ set (map head_of ports) j (head_of there)) (control_taken ∷ set r.taken j (get_or r.taken j [] ++ turn ∷ [])) l) (after_open plan empty stops turn past running_turn ∙ sym (gone.2.made_so stops allowed)) step)
 
     low_at : (k : ℕ) → k < length ports → k ≤ ticker_pass plan
     low_at k within = let size = r.later.size in let count = count_is first plan planned in omega arith
 
     agree_there : (b : Bool) → ends_input plan past turn ≡ b → there.ahead ≡ ahead_after b → Agrees empty now j (head_ahead there.port there.buf there.ahead)
-    agree_there true ends is = rw is (ap (λ (l : List Row). has_ended empty j l) now_is ∙ ap (λ (n : ℕ). has_ended empty n (entered plan empty later turn past)) (sym who_is) ∙ ended_entered_done plan later past turn ends)
-    agree_there false ends is = rw is (ap (λ (l : List Row). has_ended empty j l) now_is ∙ ended_entered_open plan later past turn j (low_at j inside) ends ∙ running_j)
+    agree_there true ends is = rw is (ap (λ (l : List Row). has_ended empty j l) now_is ∙ ap (λ (n : ℕ). has_ended empty n (entered plan empty later turn past)) (sym who_is) ∙ ended_entered_done plan later past here.port turn of_port ends)
+    agree_there false ends is = rw is (ap (λ (l : List Row). has_ended empty j l) now_is ∙ ended_entered_open plan later past here.port turn j of_port (low_at j inside) ends ∙ running_j)
 
     agree_at : (k : ℕ) → k < length ports → (k ≡ j) ⊎ (k ≢ j) → Agrees empty now k (get_or (map head_of new) k Done)
     agree_at k within (inl same) =
@@ -185,7 +191,7 @@ module _ {S K C : Type 0} (left : S → Option (List ℕ)) (written : K → Opti
         let size_n = size_new in
         let size = length-map ports head_of in
         rw (head_at new k d Done (omega arith), head_kept k d other within)
-        (agrees_same past now k (head_of (get_or ports k d)) (ap (λ (l : List Row). has_ended empty k l) now_is ∙ ended_entered_other plan later past turn k (low_at k within) (λ e. other (sym e ∙ who_is)))
+        (agrees_same past now k (head_of (get_or ports k d)) (ap (λ (l : List Row). has_ended empty k l) now_is ∙ ended_entered_other plan later past here.port turn k of_port (low_at k within) (λ e. other (sym e ∙ who_is)))
         (subst (λ (h : Head). Agrees empty past k h) (head_at ports k d Done within) (r.agree k (omega arith))))
 
     goes_here : Goes left (get_or first j d_here) here (get_or r.taken j [])
@@ -283,9 +289,9 @@ module _ {S K C : Type 0} (left : S → Option (List ℕ)) (written : K → Opti
           reaches = reaches_new;
           agree = λ k within. let sizes = length-map new head_of in agree_at k (omega arith) (cases_eq k j);
           progress = λ k d within. progress_at k d within (cases_eq k j);
-          control = rw now_is (ended_entered_other plan later past turn (control_pass plan) (omega arith) (λ e. absurd (omega arith)) ∙ r.control);
-          ticker = rw now_is (ended_entered_other plan later past turn (ticker_pass plan) (omega arith) (λ e. absurd (omega arith)) ∙ r.ticker);
-          quiet = λ k within. rw now_is (quiet_entered plan later past turn k within (r.quiet k within));
+          control = rw now_is (ended_entered_other plan later past here.port turn (control_pass plan) of_port (omega arith) (λ e. absurd (omega arith)) ∙ r.control);
+          ticker = rw now_is (ended_entered_other plan later past here.port turn (ticker_pass plan) of_port (omega arith) (λ e. absurd (omega arith)) ∙ r.ticker);
+          quiet = λ k within. rw now_is (quiet_entered plan later past here.port turn k of_port within (r.quiet k within));
           outputs = gone.1;
         }
 
@@ -313,12 +319,12 @@ module _ {S K C : Type 0} (left : S → Option (List ℕ)) (written : K → Opti
 
     smaller_at : (b : Bool) → ends_input plan past turn ≡ b → there.ahead ≡ ahead_after b → (plan.entries - length now) + undone new < (plan.entries - length past) + undone ports
     smaller_at true ends is =
-        let longer : length past + 1 ≤ length now = rw now_is (entered_longer plan later past turn) in
+        let longer : length past + 1 ≤ length now = rw now_is (entered_longer plan later past here.port turn of_port) in
         let less : undone new + 1 ≡ undone ports = undone_less ports new j d_here size_new inside weight_other weight_here (ap weight is) in
         omega arith
     smaller_at false ends is =
-        let longer : length past + 1 ≤ length now = rw now_is (entered_longer plan later past turn) in
-        let below = goes_below plan past turn ends in
+        let longer : length past + 1 ≤ length now = rw now_is (entered_longer plan later past here.port turn of_port) in
+        let below = goes_below plan past here.port turn of_port ends in
         let same : undone new ≡ undone ports = undone_same ports new size_new (λ k d within. weight_at k d is within (cases_eq k j)) in
         omega arith
 

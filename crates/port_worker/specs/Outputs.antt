@@ -37,7 +37,7 @@ IsOutput written faults plan past port old new (Some whole) = HasStopped written
 pub record IsOutputOf {S K C : Type 0} (written : K → Option (List ℕ)) (faults : K → ℕ) (plan : Plan) (known : Stops) (past : List Row) (old new : PortEnds S K C) : Type 0 where
   pub port : new.port ≡ old.port
   pub later : faults old.ends.sink ≤ faults new.ends.sink
-  pub output : IsOutput written faults plan past (number_of old.port) old.ends.sink new.ends.sink (known (number_of old.port))
+  pub output : IsOutput written faults plan past (number_of old.port) old.ends.sink new.ends.sink (known.ports (number_of old.port))
 
 -- all outputs, by what is known of each
 abbrev pub AreOutputs : {S K C : Type 0} → (K → Option (List ℕ)) → (K → ℕ) → Plan → Stops → List Row → List (PortEnds S K C) → List (PortEnds S K C) → Type 0
@@ -51,7 +51,7 @@ Allows (Some whole) stop count = stop ≡ Some whole
 
 -- the same of each port of the plan
 abbrev pub AreAllowed : Plan → Stops → Stops → List Row → Type 0
-AreAllowed plan known stops past = All (λ q. Allows (known q) (stops q) (pieces_by plan empty q past)) (numbers_of plan.ports)
+AreAllowed plan known stops past = All (λ q. Allows (known.ports q) (stops.ports q) (pieces_by plan empty q past)) (numbers_of plan.ports)
 
 -- More is known behind a step, and the step has made what that allows.
 pub record Follows (plan : Plan) (known later : Stops) (past now : List Row) (made : Stops → List Row) : Type 0 where

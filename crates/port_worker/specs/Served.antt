@@ -1,5 +1,5 @@
 -- What a replay was to the ends of the ports: one history, and at each port what it says of its ends, before and after.
-use Rattle.std.specs.Prelude.{◌≡◌, ℕ, ◌<◌, ◌≤◌, List, length, slice_index_or, Option, Some}
+use Rattle.std.specs.Prelude.{◌≡◌, ℕ, ◌<◌, ◌≤◌, List, length, slice_index_or, Option, Some, None}
 use Rattle.savi_kinds.specs.declared.plan.Plan.{Plan}
 use Rattle.savi_kinds.specs.declared.entry.How.{How}
 use Rattle.savi_kinds.specs.declared.entry.How.TheVariants as hows
@@ -20,14 +20,18 @@ use Rattle.savi_core.specs.Machines.{number_at}
 use Rattle.port_worker.specs.declared.port_ends.PortEnds.{PortEnds}
 use Rattle.port_worker.specs.SentFrames.{TookMore}
 
+-- these octets are the input of these arrivals that ends so
+abbrev pub AreInput : (List ℕ → Input → Type 0) → List ℕ → List Arrival → How → Type 0
+AreInput Arrives octets arrivals ending = Arrives octets (record { arrivals = arrivals; ending = ending })
+
 -- What the octets of a port's source are to its input, by how the input ends; `ended_so` is how it ended in the history.
 -- At its end or at a place at fault: they are all that the source had left, read to the end or not. At a read that failed:
 -- the history says so, and they are what the source gave up, with no whole arrival behind the input's. The input of a
 -- capture ends in no other way.
 abbrev pub IsInputOf : (List ℕ → Input → Type 0) → Option (List ℕ) → Option (List ℕ) → Option How → List Arrival → How → Type 0
-IsInputOf Arrives before after ended_so arrivals hows.End = IsWhole Arrives before arrivals hows.End
-IsInputOf Arrives before after ended_so arrivals (hows.Malformed at) = IsWhole Arrives before arrivals (hows.Malformed at)
-IsInputOf Arrives before after ended_so arrivals hows.Failed = (ended_so ≡ Some hows.Failed) × IsBroken Arrives before after arrivals
+IsInputOf Arrives before after ended_so arrivals hows.End = IsWhole (AreInput Arrives) before arrivals hows.End
+IsInputOf Arrives before after ended_so arrivals (hows.Malformed at) = IsWhole (AreInput Arrives) before arrivals (hows.Malformed at)
+IsInputOf Arrives before after ended_so arrivals hows.Failed = (ended_so ≡ Some hows.Failed) × IsBroken (AreInput Arrives) before after arrivals
 IsInputOf Arrives before after ended_so arrivals hows.Quit = ⊥
 IsInputOf Arrives before after ended_so arrivals (hows.Overlong at) = ⊥
 IsInputOf Arrives before after ended_so arrivals hows.Unwritten = ⊥
@@ -47,7 +51,7 @@ pub record IsUsed {S K C : Type 0} (left : S → Option (List ℕ)) (written : K
 pub record IsServed {S K C : Type 0} (left : S → Option (List ℕ)) (written : K → Option (List ℕ)) (source_faults : S → ℕ) (sink_faults : K → ℕ) (Arrives : List ℕ → Input → Type 0) (plan : Plan) (base : Base) (past : List Row) (port : ℕ) (input : Input) (stop : Option ℕ) (old new : Ends S K C) : Type 0 where
   pub used : IsUsed left written old new
   pub gave : IsInputOf Arrives (left old.source) (left new.source) (input_end port past) input.arrivals input.ending
-  pub fits : Fits Arrives (left old.source) (left new.source) (arrived port past) (input_end port past)
+  pub fits : Fits (AreInput Arrives) (left old.source) (left new.source) (arrived port past) (input_end port past)
   pub took : TookPieces (written old.sink) (written new.sink) (pieces (sent plan base port past)) stop
   pub fits_out : FitsOutputAt plan base (written old.sink) (written new.sink) port past
   pub source : source_faults old.source ≤ source_faults new.source
@@ -55,15 +59,15 @@ pub record IsServed {S K C : Type 0} (left : S → Option (List ℕ)) (written :
   pub broken : input_end port past ≡ Some hows.Failed → Rose (source_faults old.source) (source_faults new.source)
   pub broken_out : output_end port past ≡ Some hows.Failed → Rose (sink_faults old.sink) (sink_faults new.sink)
 
--- The history is finished, it is the replay of inputs, one for each port of the plan in its order, to sinks that stop so,
--- and of each port this holds: of its place in the plan, its number, its input and its stop.
+-- The history is finished, it is the replay of inputs, one for each port of the plan in its order and none of control, to
+-- sinks that stop so, and of each port this holds: of its place in the plan, its number, its input and its stop.
 pub record ServesPorts (plan : Plan) (base : Base) (past : List Row) (Holds : ℕ → ℕ → Input → Option ℕ → Type 0) : Type 0 where
   pub inputs : List Input
   pub stops : Stops
   pub size : length inputs ≡ length plan.ports
-  pub replay : past ≡ replayed plan base inputs stops
+  pub replay : past ≡ replayed plan base None inputs stops
   pub finished : IsFinished plan base past
-  pub each : (place : ℕ) (i : Input) → place < length plan.ports → Holds place (number_at plan place) (slice_index_or inputs place i) (stops (number_at plan place))
+  pub each : (place : ℕ) (i : Input) → place < length plan.ports → Holds place (number_at plan place) (slice_index_or inputs place i) (stops.ports (number_at plan place))
 
 -- the same of ends that are held in the order of the plan, each read on from where its reader stands
 abbrev pub ServesEnds : {S K C : Type 0} → (S → Option (List ℕ)) → (K → Option (List ℕ)) → (S → ℕ) → (K → ℕ) → Plan → Base → List Row → List (PortEnds S K C) → List (PortEnds S K C) → Type 0

@@ -1,5 +1,5 @@
 -- What the turn of a port does to the history, before the queues are drained.
-use Rattle.std.specs.Prelude.{◌≡◌, ◌≤◌, ℕ, Bool, true, false, not, List, Option}
+use Rattle.std.specs.Prelude.{◌≡◌, ◌≤◌, ℕ, Bool, true, false, not, ◌||◌, List, Option}
 use Rattle.savi_kinds.specs.declared.port.Port.{Port}
 use Rattle.savi_kinds.specs.declared.plan.Plan.{Plan}
 use Rattle.savi_kinds.specs.declared.entry.Who.TheVariants.{Ingress}
@@ -8,6 +8,7 @@ use Rattle.savi_kinds.specs.Arrivals.{Arrival}
 use Rattle.hist_store.specs.Rows.{Row}
 use Rattle.savi_history.specs.Bases.{empty}
 use Rattle.savi_history.specs.Limits.{has_room}
+use Rattle.savi_history.specs.ControlInputs.{is_quit}
 use Rattle.savi_history.specs.Events.{End}
 use Rattle.savi_history.specs.Legal.{IsOpen, IsFull}
 use Rattle.port_worker.specs.declared.port_ends.Ahead.{Ahead}
@@ -17,12 +18,14 @@ use Rattle.port_worker.specs.SentFrames.{TookMore}
 use Rattle.savi_core.specs.Machines.{Machine}
 use Rattle.savi_core.specs.declared.event.Stepped.{Stepped}
 use Rattle.savi_core.specs.declared.event.Stepped.TheVariants as stepped
-use Rattle.savi_history.specs.Turns.{Turn, Arrives, Ends}
+use Rattle.savi_history.specs.Turns.{Turn, Arrives, Commands, Ends}
 use Rattle.savi_history.specs.Replay.{Stops, event_of, with_event, entered}
 
--- whether the input of a turn ends with it: an ending, or an arrival for which there is no room
+-- whether the input of a turn ends with it, even where all can be written: an ending, an arrival or a line for which there is
+-- no room, or `quit`
 abbrev pub ends_input : Plan → List Row → Turn → Bool
 ends_input plan past (Arrives port arrival) = not (has_room plan past)
+ends_input plan past (Commands line) = not (has_room plan past) || is_quit line
 ends_input plan past (Ends who how) = true
 
 -- An arrival was entered; or the input ended, and its end is all that the turn makes.

@@ -35,7 +35,7 @@ pub(crate) fn begin_all<S, K: Sink, C>(core: &mut Core, ports: &mut [PortEnds<S,
     ensures plan { core.new.plan ≡ core.old.plan }
     ensures sinks { EachPair (OnlySink K.written K.faults) ports.old ports.new }
     ensures begun { (known : Stops) × AreOutputs K.written K.faults core.old.plan known core.new.past ports.old ports.new
-        × ((stops : Stops) → AreAllowed core.old.plan known stops core.new.past → core.new.past ≡ begun core.old.plan empty stops core.old.plan.ports []) }
+        × ((stops : Stops) → AreAllowed core.old.plan known stops core.new.past → core.new.past ≡ begun core.old.plan empty stops.ports core.old.plan.ports []) }
 {
     for place in 0..ports.len() {
         begin_port(core, &mut ports[place]);
@@ -55,7 +55,7 @@ pub(crate) fn drain_all<S, K: Sink, C>(
     ensures plan { core.new.plan ≡ core.old.plan }
     ensures sinks { EachPair (OnlySink K.written K.faults) ports.old ports.new }
     ensures outputs { OutputsGoOn K.written K.faults core.old.plan core.old.past core.new.past ports.old ports.new
-        (λ stops. drained core.old.plan empty stops core.old.plan.ports core.old.past) }
+        (λ stops. drained core.old.plan empty stops.ports core.old.plan.ports core.old.past) }
     // A sink at which a write failed is left alone from then on.
     ensures failed { EachPair (λ o n. has_ended empty (egress_pass core.old.plan (number_of o.port)) core.old.past ≡ true → n ≡ o) ports.old ports.new }
 {

@@ -17,11 +17,12 @@ use Rattle.savi_kinds.specs.declared.verdict.Verdict.{Verdict}
 use Rattle.savi_kinds.specs.declared.verdict.Verdict.TheVariants.{Drop}
 use Rattle.savi_kinds.specs.declared.entry.Entry.{Entry}
 use Rattle.savi_kinds.specs.declared.entry.Act.TheVariants as acts
-use Rattle.savi_kinds.specs.declared.entry.Who.TheVariants.{Ingress, Ticker}
+use Rattle.savi_kinds.specs.declared.entry.Who.TheVariants.{Ingress, Control, Ticker}
 use Rattle.savi_kinds.specs.Ports.{number_of}
 use Rattle.hist_store.specs.Rows.{held}
 use Rattle.savi_history.specs.Passes.{pass_of}
 use Rattle.savi_history.specs.Moments.{moment_at}
+use Rattle.savi_history.specs.Judged.{judged_long}
 use Rattle.savi_history.specs.Outs.{outs}
 use Rattle.savi_history.specs.Queues.{cuts, probes, lost}
 use Rattle.savi_history.specs.Events.{the_vlan, verdict_of}
@@ -29,8 +30,8 @@ use Rattle.savi_history.specs.Events as events
 use Rattle.savi_core.specs.Machines.{Machine, base_of}
 use Rattle.savi_core.specs.Steps.{entry_of}
 
-abbrev pub long_made : Port → ℕ → ℕ → ℕ → ℕ → ℕ → ℕ → Entry
-long_made port stamp len by moment queued missed = record { by = by; moment = moment; act = acts.Long port stamp len; verdict = Some (Drop Malformed); outs = no_ports; cuts = no_ports; probes = queued; lost = missed }
+abbrev pub long_made : Port → ℕ → ℕ → ℕ → ℕ → Verdict → ℕ → ℕ → Entry
+long_made port stamp len by moment verdict queued missed = record { by = by; moment = moment; act = acts.Long port stamp len; verdict = Some verdict; outs = no_ports; cuts = no_ports; probes = queued; lost = missed }
 
 abbrev pub made : Port → ℕ → ℕ → ℕ → ℕ → ℕ → Verdict → PortSet → PortSet → ℕ → ℕ → Entry
 made port stamp len by moment at verdict out cut queued missed = record { by = by; moment = moment; act = acts.Frame port stamp at len; verdict = Some verdict; outs = out; cuts = cut; probes = queued; lost = missed }
@@ -49,9 +50,18 @@ frame_entry_is m port stamp octets by moment at verdict out cut queued missed by
     cc (by_is, moment_is, at_is, verdict_is, goes, left_out, queued_is, missed_is)
 
 -- so is the entry of a frame that is too long
-pub long_entry_is : (m : Machine) (port : Port) (stamp len by moment queued missed : ℕ) → by ≡ pass_of m.plan (Ingress port) → moment ≡ moment_at (base_of m) m.past stamp
-    → queued ≡ probes m.plan (base_of m) m.past (acts.Long port stamp len) [] → missed ≡ lost m.plan (base_of m) m.past (acts.Long port stamp len) [] → long_made port stamp len by moment queued missed ≡ entry_of m (events.Long port stamp len)
-long_entry_is m port stamp len by moment queued missed by_is moment_is queued_is missed_is = cc (by_is, moment_is, queued_is, missed_is)
+pub long_entry_is : (m : Machine) (port : Port) (stamp len by moment : ℕ) (verdict : Verdict) (queued missed : ℕ) → by ≡ pass_of m.plan (Ingress port) → moment ≡ moment_at (base_of m) m.past stamp → verdict ≡ judged_long (base_of m) m.past port
+    → queued ≡ probes m.plan (base_of m) m.past (acts.Long port stamp len) [] → missed ≡ lost m.plan (base_of m) m.past (acts.Long port stamp len) [] → long_made port stamp len by moment verdict queued missed ≡ entry_of m (events.Long port stamp len)
+long_entry_is m port stamp len by moment verdict queued missed by_is moment_is verdict_is queued_is missed_is = cc (by_is, moment_is, verdict_is, queued_is, missed_is)
+
+-- so is the entry of a line of control
+abbrev pub command_made : ℕ → ℕ → ℕ → ℕ → ℕ → ℕ → ℕ → Entry
+command_made stamp len by moment at queued missed = record { by = by; moment = moment; act = acts.Command stamp at len; verdict = None; outs = no_ports; cuts = no_ports; probes = queued; lost = missed }
+
+pub command_entry_is : (m : Machine) (stamp : ℕ) (line : List ℕ) (by moment at queued missed : ℕ) → by ≡ pass_of m.plan Control → moment ≡ moment_at (base_of m) m.past stamp → at ≡ held m.past
+    → queued ≡ probes m.plan (base_of m) m.past (events.command_act m.past stamp line) line → missed ≡ lost m.plan (base_of m) m.past (events.command_act m.past stamp line) line
+    → command_made stamp (length line) by moment at queued missed ≡ entry_of m (events.Command stamp line)
+command_entry_is m stamp line by moment at queued missed by_is moment_is at_is queued_is missed_is = cc (by_is, moment_is, at_is, queued_is, missed_is)
 
 -- so is the entry of a tick
 abbrev pub tick_made : ℕ → ℕ → ℕ → ℕ → ℕ → Entry

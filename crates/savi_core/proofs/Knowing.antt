@@ -51,7 +51,7 @@ only_is set alone port numbers members low is =
 earlier : (t u : ℕ) → t ≤ u → (s : Station) → is_live u s ≡ true → is_live t s ≡ true
 earlier t u later s is = lt-ltb t (end_of s) (omega (arith, later, ltb-true u (end_of s) is))
 
-live_later : (kept : List Station) (moment later : ℕ) (base : Base) (past : List Row) → moment ≤ later → Knows kept moment base past → live_at later kept ≡ live_at later (stations the_vlan base past)
+pub live_later : (kept : List Station) (moment later : ℕ) (base : Base) (past : List Row) → moment ≤ later → Knows kept moment base past → live_at later kept ≡ live_at later (stations the_vlan base past)
 live_later kept moment later base past order knows =
     sym (filter-wider (is_live moment) (is_live later) (earlier moment later order) kept) ∙ ap (live_at later) knows
 
@@ -90,6 +90,12 @@ module _ {k : Kept} (was : Remembers k) (kept : List Station) (knows : Knows kep
   pub knows_long : (port : Port) (stamp len : ℕ) (e : Entry) → e ≡ (row_of k.plan k.base (reverse k.rows) (events.Long port stamp len)).entry → Knows kept e.moment k.base (reverse (k.rows ++ row e [] ∷ []))
   knows_long port stamp len e e_is =
       still (events.Long port stamp len) e e_is (λ live. ap (λ (x : Entry). after_entry the_vlan (row e []) x.act live) e_is)
+
+  pub knows_command : (stamp : ℕ) (line : List ℕ) (e : Entry) → e ≡ (row_of k.plan k.base (reverse k.rows) (events.Command stamp line)).entry → Knows kept e.moment k.base (reverse (k.rows ++ row e line ∷ []))
+  knows_command stamp line e e_is =
+      rw (reverse_push k.rows (row e line))
+      (live_now (events.Command stamp line) e e_is
+      ∙ sym (ap (λ (x : Entry). after_entry the_vlan (row e line) x.act (live_at e.moment (stations the_vlan k.base (reverse k.rows)))) e_is))
 
   pub knows_tick : (stamp : ℕ) (e : Entry) → e ≡ (row_of k.plan k.base (reverse k.rows) (events.Tick stamp)).entry → Knows kept e.moment k.base (reverse (k.rows ++ row e [] ∷ []))
   knows_tick stamp e e_is =

@@ -20,3 +20,8 @@ pub mod AgedAndJudged
 pub mod Moving
 pub mod FrameEntries
 pub mod Ticking
+pub mod Shutting
+pub mod Refusing
+pub mod Tallying
+pub mod Shown
+pub mod Answering

@@ -5,7 +5,7 @@ use Rattle.std.specs.Prelude.{IsSome, IfSome, MatchOption}
 use Rattle.std.specs.Int.{bit_at, bit_not, trailing_zeros}
 use mir.Val.{bits}
 use Rattle.std.proofs.lemmas.Nat.{and_le_l}
-use Rattle.std.proofs.lemmas.Nat.Bits.{bit_at-zero, bit_at-lt, bit_at_and, bit_at_above, bit_at_clear_same, bit_at_clear_other, bit_at-trailing_zeros, same_from_bits}
+use Rattle.std.proofs.lemmas.Nat.Bits.{bit_at-zero, bit_at-lt, bit_at_and, bit_at_above, bit_at_not, bit_at_clear_same, bit_at_clear_other, bit_at-trailing_zeros, same_from_bits}
 use Rattle.std.proofs.lemmas.Bool.{cases_eq, cases_lt, eq-eqb, eqb-true, ne_eqb, or_left, or_right, false≢true}
 use Rattle.savi_kinds.specs.declared.port.Port.{Port}
 use Rattle.savi_kinds.specs.declared.port.PortSet.{PortSet}
@@ -235,3 +235,25 @@ chosen_here number test (x ∷ xs) (suc p) d low apart within =
     chosen_more number test x xs n (low 0 (omega arith)) (low (suc p) within)
     ∙ past_at (test x) (n == number x) (is_member (chosen number test xs) n) (ne_eqb n (number x) (apart (suc p) 0 within (omega arith) (omega arith)))
     ∙ chosen_here number test xs p d (low_later (number x) (map number xs) low) (apart_later (number x) (map number xs) apart) inside
+
+-- a set without the members of another
+
+minus_at : (x y : ℕ) → x < 2 → y < 2 → (min x (1 - y) == 1) ≡ ((x == 1) && not (y == 1))
+minus_at zero y small_x small_y = rw (ne_eqb (min 0 (1 - y)) 1 (λ same. absurd (omega (arith, same)))) refl
+minus_at (suc zero) zero small_x small_y = refl
+minus_at (suc zero) (suc zero) small_x small_y = refl
+minus_at (suc zero) (suc (suc y)) small_x small_y = absurd (omega (arith, small_y))
+minus_at (suc (suc x)) y small_x small_y = absurd (omega (arith, small_x))
+
+pub member_minus : (set other : PortSet) → set.0 < 2 ^ 16 → other.0 < 2 ^ 16 → (n : ℕ) → 1 ≤ n → is_member (record { 0 = bit_and set.0 (bit_not w16 other.0) }) n ≡ (is_member set n && not (is_member other n))
+member_minus set other small small_other n least =
+    elim (cases_lt (n - 1) 16) [
+      | inl below ↦
+          ap (λ (b : ℕ). b == 1) (bit_at_and set.0 (bit_not w16 other.0) (n - 1) ∙ ap (λ (b : ℕ). min (bit_at set.0 (n - 1)) b) (bit_at_not w16 other.0 (n - 1) small_other below))
+          ∙ minus_at (bit_at set.0 (n - 1)) (bit_at other.0 (n - 1)) (bit_at-lt set.0 (n - 1)) (bit_at-lt other.0 (n - 1))
+      | inr above ↦
+          let none : bit_at set.0 (n - 1) ≡ 0 = bit_at_above set.0 16 (n - 1) small above in
+          let low : ◌≡◌ {A = ℕ} (min 0 (bit_at (bit_not w16 other.0) (n - 1))) 0 = omega arith in
+          ap (λ (b : ℕ). b == 1) (bit_at_and set.0 (bit_not w16 other.0) (n - 1) ∙ ap (λ (b : ℕ). min b (bit_at (bit_not w16 other.0) (n - 1))) none ∙ low)
+          ∙ ap (λ (b : ℕ). (b == 1) && not (is_member other n)) (sym none)
+    ]

@@ -3,13 +3,15 @@ use Rattle.std.proofs.Common.{ℕ, zero, suc, ◌≡◌, ◌+◌, ◌<◌, ◌�
 use Rattle.std.specs.List.{count_by}
 use Rattle.std.proofs.lemmas.List.{drop-set-lt}
 use Rattle.std.proofs.lemmas.List.Sums.{sum_by-drop_more}
+use Rattle.savi_kinds.specs.declared.port.PortSet.{PortSet}
 use Rattle.egress_ring.specs.declared.item.Item.{Item as Queued}
 use Rattle.savi_core.specs.Lanes.{Lane}
 use Rattle.savi_core.specs.Rings.{Rings, counted}
 
 -- queues are equal part by part
-pub rings_are : {lanes lanes' : List (Lane Queued)} {joined joined' left left' : ℕ} → lanes ≡ lanes' → joined ≡ joined' → left ≡ left' → ◌≡◌ {A = Rings} (record { lanes = lanes; queued = joined; lost = left }) (record { lanes = lanes'; queued = joined'; lost = left' })
-rings_are lanes_are joined_is left_is = cc (lanes_are, joined_is, left_is)
+pub rings_are : {lanes lanes' : List (Lane Queued)} {shut shut' : PortSet} {joined joined' left left' : ℕ} → lanes ≡ lanes' → shut ≡ shut' → joined ≡ joined' → left ≡ left'
+    → ◌≡◌ {A = Rings} (record { lanes = lanes; shut = shut; queued = joined; lost = left }) (record { lanes = lanes'; shut = shut'; queued = joined'; lost = left' })
+rings_are lanes_are shut_is joined_is left_is = cc (lanes_are, shut_is, joined_is, left_is)
 
 -- those from a place on have still to change
 abbrev pub changed_from : {A : Type 0} → (A → A) → ℕ → List A → List A

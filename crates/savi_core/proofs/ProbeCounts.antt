@@ -17,10 +17,10 @@ use Rattle.savi_history.proofs.Joining.{joined_more, joined_few, joined_within, 
 use Rattle.savi_history.proofs.Depth.{queue_within}
 use Rattle.savi_core.specs.Lanes.{Lane, goes_to, takes_one, with_probe, takes, leaves_out, lane_of}
 use Rattle.savi_core.specs.Waits.{shown, shown_lane, Show}
-use Rattle.savi_core.specs.Rings.{Rings, counted, ring_item, after_probe}
+use Rattle.savi_core.specs.Rings.{Rings, shut_in, counted, ring_item, after_probe}
 use Rattle.savi_core.proofs.Places.{length-numbers}
 use Rattle.savi_core.proofs.Lanes.{probed_lane}
-use Rattle.savi_core.proofs.Probing.{sent_to, probe_shown, offered_is, show_probed}
+use Rattle.savi_core.proofs.Probing.{sent_to, probe_shown, shut_by, offered_is, show_probed}
 
 -- how many items wait in lanes
 abbrev waiting : {A : Type 0} → List (Lane A) → ℕ
@@ -28,57 +28,57 @@ waiting [] = 0
 waiting (lane ∷ lanes) = length lane.items + waiting lanes
 
 -- to how many of the lanes each of the probes goes, in sum
-abbrev offered : {A : Type 0} → List SentProbe → List (Lane A) → ℕ
-offered sents [] = 0
-offered sents (lane ∷ lanes) = length (sent_to sents lane) + offered sents lanes
+abbrev offered : {A : Type 0} → (ℕ → Bool) → List SentProbe → List (Lane A) → ℕ
+offered shut sents [] = 0
+offered shut sents (lane ∷ lanes) = length (sent_to shut sents lane) + offered shut sents lanes
 
-module _ (item : Queued) (sent : SentProbe) where
+module _ (shut : ℕ → Bool) (item : Queued) (sent : SentProbe) where
   taken_at : (lane : Lane Queued) (b c : Bool) → length (if b then (if c then record lane { items = lane.items ++ item ∷ [] } else lane) else lane).items ≡ length lane.items + cond (b && c) 1 0
   taken_at lane true true = omega (arith, length-append lane.items (item ∷ []))
   taken_at lane true false = omega arith
   taken_at lane false c = omega arith
 
   -- as many items more wait as lanes take the probe
-  taken : (lanes : List (Lane Queued)) → waiting (map (with_probe item sent.probe) lanes) ≡ waiting lanes + count_by (takes sent.probe) lanes
+  taken : (lanes : List (Lane Queued)) → waiting (map (with_probe shut item sent.probe) lanes) ≡ waiting lanes + count_by (takes shut sent.probe) lanes
   taken [] = refl
   taken (lane ∷ lanes) =
       omega (
         arith,
-        taken_at lane (goes_to sent.probe lane) (takes_one lane),
+        taken_at lane (goes_to shut sent.probe lane) (takes_one lane),
         taken lanes,
-        sum_by-cons (λ (x : Lane Queued). cond (takes sent.probe x) 1 0) lane lanes,
+        sum_by-cons (λ (x : Lane Queued). cond (takes shut sent.probe x) 1 0) lane lanes,
       )
 
   left_at : (sents : List SentProbe) (lane : Lane Queued) (b c : Bool)
-      → cond (b && not c) 1 0 + length (if b then (if c then record lane { items = lane.items ++ item ∷ [] } else lane) else lane).items + length (sent_to sents (if b then (if c then record lane { items = lane.items ++ item ∷ [] } else lane) else lane))
-      ≡ length lane.items + length (if b then sent ∷ sent_to sents lane else sent_to sents lane)
+      → cond (b && not c) 1 0 + length (if b then (if c then record lane { items = lane.items ++ item ∷ [] } else lane) else lane).items + length (sent_to shut sents (if b then (if c then record lane { items = lane.items ++ item ∷ [] } else lane) else lane))
+      ≡ length lane.items + length (if b then sent ∷ sent_to shut sents lane else sent_to shut sents lane)
   left_at sents lane true true = omega (arith, length-append lane.items (item ∷ []))
   left_at sents lane true false = omega arith
   left_at sents lane false c = omega arith
 
   -- each lane to which the probe goes takes it or leaves it out
-  left : (sents : List SentProbe) (lanes : List (Lane Queued)) → count_by (leaves_out sent.probe) lanes + waiting (map (with_probe item sent.probe) lanes) + offered sents (map (with_probe item sent.probe) lanes) ≡ waiting lanes + offered (sent ∷ sents) lanes
+  left : (sents : List SentProbe) (lanes : List (Lane Queued)) → count_by (leaves_out shut sent.probe) lanes + waiting (map (with_probe shut item sent.probe) lanes) + offered shut sents (map (with_probe shut item sent.probe) lanes) ≡ waiting lanes + offered shut (sent ∷ sents) lanes
   left sents [] = refl
   left sents (lane ∷ lanes) =
       omega (
         arith,
-        left_at sents lane (goes_to sent.probe lane) (takes_one lane),
+        left_at sents lane (goes_to shut sent.probe lane) (takes_one lane),
         left sents lanes,
-        sum_by-cons (λ (x : Lane Queued). cond (leaves_out sent.probe x) 1 0) lane lanes,
+        sum_by-cons (λ (x : Lane Queued). cond (leaves_out shut sent.probe x) 1 0) lane lanes,
       )
 
-nothing : (lanes : List (Lane Queued)) → offered [] lanes ≡ 0
-nothing [] = refl
-nothing (lane ∷ lanes) = omega (arith, nothing lanes)
+nothing : (shut : ℕ → Bool) (lanes : List (Lane Queued)) → offered shut [] lanes ≡ 0
+nothing shut [] = refl
+nothing shut (lane ∷ lanes) = omega (arith, nothing shut lanes)
 
 -- no fewer wait, and no more than are offered join
 grows : (sents : List SentProbe) (rings : Rings) → waiting rings.lanes ≤ waiting (fold after_probe rings sents).lanes
 grows [] rings = omega arith
-grows (sent ∷ sents) rings = omega (arith, grows sents (after_probe rings sent), taken (ring_item sent) sent rings.lanes)
+grows (sent ∷ sents) rings = omega (arith, grows sents (after_probe rings sent), taken (shut_in rings.shut) (ring_item sent) sent rings.lanes)
 
-few : (sents : List SentProbe) (rings : Rings) → waiting (fold after_probe rings sents).lanes ≤ waiting rings.lanes + offered sents rings.lanes
+few : (sents : List SentProbe) (rings : Rings) → waiting (fold after_probe rings sents).lanes ≤ waiting rings.lanes + offered (shut_in rings.shut) sents rings.lanes
 few [] rings = omega arith
-few (sent ∷ sents) rings = omega (arith, few sents (after_probe rings sent), left (ring_item sent) sent sents rings.lanes)
+few (sent ∷ sents) rings = omega (arith, few sents (after_probe rings sent), left (shut_in rings.shut) (ring_item sent) sent sents rings.lanes)
 
 -- what is counted is by how much the lanes grew, and how much of what was offered they did not
 
@@ -89,18 +89,18 @@ queued_by (sent ∷ sents) rings fits =
       arith,
       queued_by sents (after_probe rings sent) (omega arith),
       grows sents (after_probe rings sent),
-      taken (ring_item sent) sent rings.lanes,
+      taken (shut_in rings.shut) (ring_item sent) sent rings.lanes,
     )
 
-lost_by : (sents : List SentProbe) (rings : Rings) → rings.lost ≤ 4294967295 → (fold after_probe rings sents).lost ≡ counted rings.lost (waiting rings.lanes + offered sents rings.lanes - waiting (fold after_probe rings sents).lanes)
+lost_by : (sents : List SentProbe) (rings : Rings) → rings.lost ≤ 4294967295 → (fold after_probe rings sents).lost ≡ counted rings.lost (waiting rings.lanes + offered (shut_in rings.shut) sents rings.lanes - waiting (fold after_probe rings sents).lanes)
 lost_by [] rings fits =
-    omega (arith, nothing rings.lanes)
+    omega (arith, nothing (shut_in rings.shut) rings.lanes)
 lost_by (sent ∷ sents) rings fits =
     omega (
       arith,
       lost_by sents (after_probe rings sent) (omega arith),
       few sents (after_probe rings sent),
-      left (ring_item sent) sent sents rings.lanes,
+      left (shut_in rings.shut) (ring_item sent) sent sents rings.lanes,
     )
 
 -- the same by the lanes of a history
@@ -110,9 +110,9 @@ module _ (mac : Mac) (rows : List Row) where
   waiting_shown [] = refl
   waiting_shown (lane ∷ lanes) = omega (arith, length-map lane.items (shown mac rows), waiting_shown lanes)
 
-  offered_shown : (sents : List SentProbe) (lanes : List (Lane Queued)) → offered sents (map (shown_lane mac rows) lanes) ≡ offered sents lanes
-  offered_shown sents [] = refl
-  offered_shown sents (lane ∷ lanes) = ap (λ (n : ℕ). length (sent_to sents lane) + n) (offered_shown sents lanes)
+  offered_shown : (shut : ℕ → Bool) (sents : List SentProbe) (lanes : List (Lane Queued)) → offered shut sents (map (shown_lane mac rows) lanes) ≡ offered shut sents lanes
+  offered_shown shut sents [] = refl
+  offered_shown shut sents (lane ∷ lanes) = ap (λ (n : ℕ). length (sent_to shut sents lane) + n) (offered_shown shut sents lanes)
 
 waiting_by : (by : ℕ → Lane Item) (ns : List ℕ) → waiting (map by ns) ≡ over_ports ns (λ q. length (by q).items)
 waiting_by by [] = refl
@@ -169,21 +169,25 @@ module _ (plan : Plan) (base : Base) (past : List Row) (act : Act) (octets : Lis
   few_lost short [] = omega arith
   few_lost short (n ∷ ns) = omega (arith, few_lost short ns, short, few_coming n)
 
-  module _ (rows : List Row) (sents : List SentProbe) (rings : Rings) (came : map offer_of sents ≡ offers plan base past act octets) (was : Show plan rows rings.lanes (lane_of plan base past)) where
-    coming_by : (ns : List ℕ) → offered sents (map (lane_of plan base past) ns) ≡ over_ports ns coming
+  module _ (rows : List Row) (sents : List SentProbe) (rings : Rings) (shut_is : shut_in rings.shut ≡ shut_by base past) (came : map offer_of sents ≡ offers plan base past act octets) (was : Show plan rows rings.lanes (lane_of plan base past)) where
+    coming_by : (ns : List ℕ) → offered (shut_by base past) sents (map (lane_of plan base past) ns) ≡ over_ports ns coming
     coming_by [] = refl
     coming_by (n ∷ ns) =
-        let mine : length (map (probe_shown plan.mac) (sent_to sents (lane_of plan base past n))) ≡ coming n = ap (λ (items : List Item). length items) (offered_is plan base past n act octets sents came) in
-        omega (arith, coming_by ns, mine, length-map (sent_to sents (lane_of plan base past n)) (probe_shown plan.mac))
+        let mine : length (map (probe_shown plan.mac) (sent_to (shut_by base past) sents (lane_of plan base past n))) ≡ coming n = ap (λ (items : List Item). length items) (offered_is plan base past n act octets sents came) in
+        omega (arith, coming_by ns, mine, length-map (sent_to (shut_by base past) sents (lane_of plan base past n)) (probe_shown plan.mac))
 
-    coming_is : offered sents rings.lanes ≡ over_ports (numbers_of plan.ports) coming
-    coming_is = sym (offered_shown plan.mac rows sents rings.lanes) ∙ ap (λ (all : List (Lane Item)). offered sents all) was.same ∙ coming_by (numbers_of plan.ports)
+    coming_is : offered (shut_in rings.shut) sents rings.lanes ≡ over_ports (numbers_of plan.ports) coming
+    coming_is =
+        sym (offered_shown plan.mac rows (shut_in rings.shut) sents rings.lanes)
+        ∙ ap (λ (all : List (Lane Item)). offered (shut_in rings.shut) sents all) was.same
+        ∙ ap (λ (shut : ℕ → Bool). offered shut sents (map (lane_of plan base past) (numbers_of plan.ports))) shut_is
+        ∙ coming_by (numbers_of plan.ports)
 
     before_is : waiting rings.lanes ≡ over_ports (numbers_of plan.ports) before
     before_is = waiting_in plan rows rings.lanes (lane_of plan base past) was
 
     joining_is : waiting (fold after_probe rings sents).lanes ≡ over_ports (numbers_of plan.ports) joining
-    joining_is = waiting_in plan rows (fold after_probe rings sents).lanes (probed_lane plan base past act octets) (show_probed plan base past rows act octets sents rings came was)
+    joining_is = waiting_in plan rows (fold after_probe rings sents).lanes (probed_lane plan base past act octets) (show_probed plan base past rows act octets sents rings shut_is came was)
 
     -- The probes that joined are those that the history counts, as far as there is a number for them.
     pub queued_is : rings.queued ≡ 0 → (fold after_probe rings sents).queued ≡ min (probes plan base past act octets) 4294967295

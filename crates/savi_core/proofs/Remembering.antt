@@ -1,5 +1,5 @@
 -- What a core keeps: how it begins, and after one more row.
-use Rattle.std.proofs.Common.{ℕ, zero, suc, replicate, ◌≡◌, ◌+◌, ◌*◌, ◌<◌, ◌≤◌, ◌==◌, ◌&&◌, ◌||◌, cond, Bool, true, false, List, [], ◌∷◌, ◌++◌, length, map, get_or, inl, inr, refl, sym, ap, subst, ◌∙◌, arith, length-append}
+use Rattle.std.proofs.Common.{◌-◌, nat_le, ℕ, zero, suc, replicate, ◌≡◌, ◌+◌, ◌*◌, ◌<◌, ◌≤◌, ◌==◌, ◌&&◌, ◌||◌, cond, Bool, true, false, List, [], ◌∷◌, ◌++◌, length, map, get_or, inl, inr, refl, sym, ap, subst, ◌∙◌, arith, length-append}
 use Rattle.std.specs.Prelude.{All, reverse}
 use Rattle.std.proofs.lemmas.List.{length-reverse, length-map, reverse-append, get_or-map}
 use Rattle.std.proofs.lemmas.List.Elements.{All-nil, All-cons}
@@ -23,6 +23,14 @@ use Rattle.savi_history.proofs.Depth.{queue_within}
 use Rattle.savi_history.proofs.Starting.{empty_within}
 use Rattle.savi_core.specs.Lanes.{Lane, empty_lane, lane_of}
 use Rattle.savi_core.specs.Waits.{shown, shown_lane, IsThere, AreThere, Show}
+use Rattle.savi_history.specs.ShutPorts.{shut_after, is_shut}
+use Rattle.savi_history.proofs.Directing.{and-false}
+use Rattle.std.proofs.Math.Path.{fun_ext}
+use Rattle.std.proofs.lemmas.Nat.Bits.{bit_at-zero}
+use Rattle.savi_kinds.specs.declared.port.PortSet.{PortSet}
+use Rattle.savi_kinds.specs.PortSets.{no_ports}
+use Rattle.savi_core.specs.Rings.{shut_in}
+use Rattle.savi_kinds.specs.declared.entry.Act.{Act}
 use Rattle.savi_core.specs.Counts.{still_to_come, waiting_at, open_below}
 use Rattle.savi_core.specs.PassMarks.{open_among}
 use Rattle.savi_core.proofs.Ending.{none_ended}
@@ -65,9 +73,13 @@ start_there : (depth : ℕ) (ports : List PortPlan) → All (AreThere []) (map (
 start_there depth [] = All-nil (AreThere [])
 start_there depth (p ∷ ports) = All-cons (AreThere []) (empty_lane depth p) (map (empty_lane depth) ports) (All-nil (IsThere [])) (start_there depth ports)
 
+-- no port is shut
+pub none_shut : shut_in no_ports ≡ (λ number. false)
+none_shut = fun_ext (λ number. rw (bit_at-zero (number - 1)) (and-false (nat_le 1 number)))
+
 -- what a core keeps at its start
 pub remembers_start : (plan : Plan) (lanes : List (Lane Queued)) → IsValidPlan plan → lanes ≡ map (empty_lane plan.depth) plan.ports
-    → Remembers (record { plan = plan; base = empty; rows = []; moment = 0; ended = replicate 34 false; lanes = lanes })
+    → Remembers (record { plan = plan; base = empty; rows = []; moment = 0; ended = replicate 34 false; shut = no_ports; lanes = lanes })
 remembers_start plan lanes valid are = record {
   valid = valid;
   within = empty_within plan valid;
@@ -75,6 +87,7 @@ remembers_start plan lanes valid are = record {
   last = refl;
   passes = λ pass below. none_ended 34 pass;
   marks = refl;
+  shut_ports = none_shut;
   queues = record {
     there = subst (λ (ls : List (Lane Queued)). All (AreThere []) ls) (sym are) (start_there plan.depth plan.ports);
     same = ap (map (shown_lane plan.mac [])) are ∙ start_shown plan plan.ports (λ k d within. start_role plan k d valid within);
@@ -84,9 +97,10 @@ remembers_start plan lanes valid are = record {
 }
 
 -- one more row, by the event that it is of
-pub record HasNext (k : Kept) (r : Row) (ended' : List Bool) (lanes' : List (Lane Queued)) : Type 0 where
+pub record HasNext (k : Kept) (r : Row) (ended' : List Bool) (shut' : PortSet) (lanes' : List (Lane Queued)) : Type 0 where
   pub passes : (pass : ℕ) → pass < pass_count k.plan → get_or ended' pass false ≡ ((is_end r.entry.act && (r.entry.by == pass)) || get_or k.ended pass false)
   pub marks : length ended' ≡ length k.ended
+  pub shut_ports : shut_in shut' ≡ (λ number. is_shut k.base number (r ∷ reverse k.rows))
   pub queues : Show k.plan (k.rows ++ r ∷ []) lanes' (lane_of k.plan k.base (r ∷ reverse k.rows))
   pub octets : held k.rows + length r.octets ≤ k.plan.bytes
   pub room : k.plan.entries < length k.rows + 1 + 4130 → length k.rows + 1 + still_to_come k.plan k.base (r ∷ reverse k.rows) ≤ k.plan.entries
@@ -95,9 +109,9 @@ module _ {k : Kept} (was : Remembers k) where
   abbrev pub past : List Row
   past = reverse k.rows
 
-  pub remembers_next : (event : Event) (r : Row) (moment' : ℕ) (ended' : List Bool) (lanes' : List (Lane Queued)) → MayCome k.plan k.base (reverse k.rows) event → r ≡ row_of k.plan k.base (reverse k.rows) event → moment' ≡ r.entry.moment → HasNext k r ended' lanes'
-      → Remembers (record { plan = k.plan; base = k.base; rows = k.rows ++ r ∷ []; moment = moment'; ended = ended'; lanes = lanes' })
-  remembers_next event r moment' ended' lanes' may is_row moment_is next =
+  pub remembers_next : (event : Event) (r : Row) (moment' : ℕ) (ended' : List Bool) (shut' : PortSet) (lanes' : List (Lane Queued)) → MayCome k.plan k.base (reverse k.rows) event → r ≡ row_of k.plan k.base (reverse k.rows) event → moment' ≡ r.entry.moment → HasNext k r ended' shut' lanes'
+      → Remembers (record { plan = k.plan; base = k.base; rows = k.rows ++ r ∷ []; moment = moment'; ended = ended'; shut = shut'; lanes = lanes' })
+  remembers_next event r moment' ended' shut' lanes' may is_row moment_is next =
       let at : reverse (k.rows ++ r ∷ []) ≡ r ∷ reverse k.rows = reverse_push k.rows r in
       let longer : length (k.rows ++ r ∷ []) ≡ length k.rows + 1 = omega (arith, length-append k.rows (r ∷ [])) in
       record {
@@ -107,10 +121,18 @@ module _ {k : Kept} (was : Remembers k) where
         last = rw at moment_is;
         passes = λ pass below. rw at (next.passes pass below ∙ ap (λ b. (is_end r.entry.act && (r.entry.by == pass)) || b) (was.passes pass below));
         marks = next.marks ∙ was.marks;
+        shut_ports = rw at next.shut_ports;
         queues = rw at next.queues;
         octets = omega (arith, held-append k.rows (r ∷ []), next.octets);
         room = rw (at, longer) next.room;
       }
+
+  -- an entry that is no command leaves the ports as they are
+  pub shut_still : (r : Row) (act : Act) → r.entry.act ≡ act → ((number : ℕ) → shut_after number r.octets act (is_shut k.base number (reverse k.rows)) ≡ is_shut k.base number (reverse k.rows))
+      → shut_in k.shut ≡ (λ number. is_shut k.base number (r ∷ reverse k.rows))
+  shut_still r act is leaves =
+      was.shut_ports
+      ∙ fun_ext (λ number. sym (leaves number) ∙ ap (λ (a : Act). shut_after number r.octets a (is_shut k.base number (reverse k.rows))) (sym is))
 
   -- how many passes are open
   pub open_is : (n : ℕ) → n ≤ pass_count k.plan → open_among k.ended n ≡ open_below k.base (reverse k.rows) n

@@ -30,15 +30,19 @@ use Rattle.savi_core.specs.Steps.{MayStep, tick_moment}
 use Rattle.savi_core.specs.Counts.{still_to_come, open_below}
 use Rattle.savi_core.specs.Lanes.{Lane, with_frame, with_drained, with_ended, no_lane, lane_of, AreEnded}
 use Rattle.savi_core.specs.Waits.{Show}
-use Rattle.savi_core.specs.Rings.{Rings, after_probe}
+use Rattle.savi_kinds.specs.declared.port.PortSet.{PortSet}
+use Rattle.std.proofs.Math.Path.{fun_ext}
+use Rattle.cli_lang.specs.CommandOf.{command_of}
+use Rattle.savi_history.specs.ShutPorts.{shut_by as shut_by_command, shut_after, is_shut}
+use Rattle.savi_core.specs.Rings.{Rings, shut_in, after_probe}
 use Rattle.savi_core.specs.Remembers.{Kept, Remembers}
 use Rattle.savi_core.proofs.Places.{placed, pass_within}
-use Rattle.savi_core.proofs.Lanes.{probed_lane, there_drained, shown_drained, there_ended, shown_ended, lane_long, lane_ticked, lane_drained, lane_elsewhere, IsNoEgress, lane_behind_input, lane_ended, lane_apart}
-use Rattle.savi_core.proofs.Probing.{show_probed}
+use Rattle.savi_core.proofs.Lanes.{probed_lane, there_drained, shown_drained, there_ended, shown_ended, lane_long, lane_ticked, lane_commanded, lane_drained, lane_elsewhere, IsNoEgress, lane_behind_input, lane_ended, lane_apart}
+use Rattle.savi_core.proofs.Probing.{shut_by, show_probed}
 use Rattle.savi_core.proofs.ProbeCounts.{queued_exact, lost_exact}
 use Rattle.savi_core.proofs.Showing.{lane_at, there_in, show_more, show_by, show_set, show_framed}
 use Rattle.savi_core.proofs.Counting.{open_below-later, open_below-ended, open_below-some, waiting_at-later, waiting_at-taken, waiting_at-some}
-use Rattle.savi_core.proofs.Remembering.{reverse_push, remembers_next, fits, room_less, room_for}
+use Rattle.savi_core.proofs.Remembering.{reverse_push, remembers_next, shut_still, fits, room_less, room_for}
 
 -- a row of an entry and its octets
 abbrev pub row : Entry → List ℕ → Row
@@ -54,6 +58,9 @@ may_long m port stamp len may room fits len_fits = (record { open_pass = may.0; 
 pub may_frame : (m : Machine) (port : Port) (stamp : ℕ) (octets : List ℕ) → MayStep m (events.Frame port stamp octets) → has_room m.plan m.past ≡ true → stamp < 2 ^ 64 → MayCome m.plan (base_of m) m.past (events.Frame port stamp octets)
 may_frame m port stamp octets may room fits = (record { open_pass = may.0; room = room; fits = fits }, may.1)
 
+pub may_command : (m : Machine) (stamp : ℕ) (line : List ℕ) → MayStep m (events.Command stamp line) → has_room m.plan m.past ≡ true → stamp < 2 ^ 64 → MayCome m.plan (base_of m) m.past (events.Command stamp line)
+may_command m stamp line may room fits = (record { open_pass = may.0; room = room; fits = fits }, may.1)
+
 pub may_tick : (m : Machine) (stamp : ℕ) → MayStep m (events.Tick stamp) → has_room m.plan m.past ≡ true → stamp < 2 ^ 64 → HasChangedBy m.plan (base_of m) m.past (tick_moment m stamp) → MayCome m.plan (base_of m) m.past (events.Tick stamp)
 may_tick m stamp may room fits changed = record { open_pass = may; room = room; fits = fits; changed = changed }
 
@@ -64,41 +71,63 @@ stepped_view plan rows e octets event m view is_row =
 
 module _ {k : Kept} (was : Remembers k) where
   -- the lanes once the probes of an entry were offered, whatever they are
-  pub probed_now : (act : Act) (octets : List ℕ) (sents : List SentProbe) (rings : Rings) → map offer_of sents ≡ offers k.plan k.base (reverse k.rows) act octets → rings.lanes ≡ k.lanes
+  pub probed_now : (act : Act) (octets : List ℕ) (sents : List SentProbe) (rings : Rings) → shut_in rings.shut ≡ shut_by k.base (reverse k.rows) → map offer_of sents ≡ offers k.plan k.base (reverse k.rows) act octets → rings.lanes ≡ k.lanes
       → Show k.plan k.rows (fold after_probe rings sents).lanes (probed_lane k.plan k.base (reverse k.rows) act octets)
-  probed_now act octets sents rings came are =
-      show_probed k.plan k.base (reverse k.rows) k.rows act octets sents rings came
+  probed_now act octets sents rings shut_is came are =
+      show_probed k.plan k.base (reverse k.rows) k.rows act octets sents rings shut_is came
       (subst (λ (lanes : List (Lane Queued)). Show k.plan k.rows lanes (lane_of k.plan k.base (reverse k.rows))) (sym are) was.queues)
 
   -- how many of them joined, and how many were left out, since the counts were reset
-  pub probes_now : (act : Act) (octets : List ℕ) (sents : List SentProbe) (rings : Rings) → map offer_of sents ≡ offers k.plan k.base (reverse k.rows) act octets → rings ≡ record { lanes = k.lanes; queued = 0; lost = 0 }
+  pub probes_now : (act : Act) (octets : List ℕ) (sents : List SentProbe) (rings : Rings) → map offer_of sents ≡ offers k.plan k.base (reverse k.rows) act octets → rings ≡ record { lanes = k.lanes; shut = k.shut; queued = 0; lost = 0 }
       → length sents < 268435456 → ((fold after_probe rings sents).queued ≡ probes k.plan k.base (reverse k.rows) act octets) × ((fold after_probe rings sents).lost ≡ lost k.plan k.base (reverse k.rows) act octets)
   probes_now act octets sents rings came are short =
-      let start : Rings = record { lanes = k.lanes; queued = 0; lost = 0 } in
+      let start : Rings = record { lanes = k.lanes; shut = k.shut; queued = 0; lost = 0 } in
       rw are (
-        queued_exact k.plan k.base (reverse k.rows) act octets k.rows sents start came was.queues was.valid refl,
-        lost_exact k.plan k.base (reverse k.rows) act octets k.rows sents start came was.queues was.valid short refl,
+        queued_exact k.plan k.base (reverse k.rows) act octets k.rows sents start was.shut_ports came was.queues was.valid refl,
+        lost_exact k.plan k.base (reverse k.rows) act octets k.rows sents start was.shut_ports came was.queues was.valid short refl,
       )
 
   pub remembers_long : (port : Port) (stamp len : ℕ) (e : Entry) (lanes' : List (Lane Queued)) → MayCome k.plan k.base (reverse k.rows) (events.Long port stamp len) → e ≡ (row_of k.plan k.base (reverse k.rows) (events.Long port stamp len)).entry
       → Show k.plan k.rows lanes' (probed_lane k.plan k.base (reverse k.rows) (acts.Long port stamp len) []) → Remembers (record k { rows = k.rows ++ row e [] ∷ []; moment = e.moment; lanes = lanes' })
   remembers_long port stamp len e lanes' may e_is shows =
       let act_is : e.act ≡ acts.Long port stamp len = ap (λ (x : Entry). x.act) e_is in
-      remembers_next was (events.Long port stamp len) (row e []) e.moment k.ended lanes' may (ap (λ (x : Entry). row x []) e_is) refl (record {
+      remembers_next was (events.Long port stamp len) (row e []) e.moment k.ended k.shut lanes' may (ap (λ (x : Entry). row x []) e_is) refl (record {
         passes = λ pass below. ap (λ (a : Act). (is_end a && (e.by == pass)) || get_or k.ended pass false) (sym act_is);
         marks = refl;
+        shut_ports = shut_still was (row e []) (acts.Long port stamp len) act_is (λ number. refl);
         queues = show_by (show_more shows (row e [])) (lane_of k.plan k.base (row e [] ∷ reverse k.rows)) (λ q known. lane_long k.plan k.base (reverse k.rows) (row e []) q port stamp len act_is);
         octets = omega (arith, was.octets);
         room = λ near. absurd (omega (arith, near, (room_for was may.0.room).0));
+      })
+
+  -- a line of control may have shut a port, or opened one
+  pub remembers_command : (stamp : ℕ) (line : List ℕ) (e : Entry) (shut' : PortSet) (lanes' : List (Lane Queued)) → MayCome k.plan k.base (reverse k.rows) (events.Command stamp line) → e ≡ (row_of k.plan k.base (reverse k.rows) (events.Command stamp line)).entry
+      → shut_in shut' ≡ (λ number. shut_by_command number (command_of line) (shut_in k.shut number))
+      → Show k.plan k.rows lanes' (probed_lane k.plan k.base (reverse k.rows) (events.command_act (reverse k.rows) stamp line) line)
+      → Remembers (record k { rows = k.rows ++ row e line ∷ []; moment = e.moment; shut = shut'; lanes = lanes' })
+  remembers_command stamp line e shut' lanes' may e_is shut_is shows =
+      let act_is : e.act ≡ acts.Command stamp (held (reverse k.rows)) (length line) = ap (λ (x : Entry). x.act) e_is in
+      let room = room_for was may.0.room in
+      remembers_next was (events.Command stamp line) (row e line) e.moment k.ended shut' lanes' may (ap (λ (x : Entry). row x line) e_is) refl (record {
+        passes = λ pass below. ap (λ (a : Act). (is_end a && (e.by == pass)) || get_or k.ended pass false) (sym act_is);
+        marks = refl;
+        shut_ports =
+            shut_is
+            ∙ fun_ext (λ number. ap (λ (shut : ℕ → Bool). shut_by_command number (command_of line) (shut number)) was.shut_ports
+            ∙ ap (λ (a : Act). shut_after number line a (is_shut k.base number (reverse k.rows))) (sym act_is));
+        queues = show_by (show_more shows (row e line)) (lane_of k.plan k.base (row e line ∷ reverse k.rows)) (λ q known. lane_commanded k.plan k.base (reverse k.rows) (row e line) q stamp (held (reverse k.rows)) (length line) act_is);
+        octets = omega (arith, room.1, may.1);
+        room = λ near. absurd (omega (arith, near, room.0));
       })
 
   pub remembers_tick : (stamp : ℕ) (e : Entry) (lanes' : List (Lane Queued)) → MayCome k.plan k.base (reverse k.rows) (events.Tick stamp) → e ≡ (row_of k.plan k.base (reverse k.rows) (events.Tick stamp)).entry
       → Show k.plan k.rows lanes' (probed_lane k.plan k.base (reverse k.rows) (acts.Tick stamp) []) → Remembers (record k { rows = k.rows ++ row e [] ∷ []; moment = e.moment; lanes = lanes' })
   remembers_tick stamp e lanes' may e_is shows =
       let act_is : e.act ≡ acts.Tick stamp = ap (λ (x : Entry). x.act) e_is in
-      remembers_next was (events.Tick stamp) (row e []) e.moment k.ended lanes' may (ap (λ (x : Entry). row x []) e_is) refl (record {
+      remembers_next was (events.Tick stamp) (row e []) e.moment k.ended k.shut lanes' may (ap (λ (x : Entry). row x []) e_is) refl (record {
         passes = λ pass below. ap (λ (a : Act). (is_end a && (e.by == pass)) || get_or k.ended pass false) (sym act_is);
         marks = refl;
+        shut_ports = shut_still was (row e []) (acts.Tick stamp) act_is (λ number. refl);
         queues = show_by (show_more shows (row e [])) (lane_of k.plan k.base (row e [] ∷ reverse k.rows)) (λ q known. lane_ticked k.plan k.base (reverse k.rows) (row e []) q stamp act_is);
         octets = omega (arith, was.octets);
         room = λ near. absurd (omega (arith, near, (room_for was may.room).0));
@@ -110,9 +139,10 @@ module _ {k : Kept} (was : Remembers k) where
   remembers_frame port stamp octets e lanes lanes' may e_is shows are =
       let act_is : e.act ≡ acts.Frame port stamp (held (reverse k.rows)) (length octets) = ap (λ (x : Entry). x.act) e_is in
       let room = room_for was may.0.room in
-      remembers_next was (events.Frame port stamp octets) (row e octets) e.moment k.ended lanes' may (ap (λ (x : Entry). row x octets) e_is) refl (record {
+      remembers_next was (events.Frame port stamp octets) (row e octets) e.moment k.ended k.shut lanes' may (ap (λ (x : Entry). row x octets) e_is) refl (record {
         passes = λ pass below. ap (λ (a : Act). (is_end a && (e.by == pass)) || get_or k.ended pass false) (sym act_is);
         marks = refl;
+        shut_ports = shut_still was (row e octets) (acts.Frame port stamp (held (reverse k.rows)) (length octets)) act_is (λ number. refl);
         queues = show_framed k.plan k.base (reverse k.rows) k.rows (row e octets) lanes lanes' port stamp (held (reverse k.rows)) (length octets) act_is may.1 are shows;
         octets = omega (arith, room.1, may.1);
         room = λ near. absurd (omega (arith, near, room.0));
@@ -146,9 +176,10 @@ module _ {k : Kept} (was : Remembers k) where
       let act_is : e.act ≡ acts.Drain port count = ap (λ (x : Entry). x.act) e_is in
       let r = row e [] in
       let there = there_in was.queues (number_of port) p d may.0.known place_is in
-      remembers_next was (events.Drain port count) (row e []) e.moment k.ended lanes' may (ap (λ (x : Entry). row x []) e_is) refl (record {
+      remembers_next was (events.Drain port count) (row e []) e.moment k.ended k.shut lanes' may (ap (λ (x : Entry). row x []) e_is) refl (record {
         passes = λ pass below. ap (λ (a : Act). (is_end a && (e.by == pass)) || get_or k.ended pass false) (sym act_is);
         marks = refl;
+        shut_ports = shut_still was (row e []) (acts.Drain port count) act_is (λ number. refl);
         queues =
             subst (λ (lanes : List (Lane Queued)). Show k.plan (k.rows ++ row e [] ∷ []) lanes (lane_of k.plan k.base (row e [] ∷ reverse k.rows))) (sym are)
             (show_set was.queues (row e []) (lane_of k.plan k.base (row e [] ∷ reverse k.rows)) (number_of port) p (with_drained count (get_or k.lanes p d)) was.valid may.0.known place_is
@@ -206,9 +237,10 @@ module _ {k : Kept} (was : Remembers k) where
             ap (λ l. get_or l pass false) ended_is ∙ get_or-set_other k.ended e.by pass true false (λ same. other (sym same))
             ∙ sym (ap (λ (a : Act). (is_end a && (e.by == pass)) || get_or k.ended pass false) act_is ∙ ap (λ b. b || get_or k.ended pass false) (ne_eqb e.by pass other))
       ] in
-      remembers_next was (events.End who how) (row e []) e.moment ended' lanes' may (ap (λ (x : Entry). row x []) e_is) refl (record {
+      remembers_next was (events.End who how) (row e []) e.moment ended' k.shut lanes' may (ap (λ (x : Entry). row x []) e_is) refl (record {
         passes = λ pass below. mark pass;
         marks = ap length ended_is ∙ length-set k.ended e.by true;
+        shut_ports = shut_still was (row e []) (acts.End who how) act_is (λ number. refl);
         queues = shows;
         octets = omega (arith, was.octets);
         room = room_less was (row e []) (end_less (row e []) who how act_is by_is within may.0.running);

@@ -26,6 +26,8 @@ use Rattle.hist_store.specs.Rows.{Row}
 use Rattle.savi_history.specs.Bases.{Base, access_of}
 use Rattle.savi_history.specs.Vlans.{the_vlan}
 use Rattle.savi_history.specs.Moments.{last_moment, moment_at}
+use Rattle.cli_lang.specs.CommandOf.{command_of}
+use Rattle.savi_history.specs.Commands.{commanded}
 use Rattle.savi_history.specs.Marks.{marks}
 use Rattle.savi_history.specs.Judged.{judged_of}
 use Rattle.savi_history.specs.Offers.{due_by, in_answer, offer_of, offers}
@@ -49,6 +51,10 @@ long_offers plan base past port stamp len octets = refl
 pub tick_offers : (plan : Plan) (base : Base) (past : List Row) (stamp : ℕ) (octets : List ℕ) → map offer_of (due_by plan base past (moment_at base past stamp)) ≡ offers plan base past (acts.Tick stamp) octets
 unfolding offers
 tick_offers plan base past stamp octets = refl
+
+pub command_offers : (plan : Plan) (base : Base) (past : List Row) (stamp at len : ℕ) (octets : List ℕ) → map offer_of (due_by plan base past (moment_at base past stamp)) ≡ offers plan base past (acts.Command stamp at len) octets
+unfolding offers
+command_offers plan base past stamp at len octets = refl
 
 -- there are few of them
 few_between : (r : AddrRules) (base : AddrBase) (past : List Named) (from t vlan : ℕ) → IsAddrBase r base → from ≤ t → length (probes_between r base past from t vlan) ≤ 3 * length (rows_at r base past from vlan)
@@ -110,6 +116,11 @@ module _ {k : Kept} (was : Remembers k) (table : Table) (tells : Tells k.plan k.
       → Represents (rules_of k.plan) (access_of k.base) (marks k.plan k.base (reverse k.rows)) (moment_at k.base (reverse k.rows) stamp) table' → IsReady (rules_of k.plan) (moment_at k.base (reverse k.rows) stamp) table'
       → Tells k.plan k.base (reverse (k.rows ++ row e [] ∷ [])) e.moment table'
   tells_long port stamp len e table' e_is states ready = behind [] table' (events.Long port stamp len) e e_is (record { states = states; ready = ready })
+
+  pub tells_command : (stamp : ℕ) (line : List ℕ) (e : Entry) (table' : Table) → e ≡ (row_of k.plan k.base (reverse k.rows) (events.Command stamp line)).entry
+      → Represents (rules_of k.plan) (access_of k.base) (commanded k.plan (access_of k.base) (moment_at k.base (reverse k.rows) stamp) (command_of line) (marks k.plan k.base (reverse k.rows))) (moment_at k.base (reverse k.rows) stamp) table' → IsReady (rules_of k.plan) (moment_at k.base (reverse k.rows) stamp) table'
+      → Tells k.plan k.base (reverse (k.rows ++ row e line ∷ [])) e.moment table'
+  tells_command stamp line e table' e_is states ready = behind line table' (events.Command stamp line) e e_is (record { states = states; ready = ready })
 
   pub tells_tick : (stamp : ℕ) (e : Entry) (table' : Table) → e ≡ (row_of k.plan k.base (reverse k.rows) (events.Tick stamp)).entry
       → Represents (rules_of k.plan) (access_of k.base) (marks k.plan k.base (reverse k.rows)) (moment_at k.base (reverse k.rows) stamp) table' → IsReady (rules_of k.plan) (moment_at k.base (reverse k.rows) stamp) table'

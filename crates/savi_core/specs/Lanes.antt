@@ -43,25 +43,25 @@ takes_one lane = nat_lt (length lane.items) lane.room
 abbrev pub with_offered : {A : Type 0} → A → Lane A → Lane A
 with_offered item lane = if takes_one lane then record lane { items = lane.items ++ item ∷ [] } else lane
 
--- a probe goes to the port of this number, which is trusted or not
+-- a probe is for the port of this number, which is trusted or not
 abbrev pub goes_at : Probe → ℕ → Bool → Bool
 goes_at Trusted number trusted = trusted
 goes_at (To port) number trusted = number_of port == number
 
--- a probe goes to the lane's port
-abbrev pub goes_to : {A : Type 0} → Probe → Lane A → Bool
-goes_to probe lane = goes_at probe lane.number lane.trusted
+-- a probe goes to the lane's port, where some ports are shut
+abbrev pub goes_to : {A : Type 0} → (ℕ → Bool) → Probe → Lane A → Bool
+goes_to shut probe lane = goes_at probe lane.number lane.trusted && not (shut lane.number)
 
 -- the lane once a probe was offered, which shows as this item
-abbrev pub with_probe : {A : Type 0} → A → Probe → Lane A → Lane A
-with_probe item probe lane = if goes_to probe lane then with_offered item lane else lane
+abbrev pub with_probe : {A : Type 0} → (ℕ → Bool) → A → Probe → Lane A → Lane A
+with_probe shut item probe lane = if goes_to shut probe lane then with_offered item lane else lane
 
 -- the lane takes a probe, or leaves it out
-abbrev pub takes : {A : Type 0} → Probe → Lane A → Bool
-takes probe lane = goes_to probe lane && takes_one lane
+abbrev pub takes : {A : Type 0} → (ℕ → Bool) → Probe → Lane A → Bool
+takes shut probe lane = goes_to shut probe lane && takes_one lane
 
-abbrev pub leaves_out : {A : Type 0} → Probe → Lane A → Bool
-leaves_out probe lane = goes_to probe lane && not (takes_one lane)
+abbrev pub leaves_out : {A : Type 0} → (ℕ → Bool) → Probe → Lane A → Bool
+leaves_out shut probe lane = goes_to shut probe lane && not (takes_one lane)
 
 -- the lane once a frame was offered to these ports
 abbrev pub with_frame : {A : Type 0} → A → PortSet → Lane A → Lane A

@@ -11,3 +11,7 @@ pub mod Remembers
 pub mod Knows
 pub mod Tells
 pub mod Judges
+pub mod Obeys
+pub mod Refused
+pub mod Tallies
+pub mod Shows

@@ -1,6 +1,9 @@
--- The queues of all ports, and the probes that they took and left out since both were last counted anew.
-use Rattle.std.specs.Prelude.{ℕ, ◌+◌, min, List, map}
+-- The queues of all ports, which of the ports are shut, and the probes that the queues took and left out since both were last
+-- counted anew.
+use Rattle.std.specs.Prelude.{ℕ, ◌+◌, ◌==◌, ◌&&◌, nat_le, min, Bool, if◌then◌else◌, List, map}
 use Rattle.std.specs.List.{count_by}
+use Rattle.savi_kinds.specs.declared.port.PortSet.{PortSet}
+use Rattle.savi_kinds.specs.PortSets.{is_member}
 use Rattle.egress_ring.specs.declared.item.Item.{Item as Queued}
 use Rattle.egress_ring.specs.declared.item.Item.TheVariants as entries
 use Rattle.addr_table.specs.declared.sent.SentProbe.{SentProbe}
@@ -8,9 +11,19 @@ use Rattle.savi_core.specs.Lanes.{Lane, with_probe, takes, leaves_out}
 
 pub record Rings : Type 0 where
   pub lanes : List (Lane Queued)
+  -- the ports that are shut
+  pub shut : PortSet
   -- how many probes joined, and how many were left out, over all ports; a count stays at 4,294,967,295 once it is there
   pub queued : ℕ
   pub lost : ℕ
+
+-- whether a set of shut ports has the port of a number
+abbrev pub shut_in : PortSet → ℕ → Bool
+shut_in set number = nat_le 1 number && is_member set number
+
+-- the same once the port of this number was shut, or opened
+abbrev pub with_shut : ℕ → Bool → (ℕ → Bool) → ℕ → Bool
+with_shut number is_shut shut q = if number == q then is_shut else shut q
 
 -- a count after so many more
 abbrev pub counted : ℕ → ℕ → ℕ
@@ -27,7 +40,8 @@ ring_item sent = entries.Probe sent.due sent.address
 -- the queues once a probe was offered to each port to which it goes
 abbrev pub after_probe : Rings → SentProbe → Rings
 after_probe rings sent = record {
-  lanes = map (with_probe (ring_item sent) sent.probe) rings.lanes;
-  queued = counted rings.queued (count_by (takes sent.probe) rings.lanes);
-  lost = counted rings.lost (count_by (leaves_out sent.probe) rings.lanes);
+  lanes = map (with_probe (shut_in rings.shut) (ring_item sent) sent.probe) rings.lanes;
+  shut = rings.shut;
+  queued = counted rings.queued (count_by (takes (shut_in rings.shut) sent.probe) rings.lanes);
+  lost = counted rings.lost (count_by (leaves_out (shut_in rings.shut) sent.probe) rings.lanes);
 }

@@ -1,7 +1,7 @@
 -- What may be put to a switch, and what it does then.
 use Rattle.std.specs.Prelude.{◌≡◌, ◌≢◌, ℕ, ◌<◌, ◌≤◌, min, true, false, List, [], length, take}
 use Rattle.savi_kinds.specs.declared.port.Port.{Port}
-use Rattle.savi_kinds.specs.declared.entry.Who.TheVariants.{Ingress, Ticker}
+use Rattle.savi_kinds.specs.declared.entry.Who.TheVariants.{Ingress, Control, Ticker}
 use Rattle.savi_kinds.specs.declared.entry.Entry.{Entry}
 use Rattle.frame_class.specs.Reading.{IsClassOf}
 use Rattle.savi_history.specs.Limits.{has_room}
@@ -22,6 +22,7 @@ use Rattle.savi_core.specs.Machines.{Machine, base_of, with_event, queue_at}
 abbrev pub event_of : Event → events.Event
 event_of (given.Frame port stamp octets class) = events.Frame port stamp octets.now
 event_of (given.Long port stamp len) = events.Long port stamp len
+event_of (given.Command stamp line) = events.Command stamp line.now
 event_of (given.Tick stamp) = events.Tick stamp
 event_of (given.End who how) = events.End who how
 
@@ -29,6 +30,7 @@ event_of (given.End who how) = events.End who how
 abbrev pub IsClassed : Event → Type 0
 IsClassed (given.Frame port stamp octets class) = IsClassOf octets.now class.now
 IsClassed (given.Long port stamp len) = Unit {0}
+IsClassed (given.Command stamp line) = Unit {0}
 IsClassed (given.Tick stamp) = Unit {0}
 IsClassed (given.End who how) = Unit {0}
 
@@ -36,6 +38,7 @@ IsClassed (given.End who how) = Unit {0}
 abbrev pub MayStep : Machine → events.Event → Type 0
 MayStep m (events.Frame port stamp octets) = IsOpen m.plan (base_of m) m.past (Ingress port) × (length octets ≤ 1518)
 MayStep m (events.Long port stamp len) = IsOpen m.plan (base_of m) m.past (Ingress port) × (1518 < len)
+MayStep m (events.Command stamp line) = IsOpen m.plan (base_of m) m.past Control × (length line ≤ 120)
 MayStep m (events.Tick stamp) = IsOpen m.plan (base_of m) m.past Ticker
 MayStep m (events.Drain port count) = ⊥
 MayStep m (events.End who how) = IsOpen m.plan (base_of m) m.past who × MayEnd m.plan (base_of m) m.past who how
@@ -44,6 +47,7 @@ MayStep m (events.End who how) = IsOpen m.plan (base_of m) m.past who × MayEnd 
 abbrev pub HasRoomFor : Machine → events.Event → Type 0
 HasRoomFor m (events.Frame port stamp octets) = has_room m.plan m.past ≡ true
 HasRoomFor m (events.Long port stamp len) = has_room m.plan m.past ≡ true
+HasRoomFor m (events.Command stamp line) = has_room m.plan m.past ≡ true
 HasRoomFor m (events.Tick stamp) = has_room m.plan m.past ≡ true
 HasRoomFor m (events.Drain port count) = Unit {0}
 HasRoomFor m (events.End who how) = Unit {0}
@@ -52,6 +56,7 @@ HasRoomFor m (events.End who how) = Unit {0}
 abbrev pub HasNoRoomFor : Machine → events.Event → Type 0
 HasNoRoomFor m (events.Frame port stamp octets) = has_room m.plan m.past ≡ false
 HasNoRoomFor m (events.Long port stamp len) = has_room m.plan m.past ≡ false
+HasNoRoomFor m (events.Command stamp line) = has_room m.plan m.past ≡ false
 HasNoRoomFor m (events.Tick stamp) = has_room m.plan m.past ≡ false
 HasNoRoomFor m (events.Drain port count) = ⊥
 HasNoRoomFor m (events.End who how) = ⊥
@@ -64,6 +69,7 @@ tick_moment m stamp = moment_at (base_of m) m.past stamp
 abbrev pub IsDue : Machine → events.Event → Type 0
 IsDue m (events.Frame port stamp octets) = Unit {0}
 IsDue m (events.Long port stamp len) = Unit {0}
+IsDue m (events.Command stamp line) = Unit {0}
 IsDue m (events.Tick stamp) = HasChangedBy m.plan (base_of m) m.past (tick_moment m stamp)
 IsDue m (events.Drain port count) = Unit {0}
 IsDue m (events.End who how) = Unit {0}
@@ -72,6 +78,7 @@ IsDue m (events.End who how) = Unit {0}
 abbrev pub IsIdle : Machine → events.Event → Type 0
 IsIdle m (events.Frame port stamp octets) = ⊥
 IsIdle m (events.Long port stamp len) = ⊥
+IsIdle m (events.Command stamp line) = ⊥
 IsIdle m (events.Tick stamp) =
     (¬ HasChangedBy m.plan (base_of m) m.past (tick_moment m stamp)) × (due_by m.plan (base_of m) m.past (tick_moment m stamp) ≡ [])
 IsIdle m (events.Drain port count) = ⊥

@@ -19,6 +19,11 @@ pub enum Event<'a> {
         stamp: u64,
         len: u32,
     },
+    /// A line of at most 120 octets came in on control; the stamp is in ms.
+    Command {
+        stamp: u64,
+        line: &'a [u8],
+    },
     /// Time passed, up to this stamp in ms.
     Tick {
         stamp: u64,

@@ -5,28 +5,34 @@ ghost use Rattle.savi_kinds.specs.Ports.{number_of};
 ghost use Rattle.savi_kinds.specs.ValidPlan.{IsValidPlan, IsWithin};
 ghost use Rattle.savi_history.specs.Passes.{has_port, has_pass, pass_of, control_pass, has_ended};
 ghost use Rattle.savi_history.specs.Limits.{has_room};
+ghost use Rattle.savi_history.specs.Moments.{last_moment};
+ghost use Rattle.savi_history.specs.Shown.{counts_of, reply_to, shown};
 ghost use Rattle.savi_history.specs.Events as events;
 ghost use Rattle.savi_history.specs.Legal.{IsLegal};
 ghost use Rattle.savi_core.specs.Machines.{HasShortQueues, base_of, started, row_at, queue_at, number_at};
 ghost use Rattle.savi_core.specs.Counts.{open_below};
+ghost use Rattle.savi_core.specs.Refused.{EndsWithCommand};
 ghost use Rattle.frame_class.specs.Reading.{IsClassOf};
 ghost use Rattle.savi_core.specs.Steps.{event_of, IsClassed, MayStep, Did, Drained, entry_of};
 
 use crate::batch::Batch;
+use crate::commands::{fault_refusal, obey};
 use crate::entries::{moment_at, plain_entry};
 use crate::event::{Event, Stepped};
-use crate::judging::{age, judge};
+use crate::judging::{age, judge, judge_long};
 use crate::passes::Passes;
 use crate::ports::Ports;
 use crate::queues::Queues;
+use crate::shows::{show_bindings, show_ports, show_stations, times_of};
 use crate::stations::{outs, teach};
+use crate::tally::Tally;
 use access_table::AccessTable;
 use bridge_fdb::Fdb;
+use cli_lang::{CmdFault, Command, command};
+use control_replies::{Counts, Refusal, Reply};
 use frame_class::Class;
 use hist_store::Hist;
-use savi_kinds::{
-    Act, ENTRIES_RESERVED, Entry, FRAME_OCTETS_MOST, How, Moment, Plan, Port, Rule, Verdict, Who,
-};
+use savi_kinds::{Act, ENTRIES_RESERVED, Entry, FRAME_OCTETS_MOST, How, Moment, Plan, Port, Who};
 use std::alloc::{AllocError, Global};
 use std::marker::Model;
 
@@ -43,6 +49,9 @@ pub struct Core {
     queues: Queues,
     access: AccessTable,
     fdb: Fdb,
+    tally: Tally,
+    // why the newest entry was refused, where it is a command's
+    refused: Option<Refusal>,
 }
 
 impl Model for Core {
@@ -53,17 +62,21 @@ impl Model for Core {
     ghost use Rattle.savi_core.specs.Remembers.{Remembers};
     ghost use Rattle.savi_core.specs.Knows.{Knows};
     ghost use Rattle.savi_core.specs.Tells.{Tells};
+    ghost use Rattle.savi_core.specs.Refused.{IsRefusal};
+    ghost use Rattle.savi_core.specs.Tallies.{tally_of};
 
     ghost Value = { Machine };
 
     ghost view = { λ c. record { plan = c.ports; past = reverse c.hist.rows } };
 
-    ghost invariant = { λ c. Remembers (record { plan = c.ports; base = empty; rows = c.hist.rows; moment = c.moment; ended = c.passes.ended; lanes = c.queues.lanes })
+    ghost invariant = { λ c. Remembers (record { plan = c.ports; base = empty; rows = c.hist.rows; moment = c.moment; ended = c.passes.ended; shut = c.queues.shut; lanes = c.queues.lanes })
         × (c.hist.entry_room ≡ c.ports.entries)
         × (c.hist.byte_room ≡ c.ports.bytes)
         × (c.passes.inputs ≡ control_pass c.ports + 1)
         × Knows c.fdb c.moment empty (reverse c.hist.rows)
-        × Tells c.ports empty (reverse c.hist.rows) c.moment c.access };
+        × Tells c.ports empty (reverse c.hist.rows) c.moment c.access
+        × IsRefusal c.ports empty (reverse c.hist.rows) c.refused
+        × (c.tally ≡ tally_of (reverse c.hist.rows)) };
 }
 
 impl Core {
@@ -85,11 +98,13 @@ impl Core {
             queues,
             access,
             fdb,
+            tally: Tally::new(),
+            refused: None,
         })
     }
 
-    /// Enters an event. The answer is `Full`, and nothing has changed, exactly where it is a frame or a tick and the history
-    /// has no room for another input. It is `Nothing`, and nothing has changed, exactly where it is a tick for which there
+    /// Enters an event. The answer is `Full`, and nothing has changed, exactly where it is a frame, a line or a tick and the
+    /// history has no room for another input. It is `Nothing`, and nothing has changed, exactly where it is a tick for which there
     /// is room and no address has another state by its moment; then no probe is due either. Else it is the one entry that was
     /// made. A frame is judged by its class, which the caller has read of its octets. It costs what `AccessTable::age_to`
     /// costs of what falls due by then, with O(ports) for each probe, and for a frame what `AccessTable::judge` costs, then
@@ -108,6 +123,7 @@ impl Core {
                 class,
             } => self.frame(port, stamp, octets, class),
             Event::Long { port, stamp, len } => self.long(port, stamp, len),
+            Event::Command { stamp, line } => self.command(stamp, line),
             Event::Tick { stamp } => self.tick(stamp),
             Event::End { who, how } => self.end(who, how),
         }
@@ -131,6 +147,7 @@ impl Core {
         self.queues
             .drain(place, &self.hist, self.ports.plan().mac, count, into);
         self.moment = entry.moment;
+        self.tally.add(&entry);
         self.hist.append(entry, &[]);
         Stepped::Done(entry)
     }
@@ -202,6 +219,53 @@ impl Core {
         self.passes.inputs_left()
     }
 
+    /// Puts into a reply, in place of what it held, what the newest entry is answered, which is a command's: why it is refused;
+    /// else, for a `show`, what the switch knows with that entry and at its moment; else `ok`. O(rows shown), in one pass: for
+    /// `show stations` beside those passed over that have ended, and for `show ports` O(16 times the number of ports) for each
+    /// port.
+    pub fn reply(&self, into: &mut Reply)
+        requires command { EndsWithCommand self.now.past }
+        ensures { into.new ≡ shown self.now.plan (base_of self.now) self.now.past }
+    {
+        into.clear();
+        match self.refused {
+            Some(refusal) => into.put_refusal(refusal),
+            None => self.tell(command(self.hist.octets(self.hist.len() - 1)), into),
+        }
+    }
+
+    // Appends to an empty reply what a line is answered that isn't refused.
+    fn tell(&self, order: Result<Command, CmdFault>, into: &mut Reply)
+        requires empty { into.old ≡ [] }
+        ensures { into.new ≡ reply_to self.now.plan (base_of self.now) self.now.past (last_moment (base_of self.now) self.now.past) order }
+    {
+        match order {
+            Ok(Command::ShowBindings) => {
+                show_bindings(&self.access, &times_of(self.ports.plan()), into);
+            }
+            Ok(Command::ShowPorts) => {
+                show_ports(&self.access, &self.queues, &self.ports, self.moment, into);
+            }
+            Ok(Command::ShowCounters) => into.put_counters(self.counts()),
+            Ok(Command::ShowStations) => show_stations(&self.fdb, self.moment, into),
+            Ok(
+                Command::Clear(_)
+                | Command::Static(_, _)
+                | Command::Shut(_)
+                | Command::Reopen(_)
+                | Command::Quit,
+            ) => into.put_ok(),
+            Err(fault) => into.put_refusal(fault_refusal(fault)),
+        }
+    }
+
+    // What is counted of the history's entries.
+    fn counts(&self) -> &Counts
+        ensures { result.now ≡ counts_of self.now.past }
+    {
+        self.tally.counts()
+    }
+
     // Whether there is room for another input.
     fn has_room(&self) -> bool
         ensures { result ≡ has_room self.now.plan self.now.past }
@@ -233,7 +297,15 @@ impl Core {
             self.moment,
             moment,
         );
-        let outs = outs(&self.ports, &self.fdb, port, moment, class, verdict);
+        let outs = outs(
+            &self.ports,
+            &self.fdb,
+            &self.queues,
+            port,
+            moment,
+            class,
+            verdict,
+        );
         let cuts = self.queues.offer_frame(&self.ports, outs, self.hist.len());
         let entry = Entry {
             by,
@@ -252,6 +324,7 @@ impl Core {
         };
         teach(&mut self.fdb, port, moment, class, verdict);
         self.moment = moment;
+        self.tally.add(&entry);
         self.hist.append(entry, octets);
         Stepped::Done(entry)
     }
@@ -284,13 +357,56 @@ impl Core {
             moment,
         );
         let entry = Entry {
-            verdict: Some(Verdict::Drop(Rule::Malformed)),
+            verdict: Some(judge_long(&self.queues, port)),
             probes: self.queues.queued(),
             lost: self.queues.lost(),
             ..plain_entry(by, moment, Act::Long { port, stamp, len })
         };
         self.moment = entry.moment;
+        self.tally.add(&entry);
         self.hist.append(entry, &[]);
+        Stepped::Done(entry)
+    }
+
+    // Enters a line from control, and does what it says.
+    fn command(&mut self, stamp: u64, line: &[u8]) -> Stepped
+        requires { MayStep self.old (events.Command stamp line.now) }
+        ensures { Did self.old (events.Command stamp line.now) self.new result }
+    {
+        if !self.has_room() {
+            return Stepped::Full {
+                len: self.hist.len(),
+            };
+        }
+        let by = self.ports.pass_of(Who::Control);
+        let moment = moment_at(self.moment, stamp);
+        age(
+            &mut self.access,
+            &mut self.queues,
+            self.ports.plan(),
+            self.moment,
+            moment,
+        );
+        let act = Act::Command {
+            stamp,
+            at: self.hist.held(),
+            len: line.len() as u32,
+        };
+        let entry = Entry {
+            probes: self.queues.queued(),
+            lost: self.queues.lost(),
+            ..plain_entry(by, moment, act)
+        };
+        self.refused = obey(
+            &mut self.access,
+            &mut self.queues,
+            &self.ports,
+            line,
+            moment,
+        );
+        self.moment = entry.moment;
+        self.tally.add(&entry);
+        self.hist.append(entry, line);
         Stepped::Done(entry)
     }
 
@@ -322,6 +438,7 @@ impl Core {
             ..plain_entry(by, moment, Act::Tick { stamp })
         };
         self.moment = entry.moment;
+        self.tally.add(&entry);
         self.hist.append(entry, &[]);
         Stepped::Done(entry)
     }
@@ -335,6 +452,7 @@ impl Core {
         self.passes.end(entry.by);
         self.queues.end(&self.ports, who, how);
         self.moment = entry.moment;
+        self.tally.add(&entry);
         self.hist.append(entry, &[]);
         Stepped::Done(entry)
     }

@@ -1,9 +1,9 @@
 //! The queue of one port, with all that decides on what joins it.
 
 ghost use Rattle.std.specs.Prelude.{◌≡◌, ◌≤◌, not, [], length, map, take, drop, All, IfOk, Some, None, if◌then◌else◌};
-ghost use Rattle.savi_core.specs.Lanes.{empty_lane, goes_to, takes_one, takes_none, with_offered, with_probe, with_drained, with_ended};
+ghost use Rattle.savi_core.specs.Lanes.{empty_lane, goes_at, goes_to, takes_one, takes_none, with_offered, with_probe, with_drained, with_ended};
 ghost use Rattle.egress_ring.specs.declared.item.Item.TheVariants as entries;
-ghost use Rattle.savi_core.specs.Rings.{ring_item};
+ghost use Rattle.savi_core.specs.Rings.{ring_item, shut_in};
 ghost use Rattle.savi_core.specs.Waits.{AreThere, IsThere, shown};
 
 use crate::batch::Batch;
@@ -13,7 +13,7 @@ use egress_ring::{EgressRing, Item};
 use fcfs_states::Probe;
 use hist_store::Hist;
 use probe_write::probe;
-use savi_kinds::{How, Mac, Port, PortPlan};
+use savi_kinds::{How, Mac, Port, PortPlan, PortSet};
 use std::alloc::{AllocError, Global};
 use std::marker::Model;
 
@@ -71,9 +71,9 @@ impl PortQueue {
         self.ring.queue(item)
     }
 
-    // Whether a probe that is sent there goes to this port.
+    // Whether a probe is for this port.
     fn is_for(&self, probe: Probe) -> bool
-        ensures { result ≡ goes_to probe self.now }
+        ensures { result ≡ goes_at probe self.now.number self.now.trusted }
     {
         match probe {
             Probe::Trusted => self.trusted,
@@ -81,12 +81,21 @@ impl PortQueue {
         }
     }
 
-    /// Offers a probe, where it goes to this port. The answer is whether it joins; `None` where it goes elsewhere. O(1).
-    pub fn offer_probe(&mut self, sent: SentProbe) -> Option<bool>
-        ensures lane { self.new ≡ with_probe (ring_item sent) sent.probe self.old }
-        ensures joined { result ≡ (if goes_to sent.probe self.old then Some (takes_one self.old) else None) }
+    // Whether this port is one of those that are shut.
+    fn is_in(&self, shut: PortSet) -> bool
+        ensures { result ≡ shut_in shut self.now.number }
     {
-        if !self.is_for(sent.probe) {
+        shut.contains(self.port)
+    }
+
+    /// Offers a probe, where it goes to this port; to shut ports none goes. The answer is whether it joins; `None` where it
+    /// goes elsewhere. O(1).
+    pub fn offer_probe(&mut self, sent: SentProbe, shut: PortSet) -> Option<bool>
+        ensures lane { self.new ≡ with_probe (shut_in shut) (ring_item sent) sent.probe self.old }
+        ensures joined { result ≡ (if goes_to (shut_in shut) sent.probe self.old then Some (takes_one self.old) else None) }
+    {
+        let goes = self.is_for(sent.probe) && !self.is_in(shut);
+        if !goes {
             return None;
         }
         Some(self.offer(Item::Probe {

@@ -24,3 +24,10 @@ pub fn without(set: PortSet, port: Port) -> PortSet
 {
     PortSet(set.0 & !(1 << (port.get() - 1)))
 }
+
+/// The set without the members of another one. O(1).
+pub fn minus(set: PortSet, other: PortSet) -> PortSet
+    ensures { (n : ℕ) → 1 ≤ n → is_member result n ≡ (is_member set n && not (is_member other n)) }
+{
+    PortSet(set.0 & !other.0)
+}

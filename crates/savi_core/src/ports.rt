@@ -1,12 +1,12 @@
 //! The ports of a plan, found by number.
 
-ghost use Rattle.std.specs.Prelude.{◌≡◌, ◌≤◌, ◌*◌, ◌+◌, length, true, ℕ, slice_index_or};
+ghost use Rattle.std.specs.Prelude.{◌≡◌, ◌≤◌, ◌*◌, ◌+◌, length, true, ℕ, slice_index_or, if◌then◌else◌, Some, None};
 ghost use Rattle.std.specs.List.{filter};
 ghost use Rattle.std.specs.List.Sorted.{IsStrictlyIncreasing};
 ghost use Rattle.savi_kinds.specs.Ports.{number_of};
 ghost use Rattle.savi_kinds.specs.PortSets.{is_member, set_of};
 ghost use Rattle.savi_kinds.specs.ValidPlan.{IsValidPlan, IsWithin, numbers_of};
-ghost use Rattle.savi_history.specs.Passes.{has_port, place_of, place_among, pass_of, is_trusted};
+ghost use Rattle.savi_history.specs.Passes.{has_port, role_of, place_of, place_among, pass_of, is_trusted};
 ghost use Rattle.savi_history.specs.Outs.{is_in_scope, others_in};
 
 use crate::port_sets::without;
@@ -65,6 +65,19 @@ impl Ports {
         ensures within { result ≤ length self.now.ports }
     {
         self.places[port.get() as usize] as usize
+    }
+
+    /// The role of a port, or `None` where the plan doesn't have it. O(1).
+    pub fn role_of(&self, port: Port) -> Option<Role>
+        ensures { result ≡ (if has_port self.now (number_of port) then Some (role_of self.now (number_of port)) else None) }
+    {
+        let place = self.place_of(port);
+        let ports = self.plan.ports.as_slice();
+        if place < ports.len() {
+            Some(ports[place].role)
+        } else {
+            None
+        }
     }
 
     /// The number of a pass: the ingress of each port, control, the ticker, and the egress of each port. O(1).

@@ -1,29 +1,31 @@
 //! The queues of all ports, in the order of the plan.
 
-ghost use Rattle.std.specs.Prelude.{◌≡◌, ◌<◌, ◌≤◌, ℕ, true, [], length, map, take, IfOk, slice_index_or, slice_set};
+ghost use Rattle.std.specs.Prelude.{◌≡◌, ◌<◌, ◌≤◌, ◌&&◌, not, ℕ, false, true, [], length, map, take, IfOk, slice_index_or, slice_set};
 ghost use Rattle.egress_ring.specs.declared.item.Item.TheVariants as entries;
 ghost use Rattle.savi_core.specs.Lanes.{cut_at, empty_lane, with_frame, with_drained, no_lane, AreEnded};
-ghost use Rattle.savi_kinds.specs.PortSets.{is_member};
+ghost use Rattle.savi_kinds.specs.Ports.{number_of};
+ghost use Rattle.savi_kinds.specs.PortSets.{is_member, no_ports};
 ghost use Rattle.savi_kinds.specs.ValidPlan.{IsValidPlan, numbers_of};
 ghost use Rattle.savi_history.specs.Passes.{has_port, has_pass};
-ghost use Rattle.savi_core.specs.Rings.{Rings, uncounted, after_probe};
+ghost use Rattle.savi_core.specs.Rings.{Rings, uncounted, after_probe, shut_in, with_shut};
 ghost use Rattle.savi_core.specs.Waits.{AreThere, shown};
 
 use crate::batch::Batch;
 use crate::port_queue::PortQueue;
-use crate::port_sets::{first, without};
+use crate::port_sets::{first, minus, without};
 use crate::ports::Ports;
 use addr_table::{ProbeSink, SentProbe};
 use hist_store::Hist;
-use savi_kinds::{How, Mac, PortPlan, PortSet, Who};
+use savi_kinds::{How, Mac, Port, PortPlan, PortSet, Who};
 use std::alloc::{AllocError, Global};
 use std::marker::Model;
 
-/// The queue of each port of a plan, in its order, and how many probes joined and were left out since the counts were
-/// reset. Contracts see the list of their lanes with both counts.
+/// The queue of each port of a plan, in its order, which ports are shut, and how many probes joined and were left out since
+/// the counts were reset. Contracts see the list of their lanes with the rest.
 #[derive(Drop)]
 pub struct Queues {
     queues: Vec<PortQueue>,
+    shut: PortSet,
     queued: u32,
     lost: u32,
 }
@@ -33,16 +35,16 @@ impl Model for Queues {
 
     ghost Value = { Rings };
 
-    ghost view = { λ q. record { lanes = q.queues.items; queued = q.queued; lost = q.lost } };
+    ghost view = { λ q. record { lanes = q.queues.items; shut = q.shut; queued = q.queued; lost = q.lost } };
 }
 
 impl ProbeSink for Queues {
     ghost after = { after_probe };
 
-    /// Offers a probe to the queue of each port to which it goes, in their order. O(n) in the ports of the plan, at most 16.
+    /// Offers a probe to the queue of each port to which it goes, in their order; none goes to a shut port. O(n) in the ports of the plan, at most 16.
     fn take(&mut self, sent: SentProbe) {
         for place in 0..self.queues.len() {
-            match self.queues[place].offer_probe(sent) {
+            match self.queues[place].offer_probe(sent, self.shut) {
                 Some(true) => self.queued = self.queued.saturating_add(1),
                 Some(false) => self.lost = self.lost.saturating_add(1),
                 None => {}
@@ -52,9 +54,9 @@ impl ProbeSink for Queues {
 }
 
 impl Queues {
-    /// Empty queues for these ports, each for `depth` items. They take all their memory here.
+    /// Empty queues for these ports, none of which is shut, each for `depth` items. They take all their memory here.
     pub fn make(alloc: Global, ports: &[PortPlan], depth: u32) -> Result<Queues, AllocError>
-        ensures { IfOk result (λ queues. queues ≡ record { lanes = map (empty_lane depth) ports.now; queued = 0; lost = 0 }) }
+        ensures { IfOk result (λ queues. queues ≡ record { lanes = map (empty_lane depth) ports.now; shut = no_ports; queued = 0; lost = 0 }) }
     {
         let mut queues = Vec::with_capacity(alloc, ports.len())?;
         for port in ports {
@@ -62,9 +64,36 @@ impl Queues {
         }
         Ok(Queues {
             queues,
+            shut: PortSet::empty(),
             queued: 0,
             lost: 0,
         })
+    }
+
+    /// Whether a port is shut. O(1).
+    pub fn is_shut(&self, port: Port) -> bool
+        ensures { result ≡ shut_in self.now.shut (number_of port) }
+    {
+        self.shut.contains(port)
+    }
+
+    /// Shuts a port, or opens it. O(1).
+    pub fn set_shut(&mut self, port: Port, is_shut: bool)
+        ensures shut { shut_in self.new.shut ≡ with_shut (number_of port) is_shut (shut_in self.old.shut) }
+        ensures rest { self.new ≡ record self.old { shut = self.new.shut } }
+    {
+        self.shut = if is_shut {
+            self.shut.with(port)
+        } else {
+            without(self.shut, port)
+        };
+    }
+
+    /// Of these ports those that aren't shut. O(1).
+    pub fn not_shut(&self, set: PortSet) -> PortSet
+        ensures { (n : ℕ) → 1 ≤ n → is_member result n ≡ (is_member set n && not (shut_in self.now.shut n)) }
+    {
+        minus(set, self.shut)
     }
 
     /// Counts probes from 0 on. O(1).

@@ -1,7 +1,7 @@
 //! What frames say of stations: where one goes whose destination is known, and what one teaches (IEEE 802.1Q sections 8.6.3
 //! and 8.7).
 
-ghost use Rattle.std.specs.Prelude.{◌≡◌, ◌≤◌, ◌^◌, ◌==◌, ◌&&◌, ℕ, List, All, true, Some, if◌then◌else◌};
+ghost use Rattle.std.specs.Prelude.{◌≡◌, ◌≤◌, ◌^◌, ◌==◌, ◌&&◌, not, ℕ, List, All, true, Some, if◌then◌else◌};
 ghost use Rattle.savi_kinds.specs.Ports.{number_of};
 ghost use Rattle.savi_kinds.specs.PortSets.{is_member, set_of};
 ghost use Rattle.frame_class.specs.Classes.{eth_of};
@@ -10,8 +10,10 @@ ghost use Rattle.savi_history.specs.Stations.{port_among, taught};
 ghost use Rattle.savi_history.specs.Outs.{directed, outs_by};
 ghost use Rattle.savi_history.specs.Passes.{has_port};
 ghost use Rattle.savi_history.specs.Summary.{is_pass};
+ghost use Rattle.savi_core.specs.Rings.{shut_in};
 
 use crate::ports::Ports;
+use crate::queues::Queues;
 use bridge_fdb::Fdb;
 use frame_class::Class;
 use savi_kinds::{Moment, Port, PortSet, Verdict};
@@ -55,9 +57,25 @@ fn learn(fdb: &mut Fdb, port: Port, t: Moment, class: &Class)
     }
 }
 
-/// The ports to which a frame of this class with this verdict goes from a port of the plan, at moment `t` (ms). O(log n) in the
-/// stations that are kept.
+/// The ports to which a frame of this class with this verdict goes from a port of the plan, at moment `t` (ms): none of those
+/// that are shut. O(log n) in the stations that are kept.
 pub(crate) fn outs(
+    ports: &Ports,
+    fdb: &Fdb,
+    queues: &Queues,
+    port: Port,
+    t: Moment,
+    class: &Class,
+    verdict: Verdict,
+) -> PortSet
+    ensures known { (n : ℕ) → 1 ≤ n → is_member result n ≡ true → has_port ports.now n ≡ true }
+    ensures outs { (n : ℕ) → 1 ≤ n → is_member result n ≡ (is_member (outs_by ports.now (number_of port) (port_among (live_at t fdb.now) (eth_of class.now)) verdict) n && not (shut_in queues.now.shut n)) }
+{
+    queues.not_shut(directed_outs(ports, fdb, port, t, class, verdict))
+}
+
+// The same with shut ports among them.
+fn directed_outs(
     ports: &Ports,
     fdb: &Fdb,
     port: Port,

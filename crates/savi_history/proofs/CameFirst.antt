@@ -1,5 +1,5 @@
 -- First come, first served, over whole histories.
-use Rattle.std.proofs.Common.{◌≡◌, ◌≢◌, ℕ, ◌≤◌, ◌^◌, true, Some, List, [], ◌∷◌, ◌++◌, All, refl, sym, ap, subst, ◌∙◌, arith, append_assoc}
+use Rattle.std.proofs.Common.{◌≡◌, ◌≢◌, ℕ, ◌≤◌, ◌^◌, Bool, true, false, Some, List, [], ◌∷◌, ◌++◌, All, refl, sym, ap, subst, ◌∙◌, arith, append_assoc}
 use Rattle.std.proofs.lemmas.List.Elements.{All-head, All-tail}
 use Rattle.hex.specs.Hex.{IsBytes}
 use Rattle.savi_kinds.specs.declared.plan.Plan.{Plan}
@@ -29,7 +29,8 @@ use Rattle.savi_history.specs.Bases.{Base, access_of}
 use Rattle.savi_history.specs.Vlans.{the_vlan}
 use Rattle.savi_history.specs.Limits.{IsWithinLimits}
 use Rattle.savi_history.specs.Moments.{last_moment, moment_at}
-use Rattle.savi_history.specs.Marks.{marks}
+use Rattle.savi_history.specs.ShutPorts.{is_shut}
+use Rattle.savi_history.specs.Marks.{marks, judged_after}
 use Rattle.savi_history.specs.Judged.{verdict_of}
 use Rattle.savi_history.specs.Accesses.{IsTold}
 use Rattle.savi_history.specs.CameFirst.{IsLiveAtEnd, IsLostSince}
@@ -93,6 +94,11 @@ module _ (plan : Plan) (valid : IsValidPlan plan) (base : Base) (within : IsWith
   first_octets [] bytes = bytes
   first_octets (r ∷ late) bytes = first_octets late (All-tail (λ (x : Row). IsBytes x.octets) r (late ++ first) bytes)
 
+  -- a frame that passes does so at a port that isn't shut
+  unshut : (shut : Bool) (told : List Mark) (port : Port) (t : ℕ) (class : Class) → IsPass (Some (judged_after plan base shut told port t class).verdict) → IsPass (Some (judged (rules_of plan) (access_of base) the_vlan port t told class).verdict)
+  unshut false told port t class pass = pass
+  unshut true told port t class pass = absurd pass
+
   module _ (late : List Row) (legal : IsLegal plan base (late ++ first)) (bytes : AreOctets (late ++ first)) (on : plan.savi ≡ true) where
     pub kept_since : (p q : Port) (stamp : ℕ) (octets : List ℕ) (eth : Eth) (ip : Ip) (read : Read) (m : Method) → MayCome plan base (late ++ first) (Frame q stamp octets) → class_of octets ≡ Ip6 eth ip read → role_of plan (number_of q) ≢ roles.Trusted
         → (rules_of plan).addresses.method_of the_vlan ip.src.0 ≡ Some m → IsLiveAtEnd plan base first ip.src.0 p → ¬ Same q p
@@ -110,7 +116,8 @@ module _ (plan : Plan) (valid : IsValidPlan plan) (base : Base) (within : IsWith
         subst (λ (l : List Mark). newest_moment (access_of base) l ≤ moment_at base (late ++ first) stamp) more.is (omega (arith, told_all.last)) in
         let passed_so : IsPass (Some (judged (rules_of plan) (access_of base) the_vlan q (moment_at base (late ++ first) stamp) (more.new ++ marks plan base first) (Ip6 eth ip read)).verdict) =
         subst (λ (l : List Mark). IsPass (Some (judged (rules_of plan) (access_of base) the_vlan q (moment_at base (late ++ first) stamp) l (Ip6 eth ip read)).verdict)) more.is
-        (subst (λ (c : Class). IsPass (Some (judged (rules_of plan) (access_of base) the_vlan q (moment_at base (late ++ first) stamp) (marks plan base (late ++ first)) c).verdict)) class_is passed) in
+        (subst (λ (c : Class). IsPass (Some (judged (rules_of plan) (access_of base) the_vlan q (moment_at base (late ++ first) stamp) (marks plan base (late ++ first)) c).verdict)) class_is
+        (unshut (is_shut base (number_of q) (late ++ first)) (marks plan base (late ++ first)) q (moment_at base (late ++ first) stamp) (class_of octets) passed)) in
         record {
           new = more.new;
           told_so = more.is;

@@ -108,6 +108,7 @@ none_next : (plan : Plan) (past : List Row) (q : ℕ) (event : events.Event) →
     → has_ended empty (egress_pass plan q) (row_of plan empty past event ∷ past) ≡ true → queue plan empty q (row_of plan empty past event ∷ past) ≡ []
 none_next plan past q (events.Frame port stamp octets) known may before is_ended = nothing_joins_frame plan past q port stamp octets is_ended ∙ before is_ended
 none_next plan past q (events.Long port stamp len) known may before is_ended = nothing_joins_long plan past q port stamp len is_ended ∙ before is_ended
+none_next plan past q (events.Command stamp line) known may before is_ended = probes_none plan past q (events.command_act past stamp line) line (queue plan empty q past) is_ended ∙ before is_ended
 none_next plan past q (events.Tick stamp) known may before is_ended = probes_none plan past q (acts.Tick stamp) [] (queue plan empty q past) is_ended ∙ before is_ended
 none_next plan past q (events.Drain port count) known may before is_ended = rw (before is_ended) (drop_none (number_of port == q) count)
 none_next plan past q (events.End who how) known may before is_ended =

@@ -13,7 +13,7 @@ use Rattle.savi_history.specs.Bases.{Base}
 use Rattle.savi_history.specs.Passes.{has_port, place_of}
 use Rattle.savi_history.specs.Queues.{Item, item_of, room_at, all_joined, offered_at, queue, is_closed, cuts}
 use Rattle.savi_history.specs.QueueLaws.{frame_to, IsCut, AreCut}
-use Rattle.savi_history.specs.Events.{Event, Frame, Long, Tick, Drain, End, row_of, frame_act, outs_of}
+use Rattle.savi_history.specs.Events.{Event, Frame, Long, Command, Tick, Drain, End, row_of, frame_act, outs_of}
 use Rattle.savi_history.specs.Legal.{IsLegal}
 use Rattle.savi_history.proofs.Joining.{length-all_joined}
 use Rattle.savi_history.proofs.PortMembers.{member_is}
@@ -69,6 +69,7 @@ module _ (plan : Plan) (base : Base) (past : List Row) (port : Port) (stamp : â„
 row_cut : (plan : Plan) (base : Base) (past : List Row) (event : Event) â†’ IsCut plan base past (row_of plan base past event) (row_of plan base past event).entry.act
 row_cut plan base past (Frame port stamp octets) = frame_cut plan base past port stamp octets
 row_cut plan base past (Long port stamp len) = refl
+row_cut plan base past (Command stamp line) = refl
 row_cut plan base past (Tick stamp) = refl
 row_cut plan base past (Drain port count) = refl
 row_cut plan base past (End who how) = refl

@@ -7,6 +7,7 @@ use Rattle.std.proofs.lemmas.List.Elements.{All-nil, All-cons, All-head, All-tai
 use Rattle.savi_kinds.specs.declared.plan.Plan.{Plan}
 use Rattle.savi_kinds.specs.declared.plan.PortPlan.{PortPlan}
 use Rattle.savi_kinds.specs.declared.port.Port.{Port}
+use Rattle.savi_kinds.specs.declared.port.PortSet.{PortSet}
 use Rattle.savi_kinds.specs.declared.verdict.Scope.{Scope}
 use Rattle.savi_kinds.specs.declared.verdict.Scope.TheVariants as scopes
 use Rattle.savi_kinds.specs.declared.verdict.Verdict.{Verdict}
@@ -20,9 +21,10 @@ use Rattle.savi_history.specs.Bases.{Base}
 use Rattle.savi_history.specs.Moments.{moment_at}
 use Rattle.savi_history.specs.Vlans.{the_vlan}
 use Rattle.savi_history.specs.Passes.{has_port}
+use Rattle.savi_history.specs.ShutPorts.{is_shut}
 use Rattle.savi_history.specs.Stations.{known_port}
 use Rattle.savi_history.specs.StationLaws.{IsDirected, IsDirectedBy, AreDirected}
-use Rattle.savi_history.specs.Outs.{is_in_scope, others_in, directed, outs}
+use Rattle.savi_history.specs.Outs.{is_in_scope, others_in, directed, outs_by, outs}
 use Rattle.savi_history.specs.Events as events
 use Rattle.savi_history.specs.Events.{Event, frame_row, verdict_of, row_of}
 use Rattle.savi_history.specs.Legal.{IsLegal}
@@ -33,6 +35,14 @@ none_in n = rw (bit_at-zero (n - 1)) refl
 -- each number is that of a port
 abbrev pub AreNumbers : List ℕ → Type 0
 AreNumbers ns = All (λ m. 1 ≤ m) ns
+
+pub and-false : (b : Bool) → (b && false) ≡ false
+and-false true = refl
+and-false false = refl
+
+or-true : (b : Bool) → (b || true) ≡ true
+or-true true = refl
+or-true false = refl
 
 if_member : (b : Bool) (m : ℕ) (rest : List ℕ) (n : ℕ) → 1 ≤ m → 1 ≤ n → is_member (set_of (if b then m ∷ rest else rest)) n ≡ ((b && (n == m)) || is_member (set_of rest) n)
 if_member true m rest n low least = is_member-with (set_of rest) m n low least
@@ -66,6 +76,20 @@ numbers_at false q rest low = low
 pub are_numbers : (test : PortPlan → Bool) (ports : List PortPlan) → AreNumbers (numbers_of (filter test ports))
 are_numbers test [] = All-nil (λ m. 1 ≤ m)
 are_numbers test (q ∷ ports) = numbers_at (test q) q (filter test ports) (are_numbers test ports)
+
+pub all_numbers : (ports : List PortPlan) → AreNumbers (numbers_of ports)
+all_numbers [] = All-nil (λ m. 1 ≤ m)
+all_numbers (q ∷ ports) = All-cons (λ m. 1 ≤ m) (number_of q.number) (numbers_of ports) q.number.low (all_numbers ports)
+
+-- the ports of a plan are members of the set of all
+pub known_member : (ports : List PortPlan) (n : ℕ) → 1 ≤ n → list_any (λ m. m == n) (numbers_of ports) ≡ true → is_member (set_of (numbers_of ports)) n ≡ true
+known_member [] n least known = absurd (false≢true known)
+known_member (q ∷ ports) n least known =
+    is_member-with (set_of (numbers_of ports)) (number_of q.number) n q.number.low least
+    ∙ elim (or_cases (number_of q.number == n) (list_any (λ m. m == n) (numbers_of ports)) known) [
+      | inl here ↦ ap (λ (b : Bool). b || is_member (set_of (numbers_of ports)) n) (eq-eqb n (number_of q.number) (sym (eqb-true (number_of q.number) n here)))
+      | inr later ↦ ap (λ (b : Bool). (n == number_of q.number) || b) (known_member ports n least later) ∙ or-true (n == number_of q.number)
+    ]
 
 -- a port is none of the others
 abbrev is_other : Scope → ℕ → PortPlan → Bool
@@ -155,21 +179,46 @@ module _ (plan : Plan) (base : Base) (past : List Row) (port : Port) (stamp : �
   reached_by scopes.TrustedOnly place is passes inside apart = absurd cc
   reached_by (scopes.TrustedAnd q) place is passes inside apart = absurd cc
 
+  -- the ports to which it goes, shut ones among them
+  abbrev everywhere : Verdict → PortSet
+  everywhere verdict = outs_by plan (number_of port) known verdict
+
+  -- those that aren't shut
+  open_is : (verdict : Verdict) (n : ℕ) → 1 ≤ n → is_member (row_by verdict).entry.outs n ≡ (is_member (set_of (numbers_of plan.ports)) n && (is_member (everywhere verdict) n && not (is_shut base n past)))
+  open_is verdict n least = member_filter (λ q. is_member (everywhere verdict) q && not (is_shut base q past)) (numbers_of plan.ports) n (all_numbers plan.ports) least
+
+  none_open : (verdict : Verdict) (n : ℕ) → 1 ≤ n → is_member (everywhere verdict) n ≡ false → is_member (row_by verdict).entry.outs n ≡ false
+  none_open verdict n least none =
+      open_is verdict n least ∙ ap (λ (b : Bool). is_member (set_of (numbers_of plan.ports)) n && (b && not (is_shut base n past))) none ∙ and-false (is_member (set_of (numbers_of plan.ports)) n)
+
+  was_there : (verdict : Verdict) (n : ℕ) → 1 ≤ n → is_member (row_by verdict).entry.outs n ≡ true → is_member (everywhere verdict) n ≡ true
+  was_there verdict n least there =
+      (and_parts (is_member (everywhere verdict) n) (not (is_shut base n past))
+      (and_parts (is_member (set_of (numbers_of plan.ports)) n) (is_member (everywhere verdict) n && not (is_shut base n past)) (sym (open_is verdict n least) ∙ there)).1).0
+
+  still_there : (verdict : Verdict) (n : ℕ) → 1 ≤ n → has_port plan n ≡ true → is_shut base n past ≡ false → is_member (everywhere verdict) n ≡ true → is_member (row_by verdict).entry.outs n ≡ true
+  still_there verdict n least inside unshut there =
+      open_is verdict n least
+      ∙ ap (λ (b : Bool). b && (is_member (everywhere verdict) n && not (is_shut base n past))) (known_member plan.ports n least inside)
+      ∙ ap (λ (b : Bool). b && not (is_shut base n past)) there
+      ∙ ap not unshut
+
   frame_directed : (verdict : Verdict) → IsDirected plan base past (row_by verdict) port
   frame_directed (Pass scope) = record {
-    not_back = directed_member known (others scope) (number_of port) (low scope) port.low (others_without scope (number_of port) plan.ports port.low);
-    alone = λ place n is least there. directed_alone known place (others scope) n is (low scope) least there;
-    reached = λ place is passes inside apart. reached_by scope place is passes inside apart;
+    not_back = none_open (Pass scope) (number_of port) port.low (directed_member known (others scope) (number_of port) (low scope) port.low (others_without scope (number_of port) plan.ports port.low));
+    alone = λ place n is least there. directed_alone known place (others scope) n is (low scope) least (was_there (Pass scope) n least there);
+    reached = λ place is passes inside unshut apart. still_there (Pass scope) (number_of place) place.low inside unshut (reached_by scope place is passes inside apart);
   }
   frame_directed (Drop rule) = record {
-    not_back = none_in (number_of port);
-    alone = λ place n is least there. absurd (false≢true (sym (none_in n) ∙ there));
-    reached = λ place is passes inside apart. absurd cc;
+    not_back = none_open (Drop rule) (number_of port) port.low (none_in (number_of port));
+    alone = λ place n is least there. absurd (false≢true (sym (none_open (Drop rule) n least (none_in n)) ∙ there));
+    reached = λ place is passes inside unshut apart. absurd cc;
   }
 
 event_directed : (plan : Plan) (base : Base) (past : List Row) (event : Event) → IsDirectedBy plan base past (row_of plan base past event) (row_of plan base past event).entry.act
 event_directed plan base past (events.Frame port stamp octets) = frame_directed plan base past port stamp octets (verdict_of plan base past port stamp octets)
 event_directed plan base past (events.Long port stamp len) = tt
+event_directed plan base past (events.Command stamp line) = tt
 event_directed plan base past (events.Tick stamp) = tt
 event_directed plan base past (events.Drain port count) = tt
 event_directed plan base past (events.End who how) = tt

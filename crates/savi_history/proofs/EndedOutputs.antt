@@ -20,6 +20,7 @@ ended_next : (plan : Plan) (past : List Row) (q : ℕ) (event : events.Event) �
     → has_ended empty (egress_pass plan q) (row_of plan empty past event ∷ past) ≡ is_some (output_end q (row_of plan empty past event ∷ past))
 ended_next plan past q (events.Frame port stamp octets) known may before = before
 ended_next plan past q (events.Long port stamp len) known may before = before
+ended_next plan past q (events.Command stamp line) known may before = before
 ended_next plan past q (events.Tick stamp) known may before = before
 ended_next plan past q (events.Drain port count) known may before = before
 ended_next plan past q (events.End (Ingress port) how) known may before =

@@ -8,15 +8,17 @@ use Rattle.savi_kinds.specs.declared.entry.Who.TheVariants as passes
 use Rattle.savi_kinds.specs.declared.entry.How.TheVariants as hows
 use Rattle.savi_kinds.specs.Ports.{number_of}
 use Rattle.savi_kinds.specs.Arrivals.{Arrival}
+use Rattle.cli_lang.specs.Arrivals.{Line}
 use Rattle.hist_store.specs.Rows.{Row}
 use Rattle.savi_history.specs.Bases.{Base}
 use Rattle.savi_history.specs.Limits.{has_room}
 use Rattle.savi_history.specs.Passes.{pass_of, has_ended}
 use Rattle.savi_history.specs.Queues.{queue}
-use Rattle.savi_history.specs.Events.{Event, Drain, End}
+use Rattle.savi_history.specs.Events.{Event, Command, Drain, End}
 use Rattle.savi_history.specs.Merges.{merged}
-use Rattle.savi_history.specs.Turns.{Turn, Arrives, Ends, who_of, turn_at}
-use Rattle.savi_history.specs.Replay.{Stops, is_stopped, pieces_by, event_of, with_event, with_failure, begun, with_drain, drained, entered, after, after_all}
+use Rattle.savi_history.specs.Turns.{Turn, Arrives, Commands, Ends, who_of, turn_at}
+use Rattle.savi_history.specs.Replay.{PortStops, Stops, is_stopped, pieces_by, event_of, with_event, with_failure, begun, with_drain, drained, with_reply, entered, after, after_all}
+use Rattle.savi_history.proofs.Replying.{behind_reply}
 use Rattle.savi_history.proofs.Filtering.{AllAre, AreWhole, filter_merged}
 
 -- what had ended after the first history has ended after the second
@@ -34,31 +36,45 @@ later_failure_at : (plan : Plan) (base : Base) (port : Port) (past : List Row) (
 later_failure_at plan base port past true pass is = later_event plan base past (End (passes.Egress port) hows.Failed) pass is
 later_failure_at plan base port past false pass is = is
 
-pub later_failure : (plan : Plan) (base : Base) (stops : Stops) (port : Port) (past : List Row) → Later base past (with_failure plan base stops port past)
+pub later_failure : (plan : Plan) (base : Base) (stops : PortStops) (port : Port) (past : List Row) → Later base past (with_failure plan base stops port past)
 later_failure plan base stops port past = later_failure_at plan base port past (is_stopped (stops (number_of port)) (pieces_by plan base (number_of port) past))
 
-pub later_begun : (plan : Plan) (base : Base) (stops : Stops) (ports : List PortPlan) (past : List Row) → Later base past (begun plan base stops ports past)
+pub later_begun : (plan : Plan) (base : Base) (stops : PortStops) (ports : List PortPlan) (past : List Row) → Later base past (begun plan base stops ports past)
 later_begun plan base stops [] past pass is = is
 later_begun plan base stops (q ∷ qs) past pass is =
     later_begun plan base stops qs (with_failure plan base stops q.number past) pass (later_failure plan base stops q.number past pass is)
 
-later_drain : (plan : Plan) (base : Base) (stops : Stops) (port : Port) (b : Bool) (count : ℕ) (past : List Row) → Later base past (if b then past else with_failure plan base stops port (with_event plan base past (Drain port count)))
+later_drain : (plan : Plan) (base : Base) (stops : PortStops) (port : Port) (b : Bool) (count : ℕ) (past : List Row) → Later base past (if b then past else with_failure plan base stops port (with_event plan base past (Drain port count)))
 later_drain plan base stops port true count past pass is = is
 later_drain plan base stops port false count past pass is = later_failure plan base stops port (with_event plan base past (Drain port count)) pass is
 
-pub later_drained : (plan : Plan) (base : Base) (stops : Stops) (ports : List PortPlan) (past : List Row) → Later base past (drained plan base stops ports past)
+pub later_drained : (plan : Plan) (base : Base) (stops : PortStops) (ports : List PortPlan) (past : List Row) → Later base past (drained plan base stops ports past)
 later_drained plan base stops [] past pass is = is
 later_drained plan base stops (q ∷ qs) past pass is =
     let count = length (queue plan base (number_of q.number) past) in
     later_drained plan base stops qs (with_drain plan base stops q.number count past) pass (later_drain plan base stops q.number (count == 0) count past pass is)
 
 later_arrival : (plan : Plan) (base : Base) (stops : Stops) (port : Port) (arrival : Arrival) (past : List Row) (b : Bool)
-    → Later base past (if b then drained plan base stops plan.ports (with_event plan base past (event_of port arrival)) else with_event plan base past (End (passes.Ingress port) (hows.Full (length past))))
-later_arrival plan base stops port arrival past true pass is = later_drained plan base stops plan.ports _ pass (later_event plan base past (event_of port arrival) pass is)
+    → Later base past (if b then drained plan base stops.ports plan.ports (with_event plan base past (event_of port arrival)) else with_event plan base past (End (passes.Ingress port) (hows.Full (length past))))
+later_arrival plan base stops port arrival past true pass is = later_drained plan base stops.ports plan.ports _ pass (later_event plan base past (event_of port arrival) pass is)
 later_arrival plan base stops port arrival past false pass is = later_event plan base past (End (passes.Ingress port) (hows.Full (length past))) pass is
+
+later_line : (plan : Plan) (base : Base) (stops : Stops) (line : Line) (past : List Row) (b : Bool)
+    → Later base past (if b
+    then drained plan base stops.ports plan.ports (with_reply plan base stops.control line (with_event plan base past (Command line.stamp line.command)))
+    else with_event plan base past (End passes.Control (hows.Full (length past))))
+later_line plan base stops line past true pass is =
+    let commanded = with_event plan base past (Command line.stamp line.command) in
+    let is_commanded : has_ended base pass commanded ≡ true = later_event plan base past (Command line.stamp line.command) pass is in
+    later_drained plan base stops.ports plan.ports (with_reply plan base stops.control line commanded) pass
+    (behind_reply plan base line commanded (λ now. has_ended base pass now ≡ true) is_commanded
+    (later_event plan base commanded (End passes.Control hows.Unwritten) pass is_commanded)
+    (later_event plan base commanded (End passes.Control hows.Quit) pass is_commanded) stops.control)
+later_line plan base stops line past false pass is = later_event plan base past (End passes.Control (hows.Full (length past))) pass is
 
 later_entered : (plan : Plan) (base : Base) (stops : Stops) (turn : Turn) (past : List Row) → Later base past (entered plan base stops turn past)
 later_entered plan base stops (Arrives port arrival) past = later_arrival plan base stops port arrival past (has_room plan past)
+later_entered plan base stops (Commands line) past = later_line plan base stops line past (has_room plan past)
 later_entered plan base stops (Ends who how) past = later_event plan base past (End who how)
 
 later_after_at : (plan : Plan) (base : Base) (stops : Stops) (turn : Turn) (past : List Row) (b : Bool) → Later base past (if b then past else entered plan base stops turn past)

@@ -1,4 +1,4 @@
--- The worked history of two captures, computed; also where a write fails.
+-- The worked history of two captures, computed; also where a write fails. The turns of lines beside those of frames.
 use Rattle.std.proofs.Common.{ℕ, ◌≡◌, List, [], ◌∷◌, refl, lit≤, true, false, Some, None, ◌==◌, if◌then◌else◌}
 use Rattle.savi_kinds.specs.declared.port.Port.{Port}
 use Rattle.savi_kinds.specs.declared.plan.Plan.{Plan}
@@ -19,8 +19,11 @@ use Rattle.nd_read.specs.Messages.{named}
 use Rattle.nd_read.specs.NdOf.{nd_of, passes as message_passes}
 use Rattle.frame_class.specs.ClassOf.{class_of}
 use Rattle.ra_guard.specs.GuardOf.{guard_of}
+use Rattle.cli_lang.specs.Arrivals as control
 use Rattle.hist_store.specs.Rows.{Row}
 use Rattle.savi_history.specs.Bases.{empty}
+use Rattle.savi_history.specs.Merges.{merged}
+use Rattle.savi_history.specs.Turns.{Arrives, Commands, Ends, turn_at, all_turns}
 use Rattle.savi_history.specs.Replay.{Stops, replayed}
 use Rattle.savi_history.specs.Summary.{summary_of}
 use Rattle.savi_access.specs.Judged.{judged}
@@ -71,13 +74,13 @@ frame by moment act verdict outs octets = record { entry = record { by = by; mom
 
 -- every write is taken
 abbrev pub no_failure : Stops
-no_failure port = None
+no_failure = record { ports = λ port. None; control = None }
 
 pub advert_dropped : verdict_of plan empty [] port_one 1000 advert ≡ verdicts.Drop rules.RouterAdvert
 unfolding class_of nd_of named message_passes kind_of guard_of judged
 advert_dropped = refl
 
-pub two_captures : replayed plan empty inputs no_failure ≡
+pub two_captures : replayed plan empty None inputs no_failure ≡
     other 5 1002 (acts.End (passes.Egress port_two) hows.End)
     ∷ other 4 1002 (acts.End (passes.Egress port_one) hows.End)
     ∷ other 3 1002 (acts.End passes.Ticker hows.End)
@@ -93,19 +96,19 @@ pub two_captures : replayed plan empty inputs no_failure ≡
 unfolding class_of nd_of named message_passes kind_of guard_of judged offers probes lost
 two_captures = refl
 
-pub summed_up : summary_of (replayed plan empty inputs no_failure) ≡ record { entries = 11; frames = 3; passed = 2; dropped = 1; probes = 0; lost = 0; cut = 0 }
+pub summed_up : summary_of (replayed plan empty None inputs no_failure) ≡ record { entries = 11; frames = 3; passed = 2; dropped = 1; probes = 0; lost = 0; cut = 0 }
 unfolding class_of nd_of named message_passes kind_of guard_of judged lib.Count.ones offers probes lost
 summed_up = refl
 
-pub sent_at_two : sent plan empty 2 (replayed plan empty inputs no_failure) ≡ record { moment = 1001; octets = packet } ∷ []
+pub sent_at_two : sent plan empty 2 (replayed plan empty None inputs no_failure) ≡ record { moment = 1001; octets = packet } ∷ []
 unfolding class_of nd_of named message_passes kind_of guard_of judged offers
 sent_at_two = refl
 
 -- the record of the packet isn't written, and the header is
 abbrev pub second_fails : Stops
-second_fails port = if port == 2 then Some 1 else None
+second_fails = record { ports = λ port. if port == 2 then Some 1 else None; control = None }
 
-pub an_output_fails : replayed plan empty inputs second_fails ≡
+pub an_output_fails : replayed plan empty None inputs second_fails ≡
     other 4 1002 (acts.End (passes.Egress port_one) hows.End)
     ∷ other 3 1002 (acts.End passes.Ticker hows.End)
     ∷ other 1 1002 (acts.End (passes.Ingress port_two) hows.End)
@@ -120,3 +123,19 @@ pub an_output_fails : replayed plan empty inputs second_fails ≡
     ∷ []
 unfolding class_of nd_of named message_passes kind_of guard_of judged offers probes lost
 an_output_fails = refl
+
+abbrev line : ℕ → control.Line
+line stamp = record { stamp = stamp; command = [] }
+
+-- of equal stamps control's line comes first, and each ending behind the last of its input
+pub control_first : merged turn_at (all_turns (Some (record { arrivals = line 1001 ∷ line 1002 ∷ []; ending = hows.End })) plan.ports inputs) ≡
+    Arrives port_one (arrivals.Frame 1000 advert)
+    ∷ Commands (line 1001)
+    ∷ Arrives port_one (arrivals.Frame 1001 packet)
+    ∷ Ends (passes.Ingress port_one) hows.End
+    ∷ Commands (line 1002)
+    ∷ Ends passes.Control hows.End
+    ∷ Arrives port_two (arrivals.Frame 1002 advert)
+    ∷ Ends (passes.Ingress port_two) hows.End
+    ∷ []
+control_first = refl

@@ -1,5 +1,5 @@
 -- No advertisement and no hidden fragment passes a port whose sources are validated.
-use Rattle.std.proofs.Common.{◌≡◌, ◌≢◌, ℕ, Bool, false, List, [], ◌∷◌, refl, ap, sym, Option, Some, None, is_none, subst}
+use Rattle.std.proofs.Common.{◌≡◌, ◌≢◌, ℕ, Bool, true, false, List, [], ◌∷◌, refl, ap, sym, Option, Some, None, is_none, subst}
 use Rattle.std.specs.Option.{IsSomeAnd}
 use Rattle.std.proofs.lemmas.Bool.{false≢true}
 use Rattle.std.proofs.lemmas.List.Elements.{All-nil, All-cons}
@@ -27,7 +27,9 @@ use Rattle.savi_history.specs.Bases.{Base, access_of}
 use Rattle.savi_history.specs.Passes.{role_of, is_trusted}
 use Rattle.savi_history.specs.Moments.{moment_at}
 use Rattle.savi_history.specs.Vlans.{the_vlan}
-use Rattle.savi_history.specs.Marks.{marks}
+use Rattle.savi_history.specs.ShutPorts.{is_shut}
+use Rattle.savi_history.specs.Marks.{judged_after, marks}
+use Rattle.savi_history.specs.Judged.{long_by}
 use Rattle.savi_history.specs.Adverts.{NotPassed, NonePasses, IsGuarded}
 use Rattle.savi_history.specs.Summary.{is_pass}
 use Rattle.savi_history.specs.Events.{Event, row_of}
@@ -78,13 +80,26 @@ port_in other (acts.Command stamp at len) = other
 port_in other (acts.Drain port count) = other
 port_in other (acts.End who how) = other
 
+-- a frame that is too long never passes
+pub long_drop : (shut : Bool) → is_pass (Some (long_by shut)) ≡ false
+long_drop true = refl
+long_drop false = refl
+
+-- nor does a frame pass at a shut port
+unless_shut : (plan : Plan) (base : Base) (shut : Bool) (told : List Mark) (port : Port) (t : ℕ) (class : Class) → is_pass (Some (judged_after plan base false told port t class).verdict) ≡ false
+    → is_pass (Some (judged_after plan base shut told port t class).verdict) ≡ false
+unless_shut plan base false told port t class stopped = stopped
+unless_shut plan base true told port t class stopped = refl
+
 -- the row of an event keeps them out
 event_stopped : (Has : List ℕ → Type 0) → IsStopped Has → (plan : Plan) (base : Base) (past : List Row) (event : Event) → NotPassed Has plan (row_of plan base past event)
 event_stopped Has stopped plan base past (events.Frame port stamp octets) = λ at_port frame host has.
     let same : port ≡ at_port = ap (port_in port) frame.frame in
     let here : is_trusted (role_of plan (number_of port)) ≡ false = subst (λ (p : Port). is_trusted (role_of plan (number_of p)) ≡ false) (sym same) host in
-    stopped-not_pass (rules_of plan) (access_of base) the_vlan port (moment_at base past stamp) (marks plan base past) (class_of octets) (stopped octets (role_of plan (number_of port)) plan.drop_unknown has here)
-event_stopped Has stopped plan base past (events.Long port stamp len) = λ at_port frame host has. refl
+    unless_shut plan base (is_shut base (number_of port) past) (marks plan base past) port (moment_at base past stamp) (class_of octets)
+    (stopped-not_pass (rules_of plan) (access_of base) the_vlan port (moment_at base past stamp) (marks plan base past) (class_of octets) (stopped octets (role_of plan (number_of port)) plan.drop_unknown has here))
+event_stopped Has stopped plan base past (events.Command stamp line) = λ at_port frame host has. refl
+event_stopped Has stopped plan base past (events.Long port stamp len) = λ at_port frame host has. long_drop (is_shut base (number_of port) past)
 event_stopped Has stopped plan base past (events.Tick stamp) = λ at_port frame host has. refl
 event_stopped Has stopped plan base past (events.Drain port count) = λ at_port frame host has. refl
 event_stopped Has stopped plan base past (events.End who how) = λ at_port frame host has. refl

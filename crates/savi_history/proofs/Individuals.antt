@@ -30,14 +30,15 @@ use Rattle.savi_access.specs.Plans.{rules_of}
 use Rattle.savi_history.specs.Bases.{Base, access_of}
 use Rattle.savi_history.specs.Vlans.{the_vlan}
 use Rattle.savi_history.specs.Moments.{moment_at}
-use Rattle.savi_history.specs.Marks.{marks}
+use Rattle.savi_history.specs.ShutPorts.{is_shut}
+use Rattle.savi_history.specs.Marks.{judged_after, marks}
 use Rattle.savi_history.specs.Summary.{is_pass}
 use Rattle.savi_history.specs.Stations.{ethernet_of, stations}
 use Rattle.savi_history.specs.StationLaws.{IsIndividual}
 use Rattle.savi_history.specs.Events as events
 use Rattle.savi_history.specs.Events.{Event, row_of}
 use Rattle.savi_history.specs.Legal.{IsLegal}
-use Rattle.savi_history.proofs.Guarded.{stopped-not_pass}
+use Rattle.savi_history.proofs.Guarded.{long_drop, stopped-not_pass}
 use Rattle.savi_history.proofs.Teaching.{after_stays, all_learned}
 
 -- the header of a class is that of the octets
@@ -87,11 +88,19 @@ passed_source r base port t told class eth passed is =
       | inr some ↦ absurd (false≢true (sym (stopped-not_pass r base the_vlan port t told class some) ∙ passed))
     ]
 
+-- a frame that passes does so at a port that isn't shut
+unshut : (plan : Plan) (base : Base) (shut : Bool) (told : List Mark) (port : Port) (t : ℕ) (class : Class) → is_pass (Some (judged_after plan base shut told port t class).verdict) ≡ true
+    → is_pass (Some (judged (rules_of plan) (access_of base) the_vlan port t told class).verdict) ≡ true
+unshut plan base false told port t class passed = passed
+unshut plan base true told port t class passed = absurd (false≢true passed)
+
 -- the source of a frame that passed has no group bit
 event_source : (plan : Plan) (base : Base) (past : List Row) (event : Event) (eth : Eth) → is_pass (row_of plan base past event).entry.verdict ≡ true → ethernet_of (row_of plan base past event).octets ≡ Some eth → is_group eth.src ≡ false
 event_source plan base past (events.Frame port stamp octets) eth passed is =
-    passed_source (rules_of plan) (access_of base) port (moment_at base past stamp) (marks plan base past) (class_of octets) eth passed (eth_is octets (class_of octets) (class_is octets) ∙ is)
-event_source plan base past (events.Long port stamp len) eth passed is = absurd (false≢true passed)
+    passed_source (rules_of plan) (access_of base) port (moment_at base past stamp) (marks plan base past) (class_of octets) eth
+    (unshut plan base (is_shut base (number_of port) past) (marks plan base past) port (moment_at base past stamp) (class_of octets) passed) (eth_is octets (class_of octets) (class_is octets) ∙ is)
+event_source plan base past (events.Command stamp line) eth passed is = absurd (false≢true passed)
+event_source plan base past (events.Long port stamp len) eth passed is = absurd (false≢true (sym (long_drop (is_shut base (number_of port) past)) ∙ passed))
 event_source plan base past (events.Tick stamp) eth passed is = absurd (false≢true passed)
 event_source plan base past (events.Drain port count) eth passed is = absurd (false≢true passed)
 event_source plan base past (events.End who how) eth passed is = absurd (false≢true passed)

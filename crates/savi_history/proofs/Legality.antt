@@ -1,5 +1,5 @@
 -- The history of a replay is legal.
-use Rattle.std.proofs.Common.{◌≡◌, ◌≢◌, ℕ, suc, ◌+◌, ◌<◌, ◌≤◌, ◌==◌, ◌||◌, nat_lt, Bool, true, false, List, [], ◌∷◌, ◌++◌, map, get_or, length, refl, sym, ◌∙◌, subst, arith, if◌then◌else◌, ◌⊎◌, inl, inr}
+use Rattle.std.proofs.Common.{◌≡◌, ◌≢◌, ℕ, suc, ◌+◌, ◌<◌, ◌≤◌, ◌==◌, ◌||◌, nat_lt, Bool, true, false, List, [], ◌∷◌, ◌++◌, map, get_or, length, refl, sym, ◌∙◌, subst, arith, if◌then◌else◌, ◌⊎◌, inl, inr, Option, Some, None}
 use Rattle.std.proofs.lemmas.Bool.{cases_lt, cases_eq}
 use Rattle.std.proofs.lemmas.Bool.Decides.{nat_tests}
 use Rattle.std.proofs.lemmas.List.{length-map}
@@ -16,28 +16,32 @@ use Rattle.savi_kinds.specs.Ports.{number_of}
 use Rattle.savi_kinds.specs.ValidPlan.{numbers_of}
 use Rattle.savi_kinds.specs.Arrivals.{Arrival, Input}
 use Rattle.savi_kinds.specs.Arrivals as arrivals
+use Rattle.cli_lang.specs.Arrivals.{Line}
+use Rattle.cli_lang.specs.Arrivals as control
 use Rattle.hist_store.specs.Rows.{Row}
 use Rattle.savi_history.specs.Bases.{empty}
 use Rattle.savi_history.specs.Limits.{has_room}
 use Rattle.savi_history.specs.Passes.{pass_of, has_ended, has_port, place_of, place_among, control_pass, ticker_pass, egress_pass, AllEnded}
 use Rattle.savi_history.specs.Queues.{queue}
-use Rattle.savi_history.specs.Events.{Event, Drain, End}
+use Rattle.savi_history.specs.Events.{Event, Command, Drain, End}
 use Rattle.savi_history.specs.Legal.{IsLegal, IsOpen, MayCome}
-use Rattle.savi_history.specs.Readable.{IsArrival, IsEnding, IsInput}
+use Rattle.savi_history.specs.Readable.{IsArrival, IsEnding, IsInput, IsLine, IsControlEnding, IsControl}
 use Rattle.savi_history.specs.Merges.{enter, merge, merged}
-use Rattle.savi_history.specs.Turns.{Turn, Arrives, Ends, who_of, turn_at, turns, port_turns}
-use Rattle.savi_history.specs.Replay.{Stops, is_stopped, pieces_by, event_of, with_event, with_failure, begun, with_drain, drained, entered, after, after_all, with_end, egress_ended, control_turns, replayed}
+use Rattle.savi_history.specs.Turns.{Turn, Arrives, Commands, Ends, who_of, turn_at, turns, port_turns, control_turns, all_turns}
+use Rattle.savi_history.specs.Replay.{Stops, is_stopped, pieces_by, event_of, with_event, with_failure, begun, with_drain, drained, with_reply, entered, after, after_all, with_end, egress_ended, replayed}
+use Rattle.savi_history.proofs.Replying.{behind_reply}
 use Rattle.savi_history.proofs.Ends.{later_event}
 use Rattle.savi_history.proofs.Waiting.{ended_now, ended_other, ended_arrival, ended_failure, ended_drained, ended_begun, empty_end, empty_begun, drained_empty}
 use Rattle.savi_history.proofs.PassNumbers.{number_at, place_at, known_at}
 use Rattle.savi_history.proofs.Finished.{finished_low, later_end}
 use Rattle.savi_history.proofs.Closed.{waits_open}
 
--- a turn that a reader of a port of the plan may give, or control's end
+-- a turn that a reader of a port of the plan may give, or one of control
 abbrev pub IsTurn : Plan → Turn → Type 0
 IsTurn plan (Arrives port arrival) = (has_port plan (number_of port) ≡ true) × IsArrival arrival
+IsTurn plan (Commands line) = IsLine line
 IsTurn plan (Ends (passes.Ingress port) how) = (has_port plan (number_of port) ≡ true) × IsEnding how
-IsTurn plan (Ends passes.Control how) = how ≡ hows.End
+IsTurn plan (Ends passes.Control how) = IsControlEnding how
 IsTurn plan (Ends passes.Ticker how) = ⊥
 IsTurn plan (Ends (passes.Egress port) how) = ⊥
 
@@ -77,12 +81,12 @@ module _ (plan : Plan) (stops : Stops) where
   legal_failure_at past port true legal is_open = legal_event past (End (passes.Egress port) hows.Failed) legal (is_open, tt)
   legal_failure_at past port false legal is_open = legal
 
-  legal_failure : (past : List Row) (port : Port) → IsLegal plan empty past → IsOpen plan empty past (passes.Egress port) → IsLegal plan empty (with_failure plan empty stops port past)
-  legal_failure past port = legal_failure_at past port (is_stopped (stops (number_of port)) (pieces_by plan empty (number_of port) past))
+  legal_failure : (past : List Row) (port : Port) → IsLegal plan empty past → IsOpen plan empty past (passes.Egress port) → IsLegal plan empty (with_failure plan empty stops.ports port past)
+  legal_failure past port = legal_failure_at past port (is_stopped (stops.ports (number_of port)) (pieces_by plan empty (number_of port) past))
 
   -- where something waits the egress is open
   legal_drain_at : (past : List Row) (port : Port) (b : Bool) → (length (queue plan empty (number_of port) past) == 0) ≡ b → IsLegal plan empty past → has_port plan (number_of port) ≡ true
-      → IsLegal plan empty (if b then past else with_failure plan empty stops port (with_event plan empty past (Drain port (length (queue plan empty (number_of port) past)))))
+      → IsLegal plan empty (if b then past else with_failure plan empty stops.ports port (with_event plan empty past (Drain port (length (queue plan empty (number_of port) past)))))
   legal_drain_at past port true is legal known = legal
   legal_drain_at past port false is legal known =
       let count = length (queue plan empty (number_of port) past) in
@@ -92,23 +96,23 @@ module _ (plan : Plan) (stops : Stops) where
       (legal_event past (Drain port count) legal (record { known = known; running = running }, omega arith, omega arith))
       (record { known = known; running = running })
 
-  legal_drained : (ports : List PortPlan) (past : List Row) → AreKnown plan ports → IsLegal plan empty past → IsLegal plan empty (drained plan empty stops ports past)
+  legal_drained : (ports : List PortPlan) (past : List Row) → AreKnown plan ports → IsLegal plan empty past → IsLegal plan empty (drained plan empty stops.ports ports past)
   legal_drained [] past known legal = legal
   legal_drained (q ∷ qs) past known legal =
       let count = length (queue plan empty (number_of q.number) past) in
-      legal_drained qs (with_drain plan empty stops q.number count past) known.1 (legal_drain_at past q.number (count == 0) refl legal known.0)
+      legal_drained qs (with_drain plan empty stops.ports q.number count past) known.1 (legal_drain_at past q.number (count == 0) refl legal known.0)
 
   -- outputs that haven't ended are begun
   legal_begun : (ports : List PortPlan) (j : ℕ) (past : List Row) → ((k : ℕ) → k < length ports → place_of plan (get_or (numbers_of ports) k 0) ≡ j + k) → AreKnown plan ports → IsLegal plan empty past
-      → ((k : ℕ) → k < length ports → has_ended empty (egress_pass plan (get_or (numbers_of ports) k 0)) past ≡ false) → IsLegal plan empty (begun plan empty stops ports past)
+      → ((k : ℕ) → k < length ports → has_ended empty (egress_pass plan (get_or (numbers_of ports) k 0)) past ≡ false) → IsLegal plan empty (begun plan empty stops.ports ports past)
   legal_begun [] j past places known legal running = legal
   legal_begun (q ∷ qs) j past places known legal running =
       let here : place_of plan (number_of q.number) ≡ j + 0 = places 0 (omega arith) in
-      legal_begun qs (j + 1) (with_failure plan empty stops q.number past)
+      legal_begun qs (j + 1) (with_failure plan empty stops.ports q.number past)
       (λ k inside. let there = places (suc k) (omega arith) in omega arith)
       known.1
       (legal_failure past q.number legal (record { known = known.0; running = running 0 (omega arith) }))
-      (λ k inside. ended_failure plan empty stops past q.number (egress_pass plan (get_or (numbers_of qs) k 0)) (λ same. let there = places (suc k) (omega arith) in absurd (omega arith)) ∙ running (suc k) (omega arith))
+      (λ k inside. ended_failure plan empty stops.ports past q.number (egress_pass plan (get_or (numbers_of qs) k 0)) (λ same. let there = places (suc k) (omega arith) in absurd (omega arith)) ∙ running (suc k) (omega arith))
 
   known_all : (ports : List PortPlan) → ((k : ℕ) → k < length ports → has_port plan (get_or (numbers_of ports) k 0) ≡ true) → AreKnown plan ports
   known_all [] each = tt
@@ -144,25 +148,65 @@ module _ (plan : Plan) (stops : Stops) where
   }
 
   good_arrival : (past : List Row) (port : Port) (a : Arrival) (b : Bool) → has_room plan past ≡ b → IsGood plan past → has_port plan (number_of port) ≡ true → IsArrival a → has_ended empty (pass_of plan (passes.Ingress port)) past ≡ false
-      → IsGood plan (if b then drained plan empty stops plan.ports (with_event plan empty past (event_of port a)) else with_event plan empty past (End (passes.Ingress port) (hows.Full (length past))))
+      → IsGood plan (if b then drained plan empty stops.ports plan.ports (with_event plan empty past (event_of port a)) else with_event plan empty past (End (passes.Ingress port) (hows.Full (length past))))
   good_arrival past port a true room good known fits running =
       let entered_row = with_event plan empty past (event_of port a) in
       record {
         legal = legal_drained plan.ports entered_row all_known (legal_event past (event_of port a) good.legal (may_arrive past port a (record { known = known; running = running }) room fits));
-        ticking = ended_drained plan empty stops plan.ports entered_row (ticker_pass plan) (omega arith) ∙ ended_arrival plan empty past port a (ticker_pass plan) ∙ good.ticking;
-        quiet = λ k inside. drained_empty plan empty stops plan.ports entered_row k inside;
+        ticking = ended_drained plan empty stops.ports plan.ports entered_row (ticker_pass plan) (omega arith) ∙ ended_arrival plan empty past port a (ticker_pass plan) ∙ good.ticking;
+        quiet = λ k inside. drained_empty plan empty stops.ports plan.ports entered_row k inside;
       }
   good_arrival past port a false room good known fits running =
       let below = place_below port known in
       good_end past (passes.Ingress port) (hows.Full (length past)) good (omega arith) (record { known = known; running = running }, record { no_room = room; all = refl })
+
+  -- behind the entry of a line its reply is legal, whether that is written or not
+  legal_reply : (past : List Row) (line : Line) → IsLegal plan empty past → has_ended empty (control_pass plan) past ≡ false → IsLegal plan empty (with_reply plan empty stops.control line past)
+  legal_reply past line legal running =
+      behind_reply plan empty line past (λ now. IsLegal plan empty now) legal
+      (legal_event past (End passes.Control hows.Unwritten) legal (record { known = refl; running = running }, tt))
+      (legal_event past (End passes.Control hows.Quit) legal (record { known = refl; running = running }, tt)) stops.control
+
+  -- nor does it end the ticker
+  ticking_reply : (past : List Row) (line : Line) → has_ended empty (ticker_pass plan) past ≡ false → has_ended empty (ticker_pass plan) (with_reply plan empty stops.control line past) ≡ false
+  ticking_reply past line ticking =
+      behind_reply plan empty line past (λ now. has_ended empty (ticker_pass plan) now ≡ false) ticking
+      (ended_other plan empty past passes.Control hows.Unwritten (ticker_pass plan) (λ same. absurd (omega arith)) ∙ ticking)
+      (ended_other plan empty past passes.Control hows.Quit (ticker_pass plan) (λ same. absurd (omega arith)) ∙ ticking) stops.control
+
+  good_line : (past : List Row) (line : Line) (b : Bool) → has_room plan past ≡ b → IsGood plan past → IsLine line → has_ended empty (control_pass plan) past ≡ false
+      → IsGood plan (if b
+      then drained plan empty stops.ports plan.ports (with_reply plan empty stops.control line (with_event plan empty past (Command line.stamp line.command)))
+      else with_event plan empty past (End passes.Control (hows.Full (length past))))
+  good_line past line true room good fits running =
+      let commanded = with_event plan empty past (Command line.stamp line.command) in
+      let answered = with_reply plan empty stops.control line commanded in
+      let may : MayCome plan empty past (Command line.stamp line.command) = (record { open_pass = record { known = refl; running = running }; room = room; fits = fits.0 }, fits.1) in
+      record {
+        legal = legal_drained plan.ports answered all_known (legal_reply commanded line (legal_event past (Command line.stamp line.command) good.legal may) running);
+        ticking = ended_drained plan empty stops.ports plan.ports answered (ticker_pass plan) (omega arith) ∙ ticking_reply commanded line good.ticking;
+        quiet = λ k inside. drained_empty plan empty stops.ports plan.ports answered k inside;
+      }
+  good_line past line false room good fits running =
+      good_end past passes.Control (hows.Full (length past)) good (omega arith) (record { known = refl; running = running }, record { no_room = room; all = refl })
+
+  may_end_control : (past : List Row) (how : How) → IsOpen plan empty past passes.Control → IsControlEnding how → MayCome plan empty past (End passes.Control how)
+  may_end_control past hows.End is_open fits = (is_open, tt)
+  may_end_control past hows.Quit is_open fits = absurd fits
+  may_end_control past (hows.Malformed at) is_open fits = (is_open, fits)
+  may_end_control past (hows.Overlong at) is_open fits = (is_open, fits)
+  may_end_control past hows.Failed is_open fits = (is_open, tt)
+  may_end_control past hows.Unwritten is_open fits = absurd fits
+  may_end_control past (hows.Full len) is_open fits = absurd fits
 
   good_entered : (t : Turn) (past : List Row) → IsGood plan past → IsTurn plan t → has_ended empty (pass_of plan (who_of t)) past ≡ false → IsGood plan (entered plan empty stops t past)
   good_entered (Arrives port a) past good fits running = good_arrival past port a (has_room plan past) refl good fits.0 fits.1 running
   good_entered (Ends (passes.Ingress port) how) past good fits running =
       let below = place_below port fits.0 in
       good_end past (passes.Ingress port) how good (omega arith) (may_end_ingress past port how (record { known = fits.0; running = running }) fits.1)
+  good_entered (Commands line) past good fits running = good_line past line (has_room plan past) refl good fits running
   good_entered (Ends passes.Control how) past good fits running =
-      rw fits (good_end past passes.Control hows.End good (omega arith) (record { known = refl; running = running }, tt))
+      good_end past passes.Control how good (omega arith) (may_end_control past how (record { known = refl; running = running }) fits)
   good_entered (Ends passes.Ticker how) past good fits running = absurd fits
   good_entered (Ends (passes.Egress port) how) past good fits running = absurd fits
 
@@ -199,6 +243,14 @@ module _ (plan : Plan) (stops : Stops) where
       turns_merge (turns p.number i) (merged turn_at (port_turns ports inputs)) (turns_from p.number i.arrivals i.ending known.0 first.arrivals first.ending)
       (turns_ports ports inputs known.1 (λ k d inside. are (suc k) d (omega arith)))
 
+  turns_lines : (lines : List Line) (how : How) → All IsLine lines → IsControlEnding how → AreTurns plan (map (λ line. Commands line) lines ++ Ends passes.Control how ∷ [])
+  turns_lines [] how fits ends = (ends, tt)
+  turns_lines (line ∷ lines) how fits ends = (fits 0 line (omega arith), turns_lines lines how (λ k d inside. fits (suc k) d (omega arith)) ends)
+
+  turns_control : (lines : Option control.Input) → IsControl lines → AreTurns plan (control_turns lines)
+  turns_control None fits = (tt, tt)
+  turns_control (Some input) fits = turns_lines input.arrivals input.ending fits.arrivals fits.ending
+
   -- where all else has ended and nothing waits, an egress that is open may end
   legal_end_at : (past : List Row) (port : Port) (b : Bool) → has_ended empty (egress_pass plan (number_of port)) past ≡ b → has_port plan (number_of port) ≡ true → IsLegal plan empty past → AllEnded empty (ticker_pass plan + 1) past → queue plan empty (number_of port) past ≡ []
       → IsLegal plan empty (if b then past else with_event plan empty past (End (passes.Egress port) hows.End))
@@ -220,18 +272,18 @@ module _ (plan : Plan) (stops : Stops) where
       (λ pass below. later_end plan empty q.number past pass (ended pass below))
       (λ k inside. empty_end_at past q.number (get_or (numbers_of qs) k 0) has (quiet (suc k) (omega arith)))
 
-  replay_legal : (inputs : List Input) → IsStrictlyIncreasing (numbers_of plan.ports) → length inputs ≡ length plan.ports → All IsInput inputs → IsLegal plan empty (replayed plan empty inputs stops)
-  replay_legal inputs rising size are =
-      let started : List Row = begun plan empty stops plan.ports [] in
-      let before : List Row = after_all plan empty stops (merged turn_at (control_turns ∷ port_turns plan.ports inputs)) started in
+  replay_legal : (lines : Option control.Input) (inputs : List Input) → IsStrictlyIncreasing (numbers_of plan.ports) → length inputs ≡ length plan.ports → IsControl lines → All IsInput inputs → IsLegal plan empty (replayed plan empty lines inputs stops)
+  replay_legal lines inputs rising size control_is are =
+      let started : List Row = begun plan empty stops.ports plan.ports [] in
+      let before : List Row = after_all plan empty stops (merged turn_at (all_turns lines plan.ports inputs)) started in
       let places : (k : ℕ) → k < length plan.ports → place_of plan (number_at plan k) ≡ 0 + k = λ k inside. place_at plan k rising inside ∙ omega arith in
       let good_start : IsGood plan started = record {
         legal = legal_begun plan.ports 0 [] places all_known tt (λ k inside. refl);
-        ticking = ended_begun plan empty stops plan.ports [] (ticker_pass plan) (omega arith);
-        quiet = λ k inside. empty_begun plan empty stops plan.ports [] (number_at plan k) refl;
+        ticking = ended_begun plan empty stops.ports plan.ports [] (ticker_pass plan) (omega arith);
+        quiet = λ k inside. empty_begun plan empty stops.ports plan.ports [] (number_at plan k) refl;
       } in
-      let good : IsGood plan before = good_all (merged turn_at (control_turns ∷ port_turns plan.ports inputs)) started (turns_merge control_turns (merged turn_at (port_turns plan.ports inputs)) (refl, tt) (turns_ports plan.ports inputs all_known are)) good_start in
-      let inputs_ended : AllEnded empty (control_pass plan + 1) before = λ pass below. finished_low plan empty inputs stops rising size pass (cases_lt pass (length plan.ports)) below in
+      let good : IsGood plan before = good_all (merged turn_at (all_turns lines plan.ports inputs)) started (turns_merge (control_turns lines) (merged turn_at (port_turns plan.ports inputs)) (turns_control lines control_is) (turns_ports plan.ports inputs all_known are)) good_start in
+      let inputs_ended : AllEnded empty (control_pass plan + 1) before = λ pass below. finished_low plan empty lines inputs stops rising size pass (cases_lt pass (length plan.ports)) below in
       let ticked = with_event plan empty before (End passes.Ticker hows.End) in
       legal_egress plan.ports ticked
       all_known
@@ -239,5 +291,5 @@ module _ (plan : Plan) (stops : Stops) where
       (λ pass below. ticked_at before pass inputs_ended below (cases_eq pass (ticker_pass plan)))
       (λ k inside. empty_end plan empty before passes.Ticker hows.End (number_at plan k) (good.quiet k inside))
 
-pub replay_is_legal : (plan : Plan) (inputs : List Input) (stops : Stops) → IsStrictlyIncreasing (numbers_of plan.ports) → length inputs ≡ length plan.ports → All IsInput inputs → IsLegal plan empty (replayed plan empty inputs stops)
-replay_is_legal plan inputs stops rising size are = replay_legal plan stops inputs rising size are
+pub replay_is_legal : (plan : Plan) (lines : Option control.Input) (inputs : List Input) (stops : Stops) → IsStrictlyIncreasing (numbers_of plan.ports) → length inputs ≡ length plan.ports → IsControl lines → All IsInput inputs → IsLegal plan empty (replayed plan empty lines inputs stops)
+replay_is_legal plan lines inputs stops rising size control_is are = replay_legal plan stops lines inputs rising size control_is are

@@ -1,6 +1,7 @@
 pub mod Example
 pub mod Merging
 pub mod Filtering
+pub mod Replying
 pub mod Ends
 pub mod Order
 pub mod Reaching
@@ -35,7 +36,13 @@ pub mod FailedWrites
 pub mod EndedOutputs
 pub mod TakenPieces
 pub mod FittingOutputs
+pub mod ControlSame
+pub mod FittingReplies
+pub mod WithoutControl
+pub mod EnteringLines
 pub mod Telling
 pub mod Starting
 pub mod CameFirst
 pub mod Ticking
+pub mod Commanding
+pub mod Shutting

@@ -11,7 +11,7 @@ use Rattle.hist_store.specs.Rows.{Row}
 use Rattle.hist_store.specs.EndTexts.{IsReasonOf}
 use Rattle.hist_store.specs.LineTexts.{FitsLine}
 use Rattle.savi_history.specs.Bases.{Base}
-use Rattle.savi_history.specs.Events.{Event, Frame, Long, Tick, Drain, End, row_of}
+use Rattle.savi_history.specs.Events.{Event, Frame, Long, Command, Tick, Drain, End, row_of}
 use Rattle.savi_history.specs.Legal.{MayEnd, MayCome, Stands, IsLegal}
 
 reason_of : (plan : Plan) (base : Base) (past : List Row) (who : Who) (how : How) → MayEnd plan base past who how → IsReasonOf who how
@@ -41,6 +41,7 @@ reason_of plan base past (Egress p) (hows.Full len) may = absurd may
 row_fits : (plan : Plan) (base : Base) (past : List Row) (event : Event) → MayCome plan base past event → FitsLine (row_of plan base past event)
 row_fits plan base past (Frame port stamp octets) may = (refl, refl, may.1)
 row_fits plan base past (Long port stamp len) may = (refl, (refl, refl), refl)
+row_fits plan base past (Command stamp line) may = (refl, (refl, refl), refl, may.1)
 row_fits plan base past (Tick stamp) may = (refl, (refl, refl), refl)
 row_fits plan base past (Drain port count) may = (refl, (refl, refl), (refl, refl), refl)
 row_fits plan base past (End who how) may = (refl, (refl, refl), (refl, refl), refl, reason_of plan base past who how may.1)

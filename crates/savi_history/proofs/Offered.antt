@@ -15,7 +15,7 @@ use Rattle.hist_store.specs.Rows.{Row}
 use Rattle.savi_history.specs.Bases.{Base}
 use Rattle.savi_history.specs.Queues.{Item, item_of, room_at, joined, all_joined, offered_at, waiting_after, taken_by, queue, sent, queued_at, lost_at, over_ports, probes, lost}
 use Rattle.savi_history.specs.QueueLaws.{frame_to, all_offered, room_left, added, came, is_failure_at, NeverFailed, probes_taken, probes_left, IsCounted, AreCounted}
-use Rattle.savi_history.specs.Events.{Event, Frame, Long, Tick, Drain, End, row_of, frame_act}
+use Rattle.savi_history.specs.Events.{Event, Frame, Long, Command, Tick, Drain, End, row_of, command_act, frame_act}
 use Rattle.savi_history.specs.Legal.{IsLegal}
 use Rattle.savi_history.proofs.Joining.{no_items, take_none, all_joined-is, length-all_joined}
 
@@ -106,6 +106,8 @@ row_counted plan base past (Frame port stamp octets) =
     (probes_counted plan base past (frame_act past port stamp octets) octets, lost_counted plan base past (frame_act past port stamp octets) octets)
 row_counted plan base past (Long port stamp len) =
     (probes_counted plan base past (acts.Long port stamp len) [], lost_counted plan base past (acts.Long port stamp len) [])
+row_counted plan base past (Command stamp line) =
+    (probes_counted plan base past (command_act past stamp line) line, lost_counted plan base past (command_act past stamp line) line)
 row_counted plan base past (Tick stamp) =
     (probes_counted plan base past (acts.Tick stamp) [], lost_counted plan base past (acts.Tick stamp) [])
 row_counted plan base past (Drain port count) = (refl, refl)

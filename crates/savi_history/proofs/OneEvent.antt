@@ -16,7 +16,7 @@ use Rattle.hist_store.specs.VerdictTexts.{entry_verdict_text}
 use Rattle.hist_store.specs.EndTexts.{who_text, how_fields}
 use Rattle.hist_store.specs.LineTexts.{hex_text, line_fields}
 use Rattle.savi_history.specs.Bases.{Base}
-use Rattle.savi_history.specs.Events.{Event, Frame, Long, Tick, Drain, End, row_of}
+use Rattle.savi_history.specs.Events.{Event, Frame, Long, Command, Tick, Drain, End, row_of}
 use Rattle.savi_history.specs.Legal.{MayEndIngress, MayEndControl, MayEndTicker, MayEndEgress, MayEnd, MayCome, IsLegal}
 use Rattle.hist_store.proofs.OnePort.{first_apart, port_by_text, who_by_text}
 use Rattle.savi_history.proofs.Depth.{queue_within}
@@ -28,6 +28,7 @@ use Rattle.savi_history.proofs.OneValue.{octets_by_text, how_by_text, IsReasonAt
 abbrev IsWithin : ℕ → Event → Type 0
 IsWithin size (Frame port stamp octets) = (stamp < 2 ^ 64) × IsBytes octets
 IsWithin size (Long port stamp len) = (stamp < 2 ^ 64) × (len < 2 ^ 64)
+IsWithin size (Command stamp line) = (stamp < 2 ^ 64) × IsBytes line
 IsWithin size (Tick stamp) = stamp < 2 ^ 64
 IsWithin size (Drain port count) = count < 2 ^ 64
 IsWithin size (End who how) = IsReasonAt size how
@@ -78,6 +79,7 @@ within : (plan : Plan) (base : Base) (past : List Row) (event : Event) → IsVal
     → IsBytes (row_of plan base past event).octets → IsWithin (length past) event
 within plan base past (Frame port stamp octets) valid legal may bytes = (may.0.fits, bytes)
 within plan base past (Long port stamp len) valid legal may bytes = let small = may.2 in (may.0.fits, omega (arith, small))
+within plan base past (Command stamp line) valid legal may bytes = (may.0.fits, bytes)
 within plan base past (Tick stamp) valid legal may bytes = may.fits
 within plan base past (Drain port count) valid legal may bytes =
     let few = queue_within plan base (number_of port) past in
@@ -98,6 +100,7 @@ record Computed : Type 0 where
 abbrev event_fields : Computed → Event → List (List ℕ)
 event_fields c (Frame port stamp octets) = codes "F" ∷ port_text port ∷ decimal stamp ∷ hex_text octets ∷ c.verdict ∷ c.outs ∷ c.cuts ∷ c.probes ∷ c.lost ∷ []
 event_fields c (Long port stamp len) = codes "L" ∷ port_text port ∷ decimal stamp ∷ decimal len ∷ c.verdict ∷ c.probes ∷ c.lost ∷ []
+event_fields c (Command stamp line) = codes "C" ∷ decimal stamp ∷ hex_text line ∷ c.probes ∷ c.lost ∷ []
 event_fields c (Tick stamp) = codes "T" ∷ decimal stamp ∷ c.probes ∷ c.lost ∷ []
 event_fields c (Drain port count) = codes "D" ∷ port_text port ∷ decimal count ∷ []
 event_fields c (End who how) = codes "E" ∷ who_text who ∷ how_fields how
@@ -118,6 +121,7 @@ line_of n r event = decimal n ∷ decimal r.entry.by ∷ decimal r.entry.moment 
 fields_of_row : (n : ℕ) (plan : Plan) (base : Base) (past : List Row) (event : Event) → line_fields n (row_of plan base past event) ≡ line_of n (row_of plan base past event) event
 fields_of_row n plan base past (Frame port stamp octets) = refl
 fields_of_row n plan base past (Long port stamp len) = refl
+fields_of_row n plan base past (Command stamp line) = refl
 fields_of_row n plan base past (Tick stamp) = refl
 fields_of_row n plan base past (Drain port count) = refl
 fields_of_row n plan base past (End who how) = refl
@@ -139,6 +143,10 @@ event_same size c c' (Long p s m) (Long q t n) fits fits' e =
     let stamp = decimal_injective s t fits.0 fits'.0 (first (second (second e))) in
     let len = decimal_injective m n fits.1 fits'.1 (first (second (second (second e)))) in
     cc (port, stamp, len)
+event_same size c c' (Command s xs) (Command t ys) fits fits' e =
+    let stamp = decimal_injective s t fits.0 fits'.0 (first (second e)) in
+    let line = octets_by_text xs ys fits.1 fits'.1 (first (second (second e))) in
+    cc (stamp, line)
 event_same size c c' (Tick s) (Tick t) fits fits' e =
     let stamp = decimal_injective s t fits fits' (first (second e)) in
     cc stamp

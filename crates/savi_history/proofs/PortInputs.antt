@@ -1,5 +1,5 @@
 -- What an entry adds to what a history holds of a port's input.
-use Rattle.std.proofs.Common.{◌≡◌, ◌≢◌, ℕ, ◌==◌, Bool, true, false, List, [], ◌∷◌, ◌++◌, length, refl, ◌∙◌, arith, if◌then◌else◌, append-nil, Some}
+use Rattle.std.proofs.Common.{◌≡◌, ◌≢◌, ℕ, ◌==◌, Bool, true, false, List, [], ◌∷◌, ◌++◌, length, refl, ◌∙◌, arith, if◌then◌else◌, append-nil, Option, Some}
 use Rattle.std.proofs.lemmas.Bool.Decides.{nat_tests}
 use Rattle.savi_kinds.specs.declared.port.Port.{Port}
 use Rattle.savi_kinds.specs.declared.plan.Plan.{Plan}
@@ -10,15 +10,17 @@ use Rattle.savi_kinds.specs.declared.entry.How.TheVariants as hows
 use Rattle.savi_kinds.specs.Ports.{number_of}
 use Rattle.savi_kinds.specs.Arrivals.{Arrival}
 use Rattle.savi_kinds.specs.Arrivals as arrivals
+use Rattle.cli_lang.specs.Arrivals.{Line}
 use Rattle.hist_store.specs.Rows.{Row}
 use Rattle.savi_history.specs.Bases.{Base}
 use Rattle.savi_history.specs.Limits.{has_room}
 use Rattle.savi_history.specs.Passes.{has_ended, egress_pass}
 use Rattle.savi_history.specs.Queues.{queue}
-use Rattle.savi_history.specs.Events.{Drain, End}
-use Rattle.savi_history.specs.Turns.{Turn, Arrives, Ends}
-use Rattle.savi_history.specs.Replay.{Stops, is_stopped, pieces_by, event_of, with_event, with_failure, begun, with_drain, drained, entered, with_end, egress_ended}
+use Rattle.savi_history.specs.Events.{Command, Drain, End}
+use Rattle.savi_history.specs.Turns.{Turn, Arrives, Commands, Ends}
+use Rattle.savi_history.specs.Replay.{PortStops, Stops, is_stopped, pieces_by, event_of, with_event, with_failure, begun, with_drain, drained, with_reply, entered, with_end, egress_ended}
 use Rattle.savi_history.specs.PortInputs.{arrived, input_end}
+use Rattle.savi_history.proofs.Replying.{behind_reply}
 
 -- two histories hold the same of a port's input
 pub record HoldsSame (n : ℕ) (old new : List Row) : Type 0 where
@@ -34,11 +36,11 @@ same_failure_at : (plan : Plan) (base : Base) (past : List Row) (port : Port) (n
 same_failure_at plan base past port n true = record { arrivals_same = append-nil (arrived n past); end_same = refl }
 same_failure_at plan base past port n false = record { arrivals_same = refl; end_same = refl }
 
-pub same_failure : (plan : Plan) (base : Base) (stops : Stops) (past : List Row) (port : Port) (n : ℕ) → HoldsSame n past (with_failure plan base stops port past)
+pub same_failure : (plan : Plan) (base : Base) (stops : PortStops) (past : List Row) (port : Port) (n : ℕ) → HoldsSame n past (with_failure plan base stops port past)
 same_failure plan base stops past port n = same_failure_at plan base past port n (is_stopped (stops (number_of port)) (pieces_by plan base (number_of port) past))
 
 -- when outputs are begun nothing comes in
-pub same_begun : (plan : Plan) (base : Base) (stops : Stops) (ports : List PortPlan) (past : List Row) (n : ℕ) → HoldsSame n past (begun plan base stops ports past)
+pub same_begun : (plan : Plan) (base : Base) (stops : PortStops) (ports : List PortPlan) (past : List Row) (n : ℕ) → HoldsSame n past (begun plan base stops ports past)
 same_begun plan base stops [] past n = record { arrivals_same = refl; end_same = refl }
 same_begun plan base stops (q ∷ qs) past n =
     let later = with_failure plan base stops q.number past in
@@ -46,13 +48,13 @@ same_begun plan base stops (q ∷ qs) past n =
 
 -- drains
 
-same_drain_at : (plan : Plan) (base : Base) (stops : Stops) (past : List Row) (port : Port) (count n : ℕ) (b : Bool) → HoldsSame n past (if b then past else with_failure plan base stops port (with_event plan base past (Drain port count)))
+same_drain_at : (plan : Plan) (base : Base) (stops : PortStops) (past : List Row) (port : Port) (count n : ℕ) (b : Bool) → HoldsSame n past (if b then past else with_failure plan base stops port (with_event plan base past (Drain port count)))
 same_drain_at plan base stops past port count n true = record { arrivals_same = refl; end_same = refl }
 same_drain_at plan base stops past port count n false =
     let mid = with_event plan base past (Drain port count) in
     holds_then n past mid (with_failure plan base stops port mid) (record { arrivals_same = append-nil (arrived n past); end_same = refl }) (same_failure plan base stops mid port n)
 
-same_drained : (plan : Plan) (base : Base) (stops : Stops) (ports : List PortPlan) (past : List Row) (n : ℕ) → HoldsSame n past (drained plan base stops ports past)
+same_drained : (plan : Plan) (base : Base) (stops : PortStops) (ports : List PortPlan) (past : List Row) (n : ℕ) → HoldsSame n past (drained plan base stops ports past)
 same_drained plan base stops [] past n = record { arrivals_same = refl; end_same = refl }
 same_drained plan base stops (q ∷ qs) past n =
     let count = length (queue plan base (number_of q.number) past) in
@@ -63,6 +65,23 @@ same_drained plan base stops (q ∷ qs) past n =
 
 pub same_control : (plan : Plan) (base : Base) (past : List Row) (how : How) (n : ℕ) → HoldsSame n past (with_event plan base past (End Control how))
 same_control plan base past how n = record { arrivals_same = append-nil (arrived n past); end_same = refl }
+
+reply_same : (plan : Plan) (base : Base) (stop : Option ℕ) (line : Line) (past : List Row) (n : ℕ) → HoldsSame n past (with_reply plan base stop line past)
+reply_same plan base stop line past n =
+    behind_reply plan base line past (λ now. HoldsSame n past now) (record { arrivals_same = refl; end_same = refl }) (same_control plan base past hows.Unwritten n) (same_control plan base past hows.Quit n) stop
+
+line_at : (plan : Plan) (base : Base) (stops : Stops) (past : List Row) (line : Line) (n : ℕ) (b : Bool) → has_room plan past ≡ b → HoldsSame n past (entered plan base stops (Commands line) past)
+line_at plan base stops past line n true room =
+    let commanded = with_event plan base past (Command line.stamp line.command) in
+    let answered = with_reply plan base stops.control line commanded in
+    rw room (holds_then n past answered (drained plan base stops.ports plan.ports answered)
+    (holds_then n past commanded answered (record { arrivals_same = append-nil (arrived n past); end_same = refl }) (reply_same plan base stops.control line commanded n))
+    (same_drained plan base stops.ports plan.ports answered n))
+line_at plan base stops past line n false room = rw room (same_control plan base past (hows.Full (length past)) n)
+
+-- a line on control is no port's
+pub same_line : (plan : Plan) (base : Base) (stops : Stops) (past : List Row) (line : Line) (n : ℕ) → HoldsSame n past (entered plan base stops (Commands line) past)
+same_line plan base stops past line n = line_at plan base stops past line n (has_room plan past) refl
 
 same_ticker : (plan : Plan) (base : Base) (past : List Row) (how : How) (n : ℕ) → HoldsSame n past (with_event plan base past (End Ticker how))
 same_ticker plan base past how n = record { arrivals_same = append-nil (arrived n past); end_same = refl }
@@ -105,7 +124,7 @@ pub more_entered : (plan : Plan) (base : Base) (stops : Stops) (past : List Row)
 more_entered plan base stops past port arrival room =
     let n = number_of port in
     let later = with_event plan base past (event_of port arrival) in
-    let drains = same_drained plan base stops plan.ports later n in
+    let drains = same_drained plan base stops.ports plan.ports later n in
     rw room (record {
       arrivals_more = drains.arrivals_same ∙ arrival_here plan base past port arrival (n == n) refl (itself n);
       end_same = drains.end_same ∙ arrival_end plan base past port arrival n;
@@ -137,12 +156,13 @@ end_other plan base past port how n other = record { arrivals_same = append-nil 
 other_at : (plan : Plan) (base : Base) (stops : Stops) (past : List Row) (port : Port) (arrival : Arrival) (n : ℕ) (b : Bool) → has_room plan past ≡ b → number_of port ≢ n → HoldsSame n past (entered plan base stops (Arrives port arrival) past)
 other_at plan base stops past port arrival n true room other =
     let later = with_event plan base past (event_of port arrival) in
-    rw room (holds_then n past later (drained plan base stops plan.ports later) (record { arrivals_same = arrival_other plan base past port arrival n other; end_same = arrival_end plan base past port arrival n }) (same_drained plan base stops plan.ports later n))
+    rw room (holds_then n past later (drained plan base stops.ports plan.ports later) (record { arrivals_same = arrival_other plan base past port arrival n other; end_same = arrival_end plan base past port arrival n }) (same_drained plan base stops.ports plan.ports later n))
 other_at plan base stops past port arrival n false room other = rw room (end_other plan base past port (hows.Full (length past)) n other)
 
 -- the turn is one of this port
 abbrev pub IsTurnOf : Port → Turn → Type 0
 IsTurnOf port (Arrives p arrival) = p ≡ port
+IsTurnOf port (Commands line) = ⊥
 IsTurnOf port (Ends (Ingress p) how) = p ≡ port
 IsTurnOf port (Ends Control how) = ⊥
 IsTurnOf port (Ends Ticker how) = ⊥
@@ -150,6 +170,7 @@ IsTurnOf port (Ends (Egress p) how) = ⊥
 
 pub other_entered : (plan : Plan) (base : Base) (stops : Stops) (past : List Row) (port : Port) (turn : Turn) (n : ℕ) → IsTurnOf port turn → number_of port ≢ n → HoldsSame n past (entered plan base stops turn past)
 other_entered plan base stops past port (Arrives p arrival) n is other = other_at plan base stops past p arrival n (has_room plan past) refl (rw is other)
+other_entered plan base stops past port (Commands line) n is other = absurd is
 other_entered plan base stops past port (Ends (Ingress p) how) n is other = end_other plan base past p how n (rw is other)
 other_entered plan base stops past port (Ends Control how) n is other = absurd is
 other_entered plan base stops past port (Ends Ticker how) n is other = absurd is

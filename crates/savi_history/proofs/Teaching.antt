@@ -72,6 +72,7 @@ pub row_moment : (plan : Plan) (base : Base) (past : List Row) (event : Event) �
     → (last_moment base past ≤ (row_of plan base past event).entry.moment) × ((row_of plan base past event).entry.moment ≤ 2 ^ 62)
 row_moment plan base past (events.Frame port stamp octets) small = (omega arith, omega (arith, small))
 row_moment plan base past (events.Long port stamp len) small = (omega arith, omega (arith, small))
+row_moment plan base past (events.Command stamp line) small = (omega arith, omega (arith, small))
 row_moment plan base past (events.Tick stamp) small = (omega arith, omega (arith, small))
 row_moment plan base past (events.Drain port count) small = (omega arith, omega (arith, small))
 row_moment plan base past (events.End who how) small = (omega arith, omega (arith, small))

@@ -1,5 +1,5 @@
 -- What frames tell in a legal history, and that they pass exactly where they have access.
-use Rattle.std.proofs.Common.{◌≡◌, ◌≢◌, ℕ, ◌≤◌, ◌^◌, ◌↔◌, Bool, true, false, List, [], ◌∷◌, All, refl, sym, ap, subst, arith}
+use Rattle.std.proofs.Common.{◌≡◌, ◌≢◌, ℕ, ◌≤◌, ◌^◌, ◌↔◌, Bool, true, false, Some, List, [], ◌∷◌, All, refl, sym, ap, subst, arith}
 use Rattle.std.proofs.lemmas.Bool.{false≢true}
 use Rattle.std.proofs.lemmas.List.Elements.{All-nil, All-head, All-tail}
 use Rattle.hex.specs.Hex.{IsBytes}
@@ -10,11 +10,13 @@ use Rattle.savi_kinds.specs.declared.entry.Act.{Act}
 use Rattle.savi_kinds.specs.declared.entry.Act.TheVariants as acts
 use Rattle.savi_kinds.specs.Ports.{number_of}
 use Rattle.savi_kinds.specs.ValidPlan.{IsValidPlan}
+use Rattle.frame_class.specs.declared.classes.Class.{Class}
 use Rattle.frame_class.specs.ClassOf.{class_of}
 use Rattle.hist_store.specs.Rows.{Row}
 use Rattle.mix_rules.specs.Next.{IsPass}
 use Rattle.savi_access.specs.Marks.{Mark, moment_of, newest_moment}
-use Rattle.savi_access.specs.Legal.{HasFront}
+use Rattle.savi_access.specs.Legal.{AreMarks, HasFront}
+use Rattle.savi_access.specs.Access.{HasAccess}
 use Rattle.savi_access.specs.Plans.{rules_of, role_of}
 use Rattle.savi_access.proofs.PlanRules.{own_ports, unspecified_off_link}
 use Rattle.savi_access.proofs.Lifetimes.{lifetimes}
@@ -24,9 +26,12 @@ use Rattle.savi_history.specs.Bases.{Base, access_of}
 use Rattle.savi_history.specs.Limits.{IsWithinLimits}
 use Rattle.savi_history.specs.Moments.{last_moment, moment_at}
 use Rattle.savi_history.specs.Vlans.{the_vlan}
-use Rattle.savi_history.specs.Marks.{marks}
+use Rattle.cli_lang.specs.CommandOf.{command_of}
+use Rattle.savi_history.specs.ShutPorts.{is_shut}
+use Rattle.savi_history.specs.Marks.{marks, judged_after}
+use Rattle.savi_history.proofs.Commanding.{commanded_right}
 use Rattle.savi_history.specs.Accesses.{HadAccess, PassedRightly, AllPassedRightly, IsTold}
-use Rattle.savi_history.specs.Events.{Event, Frame, Long, Tick, Drain, End, row_of}
+use Rattle.savi_history.specs.Events.{Event, Frame, Long, Command, Tick, Drain, End, row_of}
 use Rattle.savi_history.specs.Legal.{MayCome, Stands, IsLegal}
 
 -- rows of octets
@@ -53,6 +58,7 @@ port_in other (acts.End who how) = other
 rises : (plan : Plan) (base : Base) (past : List Row) (event : Event) → last_moment base past ≤ (row_of plan base past event).entry.moment
 rises plan base past (Frame port stamp octets) = omega arith
 rises plan base past (Long port stamp len) = omega arith
+rises plan base past (Command stamp line) = omega arith
 rises plan base past (Tick stamp) = omega arith
 rises plan base past (Drain port count) = omega arith
 rises plan base past (End who how) = omega arith
@@ -60,6 +66,7 @@ rises plan base past (End who how) = omega arith
 stays_early : (plan : Plan) (base : Base) (past : List Row) (event : Event) → last_moment base past ≤ 2 ^ 62 → (row_of plan base past event).entry.moment ≤ 2 ^ 62
 stays_early plan base past (Frame port stamp octets) early = omega (arith, early)
 stays_early plan base past (Long port stamp len) early = omega (arith, early)
+stays_early plan base past (Command stamp line) early = omega (arith, early)
 stays_early plan base past (Tick stamp) early = omega (arith, early)
 stays_early plan base past (Drain port count) early = early
 stays_early plan base past (End who how) early = early
@@ -82,6 +89,32 @@ module _ (plan : Plan) (valid : IsValidPlan plan) (base : Base) (within : IsWith
   nothing_told : (past : List Row) (t : ℕ) → HasFront t (marks plan base past) (marks plan base past)
   nothing_told past t = record { new = []; is = refl; moments = All-nil (λ (m : Mark). moment_of m ≡ t) }
 
+  -- what a frame tells at a port that is shut or not
+  abbrev marks_by : List Row → Port → ℕ → List ℕ → Bool → List Mark
+  marks_by past port stamp octets shut = (judged_after plan base shut (marks plan base past) port (moment_at base past stamp) (class_of octets)).marks
+
+  frame_next : (past : List Row) (port : Port) (stamp : ℕ) (octets : List ℕ) → IsTold plan base past → newest_moment (access_of base) (marks plan base past) ≤ moment_at base past stamp
+      → (shut : Bool) → is_shut base (number_of port) past ≡ shut
+      → AreMarks (rules_of plan) (access_of base) (marks_by past port stamp octets false) → newest_moment (access_of base) (marks_by past port stamp octets false) ≤ moment_at base past stamp
+      → HasFront (moment_at base past stamp) (marks plan base past) (marks_by past port stamp octets false)
+      → IsNext past (row_of plan base past (Frame port stamp octets))
+  frame_next past port stamp octets told after false is right last front =
+      record {
+        told = record {
+          right = subst (λ (b : Bool). AreMarks (rules_of plan) (access_of base) (marks_by past port stamp octets b)) (sym is) right;
+          last = subst (λ (b : Bool). newest_moment (access_of base) (marks_by past port stamp octets b) ≤ moment_at base past stamp) (sym is) last;
+        };
+        front = subst (λ (b : Bool). HasFront (moment_at base past stamp) (marks plan base past) (marks_by past port stamp octets b)) (sym is) front;
+      }
+  frame_next past port stamp octets told after true is right last front =
+      record {
+        told = record {
+          right = subst (λ (b : Bool). AreMarks (rules_of plan) (access_of base) (marks_by past port stamp octets b)) (sym is) told.right;
+          last = subst (λ (b : Bool). newest_moment (access_of base) (marks_by past port stamp octets b) ≤ moment_at base past stamp) (sym is) after;
+        };
+        front = subst (λ (b : Bool). HasFront (moment_at base past stamp) (marks plan base past) (marks_by past port stamp octets b)) (sym is) (nothing_told past (moment_at base past stamp));
+      }
+
   one_more : (past : List Row) (event : Event) → IsLegal plan base past → IsTold plan base past → MayCome plan base past event → IsBytes (row_of plan base past event).octets → IsNext past (row_of plan base past event)
   one_more past (Frame port stamp octets) legal told may bytes =
       let t = moment_at base past stamp in
@@ -89,7 +122,12 @@ module _ (plan : Plan) (valid : IsValidPlan plan) (base : Base) (within : IsWith
       let after : newest_moment (access_of base) (marks plan base past) ≤ moment_at base past stamp = omega (arith, told.last) in
       let all = judged_marks (rules_of plan) (access_of base) within.access the_vlan port (moment_at base past stamp) soon (marks plan base past) told.right after (class_of octets) (lifetimes octets bytes)
       (λ host. own_ports plan (number_of port) may.0.open_pass.known host) in
-      record { told = record { right = all.0; last = all.1 }; front = all.2 }
+      frame_next past port stamp octets told after (is_shut base (number_of port) past) refl all.0 all.1 all.2
+  one_more past (Command stamp line) legal told may bytes =
+      let soon : moment_at base past stamp ≤ 2 ^ 62 = stays_early plan base past (Command stamp line) (early past legal) in
+      let after : newest_moment (access_of base) (marks plan base past) ≤ moment_at base past stamp = omega (arith, told.last) in
+      let all = commanded_right plan valid base within (moment_at base past stamp) soon (marks plan base past) told.right after (command_of line) in
+      record { told = record { right = all.legal; last = all.last }; front = all.front }
   one_more past (Long port stamp len) legal told may bytes = record { told = record { right = told.right; last = omega (arith, told.last) }; front = nothing_told past (moment_at base past stamp) }
   one_more past (Tick stamp) legal told may bytes = record { told = record { right = told.right; last = omega (arith, told.last) }; front = nothing_told past (moment_at base past stamp) }
   one_more past (Drain port count) legal told may bytes = record { told = record { right = told.right; last = told.last }; front = nothing_told past (last_moment base past) }
@@ -109,6 +147,13 @@ module _ (plan : Plan) (valid : IsValidPlan plan) (base : Base) (within : IsWith
   pub next_told : (r : Row) (past : List Row) → IsLegal plan base (r ∷ past) → AreOctets (r ∷ past) → IsNext past r
   next_told r past legal bytes = mutual_next r past legal bytes (told_rightly past legal.1 (All-tail (λ (x : Row). IsBytes x.octets) r past bytes))
 
+  -- no frame passes at a shut port
+  unless_shut : (shut : Bool) (told : List Mark) (port : Port) (t : ℕ) (class : Class)
+      → (IsPass (Some (judged_after plan base false told port t class).verdict) ↔ HasAccess (rules_of plan) (access_of base) the_vlan port t told class)
+      → (IsPass (Some (judged_after plan base shut told port t class).verdict) ↔ ((shut ≡ false) × HasAccess (rules_of plan) (access_of base) the_vlan port t told class))
+  unless_shut false told port t class both = (λ pass. (refl, both.0 pass), λ has. both.1 has.1)
+  unless_shut true told port t class both = (λ pass. absurd pass, λ has. absurd (false≢true (sym has.0)))
+
   module _ (on : plan.savi ≡ true) where
     event_passed : (past : List Row) (event : Event) → IsLegal plan base past → IsTold plan base past → MayCome plan base past event → PassedRightly plan base past (row_of plan base past event)
     event_passed past (Frame port stamp octets) legal told may at_port frame host ipv6 =
@@ -117,8 +162,9 @@ module _ (plan : Plan) (valid : IsValidPlan plan) (base : Base) (within : IsWith
         let after : newest_moment (access_of base) (marks plan base past) ≤ moment_at base past stamp = omega (arith, told.last) in
         let here : role_of plan (number_of port) ≢ roles.Trusted = subst (λ (p : Port). role_of plan (number_of p) ≢ roles.Trusted) (sym same) host in
         subst (λ (p : Port). IsPass (row_of plan base past (Frame port stamp octets)).entry.verdict ↔ HadAccess plan base past (row_of plan base past (Frame port stamp octets)) p) same
-        (accessed (rules_of plan) (access_of base) within.access the_vlan port (moment_at base past stamp) soon (marks plan base past) told.right after
-        (own_ports plan (number_of port) may.0.open_pass.known here) on (unspecified_off_link plan valid) (class_of octets) here ipv6)
+        (unless_shut (is_shut base (number_of port) past) (marks plan base past) port (moment_at base past stamp) (class_of octets) (accessed (rules_of plan) (access_of base) within.access the_vlan port (moment_at base past stamp) soon (marks plan base past) told.right after
+        (own_ports plan (number_of port) may.0.open_pass.known here) on (unspecified_off_link plan valid) (class_of octets) here ipv6))
+    event_passed past (Command stamp line) legal told may at_port frame host ipv6 = absurd (false≢true (ap is_frame frame.frame))
     event_passed past (Long port stamp len) legal told may at_port frame host ipv6 = absurd (false≢true (ap is_frame frame.frame))
     event_passed past (Tick stamp) legal told may at_port frame host ipv6 = absurd (false≢true (ap is_frame frame.frame))
     event_passed past (Drain port count) legal told may at_port frame host ipv6 = absurd (false≢true (ap is_frame frame.frame))

@@ -13,9 +13,10 @@ use Rattle.hist_store.specs.Rows.{Row}
 use Rattle.savi_history.specs.Bases.{Base}
 use Rattle.savi_history.specs.Moments.{moment_at}
 use Rattle.savi_history.specs.Vlans.{the_vlan}
+use Rattle.savi_history.specs.ShutPorts.{is_shut}
 use Rattle.savi_history.specs.Marks.{marks, judged_after}
 use Rattle.savi_history.specs.Judged.{verdict_of}
-use Rattle.savi_history.specs.Outs.{outs, outs_by}
+use Rattle.savi_history.specs.Outs.{outs, outs_by, without_shut}
 use Rattle.savi_history.specs.Stations.{stations, port_among, ethernet_of}
 use Rattle.savi_history.specs.Events.{tick_row, outs_of}
 use Rattle.savi_history.specs.Ticks.{TickLeaves}
@@ -37,19 +38,20 @@ module _ (plan : Plan) (base : Base) (past : List Row) (stamp : ℕ) where
 
   verdict_left : (port : Port) (next : ℕ) (octets : List ℕ) → moment_at base past stamp ≤ moment_at base past next → verdict_of plan base ticked port next octets ≡ verdict_of plan base past port next octets
   verdict_left port next octets later =
-      ap (λ (t : ℕ). (judged_after plan base (marks plan base past) port t (class_of octets)).verdict) (same_moment next later)
+      ap (λ (t : ℕ). (judged_after plan base (is_shut base (number_of port) past) (marks plan base past) port t (class_of octets)).verdict) (same_moment next later)
 
   outs_left : (port : Port) (next : ℕ) (octets : List ℕ) → moment_at base past stamp ≤ moment_at base past next → outs_of plan base ticked port next octets ≡ outs_of plan base past port next octets
   outs_left port next octets later =
       ap (λ (t : ℕ). outs the_vlan plan base ticked (number_of port) t octets (verdict_of plan base ticked port next octets)) (same_moment next later)
       ∙ ap (λ (v : Verdict). outs the_vlan plan base ticked (number_of port) (moment_at base past next) octets v) (verdict_left port next octets later)
-      ∙ ap (λ (live : List Station). outs_by plan (number_of port) (port_among live (ethernet_of octets)) (verdict_of plan base past port next octets)) (stations_left (moment_at base past next) the_vlan later)
+      ∙ ap (λ (live : List Station). without_shut plan base past (outs_by plan (number_of port) (port_among live (ethernet_of octets)) (verdict_of plan base past port next octets))) (stations_left (moment_at base past next) the_vlan later)
 
   pub tick_leaves : TickLeaves plan base past stamp
   tick_leaves = record {
     states = λ t vlan a later. refl;
     requests = λ t vlan later. refl;
     stations = stations_left;
+    shut = λ q. refl;
     verdicts = verdict_left;
     outs = outs_left;
   }

@@ -1,6 +1,8 @@
 -- A switch that validates no sources: nothing is told, and the rules on messages decide alone.
-use Rattle.std.proofs.Common.{◌≡◌, ℕ, false, Option, Some, None, List, [], ◌∷◌, ◌++◌, map, refl, ap, ◌∙◌}
+use Rattle.std.proofs.Common.{◌≡◌, ◌⊎◌, ◌==◌, ℕ, Bool, true, false, if◌then◌else◌, Option, Some, None, Result, Ok, Err, List, [], ◌∷◌, ◌++◌, All, map, filter, refl, sym, ap, subst, ◌∙◌, inl, inr}
+use Rattle.std.proofs.lemmas.List.Elements.{All-nil, All-cons, All-head, All-tail, All-append, All-filter}
 use Rattle.savi_kinds.specs.declared.plan.Plan.{Plan}
+use Rattle.savi_kinds.specs.declared.plan.Method.{Method}
 use Rattle.savi_kinds.specs.declared.port.Port.{Port}
 use Rattle.savi_kinds.specs.declared.verdict.Rule.{Rule}
 use Rattle.savi_kinds.specs.declared.entry.Act.{Act}
@@ -9,19 +11,38 @@ use Rattle.savi_kinds.specs.Ports.{number_of}
 use Rattle.frame_class.specs.declared.classes.Class.{Class}
 use Rattle.frame_class.specs.ClassOf.{class_of}
 use Rattle.ra_guard.specs.GuardOf.{guard_of}
+use Rattle.fcfs_states.specs.declared.state.Fcfs.{Fcfs}
+use Rattle.fcfs_states.specs.declared.state.Fcfs.TheVariants.{NoBind}
+use Rattle.fcfs_states.specs.Aged.{aged_by, aged}
+use Rattle.fcfs_states.specs.declared.times.Times.{Times}
+use Rattle.fcfs_states.specs.declared.answer.Probe.{Probe}
+use Rattle.mix_rules.specs.States.{has_state}
+use Rattle.mix_rules.specs.declared.state.AddrState.{AddrState}
 use Rattle.bind_table.specs.declared.row.Row.{Row as State}
+use Rattle.bind_table.specs.Rows.{address_of, row_of, rows_of, is_below, is_above, state_in, with_state}
 use Rattle.addr_table.specs.declared.sent.SentProbe.{SentProbe}
-use Rattle.addr_table.specs.Sends.{sends_after}
-use Rattle.addr_history.specs.Probes.{probes_between}
+use Rattle.addr_table.specs.Sends.{sent_of, all_sends}
+use Rattle.addr_history.specs.Bases.{AddrRules, AddrBase}
+use Rattle.addr_history.specs.Marks.{Named, mark_of}
+use Rattle.addr_history.specs.States.{outcome_by, outcome_of}
+use Rattle.addr_history.specs.Tables.{rows_with, rows_after}
 use Rattle.hist_store.specs.Rows.{Row}
-use Rattle.savi_access.specs.Marks.{Mark, told}
+use Rattle.savi_access.specs.Marks.{Mark, Told, Asked, Met, told}
 use Rattle.savi_access.specs.Judged.{Judged, judged_without}
 use Rattle.savi_access.specs.Plans.{rules_of, role_of}
 use Rattle.savi_access.proofs.Trusting.{without}
 use Rattle.savi_history.specs.Bases.{Base, access_of}
-use Rattle.savi_history.specs.Moments.{last_moment, moment_at}
+use Rattle.savi_history.specs.Moments.{moment_at}
 use Rattle.savi_history.specs.Vlans.{the_vlan}
-use Rattle.savi_history.specs.Marks.{judged_after, marked, marks}
+use Rattle.fcfs_states.specs.declared.event.Ev.TheVariants.{Fix, Clear}
+use Rattle.cli_lang.specs.declared.kinds.Command.{Command as Order}
+use Rattle.cli_lang.specs.declared.kinds.Command.TheVariants as orders
+use Rattle.cli_lang.specs.declared.kinds.CmdFault.{CmdFault}
+use Rattle.cli_lang.specs.CommandOf.{command_of}
+use Rattle.control_replies.specs.declared.refusal.Refusal.{Refusal}
+use Rattle.savi_history.specs.ShutPorts.{is_shut}
+use Rattle.savi_history.specs.Commands.{rows_after as table_after, refusal_of, ordered_unless}
+use Rattle.savi_history.specs.Marks.{judged_after, marked, marks, IsOfOperator}
 use Rattle.savi_history.specs.Judged.{judged_of}
 use Rattle.savi_history.specs.Offers.{offer_of, due_by, in_answer, probes_of, offers}
 
@@ -33,41 +54,121 @@ probe_without : (past : List Mark) (rule : Option Rule) → (judged_without past
 probe_without past None = refl
 probe_without past (Some rule) = refl
 
+-- a state of which ageing sends no probe: the operator's, or none
+abbrev IsQuiet : State → Type 0
+IsQuiet row = row.state.fcfs ≡ NoBind
+
+abbrev AreQuiet : List State → Type 0
+AreQuiet rows = All IsQuiet rows
+
+nobody_asks : (k : Times) (t : ℕ) → (aged k t NoBind).probes ≡ []
+unfolding aged aged_by
+nobody_asks k t = refl
+
+no_sends : (k : Times) (t : ℕ) (rows : List State) → AreQuiet rows → all_sends k t rows ≡ []
+no_sends k t [] quiet = refl
+no_sends k t (row ∷ rows) quiet =
+    let here : row.state.fcfs ≡ NoBind = All-head IsQuiet row rows quiet in
+    ap (λ (fcfs : Fcfs). sent_of (address_of row) (aged k t fcfs).probes ++ all_sends k t rows) here
+    ∙ ap (λ (probes : List (ℕ × Probe)). sent_of (address_of row) probes ++ all_sends k t rows) (nobody_asks k t)
+    ∙ no_sends k t rows (All-tail IsQuiet row rows quiet)
+
+-- the operator's event leaves such a state
+quiet_event : (r : AddrRules) (named : Named) (s : AddrState) → ((named.event ≡ Clear) ⊎ ((port : Port) × (named.event ≡ Fix port))) → (outcome_of r named s).1.fcfs ≡ NoBind
+quiet_event r named s is = by_method (r.method_of named.vlan named.address) is
+  where
+    by_method : (m : Option Method) → ((named.event ≡ Clear) ⊎ ((port : Port) × (named.event ≡ Fix port))) → (outcome_by m r.times (mark_of named) s).1.fcfs ≡ NoBind
+    by_method None is = refl
+    by_method (Some m) (inl clear) = rw clear refl
+    by_method (Some m) (inr fix) = rw fix.1 refl
+
+quiet_rows : (a : ℕ) (state : AddrState) (rows : List State) → state.fcfs ≡ NoBind → AreQuiet rows → AreQuiet (with_state a state rows)
+quiet_rows a state rows quiet all =
+    All-append IsQuiet (filter (is_below a) rows) (rows_of a state ++ filter (is_above a) rows) (All-filter (is_below a) IsQuiet rows all)
+    (All-append IsQuiet (rows_of a state) (filter (is_above a) rows) (own (has_state state)) (All-filter (is_above a) IsQuiet rows all))
+  where
+    own : (b : Bool) → AreQuiet (if b then row_of a state ∷ [] else [])
+    own true = All-cons IsQuiet (row_of a state) [] quiet (All-nil IsQuiet)
+    own false = All-nil IsQuiet
+
+quiet_after : (r : AddrRules) (base : AddrBase) (vlan : ℕ) (marks : List Mark) → AreQuiet (base.rows vlan) → All IsOfOperator marks → AreQuiet (rows_after r base (told marks) vlan)
+quiet_after r base vlan [] quiet all = quiet
+quiet_after r base vlan (Told named ∷ marks) quiet all =
+    let before = quiet_after r base vlan marks quiet (All-tail IsOfOperator (Told named) marks all) in
+    by_vlan (named.vlan == vlan) before
+  where
+    by_vlan : (b : Bool) → AreQuiet (rows_after r base (told marks) vlan) → AreQuiet (if b then rows_with r named (rows_after r base (told marks) vlan) else rows_after r base (told marks) vlan)
+    by_vlan true before =
+        quiet_rows named.address (outcome_of r named (state_in (rows_after r base (told marks) vlan) named.address)).1 (rows_after r base (told marks) vlan)
+        (quiet_event r named (state_in (rows_after r base (told marks) vlan) named.address) (All-head IsOfOperator (Told named) marks all)) before
+    by_vlan false before = before
+quiet_after r base vlan (Asked of request ∷ marks) quiet all = absurd (All-head IsOfOperator (Asked of request) marks all)
+quiet_after r base vlan (Met of moment tid duid ∷ marks) quiet all = absurd (All-head IsOfOperator (Met of moment tid duid) marks all)
+
 module _ (plan : Plan) (base : Base) (off : plan.savi ≡ false) where
-  plainly : (past : List Mark) (port : Port) (t : ℕ) (class : Class) → judged_after plan base past port t class ≡ judged_without past (guard_of (role_of plan (number_of port)) plan.drop_unknown class)
+  abbrev guard_at : Port → Class → Option Rule
+  guard_at port class = guard_of (role_of plan (number_of port)) plan.drop_unknown class
+
+  plainly : (past : List Mark) (port : Port) (t : ℕ) (class : Class) → judged_after plan base false past port t class ≡ judged_without past (guard_at port class)
   plainly past port t class = without (rules_of plan) (access_of base) the_vlan port t past class off
 
-  marked_plainly : (r : Row) (act : Act) (past : List Mark) → marked plan base r act past ≡ past
-  marked_plainly r (Frame port stamp at len) past =
-      ap (λ (j : Judged). j.marks) (plainly past port r.entry.moment (class_of r.octets)) ∙ marks_without past (guard_of (role_of plan (number_of port)) plan.drop_unknown (class_of r.octets))
-  marked_plainly r (Long port stamp len) past = refl
-  marked_plainly r (Tick stamp) past = refl
-  marked_plainly r (Command stamp at len) past = refl
-  marked_plainly r (Drain port count) past = refl
-  marked_plainly r (End who how) past = refl
+  -- no frame tells anything, at a port that is shut or not
+  frame_tells_nothing : (shut : Bool) (past : List Mark) (port : Port) (t : ℕ) (class : Class) → (judged_after plan base shut past port t class).marks ≡ past
+  frame_tells_nothing true past port t class = refl
+  frame_tells_nothing false past port t class = ap (λ (j : Judged). j.marks) (plainly past port t class) ∙ marks_without past (guard_at port class)
 
-  -- nothing is told
-  pub no_marks : (past : List Row) → marks plan base past ≡ []
-  no_marks [] = refl
-  no_marks (r ∷ past) = marked_plainly r r.entry.act (marks plan base past) ∙ no_marks past
+  frame_asks_nothing : (shut : Bool) (past : List Mark) (port : Port) (t : ℕ) (class : Class) → (judged_after plan base shut past port t class).probe ≡ None
+  frame_asks_nothing true past port t class = refl
+  frame_asks_nothing false past port t class = ap (λ (j : Judged). j.probe) (plainly past port t class) ∙ probe_without past (guard_at port class)
+
+  ordered_by_operator : (t : ℕ) (order : Result Order CmdFault) (refusal : Option Refusal) (past : List Mark) → All IsOfOperator past → All IsOfOperator (ordered_unless plan (access_of base) t order refusal past)
+  ordered_by_operator t order (Some refusal) past all = all
+  ordered_by_operator t (Err fault) None past all = all
+  ordered_by_operator t (Ok (orders.Static address port)) None past all = All-cons IsOfOperator _ past (inr (port, refl)) all
+  ordered_by_operator t (Ok (orders.Clear address)) None past all = All-cons IsOfOperator _ past (inl refl) all
+  ordered_by_operator t (Ok (orders.Shut port)) None past all = all
+  ordered_by_operator t (Ok (orders.Reopen port)) None past all = all
+  ordered_by_operator t (Ok orders.ShowBindings) None past all = all
+  ordered_by_operator t (Ok orders.ShowPorts) None past all = all
+  ordered_by_operator t (Ok orders.ShowCounters) None past all = all
+  ordered_by_operator t (Ok orders.ShowStations) None past all = all
+  ordered_by_operator t (Ok orders.Quit) None past all = all
+
+  marked_by_operator : (rows : List Row) (r : Row) (act : Act) (past : List Mark) → All IsOfOperator past → All IsOfOperator (marked plan base rows r act past)
+  marked_by_operator rows r (Frame port stamp at len) past all =
+      subst (λ (marks : List Mark). All IsOfOperator marks) (sym (frame_tells_nothing (is_shut base (number_of port) rows) past port r.entry.moment (class_of r.octets))) all
+  marked_by_operator rows r (Long port stamp len) past all = all
+  marked_by_operator rows r (Tick stamp) past all = all
+  marked_by_operator rows r (Command stamp at len) past all =
+      ordered_by_operator r.entry.moment (command_of r.octets) (refusal_of plan (table_after plan (access_of base) past r.entry.moment) (command_of r.octets)) past all
+  marked_by_operator rows r (Drain port count) past all = all
+  marked_by_operator rows r (End who how) past all = all
+
+  -- what is told is the operator's
+  pub operators_marks : (past : List Row) → All IsOfOperator (marks plan base past)
+  operators_marks [] = All-nil IsOfOperator
+  operators_marks (r ∷ past) = marked_by_operator past r r.entry.act (marks plan base past) (operators_marks past)
 
   -- the guard decides
-  pub judged_plainly : (past : List Row) (port : Port) (stamp : ℕ) (octets : List ℕ) → judged_of plan base past port stamp octets ≡ judged_without [] (guard_of (role_of plan (number_of port)) plan.drop_unknown (class_of octets))
-  judged_plainly past port stamp octets =
-      plainly (marks plan base past) port (moment_at base past stamp) (class_of octets)
-      ∙ ap (λ (all : List Mark). judged_without all (guard_of (role_of plan (number_of port)) plan.drop_unknown (class_of octets))) (no_marks past)
+  pub judged_plainly : (past : List Row) (port : Port) (stamp : ℕ) (octets : List ℕ) → is_shut base (number_of port) past ≡ false → judged_of plan base past port stamp octets ≡ judged_without (marks plan base past) (guard_at port (class_of octets))
+  judged_plainly past port stamp octets unshut =
+      ap (λ (b : Bool). judged_after plan base b (marks plan base past) port (moment_at base past stamp) (class_of octets)) unshut
+      ∙ plainly (marks plan base past) port (moment_at base past stamp) (class_of octets)
 
   module _ (bare : base.rows the_vlan ≡ []) where
+    quiet_base : AreQuiet (base.rows the_vlan)
+    quiet_base = subst AreQuiet (sym bare) (All-nil IsQuiet)
+
     none_due : (past : List Row) (moment : ℕ) → due_by plan base past moment ≡ []
     none_due past moment =
-        ap (λ (all : List Mark). probes_between (rules_of plan).addresses (access_of base).addresses (told all) (last_moment base past) moment the_vlan) (no_marks past)
-        ∙ ap (λ (rows : List State). sends_after (rules_of plan).addresses.times (last_moment base past) moment rows) bare
+        let rules = (rules_of plan).addresses in
+        rw (no_sends rules.times moment (rows_after rules (access_of base).addresses (told (marks plan base past)) the_vlan)
+        (quiet_after rules (access_of base).addresses the_vlan (marks plan base past) quiet_base (operators_marks past))) refl
 
     none_of : (past : List Row) (act : Act) (octets : List ℕ) → probes_of plan base past act octets ≡ []
     none_of past (Frame port stamp at len) octets =
         ap (λ (due : List SentProbe). due ++ in_answer (judged_of plan base past port stamp octets).probe) (none_due past (moment_at base past stamp))
-        ∙ ap (λ (j : Judged). in_answer j.probe) (judged_plainly past port stamp octets)
-        ∙ ap in_answer (probe_without [] (guard_of (role_of plan (number_of port)) plan.drop_unknown (class_of octets)))
+        ∙ ap in_answer (frame_asks_nothing (is_shut base (number_of port) past) (marks plan base past) port (moment_at base past stamp) (class_of octets))
     none_of past (Long port stamp len) octets = none_due past (moment_at base past stamp)
     none_of past (Tick stamp) octets = none_due past (moment_at base past stamp)
     none_of past (Command stamp at len) octets = none_due past (moment_at base past stamp)

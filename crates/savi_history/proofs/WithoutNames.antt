@@ -1,6 +1,6 @@
 -- The row of an event doesn't depend on the names of a plan.
-use Rattle.std.proofs.Common.{◌≡◌, ℕ, ◌+◌, ◌-◌, ◌==◌, ◌&&◌, not, nat_le, if◌then◌else◌, Bool, true, false, if◌then◌else◌, Option, List, [], ◌∷◌, ◌++◌, length, map, refl, ap, sym, ◌∙◌}
-use Rattle.std.specs.List.{filter}
+use Rattle.std.proofs.Common.{◌≡◌, ℕ, ◌+◌, ◌-◌, ◌==◌, ◌&&◌, not, nat_le, if◌then◌else◌, Bool, true, false, Option, Some, None, is_some, Result, Ok, Err, List, [], ◌∷◌, ◌++◌, length, map, refl, ap, sym, ◌∙◌}
+use Rattle.std.specs.List.{filter, list_any}
 use Rattle.std.proofs.Math.Path.{fun_ext}
 use Rattle.std.proofs.lemmas.List.{length-map}
 use Rattle.std.proofs.lemmas.List.Elements.{filter_agree}
@@ -34,16 +34,29 @@ use Rattle.frame_class.specs.ClassOf.{class_of}
 use Rattle.addr_table.specs.declared.sent.SentProbe.{SentProbe}
 use Rattle.addr_history.specs.Probes.{probes_between}
 use Rattle.savi_access.specs.Rules.{AccessRules}
-use Rattle.savi_access.specs.Marks.{Mark, told}
+use Rattle.savi_access.specs.Marks.{Mark, Told, told}
 use Rattle.savi_access.specs.Judged.{Judged, judged}
-use Rattle.savi_access.specs.Plans.{vlan_by, vlan_among, rules_of}
+use Rattle.savi_access.specs.Plans.{has_port, role_of, vlan_by, vlan_among, method_in, rules_of}
 use Rattle.savi_history.specs.Vlans.{the_vlan}
+use Rattle.fcfs_states.specs.declared.event.Ev.{Ev}
+use Rattle.fcfs_states.specs.declared.event.Ev.TheVariants.{Fix, Clear}
+use Rattle.bind_table.specs.declared.row.Row.{Row as State}
+use Rattle.addr_table.specs.Rooms.{room_for}
+use Rattle.addr_history.specs.Tables.{rows_at}
+use Rattle.cli_lang.specs.declared.kinds.Command.{Command as Order}
+use Rattle.cli_lang.specs.declared.kinds.Command.TheVariants as orders
+use Rattle.cli_lang.specs.declared.kinds.CmdFault.{CmdFault}
+use Rattle.cli_lang.specs.CommandOf.{command_of}
+use Rattle.control_replies.specs.declared.refusal.Refusal.{Refusal}
+use Rattle.control_replies.specs.declared.refusal.Refusal.TheVariants as refusals
+use Rattle.savi_history.specs.ShutPorts.{is_shut}
+use Rattle.savi_history.specs.Commands.{rows_after, may_hold, refusal_of, with_mark, ordered_unless, commanded}
 use Rattle.savi_history.specs.Marks.{judged_after, marked, marks}
 use Rattle.savi_history.specs.Judged.{judged_of, verdict_of}
 use Rattle.savi_history.specs.Stations.{known_port}
-use Rattle.savi_history.specs.Outs.{is_in_scope, directed, outs}
+use Rattle.savi_history.specs.Outs.{is_in_scope, directed, outs_by, without_shut, outs}
 use Rattle.savi_history.specs.Queues.{Item, probe_item, is_probed, offered_at, room_at, all_joined, probed, framed, waiting_after, queue, queued_at, lost_at, over_ports, probes, lost, is_closed, cuts}
-use Rattle.savi_history.specs.Events.{Event, Frame, Long, Tick, Drain, End, frame_act, plain_row, outs_of, row_of}
+use Rattle.savi_history.specs.Events.{Event, Frame, Long, Command, Tick, Drain, End, frame_act, command_act, plain_row, outs_of, row_of}
 use Rattle.savi_history.specs.Journals.{without_port_names, without_names}
 
 numbers_kept : (ports : List PortPlan) → numbers_of (map without_port_names ports) ≡ numbers_of ports
@@ -99,25 +112,78 @@ rules_kept plan =
     ∙ ap (λ (vlans : ℕ → Option ℕ). rules_by plan (role_among plan.ports) vlans) (fun_ext (vlan_among_kept plan.ports))
 
 module _ (plan : Plan) (base : Base) where
-  after_is : (past : List Mark) (port : Port) (moment : ℕ) (class : Class) → judged_after (without_names plan) base past port moment class ≡ judged_after plan base past port moment class
-  after_is past port moment class = ap (λ (r : AccessRules). judged r (access_of base) the_vlan port moment past class) (rules_kept plan)
+  after_is : (shut : Bool) (past : List Mark) (port : Port) (moment : ℕ) (class : Class) → judged_after (without_names plan) base shut past port moment class ≡ judged_after plan base shut past port moment class
+  after_is true past port moment class = refl
+  after_is false past port moment class = ap (λ (r : AccessRules). judged r (access_of base) the_vlan port moment past class) (rules_kept plan)
 
-  marked_kept : (r : Row) (act : Act) (past : List Mark) → marked (without_names plan) base r act past ≡ marked plan base r act past
-  marked_kept r (acts.Frame port stamp at len) past = ap (λ (j : Judged). j.marks) (after_is past port r.entry.moment (class_of r.octets))
-  marked_kept r (acts.Long port stamp len) past = refl
-  marked_kept r (acts.Tick stamp) past = refl
-  marked_kept r (acts.Command stamp at len) past = refl
-  marked_kept r (acts.Drain port count) past = refl
-  marked_kept r (acts.End who how) past = refl
+  table_kept : (past : List Mark) (moment : ℕ) → rows_after (without_names plan) (access_of base) past moment ≡ rows_after plan (access_of base) past moment
+  table_kept past moment = ap (λ (r : AccessRules). rows_at r.addresses (access_of base).addresses (told past) moment the_vlan) (rules_kept plan)
+
+  -- why an address isn't fixed to a port of this role, if there is one
+  abbrev static_by : List State → ℕ → Port → Bool → Role → Option Refusal
+  static_by rows a port known role =
+      if not known then Some refusals.NoSuchPort
+      else if is_trusted role then Some refusals.TrustedPort
+      else if not (is_some (method_in plan a)) then Some refusals.OffLink
+      else if not (may_hold plan rows port a) then Some refusals.PortFull
+      else None
+
+  known_kept : (number : ℕ) → has_port (without_names plan) number ≡ has_port plan number
+  known_kept number = ap (λ (numbers : List ℕ). list_any (λ n. n == number) numbers) (numbers_kept plan.ports)
+
+  refusal_kept : (rows : List State) (order : Result Order CmdFault) → refusal_of (without_names plan) rows order ≡ refusal_of plan rows order
+  refusal_kept rows (Err fault) = refl
+  refusal_kept rows (Ok (orders.Static address port)) =
+      ap (λ (known : Bool). static_by rows address.0 port known (role_of (without_names plan) (number_of port))) (known_kept (number_of port))
+      ∙ ap (λ (role : Role). static_by rows address.0 port (has_port plan (number_of port)) role) (role_among_kept plan.ports (number_of port))
+  refusal_kept rows (Ok (orders.Clear address)) = refl
+  refusal_kept rows (Ok (orders.Shut port)) = ap (λ (known : Bool). if known then None else Some refusals.NoSuchPort) (known_kept (number_of port))
+  refusal_kept rows (Ok (orders.Reopen port)) = ap (λ (known : Bool). if known then None else Some refusals.NoSuchPort) (known_kept (number_of port))
+  refusal_kept rows (Ok orders.ShowBindings) = refl
+  refusal_kept rows (Ok orders.ShowPorts) = refl
+  refusal_kept rows (Ok orders.ShowCounters) = refl
+  refusal_kept rows (Ok orders.ShowStations) = refl
+  refusal_kept rows (Ok orders.Quit) = refl
+
+  mark_kept : (moment a : ℕ) (event : Ev) (past : List Mark) → with_mark (without_names plan) (access_of base) moment a event past ≡ with_mark plan (access_of base) moment a event past
+  mark_kept moment a event past =
+      ap (λ (rows : List State). Told (record { vlan = the_vlan; address = a; moment = moment; event = event; room = room_for plan.per_port rows event }) ∷ past) (table_kept past moment)
+
+  unless_kept : (moment : ℕ) (order : Result Order CmdFault) (refusal : Option Refusal) (past : List Mark) → ordered_unless (without_names plan) (access_of base) moment order refusal past ≡ ordered_unless plan (access_of base) moment order refusal past
+  unless_kept moment order (Some refusal) past = refl
+  unless_kept moment (Err fault) None past = refl
+  unless_kept moment (Ok (orders.Static address port)) None past = mark_kept moment address.0 (Fix port) past
+  unless_kept moment (Ok (orders.Clear address)) None past = mark_kept moment address.0 Clear past
+  unless_kept moment (Ok (orders.Shut port)) None past = refl
+  unless_kept moment (Ok (orders.Reopen port)) None past = refl
+  unless_kept moment (Ok orders.ShowBindings) None past = refl
+  unless_kept moment (Ok orders.ShowPorts) None past = refl
+  unless_kept moment (Ok orders.ShowCounters) None past = refl
+  unless_kept moment (Ok orders.ShowStations) None past = refl
+  unless_kept moment (Ok orders.Quit) None past = refl
+
+  commanded_kept : (moment : ℕ) (order : Result Order CmdFault) (past : List Mark) → commanded (without_names plan) (access_of base) moment order past ≡ commanded plan (access_of base) moment order past
+  commanded_kept moment order past =
+      unless_kept moment order (refusal_of (without_names plan) (rows_after (without_names plan) (access_of base) past moment) order) past
+      ∙ ap (λ (refusal : Option Refusal). ordered_unless plan (access_of base) moment order refusal past)
+      (refusal_kept (rows_after (without_names plan) (access_of base) past moment) order ∙ ap (λ (rows : List State). refusal_of plan rows order) (table_kept past moment))
+
+  marked_kept : (rows : List Row) (r : Row) (act : Act) (past : List Mark) → marked (without_names plan) base rows r act past ≡ marked plan base rows r act past
+  marked_kept rows r (acts.Frame port stamp at len) past = ap (λ (j : Judged). j.marks) (after_is (is_shut base (number_of port) rows) past port r.entry.moment (class_of r.octets))
+  marked_kept rows r (acts.Long port stamp len) past = refl
+  marked_kept rows r (acts.Tick stamp) past = refl
+  marked_kept rows r (acts.Command stamp at len) past = commanded_kept r.entry.moment (command_of r.octets) past
+  marked_kept rows r (acts.Drain port count) past = refl
+  marked_kept rows r (acts.End who how) past = refl
 
   marks_kept : (past : List Row) → marks (without_names plan) base past ≡ marks plan base past
   marks_kept [] = refl
-  marks_kept (r ∷ past) = marked_kept r r.entry.act (marks (without_names plan) base past) ∙ ap (λ (all : List Mark). marked plan base r r.entry.act all) (marks_kept past)
+  marks_kept (r ∷ past) = marked_kept past r r.entry.act (marks (without_names plan) base past) ∙ ap (λ (all : List Mark). marked plan base past r r.entry.act all) (marks_kept past)
 
   judged_kept : (past : List Row) (port : Port) (stamp : ℕ) (octets : List ℕ) → judged_of (without_names plan) base past port stamp octets ≡ judged_of plan base past port stamp octets
   judged_kept past port stamp octets =
-      after_is (marks (without_names plan) base past) port (moment_at base past stamp) (class_of octets)
-      ∙ ap (λ (all : List Mark). judged_after plan base all port (moment_at base past stamp) (class_of octets)) (marks_kept past)
+      after_is (is_shut base (number_of port) past) (marks (without_names plan) base past) port (moment_at base past stamp) (class_of octets)
+      ∙ ap (λ (all : List Mark). judged_after plan base (is_shut base (number_of port) past) all port (moment_at base past stamp) (class_of octets)) (marks_kept past)
 
   due_kept : (past : List Row) (moment : ℕ) → due_by (without_names plan) base past moment ≡ due_by plan base past moment
   due_kept past moment =
@@ -156,10 +222,14 @@ others_kept : (scope : Scope) (port : ℕ) (ports : List PortPlan) → numbers_o
 others_kept scope port [] = refl
 others_kept scope port (p ∷ ports) = rw (test_kept scope port p) (others_at scope port p ports (is_other scope port p) (others_kept scope port ports))
 
+outs_by_kept : (plan : Plan) (port : ℕ) (known : Option Port) (verdict : Verdict) → outs_by (without_names plan) port known verdict ≡ outs_by plan port known verdict
+outs_by_kept plan port known (Pass scope) = ap (λ (ns : List ℕ). set_of (directed known ns)) (others_kept scope port plan.ports)
+outs_by_kept plan port known (Drop rule) = refl
+
 outs_kept : (plan : Plan) (base : Base) (past : List Row) (port moment : ℕ) (octets : List ℕ) (verdict : Verdict) → outs the_vlan (without_names plan) base past port moment octets verdict ≡ outs the_vlan plan base past port moment octets verdict
-outs_kept plan base past port moment octets (Pass scope) =
-    ap (λ (ns : List ℕ). set_of (directed (known_port the_vlan base past moment octets) ns)) (others_kept scope port plan.ports)
-outs_kept plan base past port moment octets (Drop rule) = refl
+outs_kept plan base past port moment octets verdict =
+    ap (λ (numbers : List ℕ). set_of (filter (λ q. is_member (outs_by (without_names plan) port (known_port the_vlan base past moment octets) verdict) q && not (is_shut base q past)) numbers)) (numbers_kept plan.ports)
+    ∙ ap (λ (set : PortSet). without_shut plan base past set) (outs_by_kept plan port (known_port the_vlan base past moment octets) verdict)
 
 -- what waits
 
@@ -176,7 +246,7 @@ module _ (plan : Plan) (base : Base) where
   room_kept past q = ap (λ (pass : ℕ). if has_ended base pass past then 0 else plan.depth) (egress_kept q)
 
   probed_port_kept : (past : List Row) (q : ℕ) (probe : Probe) → is_probed bare base past q probe ≡ is_probed plan base past q probe
-  probed_port_kept past q Trusted = ap is_trusted (role_among_kept plan.ports q)
+  probed_port_kept past q Trusted = ap (λ (role : Role). is_trusted role && not (is_shut base q past)) (role_among_kept plan.ports q)
   probed_port_kept past q (To port) = refl
 
   offers_kept : (past : List Row) (act : Act) (octets : List ℕ) → offers bare base past act octets ≡ offers plan base past act octets
@@ -282,6 +352,11 @@ row_kept plan base past (Long port stamp len) =
     let by = pass_kept plan (passes.Ingress port) in
     let queued = probes_kept plan base past (acts.Long port stamp len) [] in
     let missed = lost_kept plan base past (acts.Long port stamp len) [] in
+    cc (by, queued, missed)
+row_kept plan base past (Command stamp line) =
+    let by = pass_kept plan passes.Control in
+    let queued = probes_kept plan base past (command_act past stamp line) line in
+    let missed = lost_kept plan base past (command_act past stamp line) line in
     cc (by, queued, missed)
 row_kept plan base past (Tick stamp) =
     let by = pass_kept plan passes.Ticker in

@@ -1,5 +1,5 @@
 -- Access over a history: which IPv6 frames passed at the ports of hosts and servers.
-use Rattle.std.specs.Prelude.{◌≢◌, ◌≤◌, ◌↔◌, List, [], ◌∷◌}
+use Rattle.std.specs.Prelude.{◌≡◌, ◌≢◌, false, ◌≤◌, ◌↔◌, List, [], ◌∷◌}
 use Rattle.savi_kinds.specs.declared.plan.Plan.{Plan}
 use Rattle.savi_kinds.specs.declared.plan.Role.TheVariants.{Trusted}
 use Rattle.savi_kinds.specs.declared.port.Port.{Port}
@@ -14,14 +14,16 @@ use Rattle.savi_access.specs.Plans.{rules_of, role_of}
 use Rattle.savi_history.specs.Bases.{Base, access_of}
 use Rattle.savi_history.specs.Moments.{last_moment}
 use Rattle.savi_history.specs.Vlans.{the_vlan}
+use Rattle.savi_history.specs.ShutPorts.{is_shut}
 use Rattle.savi_history.specs.Marks.{marks}
 use Rattle.savi_history.specs.Adverts.{IsFrameAt}
 
--- The frame of a row had access at the port, by what was told before it: no rule on messages stopped it, and its source was
--- live there at the row's moment, or a named exception permitted it.
+-- The frame of a row had access at the port, by what was told before it: the port wasn't shut, no rule on messages stopped the
+-- frame, and its source was live there at the row's moment, or a named exception permitted it.
 abbrev pub HadAccess : Plan → Base → List Row → Row → Port → Type 0
 HadAccess plan base past r port =
-    HasAccess (rules_of plan) (access_of base) the_vlan port r.entry.moment (marks plan base past) (class_of r.octets)
+    (is_shut base (number_of port) past ≡ false)
+    × HasAccess (rules_of plan) (access_of base) the_vlan port r.entry.moment (marks plan base past) (class_of r.octets)
 
 -- where the row is of an IPv6 frame at a port of a host or a server, the frame passed exactly where it had access
 abbrev pub PassedRightly : Plan → Base → List Row → Row → Type 0

@@ -10,6 +10,8 @@ pub record Base : Type 0 where
   pub moment : ℕ
   -- the numbers of the passes that ended before it
   pub ended : List ℕ
+  -- the numbers of the ports that were shut then
+  pub shut : List ℕ
   -- the stations of each VLAN that were known at that moment
   pub stations : ℕ → List Station
   -- the states of the addresses of each VLAN then
@@ -19,7 +21,7 @@ pub record Base : Type 0 where
 
 -- the start of a switch: nothing came before
 abbrev pub empty : Base
-empty = record { moment = 0; ended = []; stations = λ vlan. []; rows = λ vlan. []; requests = λ vlan. [] }
+empty = record { moment = 0; ended = []; shut = []; stations = λ vlan. []; rows = λ vlan. []; requests = λ vlan. [] }
 
 -- what states and requests go on from
 abbrev pub access_of : Base → AccessBase

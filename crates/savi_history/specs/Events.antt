@@ -26,6 +26,8 @@ pub data Event : Type 0 where
   Frame : (port : Port) (stamp : ℕ) (octets : List ℕ) → Event
   -- a longer frame came in
   Long : (port : Port) (stamp len : ℕ) → Event
+  -- a line came in on control, with its stamp
+  Command : (stamp : ℕ) (line : List ℕ) → Event
   -- time passed
   Tick : (stamp : ℕ) → Event
   -- so many items were taken from the front of a port's queue
@@ -60,13 +62,33 @@ long_row plan base past port stamp len = record {
     by = pass_of plan (passes.Ingress port);
     moment = moment_at base past stamp;
     act = acts.Long port stamp len;
-    verdict = Some judged_long;
+    verdict = Some (judged_long base past port);
     outs = no_ports;
     cuts = no_ports;
     probes = probes plan base past (acts.Long port stamp len) [];
     lost = lost plan base past (acts.Long port stamp len) [];
   };
   octets = [];
+}
+
+-- the act of a line, whose octets are kept as those of a frame are
+abbrev pub command_act : List Row → ℕ → List ℕ → Act
+command_act past stamp line = acts.Command stamp (held past) (length line)
+
+-- the row of a line, on which there is no verdict: only the probes that fell due by then go anywhere
+abbrev pub command_row : Plan → Base → List Row → ℕ → List ℕ → Row
+command_row plan base past stamp line = record {
+  entry = record {
+    by = pass_of plan passes.Control;
+    moment = moment_at base past stamp;
+    act = command_act past stamp line;
+    verdict = None;
+    outs = no_ports;
+    cuts = no_ports;
+    probes = probes plan base past (command_act past stamp line) line;
+    lost = lost plan base past (command_act past stamp line) line;
+  };
+  octets = line;
 }
 
 -- the row of a tick, on which there is no verdict: only its probes go anywhere
@@ -101,6 +123,7 @@ abbrev pub row_of : Plan → Base → List Row → Event → Row
 row_of plan base past (Frame port stamp octets) =
     frame_row plan base past port stamp octets (verdict_of plan base past port stamp octets) (outs_of plan base past port stamp octets)
 row_of plan base past (Long port stamp len) = long_row plan base past port stamp len
+row_of plan base past (Command stamp line) = command_row plan base past stamp line
 row_of plan base past (Tick stamp) = tick_row plan base past stamp
 row_of plan base past (Drain port count) =
     plain_row (pass_of plan (passes.Egress port)) (last_moment base past) (acts.Drain port count)

@@ -1,32 +1,35 @@
--- What the octets of a port's source are to the history, by how the input ended there. `Arrives` says which input some
--- octets are; `before` and `after` are what the source had left, where it tells that.
+-- What the octets of a source are to the history, by how the input ended there. `Arrives` says which arrivals some octets
+-- are, and how they end; `before` and `after` are what the source had left, where it tells that.
 use Rattle.std.specs.Prelude.{ℕ, List, [], ◌∷◌, ◌++◌, Option, Some, None, IfSome}
 use Rattle.savi_kinds.specs.declared.entry.How.{How}
 use Rattle.savi_kinds.specs.declared.entry.How.TheVariants as hows
-use Rattle.savi_kinds.specs.Arrivals.{Arrival, Input}
+use Rattle.savi_kinds.specs.Arrivals.{Arrival}
 use Rattle.savi_ends.specs.Octets.{Takes}
 
 -- all that the source had left is these arrivals, and ends so
-abbrev pub IsWhole : (List ℕ → Input → Type 0) → Option (List ℕ) → List Arrival → How → Type 0
-IsWhole Arrives before arrivals ending = IfSome before (λ octets. Arrives octets (record { arrivals = arrivals; ending = ending }))
+abbrev pub IsWhole : {A : Type 0} → (List ℕ → List A → How → Type 0) → Option (List ℕ) → List A → How → Type 0
+IsWhole Arrives before arrivals ending = IfSome before (λ octets. Arrives octets arrivals ending)
 
 -- what the source gave up is these arrivals and one more, for which there was no room
-pub record IsCut (Arrives : List ℕ → Input → Type 0) (before after : Option (List ℕ)) (arrivals : List Arrival) : Type 0 where
+pub record IsCut {A : Type 0} (Arrives : List ℕ → List A → How → Type 0)
+    (before after : Option (List ℕ)) (arrivals : List A) : Type 0 where
   pub gave : List ℕ
   pub takes : Takes before after gave
-  pub refused : Arrival
-  pub read : Arrives gave (record { arrivals = arrivals ++ refused ∷ []; ending = hows.End })
+  pub refused : A
+  pub read : Arrives gave (arrivals ++ refused ∷ []) hows.End
 
 -- What the source gave up is these arrivals, in front of the read that failed: behind them no whole arrival was read.
-pub record IsBroken (Arrives : List ℕ → Input → Type 0) (before after : Option (List ℕ)) (arrivals : List Arrival) : Type 0 where
+pub record IsBroken {A : Type 0} (Arrives : List ℕ → List A → How → Type 0)
+    (before after : Option (List ℕ)) (arrivals : List A) : Type 0 where
   pub gave : List ℕ
   pub takes : Takes before after gave
   -- how the octets would end, had the input nothing behind them
   pub ending : How
-  pub read : Arrives gave (record { arrivals = arrivals; ending = ending })
+  pub read : Arrives gave arrivals ending
 
 -- The input of a capture ends in no other way.
-abbrev pub Fits : (List ℕ → Input → Type 0) → Option (List ℕ) → Option (List ℕ) → List Arrival → Option How → Type 0
+abbrev pub Fits : (List ℕ → List Arrival → How → Type 0)
+    → Option (List ℕ) → Option (List ℕ) → List Arrival → Option How → Type 0
 Fits Arrives before after arrivals (Some hows.End) = IsWhole Arrives before arrivals hows.End
 Fits Arrives before after arrivals (Some (hows.Malformed at)) = IsWhole Arrives before arrivals (hows.Malformed at)
 Fits Arrives before after arrivals (Some hows.Failed) = IsBroken Arrives before after arrivals

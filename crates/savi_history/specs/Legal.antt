@@ -14,7 +14,7 @@ use Rattle.savi_history.specs.Limits.{has_room}
 use Rattle.savi_history.specs.Queues.{queue}
 use Rattle.savi_history.specs.Moments.{moment_at}
 use Rattle.savi_history.specs.Ticks.{HasChangedBy}
-use Rattle.savi_history.specs.Events.{Event, Frame, Long, Tick, Drain, End, row_of}
+use Rattle.savi_history.specs.Events.{Event, Frame, Long, Command, Tick, Drain, End, row_of}
 
 -- a number of 64 bits, and one of 32
 abbrev pub IsU64 : ℕ → Type 0
@@ -31,6 +31,12 @@ pub record IsOpen (plan : Plan) (base : Base) (past : List Row) (who : Who) : Ty
 -- an input may come in at a port: its pass is open, and there is room
 pub record MayArrive (plan : Plan) (base : Base) (past : List Row) (port : Port) (stamp : ℕ) : Type 0 where
   pub open_pass : IsOpen plan base past (Ingress port)
+  pub room : has_room plan past ≡ true
+  pub fits : IsU64 stamp
+
+-- a line may come in on control: its pass is open, and there is room
+pub record MayCommand (plan : Plan) (base : Base) (past : List Row) (stamp : ℕ) : Type 0 where
+  pub open_pass : IsOpen plan base past Control
   pub room : has_room plan past ≡ true
   pub fits : IsU64 stamp
 
@@ -99,6 +105,7 @@ MayEnd plan base past (Egress p) how = MayEndEgress plan base past (number_of p)
 abbrev pub MayCome : Plan → Base → List Row → Event → Type 0
 MayCome plan base past (Frame port stamp octets) = MayArrive plan base past port stamp × (length octets ≤ 1518)
 MayCome plan base past (Long port stamp len) = MayArrive plan base past port stamp × (1518 < len) × IsU32 len
+MayCome plan base past (Command stamp line) = MayCommand plan base past stamp × (length line ≤ 120)
 MayCome plan base past (Tick stamp) = MayTick plan base past stamp
 MayCome plan base past (Drain port count) = IsOpen plan base past (Egress port) × (1 ≤ count) × (count ≤ length (queue plan base (number_of port) past))
 MayCome plan base past (End who how) = IsOpen plan base past who × MayEnd plan base past who how

@@ -6,6 +6,8 @@ pub mod StationLaws
 pub mod Passes
 pub mod Moments
 pub mod Limits
+pub mod ShutPorts
+pub mod Commands
 pub mod Marks
 pub mod Judged
 pub mod Offers
@@ -17,8 +19,11 @@ pub mod Legal
 pub mod Merges
 pub mod Turns
 pub mod Picks
-pub mod Replay
 pub mod Summary
+pub mod Shown
+pub mod ControlInputs
+pub mod ControlOutputs
+pub mod Replay
 pub mod Adverts
 pub mod Outputs
 pub mod Endings
@@ -26,6 +31,8 @@ pub mod EndLines
 pub mod PortInputs
 pub mod PortOutputs
 pub mod Fits
+pub mod ControlFits
+pub mod EnteredLines
 pub mod Journals
 pub mod Readable
 pub mod QueueLaws

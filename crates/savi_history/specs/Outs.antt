@@ -1,5 +1,5 @@
 -- The ports to which a frame goes: where its destination is known, the port of that station, else each port; of these, those
--- of its scope, without the ingress port (IEEE 802.1Q section 8.6.3).
+-- of its scope that aren't shut, without the ingress port (IEEE 802.1Q section 8.6.3).
 use Rattle.std.specs.Prelude.{ℕ, ◌==◌, ◌&&◌, ◌||◌, not, Bool, true, List, Option, Some, None}
 use Rattle.std.specs.List.{filter}
 use Rattle.savi_kinds.specs.declared.plan.Plan.{Plan}
@@ -11,11 +11,12 @@ use Rattle.savi_kinds.specs.declared.verdict.Scope.TheVariants.{All, TrustedOnly
 use Rattle.savi_kinds.specs.declared.verdict.Verdict.{Verdict}
 use Rattle.savi_kinds.specs.declared.verdict.Verdict.TheVariants.{Pass, Drop}
 use Rattle.savi_kinds.specs.Ports.{number_of}
-use Rattle.savi_kinds.specs.PortSets.{no_ports, set_of}
+use Rattle.savi_kinds.specs.PortSets.{no_ports, set_of, is_member}
 use Rattle.savi_kinds.specs.ValidPlan.{numbers_of}
 use Rattle.hist_store.specs.Rows.{Row}
 use Rattle.savi_history.specs.Bases.{Base}
 use Rattle.savi_history.specs.Passes.{is_trusted}
+use Rattle.savi_history.specs.ShutPorts.{is_shut}
 use Rattle.savi_history.specs.Stations.{known_port}
 
 -- whether a port of the plan is in a scope
@@ -38,6 +39,11 @@ abbrev pub outs_by : Plan → ℕ → Option Port → Verdict → PortSet
 outs_by plan port known (Pass scope) = set_of (directed known (numbers_of (others_in plan scope port)))
 outs_by plan port known (Drop rule) = no_ports
 
+-- of a set of ports those of the plan that aren't shut
+abbrev pub without_shut : Plan → Base → List Row → PortSet → PortSet
+without_shut plan base past set = set_of (filter (λ q. is_member set q && not (is_shut base q past)) (numbers_of plan.ports))
+
 -- the ports to which these octets go in this VLAN with this verdict, at this moment and after this past
 abbrev pub outs : ℕ → Plan → Base → List Row → ℕ → ℕ → List ℕ → Verdict → PortSet
-outs vlan plan base past port moment octets verdict = outs_by plan port (known_port vlan base past moment octets) verdict
+outs vlan plan base past port moment octets verdict =
+    without_shut plan base past (outs_by plan port (known_port vlan base past moment octets) verdict)

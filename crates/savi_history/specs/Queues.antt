@@ -1,7 +1,7 @@
 -- What waits at the ports of a switch, what was sent, and what was left out, recomputed from the entries of a history. An
 -- entry with a stamp offers its probes, in order, and then its frame, each to the queues of the ports that it is for; a
 -- queue takes an item while it has room.
-use Rattle.std.specs.Prelude.{ℕ, ◌+◌, ◌-◌, ◌==◌, ◌&&◌, nat_lt, nat_le, Bool, if◌then◌else◌, List, [], ◌∷◌, ◌++◌, length, map, take, drop}
+use Rattle.std.specs.Prelude.{ℕ, ◌+◌, ◌-◌, ◌==◌, ◌&&◌, not, nat_lt, nat_le, Bool, if◌then◌else◌, List, [], ◌∷◌, ◌++◌, length, map, take, drop}
 use Rattle.std.specs.List.{filter}
 use Rattle.savi_kinds.specs.declared.plan.Plan.{Plan}
 use Rattle.savi_kinds.specs.declared.port.PortSet.{PortSet}
@@ -18,6 +18,7 @@ use Rattle.probe_write.specs.ProbeFrame.{probe_of}
 use Rattle.hist_store.specs.Rows.{Row}
 use Rattle.savi_history.specs.Bases.{Base}
 use Rattle.savi_history.specs.Passes.{egress_pass, has_ended, role_of, is_trusted}
+use Rattle.savi_history.specs.ShutPorts.{is_shut}
 use Rattle.savi_history.specs.Offers.{Offer, offers}
 
 -- a frame or a probe on its way out, with the moment that it carries
@@ -33,10 +34,14 @@ item_of r = record { moment = r.entry.moment; octets = r.octets }
 abbrev pub probe_item : Plan → Offer → Item
 probe_item plan offer = record { moment = offer.due; octets = probe_of plan.mac offer.address }
 
--- whether a probe goes to the port of this number
+-- whether a probe is for the port of this number
+abbrev pub is_for : Plan → ℕ → Probe → Bool
+is_for plan q Trusted = is_trusted (role_of plan q)
+is_for plan q (To port) = number_of port == q
+
+-- whether it goes there: not where the port is shut
 abbrev pub is_probed : Plan → Base → List Row → ℕ → Probe → Bool
-is_probed plan base past q Trusted = is_trusted (role_of plan q)
-is_probed plan base past q (To port) = number_of port == q
+is_probed plan base past q probe = is_for plan q probe && not (is_shut base q past)
 
 -- the probes that an entry with this act and these octets offers to q, in order
 abbrev pub offered_at : Plan → Base → List Row → Act → List ℕ → ℕ → List Item

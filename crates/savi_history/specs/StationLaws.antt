@@ -14,6 +14,7 @@ use Rattle.hist_store.specs.Rows.{Row}
 use Rattle.savi_history.specs.Bases.{Base}
 use Rattle.savi_history.specs.Vlans.{the_vlan}
 use Rattle.savi_history.specs.Passes.{has_port}
+use Rattle.savi_history.specs.ShutPorts.{is_shut}
 use Rattle.savi_history.specs.Stations.{known_port}
 
 -- the port at which the destination of the row's frame was known before it
@@ -26,8 +27,8 @@ pub record IsDirected (plan : Plan) (base : Base) (past : List Row) (r : Row) (p
   pub not_back : is_member r.entry.outs (number_of port) ≡ false
   -- to the port of the station that it is for, and to no other
   pub alone : (place : Port) (n : ℕ) → KnownBefore base past r place → 1 ≤ n → is_member r.entry.outs n ≡ true → n ≡ number_of place
-  -- there it does go, if it may go everywhere and that is another port of the plan
-  pub reached : (place : Port) → KnownBefore base past r place → r.entry.verdict ≡ Some (Pass scopes.All) → has_port plan (number_of place) ≡ true → number_of place ≢ number_of port → is_member r.entry.outs (number_of place) ≡ true
+  -- there it does go, if it may go everywhere and that is another port of the plan, which isn't shut
+  pub reached : (place : Port) → KnownBefore base past r place → r.entry.verdict ≡ Some (Pass scopes.All) → has_port plan (number_of place) ≡ true → is_shut base (number_of place) past ≡ false → number_of place ≢ number_of port → is_member r.entry.outs (number_of place) ≡ true
 
 abbrev pub IsDirectedBy : Plan → Base → List Row → Row → Act → Type 0
 IsDirectedBy plan base past r (Frame port stamp at len) = IsDirected plan base past r port

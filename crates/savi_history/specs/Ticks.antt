@@ -11,6 +11,7 @@ use Rattle.savi_access.specs.Plans.{rules_of}
 use Rattle.savi_history.specs.Bases.{Base, access_of}
 use Rattle.savi_history.specs.Moments.{last_moment, moment_at}
 use Rattle.savi_history.specs.Vlans.{the_vlan}
+use Rattle.savi_history.specs.ShutPorts.{is_shut}
 use Rattle.savi_history.specs.Marks.{marks}
 use Rattle.savi_history.specs.Judged.{verdict_of}
 use Rattle.savi_history.specs.Stations.{stations}
@@ -22,7 +23,8 @@ HasChangedBy plan base past moment =
     HasChanged (rules_of plan).addresses (access_of base).addresses (told (marks plan base past)) (last_moment base past) moment the_vlan
 
 -- The same is known and the same is judged after both pasts, from this moment on: the states of addresses, the open requests
--- and the live stations of each VLAN, the verdict on a frame that comes next at any port, and where it goes.
+-- and the live stations of each VLAN, which ports are shut, the verdict on a frame that comes next at any port, and where it
+-- goes.
 pub record IsSameFrom (plan : Plan) (base : Base) (moment : ℕ) (past other : List Row) : Type 0 where
   pub states : (t vlan a : ℕ) → moment ≤ t
       → state_at (rules_of plan).addresses (access_of base).addresses (told (marks plan base past)) t vlan a
@@ -31,6 +33,7 @@ pub record IsSameFrom (plan : Plan) (base : Base) (moment : ℕ) (past other : L
       → open_requests (access_of base) vlan (marks plan base past) t ≡ open_requests (access_of base) vlan (marks plan base other) t
   pub stations : (t vlan : ℕ) → moment ≤ t
       → live_at t (stations vlan base past) ≡ live_at t (stations vlan base other)
+  pub shut : (q : ℕ) → is_shut base q past ≡ is_shut base q other
   pub verdicts : (port : Port) (stamp : ℕ) (octets : List ℕ) → moment ≤ moment_at base other stamp
       → verdict_of plan base past port stamp octets ≡ verdict_of plan base other port stamp octets
   pub outs : (port : Port) (stamp : ℕ) (octets : List ℕ) → moment ≤ moment_at base other stamp

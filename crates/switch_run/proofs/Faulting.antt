@@ -1,5 +1,6 @@
 -- Whose fault a status is.
-use Rattle.std.proofs.Common.{◌≡◌, ℕ, ◌&&◌, ◌||◌, not, if◌then◌else◌, ◌⊎◌, inl, inr, List, [], Bool, true, false, get_or, refl, sym, ap, ◌∙◌, arith, ◌<◌, Option, Some}
+use Rattle.std.proofs.Common.{◌≡◌, ℕ, ◌&&◌, ◌||◌, not, if◌then◌else◌, ◌⊎◌, inl, inr, List, [], Bool, true, false, get_or, length, refl, sym, ap, ◌∙◌, arith, ◌<◌, Option, Some, None}
+use Rattle.std.specs.List.Sorted.{IsStrictlyIncreasing}
 use Rattle.savi_kinds.specs.declared.entry.How.TheVariants as hows
 use Rattle.savi_kinds.specs.declared.plan.Plan.{Plan}
 use Rattle.savi_kinds.specs.Arrivals.{Input}
@@ -12,8 +13,10 @@ use Rattle.savi_history.specs.Bases.{empty}
 use Rattle.savi_history.specs.Endings.{has_failed, has_failed_write, has_malformed, has_full}
 use Rattle.savi_history.specs.PortInputs.{input_end}
 use Rattle.savi_history.specs.PortOutputs.{output_end}
-use Rattle.savi_history.proofs.Failing.{failed_at_port}
-use Rattle.savi_history.proofs.FailedWrites.{failed_write_at_port}
+use Rattle.savi_history.specs.Replay.{Stops, replayed}
+use Rattle.savi_history.proofs.Failing.{IsOfInput, failed_at_input}
+use Rattle.savi_history.proofs.FailedWrites.{IsOfOutput, failed_write_at_output}
+use Rattle.savi_history.proofs.WithoutControl.{without_control}
 use Rattle.run_config.specs.Configs.{HasFault}
 use Rattle.switch_run.specs.Causes.{HasReadFault, HasSomeReadFault, HasSomeWriteFault, Keeps, TookOrPart}
 use Rattle.switch_run.specs.Session.{IsReplayOf, IsSession, IsFileUnread}
@@ -42,14 +45,26 @@ which_unwritten false false is = inr refl
 fault_kept : {X : Type 0} (faults : X → ℕ) (place : Place X) (x : X) → place.stands ≡ Some x → 0 < faults x → HasFault faults place
 fault_kept faults place x kept fault = rw kept fault
 
+-- control has no input: no read of it failed, and no write of its replies
+
+read_at_port : (plan : Plan) (inputs : List Input) (stops : Stops) → IsStrictlyIncreasing (numbers_of plan.ports) → length inputs ≡ length plan.ports → let past = replayed plan empty None inputs stops in IsOfInput plan past
+    → (k : ℕ) × (k < length plan.ports) × (input_end (get_or (numbers_of plan.ports) k 0) past ≡ Some hows.Failed)
+read_at_port plan inputs stops rising size (inl found) = found
+read_at_port plan inputs stops rising size (inr is) = let e : Some hows.Failed ≡ Some hows.End = sym is ∙ (without_control plan inputs stops rising size).1 in cc
+
+write_at_port : (plan : Plan) (inputs : List Input) (stops : Stops) → IsStrictlyIncreasing (numbers_of plan.ports) → length inputs ≡ length plan.ports → let past = replayed plan empty None inputs stops in IsOfOutput plan past
+    → (k : ℕ) × (k < length plan.ports) × (output_end (get_or (numbers_of plan.ports) k 0) past ≡ Some hows.Failed)
+write_at_port plan inputs stops rising size (inl found) = found
+write_at_port plan inputs stops rising size (inr is) = let e : Some hows.Unwritten ≡ Some hows.End = sym is ∙ (without_control plan inputs stops rising size).1 in cc
+
 no_input : Input
 no_input = record { arrivals = []; ending = hows.End }
 
-replay_read : {S K C : Type 0} (left : S → Option (List ℕ)) (written : K → Option (List ℕ)) (source_faults : S → ℕ) (sink_faults : K → ℕ) (plan : Plan) (Says : List ℕ → Type 0) (old new : Book S K C) (status : ℕ) → status ≡ 5
+replay_read : {S K C : Type 0} (left : S → Option (List ℕ)) (written : K → Option (List ℕ)) (source_faults : S → ℕ) (sink_faults : K → ℕ) (plan : Plan) (Says : List ℕ → Type 0) (old new : Book S K C) (status : ℕ) → IsStrictlyIncreasing (numbers_of plan.ports) → status ≡ 5
     → IsReplayOf left written source_faults sink_faults plan Says old new status → (port : ℕ) × HasReadFault source_faults new port
-replay_read {S} {K} {C} left written source_faults sink_faults plan Says old new status five r =
+replay_read {S} {K} {C} left written source_faults sink_faults plan Says old new status rising five r =
     let failed : has_failed r.past ≡ true = failed_by status (has_failed r.past) (has_failed_write r.past || not (r.journal_written && r.summed.summary_written)) (has_malformed r.past) (has_full r.past) r.summed.cause five in
-    let found = failed_at_port plan empty r.serves.inputs r.serves.stops (ap has_failed (sym r.serves.replay) ∙ failed) in
+    let found = read_at_port plan r.serves.inputs r.serves.stops rising r.serves.size (failed_at_input plan empty None r.serves.inputs r.serves.stops (ap has_failed (sym r.serves.replay) ∙ failed)) in
     let port = get_or (numbers_of plan.ports) found.0 0 in
     let at = r.serves.each found.0 no_input found.1 in
     let rose = at.holds.broken (ap (λ (l : List Row). input_end port l) r.serves.replay ∙ found.2) in
@@ -60,7 +75,7 @@ pub read_fault_of : {S K C : Type 0} (left : S → Option (List ℕ)) (written :
     → IsFileUnread left source_faults file Says old new status ⊎ IsSession left written source_faults sink_faults file Says old new status → HasSomeReadFault source_faults file new
 read_fault_of left written source_faults sink_faults Says old new file status five (inl unread) = inl unread.fault
 read_fault_of left written source_faults sink_faults Says old new file status five (inr session) =
-    inr (replay_read left written source_faults sink_faults session.plan Says old new status five session.session.did)
+    inr (replay_read left written source_faults sink_faults session.plan Says old new status session.configured.built.valid.ports five session.session.did)
 
 -- a write of octets that weren't all taken failed
 unwritten_fault : {K : Type 0} (faults : K → ℕ) (written : K → Option (List ℕ)) (done : Bool) (octets : List ℕ) (old new : Place K) → done ≡ false → Keeps (TookOrPart faults written done octets) old new → HasFault faults new
@@ -77,26 +92,26 @@ named : {S K C : Type 0} (sink_faults : K → ℕ) (name : List ℕ) (new : Book
 named sink_faults name new (inl journal) = inr (inl (name, journal))
 named sink_faults name new (inr out) = inr (inr out)
 
-fault_of : {S K C : Type 0} (left : S → Option (List ℕ)) (written : K → Option (List ℕ)) (source_faults : S → ℕ) (sink_faults : K → ℕ) (plan : Plan) (Says : List ℕ → Type 0) (old new : Book S K C) (status : ℕ)
+fault_of : {S K C : Type 0} (left : S → Option (List ℕ)) (written : K → Option (List ℕ)) (source_faults : S → ℕ) (sink_faults : K → ℕ) (plan : Plan) (Says : List ℕ → Type 0) (old new : Book S K C) (status : ℕ) → IsStrictlyIncreasing (numbers_of plan.ports)
     → (r : IsReplayOf left written source_faults sink_faults plan Says old new status) → (has_failed_write r.past ≡ true) ⊎ ((r.journal_written && r.summed.summary_written) ≡ false) → HasSomeWriteFault sink_faults new
-fault_of {S} {K} {C} left written source_faults sink_faults plan Says old new status r (inl failed) =
-    let found = failed_write_at_port plan empty r.serves.inputs r.serves.stops (ap has_failed_write (sym r.serves.replay) ∙ failed) in
+fault_of {S} {K} {C} left written source_faults sink_faults plan Says old new status rising r (inl failed) =
+    let found = write_at_port plan r.serves.inputs r.serves.stops rising r.serves.size (failed_write_at_output plan empty None r.serves.inputs r.serves.stops (ap has_failed_write (sym r.serves.replay) ∙ failed)) in
     let port = get_or (numbers_of plan.ports) found.0 0 in
     let at = r.serves.each found.0 no_input found.1 in
     let rose = at.holds.broken_out (ap (λ (l : List Row). output_end port l) r.serves.replay ∙ found.2) in
     inl (port, fault_kept (λ (e : Ends S K C). sink_faults e.sink) (new.ports port) at.back at.kept (omega (arith, rose)))
-fault_of left written source_faults sink_faults plan Says old new status r (inr unwritten) =
+fault_of left written source_faults sink_faults plan Says old new status rising r (inr unwritten) =
     named sink_faults plan.journal new (one_unwritten sink_faults written r.journal_written r.summed.summary_written _ _ _ _ _ _ unwritten r.journal r.summed.summary)
 
-replay_write : {S K C : Type 0} (left : S → Option (List ℕ)) (written : K → Option (List ℕ)) (source_faults : S → ℕ) (sink_faults : K → ℕ) (plan : Plan) (Says : List ℕ → Type 0) (old new : Book S K C) (status : ℕ) → status ≡ 6
+replay_write : {S K C : Type 0} (left : S → Option (List ℕ)) (written : K → Option (List ℕ)) (source_faults : S → ℕ) (sink_faults : K → ℕ) (plan : Plan) (Says : List ℕ → Type 0) (old new : Book S K C) (status : ℕ) → IsStrictlyIncreasing (numbers_of plan.ports) → status ≡ 6
     → IsReplayOf left written source_faults sink_faults plan Says old new status → HasSomeWriteFault sink_faults new
-replay_write left written source_faults sink_faults plan Says old new status six r =
+replay_write left written source_faults sink_faults plan Says old new status rising six r =
     let w = r.journal_written && r.summed.summary_written in
-    fault_of left written source_faults sink_faults plan Says old new status r
+    fault_of left written source_faults sink_faults plan Says old new status rising r
     (which_unwritten (has_failed_write r.past) w (unwritten_by status (has_failed r.past) (has_failed_write r.past || not w) (has_malformed r.past) (has_full r.past) r.summed.cause six))
 
 -- a write failed where the status is 6
 pub write_fault_of : {S K C : Type 0} (left : S → Option (List ℕ)) (written : K → Option (List ℕ)) (source_faults : S → ℕ) (sink_faults : K → ℕ) (Says : List ℕ → Type 0) (old new : Book S K C) (file : List ℕ) (status : ℕ) → status ≡ 6
     → IsFileUnread left source_faults file Says old new status ⊎ IsSession left written source_faults sink_faults file Says old new status → HasSomeWriteFault sink_faults new
 write_fault_of left written source_faults sink_faults Says old new file status six (inl unread) = let five : status ≡ 5 = unread.status_is in absurd (omega (arith, five, six))
-write_fault_of left written source_faults sink_faults Says old new file status six (inr session) = replay_write left written source_faults sink_faults session.plan Says old new status six session.session.did
+write_fault_of left written source_faults sink_faults Says old new file status six (inr session) = replay_write left written source_faults sink_faults session.plan Says old new status session.configured.built.valid.ports six session.session.did

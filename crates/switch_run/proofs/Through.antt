@@ -190,7 +190,7 @@ serves_places {S} {K} {C} left written source_faults sink_faults plan past held 
       let inside : k < length held = omega (arith, size, within) in
       let d = element held k inside in
       let port = slice_index (numbers_of plan.ports) k in
-      let Served : State → Ends S K C → Ends S K C → Type 0 = λ s. IsServed left written source_faults sink_faults (Comes s) plan empty past port (get_or serves.inputs k i) (serves.stops port) in
+      let Served : State → Ends S K C → Ends S K C → Type 0 = λ s. IsServed left written source_faults sink_faults (Comes s) plan empty past port (get_or serves.inputs k i) (serves.stops.ports port) in
       subst (λ (n : ℕ). Keeps (Served (Fresh classic_kinds)) (old n) (new n)) (sym (number_at held plan.ports k d ports inside))
       (keeps_at (Served (Fresh classic_kinds)) held back old new k d handled inside
       (subst (λ (s : State). Served s (get_or held k d).ends (get_or back k d).ends) (anew k d inside) (serves.each k i within d)));

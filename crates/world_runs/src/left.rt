@@ -5,7 +5,8 @@ use crate::scene::Scene;
 use savi_ends::MemSink;
 use std::alloc::{AllocError, Global};
 
-/// Prints the status, what standard error and standard output were told, what was written at each port, and the journal.
+/// Prints the status, what standard error and standard output were told, what was written at each port, the replies, where
+/// control has an input, and the journal.
 pub fn print_left(
     rt: &impl Print,
     alloc: Global,
@@ -22,12 +23,11 @@ pub fn print_left(
     print!(rt; "standard error:\n{errors}")?;
     let summary = text_of(alloc, &left.world.out)?;
     print!(rt; "standard output:\n{summary}")?;
-    for (port, ends) in left.world.ports.as_slice() {
-        if let Some(ends) = ends {
-            let digits = hex::encode(alloc, ends.sink.written())?;
-            let named = with_names(alloc, scene, digits, " ")?;
-            println!(rt; "port {}:{named}", port.get())?;
-        }
+    let ports = with_names(alloc, scene, ports_of(alloc, left)?, " ")?;
+    print!(rt; "{ports}")?;
+    if let (Some(_), Some(ends)) = (&scene.commands, &left.world.control) {
+        let replies = String::from_utf8_lossy(alloc, ends.sink.written())?;
+        print!(rt; "replies:\n{replies}")?;
     }
     for (_, sink) in left.world.outputs.as_slice() {
         let text = with_names(alloc, scene, text_of(alloc, sink)?, "")?;
@@ -35,6 +35,19 @@ pub fn print_left(
         print!(rt; "journal{place}:\n{rest}")?;
     }
     Ok(())
+}
+
+// A line for each port, with the digits of what was written there.
+fn ports_of(alloc: Global, left: &RecordingWorld) -> Result<String, AllocError> {
+    let mut text = String::new(alloc);
+    for (port, ends) in left.world.ports.as_slice() {
+        if let Some(ends) = ends {
+            let digits = hex::encode(alloc, ends.sink.written())?;
+            let line = format!(in alloc; "port {}:{digits}\n", port.get())?;
+            text.push_str(line.as_str())?;
+        }
+    }
+    Ok(text)
 }
 
 // Where what is printed of a journal stands, and what it is: all but its head, where it begins with one, or all.

@@ -1,19 +1,24 @@
 //! Runs of the whole program over a world in memory, whose openings, reads and writes fail where the input says so.
 //!
 //! The input is lines: those of a scene, and `run NAME`, which runs the program over that scene and prints what it leaves:
-//! the status, what standard error and standard output were told, what was written at each port, and the journal. A scene
-//! stays for the next run, but for the calls that fail. Its lines, where a word of `OCTETS` is digits or a name:
+//! the status, what standard error and standard output were told, what was written at each port, the replies, where control
+//! has an input, and the journal. A scene stays for the next run, but for the calls that fail. Its lines, where a word of
+//! `OCTETS` is digits or a name:
 //!
 //!     name NAME DIGITS     octets in hexadecimal digits; in what is printed their name stands for them
-//!     plan                 forgets the plan, the head of its journal and the captures
-//!     captures             forgets the captures
+//!     plan                 forgets the plan, the head of its journal, the captures and control's input
+//!     captures             forgets the captures and control's input
 //!     line TEXT            a line of the configuration
 //!     head TEXT            a line that its journal begins with; where it does, what stands behind that head is printed
 //!     capture OCTETS..     what the next port's input holds
+//!     command TEXT         a line that control's input holds next
+//!     control OCTETS..     octets that control's input holds next
+//!     pieces NUMBER        how many octets a read of control gives at most
 //!     drops PORT RULE NAME..   says which rule drops these frames at a port, and is passed over here
 //!     words TEXT..         the words of the command line
 //!     fails NUMBER WHICH   the call that fails, counted from 1: an `opening`, a read of the `plan`, `read N` or `write N`
-//!                          at port N, or a write of the `journal`, of the `summary` or of an `error`
+//!                          at port N, `read control` or `write control`, or a write of the `journal`, of the `summary` or
+//!                          of an `error`
 //!     openings             prints also what the program asks of its world
 //!
 //! `tools/world-runs` works out what has to be printed, from the scenes and by the rules of `docs/FORMATS.md`.

@@ -86,6 +86,7 @@ impl World for RecordingWorld {
         begin_line(&mut self.openings, "control");
         add_word(&mut self.openings, source);
         add_word(&mut self.openings, sink);
+        add_word(&mut self.openings, if live { "live" } else { "recorded" });
         end_line(&mut self.openings);
         self.world.control(source, sink, live)
     }

@@ -3,6 +3,9 @@
 use anyhow::bail;
 use std::alloc::{AllocError, Global};
 
+/// The most octets that a source gives in a read, where a scene says nothing else.
+pub const READ_MOST: usize = 65_536;
+
 /// What a run is a run of.
 #[derive(Drop)]
 pub struct Scene {
@@ -14,6 +17,10 @@ pub struct Scene {
     pub head: String,
     /// What the inputs of the ports hold, from port 1 on.
     pub captures: Vec<Vec<u8>>,
+    /// What the input of control holds, or None.
+    pub commands: Option<Vec<u8>>,
+    /// How many octets a read of control gives at most.
+    pub pieces: usize,
     /// The words behind the program's name.
     pub words: Vec<String>,
     /// Which calls fail, each with the number of the one that does.
@@ -30,6 +37,8 @@ impl Scene {
             plan: String::new(alloc),
             head: String::new(alloc),
             captures: Vec::new(alloc),
+            commands: None,
+            pieces: READ_MOST,
             words: Vec::new(alloc),
             faults: Vec::new(alloc),
             tells_openings: false,
@@ -61,20 +70,44 @@ impl Scene {
             "plan" => {
                 self.plan = String::new(alloc);
                 self.head = String::new(alloc);
-                self.captures = Vec::new(alloc);
+                self.forget_inputs(alloc);
             }
-            "captures" => self.captures = Vec::new(alloc),
+            "captures" => self.forget_inputs(alloc),
             "line" => add_line(&mut self.plan, rest)?,
             "head" => add_line(&mut self.head, rest)?,
             "capture" => {
                 let octets = self.octets_of(alloc, rest)?;
                 self.captures.push(octets)?;
             }
+            "command" => {
+                self.add_commands(alloc, rest.as_bytes())?;
+                self.add_commands(alloc, b"\n")?;
+            }
+            "control" => {
+                let octets = self.octets_of(alloc, rest)?;
+                self.add_commands(alloc, octets.as_slice())?;
+            }
+            "pieces" => self.pieces = rest.parse::<usize>()?,
             "words" => self.words = words_of(alloc, rest)?,
             "fails" => self.set_fault(alloc, rest)?,
             "openings" => self.tells_openings = true,
             _ => bail!("no line of a scene: {line}"),
         }
+        Ok(())
+    }
+
+    // No input holds anything, and control has none.
+    fn forget_inputs(&mut self, alloc: Global) {
+        self.captures = Vec::new(alloc);
+        self.commands = None;
+        self.pieces = READ_MOST;
+    }
+
+    // Adds octets to control's input.
+    fn add_commands(&mut self, alloc: Global, octets: &[u8]) -> Result<(), AllocError> {
+        let mut commands = self.commands.take().unwrap_or(Vec::new(alloc));
+        commands.extend_from_slice(octets)?;
+        self.commands = Some(commands);
         Ok(())
     }
 

@@ -1,25 +1,22 @@
 //! The world in memory of a scene.
 
-ghost use Rattle.std.specs.Prelude.{◌≡◌, IfOk, length};
+ghost use Rattle.std.specs.Prelude.{◌≡◌, ◌≤◌, IfOk, length};
 
 use crate::recording_world::RecordingWorld;
-use crate::scene::Scene;
+use crate::scene::{READ_MOST, Scene};
 use anyhow::bail;
 use arrayvec::ArrayVec;
 use savi_ends::{Ends, MemClock, MemEnds, MemSink, MemSource, MemWorld};
 use savi_kinds::{Port, Text};
 use std::alloc::{AllocError, Global};
 
-/// The most octets that a source gives in a read.
-const READ_MOST: usize = 65_536;
-
-/// Room for what is written at a port, or of a journal.
+/// Room for what is written at a port or by control, or of a journal.
 const FILE_ROOM: usize = 8_192;
 
 /// Room for what standard output and standard error are told.
 const TEXT_ROOM: usize = 256;
 
-/// The world of a scene: the configuration under the name `plan`, a port for each capture, and room for a journal.
+/// The world of a scene: the configuration under the name `plan`, a port for each capture, control, and room for a journal.
 pub fn stage(alloc: Global, scene: &Scene) -> anyhow::Result<RecordingWorld> {
     let journal = Text::new(String::from_str(alloc, "journal.txt")?);
     let mut outputs = Vec::new(alloc);
@@ -29,7 +26,7 @@ pub fn stage(alloc: Global, scene: &Scene) -> anyhow::Result<RecordingWorld> {
         inputs: plan_of(alloc, scene)?,
         outputs,
         ports: ports_of(alloc, scene)?,
-        control: Some(ends_of(alloc, Vec::new(alloc), Vec::new(alloc), Vec::new(alloc))?),
+        control: Some(control_of(alloc, scene)?),
         ticker: Some(MemClock::new(Vec::new(alloc))),
         out: Some(MemSink::make(alloc, TEXT_ROOM, fault_of(alloc, scene, "summary")?)?),
         err: Some(MemSink::make(alloc, TEXT_ROOM, fault_of(alloc, scene, "error")?)?),
@@ -71,21 +68,35 @@ fn ports_of(alloc: Global, scene: &Scene) -> anyhow::Result<Vec<(Port, Option<Me
         let write = format!(in alloc; "write {number}")?;
         let reads = fault_of(alloc, scene, read.as_str())?;
         let writes = fault_of(alloc, scene, write.as_str())?;
-        let ends = ends_of(alloc, capture.clone()?, reads, writes)?;
+        let ends = ends_of(alloc, capture.clone()?, READ_MOST, reads, writes)?;
         ports.push((port, Some(ends)))?;
     }
     Ok(ports)
 }
 
-// Ends of which these reads and these writes fail.
+// The ends of control, whose input holds nothing where the scene gives it none.
+fn control_of(alloc: Global, scene: &Scene) -> Result<MemEnds, AllocError> {
+    let octets = match &scene.commands {
+        Some(commands) => commands.clone()?,
+        None => Vec::new(alloc),
+    };
+    let reads = fault_of(alloc, scene, "read control")?;
+    let writes = fault_of(alloc, scene, "write control")?;
+    ends_of(alloc, octets, scene.pieces.max(1), reads, writes)
+}
+
+// Ends of which these reads and these writes fail, and of which a read gives at most so many octets.
 fn ends_of(
     alloc: Global,
     octets: Vec<u8>,
+    most: usize,
     reads: Vec<u64>,
     writes: Vec<u64>,
-) -> Result<MemEnds, AllocError> {
+) -> Result<MemEnds, AllocError>
+    requires { 1 ≤ most }
+{
     Ok(Ends {
-        source: MemSource::new(octets, READ_MOST, reads),
+        source: MemSource::new(octets, most, reads),
         sink: MemSink::make(alloc, FILE_ROOM, writes)?,
         clock: MemClock::new(Vec::new(alloc)),
     })

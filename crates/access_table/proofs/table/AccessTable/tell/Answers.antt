@@ -1,4 +1,5 @@
 use Rattle.std.proofs.Common.{◌≡◌, Some, is_some, refl, ap, sym, ◌∙◌, subst}
+use Rattle.addr_table.specs.Rooms.{IsFixable}
 use Rattle.savi_access.specs.Rules.{AccessRules}
 use Rattle.savi_access.specs.Plans.{rules_of, method_in}
 use Rattle.access_table.specs.Kept.{Kept, IsReady}
@@ -25,6 +26,6 @@ returns-clause-heard c =
       ap is_some found,
       λ base past port is own. record {
         answer = c.event.ensures.answer ∙ event_answer r base past t c.requires.moment at_first is c.args.a.0 c.args.ev m port found;
-        kept = event_stands r base past t c.requires.moment at_first is c.args.a.0 c.args.ev m port found c.requires.frame own new c.event.ensures.rows refl;
+        kept = event_stands r base past t c.requires.moment at_first is c.args.a.0 c.args.ev m port found c.requires.lease (subst (λ (old : Kept). IsFixable old.addresses.per_port old.addresses.rows c.args.a.0 c.args.ev) (sym c.self.view_is) c.requires.fixable) own new c.event.ensures.rows refl;
       },
     )

@@ -20,6 +20,9 @@ use Rattle.savi_core.proofs.Showing.{lane_at, lane_in, there_in}
 use Rattle.savi_core.proofs.Stepping.{row, drain_fits, remembers_drain, stepped_view}
 use Rattle.savi_core.proofs.Knowing.{knows_drain}
 use Rattle.savi_core.proofs.Telling.{tells_drain}
+use Rattle.savi_core.proofs.Shutting.{shut_as}
+use Rattle.savi_core.proofs.Refusing.{no_refusal}
+use Rattle.savi_core.proofs.Tallying.{few_counted, counted_too}
 use Rattle.savi_core.proofs.machine.Core.drain.Goals as goal
 
 pub len-requires : goal.len-requires
@@ -52,6 +55,14 @@ drain-requires-clause-there c =
     let known : has_port inside.ports number ≡ true = ap (λ (m : Machine). has_port m.plan number) c.self.view_is ∙ c.requires.port in
     there_in c.self.invariant.0.queues number c.place_of-place.result no_lane known c.place_of-place.ensures.place
 
+pub add-requires : goal.add-requires
+add-requires c =
+    let inside = c.self.inside in
+    let number = number_of c.args.port in
+    let known : has_port inside.ports number ≡ true = ap (λ (m : Machine). has_port m.plan number) c.self.view_is ∙ c.requires.port in
+    let size = waits_at c.self.invariant.0 number c.place_of-place.result no_lane known c.place_of-place.ensures.place in
+    few_counted c.self.invariant.0 inside.tally c.self.invariant.7 (drain_fits c.self.invariant.0 number known (omega (arith, size, c.len.ensures, c.min-count.ensures, c.if-count-eq0.false)))
+
 pub append-requires-clause-room : goal.append-requires-clause-room
 append-requires-clause-room c =
     let inside = c.self.inside in
@@ -76,12 +87,14 @@ invariant_of-self c =
     record { known = known; running = waits_open inside.ports (reverse rows) number c.self.invariant.0.legal known (omega (arith, least, most)) } in
     let e_is = subst (λ (m : Machine). e ≡ entry_of m event) (sym c.self.view_is) c.drain_entry-entry.ensures in
     rw c.append.ensures (
-      remembers_drain c.self.invariant.0 c.args.port count c.place_of-place.result no_lane e c.drain.new.self.lanes (open_pass, least, most) e_is c.place_of-place.ensures.place (ap (λ (r : Rings). r.lanes) c.drain.ensures.left),
+      shut_as (sym (ap (λ (r : Rings). r.shut) c.drain.ensures.left)) (remembers_drain c.self.invariant.0 c.args.port count c.place_of-place.result no_lane e c.drain.new.self.lanes (open_pass, least, most) e_is c.place_of-place.ensures.place (ap (λ (r : Rings). r.lanes) c.drain.ensures.left)),
       c.self.invariant.1,
       c.self.invariant.2,
       c.self.invariant.3,
       knows_drain c.self.invariant.0 inside.fdb c.self.invariant.4 c.args.port count e e_is,
       tells_drain c.self.invariant.0 inside.access c.self.invariant.5 c.args.port count e e_is,
+      no_refusal c.self.invariant.0 (events.Drain c.args.port count) e [] inside.refused e_is tt,
+      counted_too c.self.invariant.0 inside.tally c.add.new.self e [] c.self.invariant.7 c.add.ensures,
     )
 
 pub returns : goal.returns

@@ -1,4 +1,4 @@
-use Rattle.std.proofs.Common.{◌≡◌, get_or, sym, subst, ap, ◌∙◌, arith, false}
+use Rattle.std.proofs.Common.{[], ◌≡◌, get_or, sym, subst, ap, ◌∙◌, arith, false}
 use Rattle.savi_kinds.specs.declared.entry.Entry.{Entry}
 use Rattle.savi_history.specs.Passes.{pass_of}
 use Rattle.savi_history.specs.Events as events
@@ -6,12 +6,16 @@ use Rattle.savi_history.specs.Legal.{MayCome}
 use Rattle.savi_core.specs.Machines.{Machine, base_of}
 use Rattle.savi_core.specs.Steps.{entry_of}
 use Rattle.savi_core.specs.PassMarks.{PassMarks}
+use Rattle.savi_core.specs.Rings.{Rings}
 use Rattle.savi_core.proofs.Places.{pass_within}
 use Rattle.savi_core.proofs.Remembering.{pass_small}
 use Rattle.savi_core.proofs.Showing.{lane_count}
 use Rattle.savi_core.proofs.Stepping.{end_fits, remembers_pass}
 use Rattle.savi_core.proofs.Knowing.{knows_end}
 use Rattle.savi_core.proofs.Telling.{tells_end}
+use Rattle.savi_core.proofs.Shutting.{shut_as}
+use Rattle.savi_core.proofs.Refusing.{no_refusal}
+use Rattle.savi_core.proofs.Tallying.{few_counted, counted_too}
 use Rattle.savi_core.proofs.machine.Core.end.Goals as goal
 
 pub end-requires-clause-pass : goal.end-requires-clause-pass
@@ -42,6 +46,12 @@ end-requires-2-clause-known c =
 pub end-requires-2-clause-count : goal.end-requires-2-clause-count
 end-requires-2-clause-count c = lane_count c.self.invariant.0.queues
 
+pub add-requires : goal.add-requires
+add-requires c =
+    let event = events.End c.args.who c.args.how in
+    let may = subst (λ (m : Machine). MayCome m.plan (base_of m) m.past event) (sym c.self.view_is) c.requires in
+    few_counted c.self.invariant.0 c.self.inside.tally c.self.invariant.7 (end_fits c.self.invariant.0 c.args.who may.0)
+
 pub append-requires-clause-room : goal.append-requires-clause-room
 append-requires-clause-room c =
     let event = events.End c.args.who c.args.how in
@@ -55,10 +65,12 @@ invariant_of-self c =
     let may = subst (λ (m : Machine). MayCome m.plan (base_of m) m.past event) (sym c.self.view_is) c.requires in
     let e_is = subst (λ (m : Machine). e ≡ entry_of m event) (sym c.self.view_is) c.end_entry-entry.ensures in
     rw c.append.ensures (
-      remembers_pass c.self.invariant.0 c.args.who c.args.how e c.end.new.self.ended c.end-2.new.self.lanes may e_is (ap (λ (m : PassMarks). m.ended) c.end.ensures) c.end-2.ensures.lanes,
+      shut_as (sym (ap (λ (r : Rings). r.shut) c.end-2.ensures.counts)) (remembers_pass c.self.invariant.0 c.args.who c.args.how e c.end.new.self.ended c.end-2.new.self.lanes may e_is (ap (λ (m : PassMarks). m.ended) c.end.ensures) c.end-2.ensures.lanes),
       c.self.invariant.1,
       c.self.invariant.2,
       ap (λ (m : PassMarks). m.inputs) c.end.ensures ∙ c.self.invariant.3,
       knows_end c.self.invariant.0 c.self.inside.fdb c.self.invariant.4 c.args.who c.args.how e e_is,
       tells_end c.self.invariant.0 c.self.inside.access c.self.invariant.5 c.args.who c.args.how e e_is,
+      no_refusal c.self.invariant.0 event e [] c.self.inside.refused e_is tt,
+      counted_too c.self.invariant.0 c.self.inside.tally c.add.new.self e [] c.self.invariant.7 c.add.ensures,
     )

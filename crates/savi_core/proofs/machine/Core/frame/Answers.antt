@@ -1,4 +1,4 @@
-use Rattle.std.proofs.Common.{ℕ, ◌≡◌, ◌≤◌, ◌^◌, min, max, map, length, reverse, true, refl, sym, subst, ap, ◌∙◌, arith}
+use Rattle.std.proofs.Common.{ℕ, Bool, ◌&&◌, not, ◌≡◌, ◌≤◌, ◌^◌, min, max, map, length, reverse, true, refl, sym, subst, ap, ◌∙◌, arith}
 use Rattle.savi_kinds.specs.declared.plan.Plan.{Plan}
 use Rattle.savi_kinds.specs.Ports.{number_of}
 use Rattle.savi_kinds.specs.ValidPlan.{IsValidPlan}
@@ -9,9 +9,10 @@ use Rattle.access_table.specs.Kept.{IsReady}
 use Rattle.savi_history.specs.Bases.{empty, access_of}
 use Rattle.savi_history.specs.Vlans.{the_vlan}
 use Rattle.savi_history.specs.Passes.{has_port}
+use Rattle.savi_history.specs.Limits.{has_room}
 use Rattle.savi_history.specs.Moments.{moment_at}
 use Rattle.savi_history.specs.Marks.{marks}
-use Rattle.savi_history.specs.Outs.{outs_by, outs}
+use Rattle.savi_history.specs.Outs.{outs_by, without_shut, outs}
 use Rattle.savi_history.specs.Queues.{probes, lost}
 use Rattle.savi_history.specs.Events as events
 use Rattle.savi_history.specs.Legal.{MayCome}
@@ -20,7 +21,15 @@ use Rattle.savi_core.specs.Steps.{entry_of}
 use Rattle.savi_core.specs.Lanes.{with_frame}
 use Rattle.savi_core.specs.Waits.{Show}
 use Rattle.savi_core.proofs.Lanes.{probed_lane}
-use Rattle.savi_core.specs.Rings.{Rings}
+use Rattle.frame_class.specs.Classes.{eth_of}
+use Rattle.bridge_fdb.specs.Stations.{live_at}
+use Rattle.savi_kinds.specs.PortSets.{is_member}
+use Rattle.savi_history.specs.ShutPorts.{is_shut}
+use Rattle.savi_history.specs.Stations.{port_among}
+use Rattle.savi_core.specs.Rings.{Rings, shut_in}
+use Rattle.savi_core.proofs.Shutting.{shut_judged, shut_as, open_outs}
+use Rattle.savi_core.proofs.Refusing.{no_refusal}
+use Rattle.savi_core.proofs.Tallying.{few_counted_before, counted_too}
 use Rattle.savi_core.specs.Judges.{Judges}
 use Rattle.savi_core.proofs.Showing.{lane_numbers, cuts_are}
 use Rattle.savi_core.proofs.Remembering.{room_for, held-reverse}
@@ -49,10 +58,10 @@ pub judge-verdict-requires-clause-ready : goal.judge-verdict-requires-clause-rea
 judge-verdict-requires-clause-ready c = subst (λ (p : Plan). IsReady (rules_of p) c.self.inside.moment c.self.inside.access) (sym c.plan.ensures.plan) c.self.invariant.5.ready
 
 -- what the judgement leaves
-judges : (c : goal.After-append) → Judges (rules_of c.self.inside.ports) c.self.inside.moment c.moment_at-moment.result c.args.port c.args.class.now c.judge-verdict.new.access c.self.inside.queues c.judge-verdict.new.queues c.judge-verdict.result (access_of empty) (marks c.self.inside.ports empty (reverse c.self.inside.hist.rows))
+judges : (c : goal.After-append) → Judges (rules_of c.self.inside.ports) c.self.inside.moment c.moment_at-moment.result (shut_in c.self.inside.queues.shut (number_of c.args.port)) c.args.port c.args.class.now c.judge-verdict.new.access c.self.inside.queues c.judge-verdict.new.queues c.judge-verdict.result (access_of empty) (marks c.self.inside.ports empty (reverse c.self.inside.hist.rows))
 judges c =
     let inside = c.self.inside in
-    judged_here c.self.invariant.0 inside.access c.self.invariant.5 c.plan.result.now c.plan.ensures.plan c.moment_at-moment.result (omega (arith, c.moment_at-moment.ensures)) c.args.port c.args.class.now c.judge-verdict.new.access inside.queues c.judge-verdict.new.queues c.judge-verdict.result c.judge-verdict.ensures.judged
+    judged_here c.self.invariant.0 inside.access c.self.invariant.5 c.plan.result.now c.plan.ensures.plan c.moment_at-moment.result (omega (arith, c.moment_at-moment.ensures)) (shut_in c.self.inside.queues.shut (number_of c.args.port)) c.args.port c.args.class.now c.judge-verdict.new.access inside.queues c.judge-verdict.new.queues c.judge-verdict.result c.judge-verdict.ensures.judged
 
 ready : (c : goal.After-append) → IsReady (rules_of c.self.inside.ports) (moment_at empty (reverse c.self.inside.hist.rows) c.args.stamp) c.judge-verdict.new.access
 ready c =
@@ -63,18 +72,25 @@ ready c =
 before : (c : goal.After-append) → Show c.self.inside.ports c.self.inside.hist.rows c.judge-verdict.new.queues.lanes (probed_lane c.self.inside.ports empty (reverse c.self.inside.hist.rows) (events.frame_act (reverse c.self.inside.hist.rows) c.args.port c.args.stamp c.args.octets.now) c.args.octets.now)
 before c =
     let inside = c.self.inside in
-    shows_framed c.self.invariant.0 inside.access c.self.invariant.5 c.judge-verdict.new.access inside.queues c.judge-verdict.new.queues refl c.moment_at-moment.result c.args.stamp (moment_is c) c.args.port c.args.octets.now c.args.class.now c.requires.class c.judge-verdict.result (judges c)
+    shows_framed c.self.invariant.0 inside.access c.self.invariant.5 c.judge-verdict.new.access inside.queues c.judge-verdict.new.queues refl refl c.moment_at-moment.result c.args.stamp (moment_is c) c.args.port c.args.octets.now c.args.class.now c.requires.class c.judge-verdict.result (judges c)
 
 counts : (c : goal.After-append) → (c.judge-verdict.new.queues.queued ≡ probes c.self.inside.ports empty (reverse c.self.inside.hist.rows) (events.frame_act (reverse c.self.inside.hist.rows) c.args.port c.args.stamp c.args.octets.now) c.args.octets.now)
     × (c.judge-verdict.new.queues.lost ≡ lost c.self.inside.ports empty (reverse c.self.inside.hist.rows) (events.frame_act (reverse c.self.inside.hist.rows) c.args.port c.args.stamp c.args.octets.now) c.args.octets.now)
 counts c =
     let inside = c.self.inside in
-    counts_framed c.self.invariant.0 inside.access c.self.invariant.5 c.judge-verdict.new.access inside.queues c.judge-verdict.new.queues refl c.moment_at-moment.result c.args.stamp (moment_is c) c.args.port c.args.octets.now c.args.class.now c.requires.class c.judge-verdict.result (judges c)
+    counts_framed c.self.invariant.0 inside.access c.self.invariant.5 c.judge-verdict.new.access inside.queues c.judge-verdict.new.queues refl refl c.moment_at-moment.result c.args.stamp (moment_is c) c.args.port c.args.octets.now c.args.class.now c.requires.class c.judge-verdict.result (judges c)
 
 may : (c : goal.After-append) → MayCome c.self.inside.ports empty (reverse c.self.inside.hist.rows) (events.Frame c.args.port c.args.stamp c.args.octets.now)
 may c =
     let event = events.Frame c.args.port c.args.stamp c.args.octets.now in
     subst (λ (m : Machine). MayCome m.plan (base_of m) m.past event) (sym c.self.view_is) (may_frame c.args.self.now c.args.port c.args.stamp c.args.octets.now c.requires.may (sym c.has_room.ensures ∙ c.if-not-has_room.false) c.ranges.stamp.fits)
+
+-- the ports that are shut stay so
+still_shut : (c : goal.After-append) → c.judge-verdict.new.queues.shut ≡ c.self.inside.queues.shut
+still_shut c = shut_judged _ _ _ _ _ _ _ c.self.inside.queues c.judge-verdict.new.queues _ _ _ (judges c)
+
+shut_now : (c : goal.After-append) → shut_in c.judge-verdict.new.queues.shut ≡ (λ number. is_shut empty number (reverse c.self.inside.hist.rows))
+shut_now c = ap shut_in (still_shut c) ∙ c.self.invariant.0.shut_ports
 
 -- the entry is that of the frame's row, by what the core keeps
 abbrev inner : (c : goal.After-append) → Machine
@@ -97,9 +113,10 @@ inner_is c =
     c.pass_of-by.ensures
     (moment_is c)
     (c.held.ensures ∙ sym (held-reverse inside.hist.rows))
-    (verdict_now c.self.invariant.0 inside.access c.self.invariant.5 c.judge-verdict.new.access inside.queues c.judge-verdict.new.queues refl c.moment_at-moment.result stamp (moment_is c) port octets c.args.class.now c.requires.class verdict (judges c))
-    (c.outs-outs.ensures.outs
-    ∙ ap (λ known. outs_by inside.ports (number_of port) known verdict) (place_is inside.fdb inside.moment c.moment_at-moment.result empty past c.args.class.now octets later c.self.invariant.4 c.requires.class)
+    (verdict_now c.self.invariant.0 inside.access c.self.invariant.5 c.judge-verdict.new.access inside.queues c.judge-verdict.new.queues refl refl c.moment_at-moment.result stamp (moment_is c) port octets c.args.class.now c.requires.class verdict (judges c))
+    (open_outs inside.ports empty past (outs_by inside.ports (number_of port) (port_among (live_at c.moment_at-moment.result inside.fdb) (eth_of c.args.class.now)) verdict) c.outs-outs.result c.outs-outs.ensures.known
+    (λ n least. c.outs-outs.ensures.outs n least ∙ ap (λ (shut : ℕ → Bool). is_member (outs_by inside.ports (number_of port) (port_among (live_at c.moment_at-moment.result inside.fdb) (eth_of c.args.class.now)) verdict) n && not (shut n)) (shut_now c))
+    ∙ ap (λ known. without_shut inside.ports empty past (outs_by inside.ports (number_of port) known verdict)) (place_is inside.fdb inside.moment c.moment_at-moment.result empty past c.args.class.now octets later c.self.invariant.4 c.requires.class)
     ∙ ap (λ t. outs the_vlan inside.ports empty past (number_of port) t octets verdict) (moment_is c))
     (c.offer_frame-cuts.ensures.cuts ∙ cuts_are inside.ports empty past inside.hist.rows act octets c.outs-outs.result c.judge-verdict.new.queues.lanes (before c))
     (c.queued.ensures ∙ ap (λ (r : Rings). r.queued) c.offer_frame-cuts.ensures.lanes ∙ (counts c).0)
@@ -112,8 +129,8 @@ pub offer_frame-cuts-requires-clause-lanes : goal.offer_frame-cuts-requires-clau
 offer_frame-cuts-requires-clause-lanes c =
     let inside = c.self.inside in
     let moment_here : c.moment_at-moment.result ≡ moment_at empty (reverse inside.hist.rows) c.args.stamp = c.moment_at-moment.ensures ∙ ap (λ n. max n (min c.args.stamp (2 ^ 62))) c.self.invariant.0.last in
-    let judged = judged_here c.self.invariant.0 inside.access c.self.invariant.5 c.plan.result.now c.plan.ensures.plan c.moment_at-moment.result (omega (arith, c.moment_at-moment.ensures)) c.args.port c.args.class.now c.judge-verdict.new.access inside.queues c.judge-verdict.new.queues c.judge-verdict.result c.judge-verdict.ensures.judged in
-    let shows = shows_framed c.self.invariant.0 inside.access c.self.invariant.5 c.judge-verdict.new.access inside.queues c.judge-verdict.new.queues refl c.moment_at-moment.result c.args.stamp moment_here c.args.port c.args.octets.now c.args.class.now c.requires.class c.judge-verdict.result judged in
+    let judged = judged_here c.self.invariant.0 inside.access c.self.invariant.5 c.plan.result.now c.plan.ensures.plan c.moment_at-moment.result (omega (arith, c.moment_at-moment.ensures)) (shut_in c.self.inside.queues.shut (number_of c.args.port)) c.args.port c.args.class.now c.judge-verdict.new.access inside.queues c.judge-verdict.new.queues c.judge-verdict.result c.judge-verdict.ensures.judged in
+    let shows = shows_framed c.self.invariant.0 inside.access c.self.invariant.5 c.judge-verdict.new.access inside.queues c.judge-verdict.new.queues refl refl c.moment_at-moment.result c.args.stamp moment_here c.args.port c.args.octets.now c.args.class.now c.requires.class c.judge-verdict.result judged in
     lane_numbers shows (λ q. refl)
 
 pub teach-requires : goal.teach-requires
@@ -125,6 +142,11 @@ append-requires-clause-bytes c =
     let may_come = subst (λ (m : Machine). MayCome m.plan (base_of m) m.past event) (sym c.self.view_is) (may_frame c.args.self.now c.args.port c.args.stamp c.args.octets.now c.requires.may (sym c.has_room.ensures ∙ c.if-not-has_room.false) c.ranges.stamp.fits) in
     omega (arith, (room_for c.self.invariant.0 may_come.0.room).1, may_come.1, c.self.invariant.2)
 
+pub add-requires : goal.add-requires
+add-requires c =
+    let room = subst (λ (m : Machine). has_room m.plan m.past ≡ true) (sym c.self.view_is) (sym c.has_room.ensures ∙ c.if-not-has_room.false) in
+    few_counted_before c.self.invariant.0 c.self.inside.tally c.self.invariant.7 room
+
 pub invariant_of-self : goal.invariant_of-self
 invariant_of-self c =
     let inside = c.self.inside in
@@ -133,14 +155,16 @@ invariant_of-self c =
     let octets = c.args.octets.now in
     let e = made_now c in
     let lanes_are = ap (λ (r : Rings). r.lanes) c.offer_frame-cuts.ensures.lanes ∙ ap (λ n. map (with_frame (queued.Frame n) c.outs-outs.result) c.judge-verdict.new.queues.lanes) c.len-2.ensures.len in
-    let states = states_after c.self.invariant.0 inside.access c.self.invariant.5 c.judge-verdict.new.access inside.queues c.judge-verdict.new.queues refl c.moment_at-moment.result stamp (moment_is c) port octets c.args.class.now c.requires.class c.judge-verdict.result (judges c) in
+    let states = states_after c.self.invariant.0 inside.access c.self.invariant.5 c.judge-verdict.new.access inside.queues c.judge-verdict.new.queues refl refl c.moment_at-moment.result stamp (moment_is c) port octets c.args.class.now c.requires.class c.judge-verdict.result (judges c) in
     rw c.append.ensures (
-      remembers_frame c.self.invariant.0 port stamp octets e c.judge-verdict.new.queues.lanes c.offer_frame-cuts.new.self.lanes (may c) (inner_is c) (before c) lanes_are,
+      shut_as (sym (ap (λ (r : Rings). r.shut) c.offer_frame-cuts.ensures.lanes ∙ still_shut c)) (remembers_frame c.self.invariant.0 port stamp octets e c.judge-verdict.new.queues.lanes c.offer_frame-cuts.new.self.lanes (may c) (inner_is c) (before c) lanes_are),
       c.self.invariant.1,
       c.self.invariant.2,
       c.self.invariant.3,
       knows_frame c.self.invariant.0 inside.fdb c.self.invariant.4 port stamp octets c.args.class.now c.judge-verdict.result e c.teach.new.fdb c.requires.class (inner_is c) refl c.teach.ensures,
       tells_frame c.self.invariant.0 inside.access c.self.invariant.5 port stamp octets e c.judge-verdict.new.access (inner_is c) states (ready c),
+      no_refusal c.self.invariant.0 (events.Frame port stamp octets) e octets inside.refused (inner_is c) tt,
+      counted_too c.self.invariant.0 inside.tally c.add.new.self e octets c.self.invariant.7 c.add.ensures,
     )
 
 pub returns : goal.returns

@@ -1,16 +1,22 @@
-use Rattle.std.proofs.Common.{ℕ, ◌≡◌, ◌^◌, min, max, [], reverse, Some, refl, sym, subst, ap, ◌∙◌, arith}
+use Rattle.std.proofs.Common.{true, ℕ, Bool, ◌≡◌, ◌^◌, min, max, [], reverse, Some, refl, sym, subst, ap, ◌∙◌, arith}
 use Rattle.savi_kinds.specs.declared.plan.Plan.{Plan}
 use Rattle.savi_kinds.specs.declared.entry.Entry.{Entry}
 use Rattle.savi_kinds.specs.declared.entry.Act.TheVariants as acts
-use Rattle.savi_kinds.specs.declared.verdict.Rule.TheVariants.{Malformed}
-use Rattle.savi_kinds.specs.declared.verdict.Verdict.TheVariants.{Drop}
+use Rattle.savi_kinds.specs.declared.port.PortSet.{PortSet}
+use Rattle.savi_kinds.specs.Ports.{number_of}
 use Rattle.savi_access.specs.Plans.{rules_of}
 use Rattle.access_table.specs.Kept.{IsReady}
 use Rattle.savi_history.specs.Bases.{empty, access_of}
+use Rattle.savi_history.specs.Limits.{has_room}
 use Rattle.savi_history.specs.Moments.{moment_at}
 use Rattle.savi_history.specs.Marks.{marks}
 use Rattle.savi_history.specs.Events as events
 use Rattle.savi_history.specs.Legal.{MayCome}
+use Rattle.savi_history.specs.Judged.{long_by, judged_long}
+use Rattle.savi_core.specs.Rings.{shut_in}
+use Rattle.savi_core.proofs.Shutting.{shut_aged, shut_as}
+use Rattle.savi_core.proofs.Refusing.{no_refusal}
+use Rattle.savi_core.proofs.Tallying.{few_counted_before, counted_too}
 use Rattle.savi_core.specs.Machines.{Machine, base_of}
 use Rattle.savi_core.specs.Judges.{Ages}
 use Rattle.savi_core.specs.Steps.{entry_of}
@@ -44,34 +50,51 @@ abbrev inner : (c : goal.After-append) → Machine
 inner c = record { plan = c.self.inside.ports; past = reverse c.self.inside.hist.rows }
 
 abbrev stored : (c : goal.After-append) → Entry
-stored c = record c.plain_entry.result { verdict = Some (Drop Malformed); probes = c.queued.result; lost = c.lost.result }
+stored c = record c.plain_entry.result { verdict = Some c.judge_long.result; probes = c.queued.result; lost = c.lost.result }
+
+-- the ports that are shut stay so
+still_shut : (c : goal.After-append) → c.age.new.queues.shut ≡ c.self.inside.queues.shut
+still_shut c = shut_aged _ _ _ _ c.self.inside.queues c.age.new.queues _ _ (ages c)
+
+verdict_is : (c : goal.After-append) → c.judge_long.result ≡ judged_long empty (reverse c.self.inside.hist.rows) c.args.port
+verdict_is c =
+    c.judge_long.ensures
+    ∙ ap (λ (set : PortSet). long_by (shut_in set (number_of c.args.port))) (still_shut c)
+    ∙ ap (λ (shut : ℕ → Bool). long_by (shut (number_of c.args.port))) c.self.invariant.0.shut_ports
 
 -- the entry is that of the row, by what the core keeps
 inner_is : (c : goal.After-append) → stored c ≡ entry_of (inner c) (events.Long c.args.port c.args.stamp c.args.len)
 inner_is c =
     let inside = c.self.inside in
-    let counts = counts_aged c.self.invariant.0 inside.access c.self.invariant.5 c.age.new.access inside.queues c.age.new.queues refl c.moment_at-moment.result c.args.stamp (moment_is c) (ages c) (acts.Long c.args.port c.args.stamp c.args.len) (long_offers inside.ports empty (reverse inside.hist.rows) c.args.port c.args.stamp c.args.len []) in
-    ap (λ (e : Entry). record e { verdict = Some (Drop Malformed); probes = c.queued.result; lost = c.lost.result }) c.plain_entry.ensures
-    ∙ long_entry_is (inner c) c.args.port c.args.stamp c.args.len c.pass_of-by.result c.moment_at-moment.result c.queued.result c.lost.result
-    c.pass_of-by.ensures (moment_is c) (c.queued.ensures ∙ counts.0) (c.lost.ensures ∙ counts.1)
+    let counts = counts_aged c.self.invariant.0 inside.access c.self.invariant.5 c.age.new.access inside.queues c.age.new.queues refl refl c.moment_at-moment.result c.args.stamp (moment_is c) (ages c) (acts.Long c.args.port c.args.stamp c.args.len) [] (long_offers inside.ports empty (reverse inside.hist.rows) c.args.port c.args.stamp c.args.len []) in
+    ap (λ (e : Entry). record e { verdict = Some c.judge_long.result; probes = c.queued.result; lost = c.lost.result }) c.plain_entry.ensures
+    ∙ long_entry_is (inner c) c.args.port c.args.stamp c.args.len c.pass_of-by.result c.moment_at-moment.result c.judge_long.result c.queued.result c.lost.result
+    c.pass_of-by.ensures (moment_is c) (verdict_is c) (c.queued.ensures ∙ counts.0) (c.lost.ensures ∙ counts.1)
 
 stored_is : (c : goal.After-append) → stored c ≡ entry_of c.args.self.now (events.Long c.args.port c.args.stamp c.args.len)
 stored_is c = inner_is c ∙ ap (λ (m : Machine). entry_of m (events.Long c.args.port c.args.stamp c.args.len)) c.self.view_is
+
+pub add-requires : goal.add-requires
+add-requires c =
+    let room = subst (λ (m : Machine). has_room m.plan m.past ≡ true) (sym c.self.view_is) (sym c.has_room.ensures ∙ c.if-not-has_room.false) in
+    few_counted_before c.self.invariant.0 c.self.inside.tally c.self.invariant.7 room
 
 pub invariant_of-self : goal.invariant_of-self
 invariant_of-self c =
     let inside = c.self.inside in
     let event = events.Long c.args.port c.args.stamp c.args.len in
     let may = subst (λ (m : Machine). MayCome m.plan (base_of m) m.past event) (sym c.self.view_is) (may_long c.args.self.now c.args.port c.args.stamp c.args.len c.requires (sym c.has_room.ensures ∙ c.if-not-has_room.false) c.ranges.stamp.fits c.ranges.len.fits) in
-    let shows = shows_aged c.self.invariant.0 inside.access c.self.invariant.5 c.age.new.access inside.queues c.age.new.queues refl c.moment_at-moment.result c.args.stamp (moment_is c) (ages c) (acts.Long c.args.port c.args.stamp c.args.len) (long_offers inside.ports empty (reverse inside.hist.rows) c.args.port c.args.stamp c.args.len []) in
-    let states = states_aged c.self.invariant.0 inside.access c.self.invariant.5 c.age.new.access inside.queues c.age.new.queues refl c.moment_at-moment.result c.args.stamp (moment_is c) (ages c) in
+    let shows = shows_aged c.self.invariant.0 inside.access c.self.invariant.5 c.age.new.access inside.queues c.age.new.queues refl refl c.moment_at-moment.result c.args.stamp (moment_is c) (ages c) (acts.Long c.args.port c.args.stamp c.args.len) [] (long_offers inside.ports empty (reverse inside.hist.rows) c.args.port c.args.stamp c.args.len []) in
+    let states = states_aged c.self.invariant.0 inside.access c.self.invariant.5 c.age.new.access inside.queues c.age.new.queues refl refl c.moment_at-moment.result c.args.stamp (moment_is c) (ages c) in
     rw c.append.ensures (
-      remembers_long c.self.invariant.0 c.args.port c.args.stamp c.args.len (stored c) c.age.new.queues.lanes may (inner_is c) shows,
+      shut_as (sym (still_shut c)) (remembers_long c.self.invariant.0 c.args.port c.args.stamp c.args.len (stored c) c.age.new.queues.lanes may (inner_is c) shows),
       c.self.invariant.1,
       c.self.invariant.2,
       c.self.invariant.3,
       knows_long c.self.invariant.0 inside.fdb c.self.invariant.4 c.args.port c.args.stamp c.args.len (stored c) (inner_is c),
       tells_long c.self.invariant.0 inside.access c.self.invariant.5 c.args.port c.args.stamp c.args.len (stored c) c.age.new.access (inner_is c) states (ready c),
+      no_refusal c.self.invariant.0 event (stored c) [] inside.refused (inner_is c) tt,
+      counted_too c.self.invariant.0 inside.tally c.add.new.self (stored c) [] c.self.invariant.7 c.add.ensures,
     )
 
 pub returns : goal.returns

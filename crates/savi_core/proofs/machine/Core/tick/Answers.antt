@@ -1,4 +1,4 @@
-use Rattle.std.proofs.Common.{ℕ, ◌≡◌, ◌≤◌, ◌^◌, min, max, false, [], reverse, refl, sym, subst, ap, ◌∙◌, arith}
+use Rattle.std.proofs.Common.{true, ℕ, ◌≡◌, ◌≤◌, ◌^◌, min, max, false, [], reverse, refl, sym, subst, ap, ◌∙◌, arith}
 use Rattle.std.proofs.lemmas.Bool.{false≢true}
 use Rattle.savi_kinds.specs.declared.plan.Plan.{Plan}
 use Rattle.savi_kinds.specs.declared.entry.Entry.{Entry}
@@ -6,12 +6,16 @@ use Rattle.savi_kinds.specs.declared.entry.Act.TheVariants as acts
 use Rattle.savi_access.specs.Plans.{rules_of}
 use Rattle.access_table.specs.Kept.{Kept as Table, IsReady}
 use Rattle.savi_history.specs.Bases.{empty, access_of}
+use Rattle.savi_history.specs.Limits.{has_room}
 use Rattle.savi_history.specs.Moments.{last_moment, moment_at}
 use Rattle.savi_history.specs.Marks.{marks}
 use Rattle.savi_history.specs.Offers.{due_by}
 use Rattle.savi_history.specs.Ticks.{HasChangedBy}
 use Rattle.savi_history.specs.Events as events
 use Rattle.savi_history.specs.Legal.{MayCome}
+use Rattle.savi_core.proofs.Shutting.{shut_aged, shut_as}
+use Rattle.savi_core.proofs.Refusing.{no_refusal}
+use Rattle.savi_core.proofs.Tallying.{few_counted_before, counted_too}
 use Rattle.savi_core.specs.Machines.{Machine, base_of}
 use Rattle.savi_core.specs.Judges.{Ages}
 use Rattle.savi_core.specs.Tells.{Tells}
@@ -84,11 +88,15 @@ inner c = record { plan = c.self.inside.ports; past = reverse c.self.inside.hist
 abbrev stored : (c : goal.After-append) → Entry
 stored c = record c.plain_entry.result { probes = c.queued.result; lost = c.lost.result }
 
+-- the ports that are shut stay so
+still_shut : (c : goal.After-append) → c.age.new.queues.shut ≡ c.self.inside.queues.shut
+still_shut c = shut_aged _ _ _ _ c.self.inside.queues c.age.new.queues _ _ (ages c)
+
 -- the entry is that of the row, by what the core keeps
 inner_is : (c : goal.After-append) → stored c ≡ entry_of (inner c) (events.Tick c.args.stamp)
 inner_is c =
     let inside = c.self.inside in
-    let counts = counts_aged c.self.invariant.0 c.is_due.new.self (told_still c) c.age.new.access inside.queues c.age.new.queues refl c.moment_at-moment.result c.args.stamp (moment_is c) (ages c) (acts.Tick c.args.stamp) (tick_offers inside.ports empty (reverse inside.hist.rows) c.args.stamp []) in
+    let counts = counts_aged c.self.invariant.0 c.is_due.new.self (told_still c) c.age.new.access inside.queues c.age.new.queues refl refl c.moment_at-moment.result c.args.stamp (moment_is c) (ages c) (acts.Tick c.args.stamp) [] (tick_offers inside.ports empty (reverse inside.hist.rows) c.args.stamp []) in
     ap (λ (e : Entry). record e { probes = c.queued.result; lost = c.lost.result }) c.plain_entry.ensures
     ∙ tick_entry_is (inner c) c.args.stamp c.pass_of-by.result c.moment_at-moment.result c.queued.result c.lost.result
     c.pass_of-by.ensures (moment_is c) (c.queued.ensures ∙ counts.0) (c.lost.ensures ∙ counts.1)
@@ -99,20 +107,27 @@ stored_is c = inner_is c ∙ ap (λ (m : Machine). entry_of m (events.Tick c.arg
 due : (c : goal.After-append) → IsDue c.args.self.now (events.Tick c.args.stamp)
 due c = subst (λ (m : Machine). IsDue m (events.Tick c.args.stamp)) c.self.view_is (changed c)
 
+pub add-requires : goal.add-requires
+add-requires c =
+    let room = subst (λ (m : Machine). has_room m.plan m.past ≡ true) (sym c.self.view_is) (sym c.has_room.ensures ∙ c.if-not-has_room.false) in
+    few_counted_before c.self.invariant.0 c.self.inside.tally c.self.invariant.7 room
+
 pub invariant_of-self-2 : goal.invariant_of-self-2
 invariant_of-self-2 c =
     let inside = c.self.inside in
     let event = events.Tick c.args.stamp in
     let may = subst (λ (m : Machine). MayCome m.plan (base_of m) m.past event) (sym c.self.view_is) (may_tick c.args.self.now c.args.stamp c.requires (sym c.has_room.ensures ∙ c.if-not-has_room.false) c.ranges.stamp.fits (due c)) in
-    let shows = shows_aged c.self.invariant.0 c.is_due.new.self (told_still c) c.age.new.access inside.queues c.age.new.queues refl c.moment_at-moment.result c.args.stamp (moment_is c) (ages c) (acts.Tick c.args.stamp) (tick_offers inside.ports empty (reverse inside.hist.rows) c.args.stamp []) in
-    let states = states_aged c.self.invariant.0 c.is_due.new.self (told_still c) c.age.new.access inside.queues c.age.new.queues refl c.moment_at-moment.result c.args.stamp (moment_is c) (ages c) in
+    let shows = shows_aged c.self.invariant.0 c.is_due.new.self (told_still c) c.age.new.access inside.queues c.age.new.queues refl refl c.moment_at-moment.result c.args.stamp (moment_is c) (ages c) (acts.Tick c.args.stamp) [] (tick_offers inside.ports empty (reverse inside.hist.rows) c.args.stamp []) in
+    let states = states_aged c.self.invariant.0 c.is_due.new.self (told_still c) c.age.new.access inside.queues c.age.new.queues refl refl c.moment_at-moment.result c.args.stamp (moment_is c) (ages c) in
     rw c.append.ensures (
-      remembers_tick c.self.invariant.0 c.args.stamp (stored c) c.age.new.queues.lanes may (inner_is c) shows,
+      shut_as (sym (still_shut c)) (remembers_tick c.self.invariant.0 c.args.stamp (stored c) c.age.new.queues.lanes may (inner_is c) shows),
       c.self.invariant.1,
       c.self.invariant.2,
       c.self.invariant.3,
       knows_tick c.self.invariant.0 inside.fdb c.self.invariant.4 c.args.stamp (stored c) (inner_is c),
       tells_tick c.self.invariant.0 c.is_due.new.self (told_still c) c.args.stamp (stored c) c.age.new.access (inner_is c) states (ready c),
+      no_refusal c.self.invariant.0 event (stored c) [] inside.refused (inner_is c) tt,
+      counted_too c.self.invariant.0 inside.tally c.add.new.self (stored c) [] c.self.invariant.7 c.add.ensures,
     )
 
 pub returns : goal.returns

@@ -1,6 +1,8 @@
 use Rattle.std.proofs.Common.{◌++◌, ◌∷◌, [], List, ap, sym, ◌∙◌, map, take, arith}
 use Rattle.std.proofs.lemmas.List.{take_more, take_all, map-append}
 use Rattle.savi_kinds.specs.declared.plan.PortPlan.{PortPlan}
+use Rattle.savi_kinds.specs.declared.port.PortSet.{PortSet}
+use Rattle.savi_kinds.specs.PortSets.{no_ports}
 use Rattle.egress_ring.specs.declared.item.Item.{Item as Queued}
 use Rattle.savi_core.specs.Lanes.{Lane, empty_lane}
 use Rattle.savi_core.specs.Rings.{Rings}
@@ -22,5 +24,6 @@ loop-port-preserved c =
 
 pub returns : goal.returns
 returns c =
-    ap (λ (lanes : List (Lane Queued)). let r : Rings = record { lanes = lanes; queued = 0; lost = 0 } in r)
+    ap (λ (set : PortSet). let r : Rings = record { lanes = c.loop-port.queues.items; shut = set; queued = 0; lost = 0 } in r) c.empty.ensures
+    ∙ ap (λ (lanes : List (Lane Queued)). let r : Rings = record { lanes = lanes; shut = no_ports; queued = 0; lost = 0 } in r)
     (c.loop-port.invariant ∙ ap (map (empty_lane c.args.depth)) (take_all c.loop-port.port-index c.args.ports.now (omega arith)))

@@ -27,6 +27,7 @@ loop-port-init c =
       offered =
           subst (λ (cuts : PortSet). IsOffered (queued.Frame c.args.n) c.args.outs c.args.outs cuts old c.self.inside.queues.items) (sym c.empty-cuts.ensures)
           (subst (λ (lanes : List (Lane Queued)). IsOffered (queued.Frame c.args.n) c.args.outs c.args.outs no_ports old lanes) (sym lanes_are) (offered_none (queued.Frame c.args.n) c.args.outs old lows));
+      shut = ap (λ (r : Rings). r.shut) c.self.view_is;
       joined = ap (λ (r : Rings). r.queued) c.self.view_is;
       lost = ap (λ (r : Rings). r.lost) c.self.view_is;
     }
@@ -71,6 +72,7 @@ loop-port-preserved c =
       offered =
           offered_more (queued.Frame c.args.n) c.args.outs c.loop-port.left cuts old now lows far was m p within number_is there least c.without-left.result c.if-offer_frame.cuts c.offer_frame.new.self flag
           (λ d. c.offer_frame.ensures.lane ∙ ap (with_offered (queued.Frame c.args.n)) (here d)) (λ d. c.offer_frame.ensures.cut ∙ ap takes_none (here d)) c.without-left.ensures.members more;
+      shut = c.loop-port.invariant.shut;
       joined = c.loop-port.invariant.joined;
       lost = c.loop-port.invariant.lost;
     }
@@ -86,7 +88,7 @@ returns-clause-lanes c =
     let far : AreApart (map (λ (lane : Lane Queued). lane.number) old) =
     subst AreApart (sym c.requires.lanes) (λ j k j_in k_in other. apart (numbers_of ports) j k c.requires.valid.ports j_in k_in other) in
     let lanes_are = (offered_all (queued.Frame c.args.n) c.args.outs c.loop-port.left c.loop-port.cuts old c.loop-port.self-inside.queues.items lows far c.loop-port.invariant.offered c.in_default.ensures.member).0 in
-    rings_are lanes_are c.loop-port.invariant.joined c.loop-port.invariant.lost
+    rings_are lanes_are c.loop-port.invariant.shut c.loop-port.invariant.joined c.loop-port.invariant.lost
 
 pub returns-clause-cuts : goal.returns-clause-cuts
 returns-clause-cuts c =

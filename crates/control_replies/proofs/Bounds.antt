@@ -1,0 +1,188 @@
+-- How long the replies are.
+use Rattle.std.proofs.Common.{ℕ, ◌≡◌, ◌+◌, ◌*◌, ◌<◌, ◌≤◌, ◌^◌, List, [], ◌∷◌, ◌++◌, length, map, codes, decimal, Option, Some, None, IfSome, Bool, true, false, ap, ◌∙◌, refl, arith}
+use Rattle.std.proofs.lemmas.List.{length-append}
+use Rattle.std.specs.List.{AllByRecursion, join_with_byte}
+use Rattle.savi_kinds.specs.declared.address.Addr.{Addr}
+use Rattle.savi_kinds.specs.declared.address.Mac.{Mac}
+use Rattle.savi_kinds.specs.declared.port.Port.{Port}
+use Rattle.savi_kinds.specs.declared.plan.Role.{Role}
+use Rattle.savi_kinds.specs.declared.plan.Role.TheVariants.{Host, Server, Trusted}
+use Rattle.savi_kinds.specs.declared.verdict.Rule.{Rule}
+use Rattle.savi_kinds.specs.declared.verdict.Rule.TheVariants as rules
+use Rattle.savi_kinds.specs.AddrText.{addr_text}
+use Rattle.savi_kinds.specs.MacText.{mac_text, hex_pair, colon}
+use Rattle.savi_kinds.specs.PlanWords.{role_word}
+use Rattle.savi_kinds.proofs.AddrWritten.{most_len}
+use Rattle.fcfs_states.specs.declared.times.Times.{Times}
+use Rattle.fcfs_states.specs.declared.state.Fcfs.{Fcfs}
+use Rattle.fcfs_states.specs.declared.state.Fcfs.TheVariants.{NoBind, Tentative, Valid, TestLt, TestVp}
+use Rattle.dhcp_states.specs.declared.bound.Bound.{Bound}
+use Rattle.bind_table.specs.declared.row.Row.{Row}
+use Rattle.hist_store.specs.TextOfLines.{lines_text}
+use Rattle.hist_store.specs.PortTexts.{port_text}
+use Rattle.hist_store.specs.VerdictTexts.{rule_name}
+use Rattle.control_replies.specs.declared.refusal.Refusal.{Refusal}
+use Rattle.control_replies.specs.declared.refusal.Refusal.TheVariants.{UnknownCommand, BadAddress, BadPort, NoSuchPort, TrustedPort, OffLink, PortFull, NoBinding}
+use Rattle.control_replies.specs.declared.port_row.PortRow.{PortRow}
+use Rattle.control_replies.specs.declared.counts.Counts.{Counts}
+use Rattle.control_replies.specs.Replies.{refusal_text, end_text}
+use Rattle.control_replies.specs.Bindings.{claimant_text, until_text, binding_fields, fcfs_lines, bound_lines, state_lines, binding_lines, all_binding_lines, bindings_text, HasMoments, HasEnd, IsStored}
+use Rattle.control_replies.specs.Shows.{shut_word, port_fields, port_line, ports_text, station_fields, station_line, stations_text, HasCounts, IsStation}
+use Rattle.control_replies.specs.Counters.{all_rules, count_of, counter_fields, rule_fields, other_lines, counters_text, AreCounts}
+use Rattle.control_replies.proofs.Lines.{twenty_digits, port_digits, line_size, lines_more, lines_size}
+
+pub refusal_size : (refusal : Refusal) → length (refusal_text refusal) ≤ 23
+refusal_size UnknownCommand = omega arith
+refusal_size BadAddress = omega arith
+refusal_size BadPort = omega arith
+refusal_size NoSuchPort = omega arith
+refusal_size TrustedPort = omega arith
+refusal_size OffLink = omega arith
+refusal_size PortFull = omega arith
+refusal_size NoBinding = omega arith
+
+claimant_size : (claimant : Option Port) → length (claimant_text claimant) ≤ 2
+claimant_size (Some port) = port_digits port
+claimant_size None = omega arith
+
+until_size : (until : Option ℕ) → IfSome until (λ moment. moment < 2 ^ 65) → length (until_text until) ≤ 20
+until_size (Some moment) fits = twenty_digits moment fits
+until_size None fits = omega arith
+
+-- a line of an address
+binding_size : (address : Addr) (port : Port) (state : List ℕ) (claimant : Option Port) (until : Option ℕ) → length state ≤ 10 → IfSome until (λ moment. moment < 2 ^ 65) → length (lines_text (binding_fields address port state claimant until ∷ [])) ≤ 78
+binding_size address port state claimant until short fits =
+    omega (arith, line_size (addr_text address) (port_text port ∷ state ∷ claimant_text claimant ∷ until_text until ∷ []), most_len address, port_digits port, short, claimant_size claimant, until_size until fits)
+
+fcfs_size : (times : Times) (address : Addr) (fcfs : Fcfs) → times.test < 2 ^ 64 → HasMoments fcfs → length (lines_text (fcfs_lines times address fcfs)) ≤ 78
+fcfs_size times address NoBind test fits = omega arith
+fcfs_size times address (Tentative p since two) test fits = binding_size address p (codes "tentative") None (Some (since + times.test)) (omega arith) (omega (arith, test, fits))
+fcfs_size times address (Valid p until) test fits = binding_size address p (codes "valid") None (Some until) (omega arith) (omega (arith, fits))
+fcfs_size times address (TestLt p since two) test fits = binding_size address p (codes "testing-lt") None (Some (since + times.test)) (omega arith) (omega (arith, test, fits))
+fcfs_size times address (TestVp p q since two) test fits = binding_size address p (codes "testing-vp") (Some q) (Some (since + times.test)) (omega arith) (omega (arith, test, fits))
+
+end_fits : (until : Option ℕ) → IfSome until (λ moment. moment < 2 ^ 64) → IfSome until (λ moment. moment < 2 ^ 65)
+end_fits (Some moment) fits = omega (arith, fits)
+end_fits None fits = fits
+
+bound_size : (address : Addr) (dhcp : Option Bound) → HasEnd dhcp → length (lines_text (bound_lines address dhcp)) ≤ 78
+bound_size address (Some bound) fits = binding_size address bound.p (codes "bound") None bound.until (omega arith) (end_fits bound.until fits)
+bound_size address None fits = omega arith
+
+state_size : (times : Times) (address : Addr) (fixed : Option Port) (fcfs : Fcfs) (dhcp : Option Bound) → times.test < 2 ^ 64 → HasMoments fcfs → HasEnd dhcp → length (lines_text (state_lines times address fixed fcfs dhcp)) ≤ 156
+state_size times address (Some port) fcfs dhcp test first second = omega (arith, binding_size address port (codes "static") None None (omega arith) tt)
+state_size times address None fcfs dhcp test first second =
+    let both : length (lines_text (bound_lines address dhcp ++ fcfs_lines times address fcfs)) ≡ length (lines_text (bound_lines address dhcp)) + length (lines_text (fcfs_lines times address fcfs)) =
+    ap length (lines_more (bound_lines address dhcp) (fcfs_lines times address fcfs)) ∙ length-append (lines_text (bound_lines address dhcp)) (lines_text (fcfs_lines times address fcfs)) in
+    omega (arith, both, fcfs_size times address fcfs test first, bound_size address dhcp second)
+
+pub row_size : (times : Times) (row : Row) → times.test < 2 ^ 64 → IsStored row → length (binding_lines times row) ≤ 156
+row_size times row test stored = state_size times row.address row.state.fixed row.state.fcfs row.state.dhcp test stored.fcfs stored.dhcp
+
+pub rows_size : (times : Times) (rows : List Row) → times.test < 2 ^ 64 → AllByRecursion IsStored rows → length (all_binding_lines times rows) ≤ 156 * length rows
+rows_size times [] test stored = omega arith
+rows_size times (row ∷ rows) test stored =
+    omega (arith, length-append (binding_lines times row) (all_binding_lines times rows), row_size times row test stored.0, rows_size times rows test stored.1)
+
+pub bindings_size : (times : Times) (rows : List Row) → times.test < 2 ^ 64 → AllByRecursion IsStored rows → length rows ≤ 1024 → length (bindings_text times rows) ≤ 262144
+bindings_size times rows test stored few = omega (arith, length-append (all_binding_lines times rows) end_text, rows_size times rows test stored, few)
+
+role_size : (role : Role) → length (role_word role) ≤ 7
+role_size Host = omega arith
+role_size Server = omega arith
+role_size Trusted = omega arith
+
+shut_size : (is_shut : Bool) → length (shut_word is_shut) ≤ 4
+shut_size true = omega arith
+shut_size false = omega arith
+
+number_size : (n : ℕ) → n < 2 ^ 64 → length (decimal n) ≤ 20
+number_size n fits = twenty_digits n (omega (arith, fits))
+
+pub port_size : (row : PortRow) → HasCounts row → length (port_line row) ≤ 79
+port_size row counts =
+    omega (
+      arith,
+      line_size (port_text row.number) (role_word row.role ∷ shut_word row.is_shut ∷ decimal row.held ∷ decimal row.pending ∷ decimal row.queued ∷ []),
+      port_digits row.number,
+      role_size row.role,
+      shut_size row.is_shut,
+      number_size row.held counts.held,
+      number_size row.pending counts.pending,
+      number_size row.queued counts.queued,
+    )
+
+pub ports_size : (rows : List PortRow) → AllByRecursion HasCounts rows → length rows ≤ 16 → length (ports_text rows) ≤ 262144
+ports_size rows counts few = omega (arith, length-append (lines_text (map port_fields rows)) end_text, lines_size port_fields HasCounts 79 rows port_size counts, few)
+
+-- two digits for each octet, and a colon between each two
+pairs_size : (octet : ℕ) (octets : List ℕ) → length (join_with_byte colon (map hex_pair (octet ∷ octets))) ≡ 3 * length octets + 2
+pairs_size octet [] = refl
+pairs_size octet (next ∷ octets) = omega (arith, pairs_size next octets)
+
+mac_size : (octets : List ℕ) → length octets ≡ 6 → length (join_with_byte colon (map hex_pair octets)) ≤ 17
+mac_size [] six = omega arith
+mac_size (octet ∷ octets) six = omega (arith, pairs_size octet octets, six)
+
+pub station_size : (row : Mac × Port × ℕ) → IsStation row → length (station_line row) ≤ 42
+station_size row station =
+    omega (arith, line_size (mac_text row.0) (port_text row.1 ∷ decimal row.2 ∷ []), mac_size row.0.0 station.mac.0, port_digits row.1, number_size row.2 station.until)
+
+pub stations_size : (rows : List (Mac × Port × ℕ)) → AllByRecursion IsStation rows → length rows ≤ 4096 → length (stations_text rows) ≤ 262144
+stations_size rows stations few = omega (arith, length-append (lines_text (map station_fields rows)) end_text, lines_size station_fields IsStation 42 rows station_size stations, few)
+
+name_size : (rule : Rule) → length (rule_name rule) ≤ 17
+name_size rules.PortDown = omega arith
+name_size rules.Malformed = omega arith
+name_size rules.ReservedGroup = omega arith
+name_size rules.SourceMac = omega arith
+name_size rules.Tagged = omega arith
+name_size rules.BadIpv6 = omega arith
+name_size rules.HiddenUpper = omega arith
+name_size rules.UnknownNextHeader = omega arith
+name_size rules.RouterAdvert = omega arith
+name_size rules.FragmentedNd = omega arith
+name_size rules.BadNd = omega arith
+name_size rules.Redirect = omega arith
+name_size rules.DhcpServer = omega arith
+name_size rules.UnspecifiedSource = omega arith
+name_size rules.OffLink = omega arith
+name_size rules.NotAssigned = omega arith
+name_size rules.PortFull = omega arith
+name_size rules.WrongPort = omega arith
+name_size rules.Unverified = omega arith
+name_size rules.Contested = omega arith
+name_size rules.NaTarget = omega arith
+name_size rules.PendingFull = omega arith
+name_size rules.DhcpContested = omega arith
+
+counter_size : (name : List ℕ) (count : ℕ) → length name ≤ 17 → count < 2 ^ 64 → length (lines_text (counter_fields name count ∷ [])) ≤ 39
+counter_size name count short fits = omega (arith, line_size name (decimal count ∷ []), short, number_size count fits)
+
+all_have : {A : Type 0} (P : A → Type 0) → ((x : A) → P x) → (xs : List A) → AllByRecursion P xs
+all_have P each [] = tt
+all_have P each (x ∷ xs) = (each x, all_have P each xs)
+
+pub counters_size : (counts : Counts) → AreCounts counts → length (counters_text counts) ≤ 1057
+counters_size counts are =
+    let first : List (List (List ℕ)) = map (rule_fields counts) all_rules in
+    let each = λ (rule : Rule) (fits : count_of counts rule < 2 ^ 64). counter_size (rule_name rule) (count_of counts rule) (name_size rule) fits in
+    let by_rule : length (lines_text first) ≤ 39 * 23 = lines_size (rule_fields counts) (λ rule. count_of counts rule < 2 ^ 64) 39 all_rules each (all_have (λ rule. count_of counts rule < 2 ^ 64) are.by_rule all_rules) in
+    let pass = counter_size (codes "Pass") counts.pass (omega arith) are.pass in
+    let cut = counter_size (codes "Cut") counts.cut (omega arith) are.cut in
+    let probes = counter_size (codes "Probes") counts.probes (omega arith) are.probes in
+    let lost = counter_size (codes "Lost") counts.lost (omega arith) are.lost in
+    let line : List ℕ → ℕ → List (List (List ℕ)) = λ name count. counter_fields name count ∷ [] in
+    let more = λ (a b : List (List (List ℕ))). ap length (lines_more a b) ∙ length-append (lines_text a) (lines_text b) in
+    let others : length (lines_text (other_lines counts)) ≤ 39 * 4 =
+    omega (
+      arith,
+      pass,
+      cut,
+      probes,
+      lost,
+      more (line (codes "Pass") counts.pass) (line (codes "Cut") counts.cut ++ line (codes "Probes") counts.probes ++ line (codes "Lost") counts.lost),
+      more (line (codes "Cut") counts.cut) (line (codes "Probes") counts.probes ++ line (codes "Lost") counts.lost),
+      more (line (codes "Probes") counts.probes) (line (codes "Lost") counts.lost),
+    ) in
+    omega (arith, by_rule, others, more first (other_lines counts), length-append (lines_text (first ++ other_lines counts)) end_text)

@@ -1,0 +1,4 @@
+pub mod Replies
+pub mod Bindings
+pub mod Shows
+pub mod Counters

@@ -1,0 +1,4 @@
+pub mod Drawn
+pub mod OneMore
+pub mod PlanHolds
+pub mod Wholes

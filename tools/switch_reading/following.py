@@ -1,0 +1,134 @@
+"""Who has which address when, from the entries of a journal. It reads the frames, and goes by states.py beside this file; of
+the verdicts that stand in the journal it only notes where it would have judged otherwise."""
+import collections
+import heapq
+from typing import NamedTuple
+
+from . import commands
+from .frame import read_frame
+from .states import NONE, TENTATIVE, TEST_CLAIM, TEST_LIFE, VALID
+from .switch import Switch, verdict_text
+
+TESTED, LEASED, STATIC = "tested", "leased", "static"
+KINDS = {TENTATIVE: TENTATIVE, VALID: VALID, TEST_LIFE: TESTED, TEST_CLAIM: TESTED}
+
+
+class Binding(NamedTuple):
+    """The port that has an address, and by what: TENTATIVE, VALID, TESTED, LEASED or STATIC. `claimant` is the port for
+    which it is tested, or None. `also` is what it has by first come besides its lease, or None."""
+
+    port: int
+    kind: str
+    claimant: int | None = None
+    also: str | None = None
+
+
+class Change(NamedTuple):
+    """What an address comes to, or None where it becomes free; the entry that does it, or where time does it the first
+    entry behind."""
+
+    moment: int
+    binding: Binding | None
+    entry: int
+    by_time: bool
+
+
+def binding_of(state):
+    if state is None or state.is_free:
+        return None
+    if state.fixed is not None:
+        return Binding(state.fixed, STATIC)
+    first = None if state.first.state == NONE else KINDS[state.first.state]
+    if state.bound:
+        return Binding(state.bound[0], LEASED, also=first)
+    return Binding(state.first.port, first, state.first.claimant)
+
+
+def next_due(state, times):
+    """The moment at which a state ends or changes, or None."""
+    dues = [state.first.due(times), state.bound[1] if state.bound else None]
+    return min((due for due in dues if due is not None), default=None)
+
+
+class Follower(Switch):
+    """`tracks` has the changes of each address that was ever held. `others` are the entries that this reading would have
+    judged otherwise. Its work for an entry doesn't grow with the number of addresses."""
+
+    def __init__(self, plan):
+        super().__init__(plan)
+        self.tracks, self.others, self.entry = {}, [], 0
+        # What is due, earliest first, and of each address the earliest moment that stands there.
+        self.dues, self.awaited, self.request_due = [], {}, 0
+        # The ports that hold each address, and how many addresses each port holds.
+        self.holders, self.counts = {}, collections.Counter()
+
+    def take(self, entry):
+        """The next entry of the journal."""
+        if entry.kind in "DE":
+            return
+        self.entry = entry.number
+        self.come_to(entry.moment)
+        if entry.kind == "F":
+            verdict = self.judge(self.ports[entry.port], read_frame(entry.octets))
+            if verdict_text(verdict) != entry.verdict:
+                self.others.append(entry.number)
+        elif entry.kind == "C":
+            commands.command(self, entry.octets)()
+            for address in [*self.holders, *self.addresses]:
+                self.note(address, self.moment, False)
+
+    def come_to(self, moment):
+        self.moment = moment
+        while self.dues and self.dues[0][0] <= moment:
+            due, address = heapq.heappop(self.dues)
+            if self.awaited.get(address) == due:
+                del self.awaited[address]
+                self.ripen(address)
+        if self.requests and self.request_due <= moment:
+            self.forget()
+            self.request_due = min(self.requests.values(), default=0)
+
+    def ripen(self, address):
+        """Lets come what is due of an address, each at its moment."""
+        while (state := self.addresses.get(address)) and (due := next_due(state, self.plan)) is not None:
+            if due > self.moment:
+                self.wait_for(address, due)
+                return
+            state.age(due, self.plan)
+            if state.is_free:
+                del self.addresses[address]
+            self.note(address, due, True)
+
+    def wait_for(self, address, due):
+        if due < self.awaited.get(address, due + 1):
+            self.awaited[address] = due
+            heapq.heappush(self.dues, (due, address))
+
+    def note(self, address, moment, by_time):
+        state = self.addresses.get(address)
+        binding, track = binding_of(state), self.tracks.get(address, [])
+        if binding != (track[-1].binding if track else None):
+            self.tracks.setdefault(address, track).append(Change(moment, binding, self.entry, by_time))
+        ports = {port for port in self.ports if state.holds(port)} if state else set()
+        self.counts.update(ports)
+        self.counts.subtract(self.holders.pop(address, ()))
+        if ports:
+            self.holders[address] = ports
+        if state and (due := next_due(state, self.plan)) is not None:
+            self.wait_for(address, due)
+
+    # What the switch does otherwise: it looks at each address for each frame, and queues probes.
+
+    def keep(self, address, state):
+        super().keep(address, state)
+        self.note(address, self.moment, False)
+
+    def ask(self, port, message):
+        self.request_due = self.request_due or self.moment
+        return super().ask(port, message)
+
+    def held(self, port):
+        return self.counts[port]
+
+    def queue_probe(self, probe, address, due):
+        pass

@@ -1,0 +1,246 @@
+"""Journals (docs/FORMATS.md, The journal): the plan of one, and its entries one by one."""
+import functools
+import re
+from dataclasses import dataclass
+
+from .commands import RULES
+from .plan import Plan, PortPlan, key_fault, list_fault, read_mac, read_prefix
+
+# The longest line, in octets without its line feed: an entry with a frame of 1,518 octets, and more than the rest can take.
+LONGEST = 3400
+
+NUMBER, SET = "(0|[1-9][0-9]*)", "(-|[0-9,]+)"
+DIGITS, VERDICT = "(-|[0-9a-f]+)", r"(pass-all|pass-trusted(?:\+[0-9]+)?|drop-[A-Za-z0-9]+)"
+
+# The keys of the head behind `savi` and `unknown`, in their order, as CONFIGURATION.md has them.
+HEAD_NUMBERS = {
+    "per_port": "per_port", "depth": "depth", "entries": "entries", "bytes": "bytes", "gap": "probe_gap_ms",
+    "test": "test_ms", "binding": "binding_s",
+}
+
+
+def form(*parts):
+    return re.compile(" ".join(parts), re.ASCII)
+
+
+ENTRY = form(NUMBER, NUMBER, NUMBER, "([FLTCDE])", "(.*)")
+FORMS = {
+    "F": form(NUMBER, NUMBER, DIGITS, VERDICT, SET, SET, NUMBER, NUMBER),
+    "L": form(NUMBER, NUMBER, NUMBER, VERDICT, NUMBER, NUMBER),
+    "T": form(NUMBER, NUMBER, NUMBER),
+    "C": form(NUMBER, DIGITS, NUMBER, NUMBER),
+    "D": form(NUMBER, NUMBER),
+    "E": form("(control|ticker|in[0-9]+|out[0-9]+)", "(end|quit|failed|unwritten|(?:malformed|overlong|full) [0-9]+)"),
+}
+
+
+class Fault(Exception):
+    """A journal that can't be read on, and the line, from 1, at which that shows."""
+
+    def __init__(self, line, what):
+        super().__init__(f"line {line}: {what}")
+
+
+@dataclass(slots=True)
+class Entry:
+    """Moments and stamps are in ms. What an entry of its kind hasn't is None, 0 or empty."""
+
+    number: int
+    by: int
+    moment: int
+    kind: str
+    port: int | None = None
+    stamp: int | None = None
+    octets: bytes = b""
+    length: int = 0
+    verdict: str | None = None
+    outs: tuple = ()
+    cuts: tuple = ()
+    probes: int = 0
+    lost: int = 0
+    count: int = 0
+    who: str | None = None
+    how: str | None = None
+
+    @property
+    def rule(self):
+        """The rule that dropped the frame, or None."""
+        return self.verdict[5:] if self.verdict and self.verdict.startswith("drop-") else None
+
+
+@functools.lru_cache(maxsize=4096)
+def read_set(text):
+    """The ports of a set in rising order, or None."""
+    if text == "-":
+        return ()
+    words = text.split(",")
+    if not all(re.fullmatch("[1-9][0-9]?", word) for word in words):
+        return None
+    ports = tuple(map(int, words))
+    return ports if list(ports) == sorted(set(ports)) else None
+
+
+def shown(line):
+    """A line as it may stand in a message."""
+    text = ascii(line.rstrip("\n"))
+    return text if len(text) <= 72 else f"{text[:60]}.. ({len(line)} octets)"
+
+
+class Journal:
+    """A journal from its lines, which end with a line feed each. Raises Fault where one is at fault, also from `entries`."""
+
+    def __init__(self, lines):
+        self.lines, self.at = iter(lines), 0
+        self.plan = self.read_head()
+        numbers = [port.number for port in self.plan.ports]
+        self.ports = frozenset(numbers)
+        whos = [f"in{n}" for n in numbers] + ["control", "ticker"] + [f"out{n}" for n in numbers]
+        self.passes = {who: by for by, who in enumerate(whos)}
+
+    def fail(self, what):
+        raise Fault(self.at, what)
+
+    def line(self, what):
+        """The next line without its line feed. `what` says which one stands there in a whole journal."""
+        self.at += 1
+        line = next(self.lines, "")
+        if not line:
+            self.fail(f"the journal ends, and {what} is missing")
+        if len(line) > LONGEST + 1:
+            self.fail(f"more than {LONGEST:,} octets in one line")
+        if not line.endswith("\n"):
+            self.fail(f"cut short: {shown(line)}")
+        return line[:-1]
+
+    # The head.
+
+    def value(self, key, pattern):
+        line = self.line(f"`{key}`")
+        match = re.fullmatch(f"{key} {pattern}", line, re.ASCII)
+        return match[1] if match else self.fail(f"`{key}` and its value are expected, and here stands {shown(line)}")
+
+    def read_head(self):
+        if (line := self.line("`savi-journal 1`")) != "savi-journal 1":
+            self.fail(f"no journal of version 1, which begins with `savi-journal 1`: {shown(line)}")
+        top = {"mac": self.value("mac", "([0-9a-f:]+)")}
+        top |= {"savi": self.value("savi", "(on|off)"), "unknown": self.value("unknown", "(drop|pass)")}
+        top |= {name: int(self.value(key, NUMBER)) for key, name in HEAD_NUMBERS.items()}
+        life = top["binding_s"]
+        top["binding_s"] = life // 1000 if life % 1000 == 0 else self.fail("`binding` isn't a whole number of seconds")
+        ports, prefixes = self.read_lists()
+        if fault := key_fault(top) or list_fault(ports, prefixes):
+            self.fail(f"no configuration has the plan above: fault {fault} (docs/CONFIGURATION.md)")
+        return Plan(
+            mac=read_mac(top["mac"]), journal="", savi=top["savi"] == "on", drop_unknown=top["unknown"] == "drop",
+            per_port=top["per_port"], depth=top["depth"], entries=top["entries"], bytes=top["bytes"],
+            gap=top["probe_gap_ms"], test=top["test_ms"], life=life,
+            ports=[PortPlan(port["number"], port["role"], "", "", port["format"]) for port in ports],
+            prefixes=[(*read_prefix(prefix["prefix"]), prefix["method"]) for prefix in prefixes],
+        )
+
+    def read_lists(self):
+        """The lines of ports, and behind them those of prefixes, as a configuration has them."""
+        ports, prefixes = [], []
+        while (line := self.line("`begin`")) != "begin":
+            port = re.fullmatch("port ([1-9][0-9]?) ([a-z]+) (pcap|stream)", line, re.ASCII)
+            prefix = re.fullmatch("prefix ([0-9a-f:]+/[0-9]+) ([a-z]+)", line, re.ASCII)
+            if port and not prefixes:
+                ports.append({"number": int(port[1]), "role": port[2], "format": port[3]})
+            elif prefix and ports:
+                prefixes.append({"prefix": prefix[1], "method": prefix[2]})
+            else:
+                self.fail(f"a port, a prefix or `begin` is expected, and here stands {shown(line)}")
+        return ports, prefixes
+
+    # The entries.
+
+    def entries(self):
+        number, moment = 0, 0
+        while not (line := self.line(f"entry {number} or `end {number}`")).startswith("end "):
+            match = ENTRY.fullmatch(line) or self.fail(f"no entry: {shown(line)}")
+            found, by, now = int(match[1]), int(match[2]), int(match[3])
+            if found != number:
+                self.fail(f"entry {number} is expected, and here stands entry {found}")
+            if now < moment:
+                self.fail(f"entry {number} is earlier than the one before it, by {moment - now} ms")
+            yield self.read_entry(Entry(number, by, now, match[4]), match[5])
+            number, moment = number + 1, now
+        if line != f"end {number}":
+            self.fail(f"`end {number}` is expected, and here stands {shown(line)}")
+        self.at += 1
+        if (line := next(self.lines, "")):
+            self.fail(f"a line behind the journal's end: {shown(line)}")
+
+    def read_entry(self, entry, text):
+        match = FORMS[entry.kind].fullmatch(text)
+        if not match:
+            self.fail(f"entry {entry.number} isn't one of kind {entry.kind}: {shown(text)}")
+        {"F": self.read_frame, "L": self.read_long, "T": self.read_tick, "C": self.read_command, "D": self.read_drain,
+         "E": self.read_end}[entry.kind](entry, match.groups())
+        return entry
+
+    def read_frame(self, entry, words):
+        self.read_arrival(entry, words)
+        entry.octets, entry.verdict = self.read_octets(entry, words[2]), self.read_verdict(entry, words[3])
+        entry.length = len(entry.octets)
+        entry.outs, entry.cuts = self.read_ports(entry, words[4]), self.read_ports(entry, words[5])
+
+    def read_long(self, entry, words):
+        self.read_arrival(entry, words)
+        entry.length, entry.verdict = int(words[2]), self.read_verdict(entry, words[3])
+
+    def read_tick(self, entry, words):
+        self.read_pass(entry, "ticker")
+        entry.stamp, entry.probes, entry.lost = map(int, words)
+
+    def read_command(self, entry, words):
+        self.read_pass(entry, "control")
+        entry.stamp, entry.octets = int(words[0]), self.read_octets(entry, words[1])
+        entry.probes, entry.lost = int(words[2]), int(words[3])
+
+    def read_drain(self, entry, words):
+        entry.port, entry.count = map(int, words)
+        self.read_pass(entry, f"out{entry.port}")
+
+    def read_end(self, entry, words):
+        entry.who, entry.how = words
+        self.read_pass(entry, entry.who)
+
+    def read_arrival(self, entry, words):
+        entry.port, entry.stamp = int(words[0]), int(words[1])
+        entry.probes, entry.lost = int(words[-2]), int(words[-1])
+        self.read_pass(entry, f"in{entry.port}")
+
+    def read_pass(self, entry, who):
+        if (by := self.passes.get(who)) is None:
+            self.fail(f"entry {entry.number} is about `{who}`, and the plan above has no such port")
+        if by != entry.by:
+            self.fail(f"entry {entry.number} is of pass {entry.by}, and that of `{who}` is {by}")
+
+    def read_octets(self, entry, digits):
+        if digits == "-":
+            return b""
+        return self.fail(f"entry {entry.number} has half an octet") if len(digits) % 2 else bytes.fromhex(digits)
+
+    def read_verdict(self, entry, text):
+        word, _, name = text.partition("-")
+        port = name.partition("+")[2]
+        if word == "drop" and name not in RULES or port and int(port) not in self.ports:
+            self.fail(f"entry {entry.number} has no verdict of the rules: {text}")
+        return text
+
+    def read_ports(self, entry, text):
+        ports = read_set(text)
+        if ports is None or not self.ports.issuperset(ports):
+            self.fail(f"entry {entry.number} has no set of ports of the plan: {text}")
+        return ports
+
+
+def lines_of(file):
+    """The lines of a file that was opened by `open_journal`, none of them longer than can be told."""
+    return iter(lambda: file.readline(LONGEST + 2), "")
+
+
+def open_journal(name):
+    # Each octet is a character, so that any file can be read up to what is at fault in it.
+    return open(name, encoding="latin-1", newline="\n")
