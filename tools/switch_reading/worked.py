@@ -116,7 +116,7 @@ def sent(run, port):
     return [(arrival.stamp, arrival.octets) for arrival in found]
 
 
-N11 = claim(M1, A11)
+CLAIM_11 = claim(M1, A11)
 REQUEST, REPLY = NAMED["request"][1], NAMED["reply"][1]
 
 
@@ -132,7 +132,7 @@ def lease(addresses, transaction=0x0A0B0C, client=M1, mac=ROUTER_MAC, source=mak
 # Name, frames, control's lines, what the frames come to, replies.
 HISTORIES = (
     ("a host boots",
-     [(1, 1000, NAMED["report"][1]), (1, 1100, N11), (1, 2100, NAMED["router solicitation"][1]),
+     [(1, 1000, NAMED["report"][1]), (1, 1100, CLAIM_11), (1, 2100, NAMED["router solicitation"][1]),
       (4, 2110, making.router_advertisement(ROUTER_MAC, making.ROUTER)), (1, 2200, claim(M1, G11)),
       (1, 3000, data(M1, G11))],
      "3100 show bindings\n",
@@ -140,22 +140,22 @@ HISTORIES = (
       "1@2200 pass-trusted 4 0", "1@3000 pass-all 4 0"],
      ["2001:db8:1::11 1 valid - 303000", "fe80::11 1 valid - 302100", "end"]),
     ("data while an address is tentative",
-     [(1, 1000, N11), (1, 1100, data(M1, A11))], "1101 show bindings\n",
+     [(1, 1000, CLAIM_11), (1, 1100, data(M1, A11))], "1101 show bindings\n",
      ["1@1000 pass-trusted 4 0", "1@1100 drop-Unverified - 0"], ["fe80::11 1 tentative - 1500", "end"]),
     ("another host claims an address, and its holder answers",
-     [(1, 1000, N11), (2, 2000, data(M2, A11)), (1, 2400, making.advertisement(M1, A11))], "2450 show bindings\n",
+     [(1, 1000, CLAIM_11), (2, 2000, data(M2, A11)), (1, 2400, making.advertisement(M1, A11))], "2450 show bindings\n",
      ["1@1000 pass-trusted 4 0", "2@2000 drop-WrongPort - 1", "1@2400 pass-all 2,3,4,5 1"],
      ["fe80::11 1 valid - 302400", "end"]),
     ("another host claims an address, and its holder is gone",
-     [(1, 1000, N11), (2, 2000, data(M2, A11)), (2, 2500, data(M2, A11))], "2600 show bindings\n",
+     [(1, 1000, CLAIM_11), (2, 2000, data(M2, A11)), (2, 2500, data(M2, A11))], "2600 show bindings\n",
      ["1@1000 pass-trusted 4 0", "2@2000 drop-WrongPort - 1", "2@2500 pass-all 1,3,4,5 1"],
      ["fe80::11 2 valid - 302500", "end"]),
     ("a third host claims an address under a test",
-     [(1, 1000, N11), (2, 2000, data(M2, A11)), (3, 2300, data(M3, A11))], "2301 show bindings\n",
+     [(1, 1000, CLAIM_11), (2, 2000, data(M2, A11)), (3, 2300, data(M3, A11))], "2301 show bindings\n",
      ["1@1000 pass-trusted 4 0", "2@2000 drop-WrongPort - 1", "3@2300 drop-Contested - 1"],
      ["fe80::11 1 testing-vp 2 2500", "end"]),
     ("an objection from a trusted port",
-     [(1, 1000, N11), (4, 1200, making.advertisement(ROUTER_MAC, A11))], "1201 show bindings\n",
+     [(1, 1000, CLAIM_11), (4, 1200, making.advertisement(ROUTER_MAC, A11))], "1201 show bindings\n",
      ["1@1000 pass-trusted 4 0", "4@1200 pass-all 1,2,3,5 0"], ["end"]),
     ("router advertisements of a host",
      [(2, 1000 + at, advert) for at, advert in enumerate(ADVERTS)], "1002 show bindings\n",
@@ -167,22 +167,22 @@ HISTORIES = (
      ["2@1000 pass-trusted 4 0", "2@2000 drop-HiddenUpper - 0", "2@2001 pass-all 1,3,4,5 0", "2@2002 drop-BadIpv6 - 0"],
      []),
     ("a request and its reply",
-     [(1, 1000, N11), (5, 1000, claim(M2, A22)), (1, 2000, REQUEST), (5, 2100, REPLY), (1, 2300, data(M1, LEASED + 1)),
+     [(1, 1000, CLAIM_11), (5, 1000, claim(M2, A22)), (1, 2000, REQUEST), (5, 2100, REPLY), (1, 2300, data(M1, LEASED + 1)),
       (2, 2400, REPLY)], "2200 show bindings\n",
      ["1@1000 pass-trusted 4 0", "5@1000 pass-trusted 4 0", "1@2000 pass-all 2,3,4,5 0", "5@2100 pass-all 1 0",
       "1@2300 drop-NotAssigned - 0", "2@2400 drop-DhcpServer - 0"],
      ["2001:db8:2::101 1 bound - -", "fe80::11 1 valid - 302000", "fe80::22 5 valid - 302100", "end"]),
     ("another host asks with the same identity",
-     [(1, 1000, N11), (2, 1000, claim(M2, A12)), (1, 2000, REQUEST), (2, 2050, ask(M2, A12, 0x0A0B0C))], "",
+     [(1, 1000, CLAIM_11), (2, 1000, claim(M2, A12)), (1, 2000, REQUEST), (2, 2050, ask(M2, A12, 0x0A0B0C))], "",
      ["1@1000 pass-trusted 4 0", "2@1000 pass-trusted 4 0", "1@2000 pass-all 2,3,4,5 0", "2@2050 drop-DhcpContested - 0"],
      []),
     ("a lease of an address that another port claimed first",
-     [(2, 1000, claim(M2, MIXED)), (1, 1000, N11), (1, 2000, REQUEST), (4, 2100, lease([(MIXED, 600)]))],
+     [(2, 1000, claim(M2, MIXED)), (1, 1000, CLAIM_11), (1, 2000, REQUEST), (4, 2100, lease([(MIXED, 600)]))],
      "2200 show bindings\n",
      ["1@1000 pass-trusted 4 0", "2@1000 pass-trusted 4 0", "1@2000 pass-all 2,3,4,5 0", "4@2100 pass-all 1 0"],
      ["2001:db8:3::33 2 valid - 301500", "fe80::11 1 valid - 302000", "end"]),
     ("a lease of an address that its own port claimed first, and its release",
-     [(1, 1000, claim(M1, MIXED)), (1, 1000, N11), (1, 2000, REQUEST), (4, 2100, lease([(MIXED, 600)])),
+     [(1, 1000, claim(M1, MIXED)), (1, 1000, CLAIM_11), (1, 2000, REQUEST), (4, 2100, lease([(MIXED, 600)])),
       (1, 2300, making.to_server(M1, A11, making.message(8, 0x0A0B0D, making.identity(M1), [(MIXED, 600)]))),
       (1, 2400, data(M1, MIXED))],
      "2200 show bindings\n2350 show bindings\n",
@@ -197,7 +197,7 @@ HISTORIES = (
      ["ok", "ok", "02:00:00:00:00:11 1 302600", "end", "1 host up 0 0 0", "2 host up 0 0 0", "3 host up 0 0 0",
       "4 trusted up 0 0 0", "5 server up 0 0 0", "end"]),
     ("sixteen requests, and one more",
-     [(1, 1000, N11)] + [(1, 2000 + k, ask(M1, A11, k)) for k in range(1, 18)] + [(1, 122001, ask(M1, A11, 17))], "",
+     [(1, 1000, CLAIM_11)] + [(1, 2000 + k, ask(M1, A11, k)) for k in range(1, 18)] + [(1, 122001, ask(M1, A11, 17))], "",
      ["1@1000 pass-trusted 4 0"] + [f"1@{2000 + k} pass-all 2,3,4,5 0" for k in range(1, 17)]
      + ["1@2017 drop-PendingFull - 0", "1@122001 pass-all 2,3,4,5 0"], []),
     ("32 addresses at a port, and one more",
@@ -205,10 +205,10 @@ HISTORIES = (
      + [(2, 1033, claim(M2, making.LINK_LOCAL | 0x200))], "",
      [f"1@{1000 + k} pass-trusted 4 0" for k in range(32)] + ["1@1032 drop-PortFull - 0", "2@1033 pass-trusted 4 0"], []),
     ("a claim long after the holder was last heard",
-     [(1, 1000, N11), (2, 4000000, data(M2, A11))], "",
+     [(1, 1000, CLAIM_11), (2, 4000000, data(M2, A11))], "",
      ["1@1000 pass-trusted 4 0", "2@4000000 drop-Unverified - 3"], []),
     ("51 leases in one reply, and room for 31",
-     [(1, 1000, N11), (5, 1000, claim(M2, A22)), (1, 2000, making.to_server(M1, A11, making.message(3, 1, b"\0\3\1"))),
+     [(1, 1000, CLAIM_11), (5, 1000, claim(M2, A22)), (1, 2000, making.to_server(M1, A11, making.message(3, 1, b"\0\3\1"))),
       (5, 2100, making.to_client(M2, A22, M1, A11, making.message(
           7, 1, b"\0\3\1", [(LEASED - 0x101 + k, 600) for k in range(1, 52)])))],
      "2200 show ports\n",
@@ -243,9 +243,9 @@ JUDGED = (
     ("a first fragment with nothing in it", body(44, bytes.fromhex("3a00000100000001")), "drop-HiddenUpper"),
     ("next header 253", body(253, b""), "drop-UnknownNextHeader"),
     ("an authentication header of 8 octets", body(51, bytes.fromhex("1100000000000000") + bytes(8)), "drop-Unverified"),
-    ("a wrong checksum", N11[:-1] + b"\x12", "drop-BadNd"),
+    ("a wrong checksum", CLAIM_11[:-1] + b"\x12", "drop-BadNd"),
     ("a redirect", NAMED["router solicitation"][1].replace(b"\x85\x00\x7a", b"\x89\x00\x7a"), "drop-Redirect"),
-    ("a claim in a fragment", making.in_first_fragment(N11), "drop-FragmentedNd"),
+    ("a claim in a fragment", making.in_first_fragment(CLAIM_11), "drop-FragmentedNd"),
     ("a server's reply", REPLY, "drop-DhcpServer"),
 )
 
@@ -282,15 +282,15 @@ def check_probes(same):
     same(name, "port 4 sends", sent(run, 4), [(1000, probe), (1250, probe), (1500, data(M1, A11))])
     same(name, "entry 5 is", run.switch.entries[5].text.split()[4:], ["drop-Unverified", "-", "-", "1", "0"])
     name = "probes of a binding that ended long ago"
-    run = replay(plan_of(), [(1, 1000, N11), (2, 4000000, data(M2, A11))])
+    run = replay(plan_of(), [(1, 1000, CLAIM_11), (2, 4000000, data(M2, A11))])
     same(name, "port 1 sends", sent(run, 1), [(301500, probe), (301750, probe)])
-    same(name, "port 4 sends", sent(run, 4), [(1000, N11), (4000000, probe)])
+    same(name, "port 4 sends", sent(run, 4), [(1000, CLAIM_11), (4000000, probe)])
 
 
 def check_room(same):
     name = "one address for each port"
     plan = plan_of(more="per_port = 1\n")
-    run = replay(plan, [(1, 1000, N11), (1, 1100, claim(M1, G11)), (2, 1200, claim(M2, G11))])
+    run = replay(plan, [(1, 1000, CLAIM_11), (1, 1100, claim(M1, G11)), (2, 1200, claim(M2, G11))])
     same(name, "the frames come to", judged(run),
          ["1@1000 pass-trusted 4 0", "1@1100 drop-PortFull - 0", "2@1200 pass-trusted 4 0"])
     run = replay(plan, [], "".join(f"{line}\n" for line in STATIC_LINES))

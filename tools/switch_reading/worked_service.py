@@ -2,7 +2,7 @@
 2, 3 are hosts, 4 is trusted and 5 a server."""
 from . import making
 from .making import advertisement, claim, data, router_advertisement, router_solicitation, to_client, to_server
-from .worked import A11, A22, A33, LEASED, M1, M2, M3, N11, REPLY, REQUEST, ROUTER_MAC
+from .worked import A11, A22, A33, LEASED, M1, M2, M3, CLAIM_11, REPLY, REQUEST, ROUTER_MAC
 from .worked import a, judged, plan_of, replay, replies, sent
 
 ROUTER = making.ROUTER
@@ -39,29 +39,29 @@ HISTORIES = {
          "4@3100 pass-all 1,2,5 0", "4@3200 pass-all 1,2,5 0"],
         ["error: trusted port", "ok", "ok", "fe80::fe 3 static - -", "end"]),
     "two hosts check an address within half a second": (
-        "", [(1, 1000, N11), (2, 1300, claim(M2, A11)), (2, 2400, RIVAL), (1, 2401, HOLDER)], "2500 show bindings\n",
+        "", [(1, 1000, CLAIM_11), (2, 1300, claim(M2, A11)), (2, 2400, RIVAL), (1, 2401, HOLDER)], "2500 show bindings\n",
         [CLAIMED, "2@1300 drop-Contested - 0", "2@2400 drop-WrongPort - 1", "1@2401 pass-all 2,3,4,5 0"],
         ["fe80::11 1 valid - 302401", "end"]),
     "two hosts check an address within a second": (
-        "", [(1, 1000, N11), (2, 1700, claim(M2, A11)), (2, 2700, RIVAL)], "2800 show bindings\n",
+        "", [(1, 1000, CLAIM_11), (2, 1700, claim(M2, A11)), (2, 2700, RIVAL)], "2800 show bindings\n",
         [CLAIMED, "2@1700 pass-trusted+1 1,4 1", "2@2700 pass-all 1,3,4,5 1"], ["fe80::11 2 valid - 302700", "end"]),
     "a host that is away for half a second": (
         "",
-        [(1, 1000, N11), (2, 10000, RIVAL), (2, 10400, RIVAL), (2, 10500, RIVAL), (1, 11000, data(M1, A11)),
+        [(1, 1000, CLAIM_11), (2, 10000, RIVAL), (2, 10400, RIVAL), (2, 10500, RIVAL), (1, 11000, data(M1, A11)),
          (2, 11001, advertisement(M2, A11)), (1, 11500, data(M1, A11))],
         "10100 show bindings\n11002 show bindings\n",
         [CLAIMED, "2@10000 drop-WrongPort - 1", "2@10400 drop-WrongPort - 1", "2@10500 pass-all 1,3,4,5 0",
          "1@11000 drop-WrongPort - 1", "2@11001 pass-all 1,3,4,5 0", "1@11500 drop-WrongPort - 1"],
         ["fe80::11 1 testing-vp 2 10500", "end", "fe80::11 2 valid - 311001", "end"]),
     "a probe meets a host's own check": (
-        "", [(1, 1000, N11), (2, 1600, RIVAL), (2, 2100, RIVAL)], "",
+        "", [(1, 1000, CLAIM_11), (2, 1600, RIVAL), (2, 2100, RIVAL)], "",
         [CLAIMED, "2@1600 drop-WrongPort - 1", "2@2100 pass-all 1,3,4,5 1"], []),
     "a test that is longer than a host's own check": (
-        "test_ms = 2500\n", [(1, 1000, N11), (2, 1600, RIVAL), (2, 2100, RIVAL), (1, 3600, data(M1, A11))], "",
+        "test_ms = 2500\n", [(1, 1000, CLAIM_11), (2, 1600, RIVAL), (2, 2100, RIVAL), (1, 3600, data(M1, A11))], "",
         [CLAIMED, "2@1600 drop-Contested - 0", "2@2100 drop-Contested - 0", "1@3600 pass-all 2,3,4,5 0"], []),
     "a lease for a full port": (
         "per_port = 1\n",
-        [(1, 1000, N11), (1, 1100, claim(M1, a("fe80::12"))), (5, 1000, claim(M2, A22)), (1, 2000, REQUEST),
+        [(1, 1000, CLAIM_11), (1, 1100, claim(M1, a("fe80::12"))), (5, 1000, claim(M2, A22)), (1, 2000, REQUEST),
          (5, 2100, REPLY), (1, 2300, data(M1, LEASED))],
         "2200 show ports\n",
         [CLAIMED, "5@1000 pass-trusted 4 0", "1@1100 drop-PortFull - 0", "1@2000 pass-all 2,3,4,5 0", "5@2100 pass-all 1 0",
@@ -75,7 +75,7 @@ HISTORIES = {
          "1@1501 pass-all 2,3,4,5 0", "1@1502 drop-NotAssigned - 0"], ["ok"]),
     "router solicitations and their sources": (
         "",
-        [(1, 1000, router_solicitation(M1, 0)), (1, 1100, N11), (1, 1300, router_solicitation(M1, A11)),
+        [(1, 1000, router_solicitation(M1, 0)), (1, 1100, CLAIM_11), (1, 1300, router_solicitation(M1, A11)),
          (1, 5300, router_solicitation(M1, A11)), (2, 2000, router_solicitation(M2, ELSEWHERE)),
          (3, 2000, router_solicitation(M3, A33)), (3, 6000, router_solicitation(M3, A33))],
         "",
@@ -104,7 +104,7 @@ def check(same):
 
 def check_pool(same):
     """A host that asks for 40 addresses, one after another, with an identity for each."""
-    name, frames = "a port that uses up a pool", [(1, 1000, N11), (5, 1000, claim(M2, A22))]
+    name, frames = "a port that uses up a pool", [(1, 1000, CLAIM_11), (5, 1000, claim(M2, A22))]
     for k in range(40):
         client = making.identity(0x020000001000 + k)
         leased = making.message(7, k, client, [(LEASED + k, 600)])
