@@ -21,10 +21,10 @@ pub trait ProbeSink {
 }
 
 impl AddrTable {
-    /// Ages all states to `t` (ms). The sink takes the probes that fall due by then, by moment and then by address; those of
-    /// other VLANs are in other tables. Each thing that falls due costs what `TimerWheel::next_due` does, one look-up and
-    /// one arming, O(1) on average, and O(n) of `BindTable::remove` where its row goes; at most six things fall due in a state
-    /// that no event touches.
+    /// Ages all states to `t` (ms). The sink takes the probes that fall due by then, by moment and then by address; those
+    /// of other VLANs are in other tables. Each thing that falls due costs what `TimerWheel::next_due` does, one look-up
+    /// and one arming, O(1) on average, and O(n) of `BindTable::remove` where its row goes; at most six things fall due in
+    /// a state that no event touches.
     pub fn age_to<S: ProbeSink>(&mut self, t: Moment, sink: &mut S)
         requires { t ≤ 2 ^ 62 }
         ensures rows { self.new ≡ record self.old { rows = aged_rows self.old.times t self.old.rows } }

@@ -52,8 +52,9 @@ impl Model for BindTable {
 }
 
 impl BindTable {
-    /// No address has a state, and at most `rows` addresses will have one, at most 2^20. It takes all its memory here, O(rows).
-    /// A slab with more room than 32-bit keys have counts as want of memory; a slab takes no more room than it is asked for.
+    /// No address has a state, and at most `rows` addresses will have one, at most 2^20. It takes all its memory here,
+    /// O(rows). A slab with more room than 32-bit keys have counts as want of memory; a slab takes no more room than it is
+    /// asked for.
     pub fn make(alloc: Global, rows: u32) -> Result<BindTable, AllocError>
         requires { rows ≤ 2 ^ 20 }
         ensures { IfOk result (λ table. table ≡ record { rows = []; most = rows }) }

@@ -1,5 +1,5 @@
 -- What `show bindings` prints: for each address its lines, the one of DHCPv6 (RFC 7513) before the one of first come, first
--- served (RFC 6620); an address that is fixed by configuration has one line.
+-- served (RFC 6620); an address that the operator has fixed (`static`) has one line.
 use Rattle.std.specs.Prelude.{ℕ, ◌+◌, ◌^◌, ◌<◌, List, [], ◌∷◌, ◌++◌, codes, decimal, Option, Some, None, IfSome}
 use Rattle.savi_kinds.specs.declared.address.Addr.{Addr}
 use Rattle.savi_kinds.specs.declared.port.Port.{Port}

@@ -117,8 +117,8 @@ impl Reply {
         self.append(b"end\n");
     }
 
-    /// Appends the lines of an address, none to two, of at most 78 octets each: that it is fixed by configuration; else the
-    /// binding by DHCPv6, and then the state of first come, first served.
+    /// Appends the lines of an address, none to two, of at most 78 octets each: that the operator has fixed it (`static`);
+    /// else the binding by DHCPv6, and then the state of first come, first served.
     pub fn put_binding(&mut self, times: &Times, address: Addr, state: &AddrState)
         requires { length self.old + BINDING_OCTETS ≤ REPLY_OCTETS }
         ensures text { self.new ≡ self.old ++ binding_lines times.now (record { address = address; state = state.now }) }

@@ -1,4 +1,4 @@
-// A capture that is written into memory.
+//! A capture that is written into memory.
 
 ghost use Rattle.std.specs.Prelude.{◌≡◌, ◌≤◌, ◌++◌, Some, length, IfOk, OnOk};
 ghost use Rattle.pcap_io.specs.Captures.{header_text, record_text};

@@ -1,4 +1,4 @@
-// A linear congruential generator.
+//! A linear congruential generator.
 
 ghost use Rattle.std.specs.Prelude.{◌≡◌, ◌/◌, ◌<◌};
 ghost use Rattle.load_gen.specs.Draws.{next_state};

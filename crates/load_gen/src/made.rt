@@ -1,4 +1,4 @@
-// What is made.
+//! What is made.
 
 use savi_kinds::Plan;
 

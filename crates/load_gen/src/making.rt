@@ -1,4 +1,4 @@
-// The load of a seed.
+//! The load of a seed.
 
 ghost use Rattle.std.specs.Prelude.{◌≡◌, ◌+◌, ◌*◌, ◌/◌, ◌%◌, ◌≤◌, ◌<◌, ◌++◌, ℕ, List, [], ◌∷◌, length, map, All, IfOk, OnOk};
 ghost use Rattle.savi_kinds.specs.ValidPlan.{IsValidPlan};

@@ -1,4 +1,4 @@
-// The plan of a load.
+//! The plan of a load.
 
 ghost use Rattle.std.specs.Prelude.{◌≡◌, ◌≤◌, map, IfOk};
 ghost use Rattle.savi_kinds.specs.ValidPlan.{IsValidPlan};

@@ -1,4 +1,4 @@
-// What a load is, octet for octet.
+//! What a load is, octet for octet.
 
 use crate::load;
 use sha2::{Digest, Sha256};

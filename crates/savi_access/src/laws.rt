@@ -33,8 +33,8 @@ ghost use Rattle.fcfs_states.specs.Premises.{AreTimes};
 
 use addr_history::states_stay_a_base;
 
-/// A packet at the port of a host or a server passes exactly where no rule on messages stops it and its source is live at the port, or a named
-/// exception permits it. The port is of the packet's VLAN, and `::` isn't on-link.
+/// A packet at the port of a host or a server passes exactly where no rule on messages stops it and its source is live at
+/// the port, or a named exception permits it. The port is of the packet's VLAN, and `::` isn't on-link.
 pub fn a_packet_passes_where_its_source_is_live()
     ensures { (r : AccessRules) (base : AccessBase) (vlan : ℕ) (port : Port) (t : ℕ) (past : List Mark) (class : Class)
         → IsAccessBase r base → AreMarks r base past → newest_moment base past ≤ t → t ≤ 2 ^ 62
@@ -65,8 +65,8 @@ pub fn a_frame_comes_to_its_case()
         → IsCase r base vlan port t past class (judged r base vlan port t past class) }
 {}
 
-/// The rules of a valid plan are such as the other laws want: its start is within the limits, each of its ports whose sources
-/// are validated is of the VLAN, and `::` isn't on-link.
+/// The rules of a valid plan are such as the other laws want: its start is within the limits, each of its ports whose
+/// sources are validated is of the VLAN, and `::` isn't on-link.
 pub fn a_valid_plan_has_rules()
     ensures start { (plan : Plan) → IsValidPlan plan → IsAccessBase (rules_of plan) nothing_yet }
     ensures ports { (plan : Plan) (number : ℕ) → has_port plan number ≡ true → (rules_of plan).role_of number ≢ Trusted

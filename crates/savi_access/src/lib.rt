@@ -1,6 +1,6 @@
 //! Which frames may pass an open port, by all rules: those on messages, and those on sources, which are validated by the
-//! states of addresses (RFC 6620, RFC 7513, RFC 8074). A frame also tells of addresses and requests, and these marks are what the
-//! verdicts on later frames follow from.
+//! states of addresses (RFC 6620, RFC 7513, RFC 8074). A frame also tells of addresses and requests, and these marks are
+//! what the verdicts on later frames follow from.
 //!
 //! `specs/Access.antt` says which packets of a host may pass, in terms of who is live where. `specs/Judged.antt` says step
 //! by step what a frame comes to, and `specs/Cases.antt` the same case by case. That the three agree is said by laws, as the

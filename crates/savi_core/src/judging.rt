@@ -48,8 +48,8 @@ pub(crate) fn judge_long(queues: &Queues, port: Port) -> Verdict
 }
 
 /// The verdict on a frame of this class at a port of the plan, at moment `t` (ms), to which all states are aged first, from
-/// `from` (ms). At a shut port it is dropped and tells nothing. Probes go to the queues, which count them from 0 on: those that
-/// fall due, and then the one that answers the frame. It costs what `age` and `AccessTable::judge` do.
+/// `from` (ms). At a shut port it is dropped and tells nothing. Probes go to the queues, which count them from 0 on: those
+/// that fall due, and then the one that answers the frame. It costs what `age` and `AccessTable::judge` do.
 pub(crate) fn judge(
     access: &mut AccessTable,
     queues: &mut Queues,

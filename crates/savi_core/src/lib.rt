@@ -2,8 +2,8 @@
 //!
 //! Contracts see a `Core` as its plan and its history, the newest row first. `step` and `drain` put the row of their event
 //! in front of the history, which is always legal. What isn't allowed can't be put; where there is no room for an entry, or
-//! nothing to drain, the answer says so and nothing changes. `reply` is what the newest entry is answered on control, where it
-//! is a command's.
+//! nothing to drain, the answer says so and nothing changes. `reply` is what the newest entry is answered on control, where
+//! it is a command's.
 //!
 //! Read: RFC 6105 and RFC 7113 (router advertisements), RFC 7112 (first fragments), RFC 8200 (IPv6), RFC 6620, RFC 7513 and
 //! RFC 8074 (validation of sources), IEEE 802.1Q clause 8 (bridges).

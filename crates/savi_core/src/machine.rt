@@ -103,13 +103,13 @@ impl Core {
         })
     }
 
-    /// Enters an event. The answer is `Full`, and nothing has changed, exactly where it is a frame, a line or a tick and the
-    /// history has no room for another input. It is `Nothing`, and nothing has changed, exactly where it is a tick for which there
-    /// is room and no address has another state by its moment; then no probe is due either. Else it is the one entry that was
-    /// made. A frame is judged by its class, which the caller has read of its octets. It costs what `AccessTable::age_to`
-    /// costs of what falls due by then, with O(ports) for each probe, and for a frame what `AccessTable::judge` costs, then
-    /// O(n) in the ports to which it goes and O(log n) in the stations that are kept, beside the copy of the octets and what
-    /// `Fdb::learn` takes for a station that is new at its port.
+    /// Enters an event. The answer is `Full`, and nothing has changed, exactly where it is a frame, a line or a tick and
+    /// the history has no room for another input. It is `Nothing`, and nothing has changed, exactly where it is a tick for
+    /// which there is room and no address has another state by its moment; then no probe is due either. Else it is the one
+    /// entry that was made. A frame is judged by its class, which the caller has read of its octets. It costs what
+    /// `AccessTable::age_to` costs of what falls due by then, with O(ports) for each probe, and for a frame what
+    /// `AccessTable::judge` costs, then O(n) in the ports to which it goes and O(log n) in the stations that are kept,
+    /// beside the copy of the octets and what `Fdb::learn` takes for a station that is new at its port.
     pub fn step(&mut self, ev: Event<'_>) -> Stepped
         requires may { MayStep self.old (event_of ev) }
         requires class { IsClassed ev }
@@ -219,10 +219,10 @@ impl Core {
         self.passes.inputs_left()
     }
 
-    /// Puts into a reply, in place of what it held, what the newest entry is answered, which is a command's: why it is refused;
-    /// else, for a `show`, what the switch knows with that entry and at its moment; else `ok`. O(rows shown), in one pass: for
-    /// `show stations` beside those passed over that have ended, and for `show ports` O(16 times the number of ports) for each
-    /// port.
+    /// Puts into a reply, in place of what it held, what the newest entry is answered, which is a command's: why it is
+    /// refused; else, for a `show`, what the switch knows with that entry and at its moment; else `ok`. O(rows shown), in
+    /// one pass: for `show stations` beside those passed over that have ended, and for `show ports` O(16 times the number
+    /// of ports) for each port.
     pub fn reply(&self, into: &mut Reply)
         requires command { EndsWithCommand self.now.past }
         ensures { into.new ≡ shown self.now.plan (base_of self.now) self.now.past }

@@ -41,7 +41,8 @@ impl Model for Queues {
 impl ProbeSink for Queues {
     ghost after = { after_probe };
 
-    /// Offers a probe to the queue of each port to which it goes, in their order; none goes to a shut port. O(n) in the ports of the plan, at most 16.
+    /// Offers a probe to the queue of each port to which it goes, in their order; none goes to a shut port. O(n) in the
+    /// ports of the plan, at most 16.
     fn take(&mut self, sent: SentProbe) {
         for place in 0..self.queues.len() {
             match self.queues[place].offer_probe(sent, self.shut) {

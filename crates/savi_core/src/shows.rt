@@ -17,8 +17,8 @@ use control_replies::{PortRow, Reply};
 use fcfs_states::Times;
 use savi_kinds::{Moment, Plan, Port, PortPlan};
 
-/// Appends to an empty reply what `show bindings` prints of the addresses that have a state, at most 1,024, by these times of
-/// the plan. O(n) in the addresses.
+/// Appends to an empty reply what `show bindings` prints of the addresses that have a state, at most 1,024, by these times
+/// of the plan. O(n) in the addresses.
 pub(crate) fn show_bindings(access: &AccessTable, times: &Times, into: &mut Reply)
     requires empty { into.old ≡ [] }
     requires few { access.now.addresses.per_port ≤ 64 }

@@ -18,8 +18,8 @@ use bridge_fdb::Fdb;
 use frame_class::Class;
 use savi_kinds::{Moment, Port, PortSet, Verdict};
 
-/// The port of the station that is live at moment `t` (ms) and that a frame of this class is for: `None` where there is none,
-/// and for a group address. O(log n) in the stations that are kept.
+/// The port of the station that is live at moment `t` (ms) and that a frame of this class is for: `None` where there is
+/// none, and for a group address. O(log n) in the stations that are kept.
 fn known_port(fdb: &Fdb, class: &Class, t: Moment) -> Option<Port>
     ensures { result ≡ port_among (live_at t fdb.now) (eth_of class.now) }
 {
@@ -35,8 +35,8 @@ fn known_port(fdb: &Fdb, class: &Class, t: Moment) -> Option<Port>
     }
 }
 
-/// A frame of this class with this verdict came in at a port at moment `t` (ms, at most 2^62): where it passes, its source is
-/// learned there. The cost is that of `Fdb::learn`.
+/// A frame of this class with this verdict came in at a port at moment `t` (ms, at most 2^62): where it passes, its source
+/// is learned there. The cost is that of `Fdb::learn`.
 pub(crate) fn teach(fdb: &mut Fdb, port: Port, t: Moment, class: &Class, verdict: Verdict)
     requires { t ≤ 2 ^ 62 }
     ensures { live_at t fdb.new ≡ (if is_pass (Some verdict) then taught port t (eth_of class.now) (live_at t fdb.old) else live_at t fdb.old) }
@@ -57,8 +57,8 @@ fn learn(fdb: &mut Fdb, port: Port, t: Moment, class: &Class)
     }
 }
 
-/// The ports to which a frame of this class with this verdict goes from a port of the plan, at moment `t` (ms): none of those
-/// that are shut. O(log n) in the stations that are kept.
+/// The ports to which a frame of this class with this verdict goes from a port of the plan, at moment `t` (ms): none of
+/// those that are shut. O(log n) in the stations that are kept.
 pub(crate) fn outs(
     ports: &Ports,
     fdb: &Fdb,

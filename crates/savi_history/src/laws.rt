@@ -64,9 +64,9 @@ pub fn adverts_are_stopped()
     ensures { (plan : Plan) (base : Base) (past : List Row) → IsLegal plan base past → IsGuarded plan past }
 {}
 
-/// In a legal history of a switch that validates sources, an IPv6 frame at a port of a host or a server passes exactly where no
-/// rule on messages stops it and its source is live there, or a named exception permits it (RFC 6620 section 3.2, RFC 7513
-/// section 5, RFC 8074).
+/// In a legal history of a switch that validates sources, an IPv6 frame at a port of a host or a server passes exactly
+/// where no rule on messages stops it and its source is live there, or a named exception permits it (RFC 6620 section 3.2,
+/// RFC 7513 section 5, RFC 8074).
 pub fn packets_pass_where_their_source_is_live()
     ensures { (plan : Plan) (base : Base) (past : List Row) → IsValidPlan plan → IsWithinLimits plan base → plan.savi ≡ true
         → IsLegal plan base past → All (λ r. IsBytes r.octets) past → AllPassedRightly plan base past }

@@ -1,10 +1,10 @@
 //! Calls of `addr_index`, `bind_table` and `timer_wheel`, timed beside those of std's `HashMap` and `BTreeMap` with as many
 //! keys.
 //!
-//! usage: tables_bench time|compare. `time` prints a line for each kind of call at 512 and at 1,024 addresses: its name, how
-//! many addresses there are, how many calls were made, and the nanoseconds of the processor that they took (and a number that
-//! depends on the answers). `compare` prints how many calls of a table left it as a plain list; it stops at the first one
-//! that didn't. With no word, or another one, it prints nothing.
+//! usage: tables_bench time|compare. `time` prints a line for each kind of call at 512 and at 1,024 addresses: its name,
+//! how many addresses there are, how many calls were made, and the nanoseconds of the processor that they took (and a
+//! number that depends on the answers). `compare` prints how many calls of a table left it as a plain list; it stops at the
+//! first one that didn't. With no word, or another one, it prints nothing.
 #![tactic(auto)]
 
 ghost use Rattle.std.specs.Prelude.{◌≤◌};

@@ -40,8 +40,8 @@ fn row_of(rows: &Slab<Timer>, node: u32) -> Option<Armed>
     }
 }
 
-// The gap into which a pair belongs among the rows of other addresses, where these alone are linked. It goes back from the end
-// of the pair's bucket over the rows that are due later.
+// The gap into which a pair belongs among the rows of other addresses, where these alone are linked. It goes back from the
+// end of the pair's bucket over the rows that are due later.
 #[inline(always)]
 fn gap_for(rows: &Slab<Timer>, rings: &Rings, armed: Armed) -> Gap
     requires wired { IsWired (others_than armed.address.0 rows.now) rings.now.later.items rings.now.earlier.items }

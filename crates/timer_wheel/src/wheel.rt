@@ -89,9 +89,10 @@ impl TimerWheel {
     }
 
     /// Takes out what is due first, the least by moment and then by address, if its moment isn't after `t` (ms): None
-    /// exactly where nothing is due at or before `t`, and then nothing has changed. It looks at each of the 1,024 buckets at
-    /// most once, at the first row alone. Where nothing is due it is O(1) beside the buckets that it passes, which are those
-    /// of the time that has passed since the last call of this or of `is_due`, and those from the earliest moment armed since.
+    /// exactly where nothing is due at or before `t`, and then nothing has changed. It looks at each of the 1,024 buckets
+    /// at most once, at the first row alone. Where nothing is due it is O(1) beside the buckets that it passes, which are
+    /// those of the time that has passed since the last call of this or of `is_due`, and those from the earliest moment
+    /// armed since.
     pub fn next_due(&mut self, t: Moment) -> Option<(Moment, Addr)>
         ensures rising { IsRising self.old.arms }
         ensures value { result ≡ due_by t (first_armed self.old.arms) }
