@@ -56,7 +56,7 @@ install:
 	install -m 755 $(TOOLS:%=tools/%) "$(lib)"
 	install -m 644 tools/switch_reading/*.py tools/switch_reading/picture.html "$(lib)/switch_reading"
 	for tool in $(TOOLS); do ln -sf "../lib/savi_switch/$$tool" "$(bin)/savi-$$tool" || exit 1; done
-	install -m 644 docs/CONFIGURATION.md docs/FORMATS.md docs/OPERATIONS.md docs/RULES.md "$(doc)"
+	install -m 644 docs/COMMANDS.md docs/CONFIGURATION.md docs/FORMATS.md docs/OPERATIONS.md docs/RULES.md "$(doc)"
 	install -m 644 examples/commented.toml "$(doc)/examples/commented.toml"
 	install -m 644 examples/shared-network/plan.toml "$(doc)/examples/shared-network.toml"
 	sed 's|/usr/local|$(PREFIX)|' docs/savi_switch.8 > "$(man)/savi_switch.8"

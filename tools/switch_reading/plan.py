@@ -229,8 +229,7 @@ def list_fault(ports, prefixes):
 
 
 def read_plan(octets):
-    """The plan of a configuration for `replay`. Raises ConfigFault. There is no fault 21 here: what isn't built yet in the
-    program is read."""
+    """The plan of a configuration for `replay`. Raises ConfigFault."""
     if len(octets) > LONGEST:
         raise ConfigFault("config fault 1")
     try:

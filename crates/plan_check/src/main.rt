@@ -53,8 +53,17 @@ fn print_plan(rt: &impl Print, name: &str, plan: &Plan) -> io::Result<()> {
         plan.gap, plan.test, plan.life
     )?;
     println!(rt; "journal {}", plan.journal.as_str())?;
+    print_control(rt, plan)?;
     print_ports(rt, plan)?;
     print_prefixes(rt, plan)
+}
+
+// The names of control's input and output, where it has any.
+fn print_control(rt: &impl Print, plan: &Plan) -> io::Result<()> {
+    if let Some((input, output)) = &plan.control {
+        println!(rt; "control {} {}", input.as_str(), output.as_str())?;
+    }
+    Ok(())
 }
 
 fn print_ports(rt: &impl Print, plan: &Plan) -> io::Result<()> {

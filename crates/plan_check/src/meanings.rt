@@ -43,7 +43,7 @@ fn switch_meaning(number: u8) -> &'static str {
     }
 }
 
-// A fault of the ports, of the prefixes, or of control.
+// A fault of the ports or of the prefixes.
 fn list_meaning(number: u8) -> &'static str {
     match number {
         13 => "port: there is none, or there are more than 16",
@@ -58,7 +58,6 @@ fn list_meaning(number: u8) -> &'static str {
             "prefix of a [[prefix]]: two overlap, or one has an address of fe80::/64 or ff00::/8, :: or ::1"
         }
         19 => "method of a [[prefix]]: not \"fcfs\", \"dhcp\" or \"mixed\"",
-        20 => "format of a [[port]]: \"stream\", where a replay reads captures alone",
-        _ => "control and control_out: commands aren't built yet; leave both keys out",
+        _ => "format of a [[port]]: \"stream\", where a replay reads captures alone",
     }
 }

@@ -24,7 +24,7 @@ use Rattle.port_worker.specs.declared.port_ends.PortEnds.{PortEnds}
 use Rattle.port_worker.specs.Pairs.{EachPair}
 use Rattle.port_worker.specs.SentFrames.{TookMore, OnlySink}
 use Rattle.port_worker.specs.Drains.{IsDrainable}
-use Rattle.port_worker.specs.Outputs.{IsOutput, AreOutputs, Allows, AreAllowed, OutputsGoOn}
+use Rattle.port_worker.specs.Outputs.{IsOutput, AreOutputs, Allows, ArePortsAllowed, OutputsGoOn}
 use Rattle.port_worker.specs.Steps.{Enters, IsStepped}
 use Rattle.port_worker.specs.Replays.{ports_held, ports_planned}
 use Rattle.port_worker.proofs.Planned.{count_is, number_is}
@@ -96,7 +96,7 @@ module _ {S K C : Type 0} (written : K → Option (List ℕ)) (faults : K → �
           };
     }
 
-    pub allowed_kept : (known stops : Stops) → AreAllowed plan known stops mid → AreAllowed plan known stops past
+    pub allowed_kept : (known stops : Stops) → ArePortsAllowed plan known stops mid → ArePortsAllowed plan known stops past
     allowed_kept known stops allowed k d within =
         let size = length-numbers plan.ports in
         subst (λ (n : ℕ). Allows (known.ports n) (stops.ports n) (pieces_by plan empty n past)) (get_or_default (numbers_of plan.ports) k 0 d within)

@@ -27,7 +27,7 @@ use Rattle.savi_core.specs.Machines.{Machine}
 use Rattle.port_worker.specs.declared.port_ends.PortEnds.{PortEnds}
 use Rattle.port_worker.specs.SentFrames.{OnlySink}
 use Rattle.port_worker.specs.Drains.{with_failed, IsWritten, IsBegun}
-use Rattle.port_worker.specs.Outputs.{RunsOn, HasStopped, IsOutputOf, AreOutputs, Allows, AreAllowed}
+use Rattle.port_worker.specs.Outputs.{RunsOn, HasStopped, IsOutputOf, AreOutputs, Allows, ArePortsAllowed}
 use Rattle.port_worker.specs.Replays.{ports_held, ports_planned}
 use Rattle.port_worker.proofs.SoFar.{PairsSoFar, pairs_none, pairs_more}
 use Rattle.port_worker.proofs.Planned.{count_is, number_is, numbers_differ, held_at}
@@ -214,7 +214,7 @@ module _ {S K C : Type 0} (written : K → Option (List ℕ)) (faults : K → �
 
 -- behind the last port
 pub begins_all : {S K C : Type 0} (written : K → Option (List ℕ)) (faults : K → ℕ) (place : ℕ) (first now : Machine) (old new : List (PortEnds S K C)) → place ≡ length first.plan.ports → length old ≡ length first.plan.ports → BeginsSoFar written faults place first now old new
-    → (known : Stops) × AreOutputs written faults first.plan known now.past old new × ((stops : Stops) → AreAllowed first.plan known stops now.past → now.past ≡ begun first.plan empty stops.ports first.plan.ports [])
+    → (known : Stops) × AreOutputs written faults first.plan known now.past old new × ((stops : Stops) → ArePortsAllowed first.plan known stops now.past → now.past ≡ begun first.plan empty stops.ports first.plan.ports [])
 begins_all written faults place first now old new all count so_far =
     let none : drop place first.plan.ports ≡ [] = drop_all place first.plan.ports (omega arith) in
     let size = length-numbers first.plan.ports in (

@@ -21,7 +21,7 @@ use Rattle.savi_core.specs.Machines.{Machine}
 use Rattle.port_worker.specs.declared.port_ends.PortEnds.{PortEnds}
 use Rattle.port_worker.specs.SentFrames.{OnlySink}
 use Rattle.port_worker.specs.Drains.{waiting_at, IsDrainable, IsDrained}
-use Rattle.port_worker.specs.Outputs.{IsOutput, IsOutputOf, AreOutputs, Allows, AreAllowed, OutputsGoOn}
+use Rattle.port_worker.specs.Outputs.{IsOutput, IsOutputOf, AreOutputs, Allows, ArePortsAllowed, OutputsGoOn}
 use Rattle.port_worker.specs.Replays.{ports_held, ports_planned}
 use Rattle.port_worker.proofs.SoFar.{PairsSoFar, pairs_none, pairs_more}
 use Rattle.port_worker.proofs.Later.{took_none}
@@ -94,8 +94,8 @@ module _ {S K C : Type 0} (written : K → Option (List ℕ)) (faults : K → �
 pub record DrainedSoFar {S K C : Type 0} (written : K → Option (List ℕ)) (faults : K → ℕ) (plan : Plan) (place : ℕ) (known : Stops) (past now : List Row) (first new : List (PortEnds S K C)) : Type 0 where
   pub later : Stops
   pub outputs : AreOutputs written faults plan later now first new
-  pub before : (stops : Stops) → AreAllowed plan later stops now → AreAllowed plan known stops past
-  pub made_so : (stops : Stops) → AreAllowed plan later stops now → drained plan empty stops.ports (drop place plan.ports) now ≡ drained plan empty stops.ports plan.ports past
+  pub before : (stops : Stops) → ArePortsAllowed plan later stops now → ArePortsAllowed plan known stops past
+  pub made_so : (stops : Stops) → ArePortsAllowed plan later stops now → drained plan empty stops.ports (drop place plan.ports) now ≡ drained plan empty stops.ports plan.ports past
 
 -- the queues of the ports below a place are drained and what they held is written
 pub record DrainsSoFar {S K C : Type 0} (written : K → Option (List ℕ)) (faults : K → ℕ) (place : ℕ) (first now : Machine) (old new : List (PortEnds S K C)) : Type 0 where
@@ -239,14 +239,14 @@ module _ {S K C : Type 0} (written : K → Option (List ℕ)) (faults : K → �
     allowed_at stops k within (inr other) allowed =
         allowed_there written faults first.plan before.later now.past next.past o x y made was.port was.later only leaves step (number_at first.plan k) (stops.ports (number_at first.plan k)) (apart k within other) (passes_apart k within other) allowed
 
-    allowed_before : (stops : Stops) → AreAllowed first.plan known_now stops next.past → AreAllowed first.plan before.later stops now.past
+    allowed_before : (stops : Stops) → ArePortsAllowed first.plan known_now stops next.past → ArePortsAllowed first.plan before.later stops now.past
     allowed_before stops allowed k d within =
         let count = count_is old first.plan planned in
         let size = length-numbers first.plan.ports in
         subst (λ (n : ℕ). Allows (before.later.ports n) (stops.ports n) (pieces_by first.plan empty n now.past)) (get_or_default (numbers_of first.plan.ports) k 0 d within)
         (allowed_at stops k (omega arith) (cases_eq k place) (allowed k 0 within))
 
-    next_is : (stops : Stops) → AreAllowed first.plan known_now stops next.past → next.past ≡ made stops
+    next_is : (stops : Stops) → ArePortsAllowed first.plan known_now stops next.past → next.past ≡ made stops
     next_is stops allowed =
         let count = count_is old first.plan planned in
         let size = length-numbers first.plan.ports in
@@ -254,7 +254,7 @@ module _ {S K C : Type 0} (written : K → Option (List ℕ)) (faults : K → �
         made_here written faults first.plan before.later now.past next.past o x y made was.port was.later only leaves step stops
         (subst (λ (n : ℕ). Allows (known_now.ports n) (stops.ports n) (pieces_by first.plan empty n next.past)) (sym number_here) (allowed place 0 (omega arith)))
 
-    rest_is : (stops : Stops) → AreAllowed first.plan known_now stops next.past → drained first.plan empty stops.ports (drop (place + 1) first.plan.ports) next.past ≡ drained first.plan empty stops.ports (drop place first.plan.ports) now.past
+    rest_is : (stops : Stops) → ArePortsAllowed first.plan known_now stops next.past → drained first.plan empty stops.ports (drop (place + 1) first.plan.ports) next.past ≡ drained first.plan empty stops.ports (drop place first.plan.ports) now.past
     rest_is stops allowed =
         let q = held_at old first.plan place y planned inside_old in
         let port_is : q.0.number ≡ x.port = q.2 ∙ ap (λ (p : PortEnds S K C). p.port) old_is in

@@ -3,6 +3,7 @@ use Rattle.std.proofs.Common.{◌≡◌, ℕ, zero, suc, ◌+◌, ◌<◌, ◌�
 use Rattle.std.proofs.lemmas.Bool.{cases_lt}
 use Rattle.std.proofs.lemmas.List.{length-map, get_or-map, get_or_default, get_or_past, same_lists}
 use Rattle.std.specs.List.{All}
+use Rattle.std.specs.List.Sorted.{IsStrictlyIncreasing}
 use Rattle.savi_kinds.specs.declared.port.Port.{Port}
 use Rattle.savi_kinds.specs.declared.plan.Plan.{Plan}
 use Rattle.savi_kinds.specs.declared.plan.PortPlan.{PortPlan}
@@ -11,29 +12,36 @@ use Rattle.savi_kinds.specs.declared.entry.How.{How}
 use Rattle.savi_kinds.specs.declared.entry.How.TheVariants as hows
 use Rattle.savi_kinds.specs.Ports.{number_of}
 use Rattle.savi_kinds.specs.Arrivals.{Input}
+use Rattle.savi_kinds.specs.ValidPlan.{numbers_of}
 use Rattle.pcap_io.specs.Readers.{Comes}
 use Rattle.hist_store.specs.Rows.{Row}
 use Rattle.savi_history.specs.Bases.{empty}
 use Rattle.savi_history.specs.Passes.{AllEnded, has_ended, control_pass}
 use Rattle.savi_history.specs.Events.{End}
 use Rattle.savi_history.specs.Legal.{IsFinished}
-use Rattle.savi_history.specs.Turns.{Turn, turn_at, turns, port_turns, control_turns}
+use Rattle.savi_history.specs.Turns.{Turn, turn_at, turns, port_turns}
 use Rattle.savi_history.specs.Merges.{merged}
-use Rattle.savi_history.specs.Replay.{begun, with_event, after_all, inputs_taken, egress_ended}
+use Rattle.savi_history.specs.Replay.{begun, with_event, after_all, inputs_taken, egress_ended, replayed}
 use Rattle.savi_history.specs.PortInputs.{input_end}
+use Rattle.savi_history.proofs.ControlSame.{ControlSame, control_finished}
 use Rattle.savi_history.proofs.PortInputs.{same_finished}
 use Rattle.savi_history.proofs.Ends.{AreOf}
 use Rattle.savi_history.proofs.Reaching.{pass_at, Head, Done, Agrees, IsLeft, AreLeft, joined, reaches_end}
+use Rattle.port_worker.specs.declared.control_ends.ControlEnds.{ControlEnds}
 use Rattle.port_worker.specs.declared.port_ends.Ahead.{Ahead}
 use Rattle.port_worker.specs.declared.port_ends.Ahead.TheVariants as ahead
 use Rattle.port_worker.specs.declared.port_ends.PortEnds.{PortEnds}
 use Rattle.port_worker.specs.Inputs.{IsKnown, moment_of}
+use Rattle.port_worker.specs.LineInputs.{IsControlKnown, control_moment}
 use Rattle.port_worker.specs.Pairs.{EachPair}
 use Rattle.port_worker.specs.Outputs.{IsOutput, IsOutputEnded}
 use Rattle.port_worker.specs.Replays.{ports_held, ports_planned}
 use Rattle.port_worker.specs.Served.{IsInputOf, IsServed, ServesEnds}
-use Rattle.port_worker.proofs.Allowed.{allowed_itself}
-use Rattle.port_worker.proofs.ControlFirst.{control_taken, agree_all, done_all}
+use Rattle.port_worker.proofs.Allowed.{all_allowed_itself}
+use Rattle.port_worker.proofs.ControlEnding.{ControlOver, control_done, control_over}
+use Rattle.port_worker.proofs.ControlFirst.{agree_all, done_all}
+use Rattle.port_worker.proofs.ControlProgress.{control_head}
+use Rattle.port_worker.proofs.ControlRunning.{control_agrees}
 use Rattle.port_worker.proofs.EndedOutputs.{took_of, fit_of, broken_of}
 use Rattle.port_worker.proofs.Fitting.{IsFit, HasCause}
 use Rattle.port_worker.proofs.Later.{IsLater}
@@ -82,12 +90,24 @@ input_later : {S K C : Type 0} (left : S → Option (List ℕ)) (past now : List
 input_later left past now old new input same is =
     subst (λ (e : Option How). IsInputOf (Comes old.reader) (left old.ends.source) (left new.ends.source) e input.arrivals input.ending) (sym same) is
 
-module _ {S K C : Type 0} (left : S → Option (List ℕ)) (written : K → Option (List ℕ)) (source_faults : S → ℕ) (sink_faults : K → ℕ) (plan : Plan) (first ports : List (PortEnds S K C)) (past : List Row)
-    (planned : ports_held first ≡ ports_planned plan) (r : Running left written source_faults sink_faults plan first ports past) (known : All (λ p. IsKnown p.ahead) ports) (none : All (λ n. n ≡ None) (map moment_of ports)) where
+module _ {S K C : Type 0} (left : S → Option (List ℕ)) (written : K → Option (List ℕ)) (source_faults : S → ℕ) (sink_faults : K → ℕ) (plan : Plan) (ends_first ends : Option (ControlEnds S K C)) (first ports : List (PortEnds S K C)) (past : List Row)
+    (planned : ports_held first ≡ ports_planned plan) (r : Running left written source_faults sink_faults plan ends_first ends first ports past) (heard : IsControlKnown ends) (known : All (λ p. IsKnown p.ahead) ports) (none : All (λ n. n ≡ None) (control_moment ends ∷ map moment_of ports)) where
   pub done_at : (k : ℕ) (d : PortEnds S K C) → k < length ports → (get_or ports k d).ahead ≡ ahead.Done
   done_at k d inside =
       let sizes = length-map ports moment_of in
-      done_at_none (get_or ports k d).ahead (known k d inside) (sym (get_or-map moment_of ports k d None inside) ∙ none k None (omega arith))
+      done_at_none (get_or ports k d).ahead (known k d inside) (sym (get_or-map moment_of ports k d None inside) ∙ none (suc k) None (omega arith))
+
+  control_none : control_moment ends ≡ None
+  control_none = none 0 None (omega arith)
+
+  over : ControlOver left written source_faults sink_faults plan past r.known.control ends_first ends r.control_taken
+  over = control_over left written source_faults sink_faults plan past r.known.control ends_first ends r.control_taken heard control_none r.control
+
+  head_done : control_head ends ≡ Done
+  head_done = control_done ends heard control_none
+
+  control_ended : has_ended empty (control_pass plan) past ≡ true
+  control_ended = subst (λ (h : Head). Agrees empty past (control_pass plan) h) head_done (control_agrees left written source_faults sink_faults plan past r.known.control ends_first ends r.control_taken r.control)
 
   heads_done : (k : ℕ) → k < length (map head_of ports) → get_or (map head_of ports) k Done ≡ Done
   heads_done k inside =
@@ -106,7 +126,7 @@ module _ {S K C : Type 0} (left : S → Option (List ℕ)) (written : K → Opti
   ended_at pass below (inr outside) =
       let size = size_now in
       let same : pass ≡ control_pass plan = omega arith in
-      rw same r.control
+      rw same control_ended
 
   pub inputs_ended : AllEnded empty (control_pass plan + 1) past
   inputs_ended pass below = ended_at pass below (cases_lt pass (length ports))
@@ -169,15 +189,15 @@ module _ {S K C : Type 0} (left : S → Option (List ℕ)) (written : K → Opti
   left_at k (inl inside) = rw (heads_done k inside) tt
   left_at k (inr outside) = rw (get_or_past (map head_of ports) k Done outside) tt
 
-  of_all : (k : ℕ) → AreOf plan (pass_at plan k) (get_or ([] ∷ rests) k [])
-  of_all zero = tt
+  of_all : (k : ℕ) → AreOf plan (pass_at plan k) (get_or (over.rest ∷ rests) k [])
+  of_all zero = over.of
   of_all (suc k) = of_at k (cases_lt k (length first))
 
-  left_all : (k : ℕ) → IsLeft (get_or (Done ∷ map head_of ports) k Done) (get_or ([] ∷ rests) k [])
-  left_all zero = tt
+  left_all : (k : ℕ) → IsLeft (get_or (control_head ends ∷ map head_of ports) k Done) (get_or (over.rest ∷ rests) k [])
+  left_all zero = rw head_done tt
   left_all (suc k) = left_at k (cases_lt k (length (map head_of ports)))
 
-  rests_left : AreLeft plan (Done ∷ map head_of ports) ([] ∷ rests)
+  rests_left : AreLeft plan (control_head ends ∷ map head_of ports) (over.rest ∷ rests)
   rests_left =
       let size = r.later.size in
       let sizes = length-map ports head_of in
@@ -209,11 +229,14 @@ module _ {S K C : Type 0} (left : S → Option (List ℕ)) (written : K → Opti
       ∙ ap (λ (p : Port). turns p (get_or inputs_of k both_default.0)) (sym (port_at k e within))
       ∙ sym (port_turns_at plan.ports inputs_of k d e.port both_default.0 (omega arith) (omega arith)))
 
-  past_is : past ≡ inputs_taken plan empty None inputs_of r.known
+  past_is : past ≡ inputs_taken plan empty over.lines inputs_of r.known
   past_is =
       let begins = begun plan empty r.known.ports plan.ports [] in
-      reaches_end plan empty r.known begins (Done ∷ map head_of ports) (control_taken ∷ r.taken) past ([] ∷ rests) (done_all (map head_of ports) heads_done) (agree_all plan past (map head_of ports) r.control r.agree) rests_left (r.reaches r.known (allowed_itself plan r.known past))
-      ∙ ap (λ (l : List (List Turn)). after_all plan empty r.known (merged turn_at (control_turns None ∷ l)) begins) turns_are
+      let head = control_head ends in
+      reaches_end plan empty r.known begins (head ∷ map head_of ports) (r.control_taken ∷ r.taken) past (over.rest ∷ rests) (done_all head (map head_of ports) head_done heads_done)
+      (agree_all plan past head (map head_of ports) (control_agrees left written source_faults sink_faults plan past r.known.control ends_first ends r.control_taken r.control) r.agree) rests_left (r.reaches r.known (all_allowed_itself plan r.known past))
+      ∙ ap (λ (l : List (List Turn)). after_all plan empty r.known (merged turn_at ((r.control_taken ++ over.rest) ∷ l)) begins) turns_are
+      ∙ ap (λ (l : List Turn). after_all plan empty r.known (merged turn_at (l ∷ port_turns plan.ports inputs_of)) begins) over.split
 
   end_same : (now : List Row) → now ≡ egress_ended plan empty plan.ports (with_event plan empty past (End Ticker hows.End)) → (n : ℕ) → input_end n now ≡ input_end n past
   end_same now finished n = ap (λ (l : List Row). input_end n l) finished ∙ (same_finished plan empty past n).end_same
@@ -247,13 +270,18 @@ module _ {S K C : Type 0} (left : S → Option (List ℕ)) (written : K → Opti
             broken_out = broken_of written sink_faults plan past now n p.ends.sink q.ends.sink (r.known.ports n) (output_at k d inside) (ended_output k d inside);
           }
 
-      pub serves : ServesEnds left written source_faults sink_faults plan empty now first ports
-      serves = record {
+      replay_is : now ≡ replayed plan empty over.lines inputs_of r.known
+      replay_is = finished ∙ ap (λ (l : List Row). egress_ended plan empty plan.ports (with_event plan empty l (End Ticker hows.End))) past_is
+
+      pub serves : IsStrictlyIncreasing (numbers_of plan.ports) → ServesEnds left written source_faults sink_faults plan empty now ends_first ends first ports
+      serves rising = record {
+        lines = over.lines;
         inputs = inputs_of;
         stops = r.known;
         size = inputs_count ∙ count_is first plan planned;
-        replay = finished ∙ ap (λ (l : List Row). egress_ended plan empty plan.ports (with_event plan empty l (End Ticker hows.End))) past_is;
+        replay = replay_is;
         finished = finishes;
+        control = over.serves now inputs_of r.known refl (subst (λ (l : List Row). ControlSame plan empty past l) (sym finished) (control_finished plan empty past)) rising (inputs_count ∙ count_is first plan planned) replay_is;
         each = λ k i within d.
             let inside : k < length first = omega (arith, count_is first plan planned, within) in
             subst (λ (n : ℕ). IsServed left written source_faults sink_faults (Comes (get_or first k d).reader) plan empty now n (get_or inputs_of k i) (r.known.ports n) (get_or first k d).ends (get_or ports k d).ends)

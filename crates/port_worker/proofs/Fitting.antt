@@ -164,6 +164,16 @@ same_one {S} {K} {C} left written source_faults faults past now first old new st
     stepped.same ∙ ap (λ (a : Ahead). record old { ends = record old.ends { sink = new.ends.sink }; ahead = a }) ahead_is in
     subst (λ (p : PortEnds S K C). FitsSoFar left source_faults now first p) (sym same) moved
 
+-- a turn that is no port's changes no more than sinks
+pub fits_sunk : {S K C : Type 0} (left : S → Option (List ℕ)) (written : K → Option (List ℕ)) (source_faults : S → ℕ) (faults : K → ℕ) (past now : List Row) (first old new : List (PortEnds S K C)) → EachPair (FitsSoFar left source_faults past) first old → EachPair (IsStepped written faults) old new
+    → ((k : ℕ) (d : PortEnds S K C) → k < length old → (get_or new k d).ahead ≡ (get_or old k d).ahead) → ((n : ℕ) → HoldsSame n past now) → EachPair (FitsSoFar left source_faults now) first new
+fits_sunk left written source_faults faults past now first old new so_far stepped same holds = record {
+  size = stepped.size ∙ so_far.size;
+  each = λ k d within.
+      let inside : k < length old = omega (arith, so_far.size, within) in
+      same_one left written source_faults faults past now (get_or first k d) (get_or old k d) (get_or new k d) (stepped.each k d inside) (same k d inside) (holds (number_of (get_or first k d).port)) (so_far.each k d within);
+}
+
 -- behind the turn of this port
 
 same_turn : (t u : Turn) → Some t ≡ Some u → u ≡ t

@@ -10,7 +10,7 @@ use Rattle.port_worker.specs.Pairs.{EachPair}
 use Rattle.port_worker.specs.Inputs.{IsLooked}
 use Rattle.port_worker.specs.SentFrames.{TookMore, OnlySink}
 use Rattle.port_worker.specs.Steps.{IsStepped}
-use Rattle.port_worker.specs.Served.{IsUsed}
+use Rattle.port_worker.specs.Used.{IsUsed}
 use Rattle.port_worker.proofs.Joining.{front_none}
 
 -- a port before and after: the same port, and its ends were used, and no count of faults fell
@@ -20,7 +20,7 @@ pub record IsLater {S K C : Type 0} (left : S → Option (List ℕ)) (written : 
   pub source : source_faults old.ends.source ≤ source_faults new.ends.source
   pub sink : sink_faults old.ends.sink ≤ sink_faults new.ends.sink
 
-behind_none : (o : Option (List ℕ)) → o ≡ behind o []
+pub behind_none : (o : Option (List ℕ)) → o ≡ behind o []
 behind_none None = refl
 behind_none (Some written) = ap (λ (l : List ℕ). Some l) (sym (append-nil written))
 
@@ -35,7 +35,7 @@ pub took_written : (answer : Put) (before after : Option (List ℕ)) (piece : Li
 took_written put.Done before after piece extends = (piece, extends)
 took_written put.Failed before after piece extends = (extends.0, extends.2)
 
-gave_again : (before mid after : Option (List ℕ)) → (octets : List ℕ) × Takes before mid octets → (octets : List ℕ) × Takes mid after octets → (octets : List ℕ) × Takes before after octets
+pub gave_again : (before mid after : Option (List ℕ)) → (octets : List ℕ) × Takes before mid octets → (octets : List ℕ) × Takes mid after octets → (octets : List ℕ) × Takes before after octets
 gave_again before mid after one two = (one.0 ++ two.0, takes_more one.0 two.0 before mid after one.1 two.1)
 
 module _ {S K C : Type 0} (left : S → Option (List ℕ)) (written : K → Option (List ℕ)) (source_faults : S → ℕ) (sink_faults : K → ℕ) where
@@ -82,6 +82,9 @@ module _ {S K C : Type 0} (left : S → Option (List ℕ)) (written : K → Opti
     later = only.later;
     took = only.took;
   }
+
+  pub sinks_stepped : (old new : List (PortEnds S K C)) → EachPair (OnlySink written sink_faults) old new → EachPair (IsStepped written sink_faults) old new
+  sinks_stepped old new sinks = record { size = sinks.size; each = λ k d inside. only_stepped (get_or old k d) (get_or new k d) (sinks.each k d inside) }
 
   pub begun_later : (old new : List (PortEnds S K C)) → EachPair (OnlySink written sink_faults) old new → EachPair Later old new
   begun_later old new begun = record {

@@ -67,7 +67,7 @@ drain_longer plan stops port count past false =
     let mid = with_event plan empty past (Drain port count) in
     let more = failure_longer plan mid port (is_stopped (stops.ports (number_of port)) (pieces_by plan empty (number_of port) mid)) in omega arith
 
-drained_longer : (plan : Plan) (stops : Stops) (ports : List PortPlan) (past : List Row) → length past ≤ length (drained plan empty stops.ports ports past)
+pub drained_longer : (plan : Plan) (stops : Stops) (ports : List PortPlan) (past : List Row) → length past ≤ length (drained plan empty stops.ports ports past)
 drained_longer plan stops [] past = omega arith
 drained_longer plan stops (q ∷ qs) past =
     let count = length (queue plan empty (number_of q.number) past) in
@@ -88,7 +88,7 @@ not_false : (b : Bool) → not b ≡ false → b ≡ true
 not_false true is = refl
 not_false false is = cc
 
-room_below : (plan : Plan) (past : List Row) → has_room plan past ≡ true → length past < plan.entries
+pub room_below : (plan : Plan) (past : List Row) → has_room plan past ≡ true → length past < plan.entries
 room_below plan past room =
     let first : nat_lt (length past + 4130) plan.entries ≡ true = (and_parts (nat_lt (length past + 4130) plan.entries) (nat_le (held past + 1518) plan.bytes) room).0 in
     grind (arith, nat_tests)

@@ -9,35 +9,41 @@ use Rattle.savi_kinds.specs.Ports.{number_of}
 use Rattle.pcap_io.specs.Readers.{HasRead}
 use Rattle.hist_store.specs.Rows.{Row}
 use Rattle.savi_history.specs.Bases.{empty}
-use Rattle.savi_history.specs.Passes.{has_ended, control_pass, ticker_pass}
+use Rattle.savi_history.specs.Passes.{has_ended, ticker_pass}
 use Rattle.savi_history.specs.Queues.{queue}
 use Rattle.savi_history.specs.Turns.{Turn, turns}
 use Rattle.savi_history.specs.Replay.{Stops, begun}
 use Rattle.savi_history.proofs.PassNumbers.{number_at}
 use Rattle.savi_history.proofs.Reaching.{Head, Unread, Known, Done, IsLeft, AreLeft, AllRead, Agrees, Reaches}
 use Rattle.savi_history.proofs.Reaching as reaching
+use Rattle.port_worker.specs.declared.control_ends.ControlEnds.{ControlEnds}
 use Rattle.port_worker.specs.declared.port_ends.Ahead.{Ahead}
 use Rattle.port_worker.specs.declared.port_ends.Ahead.TheVariants as ahead
 use Rattle.port_worker.specs.declared.port_ends.PortEnds.{PortEnds}
 use Rattle.port_worker.specs.Pairs.{EachPair}
 use Rattle.port_worker.specs.Inputs.{IsSound, IsKnown, IsLooked, moment_of}
-use Rattle.port_worker.specs.Outputs.{IsOutput, AreOutputs, AreAllowed}
-use Rattle.port_worker.proofs.ControlFirst.{control_taken, PortsAgree}
+use Rattle.port_worker.specs.ControlOutputs.{AreAllowed}
+use Rattle.port_worker.specs.LineInputs.{IsControlHeard}
+use Rattle.port_worker.specs.Outputs.{IsOutput, AreOutputs}
+use Rattle.port_worker.proofs.ControlFirst.{PortsAgree}
+use Rattle.port_worker.proofs.ControlProgress.{control_head}
+use Rattle.port_worker.proofs.ControlRunning.{ControlStands, control_left, control_looked}
 use Rattle.port_worker.proofs.Measures.{weight, undone, undone_same}
 use Rattle.port_worker.proofs.Joining.{takes_twice}
 use Rattle.port_worker.proofs.Later.{IsLater, looked_later}
 use Rattle.port_worker.proofs.Progress.{head_of, head_ahead, moment_same, read_known, HasReadAhead, Goes, Progress, ProgressBy, read_ahead}
 
-pub record Running {S K C : Type 0} (left : S → Option (List ℕ)) (written : K → Option (List ℕ)) (source_faults : S → ℕ) (sink_faults : K → ℕ) (plan : Plan) (first ports : List (PortEnds S K C)) (past : List Row) : Type 0 where
+pub record Running {S K C : Type 0} (left : S → Option (List ℕ)) (written : K → Option (List ℕ)) (source_faults : S → ℕ) (sink_faults : K → ℕ) (plan : Plan) (ends_first ends : Option (ControlEnds S K C)) (first ports : List (PortEnds S K C)) (past : List Row) : Type 0 where
   pub later : EachPair (IsLater left written source_faults sink_faults) first ports
   pub sound : (k : ℕ) (d : PortEnds S K C) → k < length first → IsSound (get_or ports k d).reader (get_or ports k d).ahead
   pub taken : List (List Turn)
   pub taken_size : length taken ≡ length first
+  pub control_taken : List Turn
   pub known : Stops
-  pub reaches : (stops : Stops) → AreAllowed plan known stops past → Reaches plan empty stops (begun plan empty stops.ports plan.ports []) (Done ∷ map head_of ports) (control_taken ∷ taken) past
+  pub reaches : (stops : Stops) → AreAllowed plan known stops past → Reaches plan empty stops (begun plan empty stops.ports plan.ports []) (control_head ends ∷ map head_of ports) (control_taken ∷ taken) past
   pub agree : PortsAgree past (map head_of ports)
   pub progress : (k : ℕ) (d : PortEnds S K C) → k < length first → Progress left plan k past (get_or first k d) (get_or ports k d) (get_or taken k [])
-  pub control : has_ended empty (control_pass plan) past ≡ true
+  pub control : ControlStands left written source_faults sink_faults plan past known.control ends_first ends control_taken
   pub ticker : has_ended empty (ticker_pass plan) past ≡ false
   pub quiet : (k : ℕ) → k < length plan.ports → queue plan empty (number_at plan k) past ≡ []
   pub outputs : AreOutputs written sink_faults plan known past first ports
@@ -150,15 +156,15 @@ outputs_looked {S} {K} {C} written sink_faults left source_faults plan known pas
       };
 }
 
-module _ {S K C : Type 0} (left : S → Option (List ℕ)) (written : K → Option (List ℕ)) (source_faults : S → ℕ) (sink_faults : K → ℕ) (plan : Plan) (first : List (PortEnds S K C)) where
-  abbrev Runs : List (PortEnds S K C) → List Row → Type 0
-  Runs ports past = Running left written source_faults sink_faults plan first ports past
+module _ {S K C : Type 0} (left : S → Option (List ℕ)) (written : K → Option (List ℕ)) (source_faults : S → ℕ) (sink_faults : K → ℕ) (plan : Plan) (ends_first : Option (ControlEnds S K C)) (first : List (PortEnds S K C)) where
+  abbrev Runs : Option (ControlEnds S K C) → List (PortEnds S K C) → List Row → Type 0
+  Runs ends ports past = Running left written source_faults sink_faults plan ends_first ends first ports past
 
-  module _ (ports new : List (PortEnds S K C)) (past : List Row) (r : Runs ports past) (looked : EachPair (IsLooked left source_faults) ports new) where
+  module _ (ends ends_new : Option (ControlEnds S K C)) (ports new : List (PortEnds S K C)) (past : List Row) (r : Runs ends ports past) (heard : IsControlHeard left source_faults ends ends_new) (looked : EachPair (IsLooked left source_faults) ports new) where
     size_ports : length ports ≡ length first
     size_ports = r.later.size
 
-    left_at : (rest : List (List Turn)) (k : ℕ) → AreLeft plan (Done ∷ map head_of new) rest → (k < length ports) ⊎ (length ports ≤ k) → IsLeft (get_or (map head_of ports) k Done) (get_or rest (suc k) [])
+    left_at : (rest : List (List Turn)) (k : ℕ) → AreLeft plan (control_head ends_new ∷ map head_of new) rest → (k < length ports) ⊎ (length ports ≤ k) → IsLeft (get_or (map head_of ports) k Done) (get_or rest (suc k) [])
     left_at rest k there (inl inside) =
         let d = element ports k inside in
         let size = looked.size in
@@ -167,8 +173,8 @@ module _ {S K C : Type 0} (left : S → Option (List ℕ)) (written : K → Opti
         (subst (λ (h : Head). IsLeft h (get_or rest (suc k) [])) (head_at new k d Done (omega arith)) (there.each (suc k))))
     left_at rest k there (inr outside) = let size = length-map ports head_of in rw (get_or_past (map head_of ports) k Done (omega arith)) tt
 
-    left_all : (rest : List (List Turn)) (k : ℕ) → AreLeft plan (Done ∷ map head_of new) rest → IsLeft (get_or (Done ∷ map head_of ports) k Done) (get_or rest k [])
-    left_all rest zero there = tt
+    left_all : (rest : List (List Turn)) (k : ℕ) → AreLeft plan (control_head ends_new ∷ map head_of new) rest → IsLeft (get_or (control_head ends ∷ map head_of ports) k Done) (get_or rest k [])
+    left_all rest zero there = control_left left written source_faults sink_faults plan ends ends_new (get_or rest 0 []) heard (there.each 0)
     left_all rest (suc k) there = left_at rest k there (cases_lt k (length ports))
 
     agree_at : (k : ℕ) → k < length (map head_of new) → Agrees empty past k (get_or (map head_of new) k Done)
@@ -185,12 +191,13 @@ module _ {S K C : Type 0} (left : S → Option (List ℕ)) (written : K → Opti
         rw (head_at new k d Done (omega arith))
         (agrees_from past k q.port q.buf q.ahead ((λ done. was.0 (look.done done)), (λ other. was.1 (λ done. other (done_both left source_faults p q look done)))))
 
-    pub look_step : Runs new past
+    pub look_step : Runs ends_new new past
     look_step = record {
       later = looked_later left written source_faults sink_faults first ports new r.later looked;
       sound = λ k d inside. (looked.each k d (omega (arith, size_ports))).sound;
       taken = r.taken;
       taken_size = r.taken_size;
+      control_taken = r.control_taken;
       known = r.known;
       reaches = λ stops allowed rest there.
           let sizes = length-map ports head_of in
@@ -201,7 +208,7 @@ module _ {S K C : Type 0} (left : S → Option (List ℕ)) (written : K → Opti
       agree = agree_at;
       progress = λ k d inside. let within : k < length ports = omega (arith, size_ports) in
           progress_look left source_faults plan k past (get_or first k d) (get_or ports k d) (get_or new k d) (get_or r.taken k []) (get_or ports k d).ahead refl (looked.each k d within) (r.progress k d inside);
-      control = r.control;
+      control = control_looked left written source_faults sink_faults plan past r.known.control ends_first ends ends_new r.control_taken heard r.control;
       ticker = r.ticker;
       quiet = r.quiet;
       outputs = outputs_looked written sink_faults left source_faults plan r.known past first ports new r.outputs looked;

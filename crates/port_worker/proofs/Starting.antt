@@ -1,6 +1,7 @@
 -- The state of a replay before the first turn, and what each turn may ask of it.
-use Rattle.std.proofs.Common.{◌≡◌, ◌≢◌, ℕ, zero, suc, ◌<◌, ◌≤◌, true, false, List, [], ◌∷◌, length, map, get_or, refl, sym, ap, ◌∙◌, subst, arith, Option, IfSome}
+use Rattle.std.proofs.Common.{◌≡◌, ◌≢◌, ℕ, zero, suc, ◌<◌, ◌≤◌, true, false, List, [], ◌∷◌, length, map, get_or, refl, sym, ap, ◌∙◌, subst, arith, Option, Some, None, IfSome}
 use Rattle.std.proofs.lemmas.List.{length-map, get_or-map, same_lists}
+use Rattle.std.proofs.lemmas.List.Elements.{All-nil}
 use Rattle.std.specs.List.{All}
 use Rattle.std.specs.List.Sorted.{IsStrictlyIncreasing}
 use Rattle.savi_kinds.specs.declared.plan.Plan.{Plan}
@@ -8,32 +9,47 @@ use Rattle.savi_kinds.specs.declared.entry.Who.TheVariants.{Ingress, Control}
 use Rattle.savi_kinds.specs.declared.entry.How.TheVariants as hows
 use Rattle.savi_kinds.specs.Ports.{number_of}
 use Rattle.savi_kinds.specs.ValidPlan.{numbers_of}
+use Rattle.cli_lang.specs.Readers.{State, Running as RunningLines, Ended}
 use Rattle.hist_store.specs.Rows.{Row}
 use Rattle.savi_history.specs.Bases.{empty}
 use Rattle.savi_history.specs.Passes.{has_ended, has_port, pass_of, place_of, control_pass, ticker_pass}
 use Rattle.savi_history.specs.Queues.{queue}
 use Rattle.savi_history.specs.Legal.{IsOpen}
 use Rattle.savi_history.specs.Events.{End}
-use Rattle.savi_history.specs.Turns.{Turn}
-use Rattle.savi_history.specs.Replay.{Stops, begun, with_event}
+use Rattle.savi_history.specs.ControlInputs.{control_end}
+use Rattle.savi_history.specs.PortOutputs.{TookPieces}
+use Rattle.savi_history.specs.Readable.{IsLine}
+use Rattle.savi_history.specs.Turns.{Turn, control_turns}
+use Rattle.savi_history.specs.Replay.{PortStops, Stops, begun, with_event}
+use Rattle.savi_history.proofs.ControlSame.{ControlSame, control_begun}
 use Rattle.savi_history.proofs.PassNumbers.{number_at, place_at, known_at}
 use Rattle.savi_history.proofs.Waiting.{ended_now, ended_other, ended_begun, empty_end, empty_begun}
 use Rattle.savi_history.proofs.PortInputs.{HoldsSame, same_begun, same_control}
 use Rattle.savi_history.proofs.Reaching.{Done, Agrees, Reaches, joined}
+use Rattle.savi_core.specs.Machines.{Machine}
+use Rattle.port_worker.specs.declared.control_ends.ControlEnds.{ControlEnds}
+use Rattle.port_worker.specs.declared.control_ends.LineAhead.{LineAhead}
+use Rattle.port_worker.specs.declared.control_ends.LineAhead.TheVariants as line_ahead
 use Rattle.port_worker.specs.declared.port_ends.Ahead.{Ahead}
 use Rattle.port_worker.specs.declared.port_ends.Ahead.TheVariants as ahead
 use Rattle.port_worker.specs.declared.port_ends.PortEnds.{PortEnds}
 use Rattle.port_worker.specs.Pairs.{EachPair}
 use Rattle.port_worker.specs.Inputs.{IsSound, IsReadable, Gives, WillCome}
+use Rattle.port_worker.specs.ControlOutputs.{unheard}
+use Rattle.port_worker.specs.LineInputs.{IsControlUnheard, IsHearing, IsLineSound, IsUnheard}
 use Rattle.port_worker.specs.SentFrames.{OnlySink}
-use Rattle.port_worker.specs.Outputs.{AreOutputs, Allows, AreAllowed}
+use Rattle.port_worker.specs.Outputs.{AreOutputs, Allows, ArePortsAllowed}
 use Rattle.port_worker.specs.Replays.{IsUnread, ports_held, ports_planned}
 use Rattle.port_worker.proofs.Allowed.{allowed_itself}
-use Rattle.port_worker.proofs.ControlFirst.{control_taken, reaches_control}
-use Rattle.port_worker.proofs.KeptOutputs.{KeepsOutput, keeps_control, keeps_pieces, output_kept}
+use Rattle.port_worker.proofs.ControlFirst.{reaches_control, reaches_unread}
+use Rattle.port_worker.proofs.ControlGoing.{with_stop}
+use Rattle.port_worker.proofs.ControlProgress.{HeardAhead, control_head, line_head}
+use Rattle.port_worker.proofs.ControlRunning.{ControlRuns, ControlStands, LineProgress}
+use Rattle.port_worker.proofs.Hearing.{HasHeard, heard_none}
+use Rattle.port_worker.proofs.KeptOutputs.{KeepsOutput, keeps_control, keeps_same, keeps_pieces, output_kept}
 use Rattle.port_worker.proofs.Planned.{count_is, number_is}
 use Rattle.port_worker.proofs.Joining.{front_none}
-use Rattle.port_worker.proofs.Later.{IsLater, begun_later}
+use Rattle.port_worker.proofs.Later.{IsLater, begun_later, behind_none, took_none}
 use Rattle.port_worker.proofs.Progress.{head_of, Goes, ProgressBy}
 use Rattle.port_worker.proofs.Running.{Running, head_at, element}
 
@@ -67,12 +83,80 @@ held_same {S} {K} {C} left written source_faults sink_faults first ports later =
     let e = element first k within in
     get_or-map (λ (p : PortEnds S K C). p.port) ports k e d (omega arith) ∙ (later.each k e within).port ∙ sym (get_or-map (λ (p : PortEnds S K C). p.port) first k e d within))
 
-module _ {S K C : Type 0} (left : S → Option (List ℕ)) (written : K → Option (List ℕ)) (source_faults : S → ℕ) (sink_faults : K → ℕ) (plan : Plan) (first ports : List (PortEnds S K C))
+-- the history behind the beginnings of the outputs: without ends of control its input ends at once
+abbrev pub opened : {S K C : Type 0} → Plan → List Row → Option (ControlEnds S K C) → List Row
+opened plan before None = with_event plan empty before (End Control hows.End)
+opened plan before (Some c) = before
+
+opened_ends : {S K C : Type 0} (plan : Plan) (before : List Row) (ends : Option (ControlEnds S K C)) (pass : ℕ) → pass ≢ control_pass plan → has_ended empty pass (opened plan before ends) ≡ has_ended empty pass before
+opened_ends plan before None pass other = ended_other plan empty before Control hows.End pass (λ e. other (sym e))
+opened_ends plan before (Some c) pass other = refl
+
+opened_holds : {S K C : Type 0} (plan : Plan) (before : List Row) (ends : Option (ControlEnds S K C)) (n : ℕ) → HoldsSame n before (opened plan before ends)
+opened_holds plan before None n = same_control plan empty before hows.End n
+opened_holds plan before (Some c) n = record { arrivals_same = refl; end_same = refl }
+
+opened_keeps : {S K C : Type 0} (plan : Plan) (before : List Row) (ends : Option (ControlEnds S K C)) (n : ℕ) → KeepsOutput plan n before (opened plan before ends)
+opened_keeps plan before None n = keeps_control plan before hows.End n
+opened_keeps plan before (Some c) n = keeps_same plan n before before refl
+
+opened_quiet : {S K C : Type 0} (plan : Plan) (before : List Row) (ends : Option (ControlEnds S K C)) (n : ℕ) → queue plan empty n before ≡ [] → queue plan empty n (opened plan before ends) ≡ []
+opened_quiet plan before None n none = empty_end plan empty before Control hows.End n none
+opened_quiet plan before (Some c) n none = none
+
+pub opened_machine : {S K C : Type 0} (m : Machine) (ends : Option (ControlEnds S K C)) → (unheard m ends).past ≡ opened m.plan m.past ends
+opened_machine m None = refl
+opened_machine m (Some c) = refl
+
+pub opened_plan : {S K C : Type 0} (m : Machine) (ends : Option (ControlEnds S K C)) → (unheard m ends).plan ≡ m.plan
+opened_plan m None = refl
+opened_plan m (Some c) = refl
+
+running_hears : (state : State) → state ≡ RunningLines 0 [] → IsHearing state
+running_hears state is failed = let e : RunningLines 0 [] ≡ Ended hows.Failed = sym is ∙ failed in cc
+
+none_so : {X : Type 0} (o : Option X) (x : X) → o ≡ None → o ≡ Some x → ⊥
+none_so o x none some = let e : None ≡ Some x = sym none ∙ some in cc
+
+unread_failed : (a : LineAhead) → a ≡ line_ahead.Unread → a ≡ line_ahead.Failed → ⊥
+unread_failed a unread failed = cc
+
+-- the ends of control of which nothing was read
+control_starts : {S K C : Type 0} (left : S → Option (List ℕ)) (written : K → Option (List ℕ)) (source_faults : S → ℕ) (sink_faults : K → ℕ) (plan : Plan) (before : List Row) (c : ControlEnds S K C) (stops : PortStops) → before ≡ begun plan empty stops plan.ports [] → IsUnheard c
+    → ControlRuns left written source_faults sink_faults plan before None c c []
+control_starts left written source_faults sink_faults plan before c stops begins none =
+    let same : ControlSame plan empty [] before = subst (λ (l : List Row). ControlSame plan empty [] l) (sym begins) (control_begun plan empty stops plan.ports []) in
+    record {
+      used = record { gave = ([], sym (front_none (left c.ends.source))); took = took_none (written c.ends.sink); clock = refl };
+      source = omega arith;
+      sink = omega arith;
+      sound = subst (λ (a : LineAhead). IsLineSound c.reader a) (sym none.0) (running_hears c.reader none.1);
+      agrees = subst (λ (a : LineAhead). Agrees empty before (control_pass plan) (line_head c.buf a)) (sym none.0) same.ended_same;
+      progress = subst (λ (a : LineAhead). LineProgress left plan before c c [] a) (sym none.0) (record {
+        before = [];
+        taken_is = refl;
+        entered = same.lines_same;
+        running = same.end_same;
+        lines = All-nil IsLine;
+        gave = [];
+        takes = sym (front_none (left c.ends.source));
+        heard = subst (λ (a : LineAhead). HeardAhead (left c.ends.source) (left c.ends.source) c.reader [] c.buf [] a) (sym none.0)
+            (subst (λ (s : State). HasHeard s [] (left c.ends.source) []) (sym none.1) (heard_none (left c.ends.source)));
+      });
+      replied = record {
+        none = λ is. none_so (control_end before) hows.Unwritten same.end_same is;
+        took = subst (λ (l : List (List ℕ)). TookPieces (written c.ends.sink) (written c.ends.sink) l None) (sym same.replies_same) (behind_none (written c.ends.sink));
+      };
+      failed = λ failed. absurd (unread_failed c.ahead none.0 failed);
+      broken = λ is. absurd (none_so (control_end before) hows.Failed same.end_same is);
+    }
+
+module _ {S K C : Type 0} (left : S → Option (List ℕ)) (written : K → Option (List ℕ)) (source_faults : S → ℕ) (sink_faults : K → ℕ) (plan : Plan) (ends : Option (ControlEnds S K C)) (first ports : List (PortEnds S K C))
     (planned : ports_held first ≡ ports_planned plan) (rising : IsStrictlyIncreasing (numbers_of plan.ports)) where
   module _ (before : List Row) (known : Stops) (unread : All IsUnread first) (only : EachPair (OnlySink written sink_faults) first ports) (outputs : AreOutputs written sink_faults plan known before first ports)
-      (begun_is : (stops : Stops) → AreAllowed plan known stops before → before ≡ begun plan empty stops.ports plan.ports []) where
+      (begun_is : (stops : Stops) → ArePortsAllowed plan known stops before → before ≡ begun plan empty stops.ports plan.ports []) (none_heard : IsControlUnheard ends) where
     abbrev past : List Row
-    past = with_event plan empty before (End Control hows.End)
+    past = opened plan before ends
 
     before_is : before ≡ begun plan empty known.ports plan.ports []
     before_is = begun_is known (allowed_itself plan known before)
@@ -81,7 +165,7 @@ module _ {S K C : Type 0} (left : S → Option (List ℕ)) (written : K → Opti
     pub holds : (n : ℕ) → HoldsSame n [] past
     holds n =
         let begins : HoldsSame n [] before = subst (λ (l : List Row). HoldsSame n [] l) (sym before_is) (same_begun plan empty known.ports plan.ports [] n) in
-        let last = same_control plan empty before hows.End n in
+        let last = opened_holds plan before ends n in
         record { arrivals_same = last.arrivals_same ∙ begins.arrivals_same; end_same = last.end_same ∙ begins.end_same }
 
     ahead_is : (k : ℕ) (d : PortEnds S K C) → k < length first → (get_or ports k d).ahead ≡ ahead.Unread
@@ -101,7 +185,7 @@ module _ {S K C : Type 0} (left : S → Option (List ℕ)) (written : K → Opti
     control_open plan' same = subst (λ (p : Plan). IsOpen p empty before Control) (sym same) (record { known = refl; running = ended_before (control_pass plan) (omega arith) })
 
     ended_none : (pass : ℕ) → pass ≤ ticker_pass plan → pass ≢ control_pass plan → has_ended empty pass past ≡ false
-    ended_none pass low other = ended_other plan empty before Control hows.End pass (λ e. other (sym e)) ∙ ended_before pass low
+    ended_none pass low other = opened_ends plan before ends pass other ∙ ended_before pass low
 
     agree_at : (k : ℕ) → k < length (map head_of ports) → Agrees empty past k (get_or (map head_of ports) k Done)
     agree_at k inside =
@@ -125,35 +209,51 @@ module _ {S K C : Type 0} (left : S → Option (List ℕ)) (written : K → Opti
     }
 
     keeps : (n : ℕ) → KeepsOutput plan n before past
-    keeps n = keeps_control plan before hows.End n
+    keeps n = opened_keeps plan before ends n
 
-    allowed_before : (stops : Stops) → AreAllowed plan known stops past → AreAllowed plan known stops before
+    allowed_before : (stops : Stops) → ArePortsAllowed plan known stops past → ArePortsAllowed plan known stops before
     allowed_before stops allowed k d within =
         let n = get_or (numbers_of plan.ports) k d in
         subst (λ (c : ℕ). Allows (known.ports n) (stops.ports n) c) (keeps_pieces plan n before past (keeps n)) (allowed k d within)
 
-    reaches_past : (stops : Stops) → AreAllowed plan known stops past → Reaches plan empty stops (begun plan empty stops.ports plan.ports []) (Done ∷ map head_of ports) (control_taken ∷ nothing_taken first) past
-    reaches_past stops allowed =
-        let size = only.size in
-        let sizes = length-map ports head_of in
-        let begins = begun plan empty stops.ports plan.ports [] in
-        let same : before ≡ begins = begun_is stops (allowed_before stops allowed) in
-        subst (λ (l : List Row). Reaches plan empty stops begins (Done ∷ map head_of ports) (control_taken ∷ nothing_taken first) (with_event plan empty l (End Control hows.End))) (sym same)
-        (reaches_control plan stops begins (map head_of ports) (nothing_taken first) (ended_begun plan empty stops.ports plan.ports [] (control_pass plan) (omega arith)) (λ rest size_r. nothing_joined first rest (omega arith)))
+    -- control before the first turn
+    start_control : (e : Option (ControlEnds S K C)) → IsControlUnheard e → (taken : List Turn) × ControlStands left written source_faults sink_faults plan (opened plan before e) None e e taken
+        × ((stops : Stops) → before ≡ begun plan empty stops.ports plan.ports [] → Reaches plan empty stops (begun plan empty stops.ports plan.ports []) (control_head e ∷ map head_of ports) (taken ∷ nothing_taken first) (opened plan before e))
+    start_control None none = (
+      control_turns None,
+      (refl, ended_now plan empty before Control hows.End),
+      λ stops same.
+          let size = only.size in
+          let sizes = length-map ports head_of in
+          let begins = begun plan empty stops.ports plan.ports [] in
+          subst (λ (l : List Row). Reaches plan empty stops begins (Done ∷ map head_of ports) (control_turns None ∷ nothing_taken first) (with_event plan empty l (End Control hows.End))) (sym same)
+          (reaches_control plan stops begins (map head_of ports) (nothing_taken first) (ended_begun plan empty stops.ports plan.ports [] (control_pass plan) (omega arith)) (λ rest size_r. nothing_joined first rest (omega arith))),
+    )
+    start_control (Some c) none = (
+      [],
+      control_starts left written source_faults sink_faults plan before c known.ports before_is none,
+      λ stops same.
+          let size = only.size in
+          let sizes = length-map ports head_of in
+          let begins = begun plan empty stops.ports plan.ports [] in
+          subst (λ (l : List Row). Reaches plan empty stops begins (line_head c.buf c.ahead ∷ map head_of ports) ([] ∷ nothing_taken first) l) (sym same)
+          (reaches_unread plan stops begins (line_head c.buf c.ahead) (map head_of ports) (nothing_taken first) (λ rest size_r. nothing_joined first rest (omega arith))),
+    )
 
-    pub start : Running left written source_faults sink_faults plan first ports past
-    start = record {
+    pub start : Running left written source_faults sink_faults plan ends ends first ports past
+    start = let begins = start_control ends none_heard in record {
       later = begun_later left written source_faults sink_faults first ports only;
       sound = λ k d inside. rw (ahead_is k d inside) (subst (λ (p : PortEnds S K C). IsReadable p.reader) (sym (only.each k d inside).same) (unread k d inside).1);
       taken = nothing_taken first;
       taken_size = nothing_count first;
-      known = known;
-      reaches = reaches_past;
+      control_taken = begins.0;
+      known = with_stop known None;
+      reaches = λ stops allowed. begins.2 stops (begun_is stops (allowed_before stops allowed.ports));
       agree = agree_at;
       progress = λ k d inside. rw (nothing_at first k) (subst (λ (a : Ahead). ProgressBy left plan k past (get_or first k d) (get_or ports k d) [] a) (sym (ahead_is k d inside)) (goes_at_first k d inside));
-      control = ended_now plan empty before Control hows.End;
+      control = begins.1;
       ticker = ended_none (ticker_pass plan) (omega arith) (λ same. absurd (omega arith));
-      quiet = λ k inside. empty_end plan empty before Control hows.End (number_at plan k) (ap (λ (l : List Row). queue plan empty (number_at plan k) l) before_is ∙ empty_begun plan empty known.ports plan.ports [] (number_at plan k) refl);
+      quiet = λ k inside. opened_quiet plan before ends (number_at plan k) (ap (λ (l : List Row). queue plan empty (number_at plan k) l) before_is ∙ empty_begun plan empty known.ports plan.ports [] (number_at plan k) refl);
       outputs = record {
         size = outputs.size;
         each = λ k d inside.
@@ -167,7 +267,7 @@ module _ {S K C : Type 0} (left : S → Option (List ℕ)) (written : K → Opti
       };
     }
 
-  module _ (past : List Row) (r : Running left written source_faults sink_faults plan first ports past) where
+  module _ (ends_first : Option (ControlEnds S K C)) (past : List Row) (r : Running left written source_faults sink_faults plan ends_first ends first ports past) where
     pub planned_now : ports_held ports ≡ ports_planned plan
     planned_now = held_same left written source_faults sink_faults first ports r.later ∙ planned
 

@@ -7,6 +7,7 @@ use Rattle.std.specs.List.Sorted.{IsStrictlyIncreasing}
 use Rattle.savi_kinds.specs.declared.port.Port.{Port}
 use Rattle.savi_kinds.specs.declared.plan.Plan.{Plan}
 use Rattle.savi_kinds.specs.declared.entry.Who.TheVariants.{Ingress}
+use Rattle.savi_kinds.specs.declared.entry.Who.TheVariants as passes
 use Rattle.savi_kinds.specs.declared.entry.How.{How}
 use Rattle.savi_kinds.specs.declared.entry.How.TheVariants as hows
 use Rattle.savi_kinds.specs.Ports.{number_of}
@@ -14,22 +15,27 @@ use Rattle.savi_kinds.specs.ValidPlan.{numbers_of}
 use Rattle.pcap_io.specs.Readers.{State}
 use Rattle.hist_store.specs.Rows.{Row}
 use Rattle.savi_history.specs.Bases.{empty}
-use Rattle.savi_history.specs.Passes.{has_ended, pass_of, place_of, control_pass, ticker_pass}
-use Rattle.savi_history.specs.Turns.{Turn, Ends, who_of}
+use Rattle.savi_history.specs.Passes.{has_ended, pass_of, place_of, ticker_pass}
+use Rattle.savi_history.specs.Turns.{Turn, Arrives, Commands, Ends, who_of}
 use Rattle.savi_history.specs.Picks.{IsLeast}
 use Rattle.savi_history.specs.Replay.{Stops, begun, entered}
 use Rattle.savi_history.specs.PortInputs.{input_end}
+use Rattle.savi_history.proofs.ControlSame.{ControlSame, is_control, control_entered}
 use Rattle.savi_history.proofs.Ends.{after_open}
 use Rattle.savi_history.proofs.PortInputs.{IsTurnOf, end_entered, other_entered}
 use Rattle.savi_history.proofs.PassNumbers.{place_at}
+use Rattle.savi_history.proofs.Replaying.{IsAt, IsOurs, anything}
 use Rattle.savi_history.proofs.Reaching.{Head, Unread, Known, Done, Agrees, Reaches, reaches_take}
 use Rattle.savi_history.proofs.Reaching as reaching
+use Rattle.port_worker.specs.declared.control_ends.ControlEnds.{ControlEnds}
 use Rattle.port_worker.specs.declared.port_ends.Ahead.{Ahead}
 use Rattle.port_worker.specs.declared.port_ends.Ahead.TheVariants as ahead
 use Rattle.port_worker.specs.declared.port_ends.PortEnds.{PortEnds}
 use Rattle.port_worker.specs.Pairs.{EachPair}
 use Rattle.port_worker.specs.Inputs.{IsSound, IsReadable, IsKnown, turn_of, turn_ahead, moment_of}
-use Rattle.port_worker.specs.Outputs.{AreOutputs, AreAllowed, Follows, OutputsGoOn}
+use Rattle.port_worker.specs.ControlOutputs.{AreAllowed}
+use Rattle.port_worker.specs.LineInputs.{IsControlKnown, control_moment}
+use Rattle.port_worker.specs.Outputs.{AreOutputs, Allows, Follows, OutputsGoOn}
 use Rattle.port_worker.specs.Steps.{IsStepped, ends_input, ahead_after}
 use Rattle.port_worker.specs.Replays.{ports_held, ports_planned}
 use Rattle.port_worker.proofs.Allowed.{allowed_itself}
@@ -37,7 +43,10 @@ use Rattle.port_worker.proofs.Planned.{count_is, number_is, numbers_differ}
 use Rattle.port_worker.proofs.Fitting.{FitsSoFar, fits_turned, turn_port}
 use Rattle.port_worker.proofs.Entered.{ended_entered_other, ended_entered_open, ended_entered_done, quiet_entered}
 use Rattle.port_worker.proofs.Progress.{head_of, head_ahead, turn_at_moment, AtTurn, AtFailure, at_turn, Goes, Progress, goes_at, goes_on_at, stops_at, ends_at, fails_at, progress_kept}
-use Rattle.port_worker.proofs.ControlFirst.{control_taken, read_all, agree_all, least_all}
+use Rattle.port_worker.proofs.ControlFirst.{read_all, agree_all}
+use Rattle.port_worker.proofs.ControlGoing.{outputs_ports, with_stop}
+use Rattle.port_worker.proofs.ControlProgress.{control_head, head_moment}
+use Rattle.port_worker.proofs.ControlRunning.{control_agrees, control_kept, control_read, control_weight}
 use Rattle.port_worker.proofs.Measures.{weight, undone, undone_same, undone_less, entered_longer, goes_below}
 use Rattle.port_worker.proofs.Later.{stepped_later}
 use Rattle.port_worker.proofs.Running.{Running, head_at, element, moments_same, all_read, agrees_same}
@@ -60,9 +69,9 @@ readable_of plan past port state buf ahead.Done t is goes sound = cc
 pub known_open : {S K C : Type 0} (p : PortEnds S K C) (t : Turn) (h : Head) → h ≡ head_of p → h ≡ Known t → head_of p ≡ Known t
 known_open p t h is known = sym is ∙ known
 
-module _ {S K C : Type 0} (left : S → Option (List ℕ)) (written : K → Option (List ℕ)) (source_faults : S → ℕ) (sink_faults : K → ℕ) (plan : Plan) (first ports new : List (PortEnds S K C)) (past now : List Row) (j : ℕ)
+module _ {S K C : Type 0} (left : S → Option (List ℕ)) (written : K → Option (List ℕ)) (source_faults : S → ℕ) (sink_faults : K → ℕ) (plan : Plan) (ends_first ends : Option (ControlEnds S K C)) (first ports new : List (PortEnds S K C)) (past now : List Row) (j : ℕ)
     (planned : ports_held first ≡ ports_planned plan) (rising : IsStrictlyIncreasing (numbers_of plan.ports))
-    (r : Running left written source_faults sink_faults plan first ports past) (known : All (λ p. IsKnown p.ahead) ports) (least : IsLeast (map moment_of ports) j) where
+    (r : Running left written source_faults sink_faults plan ends_first ends first ports past) (heard : IsControlKnown ends) (known : All (λ p. IsKnown p.ahead) ports) (least : IsLeast (control_moment ends ∷ map moment_of ports) (suc j)) where
   pub inside : j < length ports
   inside = let within = least.inside in let size = length-map ports moment_of in omega arith
 
@@ -126,11 +135,42 @@ module _ {S K C : Type 0} (left : S → Option (List ℕ)) (written : K → Opti
     pub gone : (later : Stops) × AreOutputs written sink_faults plan later now first new × Follows plan r.known later past now (λ stops. entered plan empty stops turn past)
     gone = goes_now first r.known r.outputs
 
+    -- control has written nothing
     abbrev pub later : Stops
-    later = gone.0
+    later = with_stop gone.0 r.known.control
 
     pub now_is : now ≡ entered plan empty later turn past
     now_is = gone.2.made_so later (allowed_itself plan later now)
+
+    port_at : IsAt plan (number_of here.port)
+    port_at =
+        let count = count_is first plan planned in
+        let within = inside_first in
+        record {
+          place = j;
+          inside = omega arith;
+          number = ap number_of (port_is j d_here inside_first) ∙ number_is first plan j d_here planned inside_first;
+        }
+
+    ours_at : (t : Turn) → IsTurnOf here.port t → IsOurs plan anything t × (is_control t ≡ false)
+    ours_at (Arrives p a) is = (subst (λ (q : Port). IsAt plan (number_of q)) (sym is) port_at, refl)
+    ours_at (Commands line) is = absurd is
+    ours_at (Ends (Ingress p) how) is = (subst (λ (q : Port). IsAt plan (number_of q)) (sym is) port_at, refl)
+    ours_at (Ends passes.Control how) is = absurd is
+    ours_at (Ends passes.Ticker how) is = absurd is
+    ours_at (Ends (passes.Egress p) how) is = absurd is
+
+    -- nothing of control has changed
+    control_same : ControlSame plan empty past now
+    control_same =
+        let ours = ours_at turn of_port in
+        subst (λ (l : List Row). ControlSame plan empty past l) (sym now_is) (control_entered plan empty later turn past ours.0 ours.1)
+
+    allowed_before : (stops : Stops) → AreAllowed plan later stops now → AreAllowed plan r.known stops past
+    allowed_before stops allowed = record {
+      ports = gone.2.before stops allowed.ports;
+      replies = subst (λ (l : List (List ℕ)). Allows r.known.control stops.control (length l)) control_same.replies_same allowed.replies;
+    }
 
     there_ahead : (get_or new j d_here).ahead ≡ ahead_after (ends_input plan past turn)
     there_ahead = subst (λ (o : Option Turn). IfSome o (λ t. (get_or new j d_here).ahead ≡ ahead_after (ends_input plan past t))) turn_here.1 (ahead_is d_here)
@@ -166,14 +206,16 @@ module _ {S K C : Type 0} (left : S → Option (List ℕ)) (written : K → Opti
         let size_set = length-set (map head_of ports) j (head_of there) in
         ext_get_or Done (map head_of new) (set (map head_of ports) j (head_of there)) (omega arith) (λ k within. heads_at k (omega arith) (cases_eq k j))
 
-    reaches_new : (stops : Stops) → AreAllowed plan later stops now → Reaches plan empty stops (begun plan empty stops.ports plan.ports []) (Done ∷ map head_of new) (control_taken ∷ set r.taken j (get_or r.taken j [] ++ turn ∷ [])) now
+    reaches_new : (stops : Stops) → AreAllowed plan later stops now → Reaches plan empty stops (begun plan empty stops.ports plan.ports []) (control_head ends ∷ map head_of new) (r.control_taken ∷ set r.taken j (get_or r.taken j [] ++ turn ∷ [])) now
     reaches_new stops allowed =
         let begins = begun plan empty stops.ports plan.ports [] in
-        let least_heads : IsLeast (map reaching.moment_of (map head_of ports)) j = rw (moments_same ports) least in
-        let step = reaches_take plan empty stops begins (Done ∷ map head_of ports) (control_taken ∷ r.taken) past (suc j) turn (head_of there) head_here who_is (read_all (map head_of ports) (all_read ports known)) (agree_all plan past (map head_of ports) r.control r.agree)
-        (least_all (map reaching.moment_of (map head_of ports)) j least_heads) (r.reaches stops (gone.2.before stops allowed)) in
-        subst (λ (hs : List Head). Reaches plan empty stops begins (Done ∷ hs) (control_taken ∷ set r.taken j (get_or r.taken j [] ++ turn ∷ [])) now) (sym heads_new)
-        (subst (λ (l : List Row). Reaches plan empty stops begins (Done ∷ set (map head_of ports) j (head_of there)) (control_taken ∷ set r.taken j (get_or r.taken j [] ++ turn ∷ [])) l) (after_open plan empty stops turn past running_turn ∙ sym (gone.2.made_so stops allowed)) step)
+        let head = control_head ends in
+        let least_heads : IsLeast (map reaching.moment_of (head ∷ map head_of ports)) (suc j) = rw (moments_same ports, head_moment ends) least in
+        let step = reaches_take plan empty stops begins (head ∷ map head_of ports) (r.control_taken ∷ r.taken) past (suc j) turn (head_of there) head_here who_is (read_all head (map head_of ports) (control_read ends heard) (all_read ports known))
+        (agree_all plan past head (map head_of ports) (control_agrees left written source_faults sink_faults plan past r.known.control ends_first ends r.control_taken r.control) r.agree)
+        least_heads (r.reaches stops (allowed_before stops allowed)) in
+        subst (λ (hs : List Head). Reaches plan empty stops begins (head ∷ hs) (r.control_taken ∷ set r.taken j (get_or r.taken j [] ++ turn ∷ [])) now) (sym heads_new)
+        (subst (λ (l : List Row). Reaches plan empty stops begins (head ∷ set (map head_of ports) j (head_of there)) (r.control_taken ∷ set r.taken j (get_or r.taken j [] ++ turn ∷ [])) l) (after_open plan empty stops turn past running_turn ∙ sym (gone.2.made_so stops allowed.ports)) step)
 
     low_at : (k : ℕ) → k < length ports → k ≤ ticker_pass plan
     low_at k within = let size = r.later.size in let count = count_is first plan planned in omega arith
@@ -273,7 +315,7 @@ module _ {S K C : Type 0} (left : S → Option (List ℕ)) (written : K → Opti
         let size_p = r.later.size in
         subst (λ (p : PortEnds S K C). IsSound p.reader p.ahead) (sym (same_other k d other (omega arith))) (r.sound k d within)
 
-    pub turn_step : Running left written source_faults sink_faults plan first new now
+    pub turn_step : Running left written source_faults sink_faults plan ends_first ends first new now
     turn_step =
         let size_p = r.later.size in
         let size_n = size_new in
@@ -285,14 +327,15 @@ module _ {S K C : Type 0} (left : S → Option (List ℕ)) (written : K → Opti
           sound = λ k d within. sound_at k d within (cases_eq k j);
           taken = set r.taken j (get_or r.taken j [] ++ turn ∷ []);
           taken_size = length-set r.taken j (get_or r.taken j [] ++ turn ∷ []) ∙ r.taken_size;
+          control_taken = r.control_taken;
           known = later;
           reaches = reaches_new;
           agree = λ k within. let sizes = length-map new head_of in agree_at k (omega arith) (cases_eq k j);
           progress = λ k d within. progress_at k d within (cases_eq k j);
-          control = rw now_is (ended_entered_other plan later past here.port turn (control_pass plan) of_port (omega arith) (λ e. absurd (omega arith)) ∙ r.control);
+          control = control_kept left written source_faults sink_faults plan past now r.known.control ends_first ends r.control_taken control_same r.control;
           ticker = rw now_is (ended_entered_other plan later past here.port turn (ticker_pass plan) of_port (omega arith) (λ e. absurd (omega arith)) ∙ r.ticker);
           quiet = λ k within. rw now_is (quiet_entered plan later past here.port turn k of_port within (r.quiet k within));
-          outputs = gone.1;
+          outputs = outputs_ports written sink_faults plan gone.0 r.known.control now first new gone.1;
         }
 
     weight_one : (a : Ahead) (port : Port) (buf : List ℕ) → turn_ahead port buf a ≡ Some turn → weight a ≡ 1
@@ -328,8 +371,8 @@ module _ {S K C : Type 0} (left : S → Option (List ℕ)) (written : K → Opti
         let same : undone new ≡ undone ports = undone_same ports new size_new (λ k d within. weight_at k d is within (cases_eq k j)) in
         omega arith
 
-    pub smaller : (plan.entries - length now) + undone new < (plan.entries - length past) + undone ports
-    smaller = smaller_at (ends_input plan past turn) refl there_ahead
+    pub smaller : (plan.entries - length now) + (undone new + control_weight ends) < (plan.entries - length past) + (undone ports + control_weight ends)
+    smaller = let less = smaller_at (ends_input plan past turn) refl there_ahead in omega (arith, less)
 
     ahead_at : (d : PortEnds S K C) → (get_or new j d).ahead ≡ ahead_after (ends_input plan past turn)
     ahead_at d = subst (λ (o : Option Turn). IfSome o (λ t. (get_or new j d).ahead ≡ ahead_after (ends_input plan past t))) (turn_at d) (ahead_is d)

@@ -1,9 +1,14 @@
 pub mod Pairs
 pub mod Inputs
+pub mod LineInputs
 pub mod Steps
 pub mod SentFrames
+pub mod Used
+pub mod LineSteps
 pub mod Drains
 pub mod Outputs
+pub mod ControlOutputs
 pub mod Choices
 pub mod Replays
+pub mod ControlServed
 pub mod Served

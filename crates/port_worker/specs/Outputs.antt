@@ -50,13 +50,13 @@ Allows None stop count = is_stopped stop count ≡ false
 Allows (Some whole) stop count = stop ≡ Some whole
 
 -- the same of each port of the plan
-abbrev pub AreAllowed : Plan → Stops → Stops → List Row → Type 0
-AreAllowed plan known stops past = All (λ q. Allows (known.ports q) (stops.ports q) (pieces_by plan empty q past)) (numbers_of plan.ports)
+abbrev pub ArePortsAllowed : Plan → Stops → Stops → List Row → Type 0
+ArePortsAllowed plan known stops past = All (λ q. Allows (known.ports q) (stops.ports q) (pieces_by plan empty q past)) (numbers_of plan.ports)
 
 -- More is known behind a step, and the step has made what that allows.
 pub record Follows (plan : Plan) (known later : Stops) (past now : List Row) (made : Stops → List Row) : Type 0 where
-  pub before : (stops : Stops) → AreAllowed plan later stops now → AreAllowed plan known stops past
-  pub made_so : (stops : Stops) → AreAllowed plan later stops now → now ≡ made stops
+  pub before : (stops : Stops) → ArePortsAllowed plan later stops now → ArePortsAllowed plan known stops past
+  pub made_so : (stops : Stops) → ArePortsAllowed plan later stops now → now ≡ made stops
 
 -- Whatever was known of the outputs since the first ends of these ports, a step goes on from there.
 abbrev pub OutputsGoOn : {S K C : Type 0} → (K → Option (List ℕ)) → (K → ℕ) → Plan → List Row → List Row → List (PortEnds S K C) → List (PortEnds S K C) → (Stops → List Row) → Type 0

@@ -1,12 +1,13 @@
--- What a replay was to the ends of the ports: one history, and at each port what it says of its ends, before and after.
-use Rattle.std.specs.Prelude.{◌≡◌, ℕ, ◌<◌, ◌≤◌, List, length, slice_index_or, Option, Some, None}
+-- What a replay was to the ends of control and of the ports: one history, and at each port what it says of its ends, before
+-- and after.
+use Rattle.std.specs.Prelude.{◌≡◌, ℕ, ◌<◌, ◌≤◌, List, length, slice_index_or, Option, Some}
 use Rattle.savi_kinds.specs.declared.plan.Plan.{Plan}
 use Rattle.savi_kinds.specs.declared.entry.How.{How}
 use Rattle.savi_kinds.specs.declared.entry.How.TheVariants as hows
 use Rattle.savi_kinds.specs.Arrivals.{Arrival, Input}
+use Rattle.cli_lang.specs.Arrivals as control
 use Rattle.savi_ends.specs.declared.world.Ends.{Ends}
 use Rattle.savi_ends.specs.Faults.{Rose}
-use Rattle.savi_ends.specs.Octets.{Takes}
 use Rattle.pcap_io.specs.Readers.{Comes}
 use Rattle.hist_store.specs.Rows.{Row}
 use Rattle.savi_history.specs.Bases.{Base}
@@ -17,8 +18,10 @@ use Rattle.savi_history.specs.PortOutputs.{output_end, pieces, TookPieces, FitsO
 use Rattle.savi_history.specs.Queues.{sent}
 use Rattle.savi_history.specs.Replay.{Stops, replayed}
 use Rattle.savi_core.specs.Machines.{number_at}
+use Rattle.port_worker.specs.declared.control_ends.ControlEnds.{ControlEnds}
 use Rattle.port_worker.specs.declared.port_ends.PortEnds.{PortEnds}
-use Rattle.port_worker.specs.SentFrames.{TookMore}
+use Rattle.port_worker.specs.ControlServed.{ServesControl}
+use Rattle.port_worker.specs.Used.{IsUsed}
 
 -- these octets are the input of these arrivals that ends so
 abbrev pub AreInput : (List ℕ → Input → Type 0) → List ℕ → List Arrival → How → Type 0
@@ -37,13 +40,6 @@ IsInputOf Arrives before after ended_so arrivals (hows.Overlong at) = ⊥
 IsInputOf Arrives before after ended_so arrivals hows.Unwritten = ⊥
 IsInputOf Arrives before after ended_so arrivals (hows.Full len) = ⊥
 
--- The ends of a port, before and after, as far as they tell: the source gave up octets from its front, the sink took octets
--- behind what it held, and the clock wasn't read.
-pub record IsUsed {S K C : Type 0} (left : S → Option (List ℕ)) (written : K → Option (List ℕ)) (old new : Ends S K C) : Type 0 where
-  pub gave : (octets : List ℕ) × Takes (left old.source) (left new.source) octets
-  pub took : TookMore (written old.sink) (written new.sink)
-  pub clock : new.clock ≡ old.clock
-
 -- What a history was to the ends of the port of this number. The octets of the source are this input, and what it gave up
 -- fits what the history holds of it; the sink took the pieces of the capture of what the history sends there, as this stop
 -- says, and they fit how the history says that the output ended. No count of faults fell; an input ended by a failed read
@@ -59,20 +55,24 @@ pub record IsServed {S K C : Type 0} (left : S → Option (List ℕ)) (written :
   pub broken : input_end port past ≡ Some hows.Failed → Rose (source_faults old.source) (source_faults new.source)
   pub broken_out : output_end port past ≡ Some hows.Failed → Rose (sink_faults old.sink) (sink_faults new.sink)
 
--- The history is finished, it is the replay of inputs, one for each port of the plan in its order and none of control, to
--- sinks that stop so, and of each port this holds: of its place in the plan, its number, its input and its stop.
-pub record ServesPorts (plan : Plan) (base : Base) (past : List Row) (Holds : ℕ → ℕ → Input → Option ℕ → Type 0) : Type 0 where
+-- The history is finished, it is the replay of control's input, where it has one, and of inputs, one for each port of the
+-- plan in its order, to sinks that stop so. This holds of control's input and its stop, and of each port that: of its place
+-- in the plan, its number, its input and its stop.
+pub record ServesPorts (plan : Plan) (base : Base) (past : List Row) (HoldsControl : Option control.Input → Option ℕ → Type 0) (Holds : ℕ → ℕ → Input → Option ℕ → Type 0) : Type 0 where
+  pub lines : Option control.Input
   pub inputs : List Input
   pub stops : Stops
   pub size : length inputs ≡ length plan.ports
-  pub replay : past ≡ replayed plan base None inputs stops
+  pub replay : past ≡ replayed plan base lines inputs stops
   pub finished : IsFinished plan base past
+  pub control : HoldsControl lines stops.control
   pub each : (place : ℕ) (i : Input) → place < length plan.ports → Holds place (number_at plan place) (slice_index_or inputs place i) (stops.ports (number_at plan place))
 
--- the same of ends that are held in the order of the plan, each read on from where its reader stands
-abbrev pub ServesEnds : {S K C : Type 0} → (S → Option (List ℕ)) → (K → Option (List ℕ)) → (S → ℕ) → (K → ℕ) → Plan → Base → List Row → List (PortEnds S K C) → List (PortEnds S K C) → Type 0
-ServesEnds {S} {K} {C} left written source_faults sink_faults plan base past old new =
-    ServesPorts plan base past (λ place port input stop. (d : PortEnds S K C) →
+-- the same of the ends of control, where there are any, and of ends that are held in the order of the plan, each read on
+-- from where its reader stands
+abbrev pub ServesEnds : {S K C : Type 0} → (S → Option (List ℕ)) → (K → Option (List ℕ)) → (S → ℕ) → (K → ℕ) → Plan → Base → List Row → Option (ControlEnds S K C) → Option (ControlEnds S K C) → List (PortEnds S K C) → List (PortEnds S K C) → Type 0
+ServesEnds {S} {K} {C} left written source_faults sink_faults plan base past control_old control_new old new =
+    ServesPorts plan base past (λ lines stop. ServesControl left written source_faults sink_faults plan base past control_old control_new lines stop) (λ place port input stop. (d : PortEnds S K C) →
     IsServed left written source_faults sink_faults (Comes (slice_index_or old place d).reader) plan base past port input stop (slice_index_or old place d).ends (slice_index_or new place d).ends)
 
 -- the port is the same

@@ -21,8 +21,8 @@ use Rattle.savi_core.specs.declared.event.Stepped.TheVariants as stepped
 use Rattle.savi_history.specs.Turns.{Turn, Arrives, Commands, Ends}
 use Rattle.savi_history.specs.Replay.{Stops, event_of, with_event, entered}
 
--- whether the input of a turn ends with it, even where all can be written: an ending, an arrival or a line for which there is
--- no room, or `quit`
+-- whether the input of a turn ends with it, even where all can be written: an ending, an arrival or a line for which there
+-- is no room, or `quit`
 abbrev pub ends_input : Plan → List Row → Turn → Bool
 ends_input plan past (Arrives port arrival) = not (has_room plan past)
 ends_input plan past (Commands line) = not (has_room plan past) || is_quit line

@@ -1,19 +1,29 @@
-//! Which port comes next.
+//! Which input comes next.
 
-ghost use Rattle.std.specs.Prelude.{◌≡◌, ◌+◌, ◌<◌, ◌≤◌, ℕ, List, map, get_or, length, Option, None};
+ghost use Rattle.std.specs.Prelude.{◌≡◌, ◌+◌, ◌<◌, ◌≤◌, ◌∷◌, ℕ, List, map, get_or, length, Option, None};
 ghost use Rattle.savi_history.specs.Picks.{IsPick};
 ghost use Rattle.port_worker.specs.Inputs.{moment_of};
+ghost use Rattle.port_worker.specs.LineInputs.{control_moment};
 ghost use Rattle.port_worker.specs.Choices.{IsFirstOf};
 
+use crate::control_ends::ControlEnds;
 use crate::port_ends::PortEnds;
 
-/// The place of the port whose turn comes first, of equals the first one, or None where no turn is known.
-pub(crate) fn next_of<S, K, C>(ports: &[PortEnds<S, K, C>]) -> Option<usize>
-    ensures { IsPick (map moment_of ports.now) result }
+/// The place of the input whose turn comes first, of equals the first one, or None where no turn is known. Control has the
+/// first place, with or without ends, and behind it the ports have theirs.
+pub(crate) fn next_of<S, K, C>(
+    control: &Option<ControlEnds<S, K, C>>,
+    ports: &[PortEnds<S, K, C>],
+) -> Option<usize>
+    ensures { IsPick (control_moment control.now ∷ map moment_of ports.now) result }
 {
-    let mut first = None;
+    let control_moment = match control {
+        Some(control) => control.moment(),
+        None => None,
+    };
+    let mut first = earlier(None, 0, control_moment);
     for place in 0..ports.len() {
-        first = earlier(first, place, ports[place].moment());
+        first = earlier(first, place + 1, ports[place].moment());
     }
     match first {
         Some((place, _)) => Some(place),

@@ -1,18 +1,21 @@
 //! The loop of a replay over the ports of a switch, of which there may be any number.
 //!
 //! Each port has a capture to be read and one to be written (the libpcap savefile format). `replay` makes the one history
-//! of all inputs, as `savi_history` defines it, and writes at each port a capture of what is sent there. Its contract
-//! says so of the octets that the sources tell and of those that the sinks hold, also where reads or writes fail
-//! (`specs/Served.antt`). `replay_session` takes the memory for it and makes the switch.
+//! of all inputs, as `savi_history` defines it, and writes at each port a capture of what is sent there. Where there are
+//! ends of control, the lines of its input stand in that history, and each is answered. Its contract says so of the octets
+//! that the sources tell and of those that the sinks hold, also where reads or writes fail (`specs/Served.antt`,
+//! `specs/ControlServed.antt`). `replay_session` takes the memory for it and makes the switch.
 #![tactic(auto)]
 
 mod choice;
+mod control_ends;
 mod looking;
 mod outputs;
 mod port_ends;
 mod session;
 mod turns;
 
+pub use control_ends::ControlEnds;
 pub use port_ends::PortEnds;
 pub use session::{Closed, Ready, replay_session};
 pub use turns::replay;

@@ -17,7 +17,7 @@ ghost use Rattle.savi_core.specs.Machines.{with_event};
 ghost use Rattle.port_worker.specs.Pairs.{EachPair};
 ghost use Rattle.port_worker.specs.SentFrames.{records, TookAs, OnlySink};
 ghost use Rattle.port_worker.specs.Drains.{IsBegun, IsDrained, IsDrainable};
-ghost use Rattle.port_worker.specs.Outputs.{AreOutputs, AreAllowed, OutputsGoOn};
+ghost use Rattle.port_worker.specs.Outputs.{AreOutputs, ArePortsAllowed, OutputsGoOn};
 ghost use Rattle.port_worker.specs.Replays.{ports_held, ports_planned};
 
 use crate::port_ends::PortEnds;
@@ -35,7 +35,7 @@ pub(crate) fn begin_all<S, K: Sink, C>(core: &mut Core, ports: &mut [PortEnds<S,
     ensures plan { core.new.plan ≡ core.old.plan }
     ensures sinks { EachPair (OnlySink K.written K.faults) ports.old ports.new }
     ensures begun { (known : Stops) × AreOutputs K.written K.faults core.old.plan known core.new.past ports.old ports.new
-        × ((stops : Stops) → AreAllowed core.old.plan known stops core.new.past → core.new.past ≡ begun core.old.plan empty stops.ports core.old.plan.ports []) }
+        × ((stops : Stops) → ArePortsAllowed core.old.plan known stops core.new.past → core.new.past ≡ begun core.old.plan empty stops.ports core.old.plan.ports []) }
 {
     for place in 0..ports.len() {
         begin_port(core, &mut ports[place]);

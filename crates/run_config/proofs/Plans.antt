@@ -1,21 +1,18 @@
 -- A plan that a configuration says is built, and what was read of a text answers for the whole.
-use Rattle.std.proofs.Common.{◌≡◌, ◌∙◌, ◌<◌, ◌≤◌, inl, inr, ℕ, true, List, length, ◌++◌, Option, Some, None, Result, Ok, Err, refl, sym, subst, arith, length-append, option_map}
+use Rattle.std.proofs.Common.{◌≡◌, ◌<◌, ◌≤◌, inl, inr, ℕ, true, List, length, ◌++◌, Result, Ok, Err, refl, subst, arith, length-append}
 use Rattle.savi_kinds.specs.declared.plan.Plan.{Plan}
-use Rattle.savi_conf.specs.declared.fault.Fault.TheVariants.{NotBuilt}
+use Rattle.savi_conf.specs.declared.fault.Fault.TheVariants.{StreamInReplay}
 use Rattle.savi_conf.specs.declared.fault.ConfFault.{ConfFault}
 use Rattle.savi_conf.specs.declared.fault.ConfFault.TheVariants.{NoMemory, NotToml, Bad}
 use Rattle.savi_conf.specs.Answers.{IsAnswer, most_octets}
+use Rattle.savi_conf.proofs.Captures.{are_captures}
 use Rattle.run_config.specs.Configs.{IsBuilt, IsWholeOrLong}
 
-none_mapped : {A B : Type 0} (f : A → B) (o : Option A) → option_map f o ≡ None → o ≡ None
-none_mapped f None same = refl
-none_mapped f (Some a) same = cc
-
--- a plan has no control, which is the fault of what isn't built
+-- the plan of a replay
 pub built : (text : List ℕ) (plan : Plan) → IsAnswer text true (Ok plan) → IsBuilt plan
 built text plan (document, is, says) = record {
   valid = says.valid;
-  no_control = none_mapped _ plan.control (sym says.says.control ∙ says.meets NotBuilt);
+  captures = are_captures _ plan.ports says.says.ports (says.meets StreamInReplay refl);
 }
 
 longer : (front text rest : List ℕ) → text ≡ front ++ rest → most_octets < length front → most_octets < length text

@@ -1,6 +1,7 @@
 -- What a run reads of its configuration.
-use Rattle.std.specs.Prelude.{◌≡◌, ◌≢◌, ◌+◌, ◌<◌, ◌≤◌, ℕ, true, List, Option, None, IfSome, IsSomeAnd, Ok, Err, length, ◌⊎◌}
+use Rattle.std.specs.Prelude.{◌≡◌, ◌≢◌, ◌+◌, ◌<◌, ◌≤◌, ℕ, true, List, Option, All, IfSome, IsSomeAnd, Ok, Err, length, ◌⊎◌}
 use Rattle.savi_kinds.specs.declared.plan.Plan.{Plan}
+use Rattle.savi_kinds.specs.declared.plan.Format.TheVariants.{Pcap}
 use Rattle.savi_kinds.specs.ValidPlan.{IsValidPlan}
 use Rattle.savi_conf.specs.declared.fault.ConfFault.{ConfFault}
 use Rattle.savi_conf.specs.declared.fault.ConfFault.TheVariants.{NoMemory}
@@ -8,10 +9,10 @@ use Rattle.savi_conf.specs.Answers.{IsAnswer, most_octets}
 use Rattle.savi_ends.specs.Octets.{IsFront, Takes}
 use Rattle.savi_ends.specs.Places.{Place}
 
--- a plan of what is built: valid, and without control
+-- a plan of what is built: valid, and each port's input and output are captures
 pub record IsBuilt (plan : Plan) : Type 0 where
   pub valid : IsValidPlan plan
-  pub no_control : plan.control ≡ None
+  pub captures : All (λ port. port.format ≡ Pcap) plan.ports
 
 -- the text that stands in an input is one for which this holds, where the input tells its octets
 abbrev pub OfText : {S : Type 0} → (S → Option (List ℕ)) → Place S → (List ℕ → Type 0) → Type 0

@@ -45,12 +45,12 @@ const CHANGES: [(&str, &str, Result<bool, ConfFault>); 9] = [
     (
         "savi = \"off\"",
         "savi = \"off\"\ncontrol = \"c\"\ncontrol_out = \"d\"",
-        Err(ConfFault::Bad(21)),
+        Ok(false),
     ),
     (
         "savi = \"off\"",
         "control = \"c\"\ncontrol_out = \"d\"",
-        Err(ConfFault::Bad(21)),
+        Ok(true),
     ),
     ("journal = \"journal.txt\"\n", "", Err(ConfFault::Bad(4))),
     ("# format", "format = \"stream\"", Err(ConfFault::Bad(20))),

@@ -5,11 +5,11 @@ use Rattle.std.proofs.lemmas.List.{get_or-map}
 use Rattle.std.proofs.lemmas.List.FromFn.{get_or-range_with_len}
 use Rattle.std.proofs.lemmas.Bool.{cases_lt}
 use Rattle.savi_conf.specs.declared.fault.Fault.{Fault}
-use Rattle.savi_conf.specs.declared.fault.Fault.TheVariants.{UnknownKey, WrongKind, MissingKey, SwitchMac, SaviWord, NextHeaderWord, PerPort, Depth, Entries, Bytes, Times, PortCount, PortNumbers, RoleWord, FormatWord, PrefixTexts, PrefixRanges, MethodWord, StreamInReplay, NotBuilt}
+use Rattle.savi_conf.specs.declared.fault.Fault.TheVariants.{UnknownKey, WrongKind, MissingKey, SwitchMac, SaviWord, NextHeaderWord, PerPort, Depth, Entries, Bytes, Times, PortCount, PortNumbers, RoleWord, FormatWord, PrefixTexts, PrefixRanges, MethodWord, StreamInReplay}
 use Rattle.savi_conf.specs.Faults.{fault_number}
 
 abbrev pub faults : List Fault
-faults = UnknownKey ∷ WrongKind ∷ MissingKey ∷ SwitchMac ∷ SaviWord ∷ NextHeaderWord ∷ PerPort ∷ Depth ∷ Entries ∷ Bytes ∷ Times ∷ PortCount ∷ PortNumbers ∷ RoleWord ∷ FormatWord ∷ PrefixTexts ∷ PrefixRanges ∷ MethodWord ∷ StreamInReplay ∷ NotBuilt ∷ []
+faults = UnknownKey ∷ WrongKind ∷ MissingKey ∷ SwitchMac ∷ SaviWord ∷ NextHeaderWord ∷ PerPort ∷ Depth ∷ Entries ∷ Bytes ∷ Times ∷ PortCount ∷ PortNumbers ∷ RoleWord ∷ FormatWord ∷ PrefixTexts ∷ PrefixRanges ∷ MethodWord ∷ StreamInReplay ∷ []
 
 -- a fault stands at its number, counted from 2
 at_number : (fault : Fault) → get_or faults (fault_number fault - 2) UnknownKey ≡ fault
@@ -32,7 +32,6 @@ at_number PrefixTexts = refl
 at_number PrefixRanges = refl
 at_number MethodWord = refl
 at_number StreamInReplay = refl
-at_number NotBuilt = refl
 
 pub from_two : (fault : Fault) → 2 ≤ fault_number fault
 from_two UnknownKey = omega arith
@@ -54,38 +53,36 @@ from_two PrefixTexts = omega arith
 from_two PrefixRanges = omega arith
 from_two MethodWord = omega arith
 from_two StreamInReplay = omega arith
-from_two NotBuilt = omega arith
 
-pub below_22 : (fault : Fault) → fault_number fault < 22
-below_22 UnknownKey = omega arith
-below_22 WrongKind = omega arith
-below_22 MissingKey = omega arith
-below_22 SwitchMac = omega arith
-below_22 SaviWord = omega arith
-below_22 NextHeaderWord = omega arith
-below_22 PerPort = omega arith
-below_22 Depth = omega arith
-below_22 Entries = omega arith
-below_22 Bytes = omega arith
-below_22 Times = omega arith
-below_22 PortCount = omega arith
-below_22 PortNumbers = omega arith
-below_22 RoleWord = omega arith
-below_22 FormatWord = omega arith
-below_22 PrefixTexts = omega arith
-below_22 PrefixRanges = omega arith
-below_22 MethodWord = omega arith
-below_22 StreamInReplay = omega arith
-below_22 NotBuilt = omega arith
+pub below_21 : (fault : Fault) → fault_number fault < 21
+below_21 UnknownKey = omega arith
+below_21 WrongKind = omega arith
+below_21 MissingKey = omega arith
+below_21 SwitchMac = omega arith
+below_21 SaviWord = omega arith
+below_21 NextHeaderWord = omega arith
+below_21 PerPort = omega arith
+below_21 Depth = omega arith
+below_21 Entries = omega arith
+below_21 Bytes = omega arith
+below_21 Times = omega arith
+below_21 PortCount = omega arith
+below_21 PortNumbers = omega arith
+below_21 RoleWord = omega arith
+below_21 FormatWord = omega arith
+below_21 PrefixTexts = omega arith
+below_21 PrefixRanges = omega arith
+below_21 MethodWord = omega arith
+below_21 StreamInReplay = omega arith
 
 -- the number of the fault at an index
-pub number_at : (i : ℕ) → i < 20 → fault_number (get_or faults i UnknownKey) ≡ 2 + i
+pub number_at : (i : ℕ) → i < 19 → fault_number (get_or faults i UnknownKey) ≡ 2 + i
 number_at i within =
-    let numbers : map fault_number faults ≡ range_with_len 2 20 = refl in
-    sym (get_or-map fault_number faults i UnknownKey 0 within) ∙ ap (λ (ns : List ℕ). get_or ns i 0) numbers ∙ get_or-range_with_len 2 20 i 0 within
+    let numbers : map fault_number faults ≡ range_with_len 2 19 = refl in
+    sym (get_or-map fault_number faults i UnknownKey 0 within) ∙ ap (λ (ns : List ℕ). get_or ns i 0) numbers ∙ get_or-range_with_len 2 19 i 0 within
 
 -- what holds of each fault with a lower number than that at an index, and of that one, holds of each below the next
-pub one_more : (P : Fault → Type 0) (i : ℕ) → i < 20 → ((fault : Fault) → fault_number fault < 2 + i → P fault) → P (get_or faults i UnknownKey) → (fault : Fault) → fault_number fault < 2 + (i + 1) → P fault
+pub one_more : (P : Fault → Type 0) (i : ℕ) → i < 19 → ((fault : Fault) → fault_number fault < 2 + i → P fault) → P (get_or faults i UnknownKey) → (fault : Fault) → fault_number fault < 2 + (i + 1) → P fault
 one_more P i within below here fault less =
     elim (cases_lt (fault_number fault) (2 + i)) [
       | inl lower ↦ below fault lower

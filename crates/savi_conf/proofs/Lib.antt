@@ -11,3 +11,4 @@ pub mod InOrder
 pub mod MetLemmas
 pub mod OneOrder
 pub mod OneAnswer
+pub mod Captures

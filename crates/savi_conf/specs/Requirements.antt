@@ -1,5 +1,5 @@
 -- What a configuration has to meet. Each fault is that one requirement isn't met.
-use Rattle.std.specs.Prelude.{ℕ, ℤ, pos, ◌≤ℤ◌, ◌<ℤ◌, ◌≤◌, ◌<◌, ◌≡◌, ◌≢◌, Bool, true, false, List, length, codes, Option, Some, None, is_some, IfSome, IsSomeAnd, All, AllPairs}
+use Rattle.std.specs.Prelude.{ℕ, ℤ, pos, ◌≤ℤ◌, ◌<ℤ◌, ◌≤◌, ◌<◌, ◌≡◌, ◌≢◌, Bool, true, false, List, length, codes, Option, Some, is_some, IfSome, IsSomeAnd, All, AllPairs}
 use Rattle.toml.specs.Data.{Members}
 use Rattle.savi_kinds.specs.declared.address.Mac.{Mac}
 use Rattle.savi_kinds.specs.declared.plan.Format.TheVariants.{Stream}
@@ -10,7 +10,7 @@ use Rattle.savi_kinds.specs.Prefixes.{AreApart}
 use Rattle.savi_kinds.specs.Macs.{is_group}
 use Rattle.savi_kinds.specs.ValidPlan.{IsPlanPrefix}
 use Rattle.savi_conf.specs.declared.fault.Fault.{Fault}
-use Rattle.savi_conf.specs.declared.fault.Fault.TheVariants.{UnknownKey, WrongKind, MissingKey, SwitchMac, SaviWord, NextHeaderWord, PerPort, Depth, Entries, Bytes, Times, PortCount, PortNumbers, RoleWord, FormatWord, PrefixTexts, PrefixRanges, MethodWord, StreamInReplay, NotBuilt}
+use Rattle.savi_conf.specs.declared.fault.Fault.TheVariants.{UnknownKey, WrongKind, MissingKey, SwitchMac, SaviWord, NextHeaderWord, PerPort, Depth, Entries, Bytes, Times, PortCount, PortNumbers, RoleWord, FormatWord, PrefixTexts, PrefixRanges, MethodWord, StreamInReplay}
 use Rattle.savi_conf.specs.Documents.{text_at, text_or, integer_at, integer_or, tables_at}
 use Rattle.savi_conf.specs.Keys.{Keys, top_keys, port_keys, prefix_keys, HasOnly, HasKinds, HasRequired}
 use Rattle.savi_kinds.specs.PlanWords.{role_word, method_word, format_word, savi_word, unknown_word}
@@ -113,10 +113,6 @@ savi_in document = text_or (codes "savi") (savi_word true) document
 abbrev pub unknown_in : Members → List ℕ
 unknown_in document = text_or (codes "unknown") (unknown_word true) document
 
--- control isn't named: it isn't built yet
-abbrev pub HasNoControl : Members → Type 0
-HasNoControl document = text_at (codes "control") document ≡ None
-
 -- what a document has to meet, so that it hasn't this fault; `replay` is the form of the command line
 abbrev pub Meets : Bool → Members → Fault → Type 0
 Meets replay document UnknownKey = EachTable HasOnly document
@@ -138,7 +134,6 @@ Meets replay document PrefixTexts = HasPrefixTexts (prefixes_in document)
 Meets replay document PrefixRanges = HasPrefixRanges (prefixes_in document)
 Meets replay document MethodWord = All (HasWord (codes "method") method_word) (prefixes_in document)
 Meets replay document StreamInReplay = replay ≡ true → All (λ port. text_at (codes "format") port ≢ Some (format_word Stream)) (ports_in document)
-Meets replay document NotBuilt = HasNoControl document
 
 -- the fault applies, and none with a lower number does
 pub record IsFirstFault (replay : Bool) (document : Members) (fault : Fault) : Type 0 where

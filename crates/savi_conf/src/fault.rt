@@ -45,14 +45,12 @@ pub enum Fault {
     MethodWord,
     /// 20: a port with the format of streams, in a replay.
     StreamInReplay,
-    /// 21: `control` is named, which isn't built yet.
-    NotBuilt,
 }
 
 impl Fault {
     ghost use Rattle.savi_conf.specs.Faults.{fault_number};
 
-    /// The number of the fault, from 2 to 21.
+    /// The number of the fault, from 2 to 20.
     pub fn number(self) -> u8
         ensures { result ≡ fault_number self }
     {
@@ -76,7 +74,6 @@ impl Fault {
             Fault::PrefixRanges => 18,
             Fault::MethodWord => 19,
             Fault::StreamInReplay => 20,
-            Fault::NotBuilt => 21,
         }
     }
 }

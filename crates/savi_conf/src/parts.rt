@@ -19,7 +19,6 @@ ghost use Rattle.savi_conf.specs.Keys.{HasKinds, HasOnly, HasRequired};
 ghost use Rattle.savi_conf.specs.Requirements.{
   EachTable,
   HasBothControls,
-  HasNoControl,
   HasNumbers,
   HasPrefixRanges,
   HasPrefixTexts,
@@ -53,7 +52,7 @@ use savi_kinds::{
 use toml::Table;
 
 // The requirements, in the order of their numbers.
-const FAULTS: [Fault; 20] = [
+const FAULTS: [Fault; 19] = [
     Fault::UnknownKey,
     Fault::WrongKind,
     Fault::MissingKey,
@@ -73,7 +72,6 @@ const FAULTS: [Fault; 20] = [
     Fault::PrefixRanges,
     Fault::MethodWord,
     Fault::StreamInReplay,
-    Fault::NotBuilt,
 ];
 
 // A document with the tables of its ports and prefixes.
@@ -138,7 +136,6 @@ impl Parts<'_> {
             Fault::PrefixRanges => self.has_prefix_ranges(),
             Fault::MethodWord => self.has_methods(),
             Fault::StreamInReplay => self.fits_command(),
-            Fault::NotBuilt => has_no_control(self.document),
         }
     }
 
@@ -291,11 +288,4 @@ fn is_switch_mac(text: &str) -> bool
         Some(mac) => !mac.is_group(),
         None => false,
     }
-}
-
-// Whether control, which isn't built yet, isn't named.
-fn has_no_control(document: &Table) -> bool
-    ensures { IsTrue result ↔ HasNoControl (table_view document.now) }
-{
-    text_at(document, "control").is_none()
 }

@@ -59,7 +59,7 @@ const FIFTEEN_PORTS: &str = "
 ";
 
 // One change for each fault, in the order of the numbers. No two change the same line.
-const CHANGES: [(&str, &str, u8); 20] = [
+const CHANGES: [(&str, &str, u8); 19] = [
     ("# key", "colour = \"red\"", 2),
     ("journal = \"journal.txt\"", "journal = 7", 3),
     ("output = \"1.out\"\n", "", 4),
@@ -83,7 +83,6 @@ const CHANGES: [(&str, &str, u8); 20] = [
     ),
     ("method = \"fcfs\"\n", "method = \"slaac\"\n", 19),
     ("# format", "format = \"stream\"", 20),
-    ("# control", "control = \"c\"\ncontrol_out = \"d\"", 21),
 ];
 
 // More changes that make one fault, at the edges of ranges.
@@ -136,11 +135,11 @@ const EDGES: [(&str, &str, u8); 46] = [
     ("savi = \"off\"", "savi = \"on\"", 0),
     ("savi = \"off\"", "savi = \"On\"", 6),
     ("savi = \"off\"", "savi = \"\"", 6),
-    ("savi = \"off\"", "control = \"c\"\ncontrol_out = \"d\"", 21),
+    ("savi = \"off\"", "control = \"c\"\ncontrol_out = \"d\"", 0),
     (
         "savi = \"off\"",
         "savi = \"on\"\ncontrol = \"c\"\ncontrol_out = \"d\"",
-        21,
+        0,
     ),
 ];
 
@@ -298,6 +297,39 @@ fn sources_are_validated_where_the_text_says_so(rt: HostRuntime) -> Result<(), F
             let text = format!(in alloc; "{front}{ports}")?;
             let plan = read_plan(alloc, text.as_bytes(), replay)?;
             assert_eq!(rt; plan.savi, *savi, "{front}");
+        }
+    }
+    Ok(())
+}
+
+// The names of control's input and output.
+fn control_names(plan: &Plan) -> Option<(&str, &str)> {
+    match &plan.control {
+        Some((input, output)) => Some((input.as_str(), output.as_str())),
+        None => None,
+    }
+}
+
+#[test]
+fn control_has_the_names_of_its_keys(rt: HostRuntime) -> Result<(), Fail> {
+    let alloc = rt.alloc();
+    let rows = [
+        ("", None),
+        (
+            "control = \"commands\"\ncontrol_out = \"replies\"\n",
+            Some(("commands", "replies")),
+        ),
+        (
+            "control_out = \"commands\"\ncontrol = \"replies\"\n",
+            Some(("replies", "commands")),
+        ),
+        ("control = \"\"\ncontrol_out = \"\"\n", Some(("", ""))),
+    ];
+    for (front, names) in rows {
+        for (ports, replay) in [(TWO_PORTS, true), (FIVE_PORTS, false)] {
+            let text = format!(in alloc; "{front}{ports}")?;
+            let plan = read_plan(alloc, text.as_bytes(), replay)?;
+            assert_eq!(rt; control_names(&plan), names, "{front}");
         }
     }
     Ok(())

@@ -1,10 +1,13 @@
-//! The ports of a plan in a world: all of them are opened, in the order of the plan, and all that are held are kept.
+//! The ports of a plan and its control in a world: the ports are opened, in the order of the plan, and all that are held are
+//! kept; so are the ends of control, where the plan names them.
 //!
 //! The ends of a port go beside its number from the opening on, so that no two ports can be mixed up.
 #![tactic(auto)]
 
+mod control;
 mod keeping;
 mod opening;
 
+pub use control::{keep_control, open_control};
 pub use keeping::keep_all;
 pub use opening::open_all;

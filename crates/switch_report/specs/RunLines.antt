@@ -16,12 +16,15 @@ usage_line = line (codes "usage: savi_switch replay FILE, serve FILE, check FILE
 abbrev pub config_line : ConfFault → List ℕ
 config_line fault = line (fault_text fault)
 
--- what could not be opened: FILE, a port or the journal
+-- what could not be opened: FILE, a port, control or the journal
 abbrev pub cannot_open_line : List ℕ → List ℕ
 cannot_open_line name = line (codes "cannot open " ++ name)
 
 abbrev pub port_name : ℕ → List ℕ
 port_name number = codes "port " ++ decimal number
+
+abbrev pub control_word : List ℕ
+control_word = codes "control"
 
 abbrev pub journal_word : List ℕ
 journal_word = codes "journal"

@@ -49,7 +49,7 @@ clauses_of {S} {K} {C} left written source_faults sink_faults words b0 b1 b2 b3 
       read = λ file form. absurd (none (file, form));
       write = λ file form. absurd (none (file, form));
       quiet = λ one_of. untouched.out;
-      unused = λ one_of. unused_same b0 b3 (ap (λ (b : Book S K C). b.ports) untouched.rest) (ap (λ (b : Book S K C). b.outputs) untouched.rest);
+      unused = λ one_of. unused_same b0 b3 (record { ports = ap (λ (b : Book S K C). b.ports) untouched.rest; control = ap (λ (b : Book S K C). b.control) untouched.rest; outputs = ap (λ (b : Book S K C). b.outputs) untouched.rest });
       elsewhere = λ file form. absurd (none (file, form));
     }
 clauses_of {S} {K} {C} left written source_faults sink_faults words b0 b1 b2 b3 e e' status ran (inr (file, form, r)) =

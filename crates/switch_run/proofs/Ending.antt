@@ -7,14 +7,14 @@ use Rattle.savi_ends.specs.Places.{Place, Book, OthersStay}
 use Rattle.hist_store.specs.Rows.{Row}
 use Rattle.savi_history.specs.Endings.{has_failed, has_failed_write, has_malformed, has_full}
 use Rattle.port_worker.specs.declared.port_ends.PortEnds.{PortEnds}
-use Rattle.port_worker.specs.Replays.{ports_held}
-use Rattle.switch_ports.specs.Openings.{ports_of, IsReadAnew}
+use Rattle.port_worker.specs.declared.session.Ready.{Ready}
+use Rattle.switch_ports.specs.Openings.{IsReadAnew}
 use Rattle.switch_report.specs.RunLines.{memory_line}
 use Rattle.switch_run.specs.declared.session.Outcome.{Outcome}
 use Rattle.switch_run.specs.Causes.{IsBack, IsOffPlanSame, IsOneOf, IsUnused, KeepsAll, quiet_statuses, session_statuses, statuses, unused_statuses}
 use Rattle.switch_run.specs.Session.{IsSessionOf, IsSummed}
 use Rattle.switch_run.specs.Played.{IsPlayed}
-use Rattle.switch_run.proofs.Through.{Handled, HandledOne, session_of, ports_back, output_back, cases_name, back_from, keeps_all_of, off_plan}
+use Rattle.switch_run.proofs.Through.{Handled, HandledAll, session_of, ports_back, control_back, output_back, cases_name, back_from, keeps_all_of, off_plan}
 
 -- what the clauses say where all was opened
 pub record Closes {S K C : Type 0} (left : S → Option (List ℕ)) (written : K → Option (List ℕ)) (source_faults : S → ℕ) (sink_faults : K → ℕ) (plan : Plan) (Says : List ℕ → Type 0) (old new : Book S K C) (status : ℕ) : Type 0 where
@@ -50,30 +50,34 @@ summed_is written faults Says past journal_written old new status summed =
       λ one_of. not_quiet (has_failed past) w (has_malformed past) (has_full past) (subst (λ (n : ℕ). IsOneOf quiet_statuses n) summed.cause one_of),
     )
 
-closes_none : {S K C : Type 0} (left : S → Option (List ℕ)) (written : K → Option (List ℕ)) (source_faults : S → ℕ) (sink_faults : K → ℕ) (plan : Plan) (Says : List ℕ → Type 0) (held back : List (PortEnds S K C)) (sink sink' : K) (old new : Book S K C) (status : ℕ)
-    → ports_held held ≡ ports_of plan.ports → Handled held back old.ports new.ports → HandledOne plan.journal sink sink' old.outputs new.outputs → back ≡ held → sink' ≡ sink → status ≡ 1 → Says memory_line → new.std Out ≡ old.std Out
+closes_none : {S K C : Type 0} (left : S → Option (List ℕ)) (written : K → Option (List ℕ)) (source_faults : S → ℕ) (sink_faults : K → ℕ) (plan : Plan) (Says : List ℕ → Type 0) (held back : Ready S K C) (sink sink' : K) (old new : Book S K C) (status : ℕ)
+    → HandledAll plan held back sink sink' old new → back ≡ held → sink' ≡ sink → status ≡ 1 → Says memory_line → new.std Out ≡ old.std Out
     → Closes left written source_faults sink_faults plan Says old new status
-closes_none {S} {K} {C} left written source_faults sink_faults plan Says held back sink sink' old new status ports handled journal same same' one told quiet =
-    let handled' : Handled held held old.ports new.ports = subst (λ (l : List (PortEnds S K C)). Handled held l old.ports new.ports) same handled in
-    let journal' : HandledOne plan.journal sink sink old.outputs new.outputs = subst (λ (k : K). HandledOne plan.journal sink k old.outputs new.outputs) same' journal in
+closes_none {S} {K} {C} left written source_faults sink_faults plan Says held back sink sink' old new status all same same' one told quiet =
+    let unread : HandledAll plan held held sink sink old new =
+    subst (λ (k : K). HandledAll plan held held sink k old new) same' (subst (λ (r : Ready S K C). HandledAll plan held r sink sink' old new) same all) in
     record {
       one_of = rw one refl;
       usage = λ two. absurd (omega (arith, one, two));
       config = λ three. absurd (omega (arith, one, three));
       opening = λ seven. absurd (omega (arith, one, seven));
       memory = λ e. told;
-      unplayed = λ e. (keeps_all_of left written plan held sink old new ports handled' journal', off_plan plan held held sink sink old new ports handled' journal');
+      unplayed = λ e. (keeps_all_of left written plan held sink old new unread, off_plan plan held held sink sink old new unread);
       session = λ is_one. absurd (let t : false ≡ true = subst (λ (n : ℕ). IsOneOf session_statuses n) one is_one in cc);
       quiet = λ one_of. quiet;
-      unused = λ one_of. record { ports = ports_back held old.ports new.ports handled'; outputs = output_back plan.journal sink old.outputs new.outputs journal' };
+      unused = λ one_of. record {
+        ports = ports_back held.ports.items old.ports new.ports unread.ports;
+        control = control_back plan.control held.control old.control new.control unread.control;
+        outputs = output_back plan.journal sink old.outputs new.outputs unread.journal;
+      };
     }
 
-closes_some : {S K C : Type 0} (left : S → Option (List ℕ)) (written : K → Option (List ℕ)) (source_faults : S → ℕ) (sink_faults : K → ℕ) (plan : Plan) (Says : List ℕ → Type 0) (held back : List (PortEnds S K C)) (sink sink' : K) (past : List Row) (journal_written : Bool) (old new : Book S K C) (status : ℕ)
-    → ports_held held ≡ ports_of plan.ports → Handled held back old.ports new.ports → HandledOne plan.journal sink sink' old.outputs new.outputs
-    → All IsReadAnew held → IsPlayed left written source_faults sink_faults plan past held back sink sink' journal_written
+closes_some : {S K C : Type 0} (left : S → Option (List ℕ)) (written : K → Option (List ℕ)) (source_faults : S → ℕ) (sink_faults : K → ℕ) (plan : Plan) (Says : List ℕ → Type 0) (held back : Ready S K C) (sink sink' : K) (past : List Row) (journal_written : Bool) (old new : Book S K C) (status : ℕ)
+    → HandledAll plan held back sink sink' old new
+    → All IsReadAnew held.ports.items → IsPlayed left written source_faults sink_faults plan past held back sink sink' journal_written
     → IsSummed written sink_faults Says past journal_written (old.std Out) (new.std Out) status
     → Closes left written source_faults sink_faults plan Says old new status
-closes_some {S} {K} {C} left written source_faults sink_faults plan Says held back sink sink' past journal_written old new status ports handled journal anew played concluded =
+closes_some {S} {K} {C} left written source_faults sink_faults plan Says held back sink sink' past journal_written old new status all anew played concluded =
     let is = summed_is written sink_faults Says past journal_written (old.std Out) (new.std Out) status concluded in
     let never : IsOneOf quiet_statuses status → ⊥ = is.1 in
     let never_is : (n : ℕ) → IsOneOf quiet_statuses n → status ≡ n → ⊥ = λ n quiet e. never (subst (λ (m : ℕ). IsOneOf quiet_statuses m) (sym e) quiet) in
@@ -84,22 +88,22 @@ closes_some {S} {K} {C} left written source_faults sink_faults plan Says held ba
       opening = never_is 7 refl;
       memory = λ one. absurd (never_is 1 refl one);
       unplayed = λ one. absurd (never_is 1 refl one);
-      session = λ one_of. session_of left written source_faults sink_faults plan Says held back sink sink' past journal_written old new status ports handled journal anew played concluded;
+      session = λ one_of. session_of left written source_faults sink_faults plan Says held back sink sink' past journal_written old new status all anew played concluded;
       quiet = λ one_of. absurd (never one_of);
       unused = λ one_of. absurd (never one_of);
     }
 
 -- by whether there was an outcome
-pub closes : {S K C : Type 0} (left : S → Option (List ℕ)) (written : K → Option (List ℕ)) (source_faults : S → ℕ) (sink_faults : K → ℕ) (plan : Plan) (Says : List ℕ → Type 0) (held back : List (PortEnds S K C)) (sink sink' : K) (outcome : Option Outcome) (old mid new : Book S K C) (status : ℕ)
-    → ports_held held ≡ ports_of plan.ports → Handled held back old.ports new.ports → HandledOne plan.journal sink sink' old.outputs new.outputs → mid.std ≡ old.std → All IsReadAnew held
+pub closes : {S K C : Type 0} (left : S → Option (List ℕ)) (written : K → Option (List ℕ)) (source_faults : S → ℕ) (sink_faults : K → ℕ) (plan : Plan) (Says : List ℕ → Type 0) (held back : Ready S K C) (sink sink' : K) (outcome : Option Outcome) (old mid new : Book S K C) (status : ℕ)
+    → HandledAll plan held back sink sink' old new → mid.std ≡ old.std → All IsReadAnew held.ports.items
     → IfNone outcome ((back ≡ held) × (sink' ≡ sink)) → IfSome outcome (λ o. IsPlayed left written source_faults sink_faults plan o.core.past held back sink sink' o.journal_written)
     → IfNone outcome ((status ≡ 1) × (Says memory_line × (new ≡ mid))) → IfSome outcome (λ o. IsSummed written sink_faults Says o.core.past o.journal_written (mid.std Out) (new.std Out) status)
     → Closes left written source_faults sink_faults plan Says old new status
-closes {S} {K} {C} left written source_faults sink_faults plan Says held back sink sink' None old mid new status ports handled journal same anew none played unserved concluded =
-    closes_none left written source_faults sink_faults plan Says held back sink sink' old new status ports handled journal none.0 none.1 unserved.0 unserved.1.0
+closes {S} {K} {C} left written source_faults sink_faults plan Says held back sink sink' None old mid new status all same anew none played unserved concluded =
+    closes_none left written source_faults sink_faults plan Says held back sink sink' old new status all none.0 none.1 unserved.0 unserved.1.0
     (ap (λ (b : Book S K C). b.std Out) unserved.1.1 ∙ ap (λ (p : _ → Place K). p Out) same)
-closes {S} {K} {C} left written source_faults sink_faults plan Says held back sink sink' (Some o) old mid new status ports handled journal same anew none played unserved concluded =
-    closes_some left written source_faults sink_faults plan Says held back sink sink' o.core.past o.journal_written old new status ports handled journal anew played
+closes {S} {K} {C} left written source_faults sink_faults plan Says held back sink sink' (Some o) old mid new status all same anew none played unserved concluded =
+    closes_some left written source_faults sink_faults plan Says held back sink sink' o.core.past o.journal_written old new status all anew played
     (subst (λ (p : Place K). IsSummed written sink_faults Says o.core.past o.journal_written p (new.std Out) status) (ap (λ (p : _ → Place K). p Out) same) concluded)
 
 element : {X : Type 0} (xs : List X) (k : ℕ) → k < length xs → X
@@ -114,9 +118,14 @@ stays_by old new name other here others (inr apart) = others other apart
 pub stays_all : {K : Type 0} (old new : List ℕ → Place K) (name : List ℕ) → new name ≡ old name → OthersStay old new name → (other : List ℕ) → new other ≡ old other
 stays_all old new name here others other = stays_by old new name other here others (cases_name other name)
 
--- the ports that were opened came back as they were, and no output was touched
-pub unused_by : {S K C : Type 0} (held : List (PortEnds S K C)) (old new : Book S K C) → Handled held held old.ports new.ports → ((name : List ℕ) → new.outputs name ≡ old.outputs name) → IsUnused old new
-unused_by {S} {K} {C} held old new handled same = record {
+-- the ports that were opened came back as they were, and so did control, and no output was touched
+pub unused_by : {S K C : Type 0} (held : List (PortEnds S K C)) (old new : Book S K C) → Handled held held old.ports new.ports → IsBack old.control new.control → ((name : List ℕ) → new.outputs name ≡ old.outputs name) → IsUnused old new
+unused_by {S} {K} {C} held old new handled control same = record {
   ports = ports_back held old.ports new.ports handled;
+  control = control;
   outputs = λ name. subst (λ (x : Place K). IsBack (old.outputs name) x) (sym (same name)) (back_from (old.outputs name).stands);
 }
+
+-- a place that wasn't touched has its end back
+pub untouched_back : {X : Type 0} (old new : Place X) → new ≡ old → IsBack old new
+untouched_back {X} old new same = subst (λ (x : Place X). IsBack old x) (sym same) (back_from old.stands)

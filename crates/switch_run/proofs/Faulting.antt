@@ -1,5 +1,5 @@
 -- Whose fault a status is.
-use Rattle.std.proofs.Common.{◌≡◌, ℕ, ◌&&◌, ◌||◌, not, if◌then◌else◌, ◌⊎◌, inl, inr, List, [], Bool, true, false, get_or, length, refl, sym, ap, ◌∙◌, arith, ◌<◌, Option, Some, None}
+use Rattle.std.proofs.Common.{◌≡◌, ℕ, ◌&&◌, ◌||◌, not, if◌then◌else◌, ◌⊎◌, inl, inr, List, [], Bool, true, false, get_or, refl, sym, ap, ◌∙◌, subst, arith, ◌<◌, Option, Some, None}
 use Rattle.std.specs.List.Sorted.{IsStrictlyIncreasing}
 use Rattle.savi_kinds.specs.declared.entry.How.TheVariants as hows
 use Rattle.savi_kinds.specs.declared.plan.Plan.{Plan}
@@ -8,18 +8,19 @@ use Rattle.savi_kinds.specs.ValidPlan.{numbers_of}
 use Rattle.savi_ends.specs.declared.world.Std.TheVariants.{Out}
 use Rattle.savi_ends.specs.declared.world.Ends.{Ends}
 use Rattle.savi_ends.specs.Places.{Place, Book}
+use Rattle.cli_lang.specs.Arrivals as control
 use Rattle.hist_store.specs.Rows.{Row}
 use Rattle.savi_history.specs.Bases.{empty}
 use Rattle.savi_history.specs.Endings.{has_failed, has_failed_write, has_malformed, has_full}
-use Rattle.savi_history.specs.PortInputs.{input_end}
-use Rattle.savi_history.specs.PortOutputs.{output_end}
-use Rattle.savi_history.specs.Replay.{Stops, replayed}
+use Rattle.savi_history.specs.ControlInputs.{control_end}
+use Rattle.savi_history.specs.Replay.{replayed}
 use Rattle.savi_history.proofs.Failing.{IsOfInput, failed_at_input}
 use Rattle.savi_history.proofs.FailedWrites.{IsOfOutput, failed_write_at_output}
 use Rattle.savi_history.proofs.WithoutControl.{without_control}
 use Rattle.run_config.specs.Configs.{HasFault}
+use Rattle.port_worker.specs.ControlServed.{IsControlServed}
 use Rattle.switch_run.specs.Causes.{HasReadFault, HasSomeReadFault, HasSomeWriteFault, Keeps, TookOrPart}
-use Rattle.switch_run.specs.Session.{IsReplayOf, IsSession, IsFileUnread}
+use Rattle.switch_run.specs.Session.{IsReplayOf, IsSession, IsFileUnread, ServesControlPlace}
 
 failed_by : (status : ℕ) (f w m h : Bool) → status ≡ (if f then 5 else if w then 6 else if m then 4 else if h then 8 else 0) → status ≡ 5 → f ≡ true
 failed_by status true w m h is e = refl
@@ -45,37 +46,65 @@ which_unwritten false false is = inr refl
 fault_kept : {X : Type 0} (faults : X → ℕ) (place : Place X) (x : X) → place.stands ≡ Some x → 0 < faults x → HasFault faults place
 fault_kept faults place x kept fault = rw kept fault
 
--- control has no input: no read of it failed, and no write of its replies
+-- control ended so only where it has an input, and then its ends stand in its place
 
-read_at_port : (plan : Plan) (inputs : List Input) (stops : Stops) → IsStrictlyIncreasing (numbers_of plan.ports) → length inputs ≡ length plan.ports → let past = replayed plan empty None inputs stops in IsOfInput plan past
-    → (k : ℕ) × (k < length plan.ports) × (input_end (get_or (numbers_of plan.ports) k 0) past ≡ Some hows.Failed)
-read_at_port plan inputs stops rising size (inl found) = found
-read_at_port plan inputs stops rising size (inr is) = let e : Some hows.Failed ≡ Some hows.End = sym is ∙ (without_control plan inputs stops rising size).1 in cc
+abbrev HasEnds : {S K C : Type 0} → (S → Option (List ℕ)) → (K → Option (List ℕ)) → (S → ℕ) → (K → ℕ) → Plan → List Row → Place (Ends S K C) → Place (Ends S K C) → Type 0
+HasEnds left written source_faults sink_faults plan past old new =
+    (input : control.Input) × (stop : Option ℕ) × Keeps (IsControlServed left written source_faults sink_faults plan empty past input stop) old new
 
-write_at_port : (plan : Plan) (inputs : List Input) (stops : Stops) → IsStrictlyIncreasing (numbers_of plan.ports) → length inputs ≡ length plan.ports → let past = replayed plan empty None inputs stops in IsOfOutput plan past
-    → (k : ℕ) × (k < length plan.ports) × (output_end (get_or (numbers_of plan.ports) k 0) past ≡ Some hows.Failed)
-write_at_port plan inputs stops rising size (inl found) = found
-write_at_port plan inputs stops rising size (inr is) = let e : Some hows.Unwritten ≡ Some hows.End = sym is ∙ (without_control plan inputs stops rising size).1 in cc
+has_ends : {S K C : Type 0} (left : S → Option (List ℕ)) (written : K → Option (List ℕ)) (source_faults : S → ℕ) (sink_faults : K → ℕ) (plan : Plan) (past : List Row) (names : Option (List ℕ × List ℕ)) (lines : Option control.Input) (stop : Option ℕ) (old new : Place (Ends S K C))
+    → ServesControlPlace left written source_faults sink_faults plan past names lines stop old new → (lines ≡ None → ⊥) → HasEnds left written source_faults sink_faults plan past old new
+has_ends left written source_faults sink_faults plan past None None stop old new serves some = absurd (some refl)
+has_ends left written source_faults sink_faults plan past None (Some input) stop old new serves some = absurd serves
+has_ends left written source_faults sink_faults plan past (Some names) None stop old new serves some = absurd serves
+has_ends left written source_faults sink_faults plan past (Some names) (Some input) stop old new serves some = (input, stop, serves)
 
 no_input : Input
 no_input = record { arrivals = []; ending = hows.End }
 
-replay_read : {S K C : Type 0} (left : S → Option (List ℕ)) (written : K → Option (List ℕ)) (source_faults : S → ℕ) (sink_faults : K → ℕ) (plan : Plan) (Says : List ℕ → Type 0) (old new : Book S K C) (status : ℕ) → IsStrictlyIncreasing (numbers_of plan.ports) → status ≡ 5
-    → IsReplayOf left written source_faults sink_faults plan Says old new status → (port : ℕ) × HasReadFault source_faults new port
-replay_read {S} {K} {C} left written source_faults sink_faults plan Says old new status rising five r =
-    let failed : has_failed r.past ≡ true = failed_by status (has_failed r.past) (has_failed_write r.past || not (r.journal_written && r.summed.summary_written)) (has_malformed r.past) (has_full r.past) r.summed.cause five in
-    let found = read_at_port plan r.serves.inputs r.serves.stops rising r.serves.size (failed_at_input plan empty None r.serves.inputs r.serves.stops (ap has_failed (sym r.serves.replay) ∙ failed)) in
-    let port = get_or (numbers_of plan.ports) found.0 0 in
-    let at = r.serves.each found.0 no_input found.1 in
-    let rose = at.holds.broken (ap (λ (l : List Row). input_end port l) r.serves.replay ∙ found.2) in
-    (port, fault_kept (λ (e : Ends S K C). source_faults e.source) (new.ports port) at.back at.kept (omega (arith, rose)))
+module _ {S K C : Type 0} (left : S → Option (List ℕ)) (written : K → Option (List ℕ)) (source_faults : S → ℕ) (sink_faults : K → ℕ) (plan : Plan) (Says : List ℕ → Type 0) (old new : Book S K C) (status : ℕ) (rising : IsStrictlyIncreasing (numbers_of plan.ports)) (r : IsReplayOf left written source_faults sink_faults plan Says old new status) where
+  -- without an input control's end is `end`
+  ended_alone : r.serves.lines ≡ None → control_end r.past ≡ Some hows.End
+  ended_alone none =
+      ap control_end (r.serves.replay ∙ ap (λ (l : Option control.Input). replayed plan empty l r.serves.inputs r.serves.stops) none)
+      ∙ (without_control plan r.serves.inputs r.serves.stops rising r.serves.size).1
+
+  control_ends : (r.serves.lines ≡ None → ⊥) → HasEnds left written source_faults sink_faults plan r.past old.control new.control
+  control_ends some = has_ends left written source_faults sink_faults plan r.past plan.control r.serves.lines r.serves.stops.control old.control new.control r.serves.control some
+
+  read_at : IsOfInput plan r.past → ((port : ℕ) × HasReadFault source_faults new port) ⊎ HasFault (λ e. source_faults e.source) new.control
+  read_at (inl found) =
+      let port = get_or (numbers_of plan.ports) found.0 0 in
+      let at = r.serves.each found.0 no_input found.1 in
+      let rose = at.holds.broken found.2 in
+      inl (port, fault_kept (λ (e : Ends S K C). source_faults e.source) (new.ports port) at.back at.kept (omega (arith, rose)))
+  read_at (inr is) =
+      let at = (control_ends (λ none. let e : Some hows.Failed ≡ Some hows.End = sym is ∙ ended_alone none in cc)).2 in
+      let rose = at.holds.broken is in
+      inr (fault_kept (λ (e : Ends S K C). source_faults e.source) new.control at.back at.kept (omega (arith, rose)))
+
+  write_at : IsOfOutput plan r.past → HasSomeWriteFault sink_faults new
+  write_at (inl found) =
+      let port = get_or (numbers_of plan.ports) found.0 0 in
+      let at = r.serves.each found.0 no_input found.1 in
+      let rose = at.holds.broken_out found.2 in
+      inl (port, fault_kept (λ (e : Ends S K C). sink_faults e.sink) (new.ports port) at.back at.kept (omega (arith, rose)))
+  write_at (inr is) =
+      let at = (control_ends (λ none. let e : Some hows.Unwritten ≡ Some hows.End = sym is ∙ ended_alone none in cc)).2 in
+      let rose = at.holds.unwritten is in
+      inr (inl (fault_kept (λ (e : Ends S K C). sink_faults e.sink) new.control at.back at.kept (omega (arith, rose))))
+
+  replay_read : status ≡ 5 → ((port : ℕ) × HasReadFault source_faults new port) ⊎ HasFault (λ e. source_faults e.source) new.control
+  replay_read five =
+      let failed : has_failed r.past ≡ true = failed_by status (has_failed r.past) (has_failed_write r.past || not (r.journal_written && r.summed.summary_written)) (has_malformed r.past) (has_full r.past) r.summed.cause five in
+      read_at (subst (λ (l : List Row). IsOfInput plan l) (sym r.serves.replay) (failed_at_input plan empty r.serves.lines r.serves.inputs r.serves.stops (ap has_failed (sym r.serves.replay) ∙ failed)))
 
 -- a read failed where the status is 5
 pub read_fault_of : {S K C : Type 0} (left : S → Option (List ℕ)) (written : K → Option (List ℕ)) (source_faults : S → ℕ) (sink_faults : K → ℕ) (Says : List ℕ → Type 0) (old new : Book S K C) (file : List ℕ) (status : ℕ) → status ≡ 5
     → IsFileUnread left source_faults file Says old new status ⊎ IsSession left written source_faults sink_faults file Says old new status → HasSomeReadFault source_faults file new
 read_fault_of left written source_faults sink_faults Says old new file status five (inl unread) = inl unread.fault
 read_fault_of left written source_faults sink_faults Says old new file status five (inr session) =
-    inr (replay_read left written source_faults sink_faults session.plan Says old new status session.configured.built.valid.ports five session.session.did)
+    inr (replay_read left written source_faults sink_faults session.plan Says old new status session.configured.built.valid.ports session.session.did five)
 
 -- a write of octets that weren't all taken failed
 unwritten_fault : {K : Type 0} (faults : K → ℕ) (written : K → Option (List ℕ)) (done : Bool) (octets : List ℕ) (old new : Place K) → done ≡ false → Keeps (TookOrPart faults written done octets) old new → HasFault faults new
@@ -89,17 +118,14 @@ one_unwritten faults written true false a a' b b' text line is one other = inr (
 one_unwritten faults written false second a a' b b' text line is one other = inl (unwritten_fault faults written false text a a' refl one)
 
 named : {S K C : Type 0} (sink_faults : K → ℕ) (name : List ℕ) (new : Book S K C) → HasFault sink_faults (new.outputs name) ⊎ HasFault sink_faults (new.std Out) → HasSomeWriteFault sink_faults new
-named sink_faults name new (inl journal) = inr (inl (name, journal))
-named sink_faults name new (inr out) = inr (inr out)
+named sink_faults name new (inl journal) = inr (inr (inl (name, journal)))
+named sink_faults name new (inr out) = inr (inr (inr out))
 
 fault_of : {S K C : Type 0} (left : S → Option (List ℕ)) (written : K → Option (List ℕ)) (source_faults : S → ℕ) (sink_faults : K → ℕ) (plan : Plan) (Says : List ℕ → Type 0) (old new : Book S K C) (status : ℕ) → IsStrictlyIncreasing (numbers_of plan.ports)
     → (r : IsReplayOf left written source_faults sink_faults plan Says old new status) → (has_failed_write r.past ≡ true) ⊎ ((r.journal_written && r.summed.summary_written) ≡ false) → HasSomeWriteFault sink_faults new
-fault_of {S} {K} {C} left written source_faults sink_faults plan Says old new status rising r (inl failed) =
-    let found = write_at_port plan r.serves.inputs r.serves.stops rising r.serves.size (failed_write_at_output plan empty None r.serves.inputs r.serves.stops (ap has_failed_write (sym r.serves.replay) ∙ failed)) in
-    let port = get_or (numbers_of plan.ports) found.0 0 in
-    let at = r.serves.each found.0 no_input found.1 in
-    let rose = at.holds.broken_out (ap (λ (l : List Row). output_end port l) r.serves.replay ∙ found.2) in
-    inl (port, fault_kept (λ (e : Ends S K C). sink_faults e.sink) (new.ports port) at.back at.kept (omega (arith, rose)))
+fault_of left written source_faults sink_faults plan Says old new status rising r (inl failed) =
+    write_at left written source_faults sink_faults plan Says old new status rising r
+    (subst (λ (l : List Row). IsOfOutput plan l) (sym r.serves.replay) (failed_write_at_output plan empty r.serves.lines r.serves.inputs r.serves.stops (ap has_failed_write (sym r.serves.replay) ∙ failed)))
 fault_of left written source_faults sink_faults plan Says old new status rising r (inr unwritten) =
     named sink_faults plan.journal new (one_unwritten sink_faults written r.journal_written r.summed.summary_written _ _ _ _ _ _ unwritten r.journal r.summed.summary)
 

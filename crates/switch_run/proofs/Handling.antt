@@ -1,7 +1,7 @@
 -- From the calls of a run to what was done with the ends.
-use Rattle.std.proofs.Common.{◌≡◌, ℕ, ◌<◌, List, ◌∷◌, true, length, take, get_or, refl, sym, ap, ◌∙◌, subst, arith, Some, IfSome}
+use Rattle.std.proofs.Common.{◌≡◌, ℕ, ◌<◌, List, ◌∷◌, true, false, length, take, get_or, refl, sym, ap, ◌∙◌, subst, arith, Option, Some, None, IfSome, IfNone, is_some}
 use Rattle.std.proofs.lemmas.List.{length-map, length-append, take-append-le, take_all}
-use Rattle.std.specs.Prelude.{All}
+use Rattle.std.specs.Prelude.{All, OnSome}
 use Rattle.std.specs.List.Sorted.{IsStrictlyIncreasing}
 use Rattle.savi_kinds.specs.declared.plan.PortPlan.{PortPlan}
 use Rattle.savi_kinds.specs.declared.port.Port.{Port}
@@ -9,13 +9,14 @@ use Rattle.savi_kinds.specs.Ports.{number_of}
 use Rattle.savi_kinds.specs.ValidPlan.{numbers_of}
 use Rattle.savi_ends.specs.declared.world.Ends.{Ends}
 use Rattle.savi_ends.specs.Places.{Place, OthersStay}
+use Rattle.port_worker.specs.declared.control_ends.ControlEnds.{ControlEnds}
 use Rattle.port_worker.specs.declared.port_ends.PortEnds.{PortEnds}
 use Rattle.port_worker.specs.Pairs.{EachPair}
 use Rattle.port_worker.specs.Replays.{ports_held}
-use Rattle.switch_ports.specs.Openings.{ports_of, AreApart, IsNextBehind, IsOff, IsOpened}
+use Rattle.switch_ports.specs.Openings.{ports_of, AreApart, IsControlOpened, IsNextBehind, IsOff, IsOpened}
 use Rattle.switch_ports.proofs.Rising.{apart_from}
 use Rattle.port_worker.specs.Served.{IsSamePort}
-use Rattle.switch_run.proofs.Through.{Handled, HandledOne}
+use Rattle.switch_run.proofs.Through.{Handled, HandledControl, HandledOne}
 
 pub same_number : {S K C : Type 0} (held back : List (PortEnds S K C)) (k : ℕ) (d : PortEnds S K C) → EachPair IsSamePort held back → k < length held → number_of (get_or back k d).port ≡ number_of (get_or held k d).port
 same_number held back k d pairs inside = ap number_of (pairs.each k d inside)
@@ -81,3 +82,26 @@ handled_one {K} n2 n4 name sink sink' o0 o1 o2 o3 o4 o5 is2 is4 same01 told othe
       kept = ap (λ (o : List ℕ → Place K). (o name).stands) same45 ∙ kept';
       others = λ other apart. ap (λ (o : List ℕ → Place K). o other) same45 ∙ others4' other apart ∙ ap (λ (o : List ℕ → Place K). o other) same23 ∙ others2' other apart ∙ ap (λ (o : List ℕ → Place K). o other) same01;
     }
+
+-- the ends of control that are held are handed out
+pub control_out : {S K C : Type 0} (IsFresh : Ends S K C → Type 0) (names : Option (List ℕ × List ℕ)) (held back : Option (ControlEnds S K C)) (p0 p1 p2 : Place (Ends S K C))
+    → IsControlOpened IsFresh names p0 p1 held → is_some back ≡ is_some held → p2 ≡ p1 → OnSome back (p2.is_out ≡ true)
+control_out IsFresh None None None p0 p1 p2 opened same stays = tt
+control_out IsFresh None None (Some back) p0 p1 p2 opened same stays = let t : true ≡ false = same in cc
+control_out IsFresh None (Some held) back p0 p1 p2 opened same stays = absurd opened
+control_out IsFresh (Some names) None back p0 p1 p2 opened same stays = absurd opened
+control_out IsFresh (Some names) (Some held) None p0 p1 p2 opened same stays = tt
+control_out {S} {K} {C} IsFresh (Some names) (Some held) (Some back) p0 p1 p2 opened same stays = ap (λ (p : Place (Ends S K C)). p.is_out) stays ∙ opened.out
+
+-- the place of control before the ports were opened, behind control's opening, and before and behind the keeping of its ends
+pub control_by : {S K C : Type 0} (IsFresh : Ends S K C → Type 0) (names : Option (List ℕ × List ℕ)) (held back : Option (ControlEnds S K C)) (p0 p1 p2 p3 p4 p5 : Place (Ends S K C))
+    → p1 ≡ p0 → IsControlOpened IsFresh names p1 p2 held → is_some back ≡ is_some held → p3 ≡ p2 → IfSome back (λ c. p4.stands ≡ Some c.ends) → IfNone back (p4 ≡ p3) → p5 ≡ p4 → HandledControl names held back p0 p5
+control_by IsFresh None None None p0 p1 p2 p3 p4 p5 same01 opened same same23 kept none same45 = same45 ∙ none ∙ same23 ∙ opened ∙ same01
+control_by IsFresh None None (Some back) p0 p1 p2 p3 p4 p5 same01 opened same same23 kept none same45 = let t : true ≡ false = same in cc
+control_by IsFresh None (Some held) back p0 p1 p2 p3 p4 p5 same01 opened same same23 kept none same45 = absurd opened
+control_by IsFresh (Some names) None back p0 p1 p2 p3 p4 p5 same01 opened same same23 kept none same45 = absurd opened
+control_by IsFresh (Some names) (Some held) None p0 p1 p2 p3 p4 p5 same01 opened same same23 kept none same45 = let t : false ≡ true = same in cc
+control_by {S} {K} {C} IsFresh (Some names) (Some held) (Some back) p0 p1 p2 p3 p4 p5 same01 opened same same23 kept none same45 = record {
+  told = subst (λ (p : Place (Ends S K C)). IfSome p.stands (λ t. held.ends ≡ t)) same01 opened.told;
+  kept = ap (λ (p : Place (Ends S K C)). p.stands) same45 ∙ kept;
+}

@@ -36,7 +36,7 @@ moved_did : {S K C : Type 0} (left : S → Option (List ℕ)) (written : K → O
 moved_did left written source_faults sink_faults plan Says Says' old new f f' i i' s s' status same same' says r = record {
   past = r.past;
   legal = r.legal;
-  serves = record { inputs = r.serves.inputs; stops = r.serves.stops; size = r.serves.size; replay = r.serves.replay; finished = r.serves.finished; each = r.serves.each };
+  serves = record { lines = r.serves.lines; inputs = r.serves.inputs; stops = r.serves.stops; size = r.serves.size; replay = r.serves.replay; finished = r.serves.finished; control = r.serves.control; each = r.serves.each };
   journal_written = r.journal_written;
   journal = r.journal;
   tells = r.tells;
@@ -51,6 +51,6 @@ pub moved_session : {S K C : Type 0} (left : S → Option (List ℕ)) (written :
     → IsSessionOf left written source_faults sink_faults plan Says old new status
     → IsSessionOf left written source_faults sink_faults plan Says' (record old { faults = f; inputs = i; std = s }) (record new { faults = f'; inputs = i'; std = s' }) status
 moved_session left written source_faults sink_faults plan Says Says' old new f f' i i' s s' status same same' says session = record {
-  elsewhere = record { ports = session.elsewhere.ports; outputs = session.elsewhere.outputs };
+  elsewhere = record { ports = session.elsewhere.ports; control = session.elsewhere.control; outputs = session.elsewhere.outputs };
   did = moved_did left written source_faults sink_faults plan Says Says' old new f f' i i' s s' status same same' says session.did;
 }

@@ -16,10 +16,11 @@ back_from : {X : Type 0} (o : Option X) → IfSome o (λ told. IsSomeAnd o (λ k
 back_from None = tt
 back_from (Some x) = refl
 
-pub unused_same : {S K C : Type 0} (old new : Book S K C) → new.ports ≡ old.ports → new.outputs ≡ old.outputs → IsUnused old new
-unused_same {S} {K} {C} old new ports outputs = record {
-  ports = λ port. subst (λ (x : ℕ → Place (Ends S K C)). IsBack (old.ports port) (x port)) (sym ports) (back_from (old.ports port).stands);
-  outputs = λ name. subst (λ (x : List ℕ → Place K). IsBack (old.outputs name) (x name)) (sym outputs) (back_from (old.outputs name).stands);
+pub unused_same : {S K C : Type 0} (old new : Book S K C) → IsUnserved old new → IsUnused old new
+unused_same {S} {K} {C} old new unserved = record {
+  ports = λ port. subst (λ (x : ℕ → Place (Ends S K C)). IsBack (old.ports port) (x port)) (sym unserved.ports) (back_from (old.ports port).stands);
+  control = subst (λ (x : Place (Ends S K C)). IsBack old.control x) (sym unserved.control) (back_from old.control.stands);
+  outputs = λ name. subst (λ (x : List ℕ → Place K). IsBack (old.outputs name) (x name)) (sym unserved.outputs) (back_from (old.outputs name).stands);
 }
 
 not_session : (status n : ℕ) → status ≡ n → (IsOneOf session_statuses n → ⊥) → IsOneOf session_statuses status → ⊥
@@ -39,7 +40,7 @@ refuses left written source_faults sink_faults file Says refusal.NoMemory old ne
   unopened = λ e. absurd (omega (arith, is, e));
   session = λ one_of. absurd (not_session status 1 is (λ e. let t : false ≡ true = e in cc) one_of);
   quiet = λ one_of. quiet;
-  unused = λ one_of. unused_same old new unserved.ports unserved.outputs;
+  unused = λ one_of. unused_same old new unserved;
   elsewhere = elsewhere;
 }
 refuses left written source_faults sink_faults file Says refusal.CannotOpen old new status is told refused unopened unread place kept memory unserved quiet elsewhere = record {
@@ -52,7 +53,7 @@ refuses left written source_faults sink_faults file Says refusal.CannotOpen old 
   unopened = λ e. inl (record { errors = told; place = place refl; unserved = unserved });
   session = λ one_of. absurd (not_session status 7 is (λ e. let t : false ≡ true = e in cc) one_of);
   quiet = λ one_of. quiet;
-  unused = λ one_of. unused_same old new unserved.ports unserved.outputs;
+  unused = λ one_of. unused_same old new unserved;
   elsewhere = elsewhere;
 }
 refuses left written source_faults sink_faults file Says refusal.ReadFailed old new status is told refused unopened unread place kept memory unserved quiet elsewhere = record {
@@ -65,7 +66,7 @@ refuses left written source_faults sink_faults file Says refusal.ReadFailed old 
   unopened = λ e. absurd (omega (arith, is, e));
   session = λ one_of. inl (record { status_is = is; fault = unread refl; input = kept (λ e. cc) (λ e. cc); errors = told; out = quiet; unserved = unserved });
   quiet = λ one_of. quiet;
-  unused = λ one_of. unused_same old new unserved.ports unserved.outputs;
+  unused = λ one_of. unused_same old new unserved;
   elsewhere = elsewhere;
 }
 refuses left written source_faults sink_faults file Says (refusal.Refused fault) old new status is told refused unopened unread place kept memory unserved quiet elsewhere = record {
@@ -78,6 +79,6 @@ refuses left written source_faults sink_faults file Says (refusal.Refused fault)
   unopened = λ e. absurd (omega (arith, is, e));
   session = λ one_of. absurd (not_session status 3 is (λ e. let t : false ≡ true = e in cc) one_of);
   quiet = λ one_of. quiet;
-  unused = λ one_of. unused_same old new unserved.ports unserved.outputs;
+  unused = λ one_of. unused_same old new unserved;
   elsewhere = elsewhere;
 }

@@ -8,10 +8,10 @@ use Rattle.savi_ends.specs.declared.world.Ends.{Ends}
 use Rattle.savi_ends.specs.Faults.{Rose}
 use Rattle.savi_ends.specs.Places.{Place, Book, OthersStay}
 use Rattle.run_config.specs.Configs.{HasFault, IsConfigured, IsReadFrom, IsRefused}
-use Rattle.switch_run.specs.Causes.{IsBack, IsElsewhereSame, IsOffPlanSame, IsUnserved, IsUnused, IsUntouched, Keeps, KeepsAll}
+use Rattle.switch_run.specs.Causes.{IsBack, IsElsewhereSame, IsOffPlanSame, IsUnserved, IsUnused, IsUntouched, Keeps, KeepsAll, KeepsControl}
 use Rattle.switch_run.specs.Session.{IsNoPlan, IsPartUnopened, IsSession, IsSessionOf, IsUnopened, IsUnplayed, IsFileUnread, Told, ToldBy}
 use Rattle.port_worker.specs.SentFrames.{TookMore}
-use Rattle.port_worker.specs.Served.{IsUsed}
+use Rattle.port_worker.specs.Used.{IsUsed}
 use Rattle.switch_run.proofs.Recast.{moved_session, told_at}
 
 err≢out : Err ≢ Out
@@ -48,19 +48,49 @@ ran_untouched {S} {K} {C} b0 b1 b2 b3 e e' ran same = record {
   rest = ran.rest3 ∙ ap (λ (b : Book S K C). record b { std = b3.std }) same ∙ ap (λ (b : Book S K C). record b { std = b3.std }) ran.rest1;
 }
 
-pub moved_unused : {S K C : Type 0} (old new old' new' : Book S K C) → old'.ports ≡ old.ports → new'.ports ≡ new.ports → old'.outputs ≡ old.outputs → new'.outputs ≡ new.outputs → IsUnused old new → IsUnused old' new'
-moved_unused {S} {K} {C} old new old' new' p p' o o' unused = record {
-  ports = λ port. subst (λ (x : ℕ → Place (Ends S K C)). IsBack (old'.ports port) (x port)) (sym p') (subst (λ (x : ℕ → Place (Ends S K C)). IsBack (x port) (new.ports port)) (sym p) (unused.ports port));
-  outputs = λ name. subst (λ (x : List ℕ → Place K). IsBack (old'.outputs name) (x name)) (sym o') (subst (λ (x : List ℕ → Place K). IsBack (x name) (new.outputs name)) (sym o) (unused.outputs name));
+-- the places of ports, of control and of outputs are the same
+pub record SamePlaces {S K C : Type 0} (book book' : Book S K C) : Type 0 where
+  pub ports : book'.ports ≡ book.ports
+  pub control : book'.control ≡ book.control
+  pub outputs : book'.outputs ≡ book.outputs
+
+pub same_places : {S K C : Type 0} (book : Book S K C) → SamePlaces book book
+same_places book = record { ports = refl; control = refl; outputs = refl }
+
+ran_before : {S K C : Type 0} (b0 b1 b2 b3 : Book S K C) (e e' : K) → Ran b0 b1 b2 b3 e e' → SamePlaces b1 b0
+ran_before {S} {K} {C} b0 b1 b2 b3 e e' ran = record {
+  ports = sym (ap (λ (b : Book S K C). b.ports) ran.rest1);
+  control = sym (ap (λ (b : Book S K C). b.control) ran.rest1);
+  outputs = sym (ap (λ (b : Book S K C). b.outputs) ran.rest1);
+}
+
+ran_behind : {S K C : Type 0} (b0 b1 b2 b3 : Book S K C) (e e' : K) → Ran b0 b1 b2 b3 e e' → SamePlaces b2 b3
+ran_behind {S} {K} {C} b0 b1 b2 b3 e e' ran = record {
+  ports = ap (λ (b : Book S K C). b.ports) ran.rest3;
+  control = ap (λ (b : Book S K C). b.control) ran.rest3;
+  outputs = ap (λ (b : Book S K C). b.outputs) ran.rest3;
+}
+
+-- the reading of a configuration touches none of them
+pub read_before : {S K C : Type 0} (b0 b1 : Book S K C) → b1 ≡ record b0 { faults = b1.faults; inputs = b1.inputs } → SamePlaces b1 b0
+read_before {S} {K} {C} b0 b1 rest = record {
+  ports = sym (ap (λ (b : Book S K C). b.ports) rest);
+  control = sym (ap (λ (b : Book S K C). b.control) rest);
+  outputs = sym (ap (λ (b : Book S K C). b.outputs) rest);
+}
+
+pub moved_unused : {S K C : Type 0} (old new old' new' : Book S K C) → SamePlaces old old' → SamePlaces new new' → IsUnused old new → IsUnused old' new'
+moved_unused {S} {K} {C} old new old' new' o n unused = record {
+  ports = λ port. subst (λ (x : ℕ → Place (Ends S K C)). IsBack (old'.ports port) (x port)) (sym n.ports) (subst (λ (x : ℕ → Place (Ends S K C)). IsBack (x port) (new.ports port)) (sym o.ports) (unused.ports port));
+  control = subst (λ (x : Place (Ends S K C)). IsBack old'.control x) (sym n.control) (subst (λ (x : Place (Ends S K C)). IsBack x new.control) (sym o.control) unused.control);
+  outputs = λ name. subst (λ (x : List ℕ → Place K). IsBack (old'.outputs name) (x name)) (sym n.outputs) (subst (λ (x : List ℕ → Place K). IsBack (x name) (new.outputs name)) (sym o.outputs) (unused.outputs name));
 }
 
 pub ran_unused : {S K C : Type 0} (b0 b1 b2 b3 : Book S K C) (e e' : K) → Ran b0 b1 b2 b3 e e' → IsUnused b1 b2 → IsUnused b0 b3
-ran_unused {S} {K} {C} b0 b1 b2 b3 e e' ran unused =
-    moved_unused b1 b2 b0 b3 (sym (ap (λ (b : Book S K C). b.ports) ran.rest1)) (ap (λ (b : Book S K C). b.ports) ran.rest3) (sym (ap (λ (b : Book S K C). b.outputs) ran.rest1)) (ap (λ (b : Book S K C). b.outputs) ran.rest3) unused
+ran_unused b0 b1 b2 b3 e e' ran unused = moved_unused b1 b2 b0 b3 (ran_before b0 b1 b2 b3 e e' ran) (ran_behind b0 b1 b2 b3 e e' ran) unused
 
 pub ran_elsewhere : {S K C : Type 0} (b0 b1 b2 b3 : Book S K C) (e e' : K) (file : List ℕ) → Ran b0 b1 b2 b3 e e' → IsElsewhereSame file b1 b2 → IsElsewhereSame file b0 b3
 ran_elsewhere {S} {K} {C} b0 b1 b2 b3 e e' file ran same = record {
-  control = ap (λ (b : Book S K C). b.control) ran.rest3 ∙ same.control ∙ ap (λ (b : Book S K C). b.control) ran.rest1;
   ticker = ap (λ (b : Book S K C). b.ticker) ran.rest3 ∙ same.ticker ∙ ap (λ (b : Book S K C). b.ticker) ran.rest1;
   inputs = λ other apart. ap (λ (b : Book S K C). b.inputs other) ran.rest3 ∙ same.inputs other apart ∙ ap (λ (b : Book S K C). b.inputs other) ran.rest1;
 }
@@ -76,17 +106,15 @@ ran_input {S} {K} {C} left b0 b1 b2 b3 e e' file ran read =
     subst (λ (p : Place S). IsReadFrom left p (b3.inputs file)) (inputs_first b0 b1 b2 b3 e e' file ran)
     (subst (λ (p : Place S). IsReadFrom left (b1.inputs file) p) (sym (inputs_last b0 b1 b2 b3 e e' file ran)) read)
 
-ran_ports : {S K C : Type 0} (b0 b1 b2 b3 : Book S K C) (e e' : K) → Ran b0 b1 b2 b3 e e' → (b1.ports ≡ b0.ports) × (b3.ports ≡ b2.ports)
-ran_ports {S} {K} {C} b0 b1 b2 b3 e e' ran = (ap (λ (b : Book S K C). b.ports) ran.rest1, ap (λ (b : Book S K C). b.ports) ran.rest3)
-
-ran_outputs : {S K C : Type 0} (b0 b1 b2 b3 : Book S K C) (e e' : K) → Ran b0 b1 b2 b3 e e' → (b1.outputs ≡ b0.outputs) × (b3.outputs ≡ b2.outputs)
-ran_outputs {S} {K} {C} b0 b1 b2 b3 e e' ran = (ap (λ (b : Book S K C). b.outputs) ran.rest1, ap (λ (b : Book S K C). b.outputs) ran.rest3)
+moved_unserved : {S K C : Type 0} (old new old' new' : Book S K C) → SamePlaces old old' → SamePlaces new new' → IsUnserved old new → IsUnserved old' new'
+moved_unserved old new old' new' o n unserved = record {
+  ports = n.ports ∙ unserved.ports ∙ sym o.ports;
+  control = n.control ∙ unserved.control ∙ sym o.control;
+  outputs = n.outputs ∙ unserved.outputs ∙ sym o.outputs;
+}
 
 ran_unserved : {S K C : Type 0} (b0 b1 b2 b3 : Book S K C) (e e' : K) → Ran b0 b1 b2 b3 e e' → IsUnserved b1 b2 → IsUnserved b0 b3
-ran_unserved b0 b1 b2 b3 e e' ran unserved =
-    let ports = ran_ports b0 b1 b2 b3 e e' ran in
-    let outputs = ran_outputs b0 b1 b2 b3 e e' ran in
-    record { ports = ports.1 ∙ unserved.ports ∙ ports.0; outputs = outputs.1 ∙ unserved.outputs ∙ outputs.0 }
+ran_unserved b0 b1 b2 b3 e e' ran unserved = moved_unserved b1 b2 b0 b3 (ran_before b0 b1 b2 b3 e e' ran) (ran_behind b0 b1 b2 b3 e e' ran) unserved
 
 pub ran_config : {S K C : Type 0} (left : S → Option (List ℕ)) (Says Says' : List ℕ → Type 0) (b0 b1 b2 b3 : Book S K C) (e e' : K) (file : List ℕ) → Ran b0 b1 b2 b3 e e' → ((lines : List ℕ) → Says lines → Says' lines) → IsNoPlan left file Says b1 b2 → IsNoPlan left file Says' b0 b3
 ran_config {S} {K} {C} left Says Says' b0 b1 b2 b3 e e' file ran says no_plan = record {
@@ -97,43 +125,56 @@ ran_config {S} {K} {C} left Says Says' b0 b1 b2 b3 e e' file ran says no_plan = 
   errors = says _ no_plan.errors;
 }
 
--- what is said of the ports and outputs of a plan, between books of the same ports and outputs
+-- what is said of the places of a plan, between books of the same places
 
-pub moved_off : {S K C : Type 0} (plan : Plan) (old new old' new' : Book S K C) → old'.ports ≡ old.ports → new'.ports ≡ new.ports → old'.outputs ≡ old.outputs → new'.outputs ≡ new.outputs → IsOffPlanSame plan old new → IsOffPlanSame plan old' new'
-moved_off {S} {K} {C} plan old new old' new' p p' o o' off = record {
-  ports = λ n away. ap (λ (x : ℕ → Place (Ends S K C)). x n) p' ∙ off.ports n away ∙ sym (ap (λ (x : ℕ → Place (Ends S K C)). x n) p);
-  outputs = λ other apart. ap (λ (x : List ℕ → Place K). x other) o' ∙ off.outputs other apart ∙ sym (ap (λ (x : List ℕ → Place K). x other) o);
+pub moved_off : {S K C : Type 0} (plan : Plan) (old new old' new' : Book S K C) → SamePlaces old old' → SamePlaces new new' → IsOffPlanSame plan old new → IsOffPlanSame plan old' new'
+moved_off {S} {K} {C} plan old new old' new' o n off = record {
+  ports = λ port away. ap (λ (x : ℕ → Place (Ends S K C)). x port) n.ports ∙ off.ports port away ∙ sym (ap (λ (x : ℕ → Place (Ends S K C)). x port) o.ports);
+  control = λ none. n.control ∙ off.control none ∙ sym o.control;
+  outputs = λ other apart. ap (λ (x : List ℕ → Place K). x other) n.outputs ∙ off.outputs other apart ∙ sym (ap (λ (x : List ℕ → Place K). x other) o.outputs);
 }
 
-pub moved_keeps : {S K C : Type 0} (left : S → Option (List ℕ)) (written : K → Option (List ℕ)) (plan : Plan) (old new old' new' : Book S K C) → old'.ports ≡ old.ports → new'.ports ≡ new.ports → old'.outputs ≡ old.outputs → new'.outputs ≡ new.outputs
+pub moved_keeps : {S K C : Type 0} (left : S → Option (List ℕ)) (written : K → Option (List ℕ)) (plan : Plan) (old new old' new' : Book S K C) → SamePlaces old old' → SamePlaces new new'
     → KeepsAll left written plan old new → KeepsAll left written plan old' new'
-moved_keeps {S} {K} {C} left written plan old new old' new' p p' o o' keeps = record {
-  ports = subst (λ (x : ℕ → Place (Ends S K C)). All (λ n. Keeps (IsUsed left written) (old'.ports n) (x n)) (numbers_of plan.ports)) (sym p')
-      (subst (λ (x : ℕ → Place (Ends S K C)). All (λ n. Keeps (IsUsed left written) (x n) (new.ports n)) (numbers_of plan.ports)) (sym p) keeps.ports);
-  journal = subst (λ (x : List ℕ → Place K). Keeps (λ told kept. TookMore (written told) (written kept)) (old'.outputs plan.journal) (x plan.journal)) (sym o')
-      (subst (λ (x : List ℕ → Place K). Keeps (λ told kept. TookMore (written told) (written kept)) (x plan.journal) (new.outputs plan.journal)) (sym o) keeps.journal);
+moved_keeps {S} {K} {C} left written plan old new old' new' o n keeps = record {
+  ports = subst (λ (x : ℕ → Place (Ends S K C)). All (λ port. Keeps (IsUsed left written) (old'.ports port) (x port)) (numbers_of plan.ports)) (sym n.ports)
+      (subst (λ (x : ℕ → Place (Ends S K C)). All (λ port. Keeps (IsUsed left written) (x port) (new.ports port)) (numbers_of plan.ports)) (sym o.ports) keeps.ports);
+  control = subst (λ (x : Place (Ends S K C)). KeepsControl (IsUsed left written) plan.control old'.control x) (sym n.control)
+      (subst (λ (x : Place (Ends S K C)). KeepsControl (IsUsed left written) plan.control x new.control) (sym o.control) keeps.control);
+  journal = subst (λ (x : List ℕ → Place K). Keeps (λ told kept. TookMore (written told) (written kept)) (old'.outputs plan.journal) (x plan.journal)) (sym n.outputs)
+      (subst (λ (x : List ℕ → Place K). Keeps (λ told kept. TookMore (written told) (written kept)) (x plan.journal) (new.outputs plan.journal)) (sym o.outputs) keeps.journal);
 }
 
 -- a part of a plan that could not be opened
-pub moved_part : {S K C : Type 0} (plan : Plan) (Says Says' : List ℕ → Type 0) (old new old' new' : Book S K C) → old'.ports ≡ old.ports → new'.ports ≡ new.ports → old'.outputs ≡ old.outputs → new'.outputs ≡ new.outputs → ((lines : List ℕ) → Says lines → Says' lines)
+pub moved_part : {S K C : Type 0} (plan : Plan) (Says Says' : List ℕ → Type 0) (old new old' new' : Book S K C) → SamePlaces old old' → SamePlaces new new' → ((lines : List ℕ) → Says lines → Says' lines)
     → IsPartUnopened plan Says old new → IsPartUnopened plan Says' old' new'
-moved_part {S} {K} {C} plan Says Says' old new old' new' p p' o o' says (inl part) = inl (record {
+moved_part {S} {K} {C} plan Says Says' old new old' new' o n says (inl part) = inl (record {
   before = part.before;
   port = part.port;
   later = part.later;
   all = part.all;
-  kept = subst (λ (x : ℕ → Place (Ends S K C)). All (λ n. IsSome (x n).stands) part.before) (sym p') part.kept;
-  same = subst (λ (x : ℕ → Place (Ends S K C)). All (λ n. x n ≡ old'.ports n) (part.port ∷ part.later)) (sym p') (subst (λ (x : ℕ → Place (Ends S K C)). All (λ n. new.ports n ≡ x n) (part.port ∷ part.later)) (sym p) part.same);
-  outputs = o' ∙ part.outputs ∙ sym o;
-  elsewhere = moved_off plan old new old' new' p p' o o' part.elsewhere;
+  kept = subst (λ (x : ℕ → Place (Ends S K C)). All (λ port. IsSome (x port).stands) part.before) (sym n.ports) part.kept;
+  same = subst (λ (x : ℕ → Place (Ends S K C)). All (λ port. x port ≡ old'.ports port) (part.port ∷ part.later)) (sym n.ports) (subst (λ (x : ℕ → Place (Ends S K C)). All (λ port. new.ports port ≡ x port) (part.port ∷ part.later)) (sym o.ports) part.same);
+  control = n.control ∙ part.control ∙ sym o.control;
+  outputs = n.outputs ∙ part.outputs ∙ sym o.outputs;
+  elsewhere = moved_off plan old new old' new' o n part.elsewhere;
   errors = says _ part.errors;
 })
-moved_part {S} {K} {C} plan Says Says' old new old' new' p p' o o' says (inr part) = inr (record {
-  kept = subst (λ (x : ℕ → Place (Ends S K C)). All (λ n. IsSome (x n).stands) (numbers_of plan.ports)) (sym p') part.kept;
-  outputs = λ name. ap (λ (x : List ℕ → Place K). x name) o' ∙ part.outputs name ∙ sym (ap (λ (x : List ℕ → Place K). x name) o);
-  elsewhere = moved_off plan old new old' new' p p' o o' part.elsewhere;
+moved_part {S} {K} {C} plan Says Says' old new old' new' o n says (inr (inl part)) = inr (inl (record {
+  named = part.named;
+  kept = subst (λ (x : ℕ → Place (Ends S K C)). All (λ port. IsSome (x port).stands) (numbers_of plan.ports)) (sym n.ports) part.kept;
+  control = n.control ∙ part.control ∙ sym o.control;
+  outputs = n.outputs ∙ part.outputs ∙ sym o.outputs;
+  elsewhere = moved_off plan old new old' new' o n part.elsewhere;
   errors = says _ part.errors;
-})
+}))
+moved_part {S} {K} {C} plan Says Says' old new old' new' o n says (inr (inr part)) = inr (inr (record {
+  kept = subst (λ (x : ℕ → Place (Ends S K C)). All (λ port. IsSome (x port).stands) (numbers_of plan.ports)) (sym n.ports) part.kept;
+  control = λ named. subst (λ (x : Place (Ends S K C)). IsSome x.stands) (sym n.control) (part.control named);
+  outputs = λ name. ap (λ (x : List ℕ → Place K). x name) n.outputs ∙ part.outputs name ∙ sym (ap (λ (x : List ℕ → Place K). x name) o.outputs);
+  elsewhere = moved_off plan old new old' new' o n part.elsewhere;
+  errors = says _ part.errors;
+}))
 
 pub ran_unopened : {S K C : Type 0} (left : S → Option (List ℕ)) (Says Says' : List ℕ → Type 0) (b0 b1 b2 b3 : Book S K C) (e e' : K) (file : List ℕ) → Ran b0 b1 b2 b3 e e' → ((lines : List ℕ) → Says lines → Says' lines) → IsUnopened left file Says b1 b2 → IsUnopened left file Says' b0 b3
 ran_unopened left Says Says' b0 b1 b2 b3 e e' file ran says (inl unopened) = inl (record {
@@ -142,13 +183,11 @@ ran_unopened left Says Says' b0 b1 b2 b3 e e' file ran says (inl unopened) = inl
   unserved = ran_unserved b0 b1 b2 b3 e e' ran unopened.unserved;
 })
 ran_unopened {S} {K} {C} left Says Says' b0 b1 b2 b3 e e' file ran says (inr unopened) =
-    let ports = ran_ports b0 b1 b2 b3 e e' ran in
-    let outputs = ran_outputs b0 b1 b2 b3 e e' ran in
     inr (record {
       plan = unopened.plan;
       configured = subst (λ (p : Place S). IsConfigured left p unopened.plan) (inputs_first b0 b1 b2 b3 e e' file ran) unopened.configured;
       input = ran_input left b0 b1 b2 b3 e e' file ran unopened.input;
-      part = moved_part unopened.plan Says Says' b1 b2 b0 b3 (sym ports.0) ports.1 (sym outputs.0) outputs.1 says unopened.part;
+      part = moved_part unopened.plan Says Says' b1 b2 b0 b3 (ran_before b0 b1 b2 b3 e e' ran) (ran_behind b0 b1 b2 b3 e e' ran) says unopened.part;
     })
 
 pub ran_session : {S K C : Type 0} (left : S → Option (List ℕ)) (written : K → Option (List ℕ)) (source_faults : S → ℕ) (sink_faults : K → ℕ) (Says Says' : List ℕ → Type 0) (b0 b1 b2 b3 : Book S K C) (e e' : K) (file : List ℕ) (status : ℕ) → Ran b0 b1 b2 b3 e e' → ((lines : List ℕ) → Says lines → Says' lines)
@@ -186,13 +225,11 @@ moved_ends : {S K C : Type 0} (left : S → Option (List ℕ)) (written : K → 
     → IsUnserved b0 b3 ⊎ ((plan : Plan) × IsConfigured left (b0.inputs file) plan × KeepsAll left written plan b0 b3 × IsOffPlanSame plan b0 b3)
 moved_ends left written b0 b1 b2 b3 e e' file ran (inl unserved) = inl (ran_unserved b0 b1 b2 b3 e e' ran unserved)
 moved_ends {S} {K} {C} left written b0 b1 b2 b3 e e' file ran (inr (plan, configured, keeps, off)) =
-    let ports = ran_ports b0 b1 b2 b3 e e' ran in
-    let outputs = ran_outputs b0 b1 b2 b3 e e' ran in
     inr (
       plan,
       subst (λ (p : Place S). IsConfigured left p plan) (inputs_first b0 b1 b2 b3 e e' file ran) configured,
-      moved_keeps left written plan b1 b2 b0 b3 (sym ports.0) ports.1 (sym outputs.0) outputs.1 keeps,
-      moved_off plan b1 b2 b0 b3 (sym ports.0) ports.1 (sym outputs.0) outputs.1 off,
+      moved_keeps left written plan b1 b2 b0 b3 (ran_before b0 b1 b2 b3 e e' ran) (ran_behind b0 b1 b2 b3 e e' ran) keeps,
+      moved_off plan b1 b2 b0 b3 (ran_before b0 b1 b2 b3 e e' ran) (ran_behind b0 b1 b2 b3 e e' ran) off,
     )
 
 moved_place : {S K C : Type 0} (left : S → Option (List ℕ)) (b0 b1 b2 b3 : Book S K C) (e e' : K) (file : List ℕ) → Ran b0 b1 b2 b3 e e' → (b2.inputs file ≡ b1.inputs file) ⊎ IsReadFrom left (b1.inputs file) (b2.inputs file) → (b3.inputs file ≡ b0.inputs file) ⊎ IsReadFrom left (b0.inputs file) (b3.inputs file)
@@ -209,8 +246,7 @@ ran_unplayed left written b0 b1 b2 b3 e e' file ran unplayed = record {
 pub configured_unplayed : {S K C : Type 0} (left : S → Option (List ℕ)) (written : K → Option (List ℕ)) (plan : Plan) (b0 b1 b2 : Book S K C) (file : List ℕ) → b1 ≡ record b0 { faults = b1.faults; inputs = b1.inputs } → IsConfigured left (b0.inputs file) plan
     → IsUnserved b1 b2 ⊎ (KeepsAll left written plan b1 b2 × IsOffPlanSame plan b1 b2) → IsUnserved b0 b2 ⊎ ((p : Plan) × IsConfigured left (b0.inputs file) p × KeepsAll left written p b0 b2 × IsOffPlanSame p b0 b2)
 configured_unplayed {S} {K} {C} left written plan b0 b1 b2 file rest configured (inl unserved) =
-    inl (record { ports = unserved.ports ∙ ap (λ (b : Book S K C). b.ports) rest; outputs = unserved.outputs ∙ ap (λ (b : Book S K C). b.outputs) rest })
+    inl (moved_unserved b1 b2 b0 b2 (read_before b0 b1 rest) (same_places b2) unserved)
 configured_unplayed {S} {K} {C} left written plan b0 b1 b2 file rest configured (inr (keeps, off)) =
-    let ports = sym (ap (λ (b : Book S K C). b.ports) rest) in
-    let outputs = sym (ap (λ (b : Book S K C). b.outputs) rest) in
-    inr (plan, configured, moved_keeps left written plan b1 b2 b0 b2 ports refl outputs refl keeps, moved_off plan b1 b2 b0 b2 ports refl outputs refl off)
+    let before = read_before b0 b1 rest in
+    inr (plan, configured, moved_keeps left written plan b1 b2 b0 b2 before (same_places b2) keeps, moved_off plan b1 b2 b0 b2 before (same_places b2) off)

@@ -1,5 +1,5 @@
--- From a session over the ends of ports, and its journal, to what was played.
-use Rattle.std.proofs.Common.{◌≡◌, ℕ, List, Bool, sym, ap, ◌∙◌, subst, Option}
+-- From a session over the ends of control and of ports, and its journal, to what was played.
+use Rattle.std.proofs.Common.{◌≡◌, ℕ, List, Bool, refl, sym, ap, ◌∙◌, subst, Option, Some, None, is_some}
 use Rattle.std.specs.Prelude.{reverse}
 use Rattle.std.proofs.lemmas.List.{reverse-reverse}
 use Rattle.savi_kinds.specs.declared.plan.Plan.{Plan}
@@ -8,14 +8,17 @@ use Rattle.hist_store.specs.JournalTexts.{journal_text, address_text}
 use Rattle.savi_history.specs.Bases.{empty}
 use Rattle.savi_history.specs.Legal.{IsLegal}
 use Rattle.savi_history.specs.Journals.{IsJournalOf}
+use Rattle.cli_lang.specs.Arrivals.{Input}
 use Rattle.savi_core.specs.Machines.{Machine}
-use Rattle.port_worker.specs.declared.port_ends.PortEnds.{PortEnds}
+use Rattle.port_worker.specs.declared.control_ends.ControlEnds.{ControlEnds}
+use Rattle.port_worker.specs.declared.session.Ready.{Ready}
+use Rattle.port_worker.specs.ControlServed.{ServesControl}
 use Rattle.port_worker.specs.Served.{ServesEnds}
 use Rattle.switch_run.specs.Causes.{TookOrPart}
 use Rattle.switch_run.specs.Played.{IsPlayed}
 
-pub played_of : {S K C : Type 0} (left : S → Option (List ℕ)) (written : K → Option (List ℕ)) (source_faults : S → ℕ) (sink_faults : K → ℕ) (plan lent : Plan) (rows : List Row) (core : Machine) (old new : List (PortEnds S K C)) (journal journal' : K) (journal_written : Bool)
-    → ServesEnds left written source_faults sink_faults plan empty core.past old new
+pub played_of : {S K C : Type 0} (left : S → Option (List ℕ)) (written : K → Option (List ℕ)) (source_faults : S → ℕ) (sink_faults : K → ℕ) (plan lent : Plan) (rows : List Row) (core : Machine) (old new : Ready S K C) (journal journal' : K) (journal_written : Bool)
+    → ServesEnds left written source_faults sink_faults plan empty core.past old.control new.control old.ports.items new.ports.items
     → core.plan ≡ plan → lent ≡ core.plan → reverse rows ≡ core.past → IsLegal core.plan empty core.past
     → TookOrPart sink_faults written journal_written (journal_text address_text lent rows) journal journal'
     → IsJournalOf address_text lent (reverse rows) (journal_text address_text lent rows)
@@ -32,3 +35,11 @@ played_of left written source_faults sink_faults plan lent rows core old new jou
       tells = subst (λ (past : List Row). IsJournalOf address_text plan past text) rows_are
           (subst (λ (p : Plan). IsJournalOf address_text p (reverse rows) text) plan_is (subst (IsJournalOf address_text lent (reverse rows)) text_is tells));
     }
+
+-- ends of control are there behind a session where they were before
+pub same_control : {S K C : Type 0} (left : S → Option (List ℕ)) (written : K → Option (List ℕ)) (source_faults : S → ℕ) (sink_faults : K → ℕ) (plan : Plan) (past : List Row) (old new : Option (ControlEnds S K C)) (lines : Option Input) (stop : Option ℕ)
+    → ServesControl left written source_faults sink_faults plan empty past old new lines stop → is_some new ≡ is_some old
+same_control left written source_faults sink_faults plan past None None lines stop serves = refl
+same_control left written source_faults sink_faults plan past None (Some new) lines stop serves = absurd serves
+same_control left written source_faults sink_faults plan past (Some old) None lines stop serves = absurd serves
+same_control left written source_faults sink_faults plan past (Some old) (Some new) lines stop serves = refl

@@ -20,6 +20,7 @@ use Rattle.savi_ends.specs.declared.world.Std.TheVariants.{Out}
 use Rattle.savi_ends.specs.declared.world.Ends.{Ends}
 use Rattle.savi_ends.specs.Octets.{behind, in_front}
 use Rattle.savi_ends.specs.Places.{Place, Book, OthersStay}
+use Rattle.cli_lang.specs.Arrivals as lines_of
 use Rattle.hist_store.specs.Rows.{Row}
 use Rattle.hist_store.specs.JournalTexts.{journal_text, address_text}
 use Rattle.savi_history.specs.Bases.{empty}
@@ -28,14 +29,18 @@ use Rattle.savi_history.proofs.Starting.{empty_within}
 use Rattle.savi_history.proofs.Telling.{passed_rightly}
 use Rattle.savi_history.proofs.AddressTexts.{written-IsAddressText}
 use Rattle.savi_history.proofs.OneHistory.{journal_tells}
+use Rattle.port_worker.specs.declared.control_ends.ControlEnds.{ControlEnds}
 use Rattle.port_worker.specs.declared.port_ends.PortEnds.{PortEnds}
+use Rattle.port_worker.specs.declared.session.Ready.{Ready}
 use Rattle.port_worker.specs.Replays.{ports_held}
 use Rattle.port_worker.specs.SentFrames.{TookMore}
-use Rattle.port_worker.specs.Served.{IsUsed, IsServed, ServesPorts, ServesEnds}
+use Rattle.port_worker.specs.ControlServed.{IsControlServed, ServesControl}
+use Rattle.port_worker.specs.Used.{IsUsed}
+use Rattle.port_worker.specs.Served.{IsServed, ServesPorts, ServesEnds}
 use Rattle.switch_ports.specs.Openings.{ports_of, IsNextBehind, IsOff, IsReadAnew}
-use Rattle.switch_report.specs.RunLines.{cannot_open_line, journal_word, port_name}
-use Rattle.switch_run.specs.Causes.{IsBack, Keeps, KeepsAll, IsOffPlanSame, TookOrPart}
-use Rattle.switch_run.specs.Session.{IsJournalUnopened, IsPortUnopened, IsSessionOf, IsSummed}
+use Rattle.switch_report.specs.RunLines.{cannot_open_line, control_word, journal_word, port_name}
+use Rattle.switch_run.specs.Causes.{IsBack, Keeps, KeepsAll, KeepsControl, IsOffPlanSame, TookOrPart}
+use Rattle.switch_run.specs.Session.{IsControlUnopened, IsJournalUnopened, IsPortUnopened, IsSessionOf, IsSummed, ServesControlPlace}
 use Rattle.switch_run.specs.Played.{IsPlayed}
 
 -- The ends that were told of some ports were opened and are kept by now, each at its own place; those of other ports stay.
@@ -46,11 +51,32 @@ pub record Handled {S K C : Type 0} (held back : List (PortEnds S K C)) (old new
   pub kept : All (λ p. (new (number_of p.port)).stands ≡ Some p.ends) back
   pub others : (n : ℕ) → IsOff held n → new n ≡ old n
 
+-- The same of the ends of control.
+pub record HandledEnds {S K C : Type 0} (ends ends' : Ends S K C) (old new : Place (Ends S K C)) : Type 0 where
+  pub told : IfSome old.stands (λ t. ends ≡ t)
+  pub kept : new.stands ≡ Some ends'
+
+-- The same where the plan has names for them; else there are none, and their place stays.
+abbrev pub HandledControl : {S K C : Type 0} → Option (List ℕ × List ℕ) → Option (ControlEnds S K C) → Option (ControlEnds S K C) → Place (Ends S K C) → Place (Ends S K C) → Type 0
+HandledControl None None None old new = new ≡ old
+HandledControl None None (Some back) old new = ⊥
+HandledControl None (Some held) back old new = ⊥
+HandledControl (Some names) None back old new = ⊥
+HandledControl (Some names) (Some held) None old new = ⊥
+HandledControl (Some names) (Some held) (Some back) old new = HandledEnds held.ends back.ends old new
+
 -- The same of the journal.
 pub record HandledOne {K : Type 0} (name : List ℕ) (sink sink' : K) (old new : List ℕ → Place K) : Type 0 where
   pub told : IfSome (old name).stands (λ t. sink ≡ t)
   pub kept : (new name).stands ≡ Some sink'
   pub others : OthersStay old new name
+
+-- The same of all ends of a plan.
+pub record HandledAll {S K C : Type 0} (plan : Plan) (held back : Ready S K C) (sink sink' : K) (old new : Book S K C) : Type 0 where
+  pub planned : ports_held held.ports.items ≡ ports_of plan.ports
+  pub ports : Handled held.ports.items back.ports.items old.ports new.ports
+  pub control : HandledControl plan.control held.control back.control old.control new.control
+  pub journal : HandledOne plan.journal sink sink' old.outputs new.outputs
 
 element : {X : Type 0} (xs : List X) (k : ℕ) → k < length xs → X
 element [] k inside = absurd (omega arith)
@@ -124,6 +150,26 @@ port_back {S} {K} {C} held old new n handled (inr (k, inside, found)) =
 pub ports_back : {S K C : Type 0} (held : List (PortEnds S K C)) (old new : ℕ → Place (Ends S K C)) → Handled held held old new → (n : ℕ) → IsBack (old n) (new n)
 ports_back held old new handled n = port_back held old new n handled (off_or_in held n)
 
+pub control_back : {S K C : Type 0} (names : Option (List ℕ × List ℕ)) (held : Option (ControlEnds S K C)) (old new : Place (Ends S K C)) → HandledControl names held held old new → IsBack old new
+control_back {S} {K} {C} None None old new handled = subst (λ (x : Place (Ends S K C)). IsBack old x) (sym handled) (back_from old.stands)
+control_back None (Some held) old new handled = absurd handled
+control_back (Some names) None old new handled = absurd handled
+control_back (Some names) (Some held) old new handled = both_told (λ told kept. kept ≡ told) old.stands new.stands held.ends held.ends handled.told handled.kept refl
+
+-- control whose place the plan doesn't name stays
+control_off : {S K C : Type 0} (names : Option (List ℕ × List ℕ)) (held back : Option (ControlEnds S K C)) (old new : Place (Ends S K C)) → HandledControl names held back old new → names ≡ None → new ≡ old
+control_off None None None old new handled none = handled
+control_off None None (Some back) old new handled none = absurd handled
+control_off None (Some held) back old new handled none = absurd handled
+control_off (Some names) held back old new handled none = cc
+
+-- and else ends are kept there
+control_kept : {S K C : Type 0} (names : Option (List ℕ × List ℕ)) (held back : Option (ControlEnds S K C)) (old new : Place (Ends S K C)) → HandledControl names held back old new → IsSome names → IsSome new.stands
+control_kept None held back old new handled named = let t : false ≡ true = named in cc
+control_kept (Some names) None back old new handled named = absurd handled
+control_kept (Some names) (Some held) None old new handled named = absurd handled
+control_kept (Some names) (Some held) (Some back) old new handled named = is_some_of new.stands back.ends handled.kept
+
 cases_by : (a b : List ℕ) → (bytes_eq a b ≡ true) ⊎ (bytes_eq a b ≡ false) → (a ≡ b) ⊎ (a ≢ b)
 cases_by a b (inl same) = inl ((bytes_eq-Decides a b).0 same)
 cases_by a b (inr other) = inr (λ e. let t : bytes_eq a b ≡ true = (bytes_eq-Decides a b).1 e in cc)
@@ -153,33 +199,59 @@ unused_ends left written ends = record { gave = ([], front_nothing (left ends.so
 unused_sink : {K : Type 0} (written : K → Option (List ℕ)) (sink : K) → TookMore (written sink) (written sink)
 unused_sink written sink = ([], behind_nothing (written sink))
 
+keeps_control : {S K C : Type 0} (left : S → Option (List ℕ)) (written : K → Option (List ℕ)) (names : Option (List ℕ × List ℕ)) (held : Option (ControlEnds S K C)) (old new : Place (Ends S K C)) → HandledControl names held held old new → KeepsControl (IsUsed left written) names old new
+keeps_control left written None None old new handled = handled
+keeps_control left written None (Some held) old new handled = absurd handled
+keeps_control left written (Some names) None old new handled = absurd handled
+keeps_control left written (Some names) (Some held) old new handled = keeps_of (IsUsed left written) old new held.ends held.ends handled.told handled.kept (unused_ends left written held.ends)
+
 -- the ends of a session for which there was no memory are kept as they were
-pub keeps_all_of : {S K C : Type 0} (left : S → Option (List ℕ)) (written : K → Option (List ℕ)) (plan : Plan) (held : List (PortEnds S K C)) (sink : K) (old new : Book S K C) → ports_held held ≡ ports_of plan.ports → Handled held held old.ports new.ports → HandledOne plan.journal sink sink old.outputs new.outputs
-    → KeepsAll left written plan old new
-keeps_all_of {S} {K} {C} left written plan held sink old new ports handled journal = record {
+pub keeps_all_of : {S K C : Type 0} (left : S → Option (List ℕ)) (written : K → Option (List ℕ)) (plan : Plan) (ready : Ready S K C) (sink : K) (old new : Book S K C) → HandledAll plan ready ready sink sink old new → KeepsAll left written plan old new
+keeps_all_of {S} {K} {C} left written plan ready sink old new all = record {
   ports = λ k d inside.
+      let held = ready.ports.items in
+      let ports = all.planned in
+      let handled = all.ports in
       let sizes = length-map plan.ports (λ (p : PortPlan). number_of p.number) in
       let size = size_of held plan.ports ports in
       let e = element held k (omega (arith, sizes, size, inside)) in
       subst (λ (n : ℕ). Keeps (IsUsed left written) (old.ports n) (new.ports n)) (sym (get_or_default (numbers_of plan.ports) k d 0 inside ∙ number_at held plan.ports k e ports (omega (arith, sizes, size, inside))))
       (keeps_at (IsUsed left written) held held old.ports new.ports k e handled (omega (arith, sizes, size, inside)) (unused_ends left written (get_or held k e).ends));
-  journal = keeps_of (λ told kept. TookMore (written told) (written kept)) _ _ sink sink journal.told journal.kept (unused_sink written sink);
+  control = keeps_control left written plan.control ready.control old.control new.control all.control;
+  journal = keeps_of (λ told kept. TookMore (written told) (written kept)) _ _ sink sink all.journal.told all.journal.kept (unused_sink written sink);
 }
 
-pub off_plan : {S K C : Type 0} (plan : Plan) (held back : List (PortEnds S K C)) (sink sink' : K) (old new : Book S K C) → ports_held held ≡ ports_of plan.ports → Handled held back old.ports new.ports → HandledOne plan.journal sink sink' old.outputs new.outputs → IsOffPlanSame plan old new
-off_plan {S} {K} {C} plan held back sink sink' old new ports handled journal = record {
-  ports = λ n away. handled.others n (λ k d inside same.
+pub off_plan : {S K C : Type 0} (plan : Plan) (held back : Ready S K C) (sink sink' : K) (old new : Book S K C) → HandledAll plan held back sink sink' old new → IsOffPlanSame plan old new
+off_plan {S} {K} {C} plan held back sink sink' old new all = record {
+  ports = λ n away. all.ports.others n (λ k d inside same.
       let sizes = length-map plan.ports (λ (p : PortPlan). number_of p.number) in
-      let size = size_of held plan.ports ports in
-      away k 0 (omega (arith, sizes, size, inside)) (number_at held plan.ports k d ports inside ∙ same));
-  outputs = journal.others;
+      let size = size_of held.ports.items plan.ports all.planned in
+      away k 0 (omega (arith, sizes, size, inside)) (number_at held.ports.items plan.ports k d all.planned inside ∙ same));
+  control = λ none. control_off plan.control held.control back.control old.control new.control all.control none;
+  outputs = all.journal.others;
 }
+
+-- where the ends of control that are held were served, those in their place were
+serves_control : {S K C : Type 0} (left : S → Option (List ℕ)) (written : K → Option (List ℕ)) (source_faults : S → ℕ) (sink_faults : K → ℕ) (plan : Plan) (past : List Row) (names : Option (List ℕ × List ℕ)) (held back : Option (ControlEnds S K C)) (lines : Option lines_of.Input) (stop : Option ℕ) (old new : Place (Ends S K C))
+    → HandledControl names held back old new → ServesControl left written source_faults sink_faults plan empty past held back lines stop
+    → ServesControlPlace left written source_faults sink_faults plan past names lines stop old new
+serves_control left written source_faults sink_faults plan past None None None None stop old new handled serves = handled
+serves_control left written source_faults sink_faults plan past None None None (Some input) stop old new handled serves = absurd serves
+serves_control left written source_faults sink_faults plan past None None (Some back) lines stop old new handled serves = absurd handled
+serves_control left written source_faults sink_faults plan past None (Some held) back lines stop old new handled serves = absurd handled
+serves_control left written source_faults sink_faults plan past (Some names) None back lines stop old new handled serves = absurd handled
+serves_control left written source_faults sink_faults plan past (Some names) (Some held) None lines stop old new handled serves = absurd handled
+serves_control left written source_faults sink_faults plan past (Some names) (Some held) (Some back) None stop old new handled serves = absurd serves
+serves_control left written source_faults sink_faults plan past (Some names) (Some held) (Some back) (Some input) stop old new handled serves =
+    keeps_of (IsControlServed left written source_faults sink_faults plan empty past input stop) old new held.ends back.ends handled.told handled.kept serves
 
 -- where the ends that are held were served, those in their places were
-serves_places : {S K C : Type 0} (left : S → Option (List ℕ)) (written : K → Option (List ℕ)) (source_faults : S → ℕ) (sink_faults : K → ℕ) (plan : Plan) (past : List Row) (held back : List (PortEnds S K C)) (old new : ℕ → Place (Ends S K C))
-    → ports_held held ≡ ports_of plan.ports → Handled held back old new → All IsReadAnew held → ServesEnds left written source_faults sink_faults plan empty past held back
-    → ServesPorts plan empty past (λ place port input stop. Keeps (IsServed left written source_faults sink_faults (Arrive classic_kinds) plan empty past port input stop) (old port) (new port))
-serves_places {S} {K} {C} left written source_faults sink_faults plan past held back old new ports handled anew serves = record {
+serves_places : {S K C : Type 0} (left : S → Option (List ℕ)) (written : K → Option (List ℕ)) (source_faults : S → ℕ) (sink_faults : K → ℕ) (plan : Plan) (past : List Row) (control control' : Option (ControlEnds S K C)) (held back : List (PortEnds S K C)) (place place' : Place (Ends S K C)) (old new : ℕ → Place (Ends S K C))
+    → HandledControl plan.control control control' place place' → ports_held held ≡ ports_of plan.ports → Handled held back old new → All IsReadAnew held → ServesEnds left written source_faults sink_faults plan empty past control control' held back
+    → ServesPorts plan empty past (λ lines stop. ServesControlPlace left written source_faults sink_faults plan past plan.control lines stop place place') (λ at port input stop. Keeps (IsServed left written source_faults sink_faults (Arrive classic_kinds) plan empty past port input stop) (old port) (new port))
+serves_places {S} {K} {C} left written source_faults sink_faults plan past control control' held back place place' old new handled_control ports handled anew serves = record {
+  lines = serves.lines;
+  control = serves_control left written source_faults sink_faults plan past plan.control control control' serves.lines serves.stops.control place place' handled_control serves.control;
   inputs = serves.inputs;
   stops = serves.stops;
   size = serves.size;
@@ -197,19 +269,18 @@ serves_places {S} {K} {C} left written source_faults sink_faults plan past held 
 }
 
 -- what a session was to the ends is what it was to the places
-pub session_of : {S K C : Type 0} (left : S → Option (List ℕ)) (written : K → Option (List ℕ)) (source_faults : S → ℕ) (sink_faults : K → ℕ) (plan : Plan) (Says : List ℕ → Type 0) (held back : List (PortEnds S K C)) (sink sink' : K) (past : List Row) (journal_written : Bool) (old new : Book S K C) (status : ℕ)
-    → ports_held held ≡ ports_of plan.ports → Handled held back old.ports new.ports → HandledOne plan.journal sink sink' old.outputs new.outputs
-    → All IsReadAnew held → IsPlayed left written source_faults sink_faults plan past held back sink sink' journal_written
+pub session_of : {S K C : Type 0} (left : S → Option (List ℕ)) (written : K → Option (List ℕ)) (source_faults : S → ℕ) (sink_faults : K → ℕ) (plan : Plan) (Says : List ℕ → Type 0) (held back : Ready S K C) (sink sink' : K) (past : List Row) (journal_written : Bool) (old new : Book S K C) (status : ℕ)
+    → HandledAll plan held back sink sink' old new → All IsReadAnew held.ports.items → IsPlayed left written source_faults sink_faults plan past held back sink sink' journal_written
     → IsSummed written sink_faults Says past journal_written (old.std Out) (new.std Out) status
     → IsSessionOf left written source_faults sink_faults plan Says old new status
-session_of left written source_faults sink_faults plan Says held back sink sink' past journal_written old new status ports handled journal anew played summed = record {
-  elsewhere = off_plan plan held back sink sink' old new ports handled journal;
+session_of left written source_faults sink_faults plan Says held back sink sink' past journal_written old new status all anew played summed = record {
+  elsewhere = off_plan plan held back sink sink' old new all;
   did = record {
     past = past;
     legal = played.legal;
-    serves = serves_places left written source_faults sink_faults plan past held back old.ports new.ports ports handled anew played.serves;
+    serves = serves_places left written source_faults sink_faults plan past held.control back.control held.ports.items back.ports.items old.control new.control old.ports new.ports all.control all.planned all.ports anew played.serves;
     journal_written = journal_written;
-    journal = keeps_of (TookOrPart sink_faults written journal_written (journal_text address_text plan (reverse past))) _ _ sink sink' journal.told journal.kept played.journal_was;
+    journal = keeps_of (TookOrPart sink_faults written journal_written (journal_text address_text plan (reverse past))) _ _ sink sink' all.journal.told all.journal.kept played.journal_was;
     tells = played.tells;
     alone = λ plan' past' other. journal_tells address_text written-IsAddressText plan plan' past past' _ played.tells other;
     summed = summed;
@@ -262,8 +333,8 @@ off_held {S} {K} {C} held numbers rest n all away = λ k d inside same.
 
 -- an opening of a port failed, and what was open is kept
 pub port_unopened : {S K C : Type 0} (plan : Plan) (Says : List ℕ → Type 0) (held : List (PortEnds S K C)) (port : Port) (old new : Book S K C) → IsStrictlyIncreasing (numbers_of plan.ports) → IsNextBehind port (ports_held held) (ports_of plan.ports)
-    → Handled held held old.ports new.ports → new.outputs ≡ old.outputs → Says (cannot_open_line (port_name (number_of port))) → IsPortUnopened plan Says old new
-port_unopened {S} {K} {C} plan Says held port old new rising (later, all) handled outputs told =
+    → Handled held held old.ports new.ports → new.control ≡ old.control → new.outputs ≡ old.outputs → Says (cannot_open_line (port_name (number_of port))) → IsPortUnopened plan Says old new
+port_unopened {S} {K} {C} plan Says held port old new rising (later, all) handled control outputs told =
     let whole : numbers_of plan.ports ≡ map number_of (ports_held held) ++ number_of port ∷ map number_of later = numbers_are plan.ports ∙ ap (map number_of) all ∙ map-append number_of (ports_held held) (port ∷ later) in
     record {
       before = map number_of (ports_held held);
@@ -272,22 +343,52 @@ port_unopened {S} {K} {C} plan Says held port old new rising (later, all) handle
       all = whole;
       kept = held_kept held held old.ports new.ports handled;
       same = later_same held held old.ports new.ports (numbers_of plan.ports) (number_of port ∷ map number_of later) rising whole handled;
+      control = control;
       outputs = outputs;
       elsewhere = record {
         ports = λ n away. handled.others n (off_held held (numbers_of plan.ports) (number_of port ∷ map number_of later) n whole away);
+        control = λ none. control;
         outputs = λ other apart. ap (λ (o : List ℕ → Place K). o other) outputs;
       };
       errors = told;
     }
 
--- the opening of the journal failed, and all ports are kept
-pub journal_unopened : {S K C : Type 0} (plan : Plan) (Says : List ℕ → Type 0) (held : List (PortEnds S K C)) (old new : Book S K C) → ports_held held ≡ ports_of plan.ports
-    → Handled held held old.ports new.ports → ((name : List ℕ) → new.outputs name ≡ old.outputs name) → Says (cannot_open_line journal_word) → IsJournalUnopened plan Says old new
-journal_unopened {S} {K} {C} plan Says held old new ports handled outputs told = record {
-  kept = subst (λ (l : List ℕ). All (λ n. IsSome (new.ports n).stands) l) (sym (numbers_are plan.ports ∙ ap (map number_of) (sym ports))) (held_kept held held old.ports new.ports handled);
+-- where all ports of a plan are kept
+
+ports_kept : {S K C : Type 0} (plan : Plan) (held : List (PortEnds S K C)) (old new : ℕ → Place (Ends S K C)) → ports_held held ≡ ports_of plan.ports → Handled held held old new → All (λ n. IsSome (new n).stands) (numbers_of plan.ports)
+ports_kept plan held old new ports handled =
+    subst (λ (l : List ℕ). All (λ n. IsSome (new n).stands) l) (sym (numbers_are plan.ports ∙ ap (map number_of) (sym ports))) (held_kept held held old new handled)
+
+ports_off : {S K C : Type 0} (plan : Plan) (held : List (PortEnds S K C)) (old new : ℕ → Place (Ends S K C)) → ports_held held ≡ ports_of plan.ports → Handled held held old new → (n : ℕ) → All (λ m. m ≢ n) (numbers_of plan.ports) → new n ≡ old n
+ports_off plan held old new ports handled n away =
+    handled.others n (off_held held (numbers_of plan.ports) [] n (numbers_are plan.ports ∙ ap (map number_of) (sym ports) ∙ sym (append-nil (map number_of (ports_held held)))) away)
+
+-- the opening of control failed, and all ports are kept
+pub control_unopened : {S K C : Type 0} (plan : Plan) (Says : List ℕ → Type 0) (held : List (PortEnds S K C)) (old new : Book S K C) → IsSome plan.control → ports_held held ≡ ports_of plan.ports
+    → Handled held held old.ports new.ports → new.control ≡ old.control → new.outputs ≡ old.outputs → Says (cannot_open_line control_word) → IsControlUnopened plan Says old new
+control_unopened {S} {K} {C} plan Says held old new named ports handled control outputs told = record {
+  named = named;
+  kept = ports_kept plan held old.ports new.ports ports handled;
+  control = control;
   outputs = outputs;
   elsewhere = record {
-    ports = λ n away. handled.others n (off_held held (numbers_of plan.ports) [] n (numbers_are plan.ports ∙ ap (map number_of) (sym ports) ∙ sym (append-nil (map number_of (ports_held held)))) away);
+    ports = ports_off plan held old.ports new.ports ports handled;
+    control = λ none. control;
+    outputs = λ other apart. ap (λ (o : List ℕ → Place K). o other) outputs;
+  };
+  errors = told;
+}
+
+-- the opening of the journal failed, and all ports and control are kept
+pub journal_unopened : {S K C : Type 0} (plan : Plan) (Says : List ℕ → Type 0) (held : List (PortEnds S K C)) (control : Option (ControlEnds S K C)) (old new : Book S K C) → ports_held held ≡ ports_of plan.ports
+    → Handled held held old.ports new.ports → HandledControl plan.control control control old.control new.control → ((name : List ℕ) → new.outputs name ≡ old.outputs name) → Says (cannot_open_line journal_word) → IsJournalUnopened plan Says old new
+journal_unopened plan Says held control old new ports handled handled_control outputs told = record {
+  kept = ports_kept plan held old.ports new.ports ports handled;
+  control = λ named. control_kept plan.control control control old.control new.control handled_control named;
+  outputs = outputs;
+  elsewhere = record {
+    ports = ports_off plan held old.ports new.ports ports handled;
+    control = λ none. control_off plan.control control control old.control new.control handled_control none;
     outputs = λ other apart. outputs other;
   };
   errors = told;

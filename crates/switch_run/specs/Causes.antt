@@ -1,14 +1,15 @@
 -- When each status comes.
-use Rattle.std.specs.Prelude.{◌≡◌, ◌<◌, ◌==◌, ◌≢◌, ◌⊎◌, ℕ, Bool, true, false, List, [], ◌∷◌, Option, Some, IfSome, IsSomeAnd, All}
+use Rattle.std.specs.Prelude.{◌≡◌, ◌<◌, ◌==◌, ◌≢◌, ◌⊎◌, ℕ, Bool, true, false, List, [], ◌∷◌, Option, None, Some, IfSome, IsSomeAnd, All}
 use Rattle.std.specs.List.{list_any}
 use Rattle.savi_kinds.specs.declared.plan.Plan.{Plan}
 use Rattle.savi_kinds.specs.ValidPlan.{numbers_of}
 use Rattle.savi_ends.specs.declared.world.Std.TheVariants.{Out}
+use Rattle.savi_ends.specs.declared.world.Ends.{Ends}
 use Rattle.savi_ends.specs.Octets.{behind, IsFront}
 use Rattle.savi_ends.specs.Places.{Place, Book, OthersStay}
 use Rattle.run_config.specs.Configs.{HasFault}
 use Rattle.port_worker.specs.SentFrames.{TookMore}
-use Rattle.port_worker.specs.Served.{IsUsed}
+use Rattle.port_worker.specs.Used.{IsUsed}
 
 -- a read of the source of this port has failed
 abbrev pub HasReadFault : {S K C : Type 0} → (S → ℕ) → Book S K C → ℕ → Type 0
@@ -18,14 +19,15 @@ HasReadFault faults book port = HasFault (λ ends. faults ends.source) (book.por
 abbrev pub HasWriteFault : {S K C : Type 0} → (K → ℕ) → Book S K C → ℕ → Type 0
 HasWriteFault faults book port = HasFault (λ ends. faults ends.sink) (book.ports port)
 
--- a read has failed: of the configuration, or of the source of a port
+-- a read has failed: of the configuration, of the source of a port, or of that of control
 abbrev pub HasSomeReadFault : {S K C : Type 0} → (S → ℕ) → List ℕ → Book S K C → Type 0
-HasSomeReadFault faults file book = HasFault faults (book.inputs file) ⊎ ((port : ℕ) × HasReadFault faults book port)
+HasSomeReadFault faults file book =
+    HasFault faults (book.inputs file) ⊎ (((port : ℕ) × HasReadFault faults book port) ⊎ HasFault (λ ends. faults ends.source) book.control)
 
--- a write has failed: of the sink of a port, of an output by name, or of standard output
+-- a write has failed: of the sink of a port or of that of control, of an output by name, or of standard output
 abbrev pub HasSomeWriteFault : {S K C : Type 0} → (K → ℕ) → Book S K C → Type 0
 HasSomeWriteFault faults book =
-    ((port : ℕ) × HasWriteFault faults book port) ⊎ (((name : List ℕ) × HasFault faults (book.outputs name)) ⊎ HasFault faults (book.std Out))
+    ((port : ℕ) × HasWriteFault faults book port) ⊎ (HasFault (λ ends. faults ends.sink) book.control ⊎ (((name : List ℕ) × HasFault faults (book.outputs name)) ⊎ HasFault faults (book.std Out)))
 
 -- the number is one of these
 abbrev pub IsOneOf : List ℕ → ℕ → Type 0
@@ -61,23 +63,32 @@ abbrev pub TookOrPart : {K : Type 0} → (K → ℕ) → (K → Option (List ℕ
 TookOrPart faults written true octets old new = written new ≡ behind (written old) octets
 TookOrPart faults written false octets old new = (0 < faults new) × ((front : List ℕ) × IsFront front octets × (written new ≡ behind (written old) front))
 
--- The ends of each port of the plan are kept, read and written in their own place, and so is the journal's sink.
+-- The same of the place of control, where the plan names its input and output; where it doesn't, the place wasn't touched.
+abbrev pub KeepsControl : {S K C : Type 0} → (Ends S K C → Ends S K C → Type 0) → Option (List ℕ × List ℕ) → Place (Ends S K C) → Place (Ends S K C) → Type 0
+KeepsControl Holds None old new = new ≡ old
+KeepsControl Holds (Some names) old new = Keeps Holds old new
+
+-- The ends of each port of the plan are kept, read and written in their own place, and so are those of control, where the plan
+-- names them, and the journal's sink.
 pub record KeepsAll {S K C : Type 0} (left : S → Option (List ℕ)) (written : K → Option (List ℕ)) (plan : Plan) (old new : Book S K C) : Type 0 where
   pub ports : All (λ port. Keeps (IsUsed left written) (old.ports port) (new.ports port)) (numbers_of plan.ports)
+  pub control : KeepsControl (IsUsed left written) plan.control old.control new.control
   pub journal : Keeps (λ told kept. TookMore (written told) (written kept)) (old.outputs plan.journal) (new.outputs plan.journal)
 
 -- the end that is told in this place is kept there as it was
 abbrev pub IsBack : {X : Type 0} → Place X → Place X → Type 0
 IsBack old new = IfSome old.stands (λ told. IsSomeAnd new.stands (λ kept. kept ≡ told))
 
--- the ends of every port and of every output, where the world tells them, are as they were
+-- the ends of every port, of control and of every output, where the world tells them, are as they were
 pub record IsUnused {S K C : Type 0} (old new : Book S K C) : Type 0 where
   pub ports : (port : ℕ) → IsBack (old.ports port) (new.ports port)
+  pub control : IsBack old.control new.control
   pub outputs : (name : List ℕ) → IsBack (old.outputs name) (new.outputs name)
 
--- no port and no output by name was touched
+-- neither control nor any port nor any output by name was touched
 pub record IsUnserved {S K C : Type 0} (old new : Book S K C) : Type 0 where
   pub ports : new.ports ≡ old.ports
+  pub control : new.control ≡ old.control
   pub outputs : new.outputs ≡ old.outputs
 
 -- nothing was touched but standard error
@@ -85,13 +96,14 @@ pub record IsUntouched {S K C : Type 0} (old new : Book S K C) : Type 0 where
   pub out : new.std Out ≡ old.std Out
   pub rest : new ≡ record old { std = new.std }
 
--- neither control nor the ticker was touched, and no input by name but this one
+-- the ticker wasn't touched, and no input by name but this one
 pub record IsElsewhereSame {S K C : Type 0} (file : List ℕ) (old new : Book S K C) : Type 0 where
-  pub control : new.control ≡ old.control
   pub ticker : new.ticker ≡ old.ticker
   pub inputs : OthersStay old.inputs new.inputs file
 
--- with this plan no port but those of the plan was touched, and no output by name but the journal
+-- With this plan no port but those of the plan was touched, and no output by name but the journal, nor control where the plan
+-- names none.
 pub record IsOffPlanSame {S K C : Type 0} (plan : Plan) (old new : Book S K C) : Type 0 where
   pub ports : (port : ℕ) → All (λ n. n ≢ port) (numbers_of plan.ports) → new.ports port ≡ old.ports port
+  pub control : plan.control ≡ None → new.control ≡ old.control
   pub outputs : OthersStay old.outputs new.outputs plan.journal

@@ -1,12 +1,14 @@
 -- What a run has done whose session began: one history stands in all of it.
-use Rattle.std.specs.Prelude.{◌≡◌, ℕ, ◌<◌, ◌⊎◌, ◌&&◌, ◌||◌, not, Bool, true, false, if◌then◌else◌, List, [], ◌∷◌, ◌++◌, reverse, Option, IsSome, All}
+use Rattle.std.specs.Prelude.{◌≡◌, ℕ, ◌<◌, ◌⊎◌, ◌&&◌, ◌||◌, not, Bool, true, false, if◌then◌else◌, List, [], ◌∷◌, ◌++◌, reverse, Option, None, Some, IsSome, All}
 use Rattle.savi_kinds.specs.declared.plan.Plan.{Plan}
 use Rattle.savi_kinds.specs.ValidPlan.{numbers_of}
 use Rattle.savi_ends.specs.declared.world.Std.TheVariants.{Out, Err}
+use Rattle.savi_ends.specs.declared.world.Ends.{Ends}
 use Rattle.savi_ends.specs.Octets.{behind}
 use Rattle.savi_ends.specs.Places.{Place, Book}
 use Rattle.pcap_io.specs.Kinds.{classic_kinds}
 use Rattle.pcap_io.specs.Runs.{Arrive}
+use Rattle.cli_lang.specs.Arrivals as control
 use Rattle.hist_store.specs.Rows.{Row}
 use Rattle.hist_store.specs.JournalTexts.{journal_text, address_text}
 use Rattle.savi_history.specs.Bases.{empty}
@@ -19,7 +21,8 @@ use Rattle.savi_history.specs.Journals.{IsJournalOf, IsSame}
 use Rattle.savi_history.specs.Summary.{summary_of, summary_text}
 use Rattle.savi_conf.specs.declared.fault.ConfFault.{ConfFault}
 use Rattle.run_config.specs.Configs.{HasFault, IsConfigured, IsReadFrom, IsRefused}
-use Rattle.switch_report.specs.RunLines.{cannot_open_line, config_line, write_failed_line, read_failed_line, port_name, journal_word}
+use Rattle.switch_report.specs.RunLines.{cannot_open_line, config_line, write_failed_line, read_failed_line, port_name, control_word, journal_word}
+use Rattle.port_worker.specs.ControlServed.{IsControlServed}
 use Rattle.port_worker.specs.Served.{IsServed, ServesPorts}
 use Rattle.switch_run.specs.Causes.{IsUnserved, Keeps, KeepsAll, IsOffPlanSame, TookOrPart}
 
@@ -51,17 +54,27 @@ pub record IsSummed {K : Type 0} (written : K → Option (List ℕ)) (faults : K
   pub errors : Says (end_lines past ++ journal_lines journal_written)
   pub cause : status ≡ status_of (journal_written && summary_written) past
 
--- A replay with this plan: one history, legal and finished, is the replay of what the sources of the plan's ports gave to
--- sinks that stop so; the ends of each port are kept in their own place, and the history fits what was given up and taken
--- there; the journal took its text, which is that of no other legal history, or a front of it where a write failed; the
--- history is summed up on the standard outputs and in the status; no advertisement and no hidden fragment passed the port of a
--- host or a server; and where sources are validated, an IPv6 frame passed such a port exactly where no rule on messages
--- stopped it and its source was live there, or a named exception permitted it.
+-- What a history was to the place of control, by the names of the plan. Where it names control's input and output, their ends
+-- are kept there, and they were served: control has an input. Where it doesn't, the place wasn't touched, and control has none.
+abbrev pub ServesControlPlace : {S K C : Type 0} → (S → Option (List ℕ)) → (K → Option (List ℕ)) → (S → ℕ) → (K → ℕ) → Plan → List Row → Option (List ℕ × List ℕ) → Option control.Input → Option ℕ → Place (Ends S K C) → Place (Ends S K C) → Type 0
+ServesControlPlace left written source_faults sink_faults plan past None None stop old new = new ≡ old
+ServesControlPlace left written source_faults sink_faults plan past None (Some input) stop old new = ⊥
+ServesControlPlace left written source_faults sink_faults plan past (Some names) None stop old new = ⊥
+ServesControlPlace left written source_faults sink_faults plan past (Some names) (Some input) stop old new =
+    Keeps (IsControlServed left written source_faults sink_faults plan empty past input stop) old new
+
+-- A replay with this plan: one history, legal and finished, is the replay of what the sources of control, where the plan names
+-- it, and of the plan's ports gave to sinks that stop so; the ends of control and of each port are kept in their own place, and
+-- the history fits what was given up and taken there; the journal took its text, which is that of no other legal history, or a
+-- front of it where a write failed; the history is summed up on the standard outputs and in the status; no advertisement and no
+-- hidden fragment passed the port of a host or a server; and where sources are validated, an IPv6 frame passed such a port
+-- exactly where no rule on messages stopped it and its source was live there, or a named exception permitted it.
 pub record IsReplayOf {S K C : Type 0} (left : S → Option (List ℕ)) (written : K → Option (List ℕ)) (source_faults : S → ℕ) (sink_faults : K → ℕ) (plan : Plan) (Says : List ℕ → Type 0) (old new : Book S K C) (status : ℕ) : Type 0 where
   pub past : List Row
   pub legal : IsLegal plan empty past
-  pub serves : ServesPorts plan empty past (λ place port input stop.
-      Keeps (IsServed left written source_faults sink_faults (Arrive classic_kinds) plan empty past port input stop) (old.ports port) (new.ports port))
+  pub serves : ServesPorts plan empty past
+      (λ lines stop. ServesControlPlace left written source_faults sink_faults plan past plan.control lines stop old.control new.control)
+      (λ place port input stop. Keeps (IsServed left written source_faults sink_faults (Arrive classic_kinds) plan empty past port input stop) (old.ports port) (new.ports port))
   -- whether the journal was written
   pub journal_written : Bool
   pub journal : Keeps (TookOrPart sink_faults written journal_written (journal_text address_text plan (reverse past))) (old.outputs plan.journal) (new.outputs plan.journal)
@@ -72,7 +85,7 @@ pub record IsReplayOf {S K C : Type 0} (left : S → Option (List ℕ)) (written
   -- where sources are validated
   pub access : plan.savi ≡ true → AllPassedRightly plan empty past
 
--- A session of this plan: it was a replay, and no other port or output was touched.
+-- A session of this plan: it was a replay, and no other port or output was touched, nor control where the plan names none.
 pub record IsSessionOf {S K C : Type 0} (left : S → Option (List ℕ)) (written : K → Option (List ℕ)) (source_faults : S → ℕ) (sink_faults : K → ℕ) (plan : Plan) (Says : List ℕ → Type 0) (old new : Book S K C) (status : ℕ) : Type 0 where
   pub elsewhere : IsOffPlanSame plan old new
   pub did : IsReplayOf left written source_faults sink_faults plan Says old new status
@@ -99,7 +112,7 @@ pub record IsFileUnopened {S K C : Type 0} (file : List ℕ) (Says : List ℕ �
   pub place : new.inputs file ≡ old.inputs file
   pub unserved : IsUnserved old new
 
--- A port could not be opened: it and those behind it in the plan are as they were, and so is each output.
+-- A port could not be opened: it and those behind it in the plan are as they were, and so are control and each output.
 pub record IsPortUnopened {S K C : Type 0} (plan : Plan) (Says : List ℕ → Type 0) (old new : Book S K C) : Type 0 where
   pub before : List ℕ
   pub port : ℕ
@@ -107,21 +120,34 @@ pub record IsPortUnopened {S K C : Type 0} (plan : Plan) (Says : List ℕ → Ty
   pub all : numbers_of plan.ports ≡ before ++ port ∷ later
   pub kept : All (λ n. IsSome (new.ports n).stands) before
   pub same : All (λ n. new.ports n ≡ old.ports n) (port ∷ later)
+  pub control : new.control ≡ old.control
   pub outputs : new.outputs ≡ old.outputs
   pub elsewhere : IsOffPlanSame plan old new
   pub errors : Says (cannot_open_line (port_name port))
 
--- The journal could not be opened: the ends of each port are kept, and each output is as it was.
+-- The plan names control, and its ends could not be opened: the ends of each port are kept, and control and each output are as
+-- they were.
+pub record IsControlUnopened {S K C : Type 0} (plan : Plan) (Says : List ℕ → Type 0) (old new : Book S K C) : Type 0 where
+  pub named : IsSome plan.control
+  pub kept : All (λ n. IsSome (new.ports n).stands) (numbers_of plan.ports)
+  pub control : new.control ≡ old.control
+  pub outputs : new.outputs ≡ old.outputs
+  pub elsewhere : IsOffPlanSame plan old new
+  pub errors : Says (cannot_open_line control_word)
+
+-- The journal could not be opened: the ends of each port are kept, and those of control, where the plan names them, and each
+-- output is as it was.
 pub record IsJournalUnopened {S K C : Type 0} (plan : Plan) (Says : List ℕ → Type 0) (old new : Book S K C) : Type 0 where
   pub kept : All (λ n. IsSome (new.ports n).stands) (numbers_of plan.ports)
+  pub control : IsSome plan.control → IsSome new.control.stands
   pub outputs : (name : List ℕ) → new.outputs name ≡ old.outputs name
   pub elsewhere : IsOffPlanSame plan old new
   pub errors : Says (cannot_open_line journal_word)
 
 abbrev pub IsPartUnopened : {S K C : Type 0} → Plan → (List ℕ → Type 0) → Book S K C → Book S K C → Type 0
-IsPartUnopened plan Says old new = IsPortUnopened plan Says old new ⊎ IsJournalUnopened plan Says old new
+IsPartUnopened plan Says old new = IsPortUnopened plan Says old new ⊎ (IsControlUnopened plan Says old new ⊎ IsJournalUnopened plan Says old new)
 
--- A port or the journal of the plan that the configuration says could not be opened.
+-- A port, control or the journal of the plan that the configuration says could not be opened.
 pub record IsPlanUnopened {S K C : Type 0} (left : S → Option (List ℕ)) (file : List ℕ) (Says : List ℕ → Type 0) (old new : Book S K C) : Type 0 where
   pub plan : Plan
   pub configured : IsConfigured left (old.inputs file) plan
@@ -140,8 +166,9 @@ pub record IsNoPlan {S K C : Type 0} (left : S → Option (List ℕ)) (file : Li
   pub unserved : IsUnserved old new
   pub errors : Says (config_line fault)
 
--- There was no memory. The input of the configuration is as it was, or kept, and a front of it was read. Either no port and
--- no output was touched, or the ends of all ports of the plan and the journal are kept, and no others were touched.
+-- There was no memory. The input of the configuration is as it was, or kept, and a front of it was read. Either no port, no
+-- output and no ends of control were touched, or the ends of all ports of the plan, of control, where the plan names it, and of the
+-- journal are kept, and no others were touched.
 pub record IsUnplayed {S K C : Type 0} (left : S → Option (List ℕ)) (written : K → Option (List ℕ)) (file : List ℕ) (old new : Book S K C) : Type 0 where
   pub input : (new.inputs file ≡ old.inputs file) ⊎ IsReadFrom left (old.inputs file) (new.inputs file)
   pub ends : IsUnserved old new ⊎ ((plan : Plan) × IsConfigured left (old.inputs file) plan × KeepsAll left written plan old new × IsOffPlanSame plan old new)

@@ -2,9 +2,9 @@
 //! ports (`savi_ends`).
 //!
 //! The contract of `run` carries the theorem of the whole: where a session began there is one legal history of the plan that
-//! the configuration says, it is the replay of what the ports' sources gave to sinks that may fail, and the journal, each
-//! port's output, the summary, the lines on standard error and the status are those of that history, or, of what is written,
-//! a front where a write failed (`specs/Session.antt`).
+//! the configuration says, it is the replay of what the sources of control and of the ports gave to sinks that may fail, and
+//! the journal, the replies, each port's output, the summary, the lines on standard error and the status are those of that
+//! history, or, of what is written, a front where a write failed (`specs/Session.antt`).
 #![tactic(auto)]
 
 mod ends_told;

@@ -1,6 +1,7 @@
-//! A session over the ends of the ports of a plan and of a journal.
+//! A session over the ends of control and of the ports of a plan, and of a journal.
 
-ghost use Rattle.std.specs.Prelude.{◌≡◌, ◌≤◌, All, IfNone, IfSome, None, [], reverse};
+ghost use Rattle.std.specs.Prelude.{◌≡◌, ◌≤◌, All, IfNone, IfSome, None, [], is_some, reverse};
+ghost use Rattle.port_worker.specs.LineInputs.{IsControlUnheard};
 ghost use Rattle.port_worker.specs.Pairs.{EachPair};
 ghost use Rattle.port_worker.specs.Replays.{IsUnread, ports_held, ports_planned};
 ghost use Rattle.port_worker.specs.Served.{IsSamePort};
@@ -38,7 +39,7 @@ pub struct Played<S, K, C> {
     pub outcome: Option<Outcome>,
 }
 
-/// Replays what the ports have, and writes the journal.
+/// Replays what control and the ports have, and writes the journal.
 ///
 /// Without memory nothing is read or written.
 pub fn play<S: Source, K: Sink, C: Clock>(
@@ -50,10 +51,12 @@ pub fn play<S: Source, K: Sink, C: Clock>(
     requires built { IsBuilt plan }
     requires planned { ports_held ready.ports.items ≡ ports_planned plan }
     requires unread { All IsUnread ready.ports.items }
+    requires unheard { IsControlUnheard ready.control }
+    ensures control { is_some result.ready.control ≡ is_some ready.control }
     ensures ports { EachPair IsSamePort ready.ports.items result.ready.ports.items }
-    ensures none { IfNone result.outcome ((result.ready.ports.items ≡ ready.ports.items) × (journal.new ≡ journal.old)) }
+    ensures none { IfNone result.outcome ((result.ready ≡ ready) × (journal.new ≡ journal.old)) }
     ensures plan { IfSome result.outcome (λ o. o.core.plan ≡ plan) }
-    ensures played { IfSome result.outcome (λ o. IsPlayed S.left K.written S.faults K.faults plan o.core.past ready.ports.items result.ready.ports.items journal.old journal.new o.journal_written) }
+    ensures played { IfSome result.outcome (λ o. IsPlayed S.left K.written S.faults K.faults plan o.core.past ready result.ready journal.old journal.new o.journal_written) }
 {
     let mut buffer = match Buffer::make(alloc, JOURNAL_PIECE_OCTETS) {
         Ok(buffer) => buffer,

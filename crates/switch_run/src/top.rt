@@ -20,7 +20,7 @@ use run_config::{configure, file_of};
 use savi_ends::{Std, World};
 use savi_kinds::{Plan, Text};
 use std::alloc::Global;
-use switch_ports::{keep_all, open_all};
+use switch_ports::{keep_all, keep_control, open_all, open_control};
 use switch_report::{port_name, tell_memory, tell_unopened, tell_usage};
 
 /// There was no memory, before anything was read or written at a port.
@@ -42,8 +42,9 @@ pub const TOO_LONG: u8 = 8;
 
 /// Does what the words behind the program's name ask for, over this world, and answers the status.
 ///
-/// `replay FILE` replays the captures of the ports of the plan that the configuration FILE says. Statuses 0, 4, 6 and 8
-/// say that the session began, and 5 too, unless a read of the configuration failed; the other statuses have their causes.
+/// `replay FILE` replays the captures of the ports of the plan that the configuration FILE says, and takes the commands of
+/// control, where the plan names it. Statuses 0, 4, 6 and 8 say that the session began, and 5 too, unless a read of the
+/// configuration failed; the other statuses have their causes.
 pub fn run<W: World>(alloc: Global, words: &[String], world: &mut W) -> u8
     requires { HandedNothing W.S.faults W.K.faults (W.book world.old) }
 
@@ -73,6 +74,7 @@ fn perform<W: World>(alloc: Global, words: &[String], world: &mut W, errors: &mu
     requires inputs { (name : _) → IsReady (λ s. W.S.faults s ≡ 0) ((W.book world.old).inputs name) }
     requires outputs { (name : _) → IsReady (λ k. W.K.faults k ≡ 0) ((W.book world.old).outputs name) }
     requires ports { (n : _) → IsReady (BothFresh W.S.faults W.K.faults) ((W.book world.old).ports n) }
+    requires control { IsReady (BothFresh W.S.faults W.K.faults) (W.book world.old).control }
     requires out { IsReady (λ k. W.K.faults k ≡ 0) ((W.book world.old).std Std.Out) }
     ensures ran { IsRun W.S.left W.K.written W.S.faults W.K.faults (map string_bytes words.now) (ToldBy W.K.faults W.K.written errors.old errors.new) (W.book world.old) (W.book world.new) result }
     ensures others { OthersStay (W.book world.old).std (W.book world.new).std Std.Out }
@@ -91,6 +93,7 @@ fn replay_file<W: World>(alloc: Global, file: &str, world: &mut W, errors: &mut 
     requires inputs { (name : _) → IsReady (λ s. W.S.faults s ≡ 0) ((W.book world.old).inputs name) }
     requires outputs { (name : _) → IsReady (λ k. W.K.faults k ≡ 0) ((W.book world.old).outputs name) }
     requires ports { (n : _) → IsReady (BothFresh W.S.faults W.K.faults) ((W.book world.old).ports n) }
+    requires control { IsReady (BothFresh W.S.faults W.K.faults) (W.book world.old).control }
     requires out { IsReady (λ k. W.K.faults k ≡ 0) ((W.book world.old).std Std.Out) }
     ensures ran { IsRunOf W.S.left W.K.written W.S.faults W.K.faults file.now (ToldBy W.K.faults W.K.written errors.old errors.new) (W.book world.old) (W.book world.new) result }
     ensures others { OthersStay (W.book world.old).std (W.book world.new).std Std.Out }
@@ -101,11 +104,12 @@ fn replay_file<W: World>(alloc: Global, file: &str, world: &mut W, errors: &mut 
     }
 }
 
-// Replays a plan: its ports and its journal are opened, and kept again in the end.
+// Replays a plan: its ports, its control and its journal are opened, and kept again in the end.
 fn replay_plan<W: World>(alloc: Global, plan: Plan, world: &mut W, errors: &mut W::K) -> u8
     requires built { IsBuilt plan }
     requires outputs { (name : _) → IsReady (λ k. W.K.faults k ≡ 0) ((W.book world.old).outputs name) }
     requires ports { (n : _) → IsReady (BothFresh W.S.faults W.K.faults) ((W.book world.old).ports n) }
+    requires control { IsReady (BothFresh W.S.faults W.K.faults) (W.book world.old).control }
     requires out { IsReady (λ k. W.K.faults k ≡ 0) ((W.book world.old).std Std.Out) }
     ensures status { IsOneOf statuses result }
     ensures usage { result ≡ 2 → ⊥ }
@@ -118,7 +122,7 @@ fn replay_plan<W: World>(alloc: Global, plan: Plan, world: &mut W, errors: &mut 
     ensures quiet { IsOneOf quiet_statuses result → (W.book world.new).std Std.Out ≡ (W.book world.old).std Std.Out }
     ensures unused { IsOneOf unused_statuses result → IsUnused (W.book world.old) (W.book world.new) }
     ensures others { OthersStay (W.book world.old).std (W.book world.new).std Std.Out }
-    ensures rest { W.book world.new ≡ record (W.book world.old) { faults = (W.book world.new).faults; outputs = (W.book world.new).outputs; ports = (W.book world.new).ports; std = (W.book world.new).std } }
+    ensures rest { W.book world.new ≡ record (W.book world.old) { faults = (W.book world.new).faults; outputs = (W.book world.new).outputs; ports = (W.book world.new).ports; control = (W.book world.new).control; std = (W.book world.new).std } }
 {
     let Some((mut held, journal)) = room_for(alloc, &plan) else {
         let _put = tell_memory(errors);
@@ -129,16 +133,30 @@ fn replay_plan<W: World>(alloc: Global, plan: Plan, world: &mut W, errors: &mut 
         let _put = tell_unopened(errors, port_name(port).as_str());
         return OPEN_FAULT;
     }
+    let control = match open_control(&plan.control, world) {
+        Ok(control) => control,
+        Err(_) => {
+            keep_all(held, world);
+            let _put = tell_unopened(errors, "control");
+            return OPEN_FAULT;
+        }
+    };
     let mut sink = match world.output(journal.as_str()) {
         Ok(sink) => sink,
         Err(_) => {
             keep_all(held, world);
+            keep_control(control, world);
             let _put = tell_unopened(errors, "journal");
             return OPEN_FAULT;
         }
     };
-    let Played { ready, outcome } = play(alloc, plan, Ready { ports: held }, &mut sink);
+    let opened = Ready {
+        control,
+        ports: held,
+    };
+    let Played { ready, outcome } = play(alloc, plan, opened, &mut sink);
     keep_all(ready.ports, world);
+    keep_control(ready.control, world);
     world.keep_output(journal.as_str(), sink);
     conclude(outcome, world, errors)
 }

@@ -1,4 +1,5 @@
 use Rattle.std.proofs.Common.{◌≡◌, ◌+◌, ◌-◌, length}
+use Rattle.port_worker.proofs.ControlRunning.{control_weight}
 use Rattle.port_worker.proofs.Running.{Running}
 use Rattle.port_worker.proofs.Measures.{undone}
 use Rattle.port_worker.specs.Pairs.{EachPair}
@@ -8,9 +9,9 @@ use Rattle.port_worker.proofs.turns.replay.Given as goal
 abbrev pub invariant-turns : goal.invariant-turns
 invariant-turns g l = record {
   same_plan : l.core.plan ≡ l.fn.core.plan;
-  runs : Running g.S.Source.left g.K.Sink.written g.S.Source.faults g.K.Sink.faults l.fn.core.plan l.fn.ports l.ports l.core.past;
+  runs : Running g.S.Source.left g.K.Sink.written g.S.Source.faults g.K.Sink.faults l.fn.core.plan l.fn.control l.control l.fn.ports l.ports l.core.past;
   fits : EachPair (FitsSoFar g.S.Source.left g.S.Source.faults l.core.past) l.fn.ports l.ports;
 }
 
 abbrev pub decreases-turns : goal.decreases-turns
-decreases-turns g l = (l.fn.core.plan.entries - length l.core.past) + undone l.ports
+decreases-turns g l = (l.fn.core.plan.entries - length l.core.past) + (undone l.ports + control_weight l.control)

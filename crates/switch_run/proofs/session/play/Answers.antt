@@ -1,5 +1,10 @@
-use Rattle.switch_run.proofs.Sessions.{played_of}
+use Rattle.switch_run.proofs.Sessions.{played_of, same_control}
 use Rattle.switch_run.proofs.session.play.Goals as goal
+
+pub returns-clause-control : goal.returns-clause-control
+returns-clause-control g c =
+    let serves = c.in-Ok-replay_session.ensures.serves in
+    same_control g.S.Source.left g.K.Sink.written g.S.Source.faults g.K.Sink.faults c.args.plan c.in-Ok-replay_session.closed.core.past c.args.ready.control _ serves.lines serves.stops.control serves.control
 
 pub returns-clause-played : goal.returns-clause-played
 returns-clause-played g c =

@@ -5,7 +5,7 @@ use Rattle.savi_ends.specs.Places.{Book, Place}
 use Rattle.run_config.specs.declared.refusal.Refusal.{Refusal}
 use Rattle.switch_run.proofs.Refusing.{refuses}
 use Rattle.run_config.specs.Configs.{IsReadFrom}
-use Rattle.switch_run.proofs.Running.{configured_session, configured_unplayed, moved_part, moved_unused}
+use Rattle.switch_run.proofs.Running.{configured_session, configured_unplayed, moved_part, moved_unused, read_before, same_places}
 use Rattle.switch_run.proofs.top.replay_file.Given as given
 use Rattle.switch_run.proofs.top.replay_file.Goals as goal
 
@@ -21,8 +21,7 @@ returns-in-Ok-clause-ran g c =
     let S = g.row.W-S.Denot in
     let K = g.row.W-K.Denot in
     let C = g.row.W-C.Denot in
-    let ports = sym (ap (λ (b : Book S K C). b.ports) c.in-Ok.ensures.rest) in
-    let outputs = sym (ap (λ (b : Book S K C). b.outputs) c.in-Ok.ensures.rest) in
+    let before = read_before _ _ c.in-Ok.ensures.rest in
     record {
       one_of = c.replay_plan.ensures.status;
       usage = c.replay_plan.ensures.usage;
@@ -37,7 +36,7 @@ returns-in-Ok-clause-ran g c =
         plan = c.in-Ok.plan;
         configured = c.in-Ok.ensures.configured;
         input = input_still g c;
-        part = moved_part c.in-Ok.plan _ _ _ _ _ _ ports refl outputs refl (λ lines told. told) (c.replay_plan.ensures.unopened seven);
+        part = moved_part c.in-Ok.plan _ _ _ _ _ _ before (same_places _) (λ lines told. told) (c.replay_plan.ensures.unopened seven);
       });
       session = λ one_of. inr (record {
         plan = c.in-Ok.plan;
@@ -46,9 +45,8 @@ returns-in-Ok-clause-ran g c =
         session = configured_session g.W.S.Source.left g.W.K.Sink.written g.W.S.Source.faults g.W.K.Sink.faults c.in-Ok.plan _ _ _ _ _ c.in-Ok.ensures.rest (c.replay_plan.ensures.session one_of);
       });
       quiet = λ one_of. c.replay_plan.ensures.quiet one_of ∙ ap (λ (b : Book S K C). b.std Out) c.in-Ok.ensures.rest;
-      unused = λ one_of. moved_unused _ _ _ _ ports refl outputs refl (c.replay_plan.ensures.unused one_of);
+      unused = λ one_of. moved_unused _ _ _ _ before (same_places _) (c.replay_plan.ensures.unused one_of);
       elsewhere = record {
-        control = ap (λ (b : Book S K C). b.control) c.replay_plan.ensures.rest ∙ ap (λ (b : Book S K C). b.control) c.in-Ok.ensures.rest;
         ticker = ap (λ (b : Book S K C). b.ticker) c.replay_plan.ensures.rest ∙ ap (λ (b : Book S K C). b.ticker) c.in-Ok.ensures.rest;
         inputs = λ other apart. ap (λ (b : Book S K C). b.inputs other) c.replay_plan.ensures.rest ∙ c.in-Ok.ensures.others other apart;
       };
@@ -72,10 +70,9 @@ returns-in-Err-clause-ran g c =
     (λ e. c.in-Err.ensures.as_it_was (err_of _ _ e))
     (λ apart other. c.in-Err.ensures.kept (λ e. apart (of_err _ _ e)) (λ e. other (of_err _ _ e)))
     (λ e. c.in-Err.ensures.memory (err_of _ _ e))
-    (record { ports = ap (λ (b : Book S K C). b.ports) c.in-Err.ensures.rest; outputs = ap (λ (b : Book S K C). b.outputs) c.in-Err.ensures.rest })
+    (record { ports = ap (λ (b : Book S K C). b.ports) c.in-Err.ensures.rest; control = ap (λ (b : Book S K C). b.control) c.in-Err.ensures.rest; outputs = ap (λ (b : Book S K C). b.outputs) c.in-Err.ensures.rest })
     (ap (λ (b : Book S K C). b.std Out) c.in-Err.ensures.rest)
     (record {
-      control = ap (λ (b : Book S K C). b.control) c.in-Err.ensures.rest;
       ticker = ap (λ (b : Book S K C). b.ticker) c.in-Err.ensures.rest;
       inputs = c.in-Err.ensures.others;
     })

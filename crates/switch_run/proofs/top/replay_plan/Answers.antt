@@ -5,14 +5,16 @@ use Rattle.savi_ends.specs.declared.world.Ends.{Ends}
 use Rattle.savi_ends.specs.Places.{Book, Place, BothFresh}
 use Rattle.port_worker.specs.Replays.{ports_held}
 use Rattle.switch_ports.specs.Openings.{ports_of, IsNextBehind}
-use Rattle.switch_report.specs.RunLines.{cannot_open_line, journal_word}
+use Rattle.switch_report.specs.RunLines.{cannot_open_line, control_word, journal_word}
 use Rattle.switch_run.specs.Session.{ToldBy}
-use Rattle.switch_run.proofs.Ending.{Closes, closes, stays_all, unused_by}
-use Rattle.switch_run.proofs.Through.{journal_unopened, port_unopened}
-use Rattle.switch_run.proofs.Handling.{apart_all, apart_back, apart_first, handled_by, handled_one, out_back, same_ports}
+use Rattle.switch_run.proofs.Ending.{Closes, closes, stays_all, untouched_back, unused_by}
+use Rattle.switch_run.proofs.Through.{Handled, HandledAll, HandledControl, control_back, control_unopened, journal_unopened, port_unopened}
+use Rattle.switch_run.proofs.Handling.{apart_all, apart_back, apart_first, control_by, control_out, handled_by, handled_one, out_back, same_ports}
 use Rattle.switch_run.proofs.Recast.{told_by}
 use Rattle.switch_run.proofs.top.replay_plan.Given as given
 use Rattle.switch_run.proofs.top.replay_plan.Goals as goal
+
+-- a port could not be opened
 
 pub keep_all-requires-clause-apart : goal.keep_all-requires-clause-apart
 keep_all-requires-clause-apart g c κs within =
@@ -31,6 +33,7 @@ returns-in-Some-open_all-clause-unopened g c = λ seven.
     inl (port_unopened c.args.plan _ c.open_all.new.held.items c.in-Some-open_all.port _ _ c.requires.built.valid.ports
     (subst (λ (l : List PortPlan). IsNextBehind c.in-Some-open_all.port (ports_held c.open_all.new.held.items) (ports_of l)) c.as_slice.ensures c.in-Some-open_all.ensures.failed)
     (handled_by (BothFresh g.W.S.Source.faults g.W.K.Sink.faults) _ _ _ (g.W.World.book c.open_all.new.world).ports _ (g.W.World.book c.keep_all.new.world).ports _ c.open_all.ensures.opened c.open_all.ensures.others refl (same_ports _) c.keep_all.ensures.kept c.keep_all.ensures.others refl)
+    (ap (λ (b : Book S K C). b.control) c.keep_all.ensures.rest ∙ ap (λ (b : Book S K C). b.control) c.open_all.ensures.rest)
     (ap (λ (b : Book S K C). b.outputs) c.keep_all.ensures.rest ∙ ap (λ (b : Book S K C). b.outputs) c.open_all.ensures.rest)
     (subst (λ (name : List ℕ). ToldBy g.W.K.Sink.faults g.W.K.Sink.written c.args.errors.now c.tell_unopened-put.new.sink (cannot_open_line name)) (c.as_str.ensures.value ∙ c.port_name.ensures)
     (told_by g.W.K.Sink.faults g.W.K.Sink.written c.tell_unopened-put.result _ _ _ c.tell_unopened-put.ensures.extends c.tell_unopened-put.ensures.cause)))
@@ -42,7 +45,10 @@ returns-in-Some-open_all-clause-unused g c = λ one_of.
     let C = g.row.W-C.Denot in
     unused_by c.open_all.new.held.items _ _
     (handled_by (BothFresh g.W.S.Source.faults g.W.K.Sink.faults) _ _ _ (g.W.World.book c.open_all.new.world).ports _ (g.W.World.book c.keep_all.new.world).ports _ c.open_all.ensures.opened c.open_all.ensures.others refl (same_ports _) c.keep_all.ensures.kept c.keep_all.ensures.others refl)
+    (untouched_back _ _ (ap (λ (b : Book S K C). b.control) c.keep_all.ensures.rest ∙ ap (λ (b : Book S K C). b.control) c.open_all.ensures.rest))
     (λ name. ap (λ (b : Book S K C). b.outputs name) c.keep_all.ensures.rest ∙ ap (λ (b : Book S K C). b.outputs name) c.open_all.ensures.rest)
+
+-- control could not be opened
 
 pub keep_all-requires-in-Err-clause-apart : goal.keep_all-requires-in-Err-clause-apart
 keep_all-requires-in-Err-clause-apart g c κs within =
@@ -53,19 +59,18 @@ keep_all-requires-in-Err-clause-out g c κs within =
     let S = g.row.W-S.Denot in
     let K = g.row.W-K.Denot in
     let C = g.row.W-C.Denot in
-    out_back (BothFresh g.W.S.Source.faults g.W.K.Sink.faults) c.open_all.new.held.items c.open_all.new.held.items (g.W.World.book c.args.world.now).ports (g.W.World.book c.open_all.new.world).ports _ c.open_all.ensures.opened (same_ports _) (ap (λ (b : Book S K C). b.ports) c.output.ensures.rest)
+    out_back (BothFresh g.W.S.Source.faults g.W.K.Sink.faults) c.open_all.new.held.items c.open_all.new.held.items (g.W.World.book c.args.world.now).ports (g.W.World.book c.open_all.new.world).ports _ c.open_all.ensures.opened (same_ports _) (ap (λ (b : Book S K C). b.ports) c.open_control.ensures.rest)
 
 pub returns-in-Err-clause-unopened : goal.returns-in-Err-clause-unopened
 returns-in-Err-clause-unopened g c = λ seven.
     let S = g.row.W-S.Denot in
     let K = g.row.W-K.Denot in
     let C = g.row.W-C.Denot in
-    inr (journal_unopened c.args.plan _ c.open_all.new.held.items _ _ (c.open_all.ensures.all c.in_default-open_all.is ∙ ap ports_of c.as_slice.ensures)
-    (handled_by (BothFresh g.W.S.Source.faults g.W.K.Sink.faults) _ _ _ (g.W.World.book c.open_all.new.world).ports (g.W.World.book c.output.new.self).ports (g.W.World.book c.keep_all-in-Err.new.world).ports _ c.open_all.ensures.opened c.open_all.ensures.others (ap (λ (b : Book S K C). b.ports) c.output.ensures.rest) (same_ports _) c.keep_all-in-Err.ensures.kept c.keep_all-in-Err.ensures.others refl)
-    (λ name. ap (λ (b : Book S K C). b.outputs name) c.keep_all-in-Err.ensures.rest
-    ∙ stays_all (g.W.World.book c.open_all.new.world).outputs (g.W.World.book c.output.new.self).outputs c.as_str-2.result.now c.in-Err.ensures.opens.err c.in-Err.ensures.others name
-    ∙ ap (λ (b : Book S K C). b.outputs name) c.open_all.ensures.rest)
-    (told_by g.W.K.Sink.faults g.W.K.Sink.written c.tell_unopened-put-in-Err.result _ _ (cannot_open_line journal_word) c.tell_unopened-put-in-Err.ensures.extends c.tell_unopened-put-in-Err.ensures.cause))
+    inr (inl (control_unopened c.args.plan _ c.open_all.new.held.items _ _ c.in-Err.ensures.named (c.open_all.ensures.all c.in_default-open_all.is ∙ ap ports_of c.as_slice.ensures)
+    (handled_by (BothFresh g.W.S.Source.faults g.W.K.Sink.faults) _ _ _ (g.W.World.book c.open_all.new.world).ports (g.W.World.book c.open_control.new.world).ports (g.W.World.book c.keep_all-in-Err.new.world).ports _ c.open_all.ensures.opened c.open_all.ensures.others (ap (λ (b : Book S K C). b.ports) c.open_control.ensures.rest) (same_ports _) c.keep_all-in-Err.ensures.kept c.keep_all-in-Err.ensures.others refl)
+    (ap (λ (b : Book S K C). b.control) c.keep_all-in-Err.ensures.rest ∙ c.in-Err.ensures.as_it_was ∙ ap (λ (b : Book S K C). b.control) c.open_all.ensures.rest)
+    (ap (λ (b : Book S K C). b.outputs) c.keep_all-in-Err.ensures.rest ∙ ap (λ (b : Book S K C). b.outputs) c.open_control.ensures.rest ∙ ap (λ (b : Book S K C). b.outputs) c.open_all.ensures.rest)
+    (told_by g.W.K.Sink.faults g.W.K.Sink.written c.tell_unopened-put-in-Err.result _ _ (cannot_open_line control_word) c.tell_unopened-put-in-Err.ensures.extends c.tell_unopened-put-in-Err.ensures.cause)))
 
 pub returns-in-Err-clause-unused : goal.returns-in-Err-clause-unused
 returns-in-Err-clause-unused g c = λ one_of.
@@ -73,10 +78,72 @@ returns-in-Err-clause-unused g c = λ one_of.
     let K = g.row.W-K.Denot in
     let C = g.row.W-C.Denot in
     unused_by c.open_all.new.held.items _ _
-    (handled_by (BothFresh g.W.S.Source.faults g.W.K.Sink.faults) _ _ _ (g.W.World.book c.open_all.new.world).ports (g.W.World.book c.output.new.self).ports (g.W.World.book c.keep_all-in-Err.new.world).ports _ c.open_all.ensures.opened c.open_all.ensures.others (ap (λ (b : Book S K C). b.ports) c.output.ensures.rest) (same_ports _) c.keep_all-in-Err.ensures.kept c.keep_all-in-Err.ensures.others refl)
-    (λ name. ap (λ (b : Book S K C). b.outputs name) c.keep_all-in-Err.ensures.rest
-    ∙ stays_all (g.W.World.book c.open_all.new.world).outputs (g.W.World.book c.output.new.self).outputs c.as_str-2.result.now c.in-Err.ensures.opens.err c.in-Err.ensures.others name
-    ∙ ap (λ (b : Book S K C). b.outputs name) c.open_all.ensures.rest)
+    (handled_by (BothFresh g.W.S.Source.faults g.W.K.Sink.faults) _ _ _ (g.W.World.book c.open_all.new.world).ports (g.W.World.book c.open_control.new.world).ports (g.W.World.book c.keep_all-in-Err.new.world).ports _ c.open_all.ensures.opened c.open_all.ensures.others (ap (λ (b : Book S K C). b.ports) c.open_control.ensures.rest) (same_ports _) c.keep_all-in-Err.ensures.kept c.keep_all-in-Err.ensures.others refl)
+    (untouched_back _ _ (ap (λ (b : Book S K C). b.control) c.keep_all-in-Err.ensures.rest ∙ c.in-Err.ensures.as_it_was ∙ ap (λ (b : Book S K C). b.control) c.open_all.ensures.rest))
+    (λ name. ap (λ (b : Book S K C). b.outputs name) c.keep_all-in-Err.ensures.rest ∙ ap (λ (b : Book S K C). b.outputs name) c.open_control.ensures.rest ∙ ap (λ (b : Book S K C). b.outputs name) c.open_all.ensures.rest)
+
+-- the journal could not be opened
+
+pub keep_all-requires-in-Err-output-clause-apart : goal.keep_all-requires-in-Err-output-clause-apart
+keep_all-requires-in-Err-output-clause-apart g c κs within =
+    apart_all c.open_all.new.held.items c.args.plan.ports c.requires.built.valid.ports (c.open_all.ensures.all c.in_default-open_all.is ∙ ap ports_of c.as_slice.ensures)
+
+pub keep_all-requires-in-Err-output-clause-out : goal.keep_all-requires-in-Err-output-clause-out
+keep_all-requires-in-Err-output-clause-out g c κs within =
+    let S = g.row.W-S.Denot in
+    let K = g.row.W-K.Denot in
+    let C = g.row.W-C.Denot in
+    out_back (BothFresh g.W.S.Source.faults g.W.K.Sink.faults) c.open_all.new.held.items c.open_all.new.held.items (g.W.World.book c.args.world.now).ports (g.W.World.book c.open_all.new.world).ports _ c.open_all.ensures.opened (same_ports _)
+    (ap (λ (b : Book S K C). b.ports) c.output.ensures.rest ∙ ap (λ (b : Book S K C). b.ports) c.open_control.ensures.rest)
+
+pub keep_control-requires-clause-out : goal.keep_control-requires-clause-out
+keep_control-requires-clause-out g c κs within =
+    let S = g.row.W-S.Denot in
+    let K = g.row.W-K.Denot in
+    let C = g.row.W-C.Denot in
+    control_out (BothFresh g.W.S.Source.faults g.W.K.Sink.faults) c.args.plan.control c.in-Ok.control c.in-Ok.control _ (g.W.World.book c.open_control.new.world).control _ c.in-Ok.ensures.opened refl
+    (ap (λ (b : Book S K C). b.control) c.keep_all-in-Err-output.ensures.rest ∙ ap (λ (b : Book S K C). b.control) c.output.ensures.rest)
+
+unopened_ports : (g : given.Over) (c : goal.After-drop-plan-in-Err-output-5 g) → Handled c.open_all.new.held.items c.open_all.new.held.items (g.W.World.book c.args.world.now).ports (g.W.World.book c.keep_control.new.world).ports
+unopened_ports g c =
+    let S = g.row.W-S.Denot in
+    let K = g.row.W-K.Denot in
+    let C = g.row.W-C.Denot in
+    let ports : Book S K C → ℕ → Place (Ends S K C) = λ b. b.ports in
+    handled_by (BothFresh g.W.S.Source.faults g.W.K.Sink.faults) _ _ _ (ports (g.W.World.book c.open_all.new.world)) (ports (g.W.World.book c.output.new.self)) (ports (g.W.World.book c.keep_all-in-Err-output.new.world)) _ c.open_all.ensures.opened c.open_all.ensures.others
+    (ap ports c.output.ensures.rest ∙ ap ports c.open_control.ensures.rest) (same_ports _) c.keep_all-in-Err-output.ensures.kept c.keep_all-in-Err-output.ensures.others (ap ports c.keep_control.ensures.rest)
+
+unopened_control : (g : given.Over) (c : goal.After-drop-plan-in-Err-output-5 g) → HandledControl c.args.plan.control c.in-Ok.control c.in-Ok.control (g.W.World.book c.args.world.now).control (g.W.World.book c.keep_control.new.world).control
+unopened_control g c =
+    let S = g.row.W-S.Denot in
+    let K = g.row.W-K.Denot in
+    let C = g.row.W-C.Denot in
+    let control : Book S K C → Place (Ends S K C) = λ b. b.control in
+    control_by (BothFresh g.W.S.Source.faults g.W.K.Sink.faults) c.args.plan.control c.in-Ok.control c.in-Ok.control _ (control (g.W.World.book c.open_all.new.world)) (control (g.W.World.book c.open_control.new.world)) (control (g.W.World.book c.keep_all-in-Err-output.new.world)) _ _
+    (ap control c.open_all.ensures.rest) c.in-Ok.ensures.opened refl (ap control c.keep_all-in-Err-output.ensures.rest ∙ ap control c.output.ensures.rest)
+    c.keep_control.ensures.kept c.keep_control.ensures.none refl
+
+unopened_outputs : (g : given.Over) (c : goal.After-drop-plan-in-Err-output-5 g) → (name : List ℕ) → (g.W.World.book c.keep_control.new.world).outputs name ≡ (g.W.World.book c.args.world.now).outputs name
+unopened_outputs g c name =
+    let S = g.row.W-S.Denot in
+    let K = g.row.W-K.Denot in
+    let C = g.row.W-C.Denot in
+    let output : Book S K C → Place K = λ b. b.outputs name in
+    ap output c.keep_control.ensures.rest ∙ ap output c.keep_all-in-Err-output.ensures.rest
+    ∙ stays_all (g.W.World.book c.open_control.new.world).outputs (g.W.World.book c.output.new.self).outputs c.as_str-2.result.now c.in-Err-output.ensures.opens.err c.in-Err-output.ensures.others name
+    ∙ ap output c.open_control.ensures.rest ∙ ap output c.open_all.ensures.rest
+
+pub returns-in-Err-output-clause-unopened : goal.returns-in-Err-output-clause-unopened
+returns-in-Err-output-clause-unopened g c = λ seven.
+    inr (inr (journal_unopened c.args.plan _ c.open_all.new.held.items c.in-Ok.control _ _ (c.open_all.ensures.all c.in_default-open_all.is ∙ ap ports_of c.as_slice.ensures)
+    (unopened_ports g c) (unopened_control g c) (unopened_outputs g c)
+    (told_by g.W.K.Sink.faults g.W.K.Sink.written c.tell_unopened-put-in-Err-output.result _ _ (cannot_open_line journal_word) c.tell_unopened-put-in-Err-output.ensures.extends c.tell_unopened-put-in-Err-output.ensures.cause)))
+
+pub returns-in-Err-output-clause-unused : goal.returns-in-Err-output-clause-unused
+returns-in-Err-output-clause-unused g c = λ one_of.
+    unused_by c.open_all.new.held.items _ _ (unopened_ports g c) (control_back c.args.plan.control c.in-Ok.control _ _ (unopened_control g c)) (unopened_outputs g c)
+
+-- all was opened
 
 pub keep_all-requires-2-clause-apart : goal.keep_all-requires-2-clause-apart
 keep_all-requires-2-clause-apart g c κs within =
@@ -88,7 +155,16 @@ keep_all-requires-2-clause-out g c κs within =
     let S = g.row.W-S.Denot in
     let K = g.row.W-K.Denot in
     let C = g.row.W-C.Denot in
-    out_back (BothFresh g.W.S.Source.faults g.W.K.Sink.faults) c.open_all.new.held.items c.play-ready.result.ready.ports.items (g.W.World.book c.args.world.now).ports (g.W.World.book c.open_all.new.world).ports _ c.open_all.ensures.opened c.play-ready.ensures.ports (ap (λ (b : Book S K C). b.ports) c.output.ensures.rest)
+    out_back (BothFresh g.W.S.Source.faults g.W.K.Sink.faults) c.open_all.new.held.items c.play-ready.result.ready.ports.items (g.W.World.book c.args.world.now).ports (g.W.World.book c.open_all.new.world).ports _ c.open_all.ensures.opened c.play-ready.ensures.ports
+    (ap (λ (b : Book S K C). b.ports) c.output.ensures.rest ∙ ap (λ (b : Book S K C). b.ports) c.open_control.ensures.rest)
+
+pub keep_control-requires-2-clause-out : goal.keep_control-requires-2-clause-out
+keep_control-requires-2-clause-out g c κs within =
+    let S = g.row.W-S.Denot in
+    let K = g.row.W-K.Denot in
+    let C = g.row.W-C.Denot in
+    control_out (BothFresh g.W.S.Source.faults g.W.K.Sink.faults) c.args.plan.control c.in-Ok.control c.play-ready.result.ready.control _ (g.W.World.book c.open_control.new.world).control _ c.in-Ok.ensures.opened c.play-ready.ensures.control
+    (ap (λ (b : Book S K C). b.control) c.keep_all-2.ensures.rest ∙ ap (λ (b : Book S K C). b.control) c.output.ensures.rest)
 
 std_before : (g : given.Over) (c : goal.After-drop-journal-inside-2 g) → (g.W.World.book c.keep_output.new.self).std ≡ (g.W.World.book c.args.world.now).std
 std_before g c =
@@ -96,23 +172,34 @@ std_before g c =
     let K = g.row.W-K.Denot in
     let C = g.row.W-C.Denot in
     let std : Book S K C → Std → Place K = λ b. b.std in
-    ap std c.keep_output.ensures.rest ∙ ap std c.keep_all-2.ensures.rest ∙ ap std c.output.ensures.rest ∙ ap std c.open_all.ensures.rest
+    ap std c.keep_output.ensures.rest ∙ ap std c.keep_control-2.ensures.rest ∙ ap std c.keep_all-2.ensures.rest ∙ ap std c.output.ensures.rest ∙ ap std c.open_control.ensures.rest ∙ ap std c.open_all.ensures.rest
 
-final : (g : given.Over) (c : goal.After-drop-journal-inside-2 g) → Closes g.W.S.Source.left g.W.K.Sink.written g.W.S.Source.faults g.W.K.Sink.faults c.args.plan (ToldBy g.W.K.Sink.faults g.W.K.Sink.written c.args.errors.now c.conclude.new.errors) (g.W.World.book c.args.world.now) (g.W.World.book c.conclude.new.world) c.conclude.result
-final g c =
+handled_all : (g : given.Over) (c : goal.After-drop-journal-inside-2 g) → HandledAll c.args.plan (record { control = c.in-Ok.control; ports = c.open_all.new.held }) c.play-ready.result.ready c.in-Ok-output.sink c.play-ready.new.journal (g.W.World.book c.args.world.now) (g.W.World.book c.conclude.new.world)
+handled_all g c =
     let S = g.row.W-S.Denot in
     let K = g.row.W-K.Denot in
     let C = g.row.W-C.Denot in
     let ports : Book S K C → ℕ → Place (Ends S K C) = λ b. b.ports in
+    let control : Book S K C → Place (Ends S K C) = λ b. b.control in
     let outputs : Book S K C → List ℕ → Place K = λ b. b.outputs in
-    closes g.W.S.Source.left g.W.K.Sink.written g.W.S.Source.faults g.W.K.Sink.faults c.args.plan _ c.open_all.new.held.items c.play-ready.result.ready.ports.items c.in-Ok.sink c.play-ready.new.journal c.play-ready.result.outcome _ (g.W.World.book c.keep_output.new.self) _ c.conclude.result
-    (c.open_all.ensures.all c.in_default-open_all.is ∙ ap ports_of c.as_slice.ensures)
-    (handled_by (BothFresh g.W.S.Source.faults g.W.K.Sink.faults) _ _ _ (ports (g.W.World.book c.open_all.new.world)) (ports (g.W.World.book c.output.new.self)) (ports (g.W.World.book c.keep_all-2.new.world)) _ c.open_all.ensures.opened c.open_all.ensures.others (ap ports c.output.ensures.rest) c.play-ready.ensures.ports c.keep_all-2.ensures.kept c.keep_all-2.ensures.others
-    (ap ports c.conclude.ensures.rest ∙ ap ports c.keep_output.ensures.rest))
-    (handled_one c.as_str-2.result.now c.as_str-3.result.now c.args.plan.journal c.in-Ok.sink c.play-ready.new.journal _ (outputs (g.W.World.book c.open_all.new.world)) (outputs (g.W.World.book c.output.new.self)) (outputs (g.W.World.book c.keep_all-2.new.world)) (outputs (g.W.World.book c.keep_output.new.self)) _
-    (c.as_str-2.ensures ∙ c.in-Some.ensures.journal) (c.as_str-3.ensures ∙ c.in-Some.ensures.journal)
-    (ap outputs c.open_all.ensures.rest) c.in-Ok.ensures.opens.told c.in-Ok.ensures.others (ap outputs c.keep_all-2.ensures.rest) c.keep_output.ensures.kept c.keep_output.ensures.others (ap outputs c.conclude.ensures.rest))
-    (std_before g c) c.open_all.ensures.readers
+    record {
+      planned = c.open_all.ensures.all c.in_default-open_all.is ∙ ap ports_of c.as_slice.ensures;
+      ports = handled_by (BothFresh g.W.S.Source.faults g.W.K.Sink.faults) _ _ _ (ports (g.W.World.book c.open_all.new.world)) (ports (g.W.World.book c.output.new.self)) (ports (g.W.World.book c.keep_all-2.new.world)) _ c.open_all.ensures.opened c.open_all.ensures.others
+          (ap ports c.output.ensures.rest ∙ ap ports c.open_control.ensures.rest) c.play-ready.ensures.ports c.keep_all-2.ensures.kept c.keep_all-2.ensures.others
+          (ap ports c.conclude.ensures.rest ∙ ap ports c.keep_output.ensures.rest ∙ ap ports c.keep_control-2.ensures.rest);
+      control = control_by (BothFresh g.W.S.Source.faults g.W.K.Sink.faults) c.args.plan.control c.in-Ok.control c.play-ready.result.ready.control _ (control (g.W.World.book c.open_all.new.world)) (control (g.W.World.book c.open_control.new.world)) (control (g.W.World.book c.keep_all-2.new.world)) (control (g.W.World.book c.keep_control-2.new.world)) _
+          (ap control c.open_all.ensures.rest) c.in-Ok.ensures.opened c.play-ready.ensures.control (ap control c.keep_all-2.ensures.rest ∙ ap control c.output.ensures.rest)
+          c.keep_control-2.ensures.kept c.keep_control-2.ensures.none (ap control c.conclude.ensures.rest ∙ ap control c.keep_output.ensures.rest);
+      journal = handled_one c.as_str-2.result.now c.as_str-3.result.now c.args.plan.journal c.in-Ok-output.sink c.play-ready.new.journal _ (outputs (g.W.World.book c.open_control.new.world)) (outputs (g.W.World.book c.output.new.self)) (outputs (g.W.World.book c.keep_control-2.new.world)) (outputs (g.W.World.book c.keep_output.new.self)) _
+          (c.as_str-2.ensures ∙ c.in-Some.ensures.journal) (c.as_str-3.ensures ∙ c.in-Some.ensures.journal)
+          (ap outputs c.open_control.ensures.rest ∙ ap outputs c.open_all.ensures.rest) c.in-Ok-output.ensures.opens.told c.in-Ok-output.ensures.others
+          (ap outputs c.keep_control-2.ensures.rest ∙ ap outputs c.keep_all-2.ensures.rest) c.keep_output.ensures.kept c.keep_output.ensures.others (ap outputs c.conclude.ensures.rest);
+    }
+
+final : (g : given.Over) (c : goal.After-drop-journal-inside-2 g) → Closes g.W.S.Source.left g.W.K.Sink.written g.W.S.Source.faults g.W.K.Sink.faults c.args.plan (ToldBy g.W.K.Sink.faults g.W.K.Sink.written c.args.errors.now c.conclude.new.errors) (g.W.World.book c.args.world.now) (g.W.World.book c.conclude.new.world) c.conclude.result
+final g c =
+    closes g.W.S.Source.left g.W.K.Sink.written g.W.S.Source.faults g.W.K.Sink.faults c.args.plan _ _ c.play-ready.result.ready c.in-Ok-output.sink c.play-ready.new.journal c.play-ready.result.outcome _ (g.W.World.book c.keep_output.new.self) _ c.conclude.result
+    (handled_all g c) (std_before g c) c.open_all.ensures.readers
     c.play-ready.ensures.none c.play-ready.ensures.played c.conclude.ensures.none c.conclude.ensures.some
 
 pub returns-clause-status : goal.returns-clause-status

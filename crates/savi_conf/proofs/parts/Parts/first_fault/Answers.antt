@@ -2,7 +2,7 @@ use Rattle.std.proofs.Common.{arith}
 use Rattle.savi_conf.specs.Parts.{document_of}
 use Rattle.savi_conf.specs.Requirements.{Meets}
 use Rattle.savi_conf.proofs.Both.{refuted}
-use Rattle.savi_conf.proofs.FaultOrder.{from_two, below_22, number_at, one_more}
+use Rattle.savi_conf.proofs.FaultOrder.{from_two, below_21, number_at, one_more}
 use Rattle.savi_conf.proofs.parts.Parts.first_fault.Goals as goal
 
 pub loop-fault-init : goal.loop-fault-init
@@ -21,4 +21,4 @@ loop-fault-preserved c =
     one_more (Meets c.args.self.now.replay (document_of c.args.self.now)) c.loop-fault.fault-index c.loop-fault-test.true c.loop-fault.invariant (c.meets.ensures.0 c.if-not-meets.false)
 
 pub returns-clause-none : goal.returns-clause-none
-returns-clause-none c = λ fault. c.loop-fault.invariant fault (omega (arith, below_22 fault))
+returns-clause-none c = λ fault. c.loop-fault.invariant fault (omega (arith, below_21 fault))

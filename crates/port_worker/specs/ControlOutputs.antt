@@ -1,0 +1,86 @@
+-- The output of control while a replay goes on: which replies its sink took, and what is known so far of where one could not
+-- be written.
+use Rattle.std.specs.Prelude.{◌≡◌, ◌≢◌, ◌≤◌, ℕ, true, List, length, IsSome, IfSome, Option, Some, None}
+use Rattle.savi_kinds.specs.declared.plan.Plan.{Plan}
+use Rattle.savi_kinds.specs.declared.entry.Who.TheVariants.{Control}
+use Rattle.savi_kinds.specs.declared.entry.How.TheVariants as hows
+use Rattle.savi_ends.specs.Faults.{Rose}
+use Rattle.hist_store.specs.Rows.{Row}
+use Rattle.savi_history.specs.Bases.{empty}
+use Rattle.savi_history.specs.ControlInputs.{control_end}
+use Rattle.savi_history.specs.ControlOutputs.{replies}
+use Rattle.savi_history.specs.Events.{End}
+use Rattle.savi_history.specs.Passes.{control_pass, has_ended}
+use Rattle.savi_history.specs.PortOutputs.{TookPieces}
+use Rattle.savi_history.specs.Replay.{Stops, entered}
+use Rattle.savi_core.specs.Machines.{Machine, with_event}
+use Rattle.port_worker.specs.declared.control_ends.ControlEnds.{ControlEnds}
+use Rattle.port_worker.specs.declared.port_ends.PortEnds.{PortEnds}
+use Rattle.port_worker.specs.LineInputs.{IsLineSound, control_turn_of}
+use Rattle.port_worker.specs.LineSteps.{IsControlStepped, line_ahead_after}
+use Rattle.port_worker.specs.Outputs.{Allows, AreOutputs, ArePortsAllowed}
+
+-- without ends of control its input ends at once
+abbrev pub unheard : {S K C : Type 0} → Machine → Option (ControlEnds S K C) → Machine
+unheard m None = with_event m (End Control hows.End)
+unheard m (Some c) = m
+
+-- the sink took all replies
+pub record RepliesRunOn {K : Type 0} (written : K → Option (List ℕ)) (plan : Plan) (past : List Row) (old new : K) : Type 0 where
+  pub none : control_end past ≢ Some hows.Unwritten
+  pub took : TookPieces (written old) (written new) (replies plan empty past) None
+
+-- a reply could not be written behind so many whole ones, and control has ended for that
+pub record RepliesHaveStopped {K : Type 0} (written : K → Option (List ℕ)) (faults : K → ℕ) (plan : Plan) (past : List Row) (old new : K) (whole : ℕ) : Type 0 where
+  pub ended : has_ended empty (control_pass plan) past ≡ true
+  pub failed : control_end past ≡ Some hows.Unwritten
+  pub took : TookPieces (written old) (written new) (replies plan empty past) (Some whole)
+  pub rose : Rose (faults old) (faults new)
+
+-- control's output by what is known of where a reply could not be written
+abbrev pub AreReplies : {K : Type 0} → (K → Option (List ℕ)) → (K → ℕ) → Plan → List Row → K → K → Option ℕ → Type 0
+AreReplies written faults plan past old new None = RepliesRunOn written plan past old new
+AreReplies written faults plan past old new (Some whole) = RepliesHaveStopped written faults plan past old new whole
+
+-- what the writes may turn out to have failed at, by what is known of all outputs
+pub record AreAllowed (plan : Plan) (known stops : Stops) (past : List Row) : Type 0 where
+  pub ports : ArePortsAllowed plan known stops past
+  pub replies : Allows known.control stops.control (length (replies plan empty past))
+
+-- More is known of all outputs behind a step, and the step has made what that allows.
+pub record AllFollow (plan : Plan) (known later : Stops) (past now : List Row) (made : Stops → List Row) : Type 0 where
+  pub before : (stops : Stops) → AreAllowed plan later stops now → AreAllowed plan known stops past
+  pub made_so : (stops : Stops) → AreAllowed plan later stops now → now ≡ made stops
+
+-- control has a turn that may be entered
+abbrev pub IsControlTurn : {S K C : Type 0} → Option (ControlEnds S K C) → Type 0
+IsControlTurn None = ⊥
+IsControlTurn (Some c) = IsSome (control_turn_of c) × IsLineSound c.reader c.ahead
+
+-- The turn was entered: only control's sink and what is known of its input have changed.
+abbrev pub IsControlAdvanced : {S K C : Type 0} → (K → Option (List ℕ)) → (K → ℕ) → Option (ControlEnds S K C) → Option (ControlEnds S K C) → Type 0
+IsControlAdvanced written faults (Some old) (Some new) = IsControlStepped written faults old new
+IsControlAdvanced written faults (Some old) None = ⊥
+IsControlAdvanced written faults None new = ⊥
+
+-- Behind the turn the next line may be read where control hasn't ended.
+abbrev pub IsAheadAfter : {S K C : Type 0} → Plan → List Row → Option (ControlEnds S K C) → Type 0
+IsAheadAfter plan now None = Unit {0}
+IsAheadAfter plan now (Some c) = c.ahead ≡ line_ahead_after (has_ended empty (control_pass plan) now)
+
+-- Whatever was known of all outputs since their first ends, the turn of control goes on from there.
+abbrev pub AllOutputsGoOn : {S K C : Type 0} → (K → Option (List ℕ)) → (K → ℕ) → Plan → List Row → List Row → K → K → List (PortEnds S K C) → List (PortEnds S K C) → (Stops → List Row) → Type 0
+AllOutputsGoOn {S} {K} {C} written faults plan past now sink_old sink_new old new made =
+    (first : List (PortEnds S K C)) (start : K) (known : Stops) → AreOutputs written faults plan known past first old → faults start ≤ faults sink_old → AreReplies written faults plan past start sink_old known.control
+    → (later : Stops) × AreOutputs written faults plan later now first new × AreReplies written faults plan now start sink_new later.control × AllFollow plan known later past now made
+
+abbrev pub ControlGoesOn : {S K C : Type 0} → (K → Option (List ℕ)) → (K → ℕ) → Plan → List Row → List Row → Option (ControlEnds S K C) → Option (ControlEnds S K C) → List (PortEnds S K C) → List (PortEnds S K C) → Type 0
+ControlGoesOn written faults plan past now (Some old) (Some new) ports_old ports_new =
+    IfSome (control_turn_of old) (λ turn. AllOutputsGoOn written faults plan past now old.ends.sink new.ends.sink ports_old ports_new (λ stops. entered plan empty stops turn past))
+ControlGoesOn written faults plan past now (Some old) None ports_old ports_new = ⊥
+ControlGoesOn written faults plan past now None new ports_old ports_new = ⊥
+
+-- whatever was known of the outputs of the ports
+abbrev pub AheadGoesOn : {S K C : Type 0} → (K → Option (List ℕ)) → (K → ℕ) → Plan → List Row → List Row → Option (ControlEnds S K C) → List (PortEnds S K C) → Type 0
+AheadGoesOn {S} {K} {C} written faults plan past now control ports =
+    (first : List (PortEnds S K C)) (known : Stops) → AreOutputs written faults plan known past first ports → IsAheadAfter plan now control

@@ -1,0 +1,12 @@
+-- What became of three ends, as far as they tell.
+use Rattle.std.specs.Prelude.{◌≡◌, ℕ, List, Option}
+use Rattle.savi_ends.specs.declared.world.Ends.{Ends}
+use Rattle.savi_ends.specs.Octets.{Takes}
+use Rattle.port_worker.specs.SentFrames.{TookMore}
+
+-- The ends of a port or of control, before and after: the source gave up octets from its front, the sink took octets behind
+-- what it held, and the clock wasn't read.
+pub record IsUsed {S K C : Type 0} (left : S → Option (List ℕ)) (written : K → Option (List ℕ)) (old new : Ends S K C) : Type 0 where
+  pub gave : (octets : List ℕ) × Takes (left old.source) (left new.source) octets
+  pub took : TookMore (written old.sink) (written new.sink)
+  pub clock : new.clock ≡ old.clock
