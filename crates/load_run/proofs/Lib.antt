@@ -1,0 +1,4 @@
+pub mod Unstopped
+pub mod Holding
+pub mod Inputs
+pub mod Roomy

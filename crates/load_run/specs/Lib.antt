@@ -1,0 +1,2 @@
+pub mod LoadHistory
+pub mod LoadEnds
