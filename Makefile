@@ -23,15 +23,18 @@ PLAN = examples/shared-network/plan.toml
 plan: build/plan_check
 	build/plan_check "$(PLAN)"
 
-# The program beside a C program that does the same octet work without judging, with 2 ports and with 5; the reader of
-# captures beside tcpdump; the pass lock beside a mutex; the stations, the bindings and the timers beside hash maps. The
-# first time takes the builds, and then about two minutes.
-bench: build build/capture_bench build/lock_bench build/fdb_bench build/tables_bench
+# The program beside a C program that does the same octet work without judging, with 2 ports and with 5; its own load; the
+# reader of captures beside tcpdump; the pass lock beside a mutex; the stations, the bindings and the timers beside hash maps;
+# and steps of the core, with the validation of sources and without. The first time takes the builds, and then about three
+# minutes.
+bench: build build/capture_bench build/lock_bench build/fdb_bench build/tables_bench build/core_bench
 	bench/run build/savi_switch
+	bench/load build/savi_switch
 	bench/captures.py build/capture_bench
 	bench/lock build/lock_bench
 	bench/stations build/fdb_bench
 	bench/tables build/tables_bench
+	bench/core build/core_bench
 
 # The merge gate: `rt ci`, then the examples, and the program beside the second implementation. From nothing it takes about 40
 # minutes on 4 cores.

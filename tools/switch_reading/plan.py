@@ -211,8 +211,8 @@ def is_clash(prefixes):
     )
 
 
-def list_fault(ports, prefixes):
-    """Faults 13 to 20: ports and prefixes."""
+def list_fault(ports, prefixes, streams=False):
+    """Faults 13 to 20: ports and prefixes. `streams` permits ports that read them."""
     numbers = [port["number"] for port in ports]
     read = [read_prefix(prefix["prefix"]) for prefix in prefixes]
     tests = (
@@ -223,21 +223,22 @@ def list_fault(ports, prefixes):
         (17, lambda: len(prefixes) > 32 or None in read),
         (18, lambda: is_clash(read)),
         (19, lambda: any(prefix["method"] not in METHODS for prefix in prefixes)),
-        (20, lambda: any(port.get("format") == "stream" for port in ports)),
+        (20, lambda: not streams and any(port.get("format") == "stream" for port in ports)),
     )
     return next((number for number, holds in tests if holds()), None)
 
 
-def read_plan(octets):
-    """The plan of a configuration for `replay`. Raises ConfigFault."""
+def read_plan(octets, streams=False):
+    """The plan of a configuration for `replay`, or where ports may read streams. Raises ConfigFault."""
     if len(octets) > LONGEST:
         raise ConfigFault("config fault 1")
     try:
-        document = tomllib.loads(octets.decode("utf-8"))
+        document = tomllib.loads(octets.decode("utf-8-sig"))
     except (UnicodeDecodeError, tomllib.TOMLDecodeError):
         raise ConfigFault("config is not TOML") from None
     top = DEFAULTS | document
-    fault = shape_fault(document) or key_fault(top) or list_fault(document["port"], document.get("prefix", []))
+    fault = shape_fault(document) or key_fault(top)
+    fault = fault or list_fault(document["port"], document.get("prefix", []), streams)
     if fault:
         raise ConfigFault(f"config fault {fault}")
     ports = sorted((PortPlan(**port) for port in document["port"]), key=lambda port: port.number)

@@ -297,6 +297,25 @@ def calls_of_ports():
 WORKED |= calls_of_ports()
 
 
+def loads():
+    """Runs of `gen`, which leave no journal. 12 entries are ends, of five inputs, control, the ticker and five outputs; 6
+    are the claims, which pass to port 4 alone, each with its drain. Then, by the remainders of the draws: with seed 1 port 3
+    sends from host 2's address, which is held there, so port 2 is asked (a drain), and port 1 sends from it meanwhile; with
+    seed 2147483647 port 3 sends from its own address to the four others (four drains), and port 2 from those of hosts 1
+    and 3, whose ports are asked."""
+    summaries = {
+        "a load of no packets": "entries 18 frames 3 passed 3 dropped 0 probes 0 lost 0 cut 0",
+        "a load of two packets": "entries 21 frames 5 passed 3 dropped 2 probes 1 lost 0 cut 0",
+        "a load of the greatest seed": "entries 27 frames 6 passed 4 dropped 2 probes 2 lost 0 cut 0",
+    }
+    worked = {name: ([], SILENT + [line]) for name, line in summaries.items()}
+    worked |= {f"a load of {packets}": ([], SILENT) for packets in ("1,000 packets", "2,500 packets", "seed 0")}
+    return worked | {"the summary of a load": ([], ["status 6"])}
+
+
+WORKED |= loads()
+
+
 def judged(entry):
     """A line of what is printed of a journal, where it is a frame's, as PORT@STAMP FRAME VERDICT OUTS PROBES; else None."""
     words = entry.split()

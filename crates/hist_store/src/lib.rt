@@ -22,8 +22,6 @@ mod read_hex;
 mod read_ports;
 mod read_verdict;
 mod reading;
-#[cfg(test)]
-mod tests;
 mod verdict_fields;
 
 pub use header::{put_end, put_header};

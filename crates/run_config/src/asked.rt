@@ -1,19 +1,67 @@
-//! The form of the command line.
+//! The forms of the command line.
 
-ghost use Rattle.std.specs.Prelude.{IfSome, IfNone, map};
+ghost use Rattle.std.specs.Prelude.{ℕ, List, IfSome, IfNone, map};
 ghost use Rattle.std.specs.String.{string_bytes};
-ghost use Rattle.run_config.specs.Words.{IsForm, IsReplay};
+ghost use Rattle.run_config.specs.Words.{Asks, IsGen, IsReplay};
+
+use savi_kinds::read_decimal;
 
 // The word that asks for a replay.
 const REPLAY: &str = "replay";
+// The word that asks for a load.
+const GENERATE: &str = "gen";
+// The greatest seed of a load.
+const SEED_MOST: u64 = 2_147_483_647;
+// The most packets of a load.
+const FRAMES_MOST: u64 = 100_000;
 
-/// The configuration's name, where the words behind the program's name are `replay FILE`; FILE is any word.
-pub fn file_of(words: &[String]) -> Option<&str>
+/// What the words of the command line ask for.
+#[derive(Clone, Copy, PartialEq, Eq, Debug)]
+pub enum Asked<'a> {
+    /// A replay, by the name of its configuration: `replay FILE`.
+    Replay(&'a str),
+    /// The replay of a load, by its seed and the number of its packets: `gen SEED FRAMES`.
+    Generate { seed: u32, frames: u32 },
+    /// The words are none of the forms.
+    NoForm,
+}
+
+/// What the words behind the program's name ask for. FILE is any word; SEED is at most 2,147,483,647 and FRAMES at most
+/// 100,000, both in decimal without a leading zero.
+pub fn asked_by(words: &[String]) -> Asked<'_>
+    ensures { Asks (map string_bytes words.now) result }
+{
+    if let Some(file) = file_of(words) {
+        return Asked::Replay(file);
+    }
+    match load_of(words) {
+        Some((seed, frames)) => Asked::Generate { seed, frames },
+        None => Asked::NoForm,
+    }
+}
+
+// The configuration's name, where the words are `replay FILE`.
+fn file_of(words: &[String]) -> Option<&str>
     ensures some { IfSome result (λ file. IsReplay file.now (map string_bytes words.now)) }
-    ensures none { IfNone result (IsForm (map string_bytes words.now) → ⊥) }
+    ensures none { IfNone result ((file : List ℕ) → IsReplay file (map string_bytes words.now) → ⊥) }
 {
     match words {
         [form, file] if form.as_str() == REPLAY => Some(file.as_str()),
+        _ => None,
+    }
+}
+
+// The seed and the number of packets, where the words are `gen SEED FRAMES`.
+fn load_of(words: &[String]) -> Option<(u32, u32)>
+    ensures some { IfSome result (λ load. IsGen load.0 load.1 (map string_bytes words.now)) }
+    ensures none { IfNone result ((seed frames : ℕ) → IsGen seed frames (map string_bytes words.now) → ⊥) }
+{
+    match words {
+        [form, seed, frames] if form.as_str() == GENERATE => {
+            let seed = read_decimal(seed.as_bytes(), SEED_MOST)?;
+            let frames = read_decimal(frames.as_bytes(), FRAMES_MOST)?;
+            Some((seed as u32, frames as u32))
+        }
         _ => None,
     }
 }

@@ -7,6 +7,6 @@ mod refusal;
 #[cfg(test)]
 mod tests;
 
-pub use asked::file_of;
+pub use asked::{Asked, asked_by};
 pub use reading::configure;
 pub use refusal::Refusal;

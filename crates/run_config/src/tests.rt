@@ -199,23 +199,34 @@ fn a_text_has_65536_octets_at_most(rt: HostRuntime) -> Result<(), Fail> {
 }
 
 #[test]
-fn words_name_a_file(rt: HostRuntime) -> Result<(), Fail> {
+fn words_are_a_form(rt: HostRuntime) -> Result<(), Fail> {
     let alloc = rt.alloc();
-    let rows: [(&[&str], Option<&str>); 7] = [
-        (&["replay", "plan"], Some("plan")),
-        (&["replay", "replay"], Some("replay")),
-        (&["replay"], None),
-        (&["replay", "plan", "plan"], None),
-        (&["Replay", "plan"], None),
-        (&["plan", "replay"], None),
-        (&[], None),
+    let most = Asked::Generate {
+        seed: 2_147_483_647,
+        frames: 100_000,
+    };
+    let rows: [(&[&str], Asked<'_>); 14] = [
+        (&["replay", "plan"], Asked::Replay("plan")),
+        (&["replay", "gen"], Asked::Replay("gen")),
+        (&["replay"], Asked::NoForm),
+        (&["replay", "plan", "plan"], Asked::NoForm),
+        (&["Replay", "plan"], Asked::NoForm),
+        (&[], Asked::NoForm),
+        (&["gen", "0", "2"], Asked::Generate { seed: 0, frames: 2 }),
+        (&["gen", "2147483647", "100000"], most),
+        (&["gen", "2147483648", "2"], Asked::NoForm),
+        (&["gen", "1", "100001"], Asked::NoForm),
+        (&["gen", "01", "2"], Asked::NoForm),
+        (&["gen", "1", "+2"], Asked::NoForm),
+        (&["gen", "1", ""], Asked::NoForm),
+        (&["gen", "1"], Asked::NoForm),
     ];
     for (texts, want) in rows {
         let mut words = Vec::new(alloc);
         for text in texts {
             words.push(String::from_str(alloc, text)?)?;
         }
-        assert_eq!(rt; file_of(words.as_slice()), want, "{texts:?}");
+        assert_eq!(rt; asked_by(words.as_slice()), want, "{texts:?}");
     }
     Ok(())
 }

@@ -18,6 +18,3 @@ mod words;
 pub use fault::{ConfFault, Fault};
 pub use laws::a_text_has_one_answer;
 pub use read::{OCTETS_MOST, read_plan};
-
-#[cfg(test)]
-mod tests;

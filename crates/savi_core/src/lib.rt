@@ -28,6 +28,3 @@ pub use batch::Batch;
 pub use control_replies::Reply;
 pub use event::{Event, Stepped};
 pub use machine::Core;
-
-#[cfg(test)]
-mod tests;

@@ -266,8 +266,9 @@ impl Core {
         self.tally.counts()
     }
 
-    // Whether there is room for another input.
-    fn has_room(&self) -> bool
+    /// Whether there is room for another input: 4,130 entries are kept free for drains and ends, and room for the octets of the
+    /// longest frame. O(1).
+    pub fn has_room(&self) -> bool
         ensures { result ≡ has_room self.now.plan self.now.past }
     {
         let plan = self.ports.plan();

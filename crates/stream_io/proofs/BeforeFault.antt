@@ -12,7 +12,7 @@ use Rattle.stream_io.proofs.AheadHeld.{takes_none}
 use Rattle.stream_io.proofs.WholeRuns.{again_is}
 
 -- a reader that has ended stays so, and takes nothing
-ended_stays : (ending : How) (last : Next) (calls : List Told) (before after : Outside) (new : State) → answer_of ending ≡ Some last → AreCalls (Ended ending) before calls new after → (new ≡ Ended ending) × (after.left ≡ before.left)
+pub ended_stays : (ending : How) (last : Next) (calls : List Told) (before after : Outside) (new : State) → answer_of ending ≡ Some last → AreCalls (Ended ending) before calls new after → (new ≡ Ended ending) × (after.left ≡ before.left)
 ended_stays ending last [] before after new is calls_are = (calls_are.0, ap (λ (o : Outside). o.left) calls_are.1)
 ended_stays ending last (told ∷ later) before after new is calls_are =
     let again = again_is ending last calls_are.0 before calls_are.1 told is calls_are.2 in

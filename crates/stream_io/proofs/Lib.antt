@@ -6,3 +6,4 @@ pub mod Written
 pub mod Uniqueness
 pub mod WholeRuns
 pub mod BeforeFault
+pub mod BeforeMore

@@ -94,6 +94,13 @@ CallsBeforeFault =
     (before : Outside) (calls : List Told) (after : Outside) → AreCalls (Running 0 []) before calls (Ended how.Failed) after
     → (gave : List ℕ) × Takes before.left after.left gave × IsRun false 0 (arrivals_of calls) how.Failed gave
 
+-- Where a new reader goes on, the arrivals that it told are the first records of the octets that its source gave, which
+-- weren't seen to end.
+abbrev pub CallsBeforeMore : Type 0
+CallsBeforeMore =
+    (before : Outside) (calls : List Told) (place : ℕ) (held : List ℕ) (after : Outside) → AreCalls (Running 0 []) before calls (Running place held) after
+    → (gave : List ℕ) × Takes before.left after.left gave × ((behind : List Arrival) × (ending : How) × IsRun false 0 (arrivals_of calls ++ behind) ending gave)
+
 -- these readings more, where the clock still tells its readings
 abbrev pub AddsReadings : Option (List ℕ) → Option (List ℕ) → List ℕ → Type 0
 AddsReadings old None readings = Unit {0}

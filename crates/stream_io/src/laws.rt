@@ -3,7 +3,7 @@ ghost use Rattle.savi_kinds.specs.declared.entry.How.TheVariants as how;
 ghost use Rattle.savi_kinds.specs.Arrivals.{Arrival, Input};
 ghost use Rattle.stream_io.specs.Records.{stream_text, AreFrames};
 ghost use Rattle.stream_io.specs.Streams.{Arrive, frames_stamped};
-ghost use Rattle.stream_io.specs.Calls.{CallsGiveInput, CallsBeforeFault, StampsAreReadings};
+ghost use Rattle.stream_io.specs.Calls.{CallsGiveInput, CallsBeforeFault, CallsBeforeMore, StampsAreReadings};
 
 /// Law: every list of octets is some input, seen to end or not, whatever its clock reads.
 pub fn octets_arrive()
@@ -35,6 +35,12 @@ pub fn calls_give_input()
 /// Law: the arrivals of a reader whose source failed at last are all the records of the octets that were given.
 pub fn calls_before_fault()
     ensures { CallsBeforeFault }
+{}
+
+/// Law: what a reader told that goes on is a front of what it took: the first records of the octets that its source gave, and
+/// none is left out.
+pub fn calls_before_more()
+    ensures { CallsBeforeMore }
 {}
 
 /// Law: the stamps of a reader's arrivals are the readings that its clock made, one after the other.

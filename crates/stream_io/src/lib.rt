@@ -16,8 +16,8 @@ mod tests;
 mod writer;
 
 pub use laws::{
-    calls_before_fault, calls_give_input, front_arrives, octets_arrive, octets_arrive_once,
-    stamps_are_readings, streams_are_read_again,
+    calls_before_fault, calls_before_more, calls_give_input, front_arrives, octets_arrive,
+    octets_arrive_once, stamps_are_readings, streams_are_read_again,
 };
 pub use reader::StreamReader;
 pub use writer::{begin, put};

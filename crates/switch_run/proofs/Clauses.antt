@@ -4,13 +4,15 @@ use Rattle.std.specs.Prelude.{◌↔◌}
 use Rattle.savi_ends.specs.declared.world.Std.TheVariants.{Out}
 use Rattle.savi_ends.specs.Faults.{Rose}
 use Rattle.savi_ends.specs.Places.{Book}
-use Rattle.run_config.specs.Words.{IsForm, IsReplay}
+use Rattle.run_config.specs.Words.{IsForm, IsGen, IsReplay}
 use Rattle.switch_report.specs.RunLines.{memory_line, usage_line}
 use Rattle.switch_run.specs.Causes.{HasSomeReadFault, HasSomeWriteFault, IsElsewhereSame, IsOneOf, IsUntouched, IsUnused, quiet_statuses, session_statuses, statuses, unused_statuses}
+use Rattle.switch_run.specs.Loads.{IsLoadRun}
 use Rattle.switch_run.specs.Runs.{IsRun}
 use Rattle.switch_run.specs.Session.{IsFileUnread, IsNoPlan, IsSession, IsUnopened, IsUnplayed, Told, ToldBy}
 use Rattle.switch_run.proofs.Faulting.{read_fault_of, write_fault_of}
-use Rattle.switch_run.proofs.Forms.{same_file}
+use Rattle.switch_run.proofs.Forms.{same_file, same_load, not_both}
+use Rattle.switch_run.proofs.Loading.{load_is, load_memory, load_out, load_unserved, not_two, not_seven, ran_load}
 use Rattle.switch_run.proofs.Refusing.{unused_same}
 use Rattle.switch_run.proofs.Running.{Ran, ran_told, ran_open, ran_quiet, ran_untouched, ran_unused, ran_elsewhere, ran_config, ran_unopened, ran_session, ran_unplayed}
 
@@ -31,6 +33,7 @@ pub record Clauses {S K C : Type 0} (left : S → Option (List ℕ)) (written : 
   pub quiet : IsOneOf quiet_statuses status → new.std Out ≡ old.std Out
   pub unused : IsOneOf unused_statuses status → IsUnused old new
   pub elsewhere : (file : List ℕ) → IsReplay file words → IsElsewhereSame file old new
+  pub load : (seed frames : ℕ) → IsGen seed frames words → IsLoadRun written sink_faults seed frames (Told sink_faults written old new) old new status
 
 pub clauses_of : {S K C : Type 0} (left : S → Option (List ℕ)) (written : K → Option (List ℕ)) (source_faults : S → ℕ) (sink_faults : K → ℕ) (words : List (List ℕ)) (b0 b1 b2 b3 : Book S K C) (e e' : K) (status : ℕ) → Ran b0 b1 b2 b3 e e'
     → IsRun left written source_faults sink_faults words (ToldBy sink_faults written e e') b1 b2 status → Clauses left written source_faults sink_faults words b0 b3 status
@@ -41,24 +44,25 @@ clauses_of {S} {K} {C} left written source_faults sink_faults words b0 b1 b2 b3 
       usage = (λ is. none, λ is. two);
       untouched = λ is. (untouched, ran_told sink_faults written b0 b1 b2 b3 e e' usage_line ran told);
       memory = λ one. absurd (omega (arith, one, two));
-      unplayed = λ file form. absurd (none (file, form));
-      config = λ file form. absurd (none (file, form));
+      unplayed = λ file form. absurd (none (inl (file, form)));
+      config = λ file form. absurd (none (inl (file, form)));
       opening = λ seven. absurd (omega (arith, seven, two));
-      unopened = λ file form. absurd (none (file, form));
-      session = λ file form. absurd (none (file, form));
-      read = λ file form. absurd (none (file, form));
-      write = λ file form. absurd (none (file, form));
+      unopened = λ file form. absurd (none (inl (file, form)));
+      session = λ file form. absurd (none (inl (file, form)));
+      read = λ file form. absurd (none (inl (file, form)));
+      write = λ file form. absurd (none (inl (file, form)));
       quiet = λ one_of. untouched.out;
       unused = λ one_of. unused_same b0 b3 (record { ports = ap (λ (b : Book S K C). b.ports) untouched.rest; control = ap (λ (b : Book S K C). b.control) untouched.rest; outputs = ap (λ (b : Book S K C). b.outputs) untouched.rest });
-      elsewhere = λ file form. absurd (none (file, form));
+      elsewhere = λ file form. absurd (none (inl (file, form)));
+      load = λ seed frames form. absurd (none (inr (seed, frames, form)));
     }
-clauses_of {S} {K} {C} left written source_faults sink_faults words b0 b1 b2 b3 e e' status ran (inr (file, form, r)) =
+clauses_of {S} {K} {C} left written source_faults sink_faults words b0 b1 b2 b3 e e' status ran (inr (inl (file, form, r))) =
     let says : (lines : List ℕ) → ToldBy sink_faults written e e' lines → Told sink_faults written b0 b3 lines = λ lines told. ran_told sink_faults written b0 b1 b2 b3 e e' lines ran told in
     let session : IsOneOf session_statuses status → IsFileUnread left source_faults file (Told sink_faults written b0 b3) b0 b3 status ⊎ IsSession left written source_faults sink_faults file (Told sink_faults written b0 b3) b0 b3 status =
     λ one_of. ran_session left written source_faults sink_faults _ _ b0 b1 b2 b3 e e' file status ran says (r.session one_of) in
     record {
       one_of = r.one_of;
-      usage = (λ two. absurd (r.usage two), λ none. absurd (none (file, form)));
+      usage = (λ two. absurd (r.usage two), λ none. absurd (none (inl (file, form))));
       untouched = λ two. absurd (r.usage two);
       memory = λ one. says memory_line (r.memory one);
       unplayed = λ f is one. rw (same_file words f file is form) (ran_unplayed left written b0 b1 b2 b3 e e' file ran (r.unplayed one));
@@ -71,4 +75,27 @@ clauses_of {S} {K} {C} left written source_faults sink_faults words b0 b1 b2 b3 
       quiet = λ one_of. ran_quiet b0 b1 b2 b3 e e' ran (r.quiet one_of);
       unused = λ one_of. ran_unused b0 b1 b2 b3 e e' ran (r.unused one_of);
       elsewhere = λ f is. rw (same_file words f file is form) (ran_elsewhere b0 b1 b2 b3 e e' file ran r.elsewhere);
+      load = λ seed frames is. absurd (not_both words file seed frames form is);
+    }
+clauses_of {S} {K} {C} left written source_faults sink_faults words b0 b1 b2 b3 e e' status ran (inr (inr (seed, frames, form, r))) =
+    let replays : (file : List ℕ) → IsReplay file words → ⊥ = λ file is. not_both words file seed frames is form in
+    let Says : List ℕ → Type 0 = ToldBy sink_faults written e e' in
+    record {
+      one_of = load_is written sink_faults seed frames Says b1 b2 status r;
+      usage = (λ two. absurd (not_two written sink_faults seed frames Says b1 b2 status r two), λ none. absurd (none (inr (seed, frames, form))));
+      untouched = λ two. absurd (not_two written sink_faults seed frames Says b1 b2 status r two);
+      memory = λ one. ran_told sink_faults written b0 b1 b2 b3 e e' memory_line ran (load_memory written sink_faults seed frames Says b1 b2 status r one).0;
+      unplayed = λ file is. absurd (replays file is);
+      config = λ file is. absurd (replays file is);
+      opening = λ seven. absurd (not_seven written sink_faults seed frames Says b1 b2 status r seven);
+      unopened = λ file is. absurd (replays file is);
+      session = λ file is. absurd (replays file is);
+      read = λ file is. absurd (replays file is);
+      write = λ file is. absurd (replays file is);
+      quiet = λ quiet. ran_quiet b0 b1 b2 b3 e e' ran (load_out written sink_faults seed frames Says b1 b2 status r quiet);
+      unused = λ unused. ran_unused b0 b1 b2 b3 e e' ran (unused_same b1 b2 (load_unserved written sink_faults seed frames Says b1 b2 status r));
+      elsewhere = λ file is. absurd (replays file is);
+      load = λ seed' frames' is.
+          let same = same_load words seed' frames' seed frames is form in
+          rw (same.0, same.1) (ran_load written sink_faults seed frames b0 b1 b2 b3 e e' status ran r);
     }

@@ -1,8 +1,30 @@
--- The words of the command line name one file.
-use Rattle.std.proofs.Common.{◌≡◌, ℕ, List, [], ◌∷◌, sym, ◌∙◌, codes}
-use Rattle.run_config.specs.Words.{IsReplay}
+-- The words of the command line name one file, or one load.
+use Rattle.std.proofs.Common.{◌≡◌, ◌<◌, ◌^◌, ℕ, List, [], ◌∷◌, sym, ap, ◌∙◌, codes, decimal, arith}
+use Rattle.std.proofs.lemmas.Fmt.{decimal_is_IsNumeral}
+use Rattle.std.specs.Str.Parse.{digits_value}
+use Rattle.run_config.specs.Words.{IsGen, IsReplay}
 
 pub same_file : (words : List (List ℕ)) (a b : List ℕ) → IsReplay a words → IsReplay b words → a ≡ b
 same_file words a b first second =
     let both : codes "replay" ∷ a ∷ [] ≡ codes "replay" ∷ b ∷ [] = sym first ∙ second in
+    cc
+
+-- a number has one text
+same_number : (m n : ℕ) → m < 2 ^ 64 → n < 2 ^ 64 → decimal m ≡ decimal n → m ≡ n
+same_number m n small few same =
+    sym (decimal_is_IsNumeral m small).1 ∙ ap (λ (text : List ℕ). digits_value 10 text) same ∙ (decimal_is_IsNumeral n few).1
+
+pub same_load : (words : List (List ℕ)) (seed frames seed' frames' : ℕ) → IsGen seed frames words → IsGen seed' frames' words → (seed ≡ seed') × (frames ≡ frames')
+same_load words seed frames seed' frames' one other =
+    let both : codes "gen" ∷ decimal seed ∷ decimal frames ∷ [] ≡ codes "gen" ∷ decimal seed' ∷ decimal frames' ∷ [] = sym one.spelled ∙ other.spelled in
+    let seeds : decimal seed ≡ decimal seed' = cc in
+    let counts : decimal frames ≡ decimal frames' = cc in (
+      same_number seed seed' (omega (arith, one.seed_within)) (omega (arith, other.seed_within)) seeds,
+      same_number frames frames' (omega (arith, one.frames_within)) (omega (arith, other.frames_within)) counts,
+    )
+
+-- no words ask for a replay of a file and for a load: there are two or three
+pub not_both : (words : List (List ℕ)) (file : List ℕ) (seed frames : ℕ) → IsReplay file words → IsGen seed frames words → ⊥
+not_both words file seed frames replay gen =
+    let both : codes "replay" ∷ file ∷ [] ≡ codes "gen" ∷ decimal seed ∷ decimal frames ∷ [] = sym replay ∙ gen.spelled in
     cc

@@ -7,4 +7,5 @@ pub mod Faulting
 pub mod Refusing
 pub mod Ending
 pub mod Forms
+pub mod Loading
 mod Clauses

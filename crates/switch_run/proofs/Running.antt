@@ -17,7 +17,7 @@ use Rattle.switch_run.proofs.Recast.{moved_session, told_at}
 err≢out : Err ≢ Out
 err≢out e = cc
 
-out≢err : Out ≢ Err
+pub out≢err : Out ≢ Err
 out≢err e = cc
 
 -- standard error is opened first and kept last

@@ -2,4 +2,5 @@ pub mod Causes
 pub mod Session
 pub mod Played
 pub mod Concluded
+pub mod Loads
 pub mod Runs

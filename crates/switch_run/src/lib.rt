@@ -4,10 +4,13 @@
 //! The contract of `run` carries the theorem of the whole: where a session began there is one legal history of the plan that
 //! the configuration says, it is the replay of what the sources of control and of the ports gave to sinks that may fail, and
 //! the journal, the replies, each port's output, the summary, the lines on standard error and the status are those of that
-//! history, or, of what is written, a front where a write failed (`specs/Session.antt`).
+//! history, or, of what is written, a front where a write failed (`specs/Session.antt`). Where a load is asked for, its
+//! history, a plain definition of the seed and the number of packets, is summed up, and nothing is opened
+//! (`specs/Loads.antt`).
 #![tactic(auto)]
 
 mod ends_told;
+mod loads;
 mod session;
 mod summing;
 mod top;

@@ -60,8 +60,8 @@ fn status_by(hist: &Hist, written: bool) -> u8
     }
 }
 
-// Writes the summary to standard output. The answer is false where the write failed.
-fn write_summary<W: World>(summary: Summary, world: &mut W) -> bool
+/// Writes the summary to standard output. The answer is false where the write failed.
+pub(crate) fn write_summary<W: World>(summary: Summary, world: &mut W) -> bool
     requires { IsReady (λ k. W.K.faults k ≡ 0) ((W.book world.old).std Std.Out) }
     ensures took { Keeps (TookOrPart W.K.faults W.K.written result (summary_text (sum_of summary))) ((W.book world.old).std Std.Out) ((W.book world.new).std Std.Out) }
     ensures others { OthersStay (W.book world.old).std (W.book world.new).std Std.Out }

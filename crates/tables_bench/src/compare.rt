@@ -3,7 +3,7 @@
 ghost use Rattle.std.specs.Prelude.{◌≡◌, ◌<◌, true};
 ghost use Rattle.mix_rules.specs.States.{has_state};
 
-use crate::keys::{address, stirred};
+use crate::keys::address;
 use crate::plain_rows::PlainRows;
 use bind_table::BindTable;
 use dhcp_states::Bound;
@@ -15,8 +15,14 @@ use std::alloc::{AllocError, Global};
 /// As many addresses as 16 ports hold with 64 each.
 const ROWS: u32 = 1_024;
 
-/// Each address is put, then as many calls take addresses away in no order, and then each is put again.
+/// Each address is put, then each is taken away in another order, and then each is put again in a third one.
 pub const CALLS: u32 = 3 * ROWS;
+
+/// After so many calls all rows are compared: half of them stand where addresses are being taken away.
+const HALF: u32 = ROWS / 2;
+
+/// From an address that is taken away to the next one: odd, so that each has its turn.
+const STEP: u32 = 389;
 
 // The ports in turn.
 fn port(n: u32) -> Port {
@@ -76,8 +82,8 @@ pub fn count_alike(alloc: Global) -> Result<u32, AllocError> {
     let mut plain = PlainRows::make(alloc);
     for n in 0..CALLS {
         call(&mut table, &mut plain, n)?;
-        let is_last = n % ROWS == ROWS - 1;
-        if !is_alike(&table, &plain, n) || is_last && !has_alike_rows(&table, &plain) {
+        let is_half = n % HALF == HALF - 1;
+        if !is_alike(&table, &plain, n) || is_half && !has_alike_rows(&table, &plain) {
             return Ok(n);
         }
     }
@@ -90,10 +96,9 @@ fn call(table: &mut BindTable, plain: &mut PlainRows, n: u32) -> Result<(), Allo
     requires few { n < CALLS }
     ensures { table.new.most ≡ ROWS }
 {
-    let place = (stirred(u64::from(n)) % u64::from(ROWS)) as u32;
     let a = match n / ROWS {
         0 => address(n),
-        1 => address(place),
+        1 => address(STEP * n % ROWS),
         _ => address(CALLS - 1 - n),
     };
     if n / ROWS == 1 {

@@ -9,7 +9,7 @@ use std::alloc::{AllocError, Global};
 const PREFIX: u128 = 0x2001_0db8 << 96;
 
 /// The n-th number of a row in no order (the finalizer of MurmurHash3).
-pub fn stirred(n: u64) -> u64 {
+fn stirred(n: u64) -> u64 {
     let first = (n ^ (n >> 33)).wrapping_mul(0xff51_afd7_ed55_8ccd);
     let second = (first ^ (first >> 33)).wrapping_mul(0xc4ce_b9fe_1a85_ec53);
     second ^ (second >> 33)

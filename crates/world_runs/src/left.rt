@@ -3,10 +3,11 @@
 use crate::recording_world::RecordingWorld;
 use crate::scene::Scene;
 use savi_ends::MemSink;
+use sha2::{Digest, Sha256};
 use std::alloc::{AllocError, Global};
 
 /// Prints the status, what standard error and standard output were told, what was written at each port, the replies, where
-/// control has an input, and the journal.
+/// control has an input, and the journal; of a load the digests of what was written at the ports and of the journal.
 pub fn print_left(
     rt: &impl Print,
     alloc: Global,
@@ -23,6 +24,9 @@ pub fn print_left(
     print!(rt; "standard error:\n{errors}")?;
     let summary = text_of(alloc, &left.world.out)?;
     print!(rt; "standard output:\n{summary}")?;
+    if scene.is_load {
+        return print_digests(rt, alloc, left);
+    }
     let ports = with_names(alloc, scene, ports_of(alloc, left)?, " ")?;
     print!(rt; "{ports}")?;
     if let (Some(_), Some(ends)) = (&scene.commands, &left.world.control) {
@@ -35,6 +39,29 @@ pub fn print_left(
         print!(rt; "journal{place}:\n{rest}")?;
     }
     Ok(())
+}
+
+// A line for each port and for the journal, with the digest of what was written there.
+fn print_digests(rt: &impl Print, alloc: Global, left: &RecordingWorld) -> anyhow::Result<()> {
+    for (port, ends) in left.world.ports.as_slice() {
+        if let Some(ends) = ends {
+            let digest = digest_of(alloc, ends.sink.written())?;
+            println!(rt; "port {}: {digest}", port.get())?;
+        }
+    }
+    for (_, sink) in left.world.outputs.as_slice() {
+        if let Some(sink) = sink {
+            let digest = digest_of(alloc, sink.written())?;
+            println!(rt; "journal: {digest}")?;
+        }
+    }
+    Ok(())
+}
+
+// How many octets these are, and the digits of their SHA-256 digest (FIPS 180-4).
+fn digest_of(alloc: Global, octets: &[u8]) -> Result<String, AllocError> {
+    let digits = hex::encode(alloc, &Sha256::digest(octets))?;
+    format!(in alloc; "{} octets, SHA-256 {digits}", octets.len())
 }
 
 // A line for each port, with the digits of what was written there.

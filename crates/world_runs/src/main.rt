@@ -11,6 +11,7 @@
 //!     line TEXT            a line of the configuration
 //!     head TEXT            a line that its journal begins with; where it does, what stands behind that head is printed
 //!     capture OCTETS..     what the next port's input holds
+//!     load SEED FRAMES     the inputs hold the captures of this load; what is written is told by its digests then
 //!     command TEXT         a line that control's input holds next
 //!     control OCTETS..     octets that control's input holds next
 //!     pieces NUMBER        how many octets a read of control gives at most

@@ -1,6 +1,7 @@
 //! What a run is a run of.
 
 use anyhow::bail;
+use load_gen::load;
 use std::alloc::{AllocError, Global};
 
 /// The most octets that a source gives in a read, where a scene says nothing else.
@@ -17,6 +18,8 @@ pub struct Scene {
     pub head: String,
     /// What the inputs of the ports hold, from port 1 on.
     pub captures: Vec<Vec<u8>>,
+    /// Whether these are those of a load: there is room for more, and what is written is told by its digest.
+    pub is_load: bool,
     /// What the input of control holds, or None.
     pub commands: Option<Vec<u8>>,
     /// How many octets a read of control gives at most.
@@ -37,6 +40,7 @@ impl Scene {
             plan: String::new(alloc),
             head: String::new(alloc),
             captures: Vec::new(alloc),
+            is_load: false,
             commands: None,
             pieces: READ_MOST,
             words: Vec::new(alloc),
@@ -79,6 +83,7 @@ impl Scene {
                 let octets = self.octets_of(alloc, rest)?;
                 self.captures.push(octets)?;
             }
+            "load" => self.set_load(alloc, rest)?,
             "command" => {
                 self.add_commands(alloc, rest.as_bytes())?;
                 self.add_commands(alloc, b"\n")?;
@@ -99,8 +104,17 @@ impl Scene {
     // No input holds anything, and control has none.
     fn forget_inputs(&mut self, alloc: Global) {
         self.captures = Vec::new(alloc);
+        self.is_load = false;
         self.commands = None;
         self.pieces = READ_MOST;
+    }
+
+    // The inputs of the ports are those of the load of a seed, with so many packets.
+    fn set_load(&mut self, alloc: Global, rest: &str) -> anyhow::Result<()> {
+        let (seed, frames) = rest.split_once(' ').unwrap_or((rest, ""));
+        self.captures = load(alloc, seed.parse::<u32>()?, frames.parse::<u32>()?)?.captures;
+        self.is_load = true;
+        Ok(())
     }
 
     // Adds octets to control's input.

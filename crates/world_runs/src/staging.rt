@@ -10,8 +10,10 @@ use savi_ends::{Ends, MemClock, MemEnds, MemSink, MemSource, MemWorld};
 use savi_kinds::{Port, Text};
 use std::alloc::{AllocError, Global};
 
-/// Room for what is written at a port or by control, or of a journal.
+/// Room for what is written at a port or by control, or of a journal, and the same where the inputs are those of a load.
 const FILE_ROOM: usize = 8_192;
+
+const LOAD_ROOM: usize = 2_097_152;
 
 /// Room for what standard output and standard error are told.
 const TEXT_ROOM: usize = 256;
@@ -20,7 +22,7 @@ const TEXT_ROOM: usize = 256;
 pub fn stage(alloc: Global, scene: &Scene) -> anyhow::Result<RecordingWorld> {
     let journal = Text::new(String::from_str(alloc, "journal.txt")?);
     let mut outputs = Vec::new(alloc);
-    let sink = MemSink::make(alloc, FILE_ROOM, fault_of(alloc, scene, "journal")?)?;
+    let sink = MemSink::make(alloc, room_of(scene), fault_of(alloc, scene, "journal")?)?;
     outputs.push((journal, Some(sink)))?;
     let world = MemWorld {
         inputs: plan_of(alloc, scene)?,
@@ -38,6 +40,11 @@ pub fn stage(alloc: Global, scene: &Scene) -> anyhow::Result<RecordingWorld> {
         world,
         openings: ArrayVec::new(),
     })
+}
+
+// The room for what is written at a port or by control, or of a journal.
+fn room_of(scene: &Scene) -> usize {
+    if scene.is_load { LOAD_ROOM } else { FILE_ROOM }
 }
 
 // The number of the call of this kind that fails, as a list.
@@ -68,7 +75,8 @@ fn ports_of(alloc: Global, scene: &Scene) -> anyhow::Result<Vec<(Port, Option<Me
         let write = format!(in alloc; "write {number}")?;
         let reads = fault_of(alloc, scene, read.as_str())?;
         let writes = fault_of(alloc, scene, write.as_str())?;
-        let ends = ends_of(alloc, capture.clone()?, READ_MOST, reads, writes)?;
+        let source = MemSource::new(capture.clone()?, READ_MOST, reads);
+        let ends = ends_of(alloc, source, room_of(scene), writes)?;
         ports.push((port, Some(ends)))?;
     }
     Ok(ports)
@@ -82,22 +90,20 @@ fn control_of(alloc: Global, scene: &Scene) -> Result<MemEnds, AllocError> {
     };
     let reads = fault_of(alloc, scene, "read control")?;
     let writes = fault_of(alloc, scene, "write control")?;
-    ends_of(alloc, octets, scene.pieces.max(1), reads, writes)
+    let source = MemSource::new(octets, scene.pieces.max(1), reads);
+    ends_of(alloc, source, room_of(scene), writes)
 }
 
-// Ends of which these reads and these writes fail, and of which a read gives at most so many octets.
+// Ends with this source, and with room for so many octets, of which these writes fail.
 fn ends_of(
     alloc: Global,
-    octets: Vec<u8>,
-    most: usize,
-    reads: Vec<u64>,
+    source: MemSource,
+    room: usize,
     writes: Vec<u64>,
-) -> Result<MemEnds, AllocError>
-    requires { 1 ≤ most }
-{
+) -> Result<MemEnds, AllocError> {
     Ok(Ends {
-        source: MemSource::new(octets, most, reads),
-        sink: MemSink::make(alloc, FILE_ROOM, writes)?,
+        source,
+        sink: MemSink::make(alloc, room, writes)?,
         clock: MemClock::new(Vec::new(alloc)),
     })
 }

@@ -60,3 +60,6 @@ returns-clause-unused g c = (ran_so g c).unused
 
 pub returns-clause-elsewhere : goal.returns-clause-elsewhere
 returns-clause-elsewhere g c = (ran_so g c).elsewhere
+
+pub returns-clause-load : goal.returns-clause-load
+returns-clause-load g c = (ran_so g c).load

@@ -1,0 +1,97 @@
+//! A switch, and what is put to it.
+
+ghost use Rattle.std.specs.Prelude.{◌≡◌, true};
+ghost use Rattle.savi_kinds.specs.Ports.{number_of};
+ghost use Rattle.savi_history.specs.Bases.{empty};
+ghost use Rattle.savi_history.specs.Passes.{has_port};
+ghost use Rattle.savi_history.specs.Legal.{IsOpen};
+ghost use Rattle.savi_kinds.specs.declared.entry.Who.TheVariants.{Ingress};
+
+use crate::frames::{Frame, HOSTS, port};
+use frame_class::a_frame_has_its_class;
+use savi_conf::read_plan;
+use savi_core::{Batch, Core, Event, Stepped};
+use savi_kinds::{DEPTH_MOST, Moment, PORTS_MOST, Plan, Port, Verdict, Who};
+use std::alloc::{AllocError, Global};
+
+/// A switch with so many ports, of which the first eight are those of hosts and the others trusted; each may hold 64
+/// addresses.
+pub fn switch(alloc: Global, ports: u8, validates: bool) -> anyhow::Result<Core> {
+    let text = plan_text(alloc, ports, validates)?;
+    let plan = read_plan(alloc, text.as_str().as_bytes(), true)?;
+    Ok(Core::make(alloc, plan)?)
+}
+
+// The configuration of such a switch.
+fn plan_text(alloc: Global, ports: u8, validates: bool) -> Result<String, AllocError> {
+    let savi = if validates { "on" } else { "off" };
+    let mut text = format!(in alloc;
+        "mac = \"02:00:00:00:00:01\"\njournal = \"journal.txt\"\nsavi = \"{savi}\"\nper_port = 64\nentries = 1000000\n"
+    )?;
+    for number in 1..=ports {
+        let role = if number <= HOSTS { "host" } else { "trusted" };
+        let port = format!(in alloc;
+            "[[port]]\nnumber = {number}\nrole = \"{role}\"\ninput = \"{number}.pcap\"\noutput = \"{number}.out\"\n"
+        )?;
+        text.push_str(port.as_str())?;
+    }
+    Ok(text)
+}
+
+/// Enters a frame at `stamp` (ms), and answers whether it passes.
+pub fn enter(core: &mut Core, frame: &Frame, stamp: Moment) -> bool {
+    if !is_open(core, frame.port) {
+        return false;
+    }
+    a_frame_has_its_class();
+    let stepped = core.step(Event::Frame {
+        port: frame.port,
+        stamp,
+        octets: frame.octets.as_slice(),
+        class: &frame.class,
+    });
+    match stepped {
+        Stepped::Done(entry) => matches!(entry.verdict, Some(Verdict::Pass(_))),
+        Stepped::Full { .. } | Stepped::Nothing => false,
+    }
+}
+
+/// Time passes, up to `stamp` (ms). The answer is whether something was due.
+pub fn tick(core: &mut Core, stamp: Moment) -> bool {
+    if core.ended(Who::Ticker) {
+        return false;
+    }
+    match core.step(Event::Tick { stamp }) {
+        Stepped::Done(_) => true,
+        Stepped::Full { .. } | Stepped::Nothing => false,
+    }
+}
+
+/// Drains all ports.
+pub fn drain_all(core: &mut Core, batch: &mut Batch) {
+    for n in 0..PORTS_MOST {
+        let port = port(n as u64);
+        if has_port(core.plan(), port) {
+            core.drain(port, DEPTH_MOST, batch);
+        }
+    }
+}
+
+// Whether frames may come in at a port.
+fn is_open(core: &Core, port: Port) -> bool
+    ensures { result ≡ true → IsOpen core.now.plan empty core.now.past (Ingress port) }
+{
+    has_port(core.plan(), port) && !core.ended(Who::Ingress(port))
+}
+
+// Whether a port is one of the plan's.
+fn has_port(plan: &Plan, port: Port) -> bool
+    ensures { result ≡ has_port plan.now (number_of port) }
+{
+    for p in plan.ports.as_slice() {
+        if p.number.get() == port.get() {
+            return true;
+        }
+    }
+    false
+}

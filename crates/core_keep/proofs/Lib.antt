@@ -1,0 +1,4 @@
+pub mod RowsRead
+pub mod PlansApart
+pub mod PastsRead
+pub mod Goings

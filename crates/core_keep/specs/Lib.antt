@@ -1,0 +1,5 @@
+pub mod PortNumbers
+pub mod RowCodes
+pub mod PlanCodes
+pub mod Pasts
+pub mod Seen

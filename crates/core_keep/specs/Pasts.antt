@@ -1,0 +1,13 @@
+-- A history as its lock knows it, in numbers and with the oldest entry first, and as rows, with the newest first.
+use Rattle.std.specs.Prelude.{ℕ, List, [], ◌∷◌, ◌++◌}
+use Rattle.hist_store.specs.Rows.{Row}
+use Rattle.table_lock.specs.Entries.{History}
+use Rattle.core_keep.specs.RowCodes.{row_code, row_at}
+
+abbrev pub coded : List Row → History
+coded [] = []
+coded (row ∷ past) = coded past ++ row_code row ∷ []
+
+abbrev pub decoded : History → List Row
+decoded [] = []
+decoded (code ∷ codes) = decoded codes ++ row_at code ∷ []

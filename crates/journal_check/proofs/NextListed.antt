@@ -1,0 +1,237 @@
+-- Which line comes next behind those of ports and prefixes, in the header of a plan.
+use Rattle.std.proofs.Common.{◌≡◌, ◌≢◌, ◌⊎◌, ◌==◌, ◌<◌, ◌≤◌, ℕ, false, List, [], ◌∷◌, ◌++◌, length, map, drop, All, refl, ap, ap₂, sym, ◌∙◌, inl, inr, subst, arith, append_assoc, length-append}
+use Rattle.std.specs.List.{AllPairs}
+use Rattle.std.specs.List.Sorted.{IsStrictlyIncreasing}
+use Rattle.std.proofs.lemmas.List.{get_or_at, length-map, map-append}
+use Rattle.std.proofs.lemmas.List.Elements.{All-head, All-tail}
+use Rattle.savi_kinds.specs.declared.plan.Plan.{Plan}
+use Rattle.savi_kinds.specs.declared.plan.PortPlan.{PortPlan}
+use Rattle.savi_kinds.specs.declared.plan.PrefixPlan.{PrefixPlan}
+use Rattle.savi_kinds.specs.declared.plan.Method.{Method}
+use Rattle.savi_kinds.specs.declared.address.Prefix.{Prefix}
+use Rattle.savi_kinds.specs.Ports.{number_of}
+use Rattle.savi_kinds.specs.Prefixes.{IsPrefix, first_of, past_of}
+use Rattle.savi_kinds.specs.ValidPlan.{IsPlanPrefix, nets_of, numbers_of}
+use Rattle.savi_kinds.proofs.AddrWritten.{written_prefix}
+use Rattle.hist_store.specs.TextOfLines.{joined}
+use Rattle.hist_store.specs.JournalTexts.{address_text, begin_line, port_fields, prefix_fields, prefix_text_by}
+use Rattle.hist_store.proofs.HeaderRead.{prefix_read}
+use Rattle.hist_store.proofs.OnePort.{first_apart, port_by_text}
+use Rattle.savi_history.specs.Journals.{IsAddress}
+use Rattle.savi_history.proofs.OneValue.{method_by_text}
+use Rattle.journal_check.specs.declared.settings.Settings.{Settings}
+use Rattle.journal_check.specs.Headers.{Line, ComesNext}
+use Rattle.journal_check.specs.SettingLines.{setting_lines}
+use Rattle.journal_check.specs.ListLines.{list_lines, AreLists, MayAddPort, MayAddPrefix, IsNotListed}
+use Rattle.journal_check.proofs.ListsRead.{above_of, past_at}
+
+-- lines of which the first ones are the same in form
+
+four_same : {name a b c a' b' c' : List ℕ} {ls ms : List Line} → (name ∷ a ∷ b ∷ c ∷ []) ∷ ls ≡ (name ∷ a' ∷ b' ∷ c' ∷ []) ∷ ms → (a ≡ a') × (ls ≡ ms)
+four_same {name} {a} {b} {c} {a'} {b'} {c'} {ls} {ms} e = let field : a ≡ a' = cc in let rest : ls ≡ ms = cc in (field, rest)
+
+record AreSameTwo (a b a' b' : List ℕ) (ls ms : List Line) : Type 0 where
+  first : a ≡ a'
+  second : b ≡ b'
+  rest : ls ≡ ms
+
+three_same : {name a b a' b' : List ℕ} {ls ms : List Line} → (name ∷ a ∷ b ∷ []) ∷ ls ≡ (name ∷ a' ∷ b' ∷ []) ∷ ms → AreSameTwo a b a' b' ls ms
+three_same e = record { first = cc; second = cc; rest = cc }
+
+field_same : {s t : List ℕ} {l m : Line} {ls ms : List Line} → (s ∷ l) ∷ ls ≡ (t ∷ m) ∷ ms → s ≡ t
+field_same e = cc
+
+second_apart : {z x y : ℕ} {s t : List ℕ} → z ∷ x ∷ s ≡ z ∷ y ∷ t → (x == y) ≡ false → ⊥
+second_apart {z} {x} {y} {s} {t} e other = let tails : x ∷ s ≡ y ∷ t = cc in first_apart tails other
+
+-- ports
+
+-- no line of a port comes first
+abbrev HasNoPort : List Line → Type 0
+HasNoPort rest = (p : PortPlan) (ls : List Line) → rest ≡ port_fields p ∷ ls → ⊥
+
+-- the ports of the plan are these
+record ArePorts (qs ps : List PortPlan) (rest mid : List Line) : Type 0 where
+  numbers : numbers_of qs ≡ numbers_of ps
+  rest_is : rest ≡ mid
+
+-- the plan has more ports than these
+record AreMorePorts (qs ps : List PortPlan) (rest mid : List Line) : Type 0 where
+  next : PortPlan
+  later : List PortPlan
+  numbers : numbers_of qs ≡ numbers_of ps ++ number_of next.number ∷ numbers_of later
+  mid_is : mid ≡ port_fields next ∷ (map port_fields later ++ rest)
+
+ports_more : (q p : PortPlan) (qs ps : List PortPlan) (rest mid : List Line) → number_of q.number ≡ number_of p.number
+    → ArePorts qs ps rest mid ⊎ AreMorePorts qs ps rest mid → ArePorts (q ∷ qs) (p ∷ ps) rest mid ⊎ AreMorePorts (q ∷ qs) (p ∷ ps) rest mid
+ports_more q p qs ps rest mid same (inl all) = inl (record { numbers = ap₂ (λ (n : ℕ) (ns : List ℕ). n ∷ ns) same all.numbers; rest_is = all.rest_is })
+ports_more q p qs ps rest mid same (inr more) =
+    inr (record { next = more.next; later = more.later; numbers = ap₂ (λ (n : ℕ) (ns : List ℕ). n ∷ ns) same more.numbers; mid_is = more.mid_is })
+
+ports_behind : (qs ps : List PortPlan) (rest mid : List Line) → HasNoPort rest → map port_fields qs ++ rest ≡ map port_fields ps ++ mid → ArePorts qs ps rest mid ⊎ AreMorePorts qs ps rest mid
+ports_behind [] [] rest mid none e = inl (record { numbers = refl; rest_is = e })
+ports_behind [] (p ∷ ps) rest mid none e = absurd (none p (map port_fields ps ++ mid) e)
+ports_behind (q ∷ qs) [] rest mid none e = inr (record { next = q; later = qs; numbers = refl; mid_is = sym e })
+ports_behind (q ∷ qs) (p ∷ ps) rest mid none e =
+    let line = four_same e in
+    ports_more q p qs ps rest mid (ap number_of (port_by_text q.number p.number line.0)) (ports_behind qs ps rest mid none line.1)
+
+-- prefixes
+
+prefix_once : (x y : Prefix) → IsAddress (first_of x) → IsPrefix x → IsAddress (first_of y) → IsPrefix y → prefix_text_by address_text x ≡ prefix_text_by address_text y → x ≡ y
+prefix_once x y small valid small' valid' text = prefix_read (prefix_text_by address_text x) x y small' valid' text (written_prefix x small valid)
+
+abbrev the_plan : Prefix → Method → PrefixPlan
+the_plan prefix method = record { prefix = prefix; method = method }
+
+-- prefixes that a plan may name, of 128 bits
+record AreWritten (xs : List PrefixPlan) : Type 0 where
+  plan_prefixes : All IsPlanPrefix (nets_of xs)
+  addresses : All (λ net. IsAddress (first_of net)) (nets_of xs)
+
+rest_written : (x : PrefixPlan) (xs : List PrefixPlan) → AreWritten (x ∷ xs) → AreWritten xs
+rest_written x xs are = record {
+  plan_prefixes = All-tail IsPlanPrefix x.prefix (nets_of xs) are.plan_prefixes;
+  addresses = All-tail (λ (net : Prefix). IsAddress (first_of net)) x.prefix (nets_of xs) are.addresses;
+}
+
+first_same : (x y : PrefixPlan) (xs ys : List PrefixPlan) → AreWritten (x ∷ xs) → AreWritten (y ∷ ys) → prefix_text_by address_text x.prefix ≡ prefix_text_by address_text y.prefix → x.prefix ≡ y.prefix
+first_same x y xs ys are are' text =
+    let within = λ (net : Prefix). IsAddress (first_of net) in
+    let valid = All-head IsPlanPrefix x.prefix (nets_of xs) are.plan_prefixes in
+    let valid' = All-head IsPlanPrefix y.prefix (nets_of ys) are'.plan_prefixes in
+    prefix_once x.prefix y.prefix (All-head within x.prefix (nets_of xs) are.addresses) valid.prefix (All-head within y.prefix (nets_of ys) are'.addresses) valid'.prefix text
+
+abbrev HasNoPrefix : List Line → Type 0
+HasNoPrefix rest = (x : PrefixPlan) (ls : List Line) → rest ≡ prefix_fields address_text x ∷ ls → ⊥
+
+record ArePrefixes (ys xs : List PrefixPlan) (rest mid : List Line) : Type 0 where
+  same : ys ≡ xs
+  rest_is : rest ≡ mid
+
+record AreMorePrefixes (ys xs : List PrefixPlan) (rest mid : List Line) : Type 0 where
+  next : PrefixPlan
+  later : List PrefixPlan
+  same : ys ≡ xs ++ next ∷ later
+  mid_is : mid ≡ prefix_fields address_text next ∷ (map (prefix_fields address_text) later ++ rest)
+
+prefixes_more : (y x : PrefixPlan) (ys xs : List PrefixPlan) (rest mid : List Line) → y ≡ x
+    → ArePrefixes ys xs rest mid ⊎ AreMorePrefixes ys xs rest mid → ArePrefixes (y ∷ ys) (x ∷ xs) rest mid ⊎ AreMorePrefixes (y ∷ ys) (x ∷ xs) rest mid
+prefixes_more y x ys xs rest mid same (inl all) = inl (record { same = ap₂ (λ (p : PrefixPlan) (ps : List PrefixPlan). p ∷ ps) same all.same; rest_is = all.rest_is })
+prefixes_more y x ys xs rest mid same (inr more) =
+    inr (record { next = more.next; later = more.later; same = ap₂ (λ (p : PrefixPlan) (ps : List PrefixPlan). p ∷ ps) same more.same; mid_is = more.mid_is })
+
+prefixes_behind : (ys xs : List PrefixPlan) (rest mid : List Line) → HasNoPrefix rest → AreWritten ys → AreWritten xs
+    → map (prefix_fields address_text) ys ++ rest ≡ map (prefix_fields address_text) xs ++ mid → ArePrefixes ys xs rest mid ⊎ AreMorePrefixes ys xs rest mid
+prefixes_behind [] [] rest mid none are are' e = inl (record { same = refl; rest_is = e })
+prefixes_behind [] (x ∷ xs) rest mid none are are' e = absurd (none x (map (prefix_fields address_text) xs ++ mid) e)
+prefixes_behind (y ∷ ys) [] rest mid none are are' e = inr (record { next = y; later = ys; same = refl; mid_is = sym e })
+prefixes_behind (y ∷ ys) (x ∷ xs) rest mid none are are' e =
+    let line = three_same e in
+    let same : y ≡ x = ap₂ the_plan (first_same y x ys xs are are' line.first) (method_by_text y.method x.method line.second) in
+    prefixes_more y x ys xs rest mid same (prefixes_behind ys xs rest mid none (rest_written y ys are) (rest_written x xs are') line.rest)
+
+-- the line that comes next
+
+begin_no_prefix : HasNoPrefix (begin_line ∷ [])
+begin_no_prefix x ls e = first_apart (field_same e) refl
+
+prefixes_no_port : (ys : List PrefixPlan) → HasNoPort (map (prefix_fields address_text) ys ++ begin_line ∷ [])
+prefixes_no_port [] p ls e = first_apart (field_same e) refl
+prefixes_no_port (y ∷ ys) p ls e = second_apart (field_same e) refl
+
+head_line : {l m : Line} {ls ms : List Line} → l ∷ ls ≡ m ∷ ms → l ≡ m
+head_line e = cc
+
+-- a port comes next only where there is no prefix yet
+port_next : (xs : List PrefixPlan) (next : Line) (more later : List Line) (q : PortPlan) → map (prefix_fields address_text) xs ++ next ∷ more ≡ port_fields q ∷ later → (xs ≡ []) × (next ≡ port_fields q)
+port_next [] next more later q e = (refl, head_line e)
+port_next (x ∷ xs) next more later q e = absurd (second_apart (field_same e) refl)
+
+numbers_size : (ports : List PortPlan) → length (numbers_of ports) ≡ length ports
+numbers_size ports = length-map ports (λ (p : PortPlan). number_of p.number)
+
+All-middle : (P : Prefix → Type 0) (xs : List Prefix) (x : Prefix) (ys : List Prefix) → All P (xs ++ x ∷ ys) → P x
+All-middle P xs x ys all =
+    let size = length-append xs (x ∷ ys) in
+    subst P (get_or_at xs x ys x (length xs) refl) (all (length xs) x (omega (arith, size)))
+
+-- the lines of the plan's lists
+abbrev plan_lists : Plan → List Line
+plan_lists plan = map port_fields plan.ports ++ (map (prefix_fields address_text) plan.prefixes ++ begin_line ∷ [])
+
+lists_behind : (s : Settings) (ports : List PortPlan) (prefixes : List PrefixPlan) (next : Line) (comes : ComesNext (setting_lines s ++ list_lines ports prefixes) next)
+    → plan_lists comes.plan ≡ map port_fields ports ++ (map (prefix_fields address_text) prefixes ++ next ∷ comes.more)
+lists_behind s ports prefixes next comes =
+    let plan = comes.plan in
+    sym (append_assoc (map port_fields plan.ports) (map (prefix_fields address_text) plan.prefixes) (begin_line ∷ []))
+    ∙ ap (λ (lines : List Line). drop 11 lines) comes.header
+    ∙ append_assoc (map port_fields ports) (map (prefix_fields address_text) prefixes) (next ∷ comes.more)
+
+module _ (s : Settings) (ports : List PortPlan) (prefixes : List PrefixPlan) (line : List ℕ) (next : Line) (comes : ComesNext (setting_lines s ++ list_lines ports prefixes) next) where
+  abbrev rest : List Line
+  rest = map (prefix_fields address_text) comes.plan.prefixes ++ begin_line ∷ []
+
+  abbrev mid : List Line
+  mid = map (prefix_fields address_text) prefixes ++ next ∷ comes.more
+
+  not_port : IsNotListed ports prefixes line → AreMorePorts comes.plan.ports ports rest mid → line ≡ joined next → ⊥
+  not_port none more e =
+      let valid = comes.is_plan.valid in
+      let port = port_next prefixes next comes.more (map port_fields more.later ++ rest) more.next more.mid_is in
+      let sizes = ap length more.numbers in
+      let whole = numbers_size comes.plan.ports in
+      let these = numbers_size ports in
+      let parts = length-append (numbers_of ports) (number_of more.next.number ∷ numbers_of more.later) in
+      let most = valid.port_count.1 in
+      let may : MayAddPort ports prefixes more.next.number = record {
+        few = omega (arith, sizes, whole, these, parts, most);
+        no_prefix = port.0;
+        above = above_of (numbers_of ports) (number_of more.next.number) (numbers_of more.later) (subst IsStrictlyIncreasing more.numbers valid.ports);
+      } in
+      none.port more.next.number more.next.role more.next.format may (e ∙ ap joined port.1)
+
+  not_prefix : IsNotListed ports prefixes line → 0 < length ports → AreMorePrefixes comes.plan.prefixes prefixes (begin_line ∷ []) (next ∷ comes.more) → line ≡ joined next → ⊥
+  not_prefix none some more e =
+      let valid = comes.is_plan.valid in
+      let nets : nets_of comes.plan.prefixes ≡ nets_of prefixes ++ more.next.prefix ∷ nets_of more.later =
+      ap nets_of more.same ∙ map-append (λ (p : PrefixPlan). p.prefix) prefixes (more.next ∷ more.later) in
+      let sizes = ap length more.same in
+      let parts = length-append prefixes (more.next ∷ more.later) in
+      let most = valid.prefix_count in
+      let within : Prefix → Type 0 = λ net. IsAddress (first_of net) in
+      let plan_prefixes = subst (λ (ns : List Prefix). All IsPlanPrefix ns) nets valid.plan_prefixes in
+      let addresses = subst (λ (ns : List Prefix). All within ns) nets comes.is_plan.addresses in
+      let may : MayAddPrefix ports prefixes more.next.prefix = record {
+        some_port = some;
+        few = omega (arith, sizes, parts, most);
+        plan_prefix = All-middle IsPlanPrefix (nets_of prefixes) more.next.prefix (nets_of more.later) plan_prefixes;
+        address = All-middle within (nets_of prefixes) more.next.prefix (nets_of more.later) addresses;
+        past = past_at (nets_of prefixes) more.next.prefix (nets_of more.later) (subst (λ (ns : List Prefix). AllPairs (λ p q. past_of p ≤ first_of q) ns) nets valid.prefixes);
+      } in
+      none.prefix more.next.prefix more.next.method may (e ∙ ap joined (head_line more.mid_is))
+
+  not_last : IsNotListed ports prefixes line → 0 < length ports → ArePrefixes comes.plan.prefixes prefixes (begin_line ∷ []) (next ∷ comes.more) ⊎ AreMorePrefixes comes.plan.prefixes prefixes (begin_line ∷ []) (next ∷ comes.more)
+      → line ≡ joined next → ⊥
+  not_last none some (inl all) e = none.begin some (e ∙ ap joined (sym (head_line all.rest_is)))
+  not_last none some (inr more) e = not_prefix none some more e
+
+  not_behind : AreLists ports prefixes → IsNotListed ports prefixes line → ArePorts comes.plan.ports ports rest mid ⊎ AreMorePorts comes.plan.ports ports rest mid → line ≡ joined next → ⊥
+  not_behind are none (inr more) = not_port none more
+  not_behind are none (inl all) =
+      let sizes = ap length all.numbers in
+      let whole = numbers_size comes.plan.ports in
+      let these = numbers_size ports in
+      let least = comes.is_plan.valid.port_count.0 in
+      let some : 0 < length ports = omega (arith, sizes, whole, these, least) in
+      let written : AreWritten comes.plan.prefixes = record { plan_prefixes = comes.is_plan.valid.plan_prefixes; addresses = comes.is_plan.addresses } in
+      let written' : AreWritten prefixes = record { plan_prefixes = are.plan_prefixes; addresses = are.addresses } in
+      not_last none some (prefixes_behind comes.plan.prefixes prefixes (begin_line ∷ []) (next ∷ comes.more) begin_no_prefix written written' all.rest_is)
+
+-- a line that is none of those that may come next in the lists is none that comes next in a header
+pub not_listed : (s : Settings) (ports : List PortPlan) (prefixes : List PrefixPlan) (line : List ℕ) → AreLists ports prefixes → IsNotListed ports prefixes line
+    → (next : Line) → ComesNext (setting_lines s ++ list_lines ports prefixes) next → line ≢ joined next
+not_listed s ports prefixes line are none next comes =
+    not_behind s ports prefixes line next comes are none
+    (ports_behind comes.plan.ports ports (map (prefix_fields address_text) comes.plan.prefixes ++ begin_line ∷ []) (map (prefix_fields address_text) prefixes ++ next ∷ comes.more)
+    (prefixes_no_port comes.plan.prefixes) (lists_behind s ports prefixes next comes))

@@ -1,0 +1,130 @@
+-- Which passes are open, and whether all have ended.
+use Rattle.std.proofs.Common.{◌≡◌, ◌≢◌, ◌+◌, ◌*◌, ◌-◌, ◌<◌, ◌≤◌, ◌↔◌, ℕ, zero, suc, Bool, true, false, true≢false, not, nat_eq, List, length, get_or, refl, ap, sym, ◌∙◌, inl, inr, subst, arith, if◌then◌else◌}
+use Rattle.std.specs.Prelude.{IsTrue}
+use Rattle.std.specs.List.Sorted.{IsStrictlyIncreasing}
+use Rattle.std.proofs.lemmas.Bool.{cases_lt}
+use Rattle.std.proofs.lemmas.Bool.Decides.{nat_tests}
+use Rattle.std.proofs.lemmas.List.{get_or-map}
+use Rattle.savi_kinds.specs.declared.plan.Plan.{Plan}
+use Rattle.savi_kinds.specs.declared.plan.PortPlan.{PortPlan}
+use Rattle.savi_kinds.specs.declared.entry.Who.{Who}
+use Rattle.savi_kinds.specs.declared.entry.Who.TheVariants as passes
+use Rattle.savi_kinds.specs.declared.entry.How.{How}
+use Rattle.savi_kinds.specs.declared.entry.How.TheVariants as hows
+use Rattle.savi_kinds.specs.Ports.{number_of}
+use Rattle.savi_kinds.specs.ValidPlan.{numbers_of}
+use Rattle.hist_store.specs.Rows.{Row}
+use Rattle.hist_store.specs.EndTexts.{IsReasonOf}
+use Rattle.hist_store.specs.EntryLines.{IsHowInRange}
+use Rattle.savi_history.specs.Bases.{Base, empty}
+use Rattle.savi_history.specs.Passes.{has_pass, has_port, pass_of, place_of, egress_pass, has_ended, AllEnded}
+use Rattle.savi_history.specs.Legal.{IsOpen, IsFinished, MayEnd}
+use Rattle.savi_history.proofs.PassNumbers.{number_at, known_at, place_at}
+use Rattle.savi_core.specs.Counts.{open_below}
+use Rattle.savi_core.proofs.Counting.{open_below-some}
+use Rattle.journal_check.specs.EgressEnds.{HaveEgressEnded}
+
+pub open_iff : (plan : Plan) (past : List Row) (who : Who) (ended : Bool) → has_pass plan who ≡ true → ended ≡ has_ended empty (pass_of plan who) past → IsTrue (not ended) ↔ IsOpen plan empty past who
+open_iff plan past who true known is = (λ no. absurd (true≢false (sym no)), λ open_pass. absurd (true≢false (is ∙ open_pass.running)))
+open_iff plan past who false known is = (λ yes. record { known = known; running = sym is }, λ open_pass. refl)
+
+pub closed_iff : (plan : Plan) (past : List Row) (who : Who) → has_pass plan who ≡ false → IsTrue false ↔ IsOpen plan empty past who
+closed_iff plan past who unknown = (λ no. absurd (true≢false (sym no)), λ open_pass. absurd (true≢false (sym open_pass.known ∙ unknown)))
+
+-- all have ended where none is open
+
+ended_at : (base : Base) (past : List Row) (n pass : ℕ) (b : Bool) → open_below base past n ≡ 0 → pass < n → has_ended base pass past ≡ b → has_ended base pass past ≡ true
+ended_at base past n pass true none within is = is
+ended_at base past n pass false none within is = let some = open_below-some base past pass n within is in absurd (omega (arith, some, none))
+
+pub ended_all : (base : Base) (past : List Row) (n : ℕ) → open_below base past n ≡ 0 → AllEnded base n past
+ended_all base past n none = λ pass within. ended_at base past n pass (has_ended base pass past) none within refl
+
+pub none_open : (base : Base) (past : List Row) (n : ℕ) → AllEnded base n past → open_below base past n ≡ 0
+none_open base past zero all = refl
+none_open base past (suc n) all =
+    let before = none_open base past n (λ pass within. all pass (omega (arith, within))) in
+    let last : has_ended base n past ≡ true = all n (omega arith) in
+    let sum : open_below base past n + 0 ≡ 0 = omega (arith, before) in
+    ap (λ (b : Bool). open_below base past n + (if b then 0 else 1)) last ∙ sum
+
+-- the passes behind the inputs and the ticker
+
+behind_ticker : (plan : Plan) (past : List Row) (pass : ℕ) → has_ended empty (length plan.ports + 1) past ≡ true → HaveEgressEnded plan past → length plan.ports + 1 ≤ pass → pass < 2 * length plan.ports + 2
+    → has_ended empty pass past ≡ true
+behind_ticker plan past pass ticker egress low within =
+    elim (cases_lt (length plan.ports + 1) pass) [
+      | inl over ↦
+          let place = pass - (length plan.ports + 2) in
+          let number : length plan.ports + 2 + place ≡ pass = omega (arith, over) in
+          subst (λ (n : ℕ). has_ended empty n past ≡ true) number (egress place (omega (arith, over, within)))
+      | inr under ↦ let number : length plan.ports + 1 ≡ pass = omega (arith, low, under) in subst (λ (n : ℕ). has_ended empty n past ≡ true) number ticker
+    ]
+
+pub finished : (plan : Plan) (past : List Row) → AllEnded empty (length plan.ports + 1 + 1) past → HaveEgressEnded plan past → IsFinished plan empty past
+finished plan past inputs egress = λ pass within.
+    elim (cases_lt pass (length plan.ports + 1 + 1)) [
+      | inl input ↦ inputs pass input
+      | inr behind ↦ behind_ticker plan past pass (inputs (length plan.ports + 1) (omega arith)) egress (omega (arith, behind)) within
+    ]
+
+pub egress_ended : (plan : Plan) (past : List Row) → IsFinished plan empty past → HaveEgressEnded plan past
+egress_ended plan past all = λ place within. all (length plan.ports + 2 + place) (omega (arith, within))
+
+-- those up to the ticker
+pub through : (plan : Plan) (past : List Row) → open_below empty past (length plan.ports + 1) ≡ 0 → has_ended empty (length plan.ports + 1) past ≡ true → AllEnded empty (length plan.ports + 1 + 1) past
+through plan past none ticker = λ pass within.
+    elim (cases_lt pass (length plan.ports + 1)) [
+      | inl input ↦ ended_all empty past (length plan.ports + 1) none pass input
+      | inr behind ↦ let number : length plan.ports + 1 ≡ pass = omega (arith, within, behind) in subst (λ (n : ℕ). has_ended empty n past ≡ true) number ticker
+    ]
+
+pub finished_through : (plan : Plan) (past : List Row) → IsFinished plan empty past → AllEnded empty (length plan.ports + 1 + 1) past
+finished_through plan past all = λ pass within. all pass (omega (arith, within))
+
+pub inputs_iff : (plan : Plan) (past : List Row) (left : ℕ) → left ≡ open_below empty past (length plan.ports + 1) → IsTrue (nat_eq left 0) ↔ AllEnded empty (length plan.ports + 1) past
+inputs_iff plan past left is = (
+  λ yes. let none : left ≡ 0 = grind (arith, nat_tests) in ended_all empty past (length plan.ports + 1) (sym is ∙ none),
+  λ all. let none : left ≡ 0 = is ∙ none_open empty past (length plan.ports + 1) all in grind (arith, nat_tests),
+)
+
+-- by the reasons for which a pass may end
+
+pub may_other : (plan : Plan) (past : List Row) (who : Who) (how : How) → IsReasonOf who how → IsHowInRange how → how ≢ hows.End → ((len : ℕ) → how ≢ hows.Full len) → MayEnd plan empty past who how
+may_other plan past who hows.End reason range not_end not_full = absurd (not_end refl)
+may_other plan past who (hows.Full len) reason range not_end not_full = absurd (not_full len refl)
+may_other plan past (passes.Ingress port) hows.Quit reason range not_end not_full = absurd reason
+may_other plan past (passes.Ingress port) (hows.Malformed at) reason range not_end not_full = range
+may_other plan past (passes.Ingress port) (hows.Overlong at) reason range not_end not_full = absurd reason
+may_other plan past (passes.Ingress port) hows.Failed reason range not_end not_full = tt
+may_other plan past (passes.Ingress port) hows.Unwritten reason range not_end not_full = absurd reason
+may_other plan past passes.Control hows.Quit reason range not_end not_full = tt
+may_other plan past passes.Control (hows.Malformed at) reason range not_end not_full = range
+may_other plan past passes.Control (hows.Overlong at) reason range not_end not_full = range
+may_other plan past passes.Control hows.Failed reason range not_end not_full = tt
+may_other plan past passes.Control hows.Unwritten reason range not_end not_full = tt
+may_other plan past passes.Ticker hows.Quit reason range not_end not_full = absurd reason
+may_other plan past passes.Ticker (hows.Malformed at) reason range not_end not_full = absurd reason
+may_other plan past passes.Ticker (hows.Overlong at) reason range not_end not_full = absurd reason
+may_other plan past passes.Ticker hows.Failed reason range not_end not_full = absurd reason
+may_other plan past passes.Ticker hows.Unwritten reason range not_end not_full = absurd reason
+may_other plan past (passes.Egress port) hows.Quit reason range not_end not_full = absurd reason
+may_other plan past (passes.Egress port) (hows.Malformed at) reason range not_end not_full = absurd reason
+may_other plan past (passes.Egress port) (hows.Overlong at) reason range not_end not_full = absurd reason
+may_other plan past (passes.Egress port) hows.Failed reason range not_end not_full = tt
+may_other plan past (passes.Egress port) hows.Unwritten reason range not_end not_full = absurd reason
+
+-- the port at a place of the plan
+
+number_there : (plan : Plan) (k : ℕ) (p : PortPlan) → k < length plan.ports → p ≡ get_or plan.ports k p → number_at plan k ≡ number_of p.number
+number_there plan k p within is = get_or-map (λ (q : PortPlan). number_of q.number) plan.ports k p 0 within ∙ ap (λ (q : PortPlan). number_of q.number) (sym is)
+
+pub known_there : (plan : Plan) (k : ℕ) (p : PortPlan) → k < length plan.ports → p ≡ get_or plan.ports k p → has_port plan (number_of p.number) ≡ true
+known_there plan k p within is = subst (λ (n : ℕ). has_port plan n ≡ true) (number_there plan k p within is) (known_at plan k within)
+
+pub egress_there : (plan : Plan) (k : ℕ) (p : PortPlan) → IsStrictlyIncreasing (numbers_of plan.ports) → k < length plan.ports → p ≡ get_or plan.ports k p → egress_pass plan (number_of p.number) ≡ length plan.ports + 2 + k
+egress_there plan k p rising within is =
+    ap (λ (n : ℕ). length plan.ports + 2 + n) (sym (ap (place_of plan) (number_there plan k p within is)) ∙ place_at plan k rising within)
+
+pub inputs_ended : (plan : Plan) (past : List Row) → AllEnded empty (length plan.ports + 1 + 1) past → open_below empty past (length plan.ports + 1) ≡ 0
+inputs_ended plan past all = none_open empty past (length plan.ports + 1) (λ pass within. all pass (omega (arith, within)))

@@ -1,0 +1,89 @@
+use Rattle.std.proofs.Common.{◌≡◌, ◌+◌, ◌++◌, ℕ, List, IfSome, length, ap, sym, ◌∙◌, subst, arith}
+use Rattle.savi_ends.specs.Octets.{in_front}
+use Rattle.hist_store.specs.TextOfLines.{lines_text}
+use Rattle.journal_check.specs.declared.answer.Checked.{Checked}
+use Rattle.journal_check.specs.declared.answer.Checked.TheVariants.{BadLine}
+use Rattle.journal_check.specs.declared.settings.Settings.{Settings}
+use Rattle.journal_check.specs.Pieces.{to_come}
+use Rattle.journal_check.specs.SettingLines.{AreSettings, setting_lines}
+use Rattle.journal_check.specs.ListLines.{IsListed, IsNotListed, list_lines, Adds}
+use Rattle.journal_check.specs.declared.lists.Added.TheVariants as added
+use Rattle.journal_check.specs.Answers.{IfRead, IsBadHeader}
+use Rattle.journal_check.proofs.ListsRead.{are_empty, same_lists}
+use Rattle.journal_check.proofs.Heading.{none_told, list_more, all_taken, bad_list, none_listed, broken_next, same_number}
+use Rattle.journal_check.proofs.header.read_lists.Goals as goal
+
+pub listed-init : goal.listed-init
+listed-init g c =
+    let made = c.in-Ok.ensures in
+    record {
+      later = omega arith;
+      are = are_empty c.in-Ok.lists.ports.items c.in-Ok.lists.prefixes.items made.0 made.1;
+      told = none_told c.in-Ok.lists.ports.items c.in-Ok.lists.prefixes.items (to_come c.args.lines.now (g.S.Source.left c.args.source.now)) made.0 made.1;
+    }
+
+pub listed-preserved : goal.listed-preserved
+listed-preserved g c =
+    let was = c.listed.invariant in
+    let old = c.listed.lists in
+    let new = c.take.new.self in
+    let whole = to_come c.args.lines.now (g.S.Source.left c.args.source.now) in
+    let mid = to_come c.listed.lines (g.S.Source.left c.listed.source) in
+    let after = to_come c.next.new.self (g.S.Source.left c.next.new.source) in
+    let add = subst (λ (t : List ℕ). IsListed t old.ports.items old.prefixes.items new.ports.items new.prefixes.items) c.as_slice.ensures.value c.in-Line-take.ensures in
+    record {
+      later = omega (arith, was.later, c.next.ensures.later);
+      are = add.lists;
+      told = list_more c.next.new.line.items old.ports.items old.prefixes.items new.ports.items new.prefixes.items whole mid after was.told c.in-Line.ensures.taken.1 add;
+    }
+
+pub listed-smaller : goal.listed-smaller
+listed-smaller g c =
+    let add = c.in-Line-take.ensures in
+    let count = add.count in
+    let ports = add.lists.port_count in
+    let prefixes = add.lists.prefix_count in
+    omega (arith, count, ports, prefixes)
+
+pub returns-in-Begin-clause-lists : goal.returns-in-Begin-clause-lists
+returns-in-Begin-clause-lists g c =
+    let was = c.listed.invariant in
+    let old = c.listed.lists in
+    let new = c.take.new.self in
+    let whole = to_come c.args.lines.now (g.S.Source.left c.args.source.now) in
+    let mid = to_come c.listed.lines (g.S.Source.left c.listed.source) in
+    let after = to_come c.next.new.self (g.S.Source.left c.next.new.source) in
+    let begun = subst (λ (t : List ℕ). Adds added.Begin t old.ports.items old.prefixes.items new.ports.items new.prefixes.items) c.as_slice.ensures.value c.in-Begin.ensures in
+    all_taken c.next.new.line.items old.ports.items old.prefixes.items new.ports.items new.prefixes.items whole mid after was.are was.told c.in-Line.ensures.taken.1 begun
+
+pub returns-in-Broken-clause-bad : goal.returns-in-Broken-clause-bad
+returns-in-Broken-clause-bad g c =
+    let was = c.listed.invariant in
+    let old = c.listed.lists in
+    let whole = to_come c.args.lines.now (g.S.Source.left c.args.source.now) in
+    let mid = to_come c.listed.lines (g.S.Source.left c.listed.source) in
+    subst (λ (a : Checked). IfRead a ((s : Settings) → AreSettings s → IfSome (in_front (lines_text (setting_lines s)) whole) (λ octets. IsBadHeader octets a))) (sym c.bad_listed.ensures)
+    (bad_list old.ports.items old.prefixes.items whole mid was.are was.told (λ s. broken_next (setting_lines s ++ list_lines old.ports.items old.prefixes.items) mid c.in-Broken.ensures.taken))
+
+pub bad_listed-requires-in-Bad : goal.bad_listed-requires-in-Bad
+bad_listed-requires-in-Bad g c =
+    let was = c.listed.invariant in
+    let old = c.listed.lists in
+    let new = c.take.new.self in
+    same_lists old.ports.items old.prefixes.items new.ports.items new.prefixes.items c.in-Bad.ensures.1 c.in-Bad.ensures.2 was.are
+
+pub returns-in-Bad-clause-bad : goal.returns-in-Bad-clause-bad
+returns-in-Bad-clause-bad g c =
+    let was = c.listed.invariant in
+    let old = c.listed.lists in
+    let new = c.take.new.self in
+    let line = c.next.new.line.items in
+    let whole = to_come c.args.lines.now (g.S.Source.left c.args.source.now) in
+    let mid = to_come c.listed.lines (g.S.Source.left c.listed.source) in
+    let after = to_come c.next.new.self (g.S.Source.left c.next.new.source) in
+    let not = subst (λ (t : List ℕ). IsNotListed old.ports.items old.prefixes.items t) c.as_slice.ensures.value c.in-Bad.ensures.0 in
+    let number = same_number old.ports.items old.prefixes.items new.ports.items new.prefixes.items c.in-Bad.ensures.1 c.in-Bad.ensures.2 in
+    let answer : c.bad_listed-in-Bad.result ≡ BadLine (length old.ports.items + length old.prefixes.items + 12) = c.bad_listed-in-Bad.ensures ∙ ap BadLine number in
+    subst (λ (a : Checked). IfRead a ((s : Settings) → AreSettings s → IfSome (in_front (lines_text (setting_lines s)) whole) (λ octets. IsBadHeader octets a))) (sym answer)
+    (bad_list old.ports.items old.prefixes.items whole mid was.are was.told
+    (λ s. none_listed s old.ports.items old.prefixes.items line mid after c.in-Line.ensures.taken.0 was.are not c.in-Line.ensures.taken.1))

@@ -1,0 +1,63 @@
+use Rattle.std.proofs.Common.{◌≡◌, ℕ, true, false, List, IfSome, ap, sym, ◌∙◌, subst, arith}
+use Rattle.savi_ends.specs.Octets.{in_front}
+use Rattle.hist_store.specs.TextOfLines.{lines_text}
+use Rattle.journal_check.specs.declared.answer.Checked.{Checked}
+use Rattle.journal_check.specs.Pieces.{to_come}
+use Rattle.journal_check.specs.SettingLines.{IsRead, IsNotNext, before}
+use Rattle.journal_check.specs.Answers.{IfRead, IsBadHeader}
+use Rattle.journal_check.proofs.FeedPlaces.{in_front_none}
+use Rattle.journal_check.proofs.Heading.{read_more, bad_header, none_next, broken_next}
+use Rattle.journal_check.proofs.header.read_settings.Goals as goal
+
+pub loop-number-init : goal.loop-number-init
+loop-number-init g c = record {
+  later = omega arith;
+  settings = c.new-settings.ensures;
+  told = sym (in_front_none (to_come c.args.lines.now (g.S.Source.left c.args.source.now)));
+}
+
+pub loop-number-preserved : goal.loop-number-preserved
+loop-number-preserved g c =
+    let was = c.loop-number.invariant in
+    let n = c.loop-number.number in
+    let old = c.loop-number.settings in
+    let whole = to_come c.args.lines.now (g.S.Source.left c.args.source.now) in
+    let mid = to_come c.loop-number.lines (g.S.Source.left c.loop-number.source) in
+    let after = to_come c.next.new.self (g.S.Source.left c.next.new.source) in
+    let yes : c.read.result ≡ true = grind (arith, c.if-not-read.false) in
+    let read = subst (λ (t : List ℕ). IsRead n t old c.read.new.self) c.as_slice.ensures.value (c.read.ensures.read yes) in
+    record {
+      later = omega (arith, was.later, c.next.ensures.later);
+      settings = read.settings;
+      told = read_more n c.next.new.line.items old c.read.new.self whole mid after was.told c.in-Line.ensures.taken.1 read;
+    }
+
+pub returns-clause-settings : goal.returns-clause-settings
+returns-clause-settings g c =
+    let was = c.loop-number.invariant in
+    let last : c.loop-number.number ≡ 11 = omega arith in
+    let mid = to_come c.loop-number.lines (g.S.Source.left c.loop-number.source) in
+    (was.settings, was.told ∙ ap (λ (k : ℕ). in_front (lines_text (before k c.loop-number.settings)) mid) last)
+
+pub returns-in-Broken-clause-bad : goal.returns-in-Broken-clause-bad
+returns-in-Broken-clause-bad g c =
+    let was = c.loop-number.invariant in
+    let n = c.loop-number.number in
+    let s = c.loop-number.settings in
+    let whole = to_come c.args.lines.now (g.S.Source.left c.args.source.now) in
+    let mid = to_come c.loop-number.lines (g.S.Source.left c.loop-number.source) in
+    subst (λ (a : Checked). IfRead a (IfSome whole (λ octets. IsBadHeader octets a))) (sym c.bad_setting.ensures)
+    (bad_header n s whole mid was.settings (omega arith) was.told (broken_next (before n s) mid c.in-Broken.ensures.taken))
+
+pub returns-then-not-read-clause-bad : goal.returns-then-not-read-clause-bad
+returns-then-not-read-clause-bad g c =
+    let was = c.loop-number.invariant in
+    let n = c.loop-number.number in
+    let s = c.loop-number.settings in
+    let whole = to_come c.args.lines.now (g.S.Source.left c.args.source.now) in
+    let mid = to_come c.loop-number.lines (g.S.Source.left c.loop-number.source) in
+    let after = to_come c.next.new.self (g.S.Source.left c.next.new.source) in
+    let no : c.read.result ≡ false = grind (arith, c.if-not-read.true) in
+    let not = subst (λ (t : List ℕ). IsNotNext n t s) c.as_slice.ensures.value (c.read.ensures.bad no) in
+    let none = none_next n s c.next.new.line.items mid after c.in-Line.ensures.taken.0 not c.in-Line.ensures.taken.1 in
+    subst (λ (a : Checked). IfRead a (IfSome whole (λ octets. IsBadHeader octets a))) (sym c.bad_setting-then-not-read.ensures) (bad_header n s whole mid was.settings (omega arith) was.told none)

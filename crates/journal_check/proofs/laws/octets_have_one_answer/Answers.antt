@@ -1,0 +1,5 @@
+use Rattle.journal_check.proofs.OneText.{one_answer}
+use Rattle.journal_check.proofs.laws.octets_have_one_answer.Goals as goal
+
+pub returns : goal.returns
+returns c = one_answer

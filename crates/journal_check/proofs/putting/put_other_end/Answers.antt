@@ -1,0 +1,18 @@
+use Rattle.std.proofs.Common.{true≢false, sym, ◌∙◌, subst}
+use Rattle.savi_history.specs.Events.{End}
+use Rattle.journal_check.specs.declared.putting.Put.{Put}
+use Rattle.journal_check.specs.Puts.{Puts}
+use Rattle.journal_check.proofs.PutEvents.{end_never, end_stepped}
+use Rattle.journal_check.proofs.putting.put_other_end.Goals as goal
+
+pub step-requires-clause-may : goal.step-requires-clause-may
+step-requires-clause-may c = (c.requires.open, c.may_end.ensures.0 c.if-not-may_end.false)
+
+pub returns-then-not-may_end : goal.returns-then-not-may_end
+returns-then-not-may_end c = end_never c.args.core.now c.args.who c.args.how c.requires.other (λ may. true≢false (sym (c.may_end.ensures.1 may) ∙ c.if-not-may_end.true))
+
+pub returns : goal.returns
+returns c =
+    let m = c.args.core.now in
+    subst (λ (p : Put). Puts m (End c.args.who c.args.how) c.step.new.self p) (sym c.put_of.ensures)
+    (end_stepped m c.step.new.self c.args.who c.args.how c.step.result c.requires.open (c.may_end.ensures.0 c.if-not-may_end.false) c.step.ensures)

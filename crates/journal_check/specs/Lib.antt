@@ -1,0 +1,11 @@
+pub mod Feeds
+pub mod Pieces
+pub mod Headers
+pub mod SettingLines
+pub mod ListLines
+pub mod Differing
+pub mod Puts
+pub mod EgressEnds
+pub mod Turns
+pub mod Answers
+pub mod Laws

@@ -1,0 +1,33 @@
+-- A text that is read in pieces: what is held of it, what is to come, and what taking a line comes to.
+use Rattle.std.specs.Prelude.{◌≡◌, ◌+◌, ◌<◌, ◌≤◌, ℕ, List, [], ◌∷◌, ◌++◌, length, take, drop, Option, IfSome}
+use Rattle.savi_ends.specs.Octets.{in_front}
+use Rattle.hist_store.specs.TextOfLines.{line_feed}
+use Rattle.journal_check.specs.declared.lines.Lines.{Lines}
+use Rattle.journal_check.specs.declared.lines.Cut.{Cut}
+use Rattle.journal_check.specs.declared.lines.Cut.TheVariants as cuts
+use Rattle.journal_check.specs.declared.lines.Taken.{Taken}
+use Rattle.journal_check.specs.declared.lines.Taken.TheVariants as takes
+use Rattle.journal_check.specs.Feeds.{HasNoFeed, BeginsWithNoLine}
+
+-- the octets that are held
+abbrev pub held : Lines → List ℕ
+held lines = drop lines.at (take lines.end lines.piece)
+
+-- the octets that are held, in front of what the source has left
+abbrev pub to_come : Lines → Option (List ℕ) → Option (List ℕ)
+to_come lines left = in_front (held lines) left
+
+-- Octets of the line moved behind those before: up to its line feed, or all that were held, of which there were some; or
+-- there is no room for them.
+abbrev pub Cuts : Cut → Lines → Lines → List ℕ → List ℕ → Type 0
+Cuts cuts.Whole old new before line =
+    (part : List ℕ) × HasNoFeed part × (line ≡ before ++ part) × (held old ≡ part ++ line_feed ∷ held new)
+Cuts cuts.Part old new before line = (0 < length (held old)) × HasNoFeed (held old) × (line ≡ before ++ held old) × (held new ≡ []) × (length line ≤ 3400)
+Cuts cuts.Long old new before line =
+    (part : List ℕ) × (rest : List ℕ) × HasNoFeed part × (held old ≡ part ++ rest) × (3400 < length before + length part)
+
+-- What came of taking a line of what was to come: it was taken with its line feed, or there was none.
+abbrev pub Takes : Taken → List ℕ → Option (List ℕ) → Option (List ℕ) → Type 0
+Takes takes.Line line before after = HasNoFeed line × (before ≡ in_front (line ++ line_feed ∷ []) after)
+Takes takes.Broken line before after = IfSome before BeginsWithNoLine
+Takes takes.Failed line before after = Unit {0}

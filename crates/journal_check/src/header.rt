@@ -1,0 +1,155 @@
+//! The header of a journal.
+
+ghost use Rattle.std.specs.Prelude.{◌≡◌, ◌+◌, ◌<◌, ◌≤◌, ◌∷◌, ◌++◌, [], length, IfErr, IfOk, IfSome};
+ghost use Rattle.savi_ends.specs.Octets.{in_front};
+ghost use Rattle.savi_ends.specs.Faults.{Rose};
+ghost use Rattle.hist_store.specs.TextOfLines.{lines_text};
+ghost use Rattle.hist_store.specs.JournalTexts.{address_text, begin_line, header_lines, header_text};
+ghost use Rattle.journal_check.specs.Pieces.{to_come};
+ghost use Rattle.journal_check.specs.Headers.{IsPlan};
+ghost use Rattle.journal_check.specs.SettingLines.{AreSettings, setting_lines};
+ghost use Rattle.journal_check.specs.ListLines.{AreLists, list_lines, plan_by};
+ghost use Rattle.journal_check.specs.declared.settings.Settings.{Settings};
+ghost use Rattle.journal_check.specs.Answers.{IfRead, IsBadHeader};
+
+use crate::answer::Checked;
+use crate::lines::{Lines, Taken};
+use crate::lists::{Added, Lists};
+use crate::settings::{SETTING_LINES, Settings};
+use arrayvec::ArrayVec;
+use hist_store::JournalLine;
+use savi_ends::Source;
+use savi_kinds::{Plan, PortPlans, PrefixPlans, Text};
+use std::alloc::Global;
+
+/// Reads the header, whose lines are the first ones of a text, and gives the plan that it says, without names. `Err` is the
+/// answer where it is none, or where a read failed or there was no memory.
+pub fn read_header<S: Source>(
+    alloc: Global,
+    lines: &mut Lines,
+    source: &mut S,
+) -> Result<Plan, Checked>
+    ensures later { S.faults source.old ≤ S.faults source.new }
+    ensures cause { IfErr result (λ answer. answer ≡ Checked.Failed → Rose (S.faults source.old) (S.faults source.new)) }
+    ensures plan { IfOk result (λ plan. IsPlan plan
+        × (to_come lines.old (S.left source.old) ≡ in_front (header_text address_text plan) (to_come lines.new (S.left source.new)))) }
+    ensures bad { IfErr result (λ answer. IfRead answer (IfSome (to_come lines.old (S.left source.old)) (λ octets. IsBadHeader octets answer))) }
+{
+    let mut line = ArrayVec::new();
+    let settings = read_settings(lines, source, &mut line)?;
+    let lists = read_lists(alloc, lines, source, &mut line)?;
+    Ok(plan_of(alloc, &settings, lists))
+}
+
+/// How many lines the header of a plan has.
+pub fn header_length(plan: &Plan) -> u64
+    requires { IsPlan plan.now }
+    ensures length { result ≡ length (header_lines address_text plan.now) }
+    ensures short { result < 64 }
+{
+    let ports = plan.ports.as_slice().len() as u64;
+    let prefixes = plan.prefixes.as_slice().len() as u64;
+    SETTING_LINES as u64 + ports + prefixes + 1
+}
+
+// Reads the lines of the settings.
+fn read_settings<S: Source>(
+    lines: &mut Lines,
+    source: &mut S,
+    line: &mut JournalLine,
+) -> Result<Settings, Checked>
+    ensures later { S.faults source.old ≤ S.faults source.new }
+    ensures cause { IfErr result (λ answer. answer ≡ Checked.Failed → Rose (S.faults source.old) (S.faults source.new)) }
+    ensures settings { IfOk result (λ settings. AreSettings settings
+        × (to_come lines.old (S.left source.old) ≡ in_front (lines_text (setting_lines settings)) (to_come lines.new (S.left source.new)))) }
+    ensures bad { IfErr result (λ answer. IfRead answer (IfSome (to_come lines.old (S.left source.old)) (λ octets. IsBadHeader octets answer))) }
+{
+    let mut settings = Settings::new();
+    for number in 0..SETTING_LINES {
+        match lines.next(source, line) {
+            Taken::Line => {}
+            Taken::Broken => return Err(bad_setting(number)),
+            Taken::Failed => return Err(Checked::Failed),
+        }
+        if !settings.read(number, line.as_slice()) {
+            return Err(bad_setting(number));
+        }
+    }
+    Ok(settings)
+}
+
+// The line of the setting with this number, counted from 0, is bad.
+fn bad_setting(number: usize) -> Checked
+    requires { number < 11 }
+    ensures { result ≡ Checked.BadLine (number + 1) }
+{
+    Checked::BadLine {
+        n: number as u64 + 1,
+    }
+}
+
+// Reads the lines of the ports and prefixes, and `begin`.
+fn read_lists<S: Source>(
+    alloc: Global,
+    lines: &mut Lines,
+    source: &mut S,
+    line: &mut JournalLine,
+) -> Result<Lists, Checked>
+    ensures later { S.faults source.old ≤ S.faults source.new }
+    ensures cause { IfErr result (λ answer. answer ≡ Checked.Failed → Rose (S.faults source.old) (S.faults source.new)) }
+    ensures lists { IfOk result (λ lists. AreLists lists.ports.items lists.prefixes.items × (0 < length lists.ports.items)
+        × (to_come lines.old (S.left source.old) ≡ in_front (lines_text (list_lines lists.ports.items lists.prefixes.items ++ begin_line ∷ [])) (to_come lines.new (S.left source.new)))) }
+    ensures bad { IfErr result (λ answer. IfRead answer ((settings : Settings) → AreSettings settings
+        → IfSome (in_front (lines_text (setting_lines settings)) (to_come lines.old (S.left source.old))) (λ octets. IsBadHeader octets answer))) }
+{
+    let mut lists = match Lists::make(alloc) {
+        Ok(lists) => lists,
+        Err(_) => return Err(Checked::NoMemory),
+    };
+    'listed: loop {
+        match lines.next(source, line) {
+            Taken::Line => {}
+            Taken::Broken => return Err(bad_listed(&lists)),
+            Taken::Failed => return Err(Checked::Failed),
+        }
+        match lists.take(alloc, line.as_slice()) {
+            Added::Line => {}
+            Added::Begin => return Ok(lists),
+            Added::Bad => return Err(bad_listed(&lists)),
+            Added::NoMemory => return Err(Checked::NoMemory),
+        }
+    }
+}
+
+// The line behind those of the settings and of these lists is bad.
+fn bad_listed(lists: &Lists) -> Checked
+    requires { AreLists lists.now.ports.items lists.now.prefixes.items }
+    ensures { result ≡ Checked.BadLine (length lists.now.ports.items + length lists.now.prefixes.items + 12) }
+{
+    let listed = lists.ports.len() + lists.prefixes.len();
+    Checked::BadLine {
+        n: (SETTING_LINES + listed) as u64 + 1,
+    }
+}
+
+fn plan_of(alloc: Global, settings: &Settings, lists: Lists) -> Plan
+    ensures { result ≡ plan_by settings.now lists.ports.items lists.prefixes.items }
+{
+    let Lists { ports, prefixes } = lists;
+    Plan {
+        mac: settings.mac,
+        savi: settings.savi,
+        drop_unknown: settings.drop_unknown,
+        per_port: settings.per_port,
+        depth: settings.depth,
+        entries: settings.entries,
+        bytes: settings.bytes,
+        gap: settings.gap,
+        test: settings.test,
+        life: settings.life,
+        control: None,
+        journal: Text::new(String::new(alloc)),
+        ports: PortPlans::new(ports),
+        prefixes: PrefixPlans::new(prefixes),
+    }
+}

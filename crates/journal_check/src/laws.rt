@@ -1,0 +1,28 @@
+//! What the answers of a check come to. Each function does nothing: its contract is the law.
+
+ghost use Rattle.journal_check.specs.Laws.{GoodIsJournal, HasOneAnswer, JournalIsGood, JournalsLackNames, WrittenIsGood};
+
+/// Law: no octets have two answers.
+pub fn octets_have_one_answer()
+    ensures { HasOneAnswer }
+{}
+
+/// Law: octets that are good are the journal of a finished history.
+pub fn what_is_good_is_a_journal()
+    ensures { GoodIsJournal }
+{}
+
+/// Law: the journal of a finished history is good.
+pub fn a_journal_is_good()
+    ensures { JournalIsGood }
+{}
+
+/// Law: the journal of a plan is that of the plan without its names.
+pub fn journals_lack_names()
+    ensures { JournalsLackNames }
+{}
+
+/// Law: the journal that is written of a finished history is good, whatever the names of its plan.
+pub fn a_written_journal_is_good()
+    ensures { WrittenIsGood }
+{}

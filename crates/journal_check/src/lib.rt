@@ -1,0 +1,28 @@
+//! Checks the journal of a switch: whether a text is the journal of a finished history that a switch may have, and if not,
+//! where the first fault is.
+//!
+//! A journal is read in one pass. Its header gives the plan, and a switch of that plan enters each event again: an entry
+//! stands where it is the one that the switch makes. So a journal tells what happened without trust in who wrote it.
+//! All memory is taken before the first entry is judged; nothing is taken for an entry.
+#![tactic(auto)]
+
+mod answer;
+mod apart;
+mod coming;
+mod feeds;
+mod header;
+mod laws;
+mod lines;
+mod lists;
+mod putting;
+mod ranges;
+mod reading;
+mod settings;
+mod turns;
+
+pub use answer::{Checked, FIELD_OCTETS, FieldText};
+pub use laws::{
+    a_journal_is_good, a_written_journal_is_good, journals_lack_names, octets_have_one_answer,
+    what_is_good_is_a_journal,
+};
+pub use reading::check;

@@ -1,0 +1,136 @@
+//! The lines of a text that a source gives up in pieces.
+
+ghost use Rattle.std.specs.Prelude.{◌≤◌};
+
+use crate::feeds::line_front;
+use hist_store::JournalLine;
+use savi_ends::{Got, Source};
+
+/// How many octets are read at once, at most.
+const PIECE_OCTETS: usize = 16_384;
+
+/// A text, of which a piece is held.
+#[derive(Drop)]
+pub struct Lines {
+    piece: [u8; PIECE_OCTETS],
+    // where what is held begins in the piece, and where it ends
+    at: usize,
+    end: usize,
+    ghost within: { at ≤ end },
+    ghost room: { end ≤ 16384 },
+}
+
+/// What came of taking a line.
+#[derive(Clone, Copy, PartialEq, Eq, Debug)]
+pub enum Taken {
+    /// The line that was taken, without its line feed.
+    Line,
+    /// No line: the text ends before a line feed, or has too many octets before it.
+    Broken,
+    /// A read failed.
+    Failed,
+}
+
+/// What is behind the last line.
+#[derive(Clone, Copy, PartialEq, Eq, Debug)]
+pub enum Behind {
+    Nothing,
+    More,
+    Failed,
+}
+
+// What was found in the piece.
+#[derive(Clone, Copy, PartialEq, Eq, Debug)]
+enum Cut {
+    // The end of the line.
+    Whole,
+    // Octets of the line, and not its end.
+    Part,
+    // More octets than a line may have.
+    Long,
+}
+
+impl Lines {
+    ghost use Rattle.std.specs.Prelude.{◌≡◌, ◌<◌, ◌≤◌, [], length};
+    ghost use Rattle.savi_ends.specs.Octets.{NothingLeft};
+    ghost use Rattle.savi_ends.specs.Faults.{Rose};
+    ghost use Rattle.journal_check.specs.Pieces.{Cuts, Takes, held, to_come};
+
+    /// A text of which nothing was read yet.
+    pub fn new() -> Lines
+        ensures { held result ≡ [] }
+    {
+        Lines {
+            piece: [0; PIECE_OCTETS],
+            at: 0,
+            end: 0,
+        }
+    }
+
+    /// Takes the next line, in place of what the buffer held. It costs the octets of the line, beside those of the
+    /// pieces that are read.
+    pub fn next<S: Source>(&mut self, source: &mut S, line: &mut JournalLine) -> Taken
+        ensures later { S.faults source.old ≤ S.faults source.new }
+        ensures cause { result ≡ Taken.Failed → Rose (S.faults source.old) (S.faults source.new) }
+        ensures taken { Takes result line.new.items (to_come self.old (S.left source.old)) (to_come self.new (S.left source.new)) }
+    {
+        line.clear();
+        'pieces: loop {
+            match self.fill(source) {
+                Behind::More => {}
+                Behind::Nothing => return Taken::Broken,
+                Behind::Failed => return Taken::Failed,
+            }
+            match self.cut(line) {
+                Cut::Part => {}
+                Cut::Whole => return Taken::Line,
+                Cut::Long => return Taken::Broken,
+            }
+        }
+    }
+
+    /// Sees whether anything is left. Where nothing is held, a piece is read.
+    pub fn fill<S: Source>(&mut self, source: &mut S) -> Behind
+        ensures later { S.faults source.old ≤ S.faults source.new }
+        ensures cause { result ≡ Behind.Failed → Rose (S.faults source.old) (S.faults source.new) }
+        ensures same { to_come self.new (S.left source.new) ≡ to_come self.old (S.left source.old) }
+        ensures more { result ≡ Behind.More → self.new.at < self.new.end }
+        ensures some { result ≡ Behind.More → 0 < length (held self.new) }
+        ensures nothing { result ≡ Behind.Nothing → NothingLeft (to_come self.old (S.left source.old)) }
+    {
+        if self.at < self.end {
+            return Behind::More;
+        }
+        match source.read(&mut self.piece) {
+            Got::Bytes(n) => {
+                self.at = 0;
+                self.end = n;
+                Behind::More
+            }
+            Got::End => Behind::Nothing,
+            Got::Failed => Behind::Failed,
+        }
+    }
+
+    // Moves what is held behind what the buffer holds, up to a line feed, which is passed over.
+    fn cut(&mut self, line: &mut JournalLine) -> Cut
+        requires { self.old.at < self.old.end }
+        ensures { Cuts result self.old self.new line.old.items line.new.items }
+    {
+        let held = &self.piece[self.at..self.end];
+        let part = line_front(held);
+        let len = part.len();
+        let size = held.len();
+        match line.try_extend_from_slice(part) {
+            Ok(()) => {}
+            Err(_) => return Cut::Long,
+        }
+        if len < size {
+            self.at += len + 1;
+            Cut::Whole
+        } else {
+            self.at += len;
+            Cut::Part
+        }
+    }
+}

@@ -1,0 +1,6 @@
+pub mod LiveInputs
+pub mod LiveOutputs
+pub mod LiveControl
+pub mod Ticking
+pub mod LiveRows
+pub mod LiveSession

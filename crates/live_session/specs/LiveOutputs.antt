@@ -1,0 +1,41 @@
+-- What is written at a live port, in the form of its output.
+use Rattle.std.specs.Prelude.{ℕ, ◌==◌, if◌then◌else◌, List, [], ◌∷◌, map, Option}
+use Rattle.savi_kinds.specs.declared.plan.Plan.{Plan}
+use Rattle.savi_kinds.specs.declared.plan.Format.{Format}
+use Rattle.savi_kinds.specs.declared.plan.Format.TheVariants.{Pcap, Stream}
+use Rattle.savi_kinds.specs.declared.entry.Act.{Act}
+use Rattle.savi_kinds.specs.declared.entry.Act.TheVariants as acts
+use Rattle.savi_kinds.specs.Ports.{number_of}
+use Rattle.pcap_io.specs.Captures.{capture_text}
+use Rattle.stream_io.specs.Records.{stream_text}
+use Rattle.hist_store.specs.Rows.{Row}
+use Rattle.savi_history.specs.Bases.{Base}
+use Rattle.savi_history.specs.Outputs.{sent_items}
+use Rattle.savi_history.specs.PortOutputs.{FitsOutput, output_end}
+use Rattle.savi_history.specs.Queues.{Item, sent}
+
+-- the whole output with these items
+abbrev pub output_text : Format → List Item → List ℕ
+output_text Pcap items = capture_text (sent_items items)
+output_text Stream items = stream_text (map (λ item. item.octets) items)
+
+-- the output of what the drains of a port before its last one took; nothing where there was none
+abbrev pub sure_after : Format → Plan → Base → ℕ → List Row → Act → List ℕ → List ℕ
+sure_after format plan base port past (acts.Frame p stamp at len) before = before
+sure_after format plan base port past (acts.Long p stamp len) before = before
+sure_after format plan base port past (acts.Tick stamp) before = before
+sure_after format plan base port past (acts.Command stamp at len) before = before
+sure_after format plan base port past (acts.Drain p count) before =
+    if number_of p == port then output_text format (sent plan base port past) else before
+sure_after format plan base port past (acts.End who how) before = before
+
+abbrev pub sure_output : Format → Plan → Base → ℕ → List Row → List ℕ
+sure_output format plan base port [] = []
+sure_output format plan base port (r ∷ past) =
+    sure_after format plan base port past r.entry.act (sure_output format plan base port past)
+
+-- What a sink took is the output that the history sends at the port, by how that ended there: all of it; or, where a write
+-- failed, a front of it that holds all that the drains before the last one took.
+abbrev pub FitsOutputOf : Format → Plan → Base → Option (List ℕ) → Option (List ℕ) → ℕ → List Row → Type 0
+FitsOutputOf format plan base before after port past =
+    FitsOutput before after (output_text format (sent plan base port past)) (sure_output format plan base port past) (output_end port past)

@@ -1,0 +1,73 @@
+-- What the readings of the ticker's clock are to the history.
+use Rattle.std.specs.Prelude.{◌≡◌, ◌⊎◌, ℕ, Bool, true, false, List, [], ◌∷◌, ◌++◌, Option, Some, None}
+use Rattle.savi_kinds.specs.declared.plan.Plan.{Plan}
+use Rattle.savi_kinds.specs.declared.entry.Act.{Act}
+use Rattle.savi_kinds.specs.declared.entry.Act.TheVariants as acts
+use Rattle.savi_kinds.specs.declared.entry.Who.{Who}
+use Rattle.savi_kinds.specs.declared.entry.Who.TheVariants.{Ingress, Control, Ticker, Egress}
+use Rattle.savi_kinds.specs.declared.entry.How.{How}
+use Rattle.savi_kinds.specs.declared.entry.How.TheVariants as hows
+use Rattle.hist_store.specs.Rows.{Row}
+use Rattle.savi_history.specs.Bases.{Base}
+use Rattle.savi_history.specs.Moments.{moment_at}
+use Rattle.savi_history.specs.Offers.{due_by}
+use Rattle.savi_history.specs.Ticks.{HasChangedBy}
+use Rattle.savi_history.specs.Events.{Tick, row_of}
+
+-- how the ticker has ended behind the end of a pass, by how it had ended before
+abbrev pub ticker_ended_by : Who → How → Option How → Option How
+ticker_ended_by (Ingress port) how before = before
+ticker_ended_by Control how before = before
+ticker_ended_by Ticker how before = Some how
+ticker_ended_by (Egress port) how before = before
+
+abbrev pub ticker_ended_behind : Act → Option How → Option How
+ticker_ended_behind (acts.Frame port stamp at len) before = before
+ticker_ended_behind (acts.Long port stamp len) before = before
+ticker_ended_behind (acts.Tick stamp) before = before
+ticker_ended_behind (acts.Command stamp at len) before = before
+ticker_ended_behind (acts.Drain port count) before = before
+ticker_ended_behind (acts.End who how) before = ticker_ended_by who how before
+
+-- how the ticker has ended
+abbrev pub ticker_end : List Row → Option How
+ticker_end [] = None
+ticker_end (r ∷ past) = ticker_ended_behind r.entry.act (ticker_end past)
+
+abbrev pub is_tick : Act → Bool
+is_tick (acts.Frame port stamp at len) = false
+is_tick (acts.Long port stamp len) = false
+is_tick (acts.Tick stamp) = true
+is_tick (acts.Command stamp at len) = false
+is_tick (acts.Drain port count) = false
+is_tick (acts.End who how) = false
+
+abbrev pub HasNoTick : List Row → Type 0
+HasNoTick [] = Unit {0}
+HasNoTick (r ∷ past) = (is_tick r.entry.act ≡ false) × HasNoTick past
+
+-- by the moment of a tick with this stamp no address has another state, and no probe is due
+pub record HasNothingDue (plan : Plan) (base : Base) (past : List Row) (stamp : ℕ) : Type 0 where
+  pub unchanged : ¬ HasChangedBy plan base past (moment_at base past stamp)
+  pub none : due_by plan base past (moment_at base past stamp) ≡ []
+
+-- The ticks of a history are these readings, the newest first, but for those at which nothing was due. Behind the last tick
+-- the history may have gone on; and where nothing was due at a reading, that was so of what the history was then.
+abbrev pub Ticked : Plan → Base → List Row → List ℕ → Type 0
+Ticked plan base past [] = HasNoTick past
+Ticked plan base past (reading ∷ earlier) =
+    (newer : List Row) × (upto : List Row) × (past ≡ newer ++ upto) × HasNoTick newer
+    × (((older : List Row) × (upto ≡ row_of plan base older (Tick reading) ∷ older) × Ticked plan base older earlier)
+    ⊎ (HasNothingDue plan base upto reading × Ticked plan base upto earlier))
+
+-- The readings of the ticker's clock, by how the ticker ended: where it ended for want of room, the last one made no tick.
+abbrev pub TickedUntil : Plan → Base → List Row → List ℕ → Option How → Type 0
+TickedUntil plan base past latest (Some hows.End) = Ticked plan base past latest
+TickedUntil plan base past latest (Some (hows.Full len)) =
+    (last : ℕ) × (earlier : List ℕ) × (latest ≡ last ∷ earlier) × Ticked plan base past earlier
+TickedUntil plan base past latest (Some hows.Quit) = ⊥
+TickedUntil plan base past latest (Some (hows.Malformed at)) = ⊥
+TickedUntil plan base past latest (Some (hows.Overlong at)) = ⊥
+TickedUntil plan base past latest (Some hows.Failed) = ⊥
+TickedUntil plan base past latest (Some hows.Unwritten) = ⊥
+TickedUntil plan base past latest None = ⊥
