@@ -128,7 +128,7 @@ class Journal:
         life = top["binding_s"]
         top["binding_s"] = life // 1000 if life % 1000 == 0 else self.fail("`binding` isn't a whole number of seconds")
         ports, prefixes = self.read_lists()
-        if fault := key_fault(top) or list_fault(ports, prefixes):
+        if fault := key_fault(top) or list_fault(ports, prefixes, streams=True):
             self.fail(f"no configuration has the plan above: fault {fault} (docs/CONFIGURATION.md)")
         return Plan(
             mac=read_mac(top["mac"]), journal="", savi=top["savi"] == "on", drop_unknown=top["unknown"] == "drop",
