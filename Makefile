@@ -1,6 +1,6 @@
 # The switch, its demonstration and its benchmark. Each needs the Rattle toolchain (`rt` on the path) and no network.
 
-.PHONY: build look demo plan bench check install uninstall clean FORCE
+.PHONY: build look demo plan bench lab check install uninstall clean FORCE
 
 # The proved program. The first build proves each crate, 15 to 30 minutes on 4 cores; where the program was built from these
 # very sources, by `make` or by the gate, it is taken as it is.
@@ -24,17 +24,23 @@ plan: build/plan_check
 	build/plan_check "$(PLAN)"
 
 # The program beside a C program that does the same octet work without judging, with 2 ports and with 5; its own load; the
-# reader of captures beside tcpdump; the pass lock beside a mutex; the stations, the bindings and the timers beside hash maps;
-# and steps of the core, with the validation of sources and without. The first time takes the builds, and then about three
-# minutes.
+# check of a journal beside the replay that wrote it; the reader of captures beside tcpdump; the pass lock beside a mutex; the
+# stations, the bindings and the timers beside hash maps; and steps of the core, with the validation of sources and without.
+# The first time takes the builds, and then about three minutes.
 bench: build build/capture_bench build/lock_bench build/fdb_bench build/tables_bench build/core_bench
 	bench/run build/savi_switch
 	bench/load build/savi_switch
+	bench/check build/savi_switch
 	bench/captures.py build/capture_bench
 	bench/lock build/lock_bench
 	bench/stations build/fdb_bench
 	bench/tables build/tables_bench
 	bench/core build/core_bench
+
+# Attacks on real kernels in network namespaces, over a plain bridge and over a switch of stream ports; as root. The program
+# has no live ports yet, so the switch is the second implementation, which isn't proved: lab/README.md.
+lab:
+	lab/lab --switch lab/reading-switch
 
 # The merge gate: `rt ci`, then the examples, and the program beside the second implementation. From nothing it takes about 40
 # minutes on 4 cores.

@@ -14,8 +14,6 @@ mod row;
 mod search;
 mod stored;
 mod table;
-#[cfg(test)]
-mod tests;
 
 pub use laws::{one_address_changes, tables_stay_tables};
 pub use row::Row;

@@ -15,7 +15,7 @@ use savi_kinds::Moment;
 use std::alloc::Global;
 use std::env;
 use std::time::CpuClock;
-use timed::{Load, START, Timed, time_frames, time_ticks};
+use timed::{Load, START, Steps, Timed, time_steps};
 
 /// How many addresses are bound, and how many stations are known at each of sixteen ports.
 const LOADS: [(u64, u64); 5] = [(8, 1), (64, 1), (512, 1), (8, 256), (512, 256)];
@@ -89,10 +89,10 @@ fn time_others<R: CpuClock + Print>(rt: &R, alloc: Global) -> anyhow::Result<()>
     time_claims(rt, alloc, "claim", none, 0, 1, SWITCHES)?;
     time_packets(rt, alloc, "flood_packet", full, ADDRESSES, PACKETS)?;
     time_claims(rt, alloc, "flood_claim", full, ADDRESSES, TIMES, 1)?;
-    let idle = time_ticks(rt, alloc, full, START, TIMES * PACKETS, 1)?;
+    let idle = time_steps(rt, alloc, full, Steps::Ticks(START, TIMES * PACKETS), 1)?;
     print(rt, "tick", full, idle)?;
     for (name, moment) in DUE {
-        let timed = time_ticks(rt, alloc, full, moment, 1, SWITCHES)?;
+        let timed = time_steps(rt, alloc, full, Steps::Ticks(moment, 1), SWITCHES)?;
         print(rt, name, full, timed)?;
     }
     Ok(())
@@ -108,7 +108,8 @@ fn time_packets<R: CpuClock + Print>(
     count: u64,
 ) -> anyhow::Result<()> {
     let frames = packets(alloc, first, count, load.stations_a_port)?;
-    let timed = time_frames(rt, alloc, load, frames.as_slice(), TIMES, 1)?;
+    let steps = Steps::Frames(frames.as_slice(), TIMES);
+    let timed = time_steps(rt, alloc, load, steps, 1)?;
     print(rt, name, load, timed)
 }
 
@@ -123,6 +124,7 @@ fn time_claims<R: CpuClock + Print>(
     switches: u64,
 ) -> anyhow::Result<()> {
     let frames = claims(alloc, first, ADDRESSES)?;
-    let timed = time_frames(rt, alloc, load, frames.as_slice(), times, switches)?;
+    let steps = Steps::Frames(frames.as_slice(), times);
+    let timed = time_steps(rt, alloc, load, steps, switches)?;
     print(rt, name, load, timed)
 }

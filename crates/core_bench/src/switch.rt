@@ -14,6 +14,15 @@ use savi_core::{Batch, Core, Event, Stepped};
 use savi_kinds::{DEPTH_MOST, Moment, PORTS_MOST, Plan, Port, Verdict, Who};
 use std::alloc::{AllocError, Global};
 
+/// What the configuration says before it says whether sources are validated.
+const LIMITS: &str =
+    "mac = \"02:00:00:00:00:01\"\njournal = \"journal.txt\"\nper_port = 64\nentries = 1000000\n";
+
+/// The numbers of ports in decimal.
+const NUMBERS: [&str; PORTS_MOST] = [
+    "1", "2", "3", "4", "5", "6", "7", "8", "9", "10", "11", "12", "13", "14", "15", "16",
+];
+
 /// A switch with so many ports, of which the first eight are those of hosts and the others trusted; each may hold 64
 /// addresses.
 pub fn switch(alloc: Global, ports: u8, validates: bool) -> anyhow::Result<Core> {
@@ -24,18 +33,30 @@ pub fn switch(alloc: Global, ports: u8, validates: bool) -> anyhow::Result<Core>
 
 // The configuration of such a switch.
 fn plan_text(alloc: Global, ports: u8, validates: bool) -> Result<String, AllocError> {
+    let mut text = String::new(alloc);
     let savi = if validates { "on" } else { "off" };
-    let mut text = format!(in alloc;
-        "mac = \"02:00:00:00:00:01\"\njournal = \"journal.txt\"\nsavi = \"{savi}\"\nper_port = 64\nentries = 1000000\n"
-    )?;
-    for number in 1..=ports {
-        let role = if number <= HOSTS { "host" } else { "trusted" };
-        let port = format!(in alloc;
-            "[[port]]\nnumber = {number}\nrole = \"{role}\"\ninput = \"{number}.pcap\"\noutput = \"{number}.out\"\n"
-        )?;
-        text.push_str(port.as_str())?;
+    push_all(&mut text, &[LIMITS, "savi = \"", savi, "\"\n"])?;
+    for (place, number) in NUMBERS.iter().enumerate() {
+        if place < usize::from(ports) {
+            push_port(&mut text, number, place < usize::from(HOSTS))?;
+        }
     }
     Ok(text)
+}
+
+// Appends the table of a port of this number.
+fn push_port(text: &mut String, number: &str, is_host: bool) -> Result<(), AllocError> {
+    let role = if is_host { "host" } else { "trusted" };
+    push_all(text, &["[[port]]\nnumber = ", number, "\nrole = \"", role])?;
+    push_all(text, &["\"\ninput = \"", number, ".pcap\"\n"])?;
+    push_all(text, &["output = \"", number, ".out\"\n"])
+}
+
+fn push_all(text: &mut String, pieces: &[&str]) -> Result<(), AllocError> {
+    for piece in pieces {
+        text.push_str(piece)?;
+    }
+    Ok(())
 }
 
 /// Enters a frame at `stamp` (ms), and answers whether it passes.

@@ -4,7 +4,7 @@ use crate::frames::{Frame, packet, port, port_of};
 use crate::switch::{drain_all, enter, switch, tick};
 use savi_core::{Batch, Core};
 use savi_kinds::Moment;
-use std::alloc::Global;
+use std::alloc::{AllocError, Global};
 use std::io;
 use std::time::{CpuClock, Duration};
 
@@ -27,6 +27,15 @@ pub struct Load {
     pub addresses: u64,
     pub stations_a_port: u64,
     pub validates: bool,
+}
+
+/// The steps that are timed at a switch, one in each ms.
+#[derive(Clone, Copy)]
+pub enum Steps<'a> {
+    /// These frames in turn, over and over: so many times.
+    Frames(&'a [Frame], u64),
+    /// So many ticks, the first at this moment (ms).
+    Ticks(Moment, u64),
 }
 
 /// How many steps were made, the stamp of the last (ms), and what they took of the processor's time; and how many frames
@@ -58,91 +67,140 @@ impl Timed {
     }
 }
 
-// A switch under this load. Of each address the first packet claims it, and the second one comes once it is bound; and then
-// a packet comes from each station.
-fn loaded(alloc: Global, batch: &mut Batch, load: Load) -> anyhow::Result<Core> {
-    let mut core = switch(alloc, load.ports, load.validates)?;
-    for stamp in [CLAIMED, SEEN] {
-        for n in 0..load.addresses {
-            let frame = packet(alloc, n, (port_of(n), 0), (port_of(n), 0))?;
-            enter(&mut core, &frame, stamp);
-            drain_all(&mut core, batch);
-        }
-    }
-    for n in 0..u64::from(load.ports) {
-        for k in 0..load.stations_a_port {
-            let frame = packet(alloc, n, (port(n), k), (port(n), 0))?;
-            enter(&mut core, &frame, SEEN);
-            drain_all(&mut core, batch);
-        }
-    }
-    Ok(core)
-}
-
-/// Makes a switch under this load and enters the frames in turn, one in each ms, over and over: so many times, at so many
-/// switches.
-pub fn time_frames<R: CpuClock>(
+/// Makes a switch under this load and the steps at it, at so many switches.
+pub fn time_steps<R: CpuClock>(
     rt: &R,
     alloc: Global,
     load: Load,
-    frames: &[Frame],
-    times: u64,
+    steps: Steps,
     switches: u64,
 ) -> anyhow::Result<Timed> {
     let mut timed = Timed::new();
     let mut batch = Batch::make(alloc)?;
     for _ in 0..switches {
-        let mut core = loaded(alloc, &mut batch, load)?;
-        timed.stamp = START;
-        for _ in 0..times {
-            enter_all(rt, &mut core, &mut batch, frames, &mut timed)?;
-        }
+        time_switch(rt, alloc, load, steps, &mut batch, &mut timed)?;
     }
     Ok(timed)
 }
 
-// Enters the frames in turn.
-fn enter_all<R: CpuClock>(
+// Makes a switch, and the steps at it.
+fn time_switch<R: CpuClock>(
     rt: &R,
+    alloc: Global,
+    load: Load,
+    steps: Steps,
+    batch: &mut Batch,
+    timed: &mut Timed,
+) -> anyhow::Result<()> {
+    let mut core = switch(alloc, load.ports, load.validates)?;
+    time_at(rt, alloc, load, steps, &mut core, batch, timed)
+}
+
+// Makes the steps at a new switch, once it is under this load.
+fn time_at<R: CpuClock>(
+    rt: &R,
+    alloc: Global,
+    load: Load,
+    steps: Steps,
     core: &mut Core,
     batch: &mut Batch,
-    frames: &[Frame],
     timed: &mut Timed,
-) -> io::Result<()> {
-    for block in frames.chunks(BLOCK) {
-        let start = rt.thread_cpu_time()?;
-        for frame in block {
-            let passes = enter(core, frame, timed.stamp);
-            timed.count(passes);
-        }
-        let took = rt.thread_cpu_time()?.saturating_sub(start);
-        timed.took = timed.took.saturating_add(took);
+) -> anyhow::Result<()> {
+    for stamp in [CLAIMED, SEEN] {
+        bind_all(alloc, core, batch, load.addresses, stamp)?;
+    }
+    learn_all(alloc, core, batch, load)?;
+    match steps {
+        Steps::Frames(frames, times) => enter_over(rt, core, batch, frames, times, timed)?,
+        Steps::Ticks(first, count) => tick_all(rt, core, first, count, timed)?,
+    }
+    Ok(())
+}
+
+// A packet comes of each address: the first one claims it, and the second one comes once it is bound.
+fn bind_all(
+    alloc: Global,
+    core: &mut Core,
+    batch: &mut Batch,
+    addresses: u64,
+    stamp: Moment,
+) -> Result<(), AllocError> {
+    for n in 0..addresses {
+        let frame = packet(alloc, n, (port_of(n), 0), (port_of(n), 0))?;
+        enter(core, &frame, stamp);
         drain_all(core, batch);
     }
     Ok(())
 }
 
-/// Makes a switch under this load and so many ticks, one in each ms from `first` on, at so many switches.
-pub fn time_ticks<R: CpuClock>(
-    rt: &R,
+// A packet comes from each station.
+fn learn_all(
     alloc: Global,
+    core: &mut Core,
+    batch: &mut Batch,
     load: Load,
-    first: Moment,
-    ticks: u64,
-    switches: u64,
-) -> anyhow::Result<Timed> {
-    let mut timed = Timed::new();
-    let mut batch = Batch::make(alloc)?;
-    for _ in 0..switches {
-        let mut core = loaded(alloc, &mut batch, load)?;
-        timed.stamp = first;
-        let start = rt.thread_cpu_time()?;
-        for _ in 0..ticks {
-            let is_due = tick(&mut core, timed.stamp);
-            timed.count(is_due);
+) -> Result<(), AllocError> {
+    for n in 0..u64::from(load.ports) {
+        for k in 0..load.stations_a_port {
+            let frame = packet(alloc, n, (port(n), k), (port(n), 0))?;
+            enter(core, &frame, SEEN);
+            drain_all(core, batch);
         }
-        let took = rt.thread_cpu_time()?.saturating_sub(start);
-        timed.took = timed.took.saturating_add(took);
     }
-    Ok(timed)
+    Ok(())
+}
+
+// Enters the frames in turn, over and over.
+fn enter_over<R: CpuClock>(
+    rt: &R,
+    core: &mut Core,
+    batch: &mut Batch,
+    frames: &[Frame],
+    times: u64,
+    timed: &mut Timed,
+) -> io::Result<()> {
+    timed.stamp = START;
+    for _ in 0..times {
+        for block in frames.chunks(BLOCK) {
+            enter_block(rt, core, block, timed)?;
+            drain_all(core, batch);
+        }
+    }
+    Ok(())
+}
+
+// Enters some frames in turn.
+fn enter_block<R: CpuClock>(
+    rt: &R,
+    core: &mut Core,
+    block: &[Frame],
+    timed: &mut Timed,
+) -> io::Result<()> {
+    let start = rt.thread_cpu_time()?;
+    for frame in block {
+        let passes = enter(core, frame, timed.stamp);
+        timed.count(passes);
+    }
+    let took = rt.thread_cpu_time()?.saturating_sub(start);
+    timed.took = timed.took.saturating_add(took);
+    Ok(())
+}
+
+// Makes the ticks.
+fn tick_all<R: CpuClock>(
+    rt: &R,
+    core: &mut Core,
+    first: Moment,
+    count: u64,
+    timed: &mut Timed,
+) -> io::Result<()> {
+    timed.stamp = first;
+    let start = rt.thread_cpu_time()?;
+    for _ in 0..count {
+        let is_due = tick(core, timed.stamp);
+        timed.count(is_due);
+    }
+    let took = rt.thread_cpu_time()?.saturating_sub(start);
+    timed.took = timed.took.saturating_add(took);
+    Ok(())
 }

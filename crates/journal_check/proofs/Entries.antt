@@ -1,4 +1,6 @@
 -- One more line behind a past, and what is answered there.
+use Rattle.std.proofs.lemmas.List.Elements.{All-cons}
+use Rattle.hex.specs.Hex.{IsBytes}
 use Rattle.std.proofs.Common.{◌≡◌, ◌≢◌, ◌+◌, ◌^◌, ◌<◌, ℕ, List, [], ◌∷◌, ◌++◌, length, Option, Some, None, IfSome, refl, ap, sym, ◌∙◌, inl, inr, subst, append_assoc, arith}
 use Rattle.savi_kinds.specs.declared.plan.Plan.{Plan}
 use Rattle.hist_store.specs.Rows.{Row}
@@ -12,6 +14,7 @@ use Rattle.savi_ends.proofs.Octets.{in_front_again}
 use Rattle.savi_history.specs.Bases.{empty}
 use Rattle.savi_history.specs.Legal.{IsLegal, IsFinished}
 use Rattle.savi_history.proofs.Fields.{lines_end}
+use Rattle.savi_history.proofs.Telling.{AreOctets}
 use Rattle.journal_check.specs.declared.answer.Checked.{Checked}
 use Rattle.journal_check.specs.declared.answer.Checked.TheVariants.{Good, Wrong, BadLine, Failed, NoMemory}
 use Rattle.journal_check.specs.Feeds.{HasNoFeed, BeginsWithNoLine}
@@ -19,7 +22,7 @@ use Rattle.journal_check.specs.Headers.{IsPlan}
 use Rattle.savi_core.specs.Machines.{Machine}
 use Rattle.journal_check.specs.declared.turns.Turn.TheVariants as turns
 use Rattle.journal_check.specs.Turns.{SaysNext, SaysWrong, SaysNothing, Turned}
-use Rattle.journal_check.specs.Answers.{past_text, AreSaid, Judges, HasNoLine, Ends, IfRead, IsAnswerBehind, next_line}
+use Rattle.journal_check.specs.Answers.{past_text, Judges, HasNoLine, Ends, IfRead, IsAnswerBehind, next_line}
 use Rattle.journal_check.proofs.LineFronts.{line_avoids}
 use Rattle.journal_check.proofs.SaidFields.{fields_said}
 use Rattle.journal_check.proofs.OneAnswer.{says_avoids}
@@ -51,10 +54,6 @@ fed_opened line rest = append_assoc line (10 ∷ []) rest
 line_is : (n : ℕ) (line : List ℕ) (row : Row) → SaysEntry line n (row_said row) → line ≡ line_text n row
 line_is n line row says = says.text ∙ sym (ap joined (fields_said n row))
 
-pub said_more : (plan : Plan) (past : List Row) (line : List ℕ) (row : Row) → SaysNext plan past line row → AreSaid past → AreSaid (row ∷ past)
-said_more plan past line row next said =
-    (subst (λ (l : List ℕ). SaysEntry l (length past) (row_said row)) (line_is (length past) line row next.says) next.says, said)
-
 pub told_more : (plan : Plan) (past : List Row) (line : List ℕ) (row : Row) (whole before after : Option (List ℕ)) → SaysNext plan past line row
     → whole ≡ in_front (past_text plan past) before → before ≡ in_front (line ++ 10 ∷ []) after → whole ≡ in_front (past_text plan (row ∷ past)) after
 told_more plan past line row whole before after next told taken =
@@ -68,19 +67,19 @@ told_more plan past line row whole before after next told taken =
 pub record IsKept (old new : Machine) (whole after : Option (List ℕ)) : Type 0 where
   pub plan : new.plan ≡ old.plan
   pub legal : IsLegal new.plan empty new.past
-  pub said : AreSaid new.past
+  pub bytes : AreOctets new.past
   pub told : whole ≡ in_front (past_text new.plan new.past) after
   pub size : length new.past ≡ length old.past + 1
 
-pub kept_more : (old new : Machine) (line : List ℕ) (whole before after : Option (List ℕ)) → IsLegal old.plan empty old.past → AreSaid old.past
+pub kept_more : (old new : Machine) (line : List ℕ) (whole before after : Option (List ℕ)) → IsLegal old.plan empty old.past → AreOctets old.past
     → whole ≡ in_front (past_text old.plan old.past) before → before ≡ in_front (line ++ 10 ∷ []) after → Turned old line new turns.Stands → IsKept old new whole after
-kept_more old new line whole before after legal said told taken turned =
+kept_more old new line whole before after legal bytes told taken turned =
     let row = turned.0 in
     let next = turned.1 in
     subst (λ (m : Machine). IsKept old m whole after) (sym turned.2) (record {
       plan = refl;
       legal = (next.stands, legal);
-      said = said_more old.plan old.past line row next said;
+      bytes = All-cons (λ (r : Row). IsBytes r.octets) row old.past next.says.octets bytes;
       told = told_more old.plan old.past line row whole before after next told taken;
       size = omega arith;
     })
@@ -88,11 +87,11 @@ kept_more old new line whole before after legal said told taken turned =
 -- what is answered
 
 -- an answer behind a past is one of the whole text
-pub answered : (plan : Plan) (past : List Row) (whole before : Option (List ℕ)) (a : Checked) → IsPlan plan → IsLegal plan empty past → AreSaid past
+pub answered : (plan : Plan) (past : List Row) (whole before : Option (List ℕ)) (a : Checked) → IsPlan plan → IsLegal plan empty past → AreOctets past
     → whole ≡ in_front (past_text plan past) before → IfSome before (λ rest. Judges plan past rest a) → IfSome whole (λ octets. IsAnswerBehind octets a)
-answered plan past whole None a is legal said told judges = rw told tt
-answered plan past whole (Some rest) a is legal said told judges =
-    rw told (record { plan = plan; past = past; rest = rest; begins = record { plan_is = is; legal = legal; said = said; text = refl }; judges = judges })
+answered plan past whole None a is legal bytes told judges = rw told tt
+answered plan past whole (Some rest) a is legal bytes told judges =
+    rw told (record { plan = plan; past = past; rest = rest; begins = record { plan_is = is; legal = legal; bytes = bytes; text = refl }; judges = judges })
 
 -- what is to come begins with a line
 begun : (plan : Plan) (past : List Row) (line : List ℕ) (before after : Option (List ℕ)) (a : Checked) → before ≡ in_front (line ++ 10 ∷ []) after
@@ -167,10 +166,10 @@ some_behind [] (Some rest) some = absurd (omega (arith, some))
 some_behind (octet ∷ held) (Some rest) some = λ none. cc
 
 -- under IfRead
-pub answered_if : (plan : Plan) (past : List Row) (whole before : Option (List ℕ)) (a : Checked) → IsPlan plan → IsLegal plan empty past → AreSaid past
+pub answered_if : (plan : Plan) (past : List Row) (whole before : Option (List ℕ)) (a : Checked) → IsPlan plan → IsLegal plan empty past → AreOctets past
     → whole ≡ in_front (past_text plan past) before → IfRead a (IfSome before (λ rest. Judges plan past rest a)) → IfRead a (IfSome whole (λ octets. IsAnswerBehind octets a))
-answered_if plan past whole before (Good entries) is legal said told judges = answered plan past whole before (Good entries) is legal said told judges
-answered_if plan past whole before (Wrong entry want have) is legal said told judges = answered plan past whole before (Wrong entry want have) is legal said told judges
-answered_if plan past whole before (BadLine n) is legal said told judges = answered plan past whole before (BadLine n) is legal said told judges
-answered_if plan past whole before Failed is legal said told judges = tt
-answered_if plan past whole before NoMemory is legal said told judges = tt
+answered_if plan past whole before (Good entries) is legal bytes told judges = answered plan past whole before (Good entries) is legal bytes told judges
+answered_if plan past whole before (Wrong entry want have) is legal bytes told judges = answered plan past whole before (Wrong entry want have) is legal bytes told judges
+answered_if plan past whole before (BadLine n) is legal bytes told judges = answered plan past whole before (BadLine n) is legal bytes told judges
+answered_if plan past whole before Failed is legal bytes told judges = tt
+answered_if plan past whole before NoMemory is legal bytes told judges = tt

@@ -1,8 +1,6 @@
 -- What is good is a journal, and each journal of a finished history is good.
-use Rattle.std.proofs.Common.{◌≡◌, ◌+◌, ℕ, List, [], ◌∷◌, ◌++◌, length, reverse, refl, ap, sym, ◌∙◌, inl, inr, arith, append_assoc, append-nil, All}
+use Rattle.std.proofs.Common.{◌≡◌, ◌+◌, ℕ, List, [], ◌∷◌, ◌++◌, length, reverse, refl, ap, sym, ◌∙◌, inl, inr, arith, append_assoc, append-nil}
 use Rattle.std.proofs.lemmas.List.{reverse-append, length-reverse}
-use Rattle.std.proofs.lemmas.List.Elements.{All-nil, All-cons}
-use Rattle.hex.specs.Hex.{IsBytes}
 use Rattle.savi_kinds.specs.declared.plan.Plan.{Plan}
 use Rattle.hist_store.specs.Rows.{Row}
 use Rattle.hist_store.specs.TextOfLines.{lines_text}
@@ -11,7 +9,7 @@ use Rattle.hist_store.specs.JournalTexts.{address_text, entry_lines, end_line, e
 use Rattle.hist_store.proofs.LineLemmas.{lines_text-append}
 use Rattle.journal_check.specs.declared.answer.Checked.TheVariants.{Good, BadLine}
 use Rattle.journal_check.specs.Headers.{Line}
-use Rattle.journal_check.specs.Answers.{past_text, AreSaid, IsAnswerBehind}
+use Rattle.journal_check.specs.Answers.{past_text, IsAnswerBehind}
 use Rattle.journal_check.specs.Laws.{IsFinishedJournal, GoodIsJournal, JournalIsGood}
 use Rattle.journal_check.proofs.OneHeader.{header}
 
@@ -43,21 +41,16 @@ journal_lines plan past =
     lines_text-append (header plan ++ entry_lines 0 (reverse past)) (end_line count ∷ []) ∙ ap (λ (t : List ℕ). t ++ end_text count) (sym (past_lines plan past))
     ∙ ap (λ (k : ℕ). past_text plan past ++ end_text k) (length-reverse past)
 
-said_bytes : (past : List Row) → AreSaid past → All (λ r. IsBytes r.octets) past
-said_bytes [] said = All-nil (λ (r : Row). IsBytes r.octets)
-said_bytes (row ∷ past) said = All-cons (λ (r : Row). IsBytes r.octets) row past said.0.octets (said_bytes past said.1)
-
 good_behind : (octets : List ℕ) (entries : ℕ) → IsAnswerBehind octets (Good entries) → IsFinishedJournal octets entries
 good_behind octets entries x = record {
   plan = x.plan;
   past = x.past;
   plan_is = x.begins.plan_is;
-  said = x.begins.said;
   journal = record {
     valid = x.begins.plan_is.valid;
     addresses = x.begins.plan_is.addresses;
     legal = x.begins.legal;
-    octets = said_bytes x.past x.begins.said;
+    octets = x.begins.bytes;
     journal = x.begins.text ∙ ap (λ (t : List ℕ). past_text x.plan x.past ++ t) x.judges.2 ∙ sym (journal_lines x.plan x.past);
   };
   finished = x.judges.1;
@@ -76,6 +69,6 @@ journal_is_good octets entries x = inr (record {
   plan = x.plan;
   past = x.past;
   rest = end_text (length x.past);
-  begins = record { plan_is = x.plan_is; legal = x.journal.legal; said = x.said; text = x.journal.journal ∙ journal_lines x.plan x.past };
+  begins = record { plan_is = x.plan_is; legal = x.journal.legal; bytes = x.journal.octets; text = x.journal.journal ∙ journal_lines x.plan x.past };
   judges = (x.count, x.finished, refl);
 })

@@ -1,3 +1,6 @@
+pub mod FewEntries
+pub mod ComputedFields
+pub mod LegalFields
 pub mod LineFronts
 pub mod OneHeader
 pub mod SaidFields
@@ -5,7 +8,6 @@ pub mod OneFault
 pub mod OneAnswer
 pub mod OneText
 pub mod GoodJournals
-pub mod NamesKept
 pub mod Nameless
 pub mod FeedPlaces
 pub mod Filling

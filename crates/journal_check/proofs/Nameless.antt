@@ -27,10 +27,9 @@ use Rattle.savi_history.specs.Events.{Event, Frame, Long, Command, Tick, Drain, 
 use Rattle.savi_history.specs.Queues.{Item}
 use Rattle.savi_history.specs.Legal.{IsOpen, IsFull, IsFinished, IsLegal, MayArrive, MayTick, MayEnd, MayCome}
 use Rattle.savi_history.specs.Journals.{without_names, without_port_names}
-use Rattle.savi_history.proofs.WithoutNames.{row_kept}
+use Rattle.savi_history.proofs.WithoutNames.{numbers_kept, count_kept, rules_kept, marks_kept, queue_kept, row_kept}
 use Rattle.journal_check.specs.Headers.{Line}
 use Rattle.journal_check.specs.Laws.{JournalsLackNames, WrittenIsGood}
-use Rattle.journal_check.proofs.NamesKept.{numbers_kept, count_kept, rules_kept, marks_kept, queue_kept}
 use Rattle.journal_check.proofs.GoodJournals.{journal_is_good}
 
 -- what may come
@@ -177,7 +176,7 @@ journals_lack_names plan past octets is = record {
 }
 
 pub written_is_good : WrittenIsGood
-written_is_good plan past octets six said is finished =
+written_is_good plan past octets six is finished =
     let bare_journal = journals_lack_names plan past octets is in
     journal_is_good octets (length past) (record {
       plan = without_names plan;
@@ -188,7 +187,6 @@ written_is_good plan past octets six said is finished =
         addresses = bare_journal.addresses;
         nameless = ap (λ (ps : List PortPlan). record (without_names plan) { ports = ps }) (nameless_twice plan.ports);
       };
-      said = said;
       journal = bare_journal;
       finished = finished_kept plan empty past finished;
       count = refl;

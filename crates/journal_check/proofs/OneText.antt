@@ -10,9 +10,10 @@ use Rattle.savi_history.specs.Events.{Event, row_of}
 use Rattle.savi_history.specs.Legal.{Stands, IsLegal}
 use Rattle.journal_check.specs.declared.answer.Checked.{Checked}
 use Rattle.journal_check.specs.declared.answer.Checked.TheVariants.{BadLine}
-use Rattle.journal_check.specs.Answers.{past_text, AreSaid, Judges, IsBadHeader, IsAnswerBehind}
-use Rattle.journal_check.specs.Laws.{HasOneAnswer}
+use Rattle.journal_check.specs.Answers.{past_text, Judges, IsBadHeader, IsAnswerBehind}
+use Rattle.journal_check.specs.Laws.{AreSaid, HasOneAnswer}
 use Rattle.journal_check.specs.Differing.{event_of}
+use Rattle.journal_check.proofs.LegalFields.{legal_said}
 use Rattle.journal_check.proofs.OneHeader.{header, bad_once, not_bad, one_plan}
 use Rattle.journal_check.proofs.OneFault.{event_said, stood_event}
 use Rattle.journal_check.proofs.OneAnswer.{entry_once, judge_once, judge_stands}
@@ -89,7 +90,7 @@ whole_text : (octets : List ℕ) (a : Checked) (x : IsAnswerBehind octets a) →
 whole_text octets a x = x.begins.text ∙ text_turned x.plan x.past [] x.rest
 
 whole_next : (octets : List ℕ) (a : Checked) (x : IsAnswerBehind octets a) → AreNext x.plan [] (turned x.past [])
-whole_next octets a x = next_turned x.plan x.past [] x.begins.legal x.begins.said tt
+whole_next octets a x = next_turned x.plan x.past [] x.begins.legal (legal_said x.plan x.begins.plan_is.valid x.past x.begins.legal x.begins.bytes) tt
 
 whole_judges : (octets : List ℕ) (a : Checked) (x : IsAnswerBehind octets a) → Judges x.plan (after [] (turned x.past [])) x.rest a
 whole_judges octets a x = subst (λ (past : List Row). Judges x.plan past x.rest a) (sym (after_turned x.past [])) x.judges

@@ -1,12 +1,13 @@
 -- What a text is, as a journal. Its octets are the text of a history that a switch may have, the newest row first, and a
 -- rest; the answer is a condition on the two. That nothing before the fault is at fault need not be said: that history
 -- stands.
-use Rattle.std.specs.Prelude.{◌≡◌, ◌≢◌, ◌+◌, ◌⊎◌, ℕ, List, [], ◌∷◌, ◌++◌, length, Option, IfSome}
+use Rattle.std.specs.Prelude.{◌≡◌, ◌≢◌, ◌+◌, ◌⊎◌, ℕ, List, [], ◌∷◌, ◌++◌, length, Option, IfSome, All}
+use Rattle.hex.specs.Hex.{IsBytes}
 use Rattle.savi_kinds.specs.declared.plan.Plan.{Plan}
 use Rattle.hist_store.specs.Rows.{Row}
 use Rattle.hist_store.specs.TextOfLines.{line_feed}
 use Rattle.hist_store.specs.LineTexts.{line_text}
-use Rattle.hist_store.specs.EntryLines.{SaysEntry, row_said}
+use Rattle.hist_store.specs.EntryLines.{SaysEntry}
 use Rattle.hist_store.specs.JournalTexts.{address_text, header_lines, header_text, end_text}
 use Rattle.savi_ends.specs.Octets.{NothingLeft}
 use Rattle.savi_history.specs.Bases.{empty}
@@ -21,16 +22,11 @@ abbrev pub past_text : Plan → List Row → List ℕ
 past_text plan [] = header_text address_text plan
 past_text plan (row ∷ past) = past_text plan past ++ line_text (length past) row ++ line_feed ∷ []
 
--- each row is all in its line, but for the place where its octets are kept: its numbers fit their fields
-abbrev pub AreSaid : List Row → Type 0
-AreSaid [] = Unit {0}
-AreSaid (row ∷ past) = SaysEntry (line_text (length past) row) (length past) (row_said row) × AreSaid past
-
 -- the text begins with the header of a plan and the lines of a history that a switch of it may have; the rest comes behind
 pub record Begins (plan : Plan) (past : List Row) (octets rest : List ℕ) : Type 0 where
   pub plan_is : IsPlan plan
   pub legal : IsLegal plan empty past
-  pub said : AreSaid past
+  pub bytes : All (λ row. IsBytes row.octets) past
   pub text : octets ≡ past_text plan past ++ rest
 
 -- the number of the line behind those of the header and of the past

@@ -1,30 +1,42 @@
 -- What the answers of a check come to.
-use Rattle.std.specs.Prelude.{◌≡◌, ℕ, List, length}
+use Rattle.std.specs.Prelude.{◌≡◌, ℕ, List, [], ◌∷◌, length, All}
+use Rattle.hex.specs.Hex.{IsBytes}
 use Rattle.savi_kinds.specs.declared.plan.Plan.{Plan}
 use Rattle.savi_kinds.specs.MacText.{HasSixOctets}
+use Rattle.savi_kinds.specs.ValidPlan.{IsValidPlan}
 use Rattle.hist_store.specs.Rows.{Row}
+use Rattle.hist_store.specs.LineTexts.{line_text}
+use Rattle.hist_store.specs.EntryLines.{SaysEntry, row_said}
 use Rattle.hist_store.specs.JournalTexts.{address_text}
 use Rattle.savi_history.specs.Bases.{empty}
-use Rattle.savi_history.specs.Legal.{IsFinished}
+use Rattle.savi_history.specs.Legal.{IsLegal, IsFinished}
 use Rattle.savi_history.specs.Journals.{IsJournalOf, without_names}
 use Rattle.journal_check.specs.declared.answer.Checked.{Checked}
 use Rattle.journal_check.specs.declared.answer.Checked.TheVariants.{Good}
 use Rattle.journal_check.specs.Headers.{IsPlan}
-use Rattle.journal_check.specs.Answers.{AreSaid, IsAnswer}
+use Rattle.journal_check.specs.Answers.{IsAnswer}
 
 -- no octets have two answers
 abbrev pub HasOneAnswer : Type 0
 HasOneAnswer = (octets : List ℕ) (a b : Checked) → IsAnswer octets a → IsAnswer octets b → a ≡ b
 
--- the octets are the journal of a finished history with so many entries, each number of which fits its field
+-- the octets are the journal of a finished history with so many entries
 pub record IsFinishedJournal (octets : List ℕ) (entries : ℕ) : Type 0 where
   pub plan : Plan
   pub past : List Row
   pub plan_is : IsPlan plan
-  pub said : AreSaid past
   pub journal : IsJournalOf address_text plan past octets
   pub finished : IsFinished plan empty past
   pub count : entries ≡ length past
+
+-- each row is all in its line, but for the place where its octets are kept: its numbers fit their fields
+abbrev pub AreSaid : List Row → Type 0
+AreSaid [] = Unit {0}
+AreSaid (row ∷ past) = SaysEntry (line_text (length past) row) (length past) (row_said row) × AreSaid past
+
+-- each number of a legal history fits its field: no journal says less than its history
+abbrev pub LegalIsSaid : Type 0
+LegalIsSaid = (plan : Plan) (past : List Row) → IsValidPlan plan → IsLegal plan empty past → All (λ row. IsBytes row.octets) past → AreSaid past
 
 -- what is good is a journal of a finished history, and each such journal is good
 abbrev pub GoodIsJournal : Type 0
@@ -41,5 +53,5 @@ JournalsLackNames = (plan : Plan) (past : List Row) (octets : List ℕ) → IsJo
 -- the journal that is written of a finished history is good, whatever the names of its plan
 abbrev pub WrittenIsGood : Type 0
 WrittenIsGood =
-    (plan : Plan) (past : List Row) (octets : List ℕ) → HasSixOctets plan.mac → AreSaid past → IsJournalOf address_text plan past octets → IsFinished plan empty past
+    (plan : Plan) (past : List Row) (octets : List ℕ) → HasSixOctets plan.mac → IsJournalOf address_text plan past octets → IsFinished plan empty past
     → IsAnswer octets (Good (length past))

@@ -51,7 +51,8 @@ impl FieldText {
     }
 
     pub fn as_str(&self) -> &str
-        ensures { result.now ≡ self.now }
+        ensures text { result.now ≡ self.now }
+        ensures short { length result.now ≤ 64 }
     {
         self.inner.as_str()
     }

@@ -1,6 +1,6 @@
 //! What the answers of a check come to. Each function does nothing: its contract is the law.
 
-ghost use Rattle.journal_check.specs.Laws.{GoodIsJournal, HasOneAnswer, JournalIsGood, JournalsLackNames, WrittenIsGood};
+ghost use Rattle.journal_check.specs.Laws.{GoodIsJournal, HasOneAnswer, JournalIsGood, JournalsLackNames, LegalIsSaid, WrittenIsGood};
 
 /// Law: no octets have two answers.
 pub fn octets_have_one_answer()
@@ -20,6 +20,11 @@ pub fn a_journal_is_good()
 /// Law: the journal of a plan is that of the plan without its names.
 pub fn journals_lack_names()
     ensures { JournalsLackNames }
+{}
+
+/// Law: each number of a legal history fits its field of the journal.
+pub fn legal_numbers_fit_their_fields()
+    ensures { LegalIsSaid }
 {}
 
 /// Law: the journal that is written of a finished history is good, whatever the names of its plan.

@@ -22,7 +22,7 @@ mod turns;
 
 pub use answer::{Checked, FIELD_OCTETS, FieldText};
 pub use laws::{
-    a_journal_is_good, a_written_journal_is_good, journals_lack_names, octets_have_one_answer,
-    what_is_good_is_a_journal,
+    a_journal_is_good, a_written_journal_is_good, journals_lack_names,
+    legal_numbers_fit_their_fields, octets_have_one_answer, what_is_good_is_a_journal,
 };
 pub use reading::check;

@@ -8,7 +8,5 @@
 
 mod ends;
 mod replaying;
-#[cfg(test)]
-mod tests;
 
 pub use replaying::replay_load;

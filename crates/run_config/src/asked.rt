@@ -1,13 +1,15 @@
 //! The forms of the command line.
 
-ghost use Rattle.std.specs.Prelude.{ℕ, List, IfSome, IfNone, map};
+ghost use Rattle.std.specs.Prelude.{◌≡◌, ℕ, List, [], ◌∷◌, IfSome, IfNone, map};
 ghost use Rattle.std.specs.String.{string_bytes};
-ghost use Rattle.run_config.specs.Words.{Asks, IsGen, IsReplay};
+ghost use Rattle.run_config.specs.Words.{Asks, IsGen};
 
 use savi_kinds::read_decimal;
 
 // The word that asks for a replay.
 const REPLAY: &str = "replay";
+// The word that asks for the check of a journal.
+const CHECK: &str = "check";
 // The word that asks for a load.
 const GENERATE: &str = "gen";
 // The greatest seed of a load.
@@ -20,6 +22,8 @@ const FRAMES_MOST: u64 = 100_000;
 pub enum Asked<'a> {
     /// A replay, by the name of its configuration: `replay FILE`.
     Replay(&'a str),
+    /// The check of a journal, by the name of its file: `check FILE`.
+    Check(&'a str),
     /// The replay of a load, by its seed and the number of its packets: `gen SEED FRAMES`.
     Generate { seed: u32, frames: u32 },
     /// The words are none of the forms.
@@ -31,8 +35,11 @@ pub enum Asked<'a> {
 pub fn asked_by(words: &[String]) -> Asked<'_>
     ensures { Asks (map string_bytes words.now) result }
 {
-    if let Some(file) = file_of(words) {
+    if let Some(file) = file_behind(REPLAY, words) {
         return Asked::Replay(file);
+    }
+    if let Some(file) = file_behind(CHECK, words) {
+        return Asked::Check(file);
     }
     match load_of(words) {
         Some((seed, frames)) => Asked::Generate { seed, frames },
@@ -40,13 +47,13 @@ pub fn asked_by(words: &[String]) -> Asked<'_>
     }
 }
 
-// The configuration's name, where the words are `replay FILE`.
-fn file_of(words: &[String]) -> Option<&str>
-    ensures some { IfSome result (λ file. IsReplay file.now (map string_bytes words.now)) }
-    ensures none { IfNone result ((file : List ℕ) → IsReplay file (map string_bytes words.now) → ⊥) }
+// The name of a file, where the words are the one of a form and this name.
+fn file_behind<'a>(form: &str, words: &'a [String]) -> Option<&'a str>
+    ensures some { IfSome result (λ file. map string_bytes words.now ≡ form.now ∷ file.now ∷ []) }
+    ensures none { IfNone result ((file : List ℕ) → map string_bytes words.now ≡ form.now ∷ file ∷ [] → ⊥) }
 {
     match words {
-        [form, file] if form.as_str() == REPLAY => Some(file.as_str()),
+        [first, file] if first.as_str() == form => Some(file.as_str()),
         _ => None,
     }
 }

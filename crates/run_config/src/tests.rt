@@ -205,13 +205,18 @@ fn words_are_a_form(rt: HostRuntime) -> Result<(), Fail> {
         seed: 2_147_483_647,
         frames: 100_000,
     };
-    let rows: [(&[&str], Asked<'_>); 14] = [
+    let rows: [(&[&str], Asked<'_>); 19] = [
         (&["replay", "plan"], Asked::Replay("plan")),
         (&["replay", "gen"], Asked::Replay("gen")),
         (&["replay"], Asked::NoForm),
         (&["replay", "plan", "plan"], Asked::NoForm),
         (&["Replay", "plan"], Asked::NoForm),
         (&[], Asked::NoForm),
+        (&["check", "journal"], Asked::Check("journal")),
+        (&["check", "replay"], Asked::Check("replay")),
+        (&["check"], Asked::NoForm),
+        (&["check", "journal", "journal"], Asked::NoForm),
+        (&["checks", "journal"], Asked::NoForm),
         (&["gen", "0", "2"], Asked::Generate { seed: 0, frames: 2 }),
         (&["gen", "2147483647", "100000"], most),
         (&["gen", "2147483648", "2"], Asked::NoForm),

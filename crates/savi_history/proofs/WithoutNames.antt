@@ -59,11 +59,11 @@ use Rattle.savi_history.specs.Queues.{Item, probe_item, is_probed, offered_at, r
 use Rattle.savi_history.specs.Events.{Event, Frame, Long, Command, Tick, Drain, End, frame_act, command_act, plain_row, outs_of, row_of}
 use Rattle.savi_history.specs.Journals.{without_port_names, without_names}
 
-numbers_kept : (ports : List PortPlan) → numbers_of (map without_port_names ports) ≡ numbers_of ports
+pub numbers_kept : (ports : List PortPlan) → numbers_of (map without_port_names ports) ≡ numbers_of ports
 numbers_kept [] = refl
 numbers_kept (p ∷ ports) = ap (λ (ns : List ℕ). number_of p.number ∷ ns) (numbers_kept ports)
 
-count_kept : (ports : List PortPlan) → length (map without_port_names ports) ≡ length ports
+pub count_kept : (ports : List PortPlan) → length (map without_port_names ports) ≡ length ports
 count_kept ports = length-map ports without_port_names
 
 -- the pass of each who, by how many ports there are and their numbers
@@ -106,7 +106,7 @@ vlan_among_kept (p ∷ ports) number = vlan_at p (map without_port_names ports) 
 abbrev pub rules_by : Plan → (ℕ → Role) → (ℕ → Option ℕ) → AccessRules
 rules_by plan roles vlans = record (rules_of plan) { addresses = record ((rules_of plan).addresses) { vlan_of = vlans }; role_of = roles }
 
-rules_kept : (plan : Plan) → rules_of (without_names plan) ≡ rules_of plan
+pub rules_kept : (plan : Plan) → rules_of (without_names plan) ≡ rules_of plan
 rules_kept plan =
     ap (λ (roles : ℕ → Role). rules_by plan roles (vlan_among (map without_port_names plan.ports))) (fun_ext (role_among_kept plan.ports))
     ∙ ap (λ (vlans : ℕ → Option ℕ). rules_by plan (role_among plan.ports) vlans) (fun_ext (vlan_among_kept plan.ports))
@@ -176,7 +176,7 @@ module _ (plan : Plan) (base : Base) where
   marked_kept rows r (acts.Drain port count) past = refl
   marked_kept rows r (acts.End who how) past = refl
 
-  marks_kept : (past : List Row) → marks (without_names plan) base past ≡ marks plan base past
+  pub marks_kept : (past : List Row) → marks (without_names plan) base past ≡ marks plan base past
   marks_kept [] = refl
   marks_kept (r ∷ past) = marked_kept past r r.entry.act (marks (without_names plan) base past) ∙ ap (λ (all : List Mark). marked plan base past r r.entry.act all) (marks_kept past)
 
@@ -287,7 +287,7 @@ module _ (plan : Plan) (base : Base) where
   after_kept past q r (acts.Drain port count) waiting = refl
   after_kept past q r (acts.End who how) waiting = ended_kept past q r who how waiting
 
-  queue_kept : (q : ℕ) (past : List Row) → queue bare base q past ≡ queue plan base q past
+  pub queue_kept : (q : ℕ) (past : List Row) → queue bare base q past ≡ queue plan base q past
   queue_kept q [] = refl
   queue_kept q (r ∷ past) =
       after_kept past q r r.entry.act (queue bare base q past) ∙ ap (λ (items : List Item). waiting_after plan base past q r r.entry.act items) (queue_kept q past)

@@ -1,4 +1,5 @@
 pub mod Buffers
+pub mod CheckLines
 pub mod RunLines
 pub mod Sums
 pub mod Written

@@ -1,4 +1,5 @@
-//! What a run says: the journal and the summary of its history, and its lines on standard error.
+//! What a run says: the journal and the summary of its history, what a journal was found to be, and its lines on standard
+//! error.
 //!
 //! All that is told of a history is computed from the plan and the stored rows alone (`hist_store`), so the switch lends
 //! its history and knows of no text. A text is written to a sink (`savi_ends`) whole, or a front of it where a write fails.
@@ -6,6 +7,7 @@
 #![tactic(auto)]
 
 mod buffer;
+mod check_line;
 mod end_line;
 mod end_lines;
 mod ending;
@@ -17,6 +19,9 @@ mod summary_text;
 mod tests;
 
 pub use buffer::Buffer;
+pub use check_line::{
+    CHECK_LINE_OCTETS, CheckLine, FIELD_TEXT_OCTETS, put_bad_line, put_good, put_wrong,
+};
 pub use end_lines::tell_ends;
 pub use ending::{has_failed, has_failed_write, has_full, has_malformed};
 pub use journal::write_journal;

@@ -4,14 +4,16 @@ use Rattle.std.specs.Prelude.{◌↔◌}
 use Rattle.savi_ends.specs.declared.world.Std.TheVariants.{Out}
 use Rattle.savi_ends.specs.Faults.{Rose}
 use Rattle.savi_ends.specs.Places.{Book}
-use Rattle.run_config.specs.Words.{IsForm, IsGen, IsReplay}
+use Rattle.run_config.specs.Words.{IsCheck, IsForm, IsGen, IsReplay}
 use Rattle.switch_report.specs.RunLines.{memory_line, usage_line}
 use Rattle.switch_run.specs.Causes.{HasSomeReadFault, HasSomeWriteFault, IsElsewhereSame, IsOneOf, IsUntouched, IsUnused, quiet_statuses, session_statuses, statuses, unused_statuses}
+use Rattle.switch_run.specs.Checks.{IsCheckRun}
 use Rattle.switch_run.specs.Loads.{IsLoadRun}
 use Rattle.switch_run.specs.Runs.{IsRun}
 use Rattle.switch_run.specs.Session.{IsFileUnread, IsNoPlan, IsSession, IsUnopened, IsUnplayed, Told, ToldBy}
+use Rattle.switch_run.proofs.Checking.{check_is, check_memory, check_opening, check_out, check_unserved, never_two, ran_check}
 use Rattle.switch_run.proofs.Faulting.{read_fault_of, write_fault_of}
-use Rattle.switch_run.proofs.Forms.{same_file, same_load, not_both}
+use Rattle.switch_run.proofs.Forms.{same_file, same_journal, same_load, not_both, not_checked, not_judged}
 use Rattle.switch_run.proofs.Loading.{load_is, load_memory, load_out, load_unserved, not_two, not_seven, ran_load}
 use Rattle.switch_run.proofs.Refusing.{unused_same}
 use Rattle.switch_run.proofs.Running.{Ran, ran_told, ran_open, ran_quiet, ran_untouched, ran_unused, ran_elsewhere, ran_config, ran_unopened, ran_session, ran_unplayed}
@@ -33,6 +35,7 @@ pub record Clauses {S K C : Type 0} (left : S → Option (List ℕ)) (written : 
   pub quiet : IsOneOf quiet_statuses status → new.std Out ≡ old.std Out
   pub unused : IsOneOf unused_statuses status → IsUnused old new
   pub elsewhere : (file : List ℕ) → IsReplay file words → IsElsewhereSame file old new
+  pub check : (file : List ℕ) → IsCheck file words → IsCheckRun left written source_faults sink_faults file (Told sink_faults written old new) old new status
   pub load : (seed frames : ℕ) → IsGen seed frames words → IsLoadRun written sink_faults seed frames (Told sink_faults written old new) old new status
 
 pub clauses_of : {S K C : Type 0} (left : S → Option (List ℕ)) (written : K → Option (List ℕ)) (source_faults : S → ℕ) (sink_faults : K → ℕ) (words : List (List ℕ)) (b0 b1 b2 b3 : Book S K C) (e e' : K) (status : ℕ) → Ran b0 b1 b2 b3 e e'
@@ -54,7 +57,8 @@ clauses_of {S} {K} {C} left written source_faults sink_faults words b0 b1 b2 b3 
       quiet = λ one_of. untouched.out;
       unused = λ one_of. unused_same b0 b3 (record { ports = ap (λ (b : Book S K C). b.ports) untouched.rest; control = ap (λ (b : Book S K C). b.control) untouched.rest; outputs = ap (λ (b : Book S K C). b.outputs) untouched.rest });
       elsewhere = λ file form. absurd (none (inl (file, form)));
-      load = λ seed frames form. absurd (none (inr (seed, frames, form)));
+      check = λ file form. absurd (none (inr (inl (file, form))));
+      load = λ seed frames form. absurd (none (inr (inr (seed, frames, form))));
     }
 clauses_of {S} {K} {C} left written source_faults sink_faults words b0 b1 b2 b3 e e' status ran (inr (inl (file, form, r))) =
     let says : (lines : List ℕ) → ToldBy sink_faults written e e' lines → Told sink_faults written b0 b3 lines = λ lines told. ran_told sink_faults written b0 b1 b2 b3 e e' lines ran told in
@@ -75,14 +79,36 @@ clauses_of {S} {K} {C} left written source_faults sink_faults words b0 b1 b2 b3 
       quiet = λ one_of. ran_quiet b0 b1 b2 b3 e e' ran (r.quiet one_of);
       unused = λ one_of. ran_unused b0 b1 b2 b3 e e' ran (r.unused one_of);
       elsewhere = λ f is. rw (same_file words f file is form) (ran_elsewhere b0 b1 b2 b3 e e' file ran r.elsewhere);
+      check = λ f is. absurd (not_checked words file f form is);
       load = λ seed frames is. absurd (not_both words file seed frames form is);
     }
-clauses_of {S} {K} {C} left written source_faults sink_faults words b0 b1 b2 b3 e e' status ran (inr (inr (seed, frames, form, r))) =
+clauses_of {S} {K} {C} left written source_faults sink_faults words b0 b1 b2 b3 e e' status ran (inr (inr (inl (file, form, r)))) =
+    let replays : (f : List ℕ) → IsReplay f words → ⊥ = λ f is. not_checked words f file is form in
+    let Says : List ℕ → Type 0 = ToldBy sink_faults written e e' in
+    record {
+      one_of = check_is left written source_faults sink_faults file Says b1 b2 status r;
+      usage = (λ two. absurd (never_two left written source_faults sink_faults file Says b1 b2 status r two), λ none. absurd (none (inr (inl (file, form)))));
+      untouched = λ two. absurd (never_two left written source_faults sink_faults file Says b1 b2 status r two);
+      memory = λ one. ran_told sink_faults written b0 b1 b2 b3 e e' memory_line ran (check_memory left written source_faults sink_faults file Says b1 b2 status r one);
+      unplayed = λ f is. absurd (replays f is);
+      config = λ f is. absurd (replays f is);
+      opening = λ seven. ran_open b0 b1 b2 b3 e e' ran (check_opening left written source_faults sink_faults file Says b1 b2 status r seven);
+      unopened = λ f is. absurd (replays f is);
+      session = λ f is. absurd (replays f is);
+      read = λ f is. absurd (replays f is);
+      write = λ f is. absurd (replays f is);
+      quiet = λ quiet. ran_quiet b0 b1 b2 b3 e e' ran (check_out left written source_faults sink_faults file Says b1 b2 status r quiet);
+      unused = λ unused. ran_unused b0 b1 b2 b3 e e' ran (unused_same b1 b2 (check_unserved left written source_faults sink_faults file Says b1 b2 status r));
+      elsewhere = λ f is. absurd (replays f is);
+      check = λ f is. rw (same_journal words f file is form) (ran_check left written source_faults sink_faults file b0 b1 b2 b3 e e' status ran r);
+      load = λ seed frames is. absurd (not_judged words file seed frames form is);
+    }
+clauses_of {S} {K} {C} left written source_faults sink_faults words b0 b1 b2 b3 e e' status ran (inr (inr (inr (seed, frames, form, r)))) =
     let replays : (file : List ℕ) → IsReplay file words → ⊥ = λ file is. not_both words file seed frames is form in
     let Says : List ℕ → Type 0 = ToldBy sink_faults written e e' in
     record {
       one_of = load_is written sink_faults seed frames Says b1 b2 status r;
-      usage = (λ two. absurd (not_two written sink_faults seed frames Says b1 b2 status r two), λ none. absurd (none (inr (seed, frames, form))));
+      usage = (λ two. absurd (not_two written sink_faults seed frames Says b1 b2 status r two), λ none. absurd (none (inr (inr (seed, frames, form)))));
       untouched = λ two. absurd (not_two written sink_faults seed frames Says b1 b2 status r two);
       memory = λ one. ran_told sink_faults written b0 b1 b2 b3 e e' memory_line ran (load_memory written sink_faults seed frames Says b1 b2 status r one).0;
       unplayed = λ file is. absurd (replays file is);
@@ -95,6 +121,7 @@ clauses_of {S} {K} {C} left written source_faults sink_faults words b0 b1 b2 b3 
       quiet = λ quiet. ran_quiet b0 b1 b2 b3 e e' ran (load_out written sink_faults seed frames Says b1 b2 status r quiet);
       unused = λ unused. ran_unused b0 b1 b2 b3 e e' ran (unused_same b1 b2 (load_unserved written sink_faults seed frames Says b1 b2 status r));
       elsewhere = λ file is. absurd (replays file is);
+      check = λ file is. absurd (not_judged words file seed frames is form);
       load = λ seed' frames' is.
           let same = same_load words seed' frames' seed frames is form in
           rw (same.0, same.1) (ran_load written sink_faults seed frames b0 b1 b2 b3 e e' status ran r);

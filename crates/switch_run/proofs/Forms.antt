@@ -1,12 +1,17 @@
--- The words of the command line name one file, or one load.
+-- The words of the command line name one file to be replayed, or one to be checked, or one load.
 use Rattle.std.proofs.Common.{◌≡◌, ◌<◌, ◌^◌, ℕ, List, [], ◌∷◌, sym, ap, ◌∙◌, codes, decimal, arith}
 use Rattle.std.proofs.lemmas.Fmt.{decimal_is_IsNumeral}
 use Rattle.std.specs.Str.Parse.{digits_value}
-use Rattle.run_config.specs.Words.{IsGen, IsReplay}
+use Rattle.run_config.specs.Words.{IsCheck, IsGen, IsReplay}
 
 pub same_file : (words : List (List ℕ)) (a b : List ℕ) → IsReplay a words → IsReplay b words → a ≡ b
 same_file words a b first second =
     let both : codes "replay" ∷ a ∷ [] ≡ codes "replay" ∷ b ∷ [] = sym first ∙ second in
+    cc
+
+pub same_journal : (words : List (List ℕ)) (a b : List ℕ) → IsCheck a words → IsCheck b words → a ≡ b
+same_journal words a b first second =
+    let both : codes "check" ∷ a ∷ [] ≡ codes "check" ∷ b ∷ [] = sym first ∙ second in
     cc
 
 -- a number has one text
@@ -22,6 +27,18 @@ same_load words seed frames seed' frames' one other =
       same_number seed seed' (omega (arith, one.seed_within)) (omega (arith, other.seed_within)) seeds,
       same_number frames frames' (omega (arith, one.frames_within)) (omega (arith, other.frames_within)) counts,
     )
+
+-- no words ask for a replay of a file and for the check of one
+pub not_checked : (words : List (List ℕ)) (a b : List ℕ) → IsReplay a words → IsCheck b words → ⊥
+not_checked words a b replay check =
+    let both : codes "replay" ∷ a ∷ [] ≡ codes "check" ∷ b ∷ [] = sym replay ∙ check in
+    cc
+
+-- nor for the check of a file and for a load: there are two or three
+pub not_judged : (words : List (List ℕ)) (file : List ℕ) (seed frames : ℕ) → IsCheck file words → IsGen seed frames words → ⊥
+not_judged words file seed frames check gen =
+    let both : codes "check" ∷ file ∷ [] ≡ codes "gen" ∷ decimal seed ∷ decimal frames ∷ [] = sym check ∙ gen.spelled in
+    cc
 
 -- no words ask for a replay of a file and for a load: there are two or three
 pub not_both : (words : List (List ℕ)) (file : List ℕ) (seed frames : ℕ) → IsReplay file words → IsGen seed frames words → ⊥

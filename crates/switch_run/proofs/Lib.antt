@@ -8,4 +8,5 @@ pub mod Refusing
 pub mod Ending
 pub mod Forms
 pub mod Loading
+pub mod Checking
 mod Clauses

@@ -95,10 +95,10 @@ ran_elsewhere {S} {K} {C} b0 b1 b2 b3 e e' file ran same = record {
   inputs = λ other apart. ap (λ (b : Book S K C). b.inputs other) ran.rest3 ∙ same.inputs other apart ∙ ap (λ (b : Book S K C). b.inputs other) ran.rest1;
 }
 
-inputs_first : {S K C : Type 0} (b0 b1 b2 b3 : Book S K C) (e e' : K) (file : List ℕ) → Ran b0 b1 b2 b3 e e' → b1.inputs file ≡ b0.inputs file
+pub inputs_first : {S K C : Type 0} (b0 b1 b2 b3 : Book S K C) (e e' : K) (file : List ℕ) → Ran b0 b1 b2 b3 e e' → b1.inputs file ≡ b0.inputs file
 inputs_first {S} {K} {C} b0 b1 b2 b3 e e' file ran = ap (λ (b : Book S K C). b.inputs file) ran.rest1
 
-inputs_last : {S K C : Type 0} (b0 b1 b2 b3 : Book S K C) (e e' : K) (file : List ℕ) → Ran b0 b1 b2 b3 e e' → b3.inputs file ≡ b2.inputs file
+pub inputs_last : {S K C : Type 0} (b0 b1 b2 b3 : Book S K C) (e e' : K) (file : List ℕ) → Ran b0 b1 b2 b3 e e' → b3.inputs file ≡ b2.inputs file
 inputs_last {S} {K} {C} b0 b1 b2 b3 e e' file ran = ap (λ (b : Book S K C). b.inputs file) ran.rest3
 
 ran_input : {S K C : Type 0} (left : S → Option (List ℕ)) (b0 b1 b2 b3 : Book S K C) (e e' : K) (file : List ℕ) → Ran b0 b1 b2 b3 e e' → IsReadFrom left (b1.inputs file) (b2.inputs file) → IsReadFrom left (b0.inputs file) (b3.inputs file)

@@ -3,9 +3,10 @@ use Rattle.std.specs.Prelude.{◌≡◌, ◌≢◌, ◌⊎◌, ℕ, List, Option
 use Rattle.savi_ends.specs.declared.world.Std.TheVariants.{Out}
 use Rattle.savi_ends.specs.Faults.{Rose}
 use Rattle.savi_ends.specs.Places.{Book}
-use Rattle.run_config.specs.Words.{IsForm, IsGen, IsReplay}
+use Rattle.run_config.specs.Words.{IsCheck, IsForm, IsGen, IsReplay}
 use Rattle.switch_report.specs.RunLines.{memory_line, usage_line}
 use Rattle.switch_run.specs.Causes.{IsElsewhereSame, IsOneOf, IsUnused, quiet_statuses, session_statuses, statuses, unused_statuses}
+use Rattle.switch_run.specs.Checks.{IsCheckRun}
 use Rattle.switch_run.specs.Loads.{IsLoadRun}
 use Rattle.switch_run.specs.Session.{IsFileUnread, IsNoPlan, IsSession, IsUnopened, IsUnplayed}
 
@@ -23,8 +24,11 @@ pub record IsRunOf {S K C : Type 0} (left : S → Option (List ℕ)) (written : 
   pub unused : IsOneOf unused_statuses status → IsUnused old new
   pub elsewhere : IsElsewhereSame file old new
 
--- the words were no form of the command line, and nothing was touched; or what they name was replayed, or the load that they
--- ask for
+-- the words were no form of the command line, and nothing was touched; or what they name was replayed or checked, or the load
+-- that they ask for was replayed
 abbrev pub IsRun : {S K C : Type 0} → (S → Option (List ℕ)) → (K → Option (List ℕ)) → (S → ℕ) → (K → ℕ) → List (List ℕ) → (List ℕ → Type 0) → Book S K C → Book S K C → ℕ → Type 0
 IsRun left written source_faults sink_faults words Says old new status =
-    ((status ≡ 2) × (IsForm words → ⊥) × Says usage_line × (new ≡ old)) ⊎ (((file : List ℕ) × IsReplay file words × IsRunOf left written source_faults sink_faults file Says old new status) ⊎ ((seed : ℕ) × (frames : ℕ) × IsGen seed frames words × IsLoadRun written sink_faults seed frames Says old new status))
+    ((status ≡ 2) × (IsForm words → ⊥) × Says usage_line × (new ≡ old))
+    ⊎ (((file : List ℕ) × IsReplay file words × IsRunOf left written source_faults sink_faults file Says old new status)
+    ⊎ (((file : List ℕ) × IsCheck file words × IsCheckRun left written source_faults sink_faults file Says old new status)
+    ⊎ ((seed : ℕ) × (frames : ℕ) × IsGen seed frames words × IsLoadRun written sink_faults seed frames Says old new status)))

@@ -6,9 +6,11 @@
 //! the journal, the replies, each port's output, the summary, the lines on standard error and the status are those of that
 //! history, or, of what is written, a front where a write failed (`specs/Session.antt`). Where a load is asked for, its
 //! history, a plain definition of the seed and the number of packets, is summed up, and nothing is opened
-//! (`specs/Loads.antt`).
+//! (`specs/Loads.antt`). Where a journal is to be checked, the line on standard output is the one answer to its text, `good`
+//! exactly where the text is the journal of a finished history (`specs/Checks.antt`).
 #![tactic(auto)]
 
+mod checks;
 mod ends_told;
 mod loads;
 mod session;

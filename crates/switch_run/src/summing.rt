@@ -67,9 +67,19 @@ pub(crate) fn write_summary<W: World>(summary: Summary, world: &mut W) -> bool
     ensures others { OthersStay (W.book world.old).std (W.book world.new).std Std.Out }
     ensures rest { W.book world.new ≡ record (W.book world.old) { std = (W.book world.new).std } }
 {
-    let mut out = world.std(Std::Out);
     let line = put_summary(summary);
-    let put = out.write(line.as_slice());
+    write_line(line.as_slice(), world)
+}
+
+/// Writes a line to standard output. The answer is false where the write failed.
+pub(crate) fn write_line<W: World>(line: &[u8], world: &mut W) -> bool
+    requires { IsReady (λ k. W.K.faults k ≡ 0) ((W.book world.old).std Std.Out) }
+    ensures took { Keeps (TookOrPart W.K.faults W.K.written result line.now) ((W.book world.old).std Std.Out) ((W.book world.new).std Std.Out) }
+    ensures others { OthersStay (W.book world.old).std (W.book world.new).std Std.Out }
+    ensures rest { W.book world.new ≡ record (W.book world.old) { std = (W.book world.new).std } }
+{
+    let mut out = world.std(Std::Out);
+    let put = out.write(line);
     world.keep_std(Std::Out, out);
     match put {
         Put::Done => true,

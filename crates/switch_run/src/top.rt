@@ -7,12 +7,14 @@ ghost use Rattle.savi_ends.specs.Faults.{Rose};
 ghost use Rattle.savi_ends.specs.Places.{BothFresh, HandedNothing, IsReady, OthersStay};
 ghost use Rattle.run_config.specs.Configs.{IsBuilt};
 ghost use Rattle.switch_report.specs.RunLines.{memory_line, usage_line};
-ghost use Rattle.run_config.specs.Words.{IsForm, IsGen, IsReplay};
+ghost use Rattle.run_config.specs.Words.{IsCheck, IsForm, IsGen, IsReplay};
 ghost use Rattle.switch_run.specs.Causes.{HasSomeReadFault, HasSomeWriteFault, IsElsewhereSame, IsOffPlanSame, IsOneOf, IsUnserved, IsUnused, IsUntouched, KeepsAll, quiet_statuses, session_statuses, statuses, unused_statuses};
+ghost use Rattle.switch_run.specs.Checks.{IsCheckRun};
 ghost use Rattle.switch_run.specs.Loads.{IsLoadRun};
 ghost use Rattle.switch_run.specs.Runs.{IsRun, IsRunOf};
 ghost use Rattle.switch_run.specs.Session.{IsNoPlan, IsPartUnopened, IsSession, IsSessionOf, IsUnopened, IsUnplayed, IsFileUnread, Told, ToldBy};
 
+use crate::checks::check_file;
 use crate::ends_told::refuse;
 use crate::loads::generate;
 use crate::session::{Played, play};
@@ -46,8 +48,9 @@ pub const TOO_LONG: u8 = 8;
 ///
 /// `replay FILE` replays the captures of the ports of the plan that the configuration FILE says, and takes the commands of
 /// control, where the plan names it. Statuses 0, 4, 6 and 8 say that the session began, and 5 too, unless a read of the
-/// configuration failed; the other statuses have their causes. `gen SEED FRAMES` replays a load in memory, and sums it up:
-/// the status is 0, 1 or 6.
+/// configuration failed; the other statuses have their causes. `check FILE` writes what the text of FILE is, as a journal:
+/// the status is 0 where it is the journal of a finished history, 4 where it isn't, and 1, 5, 6 or 7 by its cause.
+/// `gen SEED FRAMES` replays a load in memory, and sums it up: the status is 0, 1 or 6.
 pub fn run<W: World>(alloc: Global, words: &[String], world: &mut W) -> u8
     requires { HandedNothing W.S.faults W.K.faults (W.book world.old) }
 
@@ -65,6 +68,7 @@ pub fn run<W: World>(alloc: Global, words: &[String], world: &mut W) -> u8
     ensures quiet { IsOneOf quiet_statuses result → (W.book world.new).std Std.Out ≡ (W.book world.old).std Std.Out }
     ensures unused { IsOneOf unused_statuses result → IsUnused (W.book world.old) (W.book world.new) }
     ensures elsewhere { (file : List ℕ) → IsReplay file (map string_bytes words.now) → IsElsewhereSame file (W.book world.old) (W.book world.new) }
+    ensures check { (file : List ℕ) → IsCheck file (map string_bytes words.now) → IsCheckRun W.S.left W.K.written W.S.faults W.K.faults file (Told W.K.faults W.K.written (W.book world.old) (W.book world.new)) (W.book world.old) (W.book world.new) result }
     ensures load { (seed frames : ℕ) → IsGen seed frames (map string_bytes words.now) → IsLoadRun W.K.written W.K.faults seed frames (Told W.K.faults W.K.written (W.book world.old) (W.book world.new)) (W.book world.old) (W.book world.new) result }
 {
     let mut errors = world.std(Std::Err);
@@ -85,6 +89,7 @@ fn perform<W: World>(alloc: Global, words: &[String], world: &mut W, errors: &mu
 {
     match asked_by(words) {
         Asked::Replay(file) => replay_file(alloc, file, world, errors),
+        Asked::Check(file) => check_file(alloc, file, world, errors),
         Asked::Generate { seed, frames } => generate(alloc, seed, frames, world, errors),
         Asked::NoForm => {
             let _put = tell_usage(errors);

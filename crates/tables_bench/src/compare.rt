@@ -1,4 +1,4 @@
-//! Calls of a table of bindings and of a plain list, in a stated order: rows are put, taken away and put again.
+//! Calls of a table of bindings and of a plain list, in a stated order: rows are put, put anew, taken away and put again.
 
 ghost use Rattle.std.specs.Prelude.{◌≡◌, ◌<◌, true};
 ghost use Rattle.mix_rules.specs.States.{has_state};
@@ -9,19 +9,20 @@ use bind_table::BindTable;
 use dhcp_states::Bound;
 use fcfs_states::Fcfs;
 use mix_rules::AddrState;
-use savi_kinds::{PORTS_MOST, Port};
+use savi_kinds::{Addr, PORTS_MOST, Port};
 use std::alloc::{AllocError, Global};
 
 /// As many addresses as 16 ports hold with 64 each.
 const ROWS: u32 = 1_024;
 
-/// Each address is put, then each is taken away in another order, and then each is put again in a third one.
-pub const CALLS: u32 = 3 * ROWS;
+/// Each address is put; then each is put anew with another state, in another order; then each is taken away in that order,
+/// and once more when it is no longer there; and then each is put again, in a third order.
+pub const CALLS: u32 = 5 * ROWS;
 
 /// After so many calls all rows are compared: half of them stand where addresses are being taken away.
 const HALF: u32 = ROWS / 2;
 
-/// From an address that is taken away to the next one: odd, so that each has its turn.
+/// From an address that is put anew or taken away to the next one: odd, so that each has its turn.
 const STEP: u32 = 389;
 
 // The ports in turn.
@@ -90,18 +91,26 @@ pub fn count_alike(alloc: Global) -> Result<u32, AllocError> {
     Ok(CALLS)
 }
 
+// The address of the n-th call.
+fn called(n: u32) -> Addr
+    requires { n < CALLS }
+{
+    match n / ROWS {
+        0 => address(n),
+        1 => address(STEP * n % ROWS),
+        2 | 3 => address(STEP * (n / 2) % ROWS),
+        _ => address(CALLS - 1 - n),
+    }
+}
+
 // Makes the n-th call of both.
 fn call(table: &mut BindTable, plain: &mut PlainRows, n: u32) -> Result<(), AllocError>
     requires most { table.old.most ≡ ROWS }
     requires few { n < CALLS }
     ensures { table.new.most ≡ ROWS }
 {
-    let a = match n / ROWS {
-        0 => address(n),
-        1 => address(STEP * n % ROWS),
-        _ => address(CALLS - 1 - n),
-    };
-    if n / ROWS == 1 {
+    let a = called(n);
+    if n / ROWS == 2 || n / ROWS == 3 {
         table.remove(a);
         plain.remove(a);
     } else if !table.get(a).is_none() || table.size() < ROWS {
@@ -111,11 +120,14 @@ fn call(table: &mut BindTable, plain: &mut PlainRows, n: u32) -> Result<(), Allo
     Ok(())
 }
 
-// Whether both have as many rows, at a port too, and the same states of two addresses.
-fn is_alike(table: &BindTable, plain: &PlainRows, n: u32) -> bool {
-    let (own, other) = (address(n % ROWS), address((n / 3) % ROWS));
+// Whether both have as many rows, at two ports too, and the same states of the address of the n-th call and of another one.
+fn is_alike(table: &BindTable, plain: &PlainRows, n: u32) -> bool
+    requires { n < CALLS }
+{
+    let (own, other) = (called(n), address((n / 3) % ROWS));
     table.size() as usize == plain.size()
         && table.count(port(n)) as usize == plain.count(port(n))
+        && table.count(port(n / 7)) as usize == plain.count(port(n / 7))
         && table.get(own) == plain.get(own)
         && table.get(other) == plain.get(other)
 }

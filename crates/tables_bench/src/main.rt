@@ -4,7 +4,8 @@
 //! usage: tables_bench time|compare. `time` prints a line for each kind of call at 512 and at 1,024 addresses: its name,
 //! how many addresses there are, how many calls were made, and the nanoseconds of the processor that they took (and a
 //! number that depends on the answers). `compare` prints how many calls of a table left it as a plain list; it stops at the
-//! first one that didn't. With no word, or another one, it prints nothing.
+//! first one that didn't; and how many takes of a timer wheel gave the pairs that were worked out by hand. With no word, or
+//! another one, it prints nothing.
 #![tactic(auto)]
 
 ghost use Rattle.std.specs.Prelude.{◌≤◌};
@@ -13,6 +14,7 @@ mod bindings;
 mod compare;
 mod keys;
 mod plain_rows;
+mod takes;
 mod timed;
 mod wheel_turns;
 
@@ -26,16 +28,23 @@ fn main(rt: HostRuntime) -> io::Result<()> {
         return Ok(());
     };
     match word.as_str() {
-        "compare" => {
-            let alike = compare::count_alike(rt.alloc())?;
-            println!(rt;
-                "{alike} of {} calls leave the table as a plain list",
-                compare::CALLS
-            )
-        }
+        "compare" => print_alike(&rt, rt.alloc()),
         "time" => print_times(&rt, rt.alloc()),
         _ => Ok(()),
     }
+}
+
+fn print_alike(rt: &impl Print, alloc: Global) -> io::Result<()> {
+    let alike = compare::count_alike(alloc)?;
+    println!(rt;
+        "{alike} of {} calls leave the table as a plain list",
+        compare::CALLS
+    )?;
+    let right = takes::count_right(alloc)?;
+    println!(rt;
+        "{right} of {} takes of a wheel give the pairs that were worked out by hand",
+        takes::TAKES
+    )
 }
 
 fn print_times<R: CpuClock + Print>(rt: &R, alloc: Global) -> io::Result<()> {

@@ -11,8 +11,6 @@ mod armed;
 mod buckets;
 mod laws;
 mod rings;
-#[cfg(test)]
-mod tests;
 mod timer;
 mod wheel;
 

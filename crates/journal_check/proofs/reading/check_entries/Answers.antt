@@ -1,13 +1,16 @@
 use Rattle.std.proofs.Common.{◌^◌, ◌<◌, ℕ, List, IfSome, length, refl, ap, sym, ◌∙◌, subst, arith}
+use Rattle.std.proofs.lemmas.List.Elements.{All-nil}
+use Rattle.hex.specs.Hex.{IsBytes}
 use Rattle.hist_store.specs.Rows.{Row}
 use Rattle.savi_ends.specs.Octets.{in_front}
 use Rattle.hist_store.specs.JournalTexts.{address_text, header_text}
 use Rattle.savi_history.specs.Bases.{empty}
 use Rattle.savi_history.specs.Legal.{IsLegal}
+use Rattle.savi_history.proofs.Telling.{AreOctets}
 use Rattle.savi_core.specs.Machines.{Machine}
 use Rattle.journal_check.specs.Headers.{IsPlan}
 use Rattle.journal_check.specs.Pieces.{to_come}
-use Rattle.journal_check.specs.Answers.{past_text, AreSaid, Ends, IfRead, IsAnswerBehind, next_line}
+use Rattle.journal_check.specs.Answers.{past_text, Ends, IfRead, IsAnswerBehind, next_line}
 use Rattle.journal_check.specs.declared.turns.Turn.TheVariants.{Stands}
 use Rattle.journal_check.specs.Turns.{SaysWrong, SaysNothing, Turned}
 use Rattle.journal_check.specs.declared.answer.Checked.{Checked}
@@ -23,7 +26,7 @@ entries-init g c =
       later = omega arith;
       plan = refl;
       legal = subst (λ (past : List Row). IsLegal m.plan empty past) (sym c.requires.start) tt;
-      said = subst AreSaid (sym c.requires.start) tt;
+      bytes = subst AreOctets (sym c.requires.start) (All-nil (λ (r : Row). IsBytes r.octets));
       told = ap (λ (past : List Row). in_front (past_text m.plan past) rest) (sym c.requires.start);
     }
 
@@ -32,13 +35,13 @@ entries-preserved g c =
     let was = c.entries.invariant in
     let before = to_come c.entries.lines (g.S.Source.left c.entries.source) in
     let after = to_come c.next.new.self (g.S.Source.left c.next.new.source) in
-    let kept = kept_more c.entries.core c.take_turn.new.core c.next.new.line.items _ before after was.legal was.said was.told c.in-Line.ensures.taken.1
+    let kept = kept_more c.entries.core c.take_turn.new.core c.next.new.line.items _ before after was.legal was.bytes was.told c.in-Line.ensures.taken.1
     (subst (λ (line : List ℕ). Turned c.entries.core line c.take_turn.new.core Stands) c.as_slice.ensures.value c.in-Stands.ensures) in
     record {
       later = omega (arith, was.later, c.next.ensures.later);
       plan = kept.plan ∙ was.plan;
       legal = kept.legal;
-      said = kept.said;
+      bytes = kept.bytes;
       told = kept.told;
     }
 
@@ -60,7 +63,7 @@ returns-in-Broken-clause-answer g c =
     let plan_is = subst IsPlan (sym was.plan) c.requires.plan in
     let few : length m.past < 2 ^ 64 = omega (arith, c.len-entry.ensures.len) in
     subst (λ (a : Checked). IfRead a (IfSome whole (λ octets. IsAnswerBehind octets a))) (sym c.bad_line.ensures)
-    (answered_if m.plan m.past whole before (BadLine (next_line m.plan m.past)) plan_is was.legal was.said was.told (judged_broken m.plan m.past before few c.in-Broken.ensures.taken))
+    (answered_if m.plan m.past whole before (BadLine (next_line m.plan m.past)) plan_is was.legal was.bytes was.told (judged_broken m.plan m.past before few c.in-Broken.ensures.taken))
 
 pub returns-in-Wrong-clause-answer : goal.returns-in-Wrong-clause-answer
 returns-in-Wrong-clause-answer g c =
@@ -71,7 +74,7 @@ returns-in-Wrong-clause-answer g c =
     let after = to_come c.next.new.self (g.S.Source.left c.next.new.source) in
     let whole = in_front (header_text address_text c.args.core.now.plan) (to_come c.args.lines.now (g.S.Source.left c.args.source.now)) in
     let plan_is = subst IsPlan (sym was.plan) c.requires.plan in
-    answered_if m.plan m.past whole before (Wrong c.len-entry.result apart.want apart.have) plan_is was.legal was.said was.told
+    answered_if m.plan m.past whole before (Wrong c.len-entry.result apart.want apart.have) plan_is was.legal was.bytes was.told
     (judged_wrong m.plan m.past c.next.new.line.items before after c.len-entry.result apart.want apart.have c.in-Line.ensures.taken.1 c.len-entry.ensures.len
     (subst (λ (line : List ℕ). SaysWrong m.plan m.past line apart.want apart.have) c.as_slice.ensures.value c.in-Wrong.ensures))
 
@@ -84,7 +87,7 @@ returns-in-Last-clause-answer g c =
     let whole = in_front (header_text address_text c.args.core.now.plan) (to_come c.args.lines.now (g.S.Source.left c.args.source.now)) in
     let plan_is = subst IsPlan (sym was.plan) c.requires.plan in
     let ends = subst (λ (n : Machine). Ends n.plan n.past after c.finish.result) c.in-Last.ensures.2 c.finish.ensures.ends in
-    answered_if m.plan m.past whole before c.finish.result plan_is was.legal was.said was.told
+    answered_if m.plan m.past whole before c.finish.result plan_is was.legal was.bytes was.told
     (judged_last m.plan m.past c.next.new.line.items before after c.finish.result c.in-Line.ensures.taken.1 c.in-Last.ensures.0
     (sym c.as_slice.ensures.value ∙ c.in-Last.ensures.1) ends)
 
@@ -99,5 +102,5 @@ returns-in-Bad-clause-answer g c =
     let bad = c.bad_line-in-Bad.ensures ∙ ap (λ (n : Machine). BadLine (next_line n.plan n.past)) c.in-Bad.ensures.1 in
     let nothing = subst (SaysNothing m.plan m.past) c.as_slice.ensures.value c.in-Bad.ensures.0 in
     subst (λ (a : Checked). IfRead a (IfSome whole (λ octets. IsAnswerBehind octets a))) (sym bad)
-    (answered_if m.plan m.past whole before (BadLine (next_line m.plan m.past)) plan_is was.legal was.said was.told
+    (answered_if m.plan m.past whole before (BadLine (next_line m.plan m.past)) plan_is was.legal was.bytes was.told
     (judged_bad m.plan m.past c.next.new.line.items before after c.in-Line.ensures.taken.1 c.in-Line.ensures.taken.0 nothing))

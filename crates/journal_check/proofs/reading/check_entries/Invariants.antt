@@ -3,8 +3,9 @@ use Rattle.savi_ends.specs.Octets.{in_front}
 use Rattle.hist_store.specs.JournalTexts.{address_text, header_text}
 use Rattle.savi_history.specs.Bases.{empty}
 use Rattle.savi_history.specs.Legal.{IsLegal}
+use Rattle.savi_history.proofs.Telling.{AreOctets}
 use Rattle.journal_check.specs.Pieces.{to_come}
-use Rattle.journal_check.specs.Answers.{past_text, AreSaid}
+use Rattle.journal_check.specs.Answers.{past_text}
 use Rattle.journal_check.proofs.reading.check_entries.Given as goal
 
 -- the text begins with the header and the lines of the entries that stand, and the rest is to come
@@ -13,7 +14,7 @@ invariant-entries g l = record {
   later : g.S.Source.faults l.initial.source ≤ g.S.Source.faults l.source;
   plan : l.core.plan ≡ l.initial.core.plan;
   legal : IsLegal l.core.plan empty l.core.past;
-  said : AreSaid l.core.past;
+  bytes : AreOctets l.core.past;
   told : in_front (header_text address_text l.initial.core.plan) (to_come l.initial.lines (g.S.Source.left l.initial.source))
       ≡ in_front (past_text l.core.plan l.core.past) (to_come l.lines (g.S.Source.left l.source));
 }

@@ -63,3 +63,6 @@ returns-clause-elsewhere g c = (ran_so g c).elsewhere
 
 pub returns-clause-load : goal.returns-clause-load
 returns-clause-load g c = (ran_so g c).load
+
+pub returns-clause-check : goal.returns-clause-check
+returns-clause-check g c = (ran_so g c).check

@@ -1,0 +1,3 @@
+pub mod InputTurns
+pub mod Telling
+pub mod Going

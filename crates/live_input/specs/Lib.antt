@@ -1,0 +1,3 @@
+pub mod Entered
+pub mod Progress
+pub mod Workers

@@ -1,0 +1,49 @@
+-- What the history holds of an input while its worker reads on.
+use Rattle.std.specs.Prelude.{◌≡◌, ℕ, ◌≤◌, Bool, true, false, List, [], Option}
+use Rattle.savi_kinds.specs.declared.plan.Format.{Format}
+use Rattle.savi_kinds.specs.declared.plan.Format.TheVariants as forms
+use Rattle.savi_kinds.specs.Arrivals.{Arrival}
+use Rattle.savi_ends.specs.Octets.{Takes}
+use Rattle.pcap_io.specs.Kinds.{classic_kinds}
+use Rattle.pcap_io.specs.Readers as captures
+use Rattle.stream_io.specs.Calls.{AddsReadings, stamps_in}
+use Rattle.stream_io.specs.Readers as streams
+use Rattle.input_read.specs.Readers.{HasFailed}
+use Rattle.input_read.specs.declared.input.PortInput.{PortInput}
+use Rattle.input_read.specs.declared.reader.InputReader.{InputReader}
+use Rattle.input_read.specs.declared.reader.InputReader.TheVariants as readers
+use Rattle.hist_store.specs.Rows.{Row}
+use Rattle.savi_history.specs.PortInputs.{arrived}
+use Rattle.live_session.specs.LiveRows.{IngressRow}
+
+-- the form that a reader reads
+abbrev pub form_of : InputReader → Format
+form_of (readers.Pcap state) = forms.Pcap
+form_of (readers.Stream state) = forms.Stream
+
+-- a reader that was new has taken these octets, and they gave these arrivals
+abbrev pub HasRead : InputReader → List ℕ → List Arrival → Type 0
+HasRead (readers.Pcap state) gave arrivals = captures.HasRead (captures.Fresh classic_kinds) state gave arrivals
+HasRead (readers.Stream state) gave arrivals = streams.HasRead (streams.Running 0 []) state gave arrivals
+
+-- The clock wasn't read for a capture, and made the stamps of these arrivals of a stream.
+abbrev pub HasStamped : InputReader → Option (List ℕ) → Option (List ℕ) → List Arrival → Type 0
+HasStamped (readers.Pcap state) read read_more arrivals = read_more ≡ read
+HasStamped (readers.Stream state) read read_more arrivals = AddsReadings read read_more (stamps_in arrivals)
+
+module _ {S C : Type 0} (left : S → Option (List ℕ)) (faults : S → ℕ) (readings : C → Option (List ℕ)) where
+  -- what was read of an input of this form, from its first source and clock on, is what the history holds of it
+  pub record GoesOn (format : Format) (port : ℕ) (source : S) (clock : C) (input : PortInput S C) (past : List Row) : Type 0 where
+    pub form : form_of input.reader ≡ format
+    pub gave : List ℕ
+    pub takes : Takes (left source) (left input.source) gave
+    pub read : HasRead input.reader gave (arrived port past)
+    pub stamped : HasStamped input.reader (readings clock) (readings input.clock) (arrived port past)
+    pub later : faults source ≤ faults input.source
+    pub unbroken : ¬ HasFailed input.reader
+
+  -- the input goes on, or has ended
+  abbrev pub IsLeft : Format → ℕ → S → C → PortInput S C → List Row → Bool → Type 0
+  IsLeft format port source clock input past true = GoesOn format port source clock input past
+  IsLeft format port source clock input past false =
+      IngressRow left faults readings format port past source input.source clock input.clock

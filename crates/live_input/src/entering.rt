@@ -1,0 +1,55 @@
+//! Turns that enter what came in at a port.
+
+ghost use Rattle.std.specs.Prelude.{List, not};
+ghost use Rattle.savi_kinds.specs.Ports.{number_of};
+ghost use Rattle.savi_kinds.specs.declared.entry.Who.TheVariants.{Ingress};
+ghost use Rattle.hist_store.specs.Rows.{Row};
+ghost use Rattle.savi_history.specs.Legal.{MayEndIngress};
+ghost use Rattle.savi_core.specs.Steps.{IsClassed, event_of};
+ghost use Rattle.core_keep.specs.Seen.{past_seen};
+ghost use Rattle.live_turns.specs.Seats.{HasEnded, IsAt, IsRunning, lock_plan};
+ghost use Rattle.live_turns.specs.TurnKinds.{IsFrame, maker_of};
+ghost use Rattle.live_input.specs.Entered.{EndsInput, EntersEvent};
+
+use core_keep::KeptCore;
+use live_turns::{Gate, Turns, end_turn, frame_turn};
+use savi_core::Event;
+use savi_kinds::{How, Port, Who};
+use std::sync::Wait;
+use table_lock::TableLock;
+
+/// Enters an arrival in one turn: an `Event::Frame` with the class of its octets, or an `Event::Long`. The answer is the
+/// pass again, and whether the arrival was entered: the history holds it behind those that came before it at its port. Else
+/// there was no room for it, and the input has ended for that. It costs what `Core::step` costs.
+pub fn enter_arrival<R: Wait, G: Gate>(
+    rt: &R,
+    lock: &TableLock<KeptCore>,
+    gate: &G,
+    turns: Turns,
+    event: Event<'_>,
+) -> (Turns, bool)
+    requires running { IsRunning lock.now (maker_of (event_of event)) turns.pass }
+    requires frame { IsFrame (event_of event) }
+    requires class { IsClassed event }
+    ensures entered { EntersEvent (event_of event.entry) result.1 (past_seen turns.pass) (past_seen result.0.pass) }
+    ensures state { IsAt lock.now (maker_of (event_of event.entry)) (not result.1) result.0.pass }
+{
+    frame_turn(rt, lock, gate, turns, event)
+}
+
+/// Enters in one turn how the input of a port ended. The answer is the pass again, which has ended. O(1).
+pub fn enter_ending<R: Wait, G: Gate>(
+    rt: &R,
+    lock: &TableLock<KeptCore>,
+    gate: &G,
+    turns: Turns,
+    port: Port,
+    how: How,
+) -> Turns
+    requires running { IsRunning lock.now (Ingress port) turns.pass }
+    requires may { (past : List Row) → MayEndIngress (lock_plan lock.now) past how }
+    ensures entered { EndsInput (number_of port) how (past_seen turns.pass) (past_seen result.pass) }
+    ensures ended { HasEnded lock.now (Ingress port) result.pass }
+{
+    end_turn(rt, lock, gate, turns, Who::Ingress(port), how)
+}

@@ -1,0 +1,4 @@
+pub mod PartsJoined
+pub mod Held
+pub mod Sending
+pub mod Turning

@@ -1,0 +1,2 @@
+pub mod OutputParts
+pub mod Writing

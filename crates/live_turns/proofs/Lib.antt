@@ -1,0 +1,4 @@
+pub mod Seating
+pub mod OpenInputs
+pub mod Entering
+pub mod Turning

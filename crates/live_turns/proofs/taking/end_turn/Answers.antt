@@ -1,0 +1,55 @@
+use Rattle.std.proofs.Common.{◌∙◌, true, sym, ap, subst}
+use Rattle.savi_kinds.specs.declared.plan.Plan.{Plan}
+use Rattle.savi_history.specs.Bases.{empty}
+use Rattle.savi_history.specs.Legal.{MayEnd}
+use Rattle.core_keep.specs.declared.keep.KeptCore.{KeptCore}
+use Rattle.core_keep.specs.Pasts.{coded}
+use Rattle.table_lock.specs.Passes.{pass_number, pass_seen}
+use Rattle.live_turns.specs.Seats.{kept_fixed}
+use Rattle.live_turns.specs.TurnKinds.{DidEnd}
+use Rattle.live_turns.proofs.Entering.{end_one, end_state}
+use Rattle.live_turns.proofs.Turning.{Finds, finds, left_of, may_leave, stands, turned}
+use Rattle.live_turns.proofs.taking.end_turn.Goals as goal
+
+pub end-requires-clause-open : goal.end-requires-clause-open
+end-requires-clause-open g c =
+    let found : Finds c.args.lock.now c.args.who c.args.turns.pass c.value.result.now =
+    finds c.args.lock.now c.args.who c.args.turns.pass c.requires.running c.into_pass.result c.value.result.now c.enter-held.result.place.me.0.seen c.into_pass.ensures
+    (ap (λ (k : KeptCore). coded k.core.value.past) c.value.ensures.value ∙ c.enter-held.ensures.seen) c.enter-held.ensures.extends c.enter-held.ensures.own
+    (ap kept_fixed c.value.ensures.value ∙ c.enter-held.ensures.fixed) in found.opens
+
+pub end-requires-clause-may : goal.end-requires-clause-may
+end-requires-clause-may g c =
+    let found : Finds c.args.lock.now c.args.who c.args.turns.pass c.value.result.now =
+    finds c.args.lock.now c.args.who c.args.turns.pass c.requires.running c.into_pass.result c.value.result.now c.enter-held.result.place.me.0.seen c.into_pass.ensures
+    (ap (λ (k : KeptCore). coded k.core.value.past) c.value.ensures.value ∙ c.enter-held.ensures.seen) c.enter-held.ensures.extends c.enter-held.ensures.own
+    (ap kept_fixed c.value.ensures.value ∙ c.enter-held.ensures.fixed) in subst (λ (p : Plan). MayEnd p empty c.value.result.now.core.value.past c.args.who c.args.how) (sym found.plan_is) (c.requires.may c.value.result.now.core.value.past)
+
+pub leave-requires-clause-history : goal.leave-requires-clause-history
+leave-requires-clause-history g c =
+    let found : Finds c.args.lock.now c.args.who c.args.turns.pass c.value.result.now =
+    finds c.args.lock.now c.args.who c.args.turns.pass c.requires.running c.into_pass.result c.value.result.now c.enter-held.result.place.me.0.seen c.into_pass.ensures
+    (ap (λ (k : KeptCore). coded k.core.value.past) c.value.ensures.value ∙ c.enter-held.ensures.seen) c.enter-held.ensures.extends c.enter-held.ensures.own
+    (ap kept_fixed c.value.ensures.value ∙ c.enter-held.ensures.fixed) in
+    may_leave c.args.lock.now c.args.who c.args.turns.pass c.requires.running c.into_pass.result c.enter-held.result.number c.value.result.now c.end.new.kept c.enter-held.result.place.me.0.seen c.into_pass.ensures c.enter-held.ensures.number found
+    (ap (λ (k : KeptCore). coded k.core.value.past) c.value.ensures.value ∙ c.enter-held.ensures.seen)
+    (end_one c.value.result.now.core.value.plan c.value.result.now.core.value.past c.end.new.kept.core.value.past c.args.who c.args.how c.end.ensures.did)
+
+pub returns-clause-turned : goal.returns-clause-turned
+returns-clause-turned g c =
+    let found : Finds c.args.lock.now c.args.who c.args.turns.pass c.value.result.now =
+    finds c.args.lock.now c.args.who c.args.turns.pass c.requires.running c.into_pass.result c.value.result.now c.enter-held.result.place.me.0.seen c.into_pass.ensures
+    (ap (λ (k : KeptCore). coded k.core.value.past) c.value.ensures.value ∙ c.enter-held.ensures.seen) c.enter-held.ensures.extends c.enter-held.ensures.own
+    (ap kept_fixed c.value.ensures.value ∙ c.enter-held.ensures.fixed) in
+    turned c.args.lock.now c.args.who c.args.turns.pass c.requires.running c.value.result.now c.end.new.kept c.after.result.pass found (ap pass_seen c.after.ensures ∙ c.leave.ensures.seen)
+    (DidEnd c.args.who c.args.how) c.end.ensures.legal c.end.ensures.did
+
+pub returns-clause-ended : goal.returns-clause-ended
+returns-clause-ended g c =
+    let found : Finds c.args.lock.now c.args.who c.args.turns.pass c.value.result.now =
+    finds c.args.lock.now c.args.who c.args.turns.pass c.requires.running c.into_pass.result c.value.result.now c.enter-held.result.place.me.0.seen c.into_pass.ensures
+    (ap (λ (k : KeptCore). coded k.core.value.past) c.value.ensures.value ∙ c.enter-held.ensures.seen) c.enter-held.ensures.extends c.enter-held.ensures.own
+    (ap kept_fixed c.value.ensures.value ∙ c.enter-held.ensures.fixed) in
+    stands c.args.lock.now c.args.who c.args.turns.pass c.requires.running c.value.result.now c.end.new.kept c.after.result.pass found (ap pass_seen c.after.ensures ∙ c.leave.ensures.seen)
+    c.into_pass.result c.enter-held.result.number true c.into_pass.ensures c.enter-held.ensures.number (left_of c.args.lock.now c.enter-held.result.lock.now c.leave.result c.after.result.pass c.enter-held.ensures.lock c.after.ensures c.leave.ensures.pass) (ap pass_number c.after.ensures ∙ c.leave.ensures.number)
+    (end_state c.value.result.now.core.value.plan c.value.result.now.core.value.past c.end.new.kept.core.value.past c.args.who c.args.how c.end.ensures.did)

@@ -1,0 +1,46 @@
+use Rattle.std.proofs.Common.{◌∙◌, ap}
+use Rattle.savi_kinds.specs.declared.entry.Who.TheVariants.{Ticker}
+use Rattle.core_keep.specs.declared.keep.KeptCore.{KeptCore}
+use Rattle.core_keep.specs.Pasts.{coded}
+use Rattle.table_lock.specs.Passes.{pass_number, pass_seen}
+use Rattle.live_turns.specs.Seats.{kept_fixed}
+use Rattle.live_turns.specs.TurnKinds.{DidTick, ends_ticker}
+use Rattle.live_turns.proofs.Entering.{tick_one, tick_state}
+use Rattle.live_turns.proofs.Turning.{Finds, finds, left_of, may_leave, stands, turned}
+use Rattle.live_turns.proofs.taking.tick_turn.Goals as goal
+
+pub tick-came-requires : goal.tick-came-requires
+tick-came-requires g c =
+    let found : Finds c.args.lock.now Ticker c.args.turns.pass c.value.result.now =
+    finds c.args.lock.now Ticker c.args.turns.pass c.requires.running c.into_pass.result c.value.result.now c.enter-held.result.place.me.0.seen c.into_pass.ensures
+    (ap (λ (k : KeptCore). coded k.core.value.past) c.value.ensures.value ∙ c.enter-held.ensures.seen) c.enter-held.ensures.extends c.enter-held.ensures.own
+    (ap kept_fixed c.value.ensures.value ∙ c.enter-held.ensures.fixed) in record { «open» = found.opens }
+
+pub leave-requires-clause-history : goal.leave-requires-clause-history
+leave-requires-clause-history g c =
+    let found : Finds c.args.lock.now Ticker c.args.turns.pass c.value.result.now =
+    finds c.args.lock.now Ticker c.args.turns.pass c.requires.running c.into_pass.result c.value.result.now c.enter-held.result.place.me.0.seen c.into_pass.ensures
+    (ap (λ (k : KeptCore). coded k.core.value.past) c.value.ensures.value ∙ c.enter-held.ensures.seen) c.enter-held.ensures.extends c.enter-held.ensures.own
+    (ap kept_fixed c.value.ensures.value ∙ c.enter-held.ensures.fixed) in
+    may_leave c.args.lock.now Ticker c.args.turns.pass c.requires.running c.into_pass.result c.enter-held.result.number c.value.result.now c.tick-came.new.kept c.enter-held.result.place.me.0.seen c.into_pass.ensures c.enter-held.ensures.number found
+    (ap (λ (k : KeptCore). coded k.core.value.past) c.value.ensures.value ∙ c.enter-held.ensures.seen)
+    (tick_one c.value.result.now.core.value.plan c.value.result.now.core.value.past c.tick-came.new.kept.core.value.past c.args.stamp c.tick-came.result c.tick-came.ensures.did)
+
+pub returns-clause-turned : goal.returns-clause-turned
+returns-clause-turned g c =
+    let found : Finds c.args.lock.now Ticker c.args.turns.pass c.value.result.now =
+    finds c.args.lock.now Ticker c.args.turns.pass c.requires.running c.into_pass.result c.value.result.now c.enter-held.result.place.me.0.seen c.into_pass.ensures
+    (ap (λ (k : KeptCore). coded k.core.value.past) c.value.ensures.value ∙ c.enter-held.ensures.seen) c.enter-held.ensures.extends c.enter-held.ensures.own
+    (ap kept_fixed c.value.ensures.value ∙ c.enter-held.ensures.fixed) in
+    turned c.args.lock.now Ticker c.args.turns.pass c.requires.running c.value.result.now c.tick-came.new.kept c.after.result.pass found (ap pass_seen c.after.ensures ∙ c.leave.ensures.seen)
+    (DidTick c.args.stamp c.tick-came.result) c.tick-came.ensures.legal c.tick-came.ensures.did
+
+pub returns-clause-state : goal.returns-clause-state
+returns-clause-state g c =
+    let found : Finds c.args.lock.now Ticker c.args.turns.pass c.value.result.now =
+    finds c.args.lock.now Ticker c.args.turns.pass c.requires.running c.into_pass.result c.value.result.now c.enter-held.result.place.me.0.seen c.into_pass.ensures
+    (ap (λ (k : KeptCore). coded k.core.value.past) c.value.ensures.value ∙ c.enter-held.ensures.seen) c.enter-held.ensures.extends c.enter-held.ensures.own
+    (ap kept_fixed c.value.ensures.value ∙ c.enter-held.ensures.fixed) in
+    stands c.args.lock.now Ticker c.args.turns.pass c.requires.running c.value.result.now c.tick-came.new.kept c.after.result.pass found (ap pass_seen c.after.ensures ∙ c.leave.ensures.seen)
+    c.into_pass.result c.enter-held.result.number (ends_ticker c.tick-came.result) c.into_pass.ensures c.enter-held.ensures.number (left_of c.args.lock.now c.enter-held.result.lock.now c.leave.result c.after.result.pass c.enter-held.ensures.lock c.after.ensures c.leave.ensures.pass) (ap pass_number c.after.ensures ∙ c.leave.ensures.number)
+    (tick_state c.value.result.now.core.value.plan c.value.result.now.core.value.past c.tick-came.new.kept.core.value.past c.args.stamp c.tick-came.result found.opens.running c.tick-came.ensures.did)

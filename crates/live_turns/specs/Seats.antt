@@ -1,0 +1,40 @@
+-- A pass of a session's lock, whose it is, and whether it has ended.
+use Rattle.std.specs.Prelude.{◌≡◌, ℕ, Bool, true, false, List, []}
+use Rattle.savi_kinds.specs.declared.plan.Plan.{Plan}
+use Rattle.savi_kinds.specs.declared.entry.Who.{Who}
+use Rattle.table_lock.specs.declared.lock.TableLock.{TableLock}
+use Rattle.table_lock.specs.declared.pass.Pass.{Pass}
+use Rattle.table_lock.specs.Passes.{IsPassOf, lock_first, pass_number}
+use Rattle.savi_history.specs.Bases.{empty}
+use Rattle.savi_history.specs.Passes.{has_ended, has_pass, pass_of}
+use Rattle.core_keep.specs.declared.keep.KeptCore.{KeptCore}
+use Rattle.core_keep.specs.PlanCodes.{plan_code}
+use Rattle.core_keep.specs.Seen.{past_seen}
+
+-- what no entry changes of the switch under the lock
+abbrev pub kept_fixed : KeptCore → List ℕ
+kept_fixed kept = plan_code kept.core.value.plan
+
+-- the plan of the switch under the lock
+abbrev pub lock_plan : TableLock KeptCore → Plan
+lock_plan lock = (lock_first lock).core.value.plan
+
+-- This pass of the lock is that of `who`, which the plan has; in what the pass has seen it has ended, or not.
+pub record IsAt (lock : TableLock KeptCore) (who : Who) (ended : Bool) (pass : Pass) : Type 0 where
+  pub of : IsPassOf kept_fixed lock pass
+  pub known : has_pass (lock_plan lock) who ≡ true
+  pub number_is : pass_number pass ≡ pass_of (lock_plan lock) who
+  pub state : has_ended empty (pass_of (lock_plan lock) who) (past_seen pass) ≡ ended
+
+abbrev pub IsRunning : TableLock KeptCore → Who → Pass → Type 0
+IsRunning lock who pass = IsAt lock who false pass
+
+abbrev pub HasEnded : TableLock KeptCore → Who → Pass → Type 0
+HasEnded lock who pass = IsAt lock who true pass
+
+-- the pass of `who` at the start of the session: it has seen nothing
+pub record IsNew (lock : TableLock KeptCore) (who : Who) (pass : Pass) : Type 0 where
+  pub of : IsPassOf kept_fixed lock pass
+  pub known : has_pass (lock_plan lock) who ≡ true
+  pub number_is : pass_number pass ≡ pass_of (lock_plan lock) who
+  pub nothing : past_seen pass ≡ []

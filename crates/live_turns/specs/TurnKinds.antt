@@ -1,0 +1,102 @@
+-- What a turn did, by its kind: from the history that it found to that which it left. It makes one entry at most.
+use Rattle.std.specs.Prelude.{◌≡◌, ◌≢◌, ℕ, ◌+◌, ◌<◌, ◌≤◌, Bool, true, false, List, [], length}
+use Rattle.savi_kinds.specs.declared.port.Port.{Port}
+use Rattle.savi_kinds.specs.declared.plan.Plan.{Plan}
+use Rattle.savi_kinds.specs.declared.entry.Who.{Who}
+use Rattle.savi_kinds.specs.declared.entry.Who.TheVariants.{Ingress, Control, Ticker, Egress}
+use Rattle.savi_kinds.specs.declared.entry.How.{How}
+use Rattle.savi_kinds.specs.declared.entry.How.TheVariants as hows
+use Rattle.savi_kinds.specs.Ports.{number_of}
+use Rattle.hist_store.specs.Rows.{Row}
+use Rattle.savi_history.specs.Bases.{empty}
+use Rattle.savi_history.specs.Events.{Event, Frame, Long, Command, Tick, Drain, End}
+use Rattle.savi_history.specs.Legal.{InputsEnded, IsFull}
+use Rattle.savi_history.specs.Limits.{has_room}
+use Rattle.savi_history.specs.Moments.{moment_at}
+use Rattle.savi_history.specs.Passes.{AllEnded, ticker_pass}
+use Rattle.savi_history.specs.Queues.{Item, queue}
+use Rattle.savi_history.specs.Replay.{with_event}
+use Rattle.savi_history.specs.Shown.{shown}
+use Rattle.savi_history.specs.Ticks.{HasChangedBy}
+use Rattle.live_session.specs.Ticking.{HasNothingDue}
+use Rattle.live_turns.specs.declared.kinds.TickTurn.{TickTurn}
+use Rattle.live_turns.specs.declared.kinds.TickTurn.TheVariants as ticks
+use Rattle.live_turns.specs.declared.kinds.DrainTurn.{DrainTurn}
+use Rattle.live_turns.specs.declared.kinds.DrainTurn.TheVariants as drains
+
+-- whose pass enters an event
+abbrev pub maker_of : Event → Who
+maker_of (Frame port stamp octets) = Ingress port
+maker_of (Long port stamp len) = Ingress port
+maker_of (Command stamp line) = Control
+maker_of (Tick stamp) = Ticker
+maker_of (Drain port count) = Egress port
+maker_of (End who how) = who
+
+-- the event is a frame of at most 1,518 octets, or a longer one of which only the length is told
+abbrev pub IsFrame : Event → Type 0
+IsFrame (Frame port stamp octets) = length octets ≤ 1518
+IsFrame (Long port stamp len) = 1518 < len
+IsFrame (Command stamp line) = ⊥
+IsFrame (Tick stamp) = ⊥
+IsFrame (Drain port count) = ⊥
+IsFrame (End who how) = ⊥
+
+-- A pass was ended.
+abbrev pub DidEnd : Who → How → Plan → List Row → List Row → Type 0
+DidEnd who how plan found now = now ≡ with_event plan empty found (End who how)
+
+-- there was no room for an input, and its pass has ended for that
+abbrev pub DidEndFull : Who → Plan → List Row → List Row → Type 0
+DidEndFull who plan found now = IsFull plan found (length found) × DidEnd who (hows.Full (length found)) plan found now
+
+-- An input was entered; or there was no room for it, and its pass has ended for that.
+abbrev pub DidInput : Event → Bool → Plan → List Row → List Row → Type 0
+DidInput event true plan found now = (has_room plan found ≡ true) × (now ≡ with_event plan empty found event)
+DidInput event false plan found now = DidEndFull (maker_of event) plan found now
+
+-- A line was entered, and this is the reply to it; or there was no room for it, and control has ended for that.
+abbrev pub DidLine : ℕ → List ℕ → Bool → List ℕ → Plan → List Row → List Row → Type 0
+DidLine stamp line true reply plan found now =
+    DidInput (Command stamp line) true plan found now × (reply ≡ shown plan empty now)
+DidLine stamp line false reply plan found now = DidInput (Command stamp line) false plan found now
+
+-- The ticker made a tick; or nothing was due, and it goes on exactly while an input may come; or there was no room.
+abbrev pub DidTick : ℕ → TickTurn → Plan → List Row → List Row → Type 0
+DidTick stamp ticks.Made plan found now =
+    (has_room plan found ≡ true) × HasChangedBy plan empty found (moment_at empty found stamp)
+    × (now ≡ with_event plan empty found (Tick stamp))
+DidTick stamp ticks.Idle plan found now =
+    (has_room plan found ≡ true) × HasNothingDue plan empty found stamp × (¬ InputsEnded plan empty found) × (now ≡ found)
+DidTick stamp ticks.Ended plan found now =
+    (has_room plan found ≡ true) × HasNothingDue plan empty found stamp × InputsEnded plan empty found
+    × DidEnd Ticker hows.End plan found now
+DidTick stamp ticks.Full plan found now = DidEndFull Ticker plan found now
+
+-- whether the ticker has ended in such a turn
+abbrev pub ends_ticker : TickTurn → Bool
+ends_ticker ticks.Made = false
+ends_ticker ticks.Idle = false
+ends_ticker ticks.Ended = true
+ends_ticker ticks.Full = true
+
+-- whatever may be queued: an input hasn't ended, or the ticker
+abbrev pub MayQueue : Plan → List Row → Type 0
+MayQueue plan past = ¬ AllEnded empty (ticker_pass plan + 1) past
+
+-- An egress took all that waited; or nothing waits, and it goes on exactly while anything may be queued.
+abbrev pub DidDrain : Port → List Item → DrainTurn → Plan → List Row → List Row → Type 0
+DidDrain port batch drains.Took plan found now =
+    (queue plan empty (number_of port) found ≢ []) × (batch ≡ queue plan empty (number_of port) found)
+    × (now ≡ with_event plan empty found (Drain port (length batch)))
+DidDrain port batch drains.Idle plan found now =
+    (queue plan empty (number_of port) found ≡ []) × (batch ≡ []) × MayQueue plan found × (now ≡ found)
+DidDrain port batch drains.Ended plan found now =
+    (queue plan empty (number_of port) found ≡ []) × (batch ≡ []) × AllEnded empty (ticker_pass plan + 1) found
+    × DidEnd (Egress port) hows.End plan found now
+
+-- whether an egress has ended in such a turn
+abbrev pub ends_egress : DrainTurn → Bool
+ends_egress drains.Took = false
+ends_egress drains.Idle = false
+ends_egress drains.Ended = true

@@ -1,0 +1,25 @@
+//! What came of a turn.
+
+/// What came of a turn of the ticker.
+#[derive(Clone, Copy, PartialEq, Eq, Debug)]
+pub enum TickTurn {
+    /// A tick was entered.
+    Made,
+    /// Nothing was due, and an input may still come.
+    Idle,
+    /// Nothing was due and no input may come any more: the ticker has ended.
+    Ended,
+    /// There was no room for a tick: the ticker has ended for that.
+    Full,
+}
+
+/// What came of a turn of an egress.
+#[derive(Clone, Copy, PartialEq, Eq, Debug)]
+pub enum DrainTurn {
+    /// All that waited was taken.
+    Took,
+    /// Nothing waits, and something may still come.
+    Idle,
+    /// Nothing waits and nothing may come any more: the egress has ended.
+    Ended,
+}

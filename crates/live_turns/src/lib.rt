@@ -1,0 +1,18 @@
+//! The turns of a live session at its lock.
+//!
+//! Each worker of a session has a pass, and takes one turn after the other: it waits for its turn, makes at most one entry
+//! of the history, and lets the next pass in. There is a function for each kind of turn. `specs/Turned.antt` says what a
+//! pass knows of a turn: the history went on by entries of other passes since its last one, and what the turn then did,
+//! which `specs/TurnKinds.antt` has for each kind.
+#![tactic(auto)]
+
+mod gate;
+mod kinds;
+mod taking;
+mod turns;
+mod under_lock;
+
+pub use gate::{Gate, NoGate};
+pub use kinds::{DrainTurn, TickTurn};
+pub use taking::{drain_turn, end_turn, frame_turn, line_turn, tick_turn};
+pub use turns::Turns;

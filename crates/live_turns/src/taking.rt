@@ -1,0 +1,131 @@
+//! The turns at the lock, by kind. Each tells the gate, waits until the pass is let in, and makes at most one entry; what a
+//! pass writes or reads it writes or reads outside of them. They take no memory, and nothing is promised of how long a turn
+//! is waited for.
+
+ghost use Rattle.std.specs.Prelude.{◌≤◌, List, length, not};
+ghost use Rattle.savi_kinds.specs.declared.entry.Who.TheVariants.{Control, Egress, Ticker};
+ghost use Rattle.hist_store.specs.Rows.{Row};
+ghost use Rattle.savi_history.specs.Bases.{empty};
+ghost use Rattle.savi_history.specs.Legal.{MayEnd};
+ghost use Rattle.savi_core.specs.Steps.{IsClassed, event_of};
+ghost use Rattle.live_turns.specs.Seats.{HasEnded, IsAt, IsRunning, lock_plan};
+ghost use Rattle.live_turns.specs.TurnKinds.{DidDrain, DidEnd, DidInput, DidLine, DidTick};
+ghost use Rattle.live_turns.specs.TurnKinds.{IsFrame, ends_egress, ends_ticker, maker_of};
+ghost use Rattle.live_turns.specs.Turned.{Turned};
+
+use crate::gate::Gate;
+use crate::kinds::{DrainTurn, TickTurn};
+use crate::turns::Turns;
+use crate::under_lock::{drain, end, enter_frame, enter_line, tick};
+use core_keep::KeptCore;
+use savi_core::{Batch, Event, Reply};
+use savi_kinds::{How, Port, Who};
+use std::sync::Wait;
+use table_lock::TableLock;
+
+/// One turn of an ingress: enters a frame, which is an `Event::Frame`, or an `Event::Long` where it has more than 1,518
+/// octets. Where there is no room for it the pass ends for that, in the same turn. The answer is the pass again, and
+/// whether the frame was entered. It costs what `Core::step` costs.
+pub fn frame_turn<R: Wait, G: Gate>(
+    rt: &R,
+    lock: &TableLock<KeptCore>,
+    gate: &G,
+    turns: Turns,
+    event: Event<'_>,
+) -> (Turns, bool)
+    requires running { IsRunning lock.now (maker_of (event_of event)) turns.pass }
+    requires frame { IsFrame (event_of event) }
+    requires class { IsClassed event }
+    ensures turned { Turned lock.now (maker_of (event_of event.entry)) turns.pass result.0.pass (DidInput (event_of event.entry) result.1) }
+    ensures state { IsAt lock.now (maker_of (event_of event.entry)) (not result.1) result.0.pass }
+{
+    let turn = turns.announce(rt, gate);
+    let mut held = lock.enter(rt, turns.into_pass());
+    let entered = enter_frame(held.value(), event);
+    (Turns::after(held.leave(), turn), entered)
+}
+
+/// One turn of control: enters a line, and puts the reply to it into `reply`, in place of what it held. Where there is no
+/// room for the line, control ends for that, in the same turn. The answer is the pass again, and whether the line was
+/// entered. It costs what `Core::step` and `Core::reply` cost.
+pub fn line_turn<R: Wait, G: Gate>(
+    rt: &R,
+    lock: &TableLock<KeptCore>,
+    gate: &G,
+    turns: Turns,
+    stamp: u64,
+    line: &[u8],
+    reply: &mut Reply,
+) -> (Turns, bool)
+    requires running { IsRunning lock.now Control turns.pass }
+    requires short { length line.now ≤ 120 }
+    ensures turned { Turned lock.now Control turns.pass result.0.pass (DidLine stamp line.now result.1 reply.new) }
+    ensures state { IsAt lock.now Control (not result.1) result.0.pass }
+{
+    let turn = turns.announce(rt, gate);
+    let mut held = lock.enter(rt, turns.into_pass());
+    let entered = enter_line(held.value(), stamp, line, reply);
+    (Turns::after(held.leave(), turn), entered)
+}
+
+/// One turn that ends a pass for a reason that may come whatever the history is: that of an input, or of an egress whose
+/// sink failed. The answer is the pass again. O(1) beside what waits at a port whose egress ends, which is given up.
+pub fn end_turn<R: Wait, G: Gate>(
+    rt: &R,
+    lock: &TableLock<KeptCore>,
+    gate: &G,
+    turns: Turns,
+    who: Who,
+    how: How,
+) -> Turns
+    requires running { IsRunning lock.now who turns.pass }
+    requires may { (past : List Row) → MayEnd (lock_plan lock.now) empty past who how }
+    ensures turned { Turned lock.now who turns.pass result.pass (DidEnd who how) }
+    ensures ended { HasEnded lock.now who result.pass }
+{
+    let turn = turns.announce(rt, gate);
+    let mut held = lock.enter(rt, turns.into_pass());
+    end(held.value(), who, how);
+    Turns::after(held.leave(), turn)
+}
+
+/// One turn of the ticker, whose clock reads `stamp` (ms): makes a tick where an address has another state by then. Where
+/// nothing is due and no input may come any more the ticker ends, in the same turn; and so it does where there is no room
+/// for a tick. The answer is the pass again, and what came of the turn. It costs what `Core::step` costs.
+pub fn tick_turn<R: Wait, G: Gate>(
+    rt: &R,
+    lock: &TableLock<KeptCore>,
+    gate: &G,
+    turns: Turns,
+    stamp: u64,
+) -> (Turns, TickTurn)
+    requires running { IsRunning lock.now Ticker turns.pass }
+    ensures turned { Turned lock.now Ticker turns.pass result.0.pass (DidTick stamp result.1) }
+    ensures state { IsAt lock.now Ticker (ends_ticker result.1) result.0.pass }
+{
+    let turn = turns.announce(rt, gate);
+    let mut held = lock.enter(rt, turns.into_pass());
+    let came = tick(held.value(), stamp);
+    (Turns::after(held.leave(), turn), came)
+}
+
+/// One turn of the egress of a port: takes all that waits there into the batch, in place of what it held. Where nothing
+/// waits and nothing may be queued any more the egress ends, in the same turn. The answer is the pass again, and what came
+/// of the turn. It costs what `Core::drain` costs.
+pub fn drain_turn<R: Wait, G: Gate>(
+    rt: &R,
+    lock: &TableLock<KeptCore>,
+    gate: &G,
+    turns: Turns,
+    port: Port,
+    batch: &mut Batch,
+) -> (Turns, DrainTurn)
+    requires running { IsRunning lock.now (Egress port) turns.pass }
+    ensures turned { Turned lock.now (Egress port) turns.pass result.0.pass (DidDrain port batch.new result.1) }
+    ensures state { IsAt lock.now (Egress port) (ends_egress result.1) result.0.pass }
+{
+    let turn = turns.announce(rt, gate);
+    let mut held = lock.enter(rt, turns.into_pass());
+    let came = drain(held.value(), port, batch);
+    (Turns::after(held.leave(), turn), came)
+}

@@ -1,0 +1,151 @@
+//! What is done to the core in one turn at the lock: it makes at most one entry.
+
+ghost use Rattle.std.specs.Prelude.{◌≡◌, ◌+◌, ◌≤◌, true, length, MatchBool};
+ghost use Rattle.savi_kinds.specs.declared.entry.Who.TheVariants.{Control, Egress, Ticker};
+ghost use Rattle.savi_history.specs.Bases.{empty};
+ghost use Rattle.savi_history.specs.Events as events;
+ghost use Rattle.savi_history.specs.Legal.{InputsEnded, IsLegal, IsOpen, MayEnd};
+ghost use Rattle.savi_history.specs.Passes.{AllEnded, control_pass, has_pass, ticker_pass};
+ghost use Rattle.savi_core.specs.Steps.{IsClassed, event_of};
+ghost use Rattle.live_turns.specs.TurnKinds.{DidDrain, DidEnd, DidInput, DidLine, DidTick, IsFrame, MayQueue, maker_of};
+
+use crate::kinds::{DrainTurn, TickTurn};
+use core_keep::KeptCore;
+use savi_core::{Batch, Core, Event, Reply, Stepped};
+use savi_kinds::{DEPTH_MOST, How, Port, Who};
+
+/// Enters a frame, or ends its pass where there is no room for it. The answer is whether it was entered.
+pub(crate) fn enter_frame(kept: &mut KeptCore, event: Event<'_>) -> bool
+    requires open { IsOpen kept.old.core.value.plan empty kept.old.core.value.past (maker_of (event_of event)) }
+    requires frame { IsFrame (event_of event) }
+    requires class { IsClassed event }
+    ensures plan { kept.new.core.value.plan ≡ kept.old.core.value.plan }
+    ensures legal { IsLegal kept.old.core.value.plan empty kept.old.core.value.past }
+    ensures did { DidInput (event_of event.entry) result kept.old.core.value.plan kept.old.core.value.past kept.new.core.value.past }
+{
+    let _len = kept.core.len();
+    match kept.core.step(event) {
+        Stepped::Done(_) | Stepped::Nothing => true,
+        Stepped::Full { len } => {
+            end(kept, maker(event), How::Full(len));
+            false
+        }
+    }
+}
+
+// Whose pass enters an event.
+fn maker(event: Event<'_>) -> Who
+    ensures { result ≡ maker_of (event_of event.entry) }
+{
+    match event {
+        Event::Frame {
+            port,
+            stamp: _,
+            octets: _,
+            class: _,
+        }
+        | Event::Long {
+            port,
+            stamp: _,
+            len: _,
+        } => Who::Ingress(port),
+        Event::Command { stamp: _, line: _ } => Who::Control,
+        Event::Tick { stamp: _ } => Who::Ticker,
+        Event::End { who, how: _ } => who,
+    }
+}
+
+/// Enters a line of control and puts the reply to it into `reply`, or ends control where there is no room for the line. The
+/// answer is whether it was entered.
+pub(crate) fn enter_line(kept: &mut KeptCore, stamp: u64, line: &[u8], reply: &mut Reply) -> bool
+    requires open { IsOpen kept.old.core.value.plan empty kept.old.core.value.past Control }
+    requires short { length line.now ≤ 120 }
+    ensures plan { kept.new.core.value.plan ≡ kept.old.core.value.plan }
+    ensures legal { IsLegal kept.old.core.value.plan empty kept.old.core.value.past }
+    ensures did { DidLine stamp line.now result reply.new kept.old.core.value.plan kept.old.core.value.past kept.new.core.value.past }
+{
+    let _len = kept.core.len();
+    match kept.core.step(Event::Command { stamp, line }) {
+        Stepped::Done(_) | Stepped::Nothing => {
+            kept.core.reply(reply);
+            true
+        }
+        Stepped::Full { len } => {
+            end(kept, Who::Control, How::Full(len));
+            false
+        }
+    }
+}
+
+/// Ends a pass.
+pub(crate) fn end(kept: &mut KeptCore, who: Who, how: How)
+    requires open { IsOpen kept.old.core.value.plan empty kept.old.core.value.past who }
+    requires may { MayEnd kept.old.core.value.plan empty kept.old.core.value.past who how }
+    ensures plan { kept.new.core.value.plan ≡ kept.old.core.value.plan }
+    ensures legal { IsLegal kept.old.core.value.plan empty kept.old.core.value.past }
+    ensures did { DidEnd who how kept.old.core.value.plan kept.old.core.value.past kept.new.core.value.past }
+{
+    let _len = kept.core.len();
+    let _entry = kept.core.step(Event::End { who, how });
+}
+
+/// Lets time pass to this stamp. It ends the ticker where nothing was due and no input may come any more, and where there is
+/// no room for a tick.
+pub(crate) fn tick(kept: &mut KeptCore, stamp: u64) -> TickTurn
+    requires open { IsOpen kept.old.core.value.plan empty kept.old.core.value.past Ticker }
+    ensures plan { kept.new.core.value.plan ≡ kept.old.core.value.plan }
+    ensures legal { IsLegal kept.old.core.value.plan empty kept.old.core.value.past }
+    ensures did { DidTick stamp result kept.old.core.value.plan kept.old.core.value.past kept.new.core.value.past }
+{
+    let _len = kept.core.len();
+    match kept.core.step(Event::Tick { stamp }) {
+        Stepped::Done(_) => TickTurn::Made,
+        Stepped::Nothing => {
+            if has_input(&kept.core) {
+                return TickTurn::Idle;
+            }
+            end(kept, Who::Ticker, How::End);
+            TickTurn::Ended
+        }
+        Stepped::Full { len } => {
+            end(kept, Who::Ticker, How::Full(len));
+            TickTurn::Full
+        }
+    }
+}
+
+/// Takes all that waits at a port into the batch, in place of what it held. It ends the egress of the port where nothing
+/// waits and nothing may be queued any more.
+pub(crate) fn drain(kept: &mut KeptCore, port: Port, batch: &mut Batch) -> DrainTurn
+    requires open { IsOpen kept.old.core.value.plan empty kept.old.core.value.past (Egress port) }
+    ensures plan { kept.new.core.value.plan ≡ kept.old.core.value.plan }
+    ensures legal { IsLegal kept.old.core.value.plan empty kept.old.core.value.past }
+    ensures did { DidDrain port batch.new result kept.old.core.value.plan kept.old.core.value.past kept.new.core.value.past }
+{
+    let _stored = kept.core.history();
+    let _len = kept.core.len();
+    match kept.core.drain(port, DEPTH_MOST, batch) {
+        Stepped::Done(_) | Stepped::Full { len: _ } => DrainTurn::Took,
+        Stepped::Nothing => {
+            if may_queue(&kept.core) {
+                return DrainTurn::Idle;
+            }
+            end(kept, Who::Egress(port), How::End);
+            DrainTurn::Ended
+        }
+    }
+}
+
+// Whether an input may still come.
+fn has_input(core: &Core) -> bool
+    ensures { MatchBool result (¬ InputsEnded core.now.plan empty core.now.past) (InputsEnded core.now.plan empty core.now.past) }
+{
+    core.inputs_left() > 0
+}
+
+// Whether anything may still be queued: an input hasn't ended, or the ticker.
+fn may_queue(core: &Core) -> bool
+    ensures { MatchBool result (MayQueue core.now.plan core.now.past) (AllEnded empty (ticker_pass core.now.plan + 1) core.now.past) }
+{
+    has_input(core) || !core.ended(Who::Ticker)
+}
