@@ -4,8 +4,6 @@
 mod asked;
 mod reading;
 mod refusal;
-#[cfg(test)]
-mod tests;
 
 pub use asked::{Asked, asked_by};
 pub use reading::configure;

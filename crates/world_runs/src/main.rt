@@ -17,6 +17,7 @@
 //!     pieces NUMBER        how many octets a read of control gives at most
 //!     drops PORT RULE NAME..   says which rule drops these frames at a port, and is passed over here
 //!     answers TEXT         says what a check of the configuration's text, taken for a journal, answers, and is passed over here
+//!     refused TEXT         says how the configuration is refused, and is passed over here
 //!     words TEXT..         the words of the command line
 //!     fails NUMBER WHICH   the call that fails, counted from 1: an `opening`, a read of the `plan`, `read N` or `write N`
 //!                          at port N, `read control` or `write control`, or a write of the `journal`, of the `summary` or

@@ -69,7 +69,7 @@ impl Scene {
     pub fn set(&mut self, alloc: Global, line: &str) -> anyhow::Result<()> {
         let (word, rest) = line.split_once(' ').unwrap_or((line, ""));
         match word {
-            "" | "#" | "drops" | "answers" => {}
+            "" | "#" | "drops" | "answers" | "refused" => {}
             "name" => self.set_name(alloc, rest)?,
             "plan" => {
                 self.plan = String::new(alloc);
