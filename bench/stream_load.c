@@ -1,8 +1,8 @@
 /* Sends frames through a switch with stream ports and counts those that come out: in at the first path, out at the second
  * one. It prints the time in s, from the first frame that is sent to the last one that is received.
  *
- * First a host behind each path claims its address by duplicate address detection, waits until it must be valid, and sends a
- * packet to the other, so that both stations are known. Then FRAMES packets of SIZE octets go from the first host to the
+ * First a host behind each path claims its address by duplicate address detection, and sends packets to the other until one
+ * comes, so that both addresses are valid and both stations known. Then FRAMES packets of SIZE octets go from the first host to the
  * second, never more than WINDOW of them on their way: with 1 each waits for the one before. A packet that doesn't come
  * within 10 s is lost, and the load fails.
  * usage: stream_load FRAMES SIZE WINDOW PATH PATH */
@@ -21,8 +21,8 @@
 #define LEAST 70 /* an Ethernet header, an IPv6 header, and a mark of 16 octets */
 #define MOST 1514
 #define ROOM (1 << 16)
-#define VALID_AFTER 700 /* ms: the test time of 500 and more */
-#define PATIENCE 10000  /* ms */
+#define AGAIN 100      /* ms: while an address isn't valid yet, its packets are dropped */
+#define PATIENCE 10000 /* ms */
 
 static const unsigned char mark[16] = "savi_switch load";
 
@@ -170,17 +170,20 @@ static void expect(struct host *h, long received)
             fail("a packet is lost");
 }
 
-static void introduce(struct host *one, struct host *other)
+/* Sends packets until one comes, and then takes those that are still on their way. */
+static void reach(struct host *from, struct host *to)
 {
     unsigned char out[LENGTH + MOST];
-    claim(one);
-    claim(other);
-    usleep(VALID_AFTER * 1000);
-    give(one, out, packet(out, LEAST, one, other));
-    expect(other, 1);
-    give(other, out, packet(out, LEAST, other, one));
-    expect(one, 1);
-    other->received = 0;
+    size_t whole = packet(out, LEAST, from, to);
+    for (int waited = 0; to->received == 0; waited += AGAIN) {
+        if (waited > PATIENCE)
+            fail("no packet comes");
+        give(from, out, whole);
+        take(to, AGAIN);
+    }
+    while (take(to, AGAIN))
+        ;
+    to->received = 0;
 }
 
 int main(int argc, char **argv)
@@ -197,7 +200,10 @@ int main(int argc, char **argv)
     }
     meet(&one, argv[4], 0x11);
     meet(&other, argv[5], 0x22);
-    introduce(&one, &other);
+    claim(&one);
+    claim(&other);
+    reach(&one, &other);
+    reach(&other, &one);
     size_t whole = packet(out, (size_t)size, &one, &other);
     double began = now();
     for (long sent = 0; sent < frames; sent++) {

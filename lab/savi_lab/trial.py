@@ -70,7 +70,7 @@ class Ground:
     def lacks(self):
         """What isn't there yet."""
         host1, host2, attacker, router, server = self.stations.values()
-        wanted = [(station, station.link_local) for station in (attacker, server)]
+        wanted = [(station, station.link_local) for station in (attacker, server, host1, host2)]
         wanted += [(host, host.address) for host in (host1, host2)]
         found = [f"{station.name} has no address" for station, address in wanted if not station.has(address)]
         return found + [f"{host.name} has no router" for host in (host1, host2) if router.link_local not in host.routers()]

@@ -1,5 +1,5 @@
-//! Reads the configurations that its words name, as for a replay of captures, and prints the plan of each, or what is
-//! wrong with it. Without a word it prints nothing.
+//! Reads the configurations that its words name, and prints the plan of each, or what is wrong with it. Where a port's format
+//! is stream, it says that a replay refuses the plan. Without a word it prints nothing.
 //!
 //! The status is 0 where each text says a plan, and else 3.
 #![tactic(auto)]
@@ -8,7 +8,7 @@ mod meanings;
 
 use meanings::fault_meaning;
 use savi_conf::{ConfFault, read_plan};
-use savi_kinds::{Plan, put_addr, put_mac, savi_word, unknown_word};
+use savi_kinds::{Format, Plan, PortPlan, put_addr, put_mac, savi_word, unknown_word};
 use std::process::ExitCode;
 use std::{env, fs, io};
 
@@ -19,7 +19,7 @@ fn main(rt: HostRuntime) -> io::Result<ExitCode> {
     let mut status = 0;
     for name in env::args(&rt)?.skip(1) {
         let text = fs::read(&rt, name.as_str())?;
-        match read_plan(rt.alloc(), text.as_slice(), true) {
+        match read_plan(rt.alloc(), text.as_slice(), false) {
             Ok(plan) => print_plan(&rt, name.as_str(), &plan)?,
             Err(fault) => {
                 println!(rt; "{name}: {fault}")?;
@@ -41,7 +41,11 @@ fn print_meaning(rt: &impl Print, fault: ConfFault) -> io::Result<()> {
 
 // A line for each part of the plan.
 fn print_plan(rt: &impl Print, name: &str, plan: &Plan) -> io::Result<()> {
-    println!(rt; "{name}: a plan")?;
+    if plan.ports.as_slice().iter().any(has_stream) {
+        println!(rt; "{name}: a plan for serve alone, since a replay reads captures")?;
+    } else {
+        println!(rt; "{name}: a plan")?;
+    }
     let mac = put_mac(plan.mac);
     println!(rt; "mac {}", mac.as_str())?;
     println!(rt; "savi {}", savi_word(plan.savi))?;
@@ -56,6 +60,10 @@ fn print_plan(rt: &impl Print, name: &str, plan: &Plan) -> io::Result<()> {
     print_control(rt, plan)?;
     print_ports(rt, plan)?;
     print_prefixes(rt, plan)
+}
+
+fn has_stream(port: &PortPlan) -> bool {
+    matches!(port.format, Format::Stream)
 }
 
 // The names of control's input and output, where it has any.

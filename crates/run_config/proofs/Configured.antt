@@ -1,5 +1,5 @@
 -- What is said of the end that was handed out holds of the one that was told.
-use Rattle.std.proofs.Common.{◌≡◌, ℕ, ◌<◌, List, Option, Some, None, IfSome, IsSomeAnd, IfOk, Result, Ok, Err, true, subst, sym}
+use Rattle.std.proofs.Common.{◌≡◌, ℕ, ◌<◌, List, Option, Some, None, IfSome, IsSomeAnd, IfOk, Result, Ok, Err, Bool, subst, sym}
 use Rattle.savi_kinds.specs.declared.plan.Plan.{Plan}
 use Rattle.savi_conf.specs.Answers.{IsAnswer}
 use Rattle.savi_ends.specs.Places.{Place}
@@ -13,9 +13,9 @@ of_stands left (Some told) source Holds same given = subst (λ s. IfSome (left s
 pub of_told : {S : Type 0} (left : S → Option (List ℕ)) (place : Place S) (source : S) (Holds : List ℕ → Type 0) → IfSome place.stands (λ told. source ≡ told) → IfSome (left source) Holds → OfText left place Holds
 of_told left place source Holds same given = of_stands left place.stands source Holds same given
 
-pub configured : {S : Type 0} (left : S → Option (List ℕ)) (place : Place S) (source : S) (answer : Result Plan Refusal) → IfSome place.stands (λ told. source ≡ told) → IfOk answer IsBuilt → IfOk answer (λ plan. IfSome (left source) (λ text. IsAnswer text true (Ok plan))) → IfOk answer (IsConfigured left place)
-configured left place source (Ok plan) same built says = record { says = of_told left place source (λ text. IsAnswer text true (Ok plan)) same says; built = built }
-configured left place source (Err refusal) same built says = tt
+pub configured : {S : Type 0} (replay : Bool) (left : S → Option (List ℕ)) (place : Place S) (source : S) (answer : Result Plan Refusal) → IfSome place.stands (λ told. source ≡ told) → IfOk answer (IsBuilt replay) → IfOk answer (λ plan. IfSome (left source) (λ text. IsAnswer text replay (Ok plan))) → IfOk answer (IsConfigured replay left place)
+configured replay left place source (Ok plan) same built says = record { says = of_told left place source (λ text. IsAnswer text replay (Ok plan)) same says; built = built }
+configured replay left place source (Err refusal) same built says = tt
 
 -- a fact of the text that follows from one of what was read of it
 pub if_text : (left : Option (List ℕ)) (Read Holds : List ℕ → Type 0) → ((text : List ℕ) → Read text → Holds text) → IfSome left Read → IfSome left Holds

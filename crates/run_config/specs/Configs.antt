@@ -1,5 +1,5 @@
 -- What a run reads of its configuration.
-use Rattle.std.specs.Prelude.{◌≡◌, ◌≢◌, ◌+◌, ◌<◌, ◌≤◌, ℕ, true, List, Option, All, IfSome, IsSomeAnd, Ok, Err, length, ◌⊎◌}
+use Rattle.std.specs.Prelude.{◌≡◌, ◌≢◌, ◌+◌, ◌<◌, ◌≤◌, ℕ, Bool, true, List, Option, All, IfSome, IsSomeAnd, Ok, Err, length, ◌⊎◌}
 use Rattle.savi_kinds.specs.declared.plan.Plan.{Plan}
 use Rattle.savi_kinds.specs.declared.plan.Format.TheVariants.{Pcap}
 use Rattle.savi_kinds.specs.ValidPlan.{IsValidPlan}
@@ -9,23 +9,23 @@ use Rattle.savi_conf.specs.Answers.{IsAnswer, most_octets}
 use Rattle.savi_ends.specs.Octets.{IsFront, Takes}
 use Rattle.savi_ends.specs.Places.{Place}
 
--- a plan of what is built: valid, and each port's input and output are captures
-pub record IsBuilt (plan : Plan) : Type 0 where
+-- a plan of what is built: valid, and for a replay each port's input and output are captures
+pub record IsBuilt (replay : Bool) (plan : Plan) : Type 0 where
   pub valid : IsValidPlan plan
-  pub captures : All (λ port. port.format ≡ Pcap) plan.ports
+  pub captures : replay ≡ true → All (λ port. port.format ≡ Pcap) plan.ports
 
 -- the text that stands in an input is one for which this holds, where the input tells its octets
 abbrev pub OfText : {S : Type 0} → (S → Option (List ℕ)) → Place S → (List ℕ → Type 0) → Type 0
 OfText left place Holds = IfSome place.stands (λ told. IfSome (left told) Holds)
 
--- the configuration says this plan
-pub record IsConfigured {S : Type 0} (left : S → Option (List ℕ)) (place : Place S) (plan : Plan) : Type 0 where
-  pub says : OfText left place (λ text. IsAnswer text true (Ok plan))
-  pub built : IsBuilt plan
+-- the configuration says this plan, for a replay or for a live session
+pub record IsConfigured {S : Type 0} (replay : Bool) (left : S → Option (List ℕ)) (place : Place S) (plan : Plan) : Type 0 where
+  pub says : OfText left place (λ text. IsAnswer text replay (Ok plan))
+  pub built : IsBuilt replay plan
 
 -- the configuration is refused for this
-pub record IsRefused {S : Type 0} (left : S → Option (List ℕ)) (place : Place S) (fault : ConfFault) : Type 0 where
-  pub answer : OfText left place (λ text. IsAnswer text true (Err fault))
+pub record IsRefused {S : Type 0} (replay : Bool) (left : S → Option (List ℕ)) (place : Place S) (fault : ConfFault) : Type 0 where
+  pub answer : OfText left place (λ text. IsAnswer text replay (Err fault))
   pub cause : fault ≢ NoMemory
 
 -- the end that is kept in a place has a fault; it had none when it was handed out

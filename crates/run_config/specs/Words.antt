@@ -1,11 +1,15 @@
 -- The forms of the command line.
 use Rattle.std.specs.Prelude.{◌≡◌, ◌≤◌, ℕ, List, [], ◌∷◌, codes, decimal, ◌⊎◌}
 use Rattle.run_config.specs.declared.asked.Asked.{Asked}
-use Rattle.run_config.specs.declared.asked.Asked.TheVariants.{Replay, Check, Generate, NoForm}
+use Rattle.run_config.specs.declared.asked.Asked.TheVariants.{Replay, Serve, Check, Generate, NoForm}
 
 -- `replay FILE`, where FILE is this word
 abbrev pub IsReplay : List ℕ → List (List ℕ) → Type 0
 IsReplay file words = words ≡ codes "replay" ∷ file ∷ []
+
+-- `serve FILE`
+abbrev pub IsServe : List ℕ → List (List ℕ) → Type 0
+IsServe file words = words ≡ codes "serve" ∷ file ∷ []
 
 -- `check FILE`
 abbrev pub IsCheck : List ℕ → List (List ℕ) → Type 0
@@ -20,11 +24,15 @@ pub record IsGen (seed frames : ℕ) (words : List (List ℕ)) : Type 0 where
 -- one of the forms
 abbrev pub IsForm : List (List ℕ) → Type 0
 IsForm words =
-    ((file : List ℕ) × IsReplay file words) ⊎ (((file : List ℕ) × IsCheck file words) ⊎ ((seed : ℕ) × (frames : ℕ) × IsGen seed frames words))
+    ((file : List ℕ) × IsReplay file words)
+    ⊎ (((file : List ℕ) × IsServe file words)
+    ⊎ (((file : List ℕ) × IsCheck file words)
+    ⊎ ((seed : ℕ) × (frames : ℕ) × IsGen seed frames words)))
 
 -- the words ask for this
 abbrev pub Asks : List (List ℕ) → Asked → Type 0
 Asks words (Replay file) = IsReplay file.now words
+Asks words (Serve file) = IsServe file.now words
 Asks words (Check file) = IsCheck file.now words
 Asks words (Generate seed frames) = IsGen seed frames words
 Asks words NoForm = IsForm words → ⊥

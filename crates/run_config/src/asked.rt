@@ -8,6 +8,8 @@ use savi_kinds::read_decimal;
 
 // The word that asks for a replay.
 const REPLAY: &str = "replay";
+// The word that asks for a live session.
+const SERVE: &str = "serve";
 // The word that asks for the check of a journal.
 const CHECK: &str = "check";
 // The word that asks for a load.
@@ -22,6 +24,8 @@ const FRAMES_MOST: u64 = 100_000;
 pub enum Asked<'a> {
     /// A replay, by the name of its configuration: `replay FILE`.
     Replay(&'a str),
+    /// A live session, by the name of its configuration: `serve FILE`.
+    Serve(&'a str),
     /// The check of a journal, by the name of its file: `check FILE`.
     Check(&'a str),
     /// The replay of a load, by its seed and the number of its packets: `gen SEED FRAMES`.
@@ -37,6 +41,9 @@ pub fn asked_by(words: &[String]) -> Asked<'_>
 {
     if let Some(file) = file_behind(REPLAY, words) {
         return Asked::Replay(file);
+    }
+    if let Some(file) = file_behind(SERVE, words) {
+        return Asked::Serve(file);
     }
     if let Some(file) = file_behind(CHECK, words) {
         return Asked::Check(file);

@@ -1,6 +1,6 @@
 //! The configuration of a run.
 
-ghost use Rattle.std.specs.Prelude.{◌≡◌, ◌≢◌, ◌≤◌, ◌⊎◌, true, Ok, Err, IfOk, IfSome, IfNone, length, take};
+ghost use Rattle.std.specs.Prelude.{◌≡◌, ◌≢◌, ◌≤◌, ◌⊎◌, Ok, Err, IfOk, IfSome, IfNone, length, take};
 ghost use Rattle.savi_conf.specs.Answers.{IsAnswer};
 ghost use Rattle.savi_ends.specs.Faults.{Rose};
 ghost use Rattle.savi_ends.specs.Places.{IsReady, OthersStay};
@@ -17,7 +17,8 @@ use std::alloc::Global;
 // Room for one octet more than a configuration may have, so that one that is too long is seen to be.
 const ROOM: usize = OCTETS_MOST + 1;
 
-/// Reads the plan that the configuration of this name says, for a replay.
+/// Reads the plan that the configuration of this name says, for a replay or for a live session. The input and the output of
+/// each port of a replay are captures.
 ///
 /// At most one octet more than a configuration may have is read, and the input is kept in the world again. Only it and the
 /// world's count of faults change.
@@ -27,11 +28,16 @@ const ROOM: usize = OCTETS_MOST + 1;
 /// `NoMemory` where an allocation failed, before the input was opened or after it was read; `CannotOpen` where the input
 /// couldn't be opened, and its place is as it was; `ReadFailed` where a read failed; `Refused` with what is wrong with the
 /// text.
-pub fn configure<W: World>(alloc: Global, file: &str, world: &mut W) -> Result<Plan, Refusal>
+pub fn configure<W: World>(
+    alloc: Global,
+    file: &str,
+    replay: bool,
+    world: &mut W,
+) -> Result<Plan, Refusal>
     requires { (name : _) → IsReady (λ s. W.S.faults s ≡ 0) ((W.book world.old).inputs name) }
 
-    ensures configured { IfOk result (IsConfigured W.S.left ((W.book world.old).inputs file.now)) }
-    ensures refused { (fault : ConfFault) → result ≡ Err (Refusal.Refused fault) → IsRefused W.S.left ((W.book world.old).inputs file.now) fault }
+    ensures configured { IfOk result (IsConfigured replay W.S.left ((W.book world.old).inputs file.now)) }
+    ensures refused { (fault : ConfFault) → result ≡ Err (Refusal.Refused fault) → IsRefused replay W.S.left ((W.book world.old).inputs file.now) fault }
     ensures unopened { result ≡ Err Refusal.CannotOpen → Rose (W.book world.old).faults (W.book world.new).faults }
     ensures unread { result ≡ Err Refusal.ReadFailed → HasFault W.S.faults ((W.book world.new).inputs file.now) }
 
@@ -48,17 +54,22 @@ pub fn configure<W: World>(alloc: Global, file: &str, world: &mut W) -> Result<P
     let Ok(mut source) = world.input(file) else {
         return Err(Refusal::CannotOpen);
     };
-    let answer = read_config(alloc, &mut source, &mut buffer);
+    let answer = read_config(alloc, &mut source, replay, &mut buffer);
     world.keep_input(source);
     answer
 }
 
 // Reads the plan that a source's text says, through a buffer of this room.
-fn read_config<S: Source>(alloc: Global, source: &mut S, buffer: &mut [u8]) -> Result<Plan, Refusal>
+fn read_config<S: Source>(
+    alloc: Global,
+    source: &mut S,
+    replay: bool,
+    buffer: &mut [u8],
+) -> Result<Plan, Refusal>
     requires { length buffer.old ≡ 65537 }
-    ensures built { IfOk result IsBuilt }
-    ensures says { IfOk result (λ plan. IfSome (S.left source.old) (λ text. IsAnswer text true (Ok plan))) }
-    ensures refused { (fault : ConfFault) → result ≡ Err (Refusal.Refused fault) → (fault ≢ ConfFault.NoMemory) × IfSome (S.left source.old) (λ text. IsAnswer text true (Err fault)) }
+    ensures built { IfOk result (IsBuilt replay) }
+    ensures says { IfOk result (λ plan. IfSome (S.left source.old) (λ text. IsAnswer text replay (Ok plan))) }
+    ensures refused { (fault : ConfFault) → result ≡ Err (Refusal.Refused fault) → (fault ≢ ConfFault.NoMemory) × IfSome (S.left source.old) (λ text. IsAnswer text replay (Err fault)) }
     ensures unread { result ≡ Err Refusal.ReadFailed → Rose (S.faults source.old) (S.faults source.new) }
     ensures opened { result ≢ Err Refusal.CannotOpen }
     ensures takes { TakesFew (S.left source.old) (S.left source.new) }
@@ -66,7 +77,7 @@ fn read_config<S: Source>(alloc: Global, source: &mut S, buffer: &mut [u8]) -> R
     let Some(count) = read_text(source, buffer) else {
         return Err(Refusal::ReadFailed);
     };
-    match read_plan(alloc, &buffer[..count], true) {
+    match read_plan(alloc, &buffer[..count], replay) {
         Ok(plan) => Ok(plan),
         Err(ConfFault::NoMemory) => Err(Refusal::NoMemory),
         Err(fault) => Err(Refusal::Refused(fault)),

@@ -4,17 +4,22 @@ use Rattle.savi_ends.specs.declared.world.Std.TheVariants.{Out, Err}
 use Rattle.savi_ends.specs.Places.{Place, Book}
 use Rattle.file_ends.specs.declared.file_source.FileSource.{FileSource}
 use Rattle.file_ends.specs.declared.file_sink.FileSink.{FileSink}
+use Rattle.socket_ends.specs.declared.socket_source.SocketSource.{SocketSource}
+use Rattle.socket_ends.specs.declared.socket_sink.SocketSink.{SocketSink}
+use Rattle.port_ends.specs.declared.port_source.PortSource.{PortSource}
+use Rattle.port_ends.specs.declared.port_sink.PortSink.{PortSink}
 use Rattle.savi_switch.specs.declared.machine_clock.MachineClock.{MachineClock}
 use Rattle.savi_switch.specs.declared.real_world.RealWorld.{RealWorld}
 use Rattle.savi_switch.specs.Spots.{place_of}
 use Rattle.savi_switch.specs.NamedSpots.{named_place}
 use Rattle.savi_switch.specs.PortPlaces.{port_place}
 
-abbrev pub std_place : RealWorld → Std → Place FileSink
+abbrev pub std_place : {R A B C D : Type 0} → RealWorld R A B C D → Std → Place (PortSink FileSink (SocketSink R A B C D))
 std_place w Out = place_of w.out
 std_place w Err = place_of w.err
 
-abbrev pub book_of : RealWorld → Book FileSource FileSink MachineClock
+abbrev pub book_of : {R A B C D : Type 0} → RealWorld R A B C D →
+    Book (PortSource FileSource (SocketSource R A B C D)) (PortSink FileSink (SocketSink R A B C D)) MachineClock
 book_of w = record {
   faults = w.faults;
   inputs = named_place w.input;

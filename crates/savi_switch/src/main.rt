@@ -1,7 +1,8 @@
-//! A switch that guards a shared network: it replays captures, and says of each frame what became of it.
+//! A switch that guards a shared network: it serves live ports, or replays captures, and says of each frame what became of
+//! it.
 //!
 //! The contract of the program is that of `run` (`switch_run`), the top call, over each world that keeps the contracts of
-//! `savi_ends`; here stand the real world, of files, standard output and standard error, and `main`, which makes it.
+//! `savi_ends`; here stand the real world, of files, Unix stream sockets, standard output and standard error, and `main`, which makes it.
 #![tactic(auto)]
 
 ghost use Rattle.std.specs.Prelude.{◌≡◌};
@@ -13,31 +14,36 @@ mod real_world;
 mod spot;
 
 use file_ends::FileSink;
+use live_turns::NoGate;
 use real_world::RealWorld;
+use std::alloc::Global;
 use std::env;
 use std::process::ExitCode;
 use switch_report::{tell_memory, tell_usage};
 use switch_run::{NO_MEMORY, USAGE, run};
 
 fn main(rt: HostRuntime) -> ExitCode {
-    ExitCode::from(status_of(rt))
+    let alloc = rt.alloc();
+    let status = match words_of(rt, alloc) {
+        Ok(words) => match RealWorld::make(rt, rt, alloc) {
+            Ok(mut world) => run(&rt, alloc, words.as_slice(), &mut world, &NoGate),
+            Err(_) => say_memory(rt),
+        },
+        Err(status) => status,
+    };
+    ExitCode::from(status)
 }
 
-// The status of a run in the real world. Words that aren't text are no form of the command line.
-fn status_of(rt: HostRuntime) -> u8 {
-    let alloc = rt.alloc();
-    let mut arguments = match env::args(&rt) {
-        Ok(arguments) => arguments,
-        Err(_) => return say_usage(rt),
+// The words behind the program's name. `Err` is the status where there is no memory for them, or where they aren't text and so
+// no form of the command line.
+fn words_of(rt: HostRuntime, alloc: Global) -> Result<Vec<String>, u8> {
+    let Ok(mut arguments) = env::args(&rt) else {
+        return Err(say_usage(rt));
     };
     let _program = arguments.next();
-    let words: Vec<String> = match arguments.collect(alloc) {
-        Ok(words) => words,
-        Err(_) => return say_memory(rt),
-    };
-    match RealWorld::make(rt, alloc) {
-        Ok(mut world) => run(alloc, words.as_slice(), &mut world),
-        Err(_) => say_memory(rt),
+    match arguments.collect(alloc) {
+        Ok(words) => Ok(words),
+        Err(_) => Err(say_memory(rt)),
     }
 }
 

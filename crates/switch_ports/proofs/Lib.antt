@@ -1,3 +1,5 @@
 pub mod Rising
 pub mod Opens
 pub mod Keeps
+pub mod LiveOpens
+pub mod LiveKeeps

@@ -47,7 +47,7 @@ pub fn open_all<W: World>(
 }
 
 // Adds an element for which there is room.
-fn add<T>(items: &mut Vec<T>, item: T)
+pub(crate) fn add<T>(items: &mut Vec<T>, item: T)
     requires { vec_len items.old < vec_capacity items.old }
     ensures items { items.new.items ≡ items.old.items ++ item ∷ [] }
     ensures capacity { vec_capacity items.old ≤ vec_capacity items.new }

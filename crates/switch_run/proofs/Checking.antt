@@ -83,6 +83,7 @@ module _ {S K C : Type 0} (left : S → Option (List ℕ)) (written : K → Opti
   check_unserved = record {
     ports = ap (λ (b : Book S K C). b.ports) run.rest;
     control = ap (λ (b : Book S K C). b.control) run.rest;
+    ticker = ap (λ (b : Book S K C). b.ticker) run.rest;
     outputs = ap (λ (b : Book S K C). b.outputs) run.rest;
   }
 

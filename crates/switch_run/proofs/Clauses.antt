@@ -1,33 +1,34 @@
 -- From what a run has done to what it says of its world.
-use Rattle.std.proofs.Common.{◌≡◌, ℕ, ◌⊎◌, inl, inr, List, refl, sym, ap, subst, arith, Option}
+use Rattle.std.proofs.Common.{◌≡◌, ℕ, ◌⊎◌, inl, inr, List, true, false, refl, sym, ap, subst, arith, Option}
 use Rattle.std.specs.Prelude.{◌↔◌}
 use Rattle.savi_ends.specs.declared.world.Std.TheVariants.{Out}
 use Rattle.savi_ends.specs.Faults.{Rose}
 use Rattle.savi_ends.specs.Places.{Book}
-use Rattle.run_config.specs.Words.{IsCheck, IsForm, IsGen, IsReplay}
+use Rattle.run_config.specs.Words.{IsCheck, IsForm, IsGen, IsReplay, IsServe}
 use Rattle.switch_report.specs.RunLines.{memory_line, usage_line}
 use Rattle.switch_run.specs.Causes.{HasSomeReadFault, HasSomeWriteFault, IsElsewhereSame, IsOneOf, IsUntouched, IsUnused, quiet_statuses, session_statuses, statuses, unused_statuses}
 use Rattle.switch_run.specs.Checks.{IsCheckRun}
 use Rattle.switch_run.specs.Loads.{IsLoadRun}
-use Rattle.switch_run.specs.Runs.{IsRun}
+use Rattle.switch_run.specs.Runs.{IsRun, IsServeRun}
+use Rattle.switch_run.specs.Live.{IsServeSession}
 use Rattle.switch_run.specs.Session.{IsFileUnread, IsNoPlan, IsSession, IsUnopened, IsUnplayed, Told, ToldBy}
 use Rattle.switch_run.proofs.Checking.{check_is, check_memory, check_opening, check_out, check_unserved, never_two, ran_check}
-use Rattle.switch_run.proofs.Faulting.{read_fault_of, write_fault_of}
-use Rattle.switch_run.proofs.Forms.{same_file, same_journal, same_load, not_both, not_checked, not_judged}
+use Rattle.switch_run.proofs.Faulting.{live_read_fault, live_write_fault, read_fault_of, write_fault_of}
+use Rattle.switch_run.proofs.Forms.{same_file, same_journal, same_load, same_served, not_both, not_checked, not_judged, not_live, not_loaded, not_served}
 use Rattle.switch_run.proofs.Loading.{load_is, load_memory, load_out, load_unserved, not_two, not_seven, ran_load}
 use Rattle.switch_run.proofs.Refusing.{unused_same}
-use Rattle.switch_run.proofs.Running.{Ran, ran_told, ran_open, ran_quiet, ran_untouched, ran_unused, ran_elsewhere, ran_config, ran_unopened, ran_session, ran_unplayed}
+use Rattle.switch_run.proofs.Running.{Ran, ran_told, ran_open, ran_quiet, ran_run, ran_served, ran_session, ran_ticker, ran_untouched, ran_unused}
 
 -- what the contract of a run says
-pub record Clauses {S K C : Type 0} (left : S → Option (List ℕ)) (written : K → Option (List ℕ)) (source_faults : S → ℕ) (sink_faults : K → ℕ) (words : List (List ℕ)) (old new : Book S K C) (status : ℕ) : Type 0 where
+pub record Clauses {S K C : Type 0} (left : S → Option (List ℕ)) (written : K → Option (List ℕ)) (source_faults : S → ℕ) (sink_faults : K → ℕ) (readings : C → Option (List ℕ)) (words : List (List ℕ)) (old new : Book S K C) (status : ℕ) : Type 0 where
   pub one_of : IsOneOf statuses status
   pub usage : (status ≡ 2) ↔ (IsForm words → ⊥)
   pub untouched : status ≡ 2 → IsUntouched old new × Told sink_faults written old new usage_line
   pub memory : status ≡ 1 → Told sink_faults written old new memory_line
-  pub unplayed : (file : List ℕ) → IsReplay file words → status ≡ 1 → IsUnplayed left written file old new
-  pub config : (file : List ℕ) → IsReplay file words → status ≡ 3 → IsNoPlan left file (Told sink_faults written old new) old new
+  pub unplayed : (file : List ℕ) → IsReplay file words → status ≡ 1 → IsUnplayed true left written file old new
+  pub config : (file : List ℕ) → IsReplay file words → status ≡ 3 → IsNoPlan true left file (Told sink_faults written old new) old new
   pub opening : status ≡ 7 → Rose old.faults new.faults
-  pub unopened : (file : List ℕ) → IsReplay file words → status ≡ 7 → IsUnopened left file (Told sink_faults written old new) old new
+  pub unopened : (file : List ℕ) → IsReplay file words → status ≡ 7 → IsUnopened true left file (Told sink_faults written old new) old new
   pub session : (file : List ℕ) → IsReplay file words → IsOneOf session_statuses status
       → IsFileUnread left source_faults file (Told sink_faults written old new) old new status ⊎ IsSession left written source_faults sink_faults file (Told sink_faults written old new) old new status
   pub read : (file : List ℕ) → IsReplay file words → status ≡ 5 → HasSomeReadFault source_faults file new
@@ -35,12 +36,15 @@ pub record Clauses {S K C : Type 0} (left : S → Option (List ℕ)) (written : 
   pub quiet : IsOneOf quiet_statuses status → new.std Out ≡ old.std Out
   pub unused : IsOneOf unused_statuses status → IsUnused old new
   pub elsewhere : (file : List ℕ) → IsReplay file words → IsElsewhereSame file old new
+  pub serve : (file : List ℕ) → IsServe file words → IsServeRun left written source_faults sink_faults readings file (Told sink_faults written old new) old new status
+  pub served_read : (file : List ℕ) → IsServe file words → status ≡ 5 → HasSomeReadFault source_faults file new
+  pub served_write : (file : List ℕ) → IsServe file words → status ≡ 6 → HasSomeWriteFault sink_faults new
   pub check : (file : List ℕ) → IsCheck file words → IsCheckRun left written source_faults sink_faults file (Told sink_faults written old new) old new status
   pub load : (seed frames : ℕ) → IsGen seed frames words → IsLoadRun written sink_faults seed frames (Told sink_faults written old new) old new status
 
-pub clauses_of : {S K C : Type 0} (left : S → Option (List ℕ)) (written : K → Option (List ℕ)) (source_faults : S → ℕ) (sink_faults : K → ℕ) (words : List (List ℕ)) (b0 b1 b2 b3 : Book S K C) (e e' : K) (status : ℕ) → Ran b0 b1 b2 b3 e e'
-    → IsRun left written source_faults sink_faults words (ToldBy sink_faults written e e') b1 b2 status → Clauses left written source_faults sink_faults words b0 b3 status
-clauses_of {S} {K} {C} left written source_faults sink_faults words b0 b1 b2 b3 e e' status ran (inl (two, none, told, same)) =
+pub clauses_of : {S K C : Type 0} (left : S → Option (List ℕ)) (written : K → Option (List ℕ)) (source_faults : S → ℕ) (sink_faults : K → ℕ) (readings : C → Option (List ℕ)) (words : List (List ℕ)) (b0 b1 b2 b3 : Book S K C) (e e' : K) (status : ℕ) → Ran b0 b1 b2 b3 e e'
+    → IsRun left written source_faults sink_faults readings words (ToldBy sink_faults written e e') b1 b2 status → Clauses left written source_faults sink_faults readings words b0 b3 status
+clauses_of {S} {K} {C} left written source_faults sink_faults readings words b0 b1 b2 b3 e e' status ran (inl (two, none, told, same)) =
     let untouched = ran_untouched b0 b1 b2 b3 e e' ran same in
     record {
       one_of = subst (λ (n : ℕ). IsOneOf statuses n) (sym two) refl;
@@ -55,39 +59,72 @@ clauses_of {S} {K} {C} left written source_faults sink_faults words b0 b1 b2 b3 
       read = λ file form. absurd (none (inl (file, form)));
       write = λ file form. absurd (none (inl (file, form)));
       quiet = λ one_of. untouched.out;
-      unused = λ one_of. unused_same b0 b3 (record { ports = ap (λ (b : Book S K C). b.ports) untouched.rest; control = ap (λ (b : Book S K C). b.control) untouched.rest; outputs = ap (λ (b : Book S K C). b.outputs) untouched.rest });
+      unused = λ one_of. unused_same b0 b3 (record { ports = ap (λ (b : Book S K C). b.ports) untouched.rest; control = ap (λ (b : Book S K C). b.control) untouched.rest; ticker = ap (λ (b : Book S K C). b.ticker) untouched.rest; outputs = ap (λ (b : Book S K C). b.outputs) untouched.rest });
       elsewhere = λ file form. absurd (none (inl (file, form)));
-      check = λ file form. absurd (none (inr (inl (file, form))));
-      load = λ seed frames form. absurd (none (inr (inr (seed, frames, form))));
+      serve = λ file form. absurd (none (inr (inl (file, form))));
+      served_read = λ file form. absurd (none (inr (inl (file, form))));
+      served_write = λ file form. absurd (none (inr (inl (file, form))));
+      check = λ file form. absurd (none (inr (inr (inl (file, form)))));
+      load = λ seed frames form. absurd (none (inr (inr (inr (seed, frames, form)))));
     }
-clauses_of {S} {K} {C} left written source_faults sink_faults words b0 b1 b2 b3 e e' status ran (inr (inl (file, form, r))) =
+clauses_of {S} {K} {C} left written source_faults sink_faults readings words b0 b1 b2 b3 e e' status ran (inr (inl (file, form, r))) =
     let says : (lines : List ℕ) → ToldBy sink_faults written e e' lines → Told sink_faults written b0 b3 lines = λ lines told. ran_told sink_faults written b0 b1 b2 b3 e e' lines ran told in
-    let session : IsOneOf session_statuses status → IsFileUnread left source_faults file (Told sink_faults written b0 b3) b0 b3 status ⊎ IsSession left written source_faults sink_faults file (Told sink_faults written b0 b3) b0 b3 status =
-    λ one_of. ran_session left written source_faults sink_faults _ _ b0 b1 b2 b3 e e' file status ran says (r.session one_of) in
+    let Session : Type 0 = IsSession left written source_faults sink_faults file (Told sink_faults written b0 b3) b0 b3 status in
+    let did = ran_run true left written source_faults _ (Told sink_faults written b0 b3) _ Session b0 b1 b2 b3 e e' file status ran says (ran_session left written source_faults sink_faults _ _ b0 b1 b2 b3 e e' file status ran says) r.run in
+    let serves : (f : List ℕ) → IsServe f words → ⊥ = λ f is. not_served words file f form is in
     record {
-      one_of = r.one_of;
-      usage = (λ two. absurd (r.usage two), λ none. absurd (none (inl (file, form))));
-      untouched = λ two. absurd (r.usage two);
-      memory = λ one. says memory_line (r.memory one);
-      unplayed = λ f is one. rw (same_file words f file is form) (ran_unplayed left written b0 b1 b2 b3 e e' file ran (r.unplayed one));
-      config = λ f is three. rw (same_file words f file is form) (ran_config left _ _ b0 b1 b2 b3 e e' file ran says (r.config three));
-      opening = λ seven. ran_open b0 b1 b2 b3 e e' ran (r.opening seven);
-      unopened = λ f is seven. rw (same_file words f file is form) (ran_unopened left _ _ b0 b1 b2 b3 e e' file ran says (r.unopened seven));
-      session = λ f is one_of. rw (same_file words f file is form) (session one_of);
-      read = λ f is five. rw (same_file words f file is form) (read_fault_of left written source_faults sink_faults _ b0 b3 file status five (session (subst (λ (n : ℕ). IsOneOf session_statuses n) (sym five) refl)));
-      write = λ f is six. write_fault_of left written source_faults sink_faults _ b0 b3 file status six (session (subst (λ (n : ℕ). IsOneOf session_statuses n) (sym six) refl));
-      quiet = λ one_of. ran_quiet b0 b1 b2 b3 e e' ran (r.quiet one_of);
-      unused = λ one_of. ran_unused b0 b1 b2 b3 e e' ran (r.unused one_of);
-      elsewhere = λ f is. rw (same_file words f file is form) (ran_elsewhere b0 b1 b2 b3 e e' file ran r.elsewhere);
+      one_of = did.one_of;
+      usage = (λ two. absurd (did.usage two), λ none. absurd (none (inl (file, form))));
+      untouched = λ two. absurd (did.usage two);
+      memory = did.memory;
+      unplayed = λ f is one. rw (same_file words f file is form) (did.unplayed one);
+      config = λ f is three. rw (same_file words f file is form) (did.config three);
+      opening = did.opening;
+      unopened = λ f is seven. rw (same_file words f file is form) (did.unopened seven);
+      session = λ f is one_of. rw (same_file words f file is form) (did.session one_of);
+      read = λ f is five. rw (same_file words f file is form) (read_fault_of left written source_faults sink_faults _ b0 b3 file status five (did.session (subst (λ (n : ℕ). IsOneOf session_statuses n) (sym five) refl)));
+      write = λ f is six. write_fault_of left written source_faults sink_faults _ b0 b3 file status six (did.session (subst (λ (n : ℕ). IsOneOf session_statuses n) (sym six) refl));
+      quiet = did.quiet;
+      unused = did.unused;
+      elsewhere = λ f is. rw (same_file words f file is form) (record { ticker = ran_ticker b0 b1 b2 b3 e e' ran r.ticker; inputs = did.inputs });
+      serve = λ f is. absurd (serves f is);
+      served_read = λ f is. absurd (serves f is);
+      served_write = λ f is. absurd (serves f is);
       check = λ f is. absurd (not_checked words file f form is);
       load = λ seed frames is. absurd (not_both words file seed frames form is);
     }
-clauses_of {S} {K} {C} left written source_faults sink_faults words b0 b1 b2 b3 e e' status ran (inr (inr (inl (file, form, r)))) =
+clauses_of {S} {K} {C} left written source_faults sink_faults readings words b0 b1 b2 b3 e e' status ran (inr (inr (inl (file, form, r)))) =
+    let says : (lines : List ℕ) → ToldBy sink_faults written e e' lines → Told sink_faults written b0 b3 lines = λ lines told. ran_told sink_faults written b0 b1 b2 b3 e e' lines ran told in
+    let Session : Type 0 = IsServeSession left written source_faults sink_faults readings file (Told sink_faults written b0 b3) b0 b3 status in
+    let did = ran_run false left written source_faults _ (Told sink_faults written b0 b3) _ Session b0 b1 b2 b3 e e' file status ran says (ran_served left written source_faults sink_faults readings _ _ b0 b1 b2 b3 e e' file status ran says) r in
+    let replays : (f : List ℕ) → IsReplay f words → ⊥ = λ f is. not_served words f file is form in
+    record {
+      one_of = did.one_of;
+      usage = (λ two. absurd (did.usage two), λ none. absurd (none (inr (inl (file, form)))));
+      untouched = λ two. absurd (did.usage two);
+      memory = did.memory;
+      unplayed = λ f is. absurd (replays f is);
+      config = λ f is. absurd (replays f is);
+      opening = did.opening;
+      unopened = λ f is. absurd (replays f is);
+      session = λ f is. absurd (replays f is);
+      read = λ f is. absurd (replays f is);
+      write = λ f is. absurd (replays f is);
+      quiet = did.quiet;
+      unused = did.unused;
+      elsewhere = λ f is. absurd (replays f is);
+      serve = λ f is. rw (same_served words f file is form) did;
+      served_read = λ f is five. rw (same_served words f file is form) (live_read_fault left written source_faults sink_faults readings _ b0 b3 file status five (did.session (subst (λ (n : ℕ). IsOneOf session_statuses n) (sym five) refl)));
+      served_write = λ f is six. live_write_fault left written source_faults sink_faults readings _ b0 b3 file status six (did.session (subst (λ (n : ℕ). IsOneOf session_statuses n) (sym six) refl));
+      check = λ f is. absurd (not_live words file f form is);
+      load = λ seed frames is. absurd (not_loaded words file seed frames form is);
+    }
+clauses_of {S} {K} {C} left written source_faults sink_faults readings words b0 b1 b2 b3 e e' status ran (inr (inr (inr (inl (file, form, r))))) =
     let replays : (f : List ℕ) → IsReplay f words → ⊥ = λ f is. not_checked words f file is form in
     let Says : List ℕ → Type 0 = ToldBy sink_faults written e e' in
     record {
       one_of = check_is left written source_faults sink_faults file Says b1 b2 status r;
-      usage = (λ two. absurd (never_two left written source_faults sink_faults file Says b1 b2 status r two), λ none. absurd (none (inr (inl (file, form)))));
+      usage = (λ two. absurd (never_two left written source_faults sink_faults file Says b1 b2 status r two), λ none. absurd (none (inr (inr (inl (file, form))))));
       untouched = λ two. absurd (never_two left written source_faults sink_faults file Says b1 b2 status r two);
       memory = λ one. ran_told sink_faults written b0 b1 b2 b3 e e' memory_line ran (check_memory left written source_faults sink_faults file Says b1 b2 status r one);
       unplayed = λ f is. absurd (replays f is);
@@ -100,15 +137,18 @@ clauses_of {S} {K} {C} left written source_faults sink_faults words b0 b1 b2 b3 
       quiet = λ quiet. ran_quiet b0 b1 b2 b3 e e' ran (check_out left written source_faults sink_faults file Says b1 b2 status r quiet);
       unused = λ unused. ran_unused b0 b1 b2 b3 e e' ran (unused_same b1 b2 (check_unserved left written source_faults sink_faults file Says b1 b2 status r));
       elsewhere = λ f is. absurd (replays f is);
+      serve = λ f is. absurd (not_live words f file is form);
+      served_read = λ f is. absurd (not_live words f file is form);
+      served_write = λ f is. absurd (not_live words f file is form);
       check = λ f is. rw (same_journal words f file is form) (ran_check left written source_faults sink_faults file b0 b1 b2 b3 e e' status ran r);
       load = λ seed frames is. absurd (not_judged words file seed frames form is);
     }
-clauses_of {S} {K} {C} left written source_faults sink_faults words b0 b1 b2 b3 e e' status ran (inr (inr (inr (seed, frames, form, r)))) =
+clauses_of {S} {K} {C} left written source_faults sink_faults readings words b0 b1 b2 b3 e e' status ran (inr (inr (inr (inr (seed, frames, form, r))))) =
     let replays : (file : List ℕ) → IsReplay file words → ⊥ = λ file is. not_both words file seed frames is form in
     let Says : List ℕ → Type 0 = ToldBy sink_faults written e e' in
     record {
       one_of = load_is written sink_faults seed frames Says b1 b2 status r;
-      usage = (λ two. absurd (not_two written sink_faults seed frames Says b1 b2 status r two), λ none. absurd (none (inr (inr (seed, frames, form)))));
+      usage = (λ two. absurd (not_two written sink_faults seed frames Says b1 b2 status r two), λ none. absurd (none (inr (inr (inr (seed, frames, form))))));
       untouched = λ two. absurd (not_two written sink_faults seed frames Says b1 b2 status r two);
       memory = λ one. ran_told sink_faults written b0 b1 b2 b3 e e' memory_line ran (load_memory written sink_faults seed frames Says b1 b2 status r one).0;
       unplayed = λ file is. absurd (replays file is);
@@ -121,6 +161,9 @@ clauses_of {S} {K} {C} left written source_faults sink_faults words b0 b1 b2 b3 
       quiet = λ quiet. ran_quiet b0 b1 b2 b3 e e' ran (load_out written sink_faults seed frames Says b1 b2 status r quiet);
       unused = λ unused. ran_unused b0 b1 b2 b3 e e' ran (unused_same b1 b2 (load_unserved written sink_faults seed frames Says b1 b2 status r));
       elsewhere = λ file is. absurd (replays file is);
+      serve = λ file is. absurd (not_loaded words file seed frames is form);
+      served_read = λ file is. absurd (not_loaded words file seed frames is form);
+      served_write = λ file is. absurd (not_loaded words file seed frames is form);
       check = λ file is. absurd (not_judged words file seed frames is form);
       load = λ seed' frames' is.
           let same = same_load words seed' frames' seed frames is form in

@@ -16,15 +16,15 @@ use Rattle.switch_run.specs.Session.{IsSessionOf, IsSummed}
 use Rattle.switch_run.specs.Played.{IsPlayed}
 use Rattle.switch_run.proofs.Through.{Handled, HandledAll, session_of, ports_back, control_back, output_back, cases_name, back_from, keeps_all_of, off_plan}
 
--- what the clauses say where all was opened
-pub record Closes {S K C : Type 0} (left : S → Option (List ℕ)) (written : K → Option (List ℕ)) (source_faults : S → ℕ) (sink_faults : K → ℕ) (plan : Plan) (Says : List ℕ → Type 0) (old new : Book S K C) (status : ℕ) : Type 0 where
+-- what the clauses say where all was opened, with this session
+pub record Closes {S K C : Type 0} (left : S → Option (List ℕ)) (written : K → Option (List ℕ)) (plan : Plan) (Says : List ℕ → Type 0) (Session : Type 0) (old new : Book S K C) (status : ℕ) : Type 0 where
   pub one_of : IsOneOf statuses status
   pub usage : status ≢ 2
   pub config : status ≢ 3
   pub opening : status ≢ 7
   pub memory : status ≡ 1 → Says memory_line
   pub unplayed : status ≡ 1 → KeepsAll left written plan old new × IsOffPlanSame plan old new
-  pub session : IsOneOf session_statuses status → IsSessionOf left written source_faults sink_faults plan Says old new status
+  pub session : IsOneOf session_statuses status → Session
   pub quiet : IsOneOf quiet_statuses status → new.std Out ≡ old.std Out
   pub unused : IsOneOf unused_statuses status → IsUnused old new
 
@@ -50,35 +50,32 @@ summed_is written faults Says past journal_written old new status summed =
       λ one_of. not_quiet (has_failed past) w (has_malformed past) (has_full past) (subst (λ (n : ℕ). IsOneOf quiet_statuses n) summed.cause one_of),
     )
 
-closes_none : {S K C : Type 0} (left : S → Option (List ℕ)) (written : K → Option (List ℕ)) (source_faults : S → ℕ) (sink_faults : K → ℕ) (plan : Plan) (Says : List ℕ → Type 0) (held back : Ready S K C) (sink sink' : K) (old new : Book S K C) (status : ℕ)
-    → HandledAll plan held back sink sink' old new → back ≡ held → sink' ≡ sink → status ≡ 1 → Says memory_line → new.std Out ≡ old.std Out
-    → Closes left written source_faults sink_faults plan Says old new status
-closes_none {S} {K} {C} left written source_faults sink_faults plan Says held back sink sink' old new status all same same' one told quiet =
-    let unread : HandledAll plan held held sink sink old new =
-    subst (λ (k : K). HandledAll plan held held sink k old new) same' (subst (λ (r : Ready S K C). HandledAll plan held r sink sink' old new) same all) in
-    record {
-      one_of = rw one refl;
-      usage = λ two. absurd (omega (arith, one, two));
-      config = λ three. absurd (omega (arith, one, three));
-      opening = λ seven. absurd (omega (arith, one, seven));
-      memory = λ e. told;
-      unplayed = λ e. (keeps_all_of left written plan held sink old new unread, off_plan plan held held sink sink old new unread);
-      session = λ is_one. absurd (let t : false ≡ true = subst (λ (n : ℕ). IsOneOf session_statuses n) one is_one in cc);
-      quiet = λ one_of. quiet;
-      unused = λ one_of. record {
-        ports = ports_back held.ports.items old.ports new.ports unread.ports;
-        control = control_back plan.control held.control old.control new.control unread.control;
-        outputs = output_back plan.journal sink old.outputs new.outputs unread.journal;
-      };
-    }
+-- a place that wasn't touched has its end back
+pub untouched_back : {X : Type 0} (old new : Place X) → new ≡ old → IsBack old new
+untouched_back {X} old new same = subst (λ (x : Place X). IsBack old x) (sym same) (back_from old.stands)
 
-closes_some : {S K C : Type 0} (left : S → Option (List ℕ)) (written : K → Option (List ℕ)) (source_faults : S → ℕ) (sink_faults : K → ℕ) (plan : Plan) (Says : List ℕ → Type 0) (held back : Ready S K C) (sink sink' : K) (past : List Row) (journal_written : Bool) (old new : Book S K C) (status : ℕ)
-    → HandledAll plan held back sink sink' old new
-    → All IsReadAnew held.ports.items → IsPlayed left written source_faults sink_faults plan past held back sink sink' journal_written
-    → IsSummed written sink_faults Says past journal_written (old.std Out) (new.std Out) status
-    → Closes left written source_faults sink_faults plan Says old new status
-closes_some {S} {K} {C} left written source_faults sink_faults plan Says held back sink sink' past journal_written old new status all anew played concluded =
-    let is = summed_is written sink_faults Says past journal_written (old.std Out) (new.std Out) status concluded in
+-- there was no memory
+pub closes_unplayed : {S K C : Type 0} (left : S → Option (List ℕ)) (written : K → Option (List ℕ)) (plan : Plan) (Says : List ℕ → Type 0) (Session : Type 0) (old new : Book S K C) (status : ℕ)
+    → status ≡ 1 → Says memory_line → new.std Out ≡ old.std Out → KeepsAll left written plan old new → IsOffPlanSame plan old new → IsUnused old new
+    → Closes left written plan Says Session old new status
+closes_unplayed left written plan Says Session old new status one told quiet keeps off unused = record {
+  one_of = rw one refl;
+  usage = λ two. absurd (omega (arith, one, two));
+  config = λ three. absurd (omega (arith, one, three));
+  opening = λ seven. absurd (omega (arith, one, seven));
+  memory = λ e. told;
+  unplayed = λ e. (keeps, off);
+  session = λ is_one. absurd (let t : false ≡ true = subst (λ (n : ℕ). IsOneOf session_statuses n) one is_one in cc);
+  quiet = λ one_of. quiet;
+  unused = λ one_of. unused;
+}
+
+-- a history was summed up
+pub closes_played : {S K C : Type 0} (left : S → Option (List ℕ)) (written : K → Option (List ℕ)) (sink_faults : K → ℕ) (plan : Plan) (Says : List ℕ → Type 0) (Session : Type 0) (past : List Row) (journal_written : Bool) (old new : Book S K C) (status : ℕ)
+    → IsSummed written sink_faults Says past journal_written (old.std Out) (new.std Out) status → Session
+    → Closes left written plan Says Session old new status
+closes_played left written sink_faults plan Says Session past journal_written old new status summed did =
+    let is = summed_is written sink_faults Says past journal_written (old.std Out) (new.std Out) status summed in
     let never : IsOneOf quiet_statuses status → ⊥ = is.1 in
     let never_is : (n : ℕ) → IsOneOf quiet_statuses n → status ≡ n → ⊥ = λ n quiet e. never (subst (λ (m : ℕ). IsOneOf quiet_statuses m) (sym e) quiet) in
     record {
@@ -88,23 +85,37 @@ closes_some {S} {K} {C} left written source_faults sink_faults plan Says held ba
       opening = never_is 7 refl;
       memory = λ one. absurd (never_is 1 refl one);
       unplayed = λ one. absurd (never_is 1 refl one);
-      session = λ one_of. session_of left written source_faults sink_faults plan Says held back sink sink' past journal_written old new status all anew played concluded;
+      session = λ one_of. did;
       quiet = λ one_of. absurd (never one_of);
       unused = λ one_of. absurd (never one_of);
     }
 
+closes_none : {S K C : Type 0} (left : S → Option (List ℕ)) (written : K → Option (List ℕ)) (plan : Plan) (Says : List ℕ → Type 0) (Session : Type 0) (held back : Ready S K C) (sink sink' : K) (old new : Book S K C) (status : ℕ)
+    → HandledAll plan held back sink sink' old new → new.ticker ≡ old.ticker → back ≡ held → sink' ≡ sink → status ≡ 1 → Says memory_line → new.std Out ≡ old.std Out
+    → Closes left written plan Says Session old new status
+closes_none {S} {K} {C} left written plan Says Session held back sink sink' old new status all ticker same same' one told quiet =
+    let unread : HandledAll plan held held sink sink old new =
+    subst (λ (k : K). HandledAll plan held held sink k old new) same' (subst (λ (r : Ready S K C). HandledAll plan held r sink sink' old new) same all) in
+    closes_unplayed left written plan Says Session old new status one told quiet (keeps_all_of left written plan held sink old new unread) (off_plan plan held held sink sink old new unread) (record {
+      ports = ports_back held.ports.items old.ports new.ports unread.ports;
+      control = control_back plan.control held.control old.control new.control unread.control;
+      ticker = untouched_back old.ticker new.ticker ticker;
+      outputs = output_back plan.journal sink old.outputs new.outputs unread.journal;
+    })
+
 -- by whether there was an outcome
 pub closes : {S K C : Type 0} (left : S → Option (List ℕ)) (written : K → Option (List ℕ)) (source_faults : S → ℕ) (sink_faults : K → ℕ) (plan : Plan) (Says : List ℕ → Type 0) (held back : Ready S K C) (sink sink' : K) (outcome : Option Outcome) (old mid new : Book S K C) (status : ℕ)
-    → HandledAll plan held back sink sink' old new → mid.std ≡ old.std → All IsReadAnew held.ports.items
+    → HandledAll plan held back sink sink' old new → new.ticker ≡ old.ticker → mid.std ≡ old.std → All IsReadAnew held.ports.items
     → IfNone outcome ((back ≡ held) × (sink' ≡ sink)) → IfSome outcome (λ o. IsPlayed left written source_faults sink_faults plan o.core.past held back sink sink' o.journal_written)
     → IfNone outcome ((status ≡ 1) × (Says memory_line × (new ≡ mid))) → IfSome outcome (λ o. IsSummed written sink_faults Says o.core.past o.journal_written (mid.std Out) (new.std Out) status)
-    → Closes left written source_faults sink_faults plan Says old new status
-closes {S} {K} {C} left written source_faults sink_faults plan Says held back sink sink' None old mid new status all same anew none played unserved concluded =
-    closes_none left written source_faults sink_faults plan Says held back sink sink' old new status all none.0 none.1 unserved.0 unserved.1.0
+    → Closes left written plan Says (IsSessionOf left written source_faults sink_faults plan Says old new status) old new status
+closes {S} {K} {C} left written source_faults sink_faults plan Says held back sink sink' None old mid new status all ticker same anew none played unserved concluded =
+    closes_none left written plan Says _ held back sink sink' old new status all ticker none.0 none.1 unserved.0 unserved.1.0
     (ap (λ (b : Book S K C). b.std Out) unserved.1.1 ∙ ap (λ (p : _ → Place K). p Out) same)
-closes {S} {K} {C} left written source_faults sink_faults plan Says held back sink sink' (Some o) old mid new status all same anew none played unserved concluded =
-    closes_some left written source_faults sink_faults plan Says held back sink sink' o.core.past o.journal_written old new status all anew played
-    (subst (λ (p : Place K). IsSummed written sink_faults Says o.core.past o.journal_written p (new.std Out) status) (ap (λ (p : _ → Place K). p Out) same) concluded)
+closes {S} {K} {C} left written source_faults sink_faults plan Says held back sink sink' (Some o) old mid new status all ticker same anew none played unserved concluded =
+    let summed = subst (λ (p : Place K). IsSummed written sink_faults Says o.core.past o.journal_written p (new.std Out) status) (ap (λ (p : _ → Place K). p Out) same) concluded in
+    closes_played left written sink_faults plan Says _ o.core.past o.journal_written old new status summed
+    (session_of left written source_faults sink_faults plan Says held back sink sink' o.core.past o.journal_written old new status all anew played summed)
 
 element : {X : Type 0} (xs : List X) (k : ℕ) → k < length xs → X
 element [] k inside = absurd (omega arith)
@@ -119,13 +130,10 @@ pub stays_all : {K : Type 0} (old new : List ℕ → Place K) (name : List ℕ) 
 stays_all old new name here others other = stays_by old new name other here others (cases_name other name)
 
 -- the ports that were opened came back as they were, and so did control, and no output was touched
-pub unused_by : {S K C : Type 0} (held : List (PortEnds S K C)) (old new : Book S K C) → Handled held held old.ports new.ports → IsBack old.control new.control → ((name : List ℕ) → new.outputs name ≡ old.outputs name) → IsUnused old new
-unused_by {S} {K} {C} held old new handled control same = record {
+pub unused_by : {S K C : Type 0} (held : List (PortEnds S K C)) (old new : Book S K C) → Handled held held old.ports new.ports → IsBack old.control new.control → new.ticker ≡ old.ticker → ((name : List ℕ) → new.outputs name ≡ old.outputs name) → IsUnused old new
+unused_by {S} {K} {C} held old new handled control ticker same = record {
   ports = ports_back held old.ports new.ports handled;
   control = control;
+  ticker = untouched_back old.ticker new.ticker ticker;
   outputs = λ name. subst (λ (x : Place K). IsBack (old.outputs name) x) (sym (same name)) (back_from (old.outputs name).stands);
 }
-
--- a place that wasn't touched has its end back
-pub untouched_back : {X : Type 0} (old new : Place X) → new ≡ old → IsBack old new
-untouched_back {X} old new same = subst (λ (x : Place X). IsBack old x) (sym same) (back_from old.stands)

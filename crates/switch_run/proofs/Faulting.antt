@@ -1,9 +1,11 @@
 -- Whose fault a status is.
-use Rattle.std.proofs.Common.{◌≡◌, ℕ, ◌&&◌, ◌||◌, not, if◌then◌else◌, ◌⊎◌, inl, inr, List, [], Bool, true, false, get_or, refl, sym, ap, ◌∙◌, subst, arith, ◌<◌, Option, Some, None}
+use Rattle.std.proofs.Common.{◌≡◌, ◌≢◌, ℕ, ◌&&◌, ◌||◌, not, if◌then◌else◌, ◌⊎◌, inl, inr, List, [], Bool, true, false, get_or, refl, sym, ap, ◌∙◌, subst, arith, ◌<◌, Option, Some, None}
 use Rattle.std.specs.List.Sorted.{IsStrictlyIncreasing}
+use Rattle.savi_kinds.specs.declared.entry.How.{How}
 use Rattle.savi_kinds.specs.declared.entry.How.TheVariants as hows
 use Rattle.savi_kinds.specs.declared.plan.Plan.{Plan}
 use Rattle.savi_kinds.specs.Arrivals.{Input}
+use Rattle.savi_kinds.specs.Ports.{number_of}
 use Rattle.savi_kinds.specs.ValidPlan.{numbers_of}
 use Rattle.savi_ends.specs.declared.world.Std.TheVariants.{Out}
 use Rattle.savi_ends.specs.declared.world.Ends.{Ends}
@@ -13,14 +15,19 @@ use Rattle.hist_store.specs.Rows.{Row}
 use Rattle.savi_history.specs.Bases.{empty}
 use Rattle.savi_history.specs.Endings.{has_failed, has_failed_write, has_malformed, has_full}
 use Rattle.savi_history.specs.ControlInputs.{control_end}
+use Rattle.savi_history.specs.PortInputs.{input_end}
+use Rattle.savi_history.specs.PortOutputs.{output_end}
 use Rattle.savi_history.specs.Replay.{replayed}
 use Rattle.savi_history.proofs.Failing.{IsOfInput, failed_at_input}
 use Rattle.savi_history.proofs.FailedWrites.{IsOfOutput, failed_write_at_output}
 use Rattle.savi_history.proofs.WithoutControl.{without_control}
+use Rattle.live_session.specs.LiveRows.{ControlRow}
 use Rattle.run_config.specs.Configs.{HasFault}
 use Rattle.port_worker.specs.ControlServed.{IsControlServed}
 use Rattle.switch_run.specs.Causes.{HasReadFault, HasSomeReadFault, HasSomeWriteFault, Keeps, TookOrPart}
-use Rattle.switch_run.specs.Session.{IsReplayOf, IsSession, IsFileUnread, ServesControlPlace}
+use Rattle.switch_run.specs.Live.{IsServeOf, IsServeSession, ServesControlAt}
+use Rattle.switch_run.specs.Session.{IsReplayOf, IsReported, IsSession, IsFileUnread, ServesControlPlace}
+use Rattle.switch_run.proofs.LegalFailures.{legal_failed, legal_failed_write, number_of_place, plan_element}
 
 failed_by : (status : ℕ) (f w m h : Bool) → status ≡ (if f then 5 else if w then 6 else if m then 4 else if h then 8 else 0) → status ≡ 5 → f ≡ true
 failed_by status true w m h is e = refl
@@ -96,7 +103,7 @@ module _ {S K C : Type 0} (left : S → Option (List ℕ)) (written : K → Opti
 
   replay_read : status ≡ 5 → ((port : ℕ) × HasReadFault source_faults new port) ⊎ HasFault (λ e. source_faults e.source) new.control
   replay_read five =
-      let failed : has_failed r.past ≡ true = failed_by status (has_failed r.past) (has_failed_write r.past || not (r.journal_written && r.summed.summary_written)) (has_malformed r.past) (has_full r.past) r.summed.cause five in
+      let failed : has_failed r.past ≡ true = failed_by status (has_failed r.past) (has_failed_write r.past || not (r.reported.journal_written && r.reported.summed.summary_written)) (has_malformed r.past) (has_full r.past) r.reported.summed.cause five in
       read_at (subst (λ (l : List Row). IsOfInput plan l) (sym r.serves.replay) (failed_at_input plan empty r.serves.lines r.serves.inputs r.serves.stops (ap has_failed (sym r.serves.replay) ∙ failed)))
 
 -- a read failed where the status is 5
@@ -121,23 +128,86 @@ named : {S K C : Type 0} (sink_faults : K → ℕ) (name : List ℕ) (new : Book
 named sink_faults name new (inl journal) = inr (inr (inl (name, journal)))
 named sink_faults name new (inr out) = inr (inr (inr out))
 
+unwritten_named : {S K C : Type 0} (written : K → Option (List ℕ)) (sink_faults : K → ℕ) (plan : Plan) (past : List Row) (Says : List ℕ → Type 0) (old new : Book S K C) (status : ℕ)
+    → (r : IsReported written sink_faults plan past Says old new status) → (r.journal_written && r.summed.summary_written) ≡ false → HasSomeWriteFault sink_faults new
+unwritten_named written sink_faults plan past Says old new status r unwritten =
+    named sink_faults plan.journal new (one_unwritten sink_faults written r.journal_written r.summed.summary_written _ _ _ _ _ _ unwritten r.journal r.summed.summary)
+
 fault_of : {S K C : Type 0} (left : S → Option (List ℕ)) (written : K → Option (List ℕ)) (source_faults : S → ℕ) (sink_faults : K → ℕ) (plan : Plan) (Says : List ℕ → Type 0) (old new : Book S K C) (status : ℕ) → IsStrictlyIncreasing (numbers_of plan.ports)
-    → (r : IsReplayOf left written source_faults sink_faults plan Says old new status) → (has_failed_write r.past ≡ true) ⊎ ((r.journal_written && r.summed.summary_written) ≡ false) → HasSomeWriteFault sink_faults new
+    → (r : IsReplayOf left written source_faults sink_faults plan Says old new status) → (has_failed_write r.past ≡ true) ⊎ ((r.reported.journal_written && r.reported.summed.summary_written) ≡ false) → HasSomeWriteFault sink_faults new
 fault_of left written source_faults sink_faults plan Says old new status rising r (inl failed) =
     write_at left written source_faults sink_faults plan Says old new status rising r
     (subst (λ (l : List Row). IsOfOutput plan l) (sym r.serves.replay) (failed_write_at_output plan empty r.serves.lines r.serves.inputs r.serves.stops (ap has_failed_write (sym r.serves.replay) ∙ failed)))
 fault_of left written source_faults sink_faults plan Says old new status rising r (inr unwritten) =
-    named sink_faults plan.journal new (one_unwritten sink_faults written r.journal_written r.summed.summary_written _ _ _ _ _ _ unwritten r.journal r.summed.summary)
+    unwritten_named written sink_faults plan r.past Says old new status r.reported unwritten
 
 replay_write : {S K C : Type 0} (left : S → Option (List ℕ)) (written : K → Option (List ℕ)) (source_faults : S → ℕ) (sink_faults : K → ℕ) (plan : Plan) (Says : List ℕ → Type 0) (old new : Book S K C) (status : ℕ) → IsStrictlyIncreasing (numbers_of plan.ports) → status ≡ 6
     → IsReplayOf left written source_faults sink_faults plan Says old new status → HasSomeWriteFault sink_faults new
 replay_write left written source_faults sink_faults plan Says old new status rising six r =
-    let w = r.journal_written && r.summed.summary_written in
+    let w = r.reported.journal_written && r.reported.summed.summary_written in
     fault_of left written source_faults sink_faults plan Says old new status rising r
-    (which_unwritten (has_failed_write r.past) w (unwritten_by status (has_failed r.past) (has_failed_write r.past || not w) (has_malformed r.past) (has_full r.past) r.summed.cause six))
+    (which_unwritten (has_failed_write r.past) w (unwritten_by status (has_failed r.past) (has_failed_write r.past || not w) (has_malformed r.past) (has_full r.past) r.reported.summed.cause six))
 
 -- a write failed where the status is 6
 pub write_fault_of : {S K C : Type 0} (left : S → Option (List ℕ)) (written : K → Option (List ℕ)) (source_faults : S → ℕ) (sink_faults : K → ℕ) (Says : List ℕ → Type 0) (old new : Book S K C) (file : List ℕ) (status : ℕ) → status ≡ 6
     → IsFileUnread left source_faults file Says old new status ⊎ IsSession left written source_faults sink_faults file Says old new status → HasSomeWriteFault sink_faults new
 write_fault_of left written source_faults sink_faults Says old new file status six (inl unread) = let five : status ≡ 5 = unread.status_is in absurd (omega (arith, five, six))
 write_fault_of left written source_faults sink_faults Says old new file status six (inr session) = replay_write left written source_faults sink_faults session.plan Says old new status session.configured.built.valid.ports six session.session.did
+
+-- the same of a live session
+
+module _ {S K C : Type 0} (left : S → Option (List ℕ)) (written : K → Option (List ℕ)) (source_faults : S → ℕ) (sink_faults : K → ℕ) (readings : C → Option (List ℕ)) (plan : Plan) (past : List Row) where
+  -- control that ended in no ordinary way has its ends in its place
+  has_live : (names : Option (List ℕ × List ℕ)) (how : How) (old new : Place (Ends S K C)) → ServesControlAt left written source_faults sink_faults readings plan past names old new → control_end past ≡ Some how → how ≢ hows.End
+      → Keeps (ControlRow left written source_faults sink_faults readings plan empty past) old new
+  has_live None how old new serves is other = absurd (other (let both : Some how ≡ Some hows.End = sym is ∙ serves.0.ended in cc))
+  has_live (Some names) how old new serves is other = serves
+
+module _ {S K C : Type 0} (left : S → Option (List ℕ)) (written : K → Option (List ℕ)) (source_faults : S → ℕ) (sink_faults : K → ℕ) (readings : C → Option (List ℕ)) (plan : Plan) (Says : List ℕ → Type 0) (old new : Book S K C) (status : ℕ) (r : IsServeOf left written source_faults sink_faults readings plan Says old new status) where
+  live_read_at : IsOfInput plan r.past → ((port : ℕ) × HasReadFault source_faults new port) ⊎ HasFault (λ e. source_faults e.source) new.control
+  live_read_at (inl (k, inside, is)) =
+      let d = plan_element plan.ports k inside in
+      let p = get_or plan.ports k d in
+      let at = r.ports k d inside in
+      let rose = at.holds.0.broken (subst (λ (n : ℕ). input_end n r.past ≡ Some hows.Failed) (number_of_place plan k d inside) is) in
+      inl (number_of p.number, fault_kept (λ (e : Ends S K C). source_faults e.source) (new.ports (number_of p.number)) at.back at.kept (omega (arith, rose)))
+  live_read_at (inr is) =
+      let at = has_live left written source_faults sink_faults readings plan r.past plan.control hows.Failed old.control new.control r.control is (λ e. cc) in
+      let rose = at.holds.broken is in
+      inr (fault_kept (λ (e : Ends S K C). source_faults e.source) new.control at.back at.kept (omega (arith, rose)))
+
+  live_write_at : IsOfOutput plan r.past → HasSomeWriteFault sink_faults new
+  live_write_at (inl (k, inside, is)) =
+      let d = plan_element plan.ports k inside in
+      let p = get_or plan.ports k d in
+      let at = r.ports k d inside in
+      let rose = at.holds.1.broken (subst (λ (n : ℕ). output_end n r.past ≡ Some hows.Failed) (number_of_place plan k d inside) is) in
+      inl (number_of p.number, fault_kept (λ (e : Ends S K C). sink_faults e.sink) (new.ports (number_of p.number)) at.back at.kept (omega (arith, rose)))
+  live_write_at (inr is) =
+      let at = has_live left written source_faults sink_faults readings plan r.past plan.control hows.Unwritten old.control new.control r.control is (λ e. cc) in
+      let rose = at.holds.unwritten is in
+      inr (inl (fault_kept (λ (e : Ends S K C). sink_faults e.sink) new.control at.back at.kept (omega (arith, rose))))
+
+  live_read : status ≡ 5 → ((port : ℕ) × HasReadFault source_faults new port) ⊎ HasFault (λ e. source_faults e.source) new.control
+  live_read five =
+      let w = has_failed_write r.past || not (r.reported.journal_written && r.reported.summed.summary_written) in
+      live_read_at (legal_failed plan empty r.past r.legal (failed_by status (has_failed r.past) w (has_malformed r.past) (has_full r.past) r.reported.summed.cause five))
+
+  live_fault : (has_failed_write r.past ≡ true) ⊎ ((r.reported.journal_written && r.reported.summed.summary_written) ≡ false) → HasSomeWriteFault sink_faults new
+  live_fault (inl failed) = live_write_at (legal_failed_write plan empty r.past r.legal failed)
+  live_fault (inr unwritten) = unwritten_named written sink_faults plan r.past Says old new status r.reported unwritten
+
+  live_write : status ≡ 6 → HasSomeWriteFault sink_faults new
+  live_write six =
+      let w = r.reported.journal_written && r.reported.summed.summary_written in
+      live_fault (which_unwritten (has_failed_write r.past) w (unwritten_by status (has_failed r.past) (has_failed_write r.past || not w) (has_malformed r.past) (has_full r.past) r.reported.summed.cause six))
+
+pub live_read_fault : {S K C : Type 0} (left : S → Option (List ℕ)) (written : K → Option (List ℕ)) (source_faults : S → ℕ) (sink_faults : K → ℕ) (readings : C → Option (List ℕ)) (Says : List ℕ → Type 0) (old new : Book S K C) (file : List ℕ) (status : ℕ) → status ≡ 5
+    → IsFileUnread left source_faults file Says old new status ⊎ IsServeSession left written source_faults sink_faults readings file Says old new status → HasSomeReadFault source_faults file new
+live_read_fault left written source_faults sink_faults readings Says old new file status five (inl unread) = inl unread.fault
+live_read_fault left written source_faults sink_faults readings Says old new file status five (inr session) = inr (live_read left written source_faults sink_faults readings session.plan Says old new status session.session five)
+
+pub live_write_fault : {S K C : Type 0} (left : S → Option (List ℕ)) (written : K → Option (List ℕ)) (source_faults : S → ℕ) (sink_faults : K → ℕ) (readings : C → Option (List ℕ)) (Says : List ℕ → Type 0) (old new : Book S K C) (file : List ℕ) (status : ℕ) → status ≡ 6
+    → IsFileUnread left source_faults file Says old new status ⊎ IsServeSession left written source_faults sink_faults readings file Says old new status → HasSomeWriteFault sink_faults new
+live_write_fault left written source_faults sink_faults readings Says old new file status six (inl unread) = let five : status ≡ 5 = unread.status_is in absurd (omega (arith, five, six))
+live_write_fault left written source_faults sink_faults readings Says old new file status six (inr session) = live_write left written source_faults sink_faults readings session.plan Says old new status session.session six

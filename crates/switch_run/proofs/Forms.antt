@@ -1,12 +1,17 @@
--- The words of the command line name one file to be replayed, or one to be checked, or one load.
-use Rattle.std.proofs.Common.{◌≡◌, ◌<◌, ◌^◌, ℕ, List, [], ◌∷◌, sym, ap, ◌∙◌, codes, decimal, arith}
+-- The words of the command line name one file to be replayed, served or checked, or one load.
+use Rattle.std.proofs.Common.{◌≡◌, ◌<◌, ◌^◌, ℕ, List, [], ◌∷◌, get_or, sym, ap, ◌∙◌, codes, decimal, arith}
 use Rattle.std.proofs.lemmas.Fmt.{decimal_is_IsNumeral}
 use Rattle.std.specs.Str.Parse.{digits_value}
-use Rattle.run_config.specs.Words.{IsCheck, IsGen, IsReplay}
+use Rattle.run_config.specs.Words.{IsCheck, IsGen, IsReplay, IsServe}
 
 pub same_file : (words : List (List ℕ)) (a b : List ℕ) → IsReplay a words → IsReplay b words → a ≡ b
 same_file words a b first second =
     let both : codes "replay" ∷ a ∷ [] ≡ codes "replay" ∷ b ∷ [] = sym first ∙ second in
+    cc
+
+pub same_served : (words : List (List ℕ)) (a b : List ℕ) → IsServe a words → IsServe b words → a ≡ b
+same_served words a b first second =
+    let both : codes "serve" ∷ a ∷ [] ≡ codes "serve" ∷ b ∷ [] = sym first ∙ second in
     cc
 
 pub same_journal : (words : List (List ℕ)) (a b : List ℕ) → IsCheck a words → IsCheck b words → a ≡ b
@@ -27,6 +32,25 @@ same_load words seed frames seed' frames' one other =
       same_number seed seed' (omega (arith, one.seed_within)) (omega (arith, other.seed_within)) seeds,
       same_number frames frames' (omega (arith, one.frames_within)) (omega (arith, other.frames_within)) counts,
     )
+
+-- no words ask for a replay of a file and for a live session
+pub not_served : (words : List (List ℕ)) (a b : List ℕ) → IsReplay a words → IsServe b words → ⊥
+not_served words a b replay serve =
+    let both : codes "replay" ∷ a ∷ [] ≡ codes "serve" ∷ b ∷ [] = sym replay ∙ serve in
+    cc
+
+-- nor for a live session and for the check of a file
+pub not_live : (words : List (List ℕ)) (a b : List ℕ) → IsServe a words → IsCheck b words → ⊥
+not_live words a b serve check =
+    let both : codes "serve" ∷ a ∷ [] ≡ codes "check" ∷ b ∷ [] = sym serve ∙ check in
+    let first : 115 ≡ 99 = ap (λ (ws : List (List ℕ)). get_or (get_or ws 0 []) 0 0) both in
+    omega (arith, first)
+
+-- nor for a live session and for a load: there are two or three
+pub not_loaded : (words : List (List ℕ)) (file : List ℕ) (seed frames : ℕ) → IsServe file words → IsGen seed frames words → ⊥
+not_loaded words file seed frames serve gen =
+    let both : codes "serve" ∷ file ∷ [] ≡ codes "gen" ∷ decimal seed ∷ decimal frames ∷ [] = sym serve ∙ gen.spelled in
+    cc
 
 -- no words ask for a replay of a file and for the check of one
 pub not_checked : (words : List (List ℕ)) (a b : List ℕ) → IsReplay a words → IsCheck b words → ⊥

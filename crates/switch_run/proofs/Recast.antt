@@ -9,7 +9,8 @@ use Rattle.savi_ends.specs.Faults.{Rose}
 use Rattle.savi_ends.specs.Writes.{Extends}
 use Rattle.savi_ends.specs.Places.{Place, Book}
 use Rattle.hist_store.specs.Rows.{Row}
-use Rattle.switch_run.specs.Session.{IsReplayOf, IsSessionOf, IsSummed, Told, ToldBy}
+use Rattle.switch_run.specs.Live.{IsServeOf}
+use Rattle.switch_run.specs.Session.{IsReplayOf, IsReported, IsSessionOf, IsSummed, Told, ToldBy}
 
 -- a line was told, or its write failed
 pub told_by : {K : Type 0} (faults : K → ℕ) (written : K → Option (List ℕ)) (put : Put) (old new : K) (line : List ℕ) → Extends put (written old) (written new) line → (put ≡ Failed → Rose (faults old) (faults new)) → ToldBy faults written old new line
@@ -29,6 +30,20 @@ moved_summed {K} written faults Says Says' past journal_written old new old' new
   cause = summed.cause;
 }
 
+moved_reported : {S K C : Type 0} (written : K → Option (List ℕ)) (sink_faults : K → ℕ) (plan : Plan) (past : List Row) (Says Says' : List ℕ → Type 0) (old new : Book S K C) (f f' : ℕ) (i i' : List ℕ → Place S) (s s' : Std → Place K) (status : ℕ)
+    → s Out ≡ old.std Out → s' Out ≡ new.std Out → ((lines : List ℕ) → Says lines → Says' lines)
+    → IsReported written sink_faults plan past Says old new status
+    → IsReported written sink_faults plan past Says' (record old { faults = f; inputs = i; std = s }) (record new { faults = f'; inputs = i'; std = s' }) status
+moved_reported written sink_faults plan past Says Says' old new f f' i i' s s' status same same' says r = record {
+  journal_written = r.journal_written;
+  journal = r.journal;
+  tells = r.tells;
+  alone = r.alone;
+  summed = moved_summed written sink_faults Says Says' past r.journal_written (old.std Out) (new.std Out) (s Out) (s' Out) status same same' says r.summed;
+  guarded = r.guarded;
+  access = r.access;
+}
+
 moved_did : {S K C : Type 0} (left : S → Option (List ℕ)) (written : K → Option (List ℕ)) (source_faults : S → ℕ) (sink_faults : K → ℕ) (plan : Plan) (Says Says' : List ℕ → Type 0) (old new : Book S K C) (f f' : ℕ) (i i' : List ℕ → Place S) (s s' : Std → Place K) (status : ℕ)
     → s Out ≡ old.std Out → s' Out ≡ new.std Out → ((lines : List ℕ) → Says lines → Says' lines)
     → IsReplayOf left written source_faults sink_faults plan Says old new status
@@ -37,13 +52,23 @@ moved_did left written source_faults sink_faults plan Says Says' old new f f' i 
   past = r.past;
   legal = r.legal;
   serves = record { lines = r.serves.lines; inputs = r.serves.inputs; stops = r.serves.stops; size = r.serves.size; replay = r.serves.replay; finished = r.serves.finished; control = r.serves.control; each = r.serves.each };
-  journal_written = r.journal_written;
-  journal = r.journal;
-  tells = r.tells;
-  alone = r.alone;
-  summed = moved_summed written sink_faults Says Says' r.past r.journal_written (old.std Out) (new.std Out) (s Out) (s' Out) status same same' says r.summed;
-  guarded = r.guarded;
-  access = r.access;
+  reported = moved_reported written sink_faults plan r.past Says Says' old new f f' i i' s s' status same same' says r.reported;
+}
+
+-- the same of a live session
+pub moved_serve : {S K C : Type 0} (left : S → Option (List ℕ)) (written : K → Option (List ℕ)) (source_faults : S → ℕ) (sink_faults : K → ℕ) (readings : C → Option (List ℕ)) (plan : Plan) (Says Says' : List ℕ → Type 0) (old new : Book S K C) (f f' : ℕ) (i i' : List ℕ → Place S) (s s' : Std → Place K) (status : ℕ)
+    → s Out ≡ old.std Out → s' Out ≡ new.std Out → ((lines : List ℕ) → Says lines → Says' lines)
+    → IsServeOf left written source_faults sink_faults readings plan Says old new status
+    → IsServeOf left written source_faults sink_faults readings plan Says' (record old { faults = f; inputs = i; std = s }) (record new { faults = f'; inputs = i'; std = s' }) status
+moved_serve left written source_faults sink_faults readings plan Says Says' old new f f' i i' s s' status same same' says r = record {
+  past = r.past;
+  legal = r.legal;
+  finished = r.finished;
+  ports = r.ports;
+  control = r.control;
+  ticker = r.ticker;
+  reported = moved_reported written sink_faults plan r.past Says Says' old new f f' i i' s s' status same same' says r.reported;
+  elsewhere = record { ports = r.elsewhere.ports; control = r.elsewhere.control; outputs = r.elsewhere.outputs };
 }
 
 pub moved_session : {S K C : Type 0} (left : S → Option (List ℕ)) (written : K → Option (List ℕ)) (source_faults : S → ℕ) (sink_faults : K → ℕ) (plan : Plan) (Says Says' : List ℕ → Type 0) (old new : Book S K C) (f f' : ℕ) (i i' : List ℕ → Place S) (s s' : Std → Place K) (status : ℕ)

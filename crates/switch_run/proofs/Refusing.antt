@@ -1,14 +1,14 @@
 -- How a run without a plan ends.
-use Rattle.std.proofs.Common.{◌≡◌, ◌≢◌, ℕ, ◌⊎◌, inl, List, true, false, refl, sym, subst, arith, Option, Some, None, IfSome, IsSomeAnd}
+use Rattle.std.proofs.Common.{◌≡◌, ◌≢◌, ℕ, ◌⊎◌, inl, List, Bool, true, false, refl, sym, subst, arith, Option, Some, None, IfSome, IsSomeAnd}
 use Rattle.savi_conf.specs.declared.fault.ConfFault.{ConfFault}
 use Rattle.savi_ends.specs.declared.world.Std.TheVariants.{Out}
 use Rattle.savi_ends.specs.declared.world.Ends.{Ends}
 use Rattle.savi_ends.specs.Faults.{Rose}
-use Rattle.savi_ends.specs.Places.{Place, Book}
+use Rattle.savi_ends.specs.Places.{Place, Book, OthersStay}
 use Rattle.run_config.specs.declared.refusal.Refusal.{Refusal}
 use Rattle.run_config.specs.declared.refusal.Refusal.TheVariants as refusal
 use Rattle.run_config.specs.Configs.{HasFault, IsReadFrom, IsRefused}
-use Rattle.switch_run.specs.Causes.{IsBack, IsElsewhereSame, IsOneOf, IsUnserved, IsUnused, session_statuses}
+use Rattle.switch_run.specs.Causes.{IsBack, IsOneOf, IsUnserved, IsUnused, session_statuses}
 use Rattle.switch_run.specs.Runs.{IsRunOf}
 use Rattle.switch_run.specs.Concluded.{refusal_line, refusal_status}
 
@@ -20,17 +20,18 @@ pub unused_same : {S K C : Type 0} (old new : Book S K C) → IsUnserved old new
 unused_same {S} {K} {C} old new unserved = record {
   ports = λ port. subst (λ (x : ℕ → Place (Ends S K C)). IsBack (old.ports port) (x port)) (sym unserved.ports) (back_from (old.ports port).stands);
   control = subst (λ (x : Place (Ends S K C)). IsBack old.control x) (sym unserved.control) (back_from old.control.stands);
+  ticker = subst (λ (x : Place C). IsBack old.ticker x) (sym unserved.ticker) (back_from old.ticker.stands);
   outputs = λ name. subst (λ (x : List ℕ → Place K). IsBack (old.outputs name) (x name)) (sym unserved.outputs) (back_from (old.outputs name).stands);
 }
 
 not_session : (status n : ℕ) → status ≡ n → (IsOneOf session_statuses n → ⊥) → IsOneOf session_statuses status → ⊥
 not_session status n e never one_of = never (subst (λ (m : ℕ). IsOneOf session_statuses m) e one_of)
 
-pub refuses : {S K C : Type 0} (left : S → Option (List ℕ)) (written : K → Option (List ℕ)) (source_faults : S → ℕ) (sink_faults : K → ℕ) (file : List ℕ) (Says : List ℕ → Type 0) (r : Refusal) (old new : Book S K C) (status : ℕ)
-    → status ≡ refusal_status r → Says (refusal_line file r) → ((fault : ConfFault) → r ≡ refusal.Refused fault → IsRefused left (old.inputs file) fault) → (r ≡ refusal.CannotOpen → Rose old.faults new.faults) → (r ≡ refusal.ReadFailed → HasFault source_faults (new.inputs file))
+pub refuses : {S K C : Type 0} (replay : Bool) (left : S → Option (List ℕ)) (written : K → Option (List ℕ)) (source_faults : S → ℕ) (file : List ℕ) (Says : List ℕ → Type 0) (Session : Type 0) (r : Refusal) (old new : Book S K C) (status : ℕ)
+    → status ≡ refusal_status r → Says (refusal_line file r) → ((fault : ConfFault) → r ≡ refusal.Refused fault → IsRefused replay left (old.inputs file) fault) → (r ≡ refusal.CannotOpen → Rose old.faults new.faults) → (r ≡ refusal.ReadFailed → HasFault source_faults (new.inputs file))
     → (r ≡ refusal.CannotOpen → new.inputs file ≡ old.inputs file) → (r ≢ refusal.CannotOpen → r ≢ refusal.NoMemory → IsReadFrom left (old.inputs file) (new.inputs file)) → (r ≡ refusal.NoMemory → (new.inputs file ≡ old.inputs file) ⊎ IsReadFrom left (old.inputs file) (new.inputs file)) → IsUnserved old new
-    → new.std Out ≡ old.std Out → IsElsewhereSame file old new → IsRunOf left written source_faults sink_faults file Says old new status
-refuses left written source_faults sink_faults file Says refusal.NoMemory old new status is told refused unopened unread place kept memory unserved quiet elsewhere = record {
+    → new.std Out ≡ old.std Out → OthersStay old.inputs new.inputs file → IsRunOf replay left written source_faults file Says Session old new status
+refuses replay left written source_faults file Says Session refusal.NoMemory old new status is told refused unopened unread place kept memory unserved quiet inputs = record {
   one_of = rw is refl;
   usage = λ e. absurd (omega (arith, is, e));
   memory = λ e. told;
@@ -41,9 +42,9 @@ refuses left written source_faults sink_faults file Says refusal.NoMemory old ne
   session = λ one_of. absurd (not_session status 1 is (λ e. let t : false ≡ true = e in cc) one_of);
   quiet = λ one_of. quiet;
   unused = λ one_of. unused_same old new unserved;
-  elsewhere = elsewhere;
+  inputs = inputs;
 }
-refuses left written source_faults sink_faults file Says refusal.CannotOpen old new status is told refused unopened unread place kept memory unserved quiet elsewhere = record {
+refuses replay left written source_faults file Says Session refusal.CannotOpen old new status is told refused unopened unread place kept memory unserved quiet inputs = record {
   one_of = rw is refl;
   usage = λ e. absurd (omega (arith, is, e));
   memory = λ e. absurd (omega (arith, is, e));
@@ -54,9 +55,9 @@ refuses left written source_faults sink_faults file Says refusal.CannotOpen old 
   session = λ one_of. absurd (not_session status 7 is (λ e. let t : false ≡ true = e in cc) one_of);
   quiet = λ one_of. quiet;
   unused = λ one_of. unused_same old new unserved;
-  elsewhere = elsewhere;
+  inputs = inputs;
 }
-refuses left written source_faults sink_faults file Says refusal.ReadFailed old new status is told refused unopened unread place kept memory unserved quiet elsewhere = record {
+refuses replay left written source_faults file Says Session refusal.ReadFailed old new status is told refused unopened unread place kept memory unserved quiet inputs = record {
   one_of = rw is refl;
   usage = λ e. absurd (omega (arith, is, e));
   memory = λ e. absurd (omega (arith, is, e));
@@ -67,9 +68,9 @@ refuses left written source_faults sink_faults file Says refusal.ReadFailed old 
   session = λ one_of. inl (record { status_is = is; fault = unread refl; input = kept (λ e. cc) (λ e. cc); errors = told; out = quiet; unserved = unserved });
   quiet = λ one_of. quiet;
   unused = λ one_of. unused_same old new unserved;
-  elsewhere = elsewhere;
+  inputs = inputs;
 }
-refuses left written source_faults sink_faults file Says (refusal.Refused fault) old new status is told refused unopened unread place kept memory unserved quiet elsewhere = record {
+refuses replay left written source_faults file Says Session (refusal.Refused fault) old new status is told refused unopened unread place kept memory unserved quiet inputs = record {
   one_of = rw is refl;
   usage = λ e. absurd (omega (arith, is, e));
   memory = λ e. absurd (omega (arith, is, e));
@@ -80,5 +81,5 @@ refuses left written source_faults sink_faults file Says (refusal.Refused fault)
   session = λ one_of. absurd (not_session status 3 is (λ e. let t : false ≡ true = e in cc) one_of);
   quiet = λ one_of. quiet;
   unused = λ one_of. unused_same old new unserved;
-  elsewhere = elsewhere;
+  inputs = inputs;
 }

@@ -1,5 +1,5 @@
 -- The books of a run, before and behind each of its steps.
-use Rattle.std.proofs.Common.{◌≡◌, ◌≢◌, ℕ, ◌⊎◌, inl, inr, List, refl, sym, ap, ◌∙◌, subst, arith, ◌∷◌, Option, Some, IfSome, IsSome}
+use Rattle.std.proofs.Common.{◌≡◌, ◌≢◌, ℕ, ◌⊎◌, inl, inr, List, refl, sym, ap, ◌∙◌, subst, arith, ◌∷◌, Bool, true, false, Option, Some, IfSome, IsSome}
 use Rattle.std.specs.Prelude.{All}
 use Rattle.savi_kinds.specs.declared.plan.Plan.{Plan}
 use Rattle.savi_kinds.specs.ValidPlan.{numbers_of}
@@ -8,11 +8,13 @@ use Rattle.savi_ends.specs.declared.world.Ends.{Ends}
 use Rattle.savi_ends.specs.Faults.{Rose}
 use Rattle.savi_ends.specs.Places.{Place, Book, OthersStay}
 use Rattle.run_config.specs.Configs.{HasFault, IsConfigured, IsReadFrom, IsRefused}
-use Rattle.switch_run.specs.Causes.{IsBack, IsElsewhereSame, IsOffPlanSame, IsUnserved, IsUnused, IsUntouched, Keeps, KeepsAll, KeepsControl}
+use Rattle.switch_run.specs.Causes.{IsBack, IsOffPlanSame, IsUnserved, IsUnused, IsUntouched, Keeps, KeepsAll, KeepsControl}
+use Rattle.switch_run.specs.Runs.{IsRunOf}
+use Rattle.switch_run.specs.Live.{IsServeOf, IsServeSession}
 use Rattle.switch_run.specs.Session.{IsNoPlan, IsPartUnopened, IsSession, IsSessionOf, IsUnopened, IsUnplayed, IsFileUnread, Told, ToldBy}
 use Rattle.port_worker.specs.SentFrames.{TookMore}
 use Rattle.port_worker.specs.Used.{IsUsed}
-use Rattle.switch_run.proofs.Recast.{moved_session, told_at}
+use Rattle.switch_run.proofs.Recast.{moved_serve, moved_session, told_at}
 
 err≢out : Err ≢ Out
 err≢out e = cc
@@ -48,19 +50,21 @@ ran_untouched {S} {K} {C} b0 b1 b2 b3 e e' ran same = record {
   rest = ran.rest3 ∙ ap (λ (b : Book S K C). record b { std = b3.std }) same ∙ ap (λ (b : Book S K C). record b { std = b3.std }) ran.rest1;
 }
 
--- the places of ports, of control and of outputs are the same
+-- the places of ports, of control, of the ticker and of outputs are the same
 pub record SamePlaces {S K C : Type 0} (book book' : Book S K C) : Type 0 where
   pub ports : book'.ports ≡ book.ports
   pub control : book'.control ≡ book.control
+  pub ticker : book'.ticker ≡ book.ticker
   pub outputs : book'.outputs ≡ book.outputs
 
 pub same_places : {S K C : Type 0} (book : Book S K C) → SamePlaces book book
-same_places book = record { ports = refl; control = refl; outputs = refl }
+same_places book = record { ports = refl; control = refl; ticker = refl; outputs = refl }
 
 ran_before : {S K C : Type 0} (b0 b1 b2 b3 : Book S K C) (e e' : K) → Ran b0 b1 b2 b3 e e' → SamePlaces b1 b0
 ran_before {S} {K} {C} b0 b1 b2 b3 e e' ran = record {
   ports = sym (ap (λ (b : Book S K C). b.ports) ran.rest1);
   control = sym (ap (λ (b : Book S K C). b.control) ran.rest1);
+  ticker = sym (ap (λ (b : Book S K C). b.ticker) ran.rest1);
   outputs = sym (ap (λ (b : Book S K C). b.outputs) ran.rest1);
 }
 
@@ -68,6 +72,7 @@ ran_behind : {S K C : Type 0} (b0 b1 b2 b3 : Book S K C) (e e' : K) → Ran b0 b
 ran_behind {S} {K} {C} b0 b1 b2 b3 e e' ran = record {
   ports = ap (λ (b : Book S K C). b.ports) ran.rest3;
   control = ap (λ (b : Book S K C). b.control) ran.rest3;
+  ticker = ap (λ (b : Book S K C). b.ticker) ran.rest3;
   outputs = ap (λ (b : Book S K C). b.outputs) ran.rest3;
 }
 
@@ -76,6 +81,7 @@ pub read_before : {S K C : Type 0} (b0 b1 : Book S K C) → b1 ≡ record b0 { f
 read_before {S} {K} {C} b0 b1 rest = record {
   ports = sym (ap (λ (b : Book S K C). b.ports) rest);
   control = sym (ap (λ (b : Book S K C). b.control) rest);
+  ticker = sym (ap (λ (b : Book S K C). b.ticker) rest);
   outputs = sym (ap (λ (b : Book S K C). b.outputs) rest);
 }
 
@@ -83,17 +89,18 @@ pub moved_unused : {S K C : Type 0} (old new old' new' : Book S K C) → SamePla
 moved_unused {S} {K} {C} old new old' new' o n unused = record {
   ports = λ port. subst (λ (x : ℕ → Place (Ends S K C)). IsBack (old'.ports port) (x port)) (sym n.ports) (subst (λ (x : ℕ → Place (Ends S K C)). IsBack (x port) (new.ports port)) (sym o.ports) (unused.ports port));
   control = subst (λ (x : Place (Ends S K C)). IsBack old'.control x) (sym n.control) (subst (λ (x : Place (Ends S K C)). IsBack x new.control) (sym o.control) unused.control);
+  ticker = subst (λ (x : Place C). IsBack old'.ticker x) (sym n.ticker) (subst (λ (x : Place C). IsBack x new.ticker) (sym o.ticker) unused.ticker);
   outputs = λ name. subst (λ (x : List ℕ → Place K). IsBack (old'.outputs name) (x name)) (sym n.outputs) (subst (λ (x : List ℕ → Place K). IsBack (x name) (new.outputs name)) (sym o.outputs) (unused.outputs name));
 }
 
 pub ran_unused : {S K C : Type 0} (b0 b1 b2 b3 : Book S K C) (e e' : K) → Ran b0 b1 b2 b3 e e' → IsUnused b1 b2 → IsUnused b0 b3
 ran_unused b0 b1 b2 b3 e e' ran unused = moved_unused b1 b2 b0 b3 (ran_before b0 b1 b2 b3 e e' ran) (ran_behind b0 b1 b2 b3 e e' ran) unused
 
-pub ran_elsewhere : {S K C : Type 0} (b0 b1 b2 b3 : Book S K C) (e e' : K) (file : List ℕ) → Ran b0 b1 b2 b3 e e' → IsElsewhereSame file b1 b2 → IsElsewhereSame file b0 b3
-ran_elsewhere {S} {K} {C} b0 b1 b2 b3 e e' file ran same = record {
-  ticker = ap (λ (b : Book S K C). b.ticker) ran.rest3 ∙ same.ticker ∙ ap (λ (b : Book S K C). b.ticker) ran.rest1;
-  inputs = λ other apart. ap (λ (b : Book S K C). b.inputs other) ran.rest3 ∙ same.inputs other apart ∙ ap (λ (b : Book S K C). b.inputs other) ran.rest1;
-}
+pub ran_ticker : {S K C : Type 0} (b0 b1 b2 b3 : Book S K C) (e e' : K) → Ran b0 b1 b2 b3 e e' → b2.ticker ≡ b1.ticker → b3.ticker ≡ b0.ticker
+ran_ticker {S} {K} {C} b0 b1 b2 b3 e e' ran same = ap (λ (b : Book S K C). b.ticker) ran.rest3 ∙ same ∙ ap (λ (b : Book S K C). b.ticker) ran.rest1
+
+pub ran_inputs : {S K C : Type 0} (b0 b1 b2 b3 : Book S K C) (e e' : K) (file : List ℕ) → Ran b0 b1 b2 b3 e e' → OthersStay b1.inputs b2.inputs file → OthersStay b0.inputs b3.inputs file
+ran_inputs {S} {K} {C} b0 b1 b2 b3 e e' file ran same = λ other apart. ap (λ (b : Book S K C). b.inputs other) ran.rest3 ∙ same other apart ∙ ap (λ (b : Book S K C). b.inputs other) ran.rest1
 
 pub inputs_first : {S K C : Type 0} (b0 b1 b2 b3 : Book S K C) (e e' : K) (file : List ℕ) → Ran b0 b1 b2 b3 e e' → b1.inputs file ≡ b0.inputs file
 inputs_first {S} {K} {C} b0 b1 b2 b3 e e' file ran = ap (λ (b : Book S K C). b.inputs file) ran.rest1
@@ -110,16 +117,17 @@ moved_unserved : {S K C : Type 0} (old new old' new' : Book S K C) → SamePlace
 moved_unserved old new old' new' o n unserved = record {
   ports = n.ports ∙ unserved.ports ∙ sym o.ports;
   control = n.control ∙ unserved.control ∙ sym o.control;
+  ticker = n.ticker ∙ unserved.ticker ∙ sym o.ticker;
   outputs = n.outputs ∙ unserved.outputs ∙ sym o.outputs;
 }
 
 ran_unserved : {S K C : Type 0} (b0 b1 b2 b3 : Book S K C) (e e' : K) → Ran b0 b1 b2 b3 e e' → IsUnserved b1 b2 → IsUnserved b0 b3
 ran_unserved b0 b1 b2 b3 e e' ran unserved = moved_unserved b1 b2 b0 b3 (ran_before b0 b1 b2 b3 e e' ran) (ran_behind b0 b1 b2 b3 e e' ran) unserved
 
-pub ran_config : {S K C : Type 0} (left : S → Option (List ℕ)) (Says Says' : List ℕ → Type 0) (b0 b1 b2 b3 : Book S K C) (e e' : K) (file : List ℕ) → Ran b0 b1 b2 b3 e e' → ((lines : List ℕ) → Says lines → Says' lines) → IsNoPlan left file Says b1 b2 → IsNoPlan left file Says' b0 b3
-ran_config {S} {K} {C} left Says Says' b0 b1 b2 b3 e e' file ran says no_plan = record {
+pub ran_config : {S K C : Type 0} (replay : Bool) (left : S → Option (List ℕ)) (Says Says' : List ℕ → Type 0) (b0 b1 b2 b3 : Book S K C) (e e' : K) (file : List ℕ) → Ran b0 b1 b2 b3 e e' → ((lines : List ℕ) → Says lines → Says' lines) → IsNoPlan replay left file Says b1 b2 → IsNoPlan replay left file Says' b0 b3
+ran_config {S} {K} {C} replay left Says Says' b0 b1 b2 b3 e e' file ran says no_plan = record {
   fault = no_plan.fault;
-  refused = subst (λ (p : Place S). IsRefused left p no_plan.fault) (inputs_first b0 b1 b2 b3 e e' file ran) no_plan.refused;
+  refused = subst (λ (p : Place S). IsRefused replay left p no_plan.fault) (inputs_first b0 b1 b2 b3 e e' file ran) no_plan.refused;
   input = ran_input left b0 b1 b2 b3 e e' file ran no_plan.input;
   unserved = ran_unserved b0 b1 b2 b3 e e' ran no_plan.unserved;
   errors = says _ no_plan.errors;
@@ -176,40 +184,57 @@ moved_part {S} {K} {C} plan Says Says' old new old' new' o n says (inr (inr part
   errors = says _ part.errors;
 }))
 
-pub ran_unopened : {S K C : Type 0} (left : S → Option (List ℕ)) (Says Says' : List ℕ → Type 0) (b0 b1 b2 b3 : Book S K C) (e e' : K) (file : List ℕ) → Ran b0 b1 b2 b3 e e' → ((lines : List ℕ) → Says lines → Says' lines) → IsUnopened left file Says b1 b2 → IsUnopened left file Says' b0 b3
-ran_unopened left Says Says' b0 b1 b2 b3 e e' file ran says (inl unopened) = inl (record {
+pub ran_unopened : {S K C : Type 0} (replay : Bool) (left : S → Option (List ℕ)) (Says Says' : List ℕ → Type 0) (b0 b1 b2 b3 : Book S K C) (e e' : K) (file : List ℕ) → Ran b0 b1 b2 b3 e e' → ((lines : List ℕ) → Says lines → Says' lines) → IsUnopened replay left file Says b1 b2 → IsUnopened replay left file Says' b0 b3
+ran_unopened replay left Says Says' b0 b1 b2 b3 e e' file ran says (inl unopened) = inl (record {
   errors = says _ unopened.errors;
   place = inputs_last b0 b1 b2 b3 e e' file ran ∙ unopened.place ∙ inputs_first b0 b1 b2 b3 e e' file ran;
   unserved = ran_unserved b0 b1 b2 b3 e e' ran unopened.unserved;
 })
-ran_unopened {S} {K} {C} left Says Says' b0 b1 b2 b3 e e' file ran says (inr unopened) =
+ran_unopened {S} {K} {C} replay left Says Says' b0 b1 b2 b3 e e' file ran says (inr unopened) =
     inr (record {
       plan = unopened.plan;
-      configured = subst (λ (p : Place S). IsConfigured left p unopened.plan) (inputs_first b0 b1 b2 b3 e e' file ran) unopened.configured;
+      configured = subst (λ (p : Place S). IsConfigured replay left p unopened.plan) (inputs_first b0 b1 b2 b3 e e' file ran) unopened.configured;
       input = ran_input left b0 b1 b2 b3 e e' file ran unopened.input;
+      ticker = ran_ticker b0 b1 b2 b3 e e' ran unopened.ticker;
       part = moved_part unopened.plan Says Says' b1 b2 b0 b3 (ran_before b0 b1 b2 b3 e e' ran) (ran_behind b0 b1 b2 b3 e e' ran) says unopened.part;
     })
 
-pub ran_session : {S K C : Type 0} (left : S → Option (List ℕ)) (written : K → Option (List ℕ)) (source_faults : S → ℕ) (sink_faults : K → ℕ) (Says Says' : List ℕ → Type 0) (b0 b1 b2 b3 : Book S K C) (e e' : K) (file : List ℕ) (status : ℕ) → Ran b0 b1 b2 b3 e e' → ((lines : List ℕ) → Says lines → Says' lines)
-    → IsFileUnread left source_faults file Says b1 b2 status ⊎ IsSession left written source_faults sink_faults file Says b1 b2 status → IsFileUnread left source_faults file Says' b0 b3 status ⊎ IsSession left written source_faults sink_faults file Says' b0 b3 status
-ran_session {S} {K} {C} left written source_faults sink_faults Says Says' b0 b1 b2 b3 e e' file status ran says (inl unread) = inl (record {
+pub ran_unread : {S K C : Type 0} (left : S → Option (List ℕ)) (source_faults : S → ℕ) (Says Says' : List ℕ → Type 0) (b0 b1 b2 b3 : Book S K C) (e e' : K) (file : List ℕ) (status : ℕ) → Ran b0 b1 b2 b3 e e' → ((lines : List ℕ) → Says lines → Says' lines)
+    → IsFileUnread left source_faults file Says b1 b2 status → IsFileUnread left source_faults file Says' b0 b3 status
+ran_unread {S} {K} {C} left source_faults Says Says' b0 b1 b2 b3 e e' file status ran says unread = record {
   status_is = unread.status_is;
   fault = subst (λ (p : Place S). HasFault source_faults p) (sym (ap (λ (b : Book S K C). b.inputs file) ran.rest3)) unread.fault;
   input = ran_input left b0 b1 b2 b3 e e' file ran unread.input;
   errors = says _ unread.errors;
   out = ran_quiet b0 b1 b2 b3 e e' ran unread.out;
   unserved = ran_unserved b0 b1 b2 b3 e e' ran unread.unserved;
-})
-ran_session {S} {K} {C} left written source_faults sink_faults Says Says' b0 b1 b2 b3 e e' file status ran says (inr session) = inr (record {
+}
+
+pub ran_session : {S K C : Type 0} (left : S → Option (List ℕ)) (written : K → Option (List ℕ)) (source_faults : S → ℕ) (sink_faults : K → ℕ) (Says Says' : List ℕ → Type 0) (b0 b1 b2 b3 : Book S K C) (e e' : K) (file : List ℕ) (status : ℕ) → Ran b0 b1 b2 b3 e e' → ((lines : List ℕ) → Says lines → Says' lines)
+    → IsSession left written source_faults sink_faults file Says b1 b2 status → IsSession left written source_faults sink_faults file Says' b0 b3 status
+ran_session {S} {K} {C} left written source_faults sink_faults Says Says' b0 b1 b2 b3 e e' file status ran says session = record {
   plan = session.plan;
-  configured = subst (λ (p : Place S). IsConfigured left p session.plan) (inputs_first b0 b1 b2 b3 e e' file ran) session.configured;
+  configured = subst (λ (p : Place S). IsConfigured true left p session.plan) (inputs_first b0 b1 b2 b3 e e' file ran) session.configured;
   input = ran_input left b0 b1 b2 b3 e e' file ran session.input;
   session =
       subst (λ (b : Book S K C). IsSessionOf left written source_faults sink_faults session.plan Says' b0 b status) (sym ran.rest3)
       (subst (λ (b : Book S K C). IsSessionOf left written source_faults sink_faults session.plan Says' b (record b2 { std = b3.std }) status)
       (ap (λ (b : Book S K C). record b { faults = b0.faults; inputs = b0.inputs; std = b0.std }) ran.rest1)
       (moved_session left written source_faults sink_faults session.plan Says Says' b1 b2 b0.faults b2.faults b0.inputs b2.inputs b0.std b3.std status (sym (ran.others1 Out out≢err)) (ran.others3 Out out≢err) says session.session));
-})
+}
+
+pub ran_served : {S K C : Type 0} (left : S → Option (List ℕ)) (written : K → Option (List ℕ)) (source_faults : S → ℕ) (sink_faults : K → ℕ) (readings : C → Option (List ℕ)) (Says Says' : List ℕ → Type 0) (b0 b1 b2 b3 : Book S K C) (e e' : K) (file : List ℕ) (status : ℕ) → Ran b0 b1 b2 b3 e e' → ((lines : List ℕ) → Says lines → Says' lines)
+    → IsServeSession left written source_faults sink_faults readings file Says b1 b2 status → IsServeSession left written source_faults sink_faults readings file Says' b0 b3 status
+ran_served {S} {K} {C} left written source_faults sink_faults readings Says Says' b0 b1 b2 b3 e e' file status ran says session = record {
+  plan = session.plan;
+  configured = subst (λ (p : Place S). IsConfigured false left p session.plan) (inputs_first b0 b1 b2 b3 e e' file ran) session.configured;
+  input = ran_input left b0 b1 b2 b3 e e' file ran session.input;
+  session =
+      subst (λ (b : Book S K C). IsServeOf left written source_faults sink_faults readings session.plan Says' b0 b status) (sym ran.rest3)
+      (subst (λ (b : Book S K C). IsServeOf left written source_faults sink_faults readings session.plan Says' b (record b2 { std = b3.std }) status)
+      (ap (λ (b : Book S K C). record b { faults = b0.faults; inputs = b0.inputs; std = b0.std }) ran.rest1)
+      (moved_serve left written source_faults sink_faults readings session.plan Says Says' b1 b2 b0.faults b2.faults b0.inputs b2.inputs b0.std b3.std status (sym (ran.others1 Out out≢err)) (ran.others3 Out out≢err) says session.session));
+}
 
 -- a session behind the reading of its configuration
 pub configured_session : {S K C : Type 0} (left : S → Option (List ℕ)) (written : K → Option (List ℕ)) (source_faults : S → ℕ) (sink_faults : K → ℕ) (plan : Plan) (Says : List ℕ → Type 0) (b0 b1 b2 : Book S K C) (status : ℕ) → b1 ≡ record b0 { faults = b1.faults; inputs = b1.inputs }
@@ -218,16 +243,23 @@ configured_session {S} {K} {C} left written source_faults sink_faults plan Says 
     subst (λ (b : Book S K C). IsSessionOf left written source_faults sink_faults plan Says b b2 status) (ap (λ (b : Book S K C). record b { faults = b0.faults; inputs = b0.inputs }) rest)
     (moved_session left written source_faults sink_faults plan Says Says b1 b2 b0.faults b2.faults b0.inputs b2.inputs b1.std b2.std status refl refl (λ lines told. told) session)
 
+-- the same of a live session
+pub configured_serve : {S K C : Type 0} (left : S → Option (List ℕ)) (written : K → Option (List ℕ)) (source_faults : S → ℕ) (sink_faults : K → ℕ) (readings : C → Option (List ℕ)) (plan : Plan) (Says : List ℕ → Type 0) (b0 b1 b2 : Book S K C) (status : ℕ) → b1 ≡ record b0 { faults = b1.faults; inputs = b1.inputs }
+    → IsServeOf left written source_faults sink_faults readings plan Says b1 b2 status → IsServeOf left written source_faults sink_faults readings plan Says b0 b2 status
+configured_serve {S} {K} {C} left written source_faults sink_faults readings plan Says b0 b1 b2 status rest session =
+    subst (λ (b : Book S K C). IsServeOf left written source_faults sink_faults readings plan Says b b2 status) (ap (λ (b : Book S K C). record b { faults = b0.faults; inputs = b0.inputs }) rest)
+    (moved_serve left written source_faults sink_faults readings plan Says Says b1 b2 b0.faults b2.faults b0.inputs b2.inputs b1.std b2.std status refl refl (λ lines told. told) session)
+
 -- there was no memory
 
-moved_ends : {S K C : Type 0} (left : S → Option (List ℕ)) (written : K → Option (List ℕ)) (b0 b1 b2 b3 : Book S K C) (e e' : K) (file : List ℕ) → Ran b0 b1 b2 b3 e e'
-    → IsUnserved b1 b2 ⊎ ((plan : Plan) × IsConfigured left (b1.inputs file) plan × KeepsAll left written plan b1 b2 × IsOffPlanSame plan b1 b2)
-    → IsUnserved b0 b3 ⊎ ((plan : Plan) × IsConfigured left (b0.inputs file) plan × KeepsAll left written plan b0 b3 × IsOffPlanSame plan b0 b3)
-moved_ends left written b0 b1 b2 b3 e e' file ran (inl unserved) = inl (ran_unserved b0 b1 b2 b3 e e' ran unserved)
-moved_ends {S} {K} {C} left written b0 b1 b2 b3 e e' file ran (inr (plan, configured, keeps, off)) =
+moved_ends : {S K C : Type 0} (replay : Bool) (left : S → Option (List ℕ)) (written : K → Option (List ℕ)) (b0 b1 b2 b3 : Book S K C) (e e' : K) (file : List ℕ) → Ran b0 b1 b2 b3 e e'
+    → IsUnserved b1 b2 ⊎ ((plan : Plan) × IsConfigured replay left (b1.inputs file) plan × KeepsAll left written plan b1 b2 × IsOffPlanSame plan b1 b2)
+    → IsUnserved b0 b3 ⊎ ((plan : Plan) × IsConfigured replay left (b0.inputs file) plan × KeepsAll left written plan b0 b3 × IsOffPlanSame plan b0 b3)
+moved_ends replay left written b0 b1 b2 b3 e e' file ran (inl unserved) = inl (ran_unserved b0 b1 b2 b3 e e' ran unserved)
+moved_ends {S} {K} {C} replay left written b0 b1 b2 b3 e e' file ran (inr (plan, configured, keeps, off)) =
     inr (
       plan,
-      subst (λ (p : Place S). IsConfigured left p plan) (inputs_first b0 b1 b2 b3 e e' file ran) configured,
+      subst (λ (p : Place S). IsConfigured replay left p plan) (inputs_first b0 b1 b2 b3 e e' file ran) configured,
       moved_keeps left written plan b1 b2 b0 b3 (ran_before b0 b1 b2 b3 e e' ran) (ran_behind b0 b1 b2 b3 e e' ran) keeps,
       moved_off plan b1 b2 b0 b3 (ran_before b0 b1 b2 b3 e e' ran) (ran_behind b0 b1 b2 b3 e e' ran) off,
     )
@@ -236,17 +268,39 @@ moved_place : {S K C : Type 0} (left : S → Option (List ℕ)) (b0 b1 b2 b3 : B
 moved_place left b0 b1 b2 b3 e e' file ran (inl same) = inl (inputs_last b0 b1 b2 b3 e e' file ran ∙ same ∙ inputs_first b0 b1 b2 b3 e e' file ran)
 moved_place left b0 b1 b2 b3 e e' file ran (inr read) = inr (ran_input left b0 b1 b2 b3 e e' file ran read)
 
-pub ran_unplayed : {S K C : Type 0} (left : S → Option (List ℕ)) (written : K → Option (List ℕ)) (b0 b1 b2 b3 : Book S K C) (e e' : K) (file : List ℕ) → Ran b0 b1 b2 b3 e e' → IsUnplayed left written file b1 b2 → IsUnplayed left written file b0 b3
-ran_unplayed left written b0 b1 b2 b3 e e' file ran unplayed = record {
+pub ran_unplayed : {S K C : Type 0} (replay : Bool) (left : S → Option (List ℕ)) (written : K → Option (List ℕ)) (b0 b1 b2 b3 : Book S K C) (e e' : K) (file : List ℕ) → Ran b0 b1 b2 b3 e e' → IsUnplayed replay left written file b1 b2 → IsUnplayed replay left written file b0 b3
+ran_unplayed replay left written b0 b1 b2 b3 e e' file ran unplayed = record {
   input = moved_place left b0 b1 b2 b3 e e' file ran unplayed.input;
-  ends = moved_ends left written b0 b1 b2 b3 e e' file ran unplayed.ends;
+  ends = moved_ends replay left written b0 b1 b2 b3 e e' file ran unplayed.ends;
 }
 
 -- a session without memory behind the reading of its configuration
-pub configured_unplayed : {S K C : Type 0} (left : S → Option (List ℕ)) (written : K → Option (List ℕ)) (plan : Plan) (b0 b1 b2 : Book S K C) (file : List ℕ) → b1 ≡ record b0 { faults = b1.faults; inputs = b1.inputs } → IsConfigured left (b0.inputs file) plan
-    → IsUnserved b1 b2 ⊎ (KeepsAll left written plan b1 b2 × IsOffPlanSame plan b1 b2) → IsUnserved b0 b2 ⊎ ((p : Plan) × IsConfigured left (b0.inputs file) p × KeepsAll left written p b0 b2 × IsOffPlanSame p b0 b2)
-configured_unplayed {S} {K} {C} left written plan b0 b1 b2 file rest configured (inl unserved) =
+pub configured_unplayed : {S K C : Type 0} (replay : Bool) (left : S → Option (List ℕ)) (written : K → Option (List ℕ)) (plan : Plan) (b0 b1 b2 : Book S K C) (file : List ℕ) → b1 ≡ record b0 { faults = b1.faults; inputs = b1.inputs } → IsConfigured replay left (b0.inputs file) plan
+    → IsUnserved b1 b2 ⊎ (KeepsAll left written plan b1 b2 × IsOffPlanSame plan b1 b2) → IsUnserved b0 b2 ⊎ ((p : Plan) × IsConfigured replay left (b0.inputs file) p × KeepsAll left written p b0 b2 × IsOffPlanSame p b0 b2)
+configured_unplayed {S} {K} {C} replay left written plan b0 b1 b2 file rest configured (inl unserved) =
     inl (moved_unserved b1 b2 b0 b2 (read_before b0 b1 rest) (same_places b2) unserved)
-configured_unplayed {S} {K} {C} left written plan b0 b1 b2 file rest configured (inr (keeps, off)) =
+configured_unplayed {S} {K} {C} replay left written plan b0 b1 b2 file rest configured (inr (keeps, off)) =
     let before = read_before b0 b1 rest in
     inr (plan, configured, moved_keeps left written plan b1 b2 b0 b2 before (same_places b2) keeps, moved_off plan b1 b2 b0 b2 before (same_places b2) off)
+
+-- what was done with a configuration, once standard error is kept
+ran_either : {S K C : Type 0} (left : S → Option (List ℕ)) (source_faults : S → ℕ) (Says Says' : List ℕ → Type 0) (Session Session' : Type 0) (b0 b1 b2 b3 : Book S K C) (e e' : K) (file : List ℕ) (status : ℕ) → Ran b0 b1 b2 b3 e e' → ((lines : List ℕ) → Says lines → Says' lines) → (Session → Session')
+    → IsFileUnread left source_faults file Says b1 b2 status ⊎ Session → IsFileUnread left source_faults file Says' b0 b3 status ⊎ Session'
+ran_either left source_faults Says Says' Session Session' b0 b1 b2 b3 e e' file status ran says session (inl unread) = inl (ran_unread left source_faults Says Says' b0 b1 b2 b3 e e' file status ran says unread)
+ran_either left source_faults Says Says' Session Session' b0 b1 b2 b3 e e' file status ran says session (inr did) = inr (session did)
+
+pub ran_run : {S K C : Type 0} (replay : Bool) (left : S → Option (List ℕ)) (written : K → Option (List ℕ)) (source_faults : S → ℕ) (Says Says' : List ℕ → Type 0) (Session Session' : Type 0) (b0 b1 b2 b3 : Book S K C) (e e' : K) (file : List ℕ) (status : ℕ) → Ran b0 b1 b2 b3 e e' → ((lines : List ℕ) → Says lines → Says' lines) → (Session → Session')
+    → IsRunOf replay left written source_faults file Says Session b1 b2 status → IsRunOf replay left written source_faults file Says' Session' b0 b3 status
+ran_run replay left written source_faults Says Says' Session Session' b0 b1 b2 b3 e e' file status ran says session r = record {
+  one_of = r.one_of;
+  usage = r.usage;
+  memory = λ one. says _ (r.memory one);
+  unplayed = λ one. ran_unplayed replay left written b0 b1 b2 b3 e e' file ran (r.unplayed one);
+  config = λ three. ran_config replay left Says Says' b0 b1 b2 b3 e e' file ran says (r.config three);
+  opening = λ seven. ran_open b0 b1 b2 b3 e e' ran (r.opening seven);
+  unopened = λ seven. ran_unopened replay left Says Says' b0 b1 b2 b3 e e' file ran says (r.unopened seven);
+  session = λ one_of. ran_either left source_faults Says Says' Session Session' b0 b1 b2 b3 e e' file status ran says session (r.session one_of);
+  quiet = λ one_of. ran_quiet b0 b1 b2 b3 e e' ran (r.quiet one_of);
+  unused = λ one_of. ran_unused b0 b1 b2 b3 e e' ran (r.unused one_of);
+  inputs = ran_inputs b0 b1 b2 b3 e e' file ran r.inputs;
+}

@@ -24,6 +24,8 @@ use Rattle.cli_lang.specs.Arrivals as lines_of
 use Rattle.hist_store.specs.Rows.{Row}
 use Rattle.hist_store.specs.JournalTexts.{journal_text, address_text}
 use Rattle.savi_history.specs.Bases.{empty}
+use Rattle.savi_history.specs.Journals.{IsJournalOf}
+use Rattle.savi_history.specs.Legal.{IsLegal}
 use Rattle.savi_history.proofs.Guarded.{guarded}
 use Rattle.savi_history.proofs.Starting.{empty_within}
 use Rattle.savi_history.proofs.Telling.{passed_rightly}
@@ -40,7 +42,7 @@ use Rattle.port_worker.specs.Served.{IsServed, ServesPorts, ServesEnds}
 use Rattle.switch_ports.specs.Openings.{ports_of, IsNextBehind, IsOff, IsReadAnew}
 use Rattle.switch_report.specs.RunLines.{cannot_open_line, control_word, journal_word, port_name}
 use Rattle.switch_run.specs.Causes.{IsBack, Keeps, KeepsAll, KeepsControl, IsOffPlanSame, TookOrPart}
-use Rattle.switch_run.specs.Session.{IsControlUnopened, IsJournalUnopened, IsPortUnopened, IsSessionOf, IsSummed, ServesControlPlace}
+use Rattle.switch_run.specs.Session.{IsControlUnopened, IsJournalUnopened, IsPortUnopened, IsReported, IsSessionOf, IsSummed, ServesControlPlace}
 use Rattle.switch_run.specs.Played.{IsPlayed}
 
 -- The ends that were told of some ports were opened and are kept by now, each at its own place; those of other ports stay.
@@ -78,20 +80,20 @@ pub record HandledAll {S K C : Type 0} (plan : Plan) (held back : Ready S K C) (
   pub control : HandledControl plan.control held.control back.control old.control new.control
   pub journal : HandledOne plan.journal sink sink' old.outputs new.outputs
 
-element : {X : Type 0} (xs : List X) (k : ℕ) → k < length xs → X
+pub element : {X : Type 0} (xs : List X) (k : ℕ) → k < length xs → X
 element [] k inside = absurd (omega arith)
 element (x ∷ xs) k inside = x
 
 -- what was told and is kept
-both_told : {X : Type 0} (P : X → X → Type 0) (old new : Option X) (x x' : X) → IfSome old (λ t. x ≡ t) → new ≡ Some x' → P x x' → IfSome old (λ told. IsSomeAnd new (λ kept. P told kept))
+pub both_told : {X : Type 0} (P : X → X → Type 0) (old new : Option X) (x x' : X) → IfSome old (λ t. x ≡ t) → new ≡ Some x' → P x x' → IfSome old (λ told. IsSomeAnd new (λ kept. P told kept))
 both_told P None new x x' told kept holds = tt
 both_told {X} P (Some t) new x x' told kept holds = rw kept (subst (λ (y : X). P y x') told holds)
 
 -- what was told, and is kept
-keeps_of : {X : Type 0} (P : X → X → Type 0) (old new : Place X) (x x' : X) → IfSome old.stands (λ t. x ≡ t) → new.stands ≡ Some x' → P x x' → Keeps P old new
+pub keeps_of : {X : Type 0} (P : X → X → Type 0) (old new : Place X) (x x' : X) → IfSome old.stands (λ t. x ≡ t) → new.stands ≡ Some x' → P x x' → Keeps P old new
 keeps_of P old new x x' told kept holds = record { handed = x; back = x'; told = told; kept = kept; holds = holds }
 
-is_some_of : {X : Type 0} (o : Option X) (x : X) → o ≡ Some x → IsSome o
+pub is_some_of : {X : Type 0} (o : Option X) (x : X) → o ≡ Some x → IsSome o
 is_some_of o x e = rw e refl
 
 pub back_from : {X : Type 0} (o : Option X) → IfSome o (λ told. IsSomeAnd o (λ kept. kept ≡ told))
@@ -193,10 +195,10 @@ behind_nothing : (o : Option (List ℕ)) → o ≡ behind o []
 behind_nothing None = refl
 behind_nothing (Some octets) = ap (λ (l : List ℕ). Some l) (sym (append-nil octets))
 
-unused_ends : {S K C : Type 0} (left : S → Option (List ℕ)) (written : K → Option (List ℕ)) (ends : Ends S K C) → IsUsed left written ends ends
+pub unused_ends : {S K C : Type 0} (left : S → Option (List ℕ)) (written : K → Option (List ℕ)) (ends : Ends S K C) → IsUsed left written ends ends
 unused_ends left written ends = record { gave = ([], front_nothing (left ends.source)); took = ([], behind_nothing (written ends.sink)); clock = refl }
 
-unused_sink : {K : Type 0} (written : K → Option (List ℕ)) (sink : K) → TookMore (written sink) (written sink)
+pub unused_sink : {K : Type 0} (written : K → Option (List ℕ)) (sink : K) → TookMore (written sink) (written sink)
 unused_sink written sink = ([], behind_nothing (written sink))
 
 keeps_control : {S K C : Type 0} (left : S → Option (List ℕ)) (written : K → Option (List ℕ)) (names : Option (List ℕ × List ℕ)) (held : Option (ControlEnds S K C)) (old new : Place (Ends S K C)) → HandledControl names held held old new → KeepsControl (IsUsed left written) names old new
@@ -268,6 +270,21 @@ serves_places {S} {K} {C} left written source_faults sink_faults plan past contr
       (subst (λ (s : State). Served s (get_or held k d).ends (get_or back k d).ends) (anew k d inside) (serves.each k i within d)));
 }
 
+-- what became of the journal's sink became of that in its place, and the history is reported
+pub reported_of : {S K C : Type 0} (written : K → Option (List ℕ)) (sink_faults : K → ℕ) (plan : Plan) (Says : List ℕ → Type 0) (sink sink' : K) (past : List Row) (journal_written : Bool) (old new : Book S K C) (status : ℕ)
+    → HandledOne plan.journal sink sink' old.outputs new.outputs → IsLegal plan empty past → TookOrPart sink_faults written journal_written (journal_text address_text plan (reverse past)) sink sink'
+    → IsJournalOf address_text plan past (journal_text address_text plan (reverse past)) → IsSummed written sink_faults Says past journal_written (old.std Out) (new.std Out) status
+    → IsReported written sink_faults plan past Says old new status
+reported_of written sink_faults plan Says sink sink' past journal_written old new status handled legal was tells summed = record {
+  journal_written = journal_written;
+  journal = keeps_of (TookOrPart sink_faults written journal_written (journal_text address_text plan (reverse past))) _ _ sink sink' handled.told handled.kept was;
+  tells = tells;
+  alone = λ plan' past' other. journal_tells address_text written-IsAddressText plan plan' past past' _ tells other;
+  summed = summed;
+  guarded = guarded plan empty past legal;
+  access = λ on. passed_rightly plan tells.valid empty (empty_within plan tells.valid) on past legal tells.octets;
+}
+
 -- what a session was to the ends is what it was to the places
 pub session_of : {S K C : Type 0} (left : S → Option (List ℕ)) (written : K → Option (List ℕ)) (source_faults : S → ℕ) (sink_faults : K → ℕ) (plan : Plan) (Says : List ℕ → Type 0) (held back : Ready S K C) (sink sink' : K) (past : List Row) (journal_written : Bool) (old new : Book S K C) (status : ℕ)
     → HandledAll plan held back sink sink' old new → All IsReadAnew held.ports.items → IsPlayed left written source_faults sink_faults plan past held back sink sink' journal_written
@@ -279,13 +296,7 @@ session_of left written source_faults sink_faults plan Says held back sink sink'
     past = past;
     legal = played.legal;
     serves = serves_places left written source_faults sink_faults plan past held.control back.control held.ports.items back.ports.items old.control new.control old.ports new.ports all.control all.planned all.ports anew played.serves;
-    journal_written = journal_written;
-    journal = keeps_of (TookOrPart sink_faults written journal_written (journal_text address_text plan (reverse past))) _ _ sink sink' all.journal.told all.journal.kept played.journal_was;
-    tells = played.tells;
-    alone = λ plan' past' other. journal_tells address_text written-IsAddressText plan plan' past past' _ played.tells other;
-    summed = summed;
-    guarded = guarded plan empty past played.legal;
-    access = λ on. passed_rightly plan played.tells.valid empty (empty_within plan played.tells.valid) on past played.legal played.tells.octets;
+    reported = reported_of written sink_faults plan Says sink sink' past journal_written old new status all.journal played.legal played.journal_was played.tells summed;
   };
 }
 

@@ -79,16 +79,18 @@ pub record KeepsAll {S K C : Type 0} (left : S → Option (List ℕ)) (written :
 abbrev pub IsBack : {X : Type 0} → Place X → Place X → Type 0
 IsBack old new = IfSome old.stands (λ told. IsSomeAnd new.stands (λ kept. kept ≡ told))
 
--- the ends of every port, of control and of every output, where the world tells them, are as they were
+-- the ends of every port, of control and of every output, and the ticker's clock, where the world tells them, are as they were
 pub record IsUnused {S K C : Type 0} (old new : Book S K C) : Type 0 where
   pub ports : (port : ℕ) → IsBack (old.ports port) (new.ports port)
   pub control : IsBack old.control new.control
+  pub ticker : IsBack old.ticker new.ticker
   pub outputs : (name : List ℕ) → IsBack (old.outputs name) (new.outputs name)
 
--- neither control nor any port nor any output by name was touched
+-- neither control nor the ticker nor any port nor any output by name was touched
 pub record IsUnserved {S K C : Type 0} (old new : Book S K C) : Type 0 where
   pub ports : new.ports ≡ old.ports
   pub control : new.control ≡ old.control
+  pub ticker : new.ticker ≡ old.ticker
   pub outputs : new.outputs ≡ old.outputs
 
 -- nothing was touched but standard error

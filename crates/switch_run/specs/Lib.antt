@@ -1,6 +1,7 @@
 pub mod Causes
 pub mod Session
 pub mod Played
+pub mod Live
 pub mod Concluded
 pub mod Loads
 pub mod Checks

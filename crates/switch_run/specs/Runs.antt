@@ -1,34 +1,46 @@
 -- What a run has done, by its status, before standard error is kept.
-use Rattle.std.specs.Prelude.{◌≡◌, ◌≢◌, ◌⊎◌, ℕ, List, Option}
+use Rattle.std.specs.Prelude.{◌≡◌, ◌≢◌, ◌⊎◌, ℕ, Bool, true, false, List, Option}
 use Rattle.savi_ends.specs.declared.world.Std.TheVariants.{Out}
 use Rattle.savi_ends.specs.Faults.{Rose}
-use Rattle.savi_ends.specs.Places.{Book}
-use Rattle.run_config.specs.Words.{IsCheck, IsForm, IsGen, IsReplay}
+use Rattle.savi_ends.specs.Places.{Book, OthersStay}
+use Rattle.run_config.specs.Words.{IsCheck, IsForm, IsGen, IsReplay, IsServe}
 use Rattle.switch_report.specs.RunLines.{memory_line, usage_line}
-use Rattle.switch_run.specs.Causes.{IsElsewhereSame, IsOneOf, IsUnused, quiet_statuses, session_statuses, statuses, unused_statuses}
+use Rattle.switch_run.specs.Causes.{IsOneOf, IsUnused, quiet_statuses, session_statuses, statuses, unused_statuses}
 use Rattle.switch_run.specs.Checks.{IsCheckRun}
 use Rattle.switch_run.specs.Loads.{IsLoadRun}
+use Rattle.switch_run.specs.Live.{IsServeSession}
 use Rattle.switch_run.specs.Session.{IsFileUnread, IsNoPlan, IsSession, IsUnopened, IsUnplayed}
 
--- what a replay of what this configuration says has done
-pub record IsRunOf {S K C : Type 0} (left : S → Option (List ℕ)) (written : K → Option (List ℕ)) (source_faults : S → ℕ) (sink_faults : K → ℕ) (file : List ℕ) (Says : List ℕ → Type 0) (old new : Book S K C) (status : ℕ) : Type 0 where
+-- What a run has done with a configuration, whether for a replay or for a live session; `Session` is what such a session is.
+pub record IsRunOf {S K C : Type 0} (replay : Bool) (left : S → Option (List ℕ)) (written : K → Option (List ℕ)) (source_faults : S → ℕ) (file : List ℕ) (Says : List ℕ → Type 0) (Session : Type 0) (old new : Book S K C) (status : ℕ) : Type 0 where
   pub one_of : IsOneOf statuses status
   pub usage : status ≢ 2
   pub memory : status ≡ 1 → Says memory_line
-  pub unplayed : status ≡ 1 → IsUnplayed left written file old new
-  pub config : status ≡ 3 → IsNoPlan left file Says old new
+  pub unplayed : status ≡ 1 → IsUnplayed replay left written file old new
+  pub config : status ≡ 3 → IsNoPlan replay left file Says old new
   pub opening : status ≡ 7 → Rose old.faults new.faults
-  pub unopened : status ≡ 7 → IsUnopened left file Says old new
-  pub session : IsOneOf session_statuses status → IsFileUnread left source_faults file Says old new status ⊎ IsSession left written source_faults sink_faults file Says old new status
+  pub unopened : status ≡ 7 → IsUnopened replay left file Says old new
+  pub session : IsOneOf session_statuses status → IsFileUnread left source_faults file Says old new status ⊎ Session
   pub quiet : IsOneOf quiet_statuses status → new.std Out ≡ old.std Out
   pub unused : IsOneOf unused_statuses status → IsUnused old new
-  pub elsewhere : IsElsewhereSame file old new
+  pub inputs : OthersStay old.inputs new.inputs file
 
--- the words were no form of the command line, and nothing was touched; or what they name was replayed or checked, or the load
--- that they ask for was replayed
-abbrev pub IsRun : {S K C : Type 0} → (S → Option (List ℕ)) → (K → Option (List ℕ)) → (S → ℕ) → (K → ℕ) → List (List ℕ) → (List ℕ → Type 0) → Book S K C → Book S K C → ℕ → Type 0
-IsRun left written source_faults sink_faults words Says old new status =
+-- a replay, which doesn't touch the ticker
+pub record IsReplayRun {S K C : Type 0} (left : S → Option (List ℕ)) (written : K → Option (List ℕ)) (source_faults : S → ℕ) (sink_faults : K → ℕ) (file : List ℕ) (Says : List ℕ → Type 0) (old new : Book S K C) (status : ℕ) : Type 0 where
+  pub run : IsRunOf true left written source_faults file Says (IsSession left written source_faults sink_faults file Says old new status) old new status
+  pub ticker : new.ticker ≡ old.ticker
+
+-- a live session
+abbrev pub IsServeRun : {S K C : Type 0} → (S → Option (List ℕ)) → (K → Option (List ℕ)) → (S → ℕ) → (K → ℕ) → (C → Option (List ℕ)) → List ℕ → (List ℕ → Type 0) → Book S K C → Book S K C → ℕ → Type 0
+IsServeRun left written source_faults sink_faults readings file Says old new status =
+    IsRunOf false left written source_faults file Says (IsServeSession left written source_faults sink_faults readings file Says old new status) old new status
+
+-- the words were no form of the command line, and nothing was touched; or what they name was replayed, served or checked, or the
+-- load that they ask for was replayed
+abbrev pub IsRun : {S K C : Type 0} → (S → Option (List ℕ)) → (K → Option (List ℕ)) → (S → ℕ) → (K → ℕ) → (C → Option (List ℕ)) → List (List ℕ) → (List ℕ → Type 0) → Book S K C → Book S K C → ℕ → Type 0
+IsRun left written source_faults sink_faults readings words Says old new status =
     ((status ≡ 2) × (IsForm words → ⊥) × Says usage_line × (new ≡ old))
-    ⊎ (((file : List ℕ) × IsReplay file words × IsRunOf left written source_faults sink_faults file Says old new status)
+    ⊎ (((file : List ℕ) × IsReplay file words × IsReplayRun left written source_faults sink_faults file Says old new status)
+    ⊎ (((file : List ℕ) × IsServe file words × IsServeRun left written source_faults sink_faults readings file Says old new status)
     ⊎ (((file : List ℕ) × IsCheck file words × IsCheckRun left written source_faults sink_faults file Says old new status)
-    ⊎ ((seed : ℕ) × (frames : ℕ) × IsGen seed frames words × IsLoadRun written sink_faults seed frames Says old new status)))
+    ⊎ ((seed : ℕ) × (frames : ℕ) × IsGen seed frames words × IsLoadRun written sink_faults seed frames Says old new status))))

@@ -63,18 +63,11 @@ ServesControlPlace left written source_faults sink_faults plan past (Some names)
 ServesControlPlace left written source_faults sink_faults plan past (Some names) (Some input) stop old new =
     Keeps (IsControlServed left written source_faults sink_faults plan empty past input stop) old new
 
--- A replay with this plan: one history, legal and finished, is the replay of what the sources of control, where the plan names
--- it, and of the plan's ports gave to sinks that stop so; the ends of control and of each port are kept in their own place, and
--- the history fits what was given up and taken there; the journal took its text, which is that of no other legal history, or a
--- front of it where a write failed; the history is summed up on the standard outputs and in the status; no advertisement and no
--- hidden fragment passed the port of a host or a server; and where sources are validated, an IPv6 frame passed such a port
--- exactly where no rule on messages stopped it and its source was live there, or a named exception permitted it.
-pub record IsReplayOf {S K C : Type 0} (left : S → Option (List ℕ)) (written : K → Option (List ℕ)) (source_faults : S → ℕ) (sink_faults : K → ℕ) (plan : Plan) (Says : List ℕ → Type 0) (old new : Book S K C) (status : ℕ) : Type 0 where
-  pub past : List Row
-  pub legal : IsLegal plan empty past
-  pub serves : ServesPorts plan empty past
-      (λ lines stop. ServesControlPlace left written source_faults sink_faults plan past plan.control lines stop old.control new.control)
-      (λ place port input stop. Keeps (IsServed left written source_faults sink_faults (Arrive classic_kinds) plan empty past port input stop) (old.ports port) (new.ports port))
+-- What a history of this plan leaves: the journal took its text, which is that of no other legal history, or a front of it where
+-- a write failed; it is summed up on the standard outputs and in the status; no advertisement and no hidden fragment passed the
+-- port of a host or a server; and where sources are validated, an IPv6 frame passed such a port exactly where no rule on messages
+-- stopped it and its source was live there, or a named exception permitted it.
+pub record IsReported {S K C : Type 0} (written : K → Option (List ℕ)) (sink_faults : K → ℕ) (plan : Plan) (past : List Row) (Says : List ℕ → Type 0) (old new : Book S K C) (status : ℕ) : Type 0 where
   -- whether the journal was written
   pub journal_written : Bool
   pub journal : Keeps (TookOrPart sink_faults written journal_written (journal_text address_text plan (reverse past))) (old.outputs plan.journal) (new.outputs plan.journal)
@@ -85,6 +78,17 @@ pub record IsReplayOf {S K C : Type 0} (left : S → Option (List ℕ)) (written
   -- where sources are validated
   pub access : plan.savi ≡ true → AllPassedRightly plan empty past
 
+-- A replay with this plan: one history, legal and finished, is the replay of what the sources of control, where the plan names
+-- it, and of the plan's ports gave to sinks that stop so; the ends of control and of each port are kept in their own place, and
+-- the history fits what was given up and taken there; and it is reported.
+pub record IsReplayOf {S K C : Type 0} (left : S → Option (List ℕ)) (written : K → Option (List ℕ)) (source_faults : S → ℕ) (sink_faults : K → ℕ) (plan : Plan) (Says : List ℕ → Type 0) (old new : Book S K C) (status : ℕ) : Type 0 where
+  pub past : List Row
+  pub legal : IsLegal plan empty past
+  pub serves : ServesPorts plan empty past
+      (λ lines stop. ServesControlPlace left written source_faults sink_faults plan past plan.control lines stop old.control new.control)
+      (λ place port input stop. Keeps (IsServed left written source_faults sink_faults (Arrive classic_kinds) plan empty past port input stop) (old.ports port) (new.ports port))
+  pub reported : IsReported written sink_faults plan past Says old new status
+
 -- A session of this plan: it was a replay, and no other port or output was touched, nor control where the plan names none.
 pub record IsSessionOf {S K C : Type 0} (left : S → Option (List ℕ)) (written : K → Option (List ℕ)) (source_faults : S → ℕ) (sink_faults : K → ℕ) (plan : Plan) (Says : List ℕ → Type 0) (old new : Book S K C) (status : ℕ) : Type 0 where
   pub elsewhere : IsOffPlanSame plan old new
@@ -93,7 +97,7 @@ pub record IsSessionOf {S K C : Type 0} (left : S → Option (List ℕ)) (writte
 -- A session of the plan that the configuration says. The configuration's input is kept, and a front of it was read.
 pub record IsSession {S K C : Type 0} (left : S → Option (List ℕ)) (written : K → Option (List ℕ)) (source_faults : S → ℕ) (sink_faults : K → ℕ) (file : List ℕ) (Says : List ℕ → Type 0) (old new : Book S K C) (status : ℕ) : Type 0 where
   pub plan : Plan
-  pub configured : IsConfigured left (old.inputs file) plan
+  pub configured : IsConfigured true left (old.inputs file) plan
   pub input : IsReadFrom left (old.inputs file) (new.inputs file)
   pub session : IsSessionOf left written source_faults sink_faults plan Says old new status
 
@@ -147,21 +151,22 @@ pub record IsJournalUnopened {S K C : Type 0} (plan : Plan) (Says : List ℕ →
 abbrev pub IsPartUnopened : {S K C : Type 0} → Plan → (List ℕ → Type 0) → Book S K C → Book S K C → Type 0
 IsPartUnopened plan Says old new = IsPortUnopened plan Says old new ⊎ (IsControlUnopened plan Says old new ⊎ IsJournalUnopened plan Says old new)
 
--- A port, control or the journal of the plan that the configuration says could not be opened.
-pub record IsPlanUnopened {S K C : Type 0} (left : S → Option (List ℕ)) (file : List ℕ) (Says : List ℕ → Type 0) (old new : Book S K C) : Type 0 where
+-- A port, control or the journal of the plan that the configuration says could not be opened, and the ticker wasn't touched.
+pub record IsPlanUnopened {S K C : Type 0} (replay : Bool) (left : S → Option (List ℕ)) (file : List ℕ) (Says : List ℕ → Type 0) (old new : Book S K C) : Type 0 where
   pub plan : Plan
-  pub configured : IsConfigured left (old.inputs file) plan
+  pub configured : IsConfigured replay left (old.inputs file) plan
   pub input : IsReadFrom left (old.inputs file) (new.inputs file)
+  pub ticker : new.ticker ≡ old.ticker
   pub part : IsPartUnopened plan Says old new
 
 -- Something that was to be opened could not be.
-abbrev pub IsUnopened : {S K C : Type 0} → (S → Option (List ℕ)) → List ℕ → (List ℕ → Type 0) → Book S K C → Book S K C → Type 0
-IsUnopened left file Says old new = IsFileUnopened file Says old new ⊎ IsPlanUnopened left file Says old new
+abbrev pub IsUnopened : {S K C : Type 0} → Bool → (S → Option (List ℕ)) → List ℕ → (List ℕ → Type 0) → Book S K C → Book S K C → Type 0
+IsUnopened replay left file Says old new = IsFileUnopened file Says old new ⊎ IsPlanUnopened replay left file Says old new
 
 -- The configuration, whose input is kept, says no plan, and nothing else was opened.
-pub record IsNoPlan {S K C : Type 0} (left : S → Option (List ℕ)) (file : List ℕ) (Says : List ℕ → Type 0) (old new : Book S K C) : Type 0 where
+pub record IsNoPlan {S K C : Type 0} (replay : Bool) (left : S → Option (List ℕ)) (file : List ℕ) (Says : List ℕ → Type 0) (old new : Book S K C) : Type 0 where
   pub fault : ConfFault
-  pub refused : IsRefused left (old.inputs file) fault
+  pub refused : IsRefused replay left (old.inputs file) fault
   pub input : IsReadFrom left (old.inputs file) (new.inputs file)
   pub unserved : IsUnserved old new
   pub errors : Says (config_line fault)
@@ -169,6 +174,6 @@ pub record IsNoPlan {S K C : Type 0} (left : S → Option (List ℕ)) (file : Li
 -- There was no memory. The input of the configuration is as it was, or kept, and a front of it was read. Either no port, no
 -- output and no ends of control were touched, or the ends of all ports of the plan, of control, where the plan names it, and of the
 -- journal are kept, and no others were touched.
-pub record IsUnplayed {S K C : Type 0} (left : S → Option (List ℕ)) (written : K → Option (List ℕ)) (file : List ℕ) (old new : Book S K C) : Type 0 where
+pub record IsUnplayed {S K C : Type 0} (replay : Bool) (left : S → Option (List ℕ)) (written : K → Option (List ℕ)) (file : List ℕ) (old new : Book S K C) : Type 0 where
   pub input : (new.inputs file ≡ old.inputs file) ⊎ IsReadFrom left (old.inputs file) (new.inputs file)
-  pub ends : IsUnserved old new ⊎ ((plan : Plan) × IsConfigured left (old.inputs file) plan × KeepsAll left written plan old new × IsOffPlanSame plan old new)
+  pub ends : IsUnserved old new ⊎ ((plan : Plan) × IsConfigured replay left (old.inputs file) plan × KeepsAll left written plan old new × IsOffPlanSame plan old new)

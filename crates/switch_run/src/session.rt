@@ -1,6 +1,6 @@
 //! A session over the ends of control and of the ports of a plan, and of a journal.
 
-ghost use Rattle.std.specs.Prelude.{◌≡◌, ◌≤◌, All, IfNone, IfSome, None, [], is_some, reverse};
+ghost use Rattle.std.specs.Prelude.{◌≡◌, ◌≤◌, All, IfNone, IfSome, None, true, [], is_some, reverse};
 ghost use Rattle.port_worker.specs.LineInputs.{IsControlUnheard};
 ghost use Rattle.port_worker.specs.Pairs.{EachPair};
 ghost use Rattle.port_worker.specs.Replays.{IsUnread, ports_held, ports_planned};
@@ -23,7 +23,7 @@ use std::alloc::Global;
 use switch_report::{Buffer, write_journal};
 
 /// The octets of the pieces in which the journal is written.
-const JOURNAL_PIECE_OCTETS: usize = 131_072;
+pub(crate) const JOURNAL_PIECE_OCTETS: usize = 131_072;
 
 /// The history of a session, and what became of its journal.
 #[derive(Drop)]
@@ -48,7 +48,7 @@ pub fn play<S: Source, K: Sink, C: Clock>(
     ready: Ready<S, K, C>,
     journal: &mut K,
 ) -> Played<S, K, C>
-    requires built { IsBuilt plan }
+    requires built { IsBuilt true plan }
     requires planned { ports_held ready.ports.items ≡ ports_planned plan }
     requires unread { All IsUnread ready.ports.items }
     requires unheard { IsControlUnheard ready.control }
@@ -88,7 +88,12 @@ fn unplayed<S, K, C>(ready: Ready<S, K, C>) -> Played<S, K, C>
 }
 
 // Writes the journal. The answer is whether it was written.
-fn finish_journal<K: Sink>(plan: &Plan, hist: &Hist, journal: &mut K, buffer: &mut Buffer) -> bool
+pub(crate) fn finish_journal<K: Sink>(
+    plan: &Plan,
+    hist: &Hist,
+    journal: &mut K,
+    buffer: &mut Buffer,
+) -> bool
     requires valid { IsValidPlan plan.now }
     requires legal { IsLegal plan.now empty (reverse hist.now.rows) }
     requires empty { buffer.old.octets ≡ [] }

@@ -1,29 +1,33 @@
 //! The top call.
 
-ghost use Rattle.std.specs.Prelude.{◌≡◌, ◌↔◌, ◌⊎◌, ◌≤◌, ℕ, List, IfSome, [], length, map, vec_capacity};
+ghost use Rattle.std.specs.Prelude.{◌≡◌, ◌↔◌, ◌⊎◌, ◌≤◌, ℕ, true, false, List, IfSome, [], length, map, vec_capacity};
 ghost use Rattle.std.specs.String.{string_bytes};
 ghost use Rattle.savi_ends.specs.declared.world.Std.{Std};
 ghost use Rattle.savi_ends.specs.Faults.{Rose};
 ghost use Rattle.savi_ends.specs.Places.{BothFresh, HandedNothing, IsReady, OthersStay};
 ghost use Rattle.run_config.specs.Configs.{IsBuilt};
 ghost use Rattle.switch_report.specs.RunLines.{memory_line, usage_line};
-ghost use Rattle.run_config.specs.Words.{IsCheck, IsForm, IsGen, IsReplay};
+ghost use Rattle.run_config.specs.Words.{IsCheck, IsForm, IsGen, IsReplay, IsServe};
 ghost use Rattle.switch_run.specs.Causes.{HasSomeReadFault, HasSomeWriteFault, IsElsewhereSame, IsOffPlanSame, IsOneOf, IsUnserved, IsUnused, IsUntouched, KeepsAll, quiet_statuses, session_statuses, statuses, unused_statuses};
 ghost use Rattle.switch_run.specs.Checks.{IsCheckRun};
 ghost use Rattle.switch_run.specs.Loads.{IsLoadRun};
-ghost use Rattle.switch_run.specs.Runs.{IsRun, IsRunOf};
+ghost use Rattle.switch_run.specs.Runs.{IsReplayRun, IsRun, IsServeRun};
 ghost use Rattle.switch_run.specs.Session.{IsNoPlan, IsPartUnopened, IsSession, IsSessionOf, IsUnopened, IsUnplayed, IsFileUnread, Told, ToldBy};
 
 use crate::checks::check_file;
 use crate::ends_told::refuse;
 use crate::loads::generate;
+use crate::serving::serve_file;
 use crate::session::{Played, play};
 use crate::summing::conclude;
+use live_turns::Gate;
 use port_worker::{PortEnds, Ready};
 use run_config::{Asked, asked_by, configure};
 use savi_ends::{Std, World};
 use savi_kinds::{Plan, Text};
 use std::alloc::Global;
+use std::sync::Wait;
+use std::thread::Threads;
 use switch_ports::{keep_all, keep_control, open_all, open_control};
 use switch_report::{port_name, tell_memory, tell_unopened, tell_usage};
 
@@ -51,44 +55,73 @@ pub const TOO_LONG: u8 = 8;
 /// configuration failed; the other statuses have their causes. `check FILE` writes what the text of FILE is, as a journal:
 /// the status is 0 where it is the journal of a finished history, 4 where it isn't, and 1, 5, 6 or 7 by its cause.
 /// `gen SEED FRAMES` replays a load in memory, and sums it up: the status is 0, 1 or 6.
-pub fn run<W: World>(alloc: Global, words: &[String], world: &mut W) -> u8
+///
+/// `serve FILE` runs a live session over the ports, the control and the ticker of the plan that FILE says, and its statuses are
+/// those of `replay`. It may go on for good; nothing else waits. The gate sees each turn of its workers.
+pub fn run<R: Threads + Wait + Sync, W: World, G: Gate>(
+    rt: &R,
+    alloc: Global,
+    words: &[String],
+    world: &mut W,
+    gate: &G,
+) -> u8
+where
+    W::S: Drop,
+    W::K: Drop,
+    W::C: Drop,
     requires { HandedNothing W.S.faults W.K.faults (W.book world.old) }
 
     ensures status { IsOneOf statuses result }
     ensures usage { (result ≡ 2) ↔ (IsForm (map string_bytes words.now) → ⊥) }
     ensures untouched { result ≡ 2 → IsUntouched (W.book world.old) (W.book world.new) × Told W.K.faults W.K.written (W.book world.old) (W.book world.new) usage_line }
     ensures memory { result ≡ 1 → Told W.K.faults W.K.written (W.book world.old) (W.book world.new) memory_line }
-    ensures unplayed { (file : List ℕ) → IsReplay file (map string_bytes words.now) → result ≡ 1 → IsUnplayed W.S.left W.K.written file (W.book world.old) (W.book world.new) }
-    ensures config { (file : List ℕ) → IsReplay file (map string_bytes words.now) → result ≡ 3 → IsNoPlan W.S.left file (Told W.K.faults W.K.written (W.book world.old) (W.book world.new)) (W.book world.old) (W.book world.new) }
+    ensures unplayed { (file : List ℕ) → IsReplay file (map string_bytes words.now) → result ≡ 1 → IsUnplayed true W.S.left W.K.written file (W.book world.old) (W.book world.new) }
+    ensures config { (file : List ℕ) → IsReplay file (map string_bytes words.now) → result ≡ 3 → IsNoPlan true W.S.left file (Told W.K.faults W.K.written (W.book world.old) (W.book world.new)) (W.book world.old) (W.book world.new) }
     ensures open { result ≡ 7 → Rose (W.book world.old).faults (W.book world.new).faults }
-    ensures unopened { (file : List ℕ) → IsReplay file (map string_bytes words.now) → result ≡ 7 → IsUnopened W.S.left file (Told W.K.faults W.K.written (W.book world.old) (W.book world.new)) (W.book world.old) (W.book world.new) }
+    ensures unopened { (file : List ℕ) → IsReplay file (map string_bytes words.now) → result ≡ 7 → IsUnopened true W.S.left file (Told W.K.faults W.K.written (W.book world.old) (W.book world.new)) (W.book world.old) (W.book world.new) }
     ensures session { (file : List ℕ) → IsReplay file (map string_bytes words.now) → IsOneOf session_statuses result → IsFileUnread W.S.left W.S.faults file (Told W.K.faults W.K.written (W.book world.old) (W.book world.new)) (W.book world.old) (W.book world.new) result ⊎ IsSession W.S.left W.K.written W.S.faults W.K.faults file (Told W.K.faults W.K.written (W.book world.old) (W.book world.new)) (W.book world.old) (W.book world.new) result }
     ensures read { (file : List ℕ) → IsReplay file (map string_bytes words.now) → result ≡ 5 → HasSomeReadFault W.S.faults file (W.book world.new) }
     ensures write { (file : List ℕ) → IsReplay file (map string_bytes words.now) → result ≡ 6 → HasSomeWriteFault W.K.faults (W.book world.new) }
     ensures quiet { IsOneOf quiet_statuses result → (W.book world.new).std Std.Out ≡ (W.book world.old).std Std.Out }
     ensures unused { IsOneOf unused_statuses result → IsUnused (W.book world.old) (W.book world.new) }
     ensures elsewhere { (file : List ℕ) → IsReplay file (map string_bytes words.now) → IsElsewhereSame file (W.book world.old) (W.book world.new) }
+    ensures serve { (file : List ℕ) → IsServe file (map string_bytes words.now) → IsServeRun W.S.left W.K.written W.S.faults W.K.faults W.C.readings file (Told W.K.faults W.K.written (W.book world.old) (W.book world.new)) (W.book world.old) (W.book world.new) result }
+    ensures served_read { (file : List ℕ) → IsServe file (map string_bytes words.now) → result ≡ 5 → HasSomeReadFault W.S.faults file (W.book world.new) }
+    ensures served_write { (file : List ℕ) → IsServe file (map string_bytes words.now) → result ≡ 6 → HasSomeWriteFault W.K.faults (W.book world.new) }
     ensures check { (file : List ℕ) → IsCheck file (map string_bytes words.now) → IsCheckRun W.S.left W.K.written W.S.faults W.K.faults file (Told W.K.faults W.K.written (W.book world.old) (W.book world.new)) (W.book world.old) (W.book world.new) result }
     ensures load { (seed frames : ℕ) → IsGen seed frames (map string_bytes words.now) → IsLoadRun W.K.written W.K.faults seed frames (Told W.K.faults W.K.written (W.book world.old) (W.book world.new)) (W.book world.old) (W.book world.new) result }
 {
     let mut errors = world.std(Std::Err);
-    let status = perform(alloc, words, world, &mut errors);
+    let status = perform(rt, alloc, words, world, &mut errors, gate);
     world.keep_std(Std::Err, errors);
     status
 }
 
 // Does what the words ask for, and tells this sink what standard error is told.
-fn perform<W: World>(alloc: Global, words: &[String], world: &mut W, errors: &mut W::K) -> u8
+fn perform<R: Threads + Wait + Sync, W: World, G: Gate>(
+    rt: &R,
+    alloc: Global,
+    words: &[String],
+    world: &mut W,
+    errors: &mut W::K,
+    gate: &G,
+) -> u8
+where
+    W::S: Drop,
+    W::K: Drop,
+    W::C: Drop,
     requires inputs { (name : _) → IsReady (λ s. W.S.faults s ≡ 0) ((W.book world.old).inputs name) }
     requires outputs { (name : _) → IsReady (λ k. W.K.faults k ≡ 0) ((W.book world.old).outputs name) }
     requires ports { (n : _) → IsReady (BothFresh W.S.faults W.K.faults) ((W.book world.old).ports n) }
     requires control { IsReady (BothFresh W.S.faults W.K.faults) (W.book world.old).control }
+    requires ticker { (W.book world.old).ticker.is_out ≡ false }
     requires out { IsReady (λ k. W.K.faults k ≡ 0) ((W.book world.old).std Std.Out) }
-    ensures ran { IsRun W.S.left W.K.written W.S.faults W.K.faults (map string_bytes words.now) (ToldBy W.K.faults W.K.written errors.old errors.new) (W.book world.old) (W.book world.new) result }
+    ensures ran { IsRun W.S.left W.K.written W.S.faults W.K.faults W.C.readings (map string_bytes words.now) (ToldBy W.K.faults W.K.written errors.old errors.new) (W.book world.old) (W.book world.new) result }
     ensures others { OthersStay (W.book world.old).std (W.book world.new).std Std.Out }
 {
     match asked_by(words) {
         Asked::Replay(file) => replay_file(alloc, file, world, errors),
+        Asked::Serve(file) => serve_file(rt, alloc, file, world, errors, gate),
         Asked::Check(file) => check_file(alloc, file, world, errors),
         Asked::Generate { seed, frames } => generate(alloc, seed, frames, world, errors),
         Asked::NoForm => {
@@ -105,10 +138,10 @@ fn replay_file<W: World>(alloc: Global, file: &str, world: &mut W, errors: &mut 
     requires ports { (n : _) → IsReady (BothFresh W.S.faults W.K.faults) ((W.book world.old).ports n) }
     requires control { IsReady (BothFresh W.S.faults W.K.faults) (W.book world.old).control }
     requires out { IsReady (λ k. W.K.faults k ≡ 0) ((W.book world.old).std Std.Out) }
-    ensures ran { IsRunOf W.S.left W.K.written W.S.faults W.K.faults file.now (ToldBy W.K.faults W.K.written errors.old errors.new) (W.book world.old) (W.book world.new) result }
+    ensures ran { IsReplayRun W.S.left W.K.written W.S.faults W.K.faults file.now (ToldBy W.K.faults W.K.written errors.old errors.new) (W.book world.old) (W.book world.new) result }
     ensures others { OthersStay (W.book world.old).std (W.book world.new).std Std.Out }
 {
-    match configure(alloc, file, world) {
+    match configure(alloc, file, true, world) {
         Ok(plan) => replay_plan(alloc, plan, world, errors),
         Err(refusal) => refuse(refusal, file, errors),
     }
@@ -116,7 +149,7 @@ fn replay_file<W: World>(alloc: Global, file: &str, world: &mut W, errors: &mut 
 
 // Replays a plan: its ports, its control and its journal are opened, and kept again in the end.
 fn replay_plan<W: World>(alloc: Global, plan: Plan, world: &mut W, errors: &mut W::K) -> u8
-    requires built { IsBuilt plan }
+    requires built { IsBuilt true plan }
     requires outputs { (name : _) → IsReady (λ k. W.K.faults k ≡ 0) ((W.book world.old).outputs name) }
     requires ports { (n : _) → IsReady (BothFresh W.S.faults W.K.faults) ((W.book world.old).ports n) }
     requires control { IsReady (BothFresh W.S.faults W.K.faults) (W.book world.old).control }

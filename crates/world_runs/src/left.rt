@@ -2,12 +2,14 @@
 
 use crate::recording_world::RecordingWorld;
 use crate::scene::Scene;
-use savi_ends::MemSink;
+use journal_check::{Checked, check};
+use savi_ends::{MemSink, MemSource};
 use sha2::{Digest, Sha256};
 use std::alloc::{AllocError, Global};
 
 /// Prints the status, what standard error and standard output were told, what was written at each port, the replies, where
-/// control has an input, and the journal; of a load the digests of what was written at the ports and of the journal.
+/// control has an input, and the journal; of a load the digests of what was written at the ports and of the journal; of a live
+/// session, whose entries come in the order of its workers, the ticks of the journal, and what a check says of it.
 pub fn print_left(
     rt: &impl Print,
     alloc: Global,
@@ -23,7 +25,14 @@ pub fn print_left(
     let errors = text_of(alloc, &left.world.err)?;
     print!(rt; "standard error:\n{errors}")?;
     let summary = text_of(alloc, &left.world.out)?;
-    print!(rt; "standard output:\n{summary}")?;
+    if scene.is_live() {
+        // How many entries there are may be otherwise: what waits at a port is drained in one entry or in several.
+        let (_, counts) = summary.as_str().split_once(" frames ").unwrap_or(("", ""));
+        let word = if counts.is_empty() { "" } else { "frames " };
+        print!(rt; "standard output behind its entries:\n{word}{counts}")?;
+    } else {
+        print!(rt; "standard output:\n{summary}")?;
+    }
     if scene.is_load {
         return print_digests(rt, alloc, left);
     }
@@ -33,12 +42,43 @@ pub fn print_left(
         let replies = String::from_utf8_lossy(alloc, ends.sink.written())?;
         print!(rt; "replies:\n{replies}")?;
     }
+    if scene.is_live() {
+        return print_history(rt, alloc, left);
+    }
     for (_, sink) in left.world.outputs.as_slice() {
         let text = with_names(alloc, scene, text_of(alloc, sink)?, "")?;
         let (place, rest) = behind_head(text.as_str(), scene.head.as_str());
         print!(rt; "journal{place}:\n{rest}")?;
     }
     Ok(())
+}
+
+// The ticks of each journal, each as its entry is without its number, and whether the check of it says that it is good.
+fn print_history(rt: &impl Print, alloc: Global, left: &RecordingWorld) -> anyhow::Result<()> {
+    for (_, sink) in left.world.outputs.as_slice() {
+        let text = text_of(alloc, sink)?;
+        println!(rt; "ticks:")?;
+        for line in text.as_str().lines() {
+            let (_, entry) = line.split_once(' ').unwrap_or(("", line));
+            if is_tick(entry) {
+                println!(rt; "{entry}")?;
+            }
+        }
+        let mut source = MemSource::new(text.as_bytes().to_vec(alloc)?, 512, Vec::new(alloc));
+        match check(alloc, &mut source) {
+            Checked::Good { entries: _ } => println!(rt; "check: good")?,
+            _ => println!(rt; "check: not good")?,
+        }
+    }
+    Ok(())
+}
+
+// Whether an entry behind its number, so its pass, its moment and its act, is a tick.
+fn is_tick(entry: &str) -> bool {
+    let mut words = entry.split(' ');
+    let _pass = words.next();
+    let _moment = words.next();
+    words.next() == Some("T")
 }
 
 // A line for each port and for the journal, with the digest of what was written there.

@@ -2,8 +2,8 @@
 //!
 //! The input is lines: those of a scene, and `run NAME`, which runs the program over that scene and prints what it leaves:
 //! the status, what standard error and standard output were told, what was written at each port, the replies, where control
-//! has an input, and the journal. A scene stays for the next run, but for the calls that fail. Its lines, where a word of
-//! `OCTETS` is digits or a name:
+//! has an input, and the journal, or of a live session the ticks of it and what a check says. A scene stays for the next run,
+//! but for the calls that fail. Its lines, where a word of `OCTETS` is digits or a name:
 //!
 //!     name NAME DIGITS     octets in hexadecimal digits; in what is printed their name stands for them
 //!     plan                 forgets the plan, the head of its journal, the captures and control's input
@@ -22,21 +22,32 @@
 //!     fails NUMBER WHICH   the call that fails, counted from 1: an `opening`, a read of the `plan`, `read N` or `write N`
 //!                          at port N, `read control` or `write control`, or a write of the `journal`, of the `summary` or
 //!                          of an `error`
+//!     clock NUMBER READINGS..  the readings of the clock of this port, in ms, or of the ticker's where it is 0
+//!     hold PASS TURN OTHER NUMBER  holds this turn of a pass of a live session until the other pass has come by for its turn of
+//!                          this number; where it doesn't within 20 s, a line says so
+//!     leaves TEXT          a line that a live session leaves, as it was worked out by hand, and is passed over here
 //!     openings             prints also what the program asks of its world
 //!
 //! `tools/world-runs` works out what has to be printed, from the scenes and by the rules of `docs/FORMATS.md`.
 #![tactic(auto)]
 
+mod holding_gate;
 mod left;
 mod recording_world;
 mod scene;
 mod staging;
 
+use holding_gate::HoldingGate;
 use left::print_left;
 use scene::Scene;
 use staging::stage;
 use std::alloc::Global;
+use std::sync::Wait;
+use std::thread::Threads;
 use switch_run::run;
+
+/// A session of sixteen ports has so many passes.
+const PASSES_MOST: u32 = 34;
 
 fn main(rt: HostRuntime) -> anyhow::Result<()> {
     let alloc = rt.alloc();
@@ -52,12 +63,21 @@ fn main(rt: HostRuntime) -> anyhow::Result<()> {
 }
 
 // Runs the program over a scene, and prints what it leaves.
-fn play(rt: &impl Print, alloc: Global, scene: &mut Scene, name: &str) -> anyhow::Result<()> {
+fn play<R: Print + Threads + Wait + Sync>(
+    rt: &R,
+    alloc: Global,
+    scene: &mut Scene,
+    name: &str,
+) -> anyhow::Result<()> {
     println!(rt; "== {name}")?;
     let mut staged = stage(alloc, scene)?;
     if staged.world.is_fresh() {
-        let status = run(alloc, scene.words.as_slice(), &mut staged);
+        let gate = HoldingGate::make(alloc, scene.holds.clone()?, PASSES_MOST)?;
+        let status = run(rt, alloc, scene.words.as_slice(), &mut staged, &gate);
         print_left(rt, alloc, scene, &staged, status)?;
+        if gate.has_given_up() {
+            println!(rt; "a turn was held for 20 s in vain")?;
+        }
     }
     scene.forget_faults(alloc);
     Ok(())

@@ -1,5 +1,6 @@
 //! What a run is a run of.
 
+use crate::holding_gate::Hold;
 use anyhow::bail;
 use load_gen::load;
 use std::alloc::{AllocError, Global};
@@ -24,6 +25,10 @@ pub struct Scene {
     pub commands: Option<Vec<u8>>,
     /// How many octets a read of control gives at most.
     pub pieces: usize,
+    /// The readings of the clocks of ports, each list behind its port's number, and behind 0 those of the ticker's clock.
+    pub clocks: Vec<(u8, Vec<u64>)>,
+    /// The turns of a live session that are held back.
+    pub holds: Vec<Hold>,
     /// The words behind the program's name.
     pub words: Vec<String>,
     /// Which calls fail, each with the number of the one that does.
@@ -43,6 +48,8 @@ impl Scene {
             is_load: false,
             commands: None,
             pieces: READ_MOST,
+            clocks: Vec::new(alloc),
+            holds: Vec::new(alloc),
             words: Vec::new(alloc),
             faults: Vec::new(alloc),
             tells_openings: false,
@@ -59,6 +66,14 @@ impl Scene {
         0
     }
 
+    /// Whether the words ask for a live session.
+    pub fn is_live(&self) -> bool {
+        match self.words.as_slice() {
+            [form, _] => form.as_str() == "serve",
+            _ => false,
+        }
+    }
+
     /// No call fails in the next run, and its openings aren't printed.
     pub fn forget_faults(&mut self, alloc: Global) {
         self.faults = Vec::new(alloc);
@@ -69,7 +84,7 @@ impl Scene {
     pub fn set(&mut self, alloc: Global, line: &str) -> anyhow::Result<()> {
         let (word, rest) = line.split_once(' ').unwrap_or((line, ""));
         match word {
-            "" | "#" | "drops" | "answers" | "refused" => {}
+            "" | "#" | "drops" | "answers" | "refused" | "leaves" => {}
             "name" => self.set_name(alloc, rest)?,
             "plan" => {
                 self.plan = String::new(alloc);
@@ -93,6 +108,8 @@ impl Scene {
                 self.add_commands(alloc, octets.as_slice())?;
             }
             "pieces" => self.pieces = rest.parse::<usize>()?,
+            "clock" => self.set_clock(alloc, rest)?,
+            "hold" => self.set_hold(alloc, rest)?,
             "words" => self.words = words_of(alloc, rest)?,
             "fails" => self.set_fault(alloc, rest)?,
             "openings" => self.tells_openings = true,
@@ -107,6 +124,8 @@ impl Scene {
         self.is_load = false;
         self.commands = None;
         self.pieces = READ_MOST;
+        self.clocks = Vec::new(alloc);
+        self.holds = Vec::new(alloc);
     }
 
     // The inputs of the ports are those of the load of a seed, with so many packets.
@@ -122,6 +141,42 @@ impl Scene {
         let mut commands = self.commands.take().unwrap_or(Vec::new(alloc));
         commands.extend_from_slice(octets)?;
         self.commands = Some(commands);
+        Ok(())
+    }
+
+    /// The readings of the clock of this port, or of the ticker's where it is 0. O(clocks).
+    pub fn readings(&self, alloc: Global, port: u8) -> Result<Vec<u64>, AllocError> {
+        for (number, readings) in &self.clocks {
+            if *number == port {
+                return readings.clone();
+            }
+        }
+        Ok(Vec::new(alloc))
+    }
+
+    // Takes the readings of a port's clock, or of the ticker's.
+    fn set_clock(&mut self, alloc: Global, rest: &str) -> anyhow::Result<()> {
+        let (port, rest) = rest.split_once(' ').unwrap_or((rest, ""));
+        let mut readings = Vec::new(alloc);
+        for word in rest.split_whitespace() {
+            readings.push(word.parse::<u64>()?)?;
+        }
+        self.clocks.push((port.parse::<u8>()?, readings))?;
+        Ok(())
+    }
+
+    // Takes a turn that is held back.
+    fn set_hold(&mut self, alloc: Global, rest: &str) -> anyhow::Result<()> {
+        let words = words_of(alloc, rest)?;
+        let [pass, turn, until, until_turn] = words.as_slice() else {
+            bail!("no four numbers: {rest}");
+        };
+        self.holds.push(Hold {
+            pass: pass.as_str().parse::<u32>()?,
+            turn: turn.as_str().parse::<u64>()?,
+            until: until.as_str().parse::<u32>()?,
+            until_turn: until_turn.as_str().parse::<u64>()?,
+        })?;
         Ok(())
     }
 

@@ -29,7 +29,7 @@ pub fn stage(alloc: Global, scene: &Scene) -> anyhow::Result<RecordingWorld> {
         outputs,
         ports: ports_of(alloc, scene)?,
         control: Some(control_of(alloc, scene)?),
-        ticker: Some(MemClock::new(Vec::new(alloc))),
+        ticker: Some(MemClock::new(scene.readings(alloc, 0)?)),
         out: Some(MemSink::make(alloc, TEXT_ROOM, fault_of(alloc, scene, "summary")?)?),
         err: Some(MemSink::make(alloc, TEXT_ROOM, fault_of(alloc, scene, "error")?)?),
         fails: fault_of(alloc, scene, "opening")?,
@@ -76,7 +76,8 @@ fn ports_of(alloc: Global, scene: &Scene) -> anyhow::Result<Vec<(Port, Option<Me
         let reads = fault_of(alloc, scene, read.as_str())?;
         let writes = fault_of(alloc, scene, write.as_str())?;
         let source = MemSource::new(capture.clone()?, READ_MOST, reads);
-        let ends = ends_of(alloc, source, room_of(scene), writes)?;
+        let clock = MemClock::new(scene.readings(alloc, number)?);
+        let ends = ends_of(alloc, source, room_of(scene), writes, clock)?;
         ports.push((port, Some(ends)))?;
     }
     Ok(ports)
@@ -91,7 +92,8 @@ fn control_of(alloc: Global, scene: &Scene) -> Result<MemEnds, AllocError> {
     let reads = fault_of(alloc, scene, "read control")?;
     let writes = fault_of(alloc, scene, "write control")?;
     let source = MemSource::new(octets, scene.pieces.max(1), reads);
-    ends_of(alloc, source, room_of(scene), writes)
+    let clock = MemClock::new(Vec::new(alloc));
+    ends_of(alloc, source, room_of(scene), writes, clock)
 }
 
 // Ends with this source, and with room for so many octets, of which these writes fail.
@@ -100,10 +102,11 @@ fn ends_of(
     source: MemSource,
     room: usize,
     writes: Vec<u64>,
+    clock: MemClock,
 ) -> Result<MemEnds, AllocError> {
     Ok(Ends {
         source,
         sink: MemSink::make(alloc, room, writes)?,
-        clock: MemClock::new(Vec::new(alloc)),
+        clock,
     })
 }

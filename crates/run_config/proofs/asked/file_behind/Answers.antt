@@ -1,4 +1,4 @@
-use Rattle.std.proofs.Common.{◌≡◌, map, length, arith, ◌∙◌, sym, List, ℕ, [], ◌∷◌, codes, Decides, refl, ap, true, false, rules}
+use Rattle.std.proofs.Common.{◌≡◌, map, length, arith, ◌∙◌, sym, List, ℕ, [], ◌∷◌, Decides, refl, ap, true, false, rules}
 use Rattle.std.specs.String.{string_bytes}
 use Rattle.std.proofs.lemmas.Bool.Decides.{Decides-eqb}
 use Rattle.std.proofs.lemmas.Slice.Eq.{slice_eq-Decides}

@@ -1,4 +1,4 @@
-use Rattle.std.proofs.Common.{◌<◌, ◌≡◌, ◌∙◌, true, Err, arith, inr}
+use Rattle.std.proofs.Common.{◌<◌, ◌≡◌, ◌∙◌, Err, arith, inr}
 use Rattle.savi_conf.specs.Answers.{IsAnswer}
 use Rattle.savi_ends.specs.Places.{IsOnlyOut}
 use Rattle.run_config.specs.Configs.{IsReadFrom}
@@ -18,14 +18,14 @@ only g c = opened_alone (λ (s : g.row.W-S.Denot). g.W.S.Source.faults s ≡ 0) 
 
 pub returns-clause-configured : goal.returns-clause-configured
 returns-clause-configured g c =
-    configured g.W.S.Source.left ((g.W.World.book c.args.world.now).inputs c.args.file.now) c.in-Ok-input.source c.read_config-answer.result
+    configured c.args.replay g.W.S.Source.left ((g.W.World.book c.args.world.now).inputs c.args.file.now) c.in-Ok-input.source c.read_config-answer.result
     c.in-Ok-input.ensures.opens.told c.read_config-answer.ensures.built c.read_config-answer.ensures.says
 
 pub returns-clause-refused : goal.returns-clause-refused
 returns-clause-refused g c = λ fault is.
     let found = c.read_config-answer.ensures.refused fault is in
     record {
-      answer = of_told g.W.S.Source.left ((g.W.World.book c.args.world.now).inputs c.args.file.now) c.in-Ok-input.source (λ text. IsAnswer text true (Err fault)) c.in-Ok-input.ensures.opens.told found.1;
+      answer = of_told g.W.S.Source.left ((g.W.World.book c.args.world.now).inputs c.args.file.now) c.in-Ok-input.source (λ text. IsAnswer text c.args.replay (Err fault)) c.in-Ok-input.ensures.opens.told found.1;
       cause = found.0;
     }
 

@@ -6,7 +6,7 @@ use Rattle.savi_ends.specs.Places.{Book, Place, BothFresh}
 use Rattle.port_worker.specs.Replays.{ports_held}
 use Rattle.switch_ports.specs.Openings.{ports_of, IsNextBehind}
 use Rattle.switch_report.specs.RunLines.{cannot_open_line, control_word, journal_word}
-use Rattle.switch_run.specs.Session.{ToldBy}
+use Rattle.switch_run.specs.Session.{IsSessionOf, ToldBy}
 use Rattle.switch_run.proofs.Ending.{Closes, closes, stays_all, untouched_back, unused_by}
 use Rattle.switch_run.proofs.Through.{Handled, HandledAll, HandledControl, control_back, control_unopened, journal_unopened, port_unopened}
 use Rattle.switch_run.proofs.Handling.{apart_all, apart_back, apart_first, control_by, control_out, handled_by, handled_one, out_back, same_ports}
@@ -46,6 +46,7 @@ returns-in-Some-open_all-clause-unused g c = λ one_of.
     unused_by c.open_all.new.held.items _ _
     (handled_by (BothFresh g.W.S.Source.faults g.W.K.Sink.faults) _ _ _ (g.W.World.book c.open_all.new.world).ports _ (g.W.World.book c.keep_all.new.world).ports _ c.open_all.ensures.opened c.open_all.ensures.others refl (same_ports _) c.keep_all.ensures.kept c.keep_all.ensures.others refl)
     (untouched_back _ _ (ap (λ (b : Book S K C). b.control) c.keep_all.ensures.rest ∙ ap (λ (b : Book S K C). b.control) c.open_all.ensures.rest))
+    (ap (λ (b : Book S K C). b.ticker) c.keep_all.ensures.rest ∙ ap (λ (b : Book S K C). b.ticker) c.open_all.ensures.rest)
     (λ name. ap (λ (b : Book S K C). b.outputs name) c.keep_all.ensures.rest ∙ ap (λ (b : Book S K C). b.outputs name) c.open_all.ensures.rest)
 
 -- control could not be opened
@@ -80,6 +81,7 @@ returns-in-Err-clause-unused g c = λ one_of.
     unused_by c.open_all.new.held.items _ _
     (handled_by (BothFresh g.W.S.Source.faults g.W.K.Sink.faults) _ _ _ (g.W.World.book c.open_all.new.world).ports (g.W.World.book c.open_control.new.world).ports (g.W.World.book c.keep_all-in-Err.new.world).ports _ c.open_all.ensures.opened c.open_all.ensures.others (ap (λ (b : Book S K C). b.ports) c.open_control.ensures.rest) (same_ports _) c.keep_all-in-Err.ensures.kept c.keep_all-in-Err.ensures.others refl)
     (untouched_back _ _ (ap (λ (b : Book S K C). b.control) c.keep_all-in-Err.ensures.rest ∙ c.in-Err.ensures.as_it_was ∙ ap (λ (b : Book S K C). b.control) c.open_all.ensures.rest))
+    (ap (λ (b : Book S K C). b.ticker) c.keep_all-in-Err.ensures.rest ∙ ap (λ (b : Book S K C). b.ticker) c.open_control.ensures.rest ∙ ap (λ (b : Book S K C). b.ticker) c.open_all.ensures.rest)
     (λ name. ap (λ (b : Book S K C). b.outputs name) c.keep_all-in-Err.ensures.rest ∙ ap (λ (b : Book S K C). b.outputs name) c.open_control.ensures.rest ∙ ap (λ (b : Book S K C). b.outputs name) c.open_all.ensures.rest)
 
 -- the journal could not be opened
@@ -141,7 +143,13 @@ returns-in-Err-output-clause-unopened g c = λ seven.
 
 pub returns-in-Err-output-clause-unused : goal.returns-in-Err-output-clause-unused
 returns-in-Err-output-clause-unused g c = λ one_of.
-    unused_by c.open_all.new.held.items _ _ (unopened_ports g c) (control_back c.args.plan.control c.in-Ok.control _ _ (unopened_control g c)) (unopened_outputs g c)
+    let S = g.row.W-S.Denot in
+    let K = g.row.W-K.Denot in
+    let C = g.row.W-C.Denot in
+    let ticker : Book S K C → Place C = λ b. b.ticker in
+    unused_by c.open_all.new.held.items _ _ (unopened_ports g c) (control_back c.args.plan.control c.in-Ok.control _ _ (unopened_control g c))
+    (ap ticker c.keep_control.ensures.rest ∙ ap ticker c.keep_all-in-Err-output.ensures.rest ∙ ap ticker c.output.ensures.rest ∙ ap ticker c.open_control.ensures.rest ∙ ap ticker c.open_all.ensures.rest)
+    (unopened_outputs g c)
 
 -- all was opened
 
@@ -174,6 +182,14 @@ std_before g c =
     let std : Book S K C → Std → Place K = λ b. b.std in
     ap std c.keep_output.ensures.rest ∙ ap std c.keep_control-2.ensures.rest ∙ ap std c.keep_all-2.ensures.rest ∙ ap std c.output.ensures.rest ∙ ap std c.open_control.ensures.rest ∙ ap std c.open_all.ensures.rest
 
+ticker_same : (g : given.Over) (c : goal.After-drop-journal-inside-2 g) → (g.W.World.book c.conclude.new.world).ticker ≡ (g.W.World.book c.args.world.now).ticker
+ticker_same g c =
+    let S = g.row.W-S.Denot in
+    let K = g.row.W-K.Denot in
+    let C = g.row.W-C.Denot in
+    let ticker : Book S K C → Place C = λ b. b.ticker in
+    ap ticker c.conclude.ensures.rest ∙ ap ticker c.keep_output.ensures.rest ∙ ap ticker c.keep_control-2.ensures.rest ∙ ap ticker c.keep_all-2.ensures.rest ∙ ap ticker c.output.ensures.rest ∙ ap ticker c.open_control.ensures.rest ∙ ap ticker c.open_all.ensures.rest
+
 handled_all : (g : given.Over) (c : goal.After-drop-journal-inside-2 g) → HandledAll c.args.plan (record { control = c.in-Ok.control; ports = c.open_all.new.held }) c.play-ready.result.ready c.in-Ok-output.sink c.play-ready.new.journal (g.W.World.book c.args.world.now) (g.W.World.book c.conclude.new.world)
 handled_all g c =
     let S = g.row.W-S.Denot in
@@ -196,10 +212,12 @@ handled_all g c =
           (ap outputs c.keep_control-2.ensures.rest ∙ ap outputs c.keep_all-2.ensures.rest) c.keep_output.ensures.kept c.keep_output.ensures.others (ap outputs c.conclude.ensures.rest);
     }
 
-final : (g : given.Over) (c : goal.After-drop-journal-inside-2 g) → Closes g.W.S.Source.left g.W.K.Sink.written g.W.S.Source.faults g.W.K.Sink.faults c.args.plan (ToldBy g.W.K.Sink.faults g.W.K.Sink.written c.args.errors.now c.conclude.new.errors) (g.W.World.book c.args.world.now) (g.W.World.book c.conclude.new.world) c.conclude.result
+final : (g : given.Over) (c : goal.After-drop-journal-inside-2 g) → Closes g.W.S.Source.left g.W.K.Sink.written c.args.plan (ToldBy g.W.K.Sink.faults g.W.K.Sink.written c.args.errors.now c.conclude.new.errors)
+    (IsSessionOf g.W.S.Source.left g.W.K.Sink.written g.W.S.Source.faults g.W.K.Sink.faults c.args.plan (ToldBy g.W.K.Sink.faults g.W.K.Sink.written c.args.errors.now c.conclude.new.errors) (g.W.World.book c.args.world.now) (g.W.World.book c.conclude.new.world) c.conclude.result)
+    (g.W.World.book c.args.world.now) (g.W.World.book c.conclude.new.world) c.conclude.result
 final g c =
     closes g.W.S.Source.left g.W.K.Sink.written g.W.S.Source.faults g.W.K.Sink.faults c.args.plan _ _ c.play-ready.result.ready c.in-Ok-output.sink c.play-ready.new.journal c.play-ready.result.outcome _ (g.W.World.book c.keep_output.new.self) _ c.conclude.result
-    (handled_all g c) (std_before g c) c.open_all.ensures.readers
+    (handled_all g c) (ticker_same g c) (std_before g c) c.open_all.ensures.readers
     c.play-ready.ensures.none c.play-ready.ensures.played c.conclude.ensures.none c.conclude.ensures.some
 
 pub returns-clause-status : goal.returns-clause-status

@@ -16,8 +16,8 @@ ran g c = record {
   rest3 = c.keep_std.ensures.rest;
 }
 
-ran_so : (g : given.Over) (c : goal.After-keep_std g) → Clauses g.W.S.Source.left g.W.K.Sink.written g.W.S.Source.faults g.W.K.Sink.faults (map string_bytes c.args.words.now) (g.W.World.book c.args.world.now) (g.W.World.book c.keep_std.new.self) c.perform-status.result
-ran_so g c = clauses_of g.W.S.Source.left g.W.K.Sink.written g.W.S.Source.faults g.W.K.Sink.faults _ _ _ _ _ _ _ _ (ran g c) c.perform-status.ensures.ran
+ran_so : (g : given.Over) (c : goal.After-keep_std g) → Clauses g.W.S.Source.left g.W.K.Sink.written g.W.S.Source.faults g.W.K.Sink.faults g.W.C.Clock.readings (map string_bytes c.args.words.now) (g.W.World.book c.args.world.now) (g.W.World.book c.keep_std.new.self) c.perform-status.result
+ran_so g c = clauses_of g.W.S.Source.left g.W.K.Sink.written g.W.S.Source.faults g.W.K.Sink.faults g.W.C.Clock.readings _ _ _ _ _ _ _ _ (ran g c) c.perform-status.ensures.ran
 
 pub returns-clause-status : goal.returns-clause-status
 returns-clause-status g c = (ran_so g c).one_of
@@ -60,6 +60,15 @@ returns-clause-unused g c = (ran_so g c).unused
 
 pub returns-clause-elsewhere : goal.returns-clause-elsewhere
 returns-clause-elsewhere g c = (ran_so g c).elsewhere
+
+pub returns-clause-serve : goal.returns-clause-serve
+returns-clause-serve g c = (ran_so g c).serve
+
+pub returns-clause-served_read : goal.returns-clause-served_read
+returns-clause-served_read g c = (ran_so g c).served_read
+
+pub returns-clause-served_write : goal.returns-clause-served_write
+returns-clause-served_write g c = (ran_so g c).served_write
 
 pub returns-clause-load : goal.returns-clause-load
 returns-clause-load g c = (ran_so g c).load

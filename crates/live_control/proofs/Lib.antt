@@ -1,0 +1,4 @@
+pub mod Hearing
+pub mod LineViews
+pub mod Serving
+pub mod Closing

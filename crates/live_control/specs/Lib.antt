@@ -1,0 +1,4 @@
+pub mod Replying
+pub mod LineTurns
+pub mod Heard
+pub mod Progress

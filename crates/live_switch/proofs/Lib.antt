@@ -1,0 +1,7 @@
+pub mod RowsLater
+pub mod Dealing
+pub mod Popped
+pub mod Seating
+pub mod Joining
+pub mod Sharing
+pub mod Closing

@@ -1,0 +1,14 @@
+-- What the workers of a port have beside its ends.
+use Rattle.std.specs.Prelude.{◌≡◌, ℕ, ◌<◌, List, length, slice_index_or}
+use Rattle.savi_kinds.specs.declared.plan.PortPlan.{PortPlan}
+use Rattle.live_switch.specs.declared.seats.Seat.{Seat}
+
+-- the seat is of this port of the plan
+pub record IsSeat (p : PortPlan) (seat : Seat) : Type 0 where
+  pub port : seat.port ≡ p.number
+  pub format : seat.format ≡ p.format
+
+-- these are the seats of the first ports
+pub record AreSeats (ports : List PortPlan) (count : ℕ) (seats : List Seat) : Type 0 where
+  pub size : length seats ≡ count
+  pub each : (k : ℕ) (p : PortPlan) (d : Seat) → k < count → IsSeat (slice_index_or ports k p) (slice_index_or seats k d)

@@ -1,0 +1,229 @@
+//! The session, and the start of its workers.
+
+ghost use Rattle.std.specs.Prelude.{◌≡◌, IfErr, IfOk, length, vec_len};
+ghost use Rattle.std.specs.Thread.{IsSync};
+ghost use Rattle.savi_kinds.specs.ValidPlan.{IsValidPlan};
+ghost use Rattle.savi_kinds.specs.declared.entry.Who.TheVariants.{Control, Egress, Ingress, Ticker};
+ghost use Rattle.savi_history.specs.Bases.{empty};
+ghost use Rattle.savi_history.specs.Passes.{pass_count};
+ghost use Rattle.table_lock.specs.Passes.{lock_seats};
+ghost use Rattle.live_session.specs.LiveSession.{IsLive};
+ghost use Rattle.live_turns.specs.Seats.{IsNew, lock_plan};
+ghost use Rattle.live_switch.specs.Dealt.{AreFor};
+ghost use Rattle.live_switch.specs.Served.{IsControlServed, IsRead, IsTicked, IsWritten};
+ghost use Rattle.live_switch.specs.Works.{IsDone, IsReady};
+
+use crate::ready::{Closed, Ready};
+use crate::seats::seats_of;
+use crate::work::{Back, Work, put_port, take_port};
+use core_keep::KeptCore;
+use live_control::ControlWorker;
+use live_input::IngressWorker;
+use live_output::Output;
+use live_ticker::TickerWorker;
+use live_turns::Gate;
+use savi_core::Reply;
+use savi_ends::{Clock, Sink, Source};
+use savi_kinds::Plan;
+use std::alloc::{AllocError, Global};
+use std::sync::Wait;
+use std::thread::{Threads, join};
+use table_lock::{Pass, TableLock};
+
+/// Runs a switch of this plan over the ends of its ports, of control and of the ticker, each served by a worker of its own:
+/// an input is read, an output written, control answered, and the ticker's clock read, side by side where threads can be
+/// made. The gate sees each turn at the switch before it is taken.
+///
+/// The switch comes back with its history, and each end in its place. All memory is taken before anything is read or
+/// written: where there is none the ends come back as they were, and that is the only `Err`. Nothing is promised of how long
+/// it goes on.
+pub fn session<
+    R: Threads + Wait + Sync,
+    G: Gate,
+    S: Source + Send + Drop,
+    K: Sink + Send + Drop,
+    C: Clock + Send + Drop,
+>(
+    rt: &R,
+    alloc: Global,
+    plan: Plan,
+    ready: Ready<S, K, C>,
+    gate: &G,
+) -> Result<Closed<S, K, C>, Ready<S, K, C>>
+    requires valid { IsValidPlan plan }
+    requires planned { vec_len ready.ports ≡ length plan.ports }
+    ensures none { IfErr result (λ back. back ≡ ready) }
+    ensures plan { IfOk result (λ closed. closed.core.plan ≡ plan) }
+    ensures live { IfOk result (λ closed. IsLive S.left K.written S.faults K.faults C.readings plan empty closed.core.past ready.ports.items closed.ready.ports.items ready.control closed.ready.control ready.ticker closed.ready.ticker) }
+{
+    let Ok(seats) = seats_of(alloc, &plan) else {
+        return Err(ready);
+    };
+    let Ok(reply) = Reply::make(alloc) else {
+        return Err(ready);
+    };
+    let Ok((lock, passes)) = lock_of(alloc, plan) else {
+        return Err(ready);
+    };
+    let Ready {
+        ports,
+        control,
+        ticker,
+    } = ready;
+    let work = Work {
+        ports,
+        seats,
+        control,
+        reply,
+        ticker,
+        passes,
+    };
+    let Back {
+        ports,
+        control,
+        ticker,
+        passes,
+    } = run_all(rt, &lock, gate, work);
+    let core = lock.close(passes).into_core();
+    let _entries = core.len();
+    let ready = Ready {
+        ports,
+        control,
+        ticker,
+    };
+    Ok(Closed { core, ready })
+}
+
+// A new switch of this plan under its lock, and the passes of all workers.
+fn lock_of(alloc: Global, plan: Plan) -> Result<(TableLock<KeptCore>, Vec<Pass>), AllocError>
+    requires { IsValidPlan plan }
+    ensures lock { IfOk result (λ made. (lock_plan made.0 ≡ plan) × (lock_seats made.0 ≡ pass_count plan)) }
+    ensures passes { IfOk result (λ made. AreFor made.0 (length plan.ports) made.1.items) }
+{
+    let ports = plan.ports.as_slice().len() as u32;
+    let kept = KeptCore::make(alloc, plan)?;
+    match TableLock::make(alloc, kept, 2 * ports + 2) {
+        Ok(made) => Ok(made),
+        Err(_) => Err(AllocError),
+    }
+}
+
+// Runs the workers of these ports, of control and of the ticker: the input of the last port beside all others. Where no thread
+// can be made, `join` calls its second closure and then its first. So the inputs end first, the last port's before the others',
+// then control, the ticker and the outputs, and a session ends on one thread too.
+#[cycle(runs)]
+fn run_all<
+    R: Threads + Wait + Sync,
+    G: Gate,
+    S: Source + Send + Drop,
+    K: Sink + Send + Drop,
+    C: Clock + Send + Drop,
+>(rt: &R, lock: &TableLock<KeptCore>, gate: &G, work: Work<S, K, C>) -> Back<S, K, C>
+    requires { IsReady lock.now work }
+    ensures { IsDone S.left K.written S.faults K.faults C.readings lock.now work result }
+{
+    if work.ports.len() == 0 {
+        return run_last(rt, lock, gate, work);
+    }
+    let (reader, writer, rest) = take_port(work);
+    let ((back, writer), reader) = join(
+        rt,
+        move || -> (Back<S, K, C>, Output<K>)
+            requires sync { IsSync R.row }
+            requires rest { IsReady lock.now rest }
+            requires writer { IsNew lock.now (Egress writer.port) writer.pass }
+            ensures rest { IsDone S.left K.written S.faults K.faults C.readings lock.entry.now rest result.0 }
+            ensures writer { IsWritten K.written K.faults lock.entry.now writer.port writer.format writer.sink (result.1.pass, result.1.sink) }
+        { run_rest(rt, lock, gate, rest, writer) },
+        move || -> IngressWorker<S, C>
+            requires { IsNew lock.now (Ingress reader.port) reader.pass }
+            ensures { IsRead S.left S.faults C.readings lock.entry.now reader.port reader.format reader.source reader.clock (result.pass, result.source, result.clock) }
+        { reader.run(rt, lock, gate) },
+    );
+    put_port(back, reader, writer)
+}
+
+// Runs the workers of these ports, of control and of the ticker, and beside them that of an output.
+#[cycle(runs)]
+fn run_rest<
+    R: Threads + Wait + Sync,
+    G: Gate,
+    S: Source + Send + Drop,
+    K: Sink + Send + Drop,
+    C: Clock + Send + Drop,
+>(
+    rt: &R,
+    lock: &TableLock<KeptCore>,
+    gate: &G,
+    work: Work<S, K, C>,
+    writer: Output<K>,
+) -> (Back<S, K, C>, Output<K>)
+    requires work { IsReady lock.now work }
+    requires writer { IsNew lock.now (Egress writer.port) writer.pass }
+    ensures work { IsDone S.left K.written S.faults K.faults C.readings lock.now work result.0 }
+    ensures writer { IsWritten K.written K.faults lock.now writer.port writer.format writer.sink (result.1.pass, result.1.sink) }
+{
+    let (writer, back) = join(
+        rt,
+        move || -> Output<K>
+            requires { IsNew lock.now (Egress writer.port) writer.pass }
+            ensures { IsWritten K.written K.faults lock.entry.now writer.port writer.format writer.sink (result.pass, result.sink) }
+        { writer.run(rt, lock, gate) },
+        move || -> Back<S, K, C>
+            requires sync { IsSync R.row }
+            requires work { IsReady lock.now work }
+            ensures { IsDone S.left K.written S.faults K.faults C.readings lock.entry.now work result }
+        { run_all(rt, lock, gate, work) },
+    );
+    (back, writer)
+}
+
+// Runs the workers of control and of the ticker.
+fn run_last<
+    R: Threads + Wait + Sync,
+    G: Gate,
+    S: Source + Send + Drop,
+    K: Sink + Send + Drop,
+    C: Clock + Send + Drop,
+>(rt: &R, lock: &TableLock<KeptCore>, gate: &G, work: Work<S, K, C>) -> Back<S, K, C>
+    requires ready { IsReady lock.now work }
+    requires none { vec_len work.ports ≡ 0 }
+    ensures { IsDone S.left K.written S.faults K.faults C.readings lock.now work result }
+{
+    let Work {
+        ports,
+        seats: _,
+        control,
+        reply,
+        ticker,
+        mut passes,
+    } = work;
+    let timer = TickerWorker {
+        pass: passes.pop().unwrap(),
+        clock: ticker,
+    };
+    let server = ControlWorker {
+        pass: passes.pop().unwrap(),
+        ends: control,
+        reply,
+    };
+    let (timer, server) = join(
+        rt,
+        move || -> TickerWorker<C>
+            requires { IsNew lock.now Ticker timer.pass }
+            ensures { IsTicked C.readings lock.entry.now timer.clock (result.pass, result.clock) }
+        { timer.run(rt, lock, gate) },
+        move || -> ControlWorker<S, K, C>
+            requires { IsNew lock.now Control server.pass }
+            ensures { IsControlServed S.left K.written S.faults K.faults C.readings lock.entry.now server.ends (result.pass, result.ends) }
+        { server.run(rt, lock, gate) },
+    );
+    passes.push_reserved(server.pass);
+    passes.push_reserved(timer.pass);
+    Back {
+        ports,
+        control: server.ends,
+        ticker: timer.clock,
+        passes,
+    }
+}

@@ -1,0 +1,2 @@
+pub mod PortSources
+pub mod PortSinks

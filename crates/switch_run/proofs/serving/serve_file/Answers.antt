@@ -1,0 +1,73 @@
+use Rattle.std.proofs.Common.{◌≡◌, Result, Err, false, ap, arith, sym, subst, ◌∙◌, inr, refl}
+use Rattle.savi_kinds.specs.declared.plan.Plan.{Plan}
+use Rattle.savi_ends.specs.declared.world.Std.TheVariants.{Out}
+use Rattle.savi_ends.specs.Places.{Book, Place}
+use Rattle.run_config.specs.declared.refusal.Refusal.{Refusal}
+use Rattle.switch_run.proofs.Refusing.{refuses}
+use Rattle.run_config.specs.Configs.{IsReadFrom}
+use Rattle.switch_run.proofs.Running.{configured_serve, configured_unplayed, moved_part, moved_unused, read_before, same_places}
+use Rattle.switch_run.proofs.serving.serve_file.Given as given
+use Rattle.switch_run.proofs.serving.serve_file.Goals as goal
+
+input_still : (g : given.Over) (c : goal.After-serve_plan g) → IsReadFrom {S = g.row.W-S.Denot} g.W.S.Source.left ((g.W.World.book c.args.world.now).inputs c.args.file.now) ((g.W.World.book c.serve_plan.new.world).inputs c.args.file.now)
+input_still g c =
+    let S = g.row.W-S.Denot in
+    let K = g.row.W-K.Denot in
+    let C = g.row.W-C.Denot in
+    subst (λ (p : Place S). IsReadFrom g.W.S.Source.left ((g.W.World.book c.args.world.now).inputs c.args.file.now) p) (sym (ap (λ (b : Book S K C). b.inputs c.args.file.now) c.serve_plan.ensures.rest)) (c.in-Ok.ensures.kept (λ e. cc) (λ e. cc))
+
+pub returns-in-Ok-clause-ran : goal.returns-in-Ok-clause-ran
+returns-in-Ok-clause-ran g c =
+    let S = g.row.W-S.Denot in
+    let K = g.row.W-K.Denot in
+    let C = g.row.W-C.Denot in
+    let before = read_before _ _ c.in-Ok.ensures.rest in
+    record {
+      one_of = c.serve_plan.ensures.status;
+      usage = c.serve_plan.ensures.usage;
+      memory = c.serve_plan.ensures.memory;
+      unplayed = λ one. record {
+        input = inr (input_still g c);
+        ends = configured_unplayed false g.W.S.Source.left g.W.K.Sink.written c.in-Ok.plan _ _ _ c.args.file.now c.in-Ok.ensures.rest c.in-Ok.ensures.configured (c.serve_plan.ensures.unplayed one);
+      };
+      config = λ three. absurd (c.serve_plan.ensures.config three);
+      opening = λ seven. let rose = c.serve_plan.ensures.«open» seven in omega (arith, c.in-Ok.ensures.later, rose);
+      unopened = λ seven. inr (record {
+        plan = c.in-Ok.plan;
+        configured = c.in-Ok.ensures.configured;
+        input = input_still g c;
+        ticker = c.serve_plan.ensures.unticked seven ∙ ap (λ (b : Book S K C). b.ticker) c.in-Ok.ensures.rest;
+        part = moved_part c.in-Ok.plan _ _ _ _ _ _ before (same_places _) (λ lines told. told) (c.serve_plan.ensures.unopened seven);
+      });
+      session = λ one_of. inr (record {
+        plan = c.in-Ok.plan;
+        configured = c.in-Ok.ensures.configured;
+        input = input_still g c;
+        session = configured_serve g.W.S.Source.left g.W.K.Sink.written g.W.S.Source.faults g.W.K.Sink.faults g.W.C.Clock.readings c.in-Ok.plan _ _ _ _ _ c.in-Ok.ensures.rest (c.serve_plan.ensures.session one_of);
+      });
+      quiet = λ one_of. c.serve_plan.ensures.quiet one_of ∙ ap (λ (b : Book S K C). b.std Out) c.in-Ok.ensures.rest;
+      unused = λ one_of. moved_unused _ _ _ _ before (same_places _) (c.serve_plan.ensures.unused one_of);
+      inputs = λ other apart. ap (λ (b : Book S K C). b.inputs other) c.serve_plan.ensures.rest ∙ c.in-Ok.ensures.others other apart;
+    }
+
+err_of : (r r' : Refusal) → r ≡ r' → ◌≡◌ {A = Result Plan Refusal} (Err r) (Err r')
+err_of r r' e = rw e refl
+
+of_err : (r r' : Refusal) → ◌≡◌ {A = Result Plan Refusal} (Err r) (Err r') → r ≡ r'
+of_err r r' e = cc
+
+pub returns-in-Err-clause-ran : goal.returns-in-Err-clause-ran
+returns-in-Err-clause-ran g c =
+    let S = g.row.W-S.Denot in
+    let K = g.row.W-K.Denot in
+    let C = g.row.W-C.Denot in
+    refuses false g.W.S.Source.left g.W.K.Sink.written g.W.S.Source.faults c.args.file.now _ _ c.in-Err.refusal _ _ _ c.refuse.ensures.status c.refuse.ensures.told
+    (λ fault e. c.in-Err.ensures.refused fault (err_of _ _ e))
+    (λ e. c.in-Err.ensures.unopened (err_of _ _ e))
+    (λ e. c.in-Err.ensures.unread (err_of _ _ e))
+    (λ e. c.in-Err.ensures.as_it_was (err_of _ _ e))
+    (λ apart other. c.in-Err.ensures.kept (λ e. apart (of_err _ _ e)) (λ e. other (of_err _ _ e)))
+    (λ e. c.in-Err.ensures.memory (err_of _ _ e))
+    (record { ports = ap (λ (b : Book S K C). b.ports) c.in-Err.ensures.rest; control = ap (λ (b : Book S K C). b.control) c.in-Err.ensures.rest; ticker = ap (λ (b : Book S K C). b.ticker) c.in-Err.ensures.rest; outputs = ap (λ (b : Book S K C). b.outputs) c.in-Err.ensures.rest })
+    (ap (λ (b : Book S K C). b.std Out) c.in-Err.ensures.rest)
+    c.in-Err.ensures.others

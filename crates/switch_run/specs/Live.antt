@@ -1,0 +1,51 @@
+-- What a live session has done: one history stands in all of it, and by it each end was served.
+use Rattle.std.specs.Prelude.{◌≡◌, ℕ, false, Bool, List, reverse, Option, Some, None, All}
+use Rattle.savi_kinds.specs.declared.plan.Plan.{Plan}
+use Rattle.savi_kinds.specs.Ports.{number_of}
+use Rattle.savi_ends.specs.declared.world.Ends.{Ends}
+use Rattle.savi_ends.specs.Places.{Place, Book}
+use Rattle.hist_store.specs.Rows.{Row}
+use Rattle.hist_store.specs.JournalTexts.{journal_text, address_text}
+use Rattle.savi_history.specs.Bases.{empty}
+use Rattle.savi_history.specs.Journals.{IsJournalOf}
+use Rattle.savi_history.specs.Legal.{IsLegal, IsFinished}
+use Rattle.live_session.specs.LiveRows.{ControlRow, NoControlRow, TickerRow}
+use Rattle.live_session.specs.LiveSession.{PortRow, IsLive}
+use Rattle.live_switch.specs.declared.ready.Ready.{Ready}
+use Rattle.run_config.specs.Configs.{IsConfigured, IsReadFrom}
+use Rattle.switch_run.specs.Causes.{IsOffPlanSame, Keeps, TookOrPart}
+use Rattle.switch_run.specs.Session.{IsReported}
+
+module _ {S K C : Type 0} (left : S → Option (List ℕ)) (written : K → Option (List ℕ)) (source_faults : S → ℕ)
+    (sink_faults : K → ℕ) (readings : C → Option (List ℕ)) where
+  -- One history of the plan: what it was to all ends, and to the journal.
+  pub record IsLivePlayed (plan : Plan) (past : List Row) (old new : Ready S K C) (journal journal' : K) (journal_written : Bool) : Type 0 where
+    pub live : IsLive left written source_faults sink_faults readings plan empty past old.ports.items new.ports.items old.control new.control old.ticker new.ticker
+    pub journal_was : TookOrPart sink_faults written journal_written (journal_text address_text plan (reverse past)) journal journal'
+    pub tells : IsJournalOf address_text plan past (journal_text address_text plan (reverse past))
+
+  -- What a history was to the place of control, by the names of the plan. Where it names control's input and output, their ends
+  -- are kept there, and they were served; where it doesn't, the place wasn't touched, and no line was entered.
+  abbrev pub ServesControlAt : Plan → List Row → Option (List ℕ × List ℕ) → Place (Ends S K C) → Place (Ends S K C) → Type 0
+  ServesControlAt plan past None old new = NoControlRow past × (new ≡ old)
+  ServesControlAt plan past (Some names) old new = Keeps (ControlRow left written source_faults sink_faults readings plan empty past) old new
+
+  -- A live session of this plan: one history is legal and finished; the ends of each port, of control, where the plan names it,
+  -- and the ticker's clock are kept in their own place, and by the history they were served; it is reported; and no other port or
+  -- output was touched.
+  pub record IsServeOf (plan : Plan) (Says : List ℕ → Type 0) (old new : Book S K C) (status : ℕ) : Type 0 where
+    pub past : List Row
+    pub legal : IsLegal plan empty past
+    pub finished : IsFinished plan empty past
+    pub ports : All (λ p. Keeps (PortRow left written source_faults sink_faults readings plan empty past p) (old.ports (number_of p.number)) (new.ports (number_of p.number))) plan.ports
+    pub control : ServesControlAt plan past plan.control old.control new.control
+    pub ticker : Keeps (TickerRow readings plan empty past) old.ticker new.ticker
+    pub reported : IsReported written sink_faults plan past Says old new status
+    pub elsewhere : IsOffPlanSame plan old new
+
+  -- A live session of the plan that the configuration says. The configuration's input is kept, and a front of it was read.
+  pub record IsServeSession (file : List ℕ) (Says : List ℕ → Type 0) (old new : Book S K C) (status : ℕ) : Type 0 where
+    pub plan : Plan
+    pub configured : IsConfigured false left (old.inputs file) plan
+    pub input : IsReadFrom left (old.inputs file) (new.inputs file)
+    pub session : IsServeOf plan Says old new status
