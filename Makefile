@@ -23,10 +23,10 @@ PLAN = examples/shared-network/plan.toml
 plan: build/plan_check
 	build/plan_check "$(PLAN)"
 
-# The program beside a C program that does the same octet work without judging, with 2 ports and with 5; live, beside a hub in
-# C; its own load; the check of a journal beside the replay that wrote it; the reader of captures beside tcpdump; the pass lock beside a mutex; the
-# stations, the bindings and the timers beside hash maps; and steps of the core, with the validation of sources and without.
-# The first time takes the builds, and then about three minutes.
+# The program beside a C program that does the same octet work without judging, with 2 ports and with 5; live, beside a hub
+# in C; its own load; the check of a journal beside the replay that wrote it; the reader of captures beside tcpdump; the pass
+# lock beside a mutex; the stations, the bindings and the timers beside hash maps; and steps of the core, with the validation
+# of sources and without. The first time takes the builds, and then about three minutes.
 bench: build build/capture_bench build/lock_bench build/fdb_bench build/tables_bench build/core_bench
 	bench/run build/savi_switch
 	bench/streams build/savi_switch
@@ -38,13 +38,13 @@ bench: build build/capture_bench build/lock_bench build/fdb_bench build/tables_b
 	bench/tables build/tables_bench
 	bench/core build/core_bench
 
-# Attacks on real kernels in network namespaces, over a plain bridge and over the program, live; as root, behind `make build`:
-# lab/README.md.
+# Attacks on real kernels in network namespaces, over a plain bridge and over the program, live; as root, behind `make
+# build`: lab/README.md.
 lab:
 	lab/lab
 
-# The merge gate: `rt ci`, then the examples, and the program beside the second implementation. From nothing it takes about 40
-# minutes on 4 cores.
+# The merge gate: `rt ci`, then the examples, and the program beside the second implementation. From nothing it takes about
+# 40 minutes on 4 cores.
 check:
 	.ci/run
 

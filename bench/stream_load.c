@@ -1,11 +1,14 @@
-/* Sends frames through a switch with stream ports and counts those that come out: in at the first path, out at the second
- * one. It prints the time in s, from the first frame that is sent to the last one that is received.
+/* Sends frames through a switch with stream ports and counts those that come out. Behind each path is a host; the first and
+ * the second are a pair, the third and the fourth are the next one, and so on. The first host of each pair sends FRAMES
+ * packets of SIZE octets to the second, or both do so, or the first host of all sends them to all others. It prints the time
+ * in s, from the first frame that is sent to the last one that is received.
  *
- * First a host behind each path claims its address by duplicate address detection, and sends packets to the other until one
- * comes, so that both addresses are valid and both stations known. Then FRAMES packets of SIZE octets go from the first host to the
- * second, never more than WINDOW of them on their way: with 1 each waits for the one before. A packet that doesn't come
- * within 10 s is lost, and the load fails.
- * usage: stream_load FRAMES SIZE WINDOW PATH PATH */
+ * Before that each host claims its addresses by duplicate address detection, and sends packets until one from each address
+ * came, so that all addresses are valid and all stations known. Never more than WINDOW packets of a sender are on their way:
+ * with 1 each waits for the one before. A packet that doesn't come within 10 s is lost, and the load fails.
+ * usage: stream_load [-a] [-b] [-f FRAMES] [-s SIZE] [-w WINDOW] [-g BATCH] [-n ADDRESSES] PATH PATH..
+ *   -a  from the first host to all others     -b  both ways in each pair
+ *   BATCH: how many packets one write has at most     ADDRESSES: how many source addresses a sender uses in turn */
 #include <errno.h>
 #include <poll.h>
 #include <stdint.h>
@@ -17,23 +20,36 @@
 #include <time.h>
 #include <unistd.h>
 
+#define HOSTS 16
+#define ADDRESSES 64 /* as many as a port of the switch may hold */
 #define LENGTH 4
-#define LEAST 70 /* an Ethernet header, an IPv6 header, and a mark of 16 octets */
+#define BODY (LENGTH + 54) /* behind the length, an Ethernet header and an IPv6 header */
+#define LEAST 64           /* these headers, a mark of 8 octets, the number of the source address, and one octet more */
 #define MOST 1514
+#define CLAIM 78
 #define ROOM (1 << 16)
-#define AGAIN 100      /* ms: while an address isn't valid yet, its packets are dropped */
+#define AGAIN 20       /* ms: while an address isn't valid yet, its packets are dropped */
 #define PATIENCE 10000 /* ms */
+#define ALL 0          /* in the place of a host's number: all nodes */
 
-static const unsigned char mark[16] = "savi_switch load";
+static const unsigned char mark[8] = { 't', 'h', 'e', ' ', 'l', 'o', 'a', 'd' };
 
-/* A host: its socket, what came in and isn't whole yet, and how many packets of the other one came. */
+/* A host: its number (from 1, the last octet of its MAC address), its socket, and what came in and isn't whole yet. Of the
+ * packets that came it keeps how many there were, and by which source addresses. Where it is a sender, `packets` are some
+ * packets that go out in turn, and `to` is whom they are for. */
 struct host {
     int fd;
-    unsigned char last; /* of its MAC address and of its address */
-    unsigned char in[ROOM];
+    unsigned char number, to;
+    unsigned char in[ROOM], came_by[ADDRESSES];
     size_t have;
-    long received;
+    long received, sent;
+    unsigned char *packets;
 };
+
+static struct host host[HOSTS];
+static int hosts;
+static int is_to_all, is_both_ways;
+static long frames = 100000, size = LEAST, window = 128, batch = 1, addresses = 1;
 
 static void fail(const char *what)
 {
@@ -48,88 +64,100 @@ static double now(void)
     return (double)t.tv_sec + 1e-9 * (double)t.tv_nsec;
 }
 
-static void meet(struct host *h, const char *path, unsigned char last)
+/* A path may be there a moment before somebody listens at it. */
+static void meet(struct host *h, const char *path, int number)
 {
     struct sockaddr_un name = { .sun_family = AF_UNIX };
     if (strlen(path) >= sizeof name.sun_path)
         fail("a path is too long");
     strcpy(name.sun_path, path);
     h->fd = socket(AF_UNIX, SOCK_STREAM, 0);
-    h->last = last;
-    if (h->fd < 0 || connect(h->fd, (struct sockaddr *)&name, sizeof name) < 0)
-        fail("nobody listens at a path");
+    h->number = (unsigned char)number;
+    double began = now();
+    while (connect(h->fd, (struct sockaddr *)&name, sizeof name) < 0) {
+        if (errno != ECONNREFUSED || now() - began > 1e-3 * PATIENCE)
+            fail("nobody listens at a path");
+        poll(NULL, 0, 1);
+    }
 }
 
-static void give(struct host *h, const unsigned char *octets, size_t size)
+static void give(const struct host *h, const unsigned char *octets, size_t count)
 {
-    while (size > 0) {
-        ssize_t n = send(h->fd, octets, size, MSG_NOSIGNAL);
+    while (count > 0) {
+        ssize_t n = send(h->fd, octets, count, MSG_NOSIGNAL);
         if (n < 0 && errno != EINTR)
             fail("a write failed");
         if (n > 0) {
             octets += n;
-            size -= (size_t)n;
+            count -= (size_t)n;
         }
     }
 }
 
-/* A frame with its length in front, from a host, with an IPv6 header; its body begins at 58. */
-static size_t head(unsigned char *out, size_t size, unsigned char last, unsigned char next, unsigned char hop)
+/* A frame with its length in front, from a host, with an IPv6 header; its body begins at BODY. */
+static void put_head(unsigned char *out, size_t octets, const struct host *from, unsigned char next, unsigned char hop)
 {
-    memset(out, 0, LENGTH + size);
-    out[2] = (unsigned char)(size >> 8);
-    out[3] = (unsigned char)size;
+    memset(out, 0, LENGTH + octets);
+    out[2] = (unsigned char)(octets >> 8);
+    out[3] = (unsigned char)octets;
     out[10] = 2;
-    out[15] = last;
+    out[15] = from->number;
     out[16] = 0x86;
     out[17] = 0xdd;
     out[18] = 0x60;
-    out[22] = (unsigned char)((size - 54) >> 8);
-    out[23] = (unsigned char)(size - 54);
+    out[22] = (unsigned char)((octets - 54) >> 8);
+    out[23] = (unsigned char)(octets - 54);
     out[24] = next;
     out[25] = hop;
-    return LENGTH + size;
 }
 
-static void put_address(unsigned char *out, unsigned char last)
+/* The address of a host with this number. */
+static void put_address(unsigned char *out, unsigned char of, int number)
 {
     out[0] = 0xfe;
     out[1] = 0x80;
-    out[15] = last;
+    out[14] = of;
+    out[15] = (unsigned char)(number + 1);
 }
 
-/* A solicitation from `::` for the host's own address (RFC 4862 section 5.4.2). */
-static void claim(struct host *h)
+/* A solicitation from `::` for an address of the host (RFC 4862 section 5.4.2). */
+static void claim(const struct host *h, int number)
 {
     static const unsigned char group[16] = { 0xff, 2, 0, 0, 0, 0, 0, 0, 0, 0, 0, 1, 0xff };
-    unsigned char out[LENGTH + 78];
-    size_t size = head(out, 78, h->last, 58, 255);
-    memcpy(out + 4, "\x33\x33\xff\0\0", 5);
-    out[9] = h->last;
+    unsigned char out[LENGTH + CLAIM];
+    put_head(out, CLAIM, h, 58, 255);
+    memcpy(out + 4, "\x33\x33\xff\0", 4);
     memcpy(out + 42, group, 16);
-    out[57] = h->last;
-    out[58] = 135;
-    put_address(out + 66, h->last);
+    out[BODY] = 135;
+    put_address(out + 66, h->number, number);
+    memcpy(out + 8, out + 80, 2);
+    memcpy(out + 56, out + 80, 2);
     uint32_t sum = 24 + 58;
-    for (int i = 26; i < 82; i += 2)
+    for (int i = 26; i < LENGTH + CLAIM; i += 2)
         sum += (uint32_t)out[i] << 8 | out[i + 1];
     while (sum >> 16)
         sum = (sum & 0xffff) + (sum >> 16);
     out[60] = (unsigned char)(~sum >> 8);
     out[61] = (unsigned char)~sum;
-    give(h, out, size);
+    give(h, out, sizeof out);
 }
 
-/* A packet to the other host. */
-static size_t packet(unsigned char *out, size_t size, const struct host *from, const struct host *to)
+/* A packet from one of a host's addresses to the first one of another, or to all nodes. */
+static void put_packet(unsigned char *out, size_t octets, const struct host *from, int number, unsigned char to)
 {
-    size_t whole = head(out, size, from->last, 59, 64);
-    out[4] = 2;
-    out[9] = to->last;
-    put_address(out + 26, from->last);
-    put_address(out + 42, to->last);
-    memcpy(out + 58, mark, sizeof mark);
-    return whole;
+    static const unsigned char nodes[16] = { 0xff, 2, 0, 0, 0, 0, 0, 0, 0, 0, 0, 0, 0, 0, 0, 1 };
+    put_head(out, octets, from, 59, 64);
+    put_address(out + 26, from->number, number);
+    if (to == ALL) {
+        memcpy(out + 4, "\x33\x33\0\0\0\1", 6);
+        memcpy(out + 42, nodes, sizeof nodes);
+    } else {
+        out[4] = 2;
+        out[9] = to;
+        put_address(out + 42, to, 0);
+    }
+    memcpy(out + BODY, mark, sizeof mark);
+    out[BODY + sizeof mark] = (unsigned char)number;
 }
 
 /* Counts the packets among the frames that are whole, and keeps the rest. */
@@ -137,86 +165,201 @@ static void count(struct host *h)
 {
     size_t at = 0;
     while (h->have - at >= LENGTH) {
-        size_t size = (size_t)h->in[at + 2] << 8 | h->in[at + 3];
-        if (h->in[at] || h->in[at + 1] || size > ROOM - LENGTH)
+        const unsigned char *in = h->in + at;
+        size_t whole = LENGTH + ((size_t)in[2] << 8 | in[3]);
+        if (in[0] || in[1] || whole > ROOM)
             fail("a frame that is too long came");
-        if (h->have - at < LENGTH + size)
+        if (h->have - at < whole)
             break;
-        h->received += size >= LEAST && memcmp(h->in + at + 58, mark, sizeof mark) == 0;
-        at += LENGTH + size;
+        if (whole >= LENGTH + LEAST && memcmp(in + BODY, mark, sizeof mark) == 0) {
+            h->received++;
+            h->came_by[in[BODY + sizeof mark] % ADDRESSES] = 1;
+        }
+        at += whole;
     }
     h->have -= at;
     memmove(h->in, h->in + at, h->have);
 }
 
-/* Waits for octets, and answers whether some came. */
-static int take(struct host *h, int patience)
+static void take(struct host *h)
 {
-    struct pollfd wait = { .fd = h->fd, .events = POLLIN };
-    if (poll(&wait, 1, patience) <= 0)
-        return 0;
     ssize_t n = read(h->fd, h->in + h->have, sizeof h->in - h->have);
     if (n <= 0)
         fail("the switch ended");
     h->have += (size_t)n;
     count(h);
+}
+
+/* Waits for octets at any host, and answers whether some came. */
+static int take_any(int patience)
+{
+    struct pollfd wait[HOSTS];
+    for (int i = 0; i < hosts; i++)
+        wait[i] = (struct pollfd){ .fd = host[i].fd, .events = POLLIN };
+    if (poll(wait, (nfds_t)hosts, patience) <= 0)
+        return 0;
+    for (int i = 0; i < hosts; i++)
+        if (wait[i].revents)
+            take(&host[i]);
     return 1;
 }
 
-static void expect(struct host *h, long received)
+/* The other one of a pair. */
+static struct host *other(const struct host *h)
 {
-    while (h->received < received)
-        if (!take(h, PATIENCE))
-            fail("a packet is lost");
+    return &host[(h - host) ^ 1];
 }
 
-/* Sends packets until one comes, and then takes those that are still on their way. */
-static void reach(struct host *from, struct host *to)
+static int is_sender(const struct host *h)
 {
-    unsigned char out[LENGTH + MOST];
-    size_t whole = packet(out, LEAST, from, to);
-    for (int waited = 0; to->received == 0; waited += AGAIN) {
-        if (waited > PATIENCE)
+    return is_both_ways || (is_to_all ? h == host : (h - host) % 2 == 0);
+}
+
+static int has_come(const struct host *h, int by)
+{
+    for (int i = 0; i < by; i++)
+        if (!h->came_by[i])
+            return 0;
+    return 1;
+}
+
+/* Sends a packet from each address until one from each came, and then takes those that are still on their way. */
+static void reach(struct host *from, struct host *to, int by)
+{
+    unsigned char out[LENGTH + LEAST];
+    double began = now();
+    while (!has_come(to, by)) {
+        if (now() - began > 1e-3 * PATIENCE)
             fail("no packet comes");
-        give(from, out, whole);
-        take(to, AGAIN);
+        for (int i = 0; i < by; i++) {
+            put_packet(out, LEAST, from, i, to->number);
+            give(from, out, sizeof out);
+        }
+        take_any(AGAIN);
     }
-    while (take(to, AGAIN))
+    while (take_any(AGAIN))
         ;
-    to->received = 0;
+}
+
+static void join(char **paths)
+{
+    for (int i = 0; i < hosts; i++)
+        meet(&host[i], paths[i], i + 1);
+    for (struct host *h = host; h < host + hosts; h++)
+        for (int i = 0; i < (is_sender(h) ? (int)addresses : 1); i++)
+            claim(h, i);
+    for (struct host *h = host; h < host + hosts && hosts % 2 == 0; h++)
+        reach(h, other(h), is_sender(h) ? (int)addresses : 1);
+    for (int i = 1; i < hosts && is_to_all; i++)
+        reach(&host[0], &host[i], (int)addresses);
+    for (int i = 0; i < hosts; i++)
+        host[i].received = 0;
+}
+
+/* What a sender sends in turn: a whole number of batches, and of rounds through its addresses. */
+static void prepare(struct host *h)
+{
+    size_t whole = LENGTH + (size_t)size;
+    h->to = is_to_all ? ALL : other(h)->number;
+    h->packets = malloc((size_t)(batch * addresses) * whole);
+    if (h->packets == NULL)
+        fail("there is no memory");
+    for (long i = 0; i < batch * addresses; i++)
+        put_packet(h->packets + (size_t)i * whole, (size_t)size, h, (int)(i % addresses), h->to);
+}
+
+/* How many packets of a sender have come to all whom they are for. */
+static long arrived(const struct host *h)
+{
+    if (h->to != ALL)
+        return other(h)->received;
+    long least = host[1].received;
+    for (int i = 2; i < hosts; i++)
+        least = host[i].received < least ? host[i].received : least;
+    return least;
+}
+
+/* Sends what the window has room for. */
+static void fill(struct host *h)
+{
+    size_t whole = LENGTH + (size_t)size;
+    long limit = arrived(h) + window;
+    if (limit > frames)
+        limit = frames;
+    while (h->sent < limit) {
+        long at = h->sent % (batch * addresses), n = batch - at % batch;
+        if (n > limit - h->sent)
+            n = limit - h->sent;
+        give(h, h->packets + (size_t)at * whole, (size_t)n * whole);
+        h->sent += n;
+    }
+}
+
+static int is_over(void)
+{
+    for (const struct host *h = host; h < host + hosts; h++)
+        if (is_sender(h) && arrived(h) < frames)
+            return 0;
+    return 1;
+}
+
+static void run(void)
+{
+    while (!is_over()) {
+        for (struct host *h = host; h < host + hosts; h++)
+            if (is_sender(h))
+                fill(h);
+        if (!take_any(PATIENCE))
+            fail("a packet is lost");
+    }
+}
+
+/* Ends what goes in, and takes what still comes out. */
+static void leave(void)
+{
+    for (int i = 0; i < hosts; i++)
+        shutdown(host[i].fd, SHUT_WR);
+    for (int i = 0; i < hosts; i++)
+        while (read(host[i].fd, host[i].in, sizeof host[i].in) > 0)
+            ;
+}
+
+/* Reads the options. Answers whether they can be meant. */
+static int read_options(int argc, char **argv)
+{
+    int option;
+    while ((option = getopt(argc, argv, "abf:s:w:g:n:")) != -1) {
+        switch (option) {
+        case 'a': is_to_all = 1; break;
+        case 'b': is_both_ways = 1; break;
+        case 'f': frames = atol(optarg); break;
+        case 's': size = atol(optarg); break;
+        case 'w': window = atol(optarg); break;
+        case 'g': batch = atol(optarg); break;
+        case 'n': addresses = atol(optarg); break;
+        default: return 0;
+        }
+    }
+    hosts = argc - optind;
+    return hosts >= 2 && hosts <= HOSTS && (is_to_all ? !is_both_ways : hosts % 2 == 0) && frames >= 1 && size >= LEAST &&
+           size <= MOST && window >= 1 && batch >= 1 && batch <= 1000 && addresses >= 1 && addresses <= ADDRESSES;
 }
 
 int main(int argc, char **argv)
 {
-    static struct host one, other;
-    unsigned char out[LENGTH + MOST];
-    long given[3] = { 0, 0, 0 };
-    for (int i = 0; argc == 6 && i < 3; i++)
-        given[i] = atol(argv[i + 1]);
-    long frames = given[0], size = given[1], window = given[2];
-    if (frames < 1 || size < LEAST || size > MOST || window < 1) {
-        fprintf(stderr, "usage: stream_load FRAMES SIZE WINDOW PATH PATH (SIZE from %d to %d)\n", LEAST, MOST);
+    if (!read_options(argc, argv)) {
+        fprintf(stderr, "usage: stream_load [-a] [-b] [-f FRAMES] [-s SIZE] [-w WINDOW] [-g BATCH] [-n ADDRESSES] PATH "
+                        "PATH..\n(SIZE from %d to %d, at most %d ADDRESSES and %d paths, an even number but with -a)\n",
+                LEAST, MOST, ADDRESSES, HOSTS);
         return 2;
     }
-    meet(&one, argv[4], 0x11);
-    meet(&other, argv[5], 0x22);
-    claim(&one);
-    claim(&other);
-    reach(&one, &other);
-    reach(&other, &one);
-    size_t whole = packet(out, (size_t)size, &one, &other);
+    join(argv + optind);
+    for (struct host *h = host; h < host + hosts; h++)
+        if (is_sender(h))
+            prepare(h);
     double began = now();
-    for (long sent = 0; sent < frames; sent++) {
-        expect(&other, sent - window + 1);
-        give(&one, out, whole);
-    }
-    expect(&other, frames);
+    run();
     printf("%.6f\n", now() - began);
-    shutdown(one.fd, SHUT_WR);
-    shutdown(other.fd, SHUT_WR);
-    while (read(one.fd, one.in, sizeof one.in) > 0)
-        ;
-    while (read(other.fd, other.in, sizeof other.in) > 0)
-        ;
+    leave();
     return 0;
 }

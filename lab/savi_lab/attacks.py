@@ -7,7 +7,7 @@ from switch_reading import making
 from switch_reading.plan import address_text, mac_text, read_address
 
 from . import frames, leases
-from .namespaces import LabFault, wait_until
+from .namespaces import PATIENCE, Late, wait_until
 from .stations import INTERFACE, MARKS, OUTSIDE, OWN_PREFIX
 
 # Each false router advertisement has a prefix of its own, so that it is known which one was taken.
@@ -17,6 +17,9 @@ NEW = OWN_PREFIX | 0xD1
 
 # How long the kernel takes at most over a frame that its interface has shown, in s.
 GRACE = 0.03
+
+# After how long a packet that didn't come is sent again, in s.
+AGAIN = 1
 
 
 @dataclass
@@ -52,18 +55,30 @@ class Field:
             self.sent.append(frame)
             self.attacker.send(frame)
 
-    def settle(self, seconds=5):
+    def settle(self):
         """Waits until all that the attacker sent has come to where it goes. Behind it the attacker sends a mark in its own
         name, which each network carries; what stands before the mark at a victim has been judged by its kernel."""
         own, group = self.attacker, making.ALL_NODES
         mark = frames.datagram(own.mac, own.link_local, group, making.group_mac(group), MARKS, os.urandom(16))
-        own.send(mark)
-        for victim in self.marked:
-            if not wait_until(lambda: self.look_for(victim, mark), seconds, 0.005):
-                raise LabFault(f"the attacker's own packets don't come to {victim.name}")
+        waiting = list(self.marked)
+
+        def is_there():
+            own.send(mark)
+            return wait_until(lambda: self.all_have(waiting, mark), AGAIN, 0.005)
+
+        if not wait_until(is_there, PATIENCE, 0):
+            names = " and ".join(victim.name for victim in waiting)
+            raise Late(f"the attacker's own packets don't come to {names} within {PATIENCE} s")
         time.sleep(GRACE)
         for victim in self.victims:
             self.look_for(victim, mark)
+
+    def all_have(self, waiting, mark):
+        """Whether the mark has come to each victim; those to whom it came wait no more."""
+        for victim in tuple(waiting):
+            if self.look_for(victim, mark):
+                waiting.remove(victim)
+        return not waiting
 
     def look_for(self, victim, mark):
         is_there = False
@@ -120,9 +135,13 @@ def meet(field, one, other, address):
     if not field.joins_hosts and one in field.hosts and other in field.hosts:
         return
     one.forget_neighbors()
-    one.say(address, b"hello")
-    if not wait_until(lambda: one.neighbor(address) == mac_text(other.mac), 4):
-        raise LabFault(f"{one.name} doesn't find {address_text(address)}")
+
+    def is_found():
+        one.say(address, b"hello")
+        return wait_until(lambda: one.neighbor(address) == mac_text(other.mac), AGAIN)
+
+    if not wait_until(is_found, PATIENCE, 0):
+        raise Late(f"{one.name} doesn't find {address_text(address)} within {PATIENCE} s")
 
 
 def poisoned(field, victim, address, whose):

@@ -19,6 +19,15 @@ import time
 PREFIX = "savilab-"
 FOLDER = "/run/netns"
 
+# How long is waited for what comes at once on a machine that isn't busy, in s.
+PATIENCE = 20
+
+# The signals by which the lab is ended, and cleans up.
+SIGNALS = (signal.SIGINT, signal.SIGTERM, signal.SIGHUP, signal.SIGQUIT)
+
+# The flag __SO_ACCEPTCON of <linux/net.h>, as the kernel shows it.
+LISTENING = "00010000"
+
 CLONE_NEWNET = 0x40000000
 PR_SET_PDEATHSIG = 1
 
@@ -31,6 +40,10 @@ libc = ctypes.CDLL(None, use_errno=True)
 
 class LabFault(Exception):
     """Why the lab can't go on."""
+
+
+class Late(LabFault):
+    """What wasn't ready within its time. A busy machine is enough for that, so that nothing follows of what is tried."""
 
 
 def call(*words, text=None):
@@ -47,6 +60,16 @@ def call(*words, text=None):
 def die_with_parent(number=signal.SIGKILL):
     """A child gets this signal when its parent ends, however that ends."""
     libc.prctl(PR_SET_PDEATHSIG, number)
+
+
+@contextlib.contextmanager
+def undisturbed():
+    """Within, the signals that end the lab wait: what is cleaned up is cleaned up to its end."""
+    before = signal.pthread_sigmask(signal.SIG_BLOCK, SIGNALS)
+    try:
+        yield
+    finally:
+        signal.pthread_sigmask(signal.SIG_SETMASK, before)
 
 
 def own_name(name):
@@ -80,6 +103,12 @@ class Namespace:
         """A setting of the kernel's IPv6, for instance `eth0/accept_ra`."""
         with self.entered(), open(f"/proc/sys/net/ipv6/conf/{key}", "w", encoding="ascii") as setting:
             setting.write(str(value))
+
+    def listens(self, path):
+        """Whether a Unix socket listens at a path (proc(5), `/proc/net/unix`): the path alone is there before."""
+        with self.entered(), open("/proc/thread-self/net/unix", encoding="utf-8", errors="replace") as sockets:
+            shown = (line.split() for line in sockets)
+            return any(words[3] == LISTENING and words[7:] == [path] for words in shown)
 
     def stop_offloads(self, interface):
         """As `ethtool -K INTERFACE tx off sg off tso off gso off gro off`."""
@@ -150,17 +179,24 @@ def why_not():
         return "it isn't run as root"
     if not os.path.isdir("/proc/sys/net/ipv6"):
         return "this kernel has no IPv6"
+    lacks = "network namespaces"
     try:
         one, other = Namespace("try1"), Namespace("try2")
+        lacks = "veth pairs"
         one.ip("link", "add", "eth0", "type", "veth", "peer", "name", "p1", "netns", other.name)
+        lacks = "bridges"
         one.ip("link", "add", "br0", "type", "bridge")
+        lacks = "settings below /proc/sys/net that can be written"
+        one.set("eth0/accept_ra", 1)
+        lacks = "packet sockets (AF_PACKET)"
         with one.entered():
             socket.socket(socket.AF_PACKET, socket.SOCK_RAW, 0).close()
     except (LabFault, OSError) as fault:
-        return f"no namespaces, veth pairs, bridges or packet sockets here: {fault}"
+        return f"there are no {lacks} here: {str(fault).splitlines()[0]}"
     finally:
-        for name in ("try1", "try2"):
-            remove(own_name(name))
+        with undisturbed():
+            for name in ("try1", "try2"):
+                remove(own_name(name))
     return None
 
 

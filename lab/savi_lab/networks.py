@@ -7,7 +7,7 @@ import sys
 from switch_reading.plan import address_text
 
 from . import namespaces
-from .namespaces import LabFault, Namespace, call, wait_until
+from .namespaces import PATIENCE, LabFault, Late, Namespace, call, wait_until
 from .stations import LEASED_PREFIX, OWN_PREFIX, ROLES
 
 HERE = os.path.dirname(os.path.dirname(os.path.abspath(__file__)))
@@ -18,6 +18,10 @@ SWITCH_MAC = "02:00:00:00:00:01"
 
 # How long a program may take to end once its inputs have ended, in s.
 END = 20
+
+# How long an address is tested, and the wait between both probes for it, in ms: longer than the switch's own values, so that
+# a host answers in time on a busy machine too. Where it doesn't, its address goes to the port that claims it, as it must.
+TEST, PROBE_GAP = 2000, 1000
 
 
 def make_switch_space():
@@ -30,9 +34,10 @@ def make_switch_space():
 
 class Network:
     """`journal` is the name of the file into which verdicts are written, or None. A peer is tried for its own sake: what it
-    lets through, or stops, is no fault of the lab. `joins_hosts` says whether hosts may speak to each other."""
+    lets through, or stops, is no fault of the lab. `is_plain` says whether it forwards all frames, so that honest traffic can
+    fail there only for the machine's sake. `joins_hosts` says whether hosts may speak to each other."""
 
-    journal, is_peer, joins_hosts = None, False, True
+    journal, is_peer, is_plain, joins_hosts = None, False, False, True
 
     def __init__(self, title, space, folder):
         self.title, self.space, self.folder, self.started = title, space, folder, []
@@ -47,6 +52,9 @@ class Network:
             process = self.space.start(*words, stdout=opened, stderr=opened)
         self.started.append(process)
         return process
+
+    def has_log(self, name):
+        return os.path.exists(os.path.join(self.folder, name))
 
     def log(self, name):
         """What a program said."""
@@ -70,6 +78,7 @@ class Bridge(Network):
     def __init__(self, title, space, folder, rules=None):
         super().__init__(title, space, folder)
         self.rules, self.is_peer = rules, self.is_peer or rules is not None
+        self.is_plain = not self.is_peer
 
     def up(self):
         self.space.ip("link", "add", "br0", "type", "bridge")
@@ -113,8 +122,8 @@ class OpenVSwitch(Network):
         common = ["--no-chdir", f"--unixctl={self.folder}/%s.ctl"]
         env = ["env", f"OVS_RUNDIR={self.folder}"]
         self.start(*env, "ovsdb-server", file, f"--remote=p{self.database}", common[0], common[1] % "db", log="ovsdb.log")
-        if not wait_until(lambda: os.path.exists(f"{self.folder}/ovs.sock"), 10):
-            raise LabFault(f"ovsdb-server doesn't listen: {self.log('ovsdb.log')}")
+        if not wait_until(lambda: os.path.exists(f"{self.folder}/ovs.sock"), PATIENCE):
+            raise Late(f"ovsdb-server doesn't listen within {PATIENCE} s: {self.log('ovsdb.log')}")
         self.control("ovs-vsctl", f"--db={self.database}", "--no-wait", "init")
         self.start(*env, "ovs-vswitchd", self.database, common[0], common[1] % "switch", log="vswitchd.log")
         bridge = ["--", "add-br", "br0", "--", "set", "bridge", "br0", "datapath_type=netdev"]
@@ -145,15 +154,24 @@ class Streams(Network):
     def up(self):
         super().up()
         program = self.start(*self.command(), log="program.log")
-        there = wait_until(lambda: program.poll() is not None or all(os.path.exists(self.path(port)) for port in ROLES), 20)
-        if not there or program.poll() is not None:
-            raise LabFault(f"{self.title} doesn't listen: {self.log('program.log') or 'no word of it'}")
+        self.wait_for([program], lambda: all(self.space.listens(self.path(port)) for port in ROLES), "doesn't listen")
         for port in ROLES:
             shim = [sys.executable, os.path.join(HERE, "shim"), f"p{port}", self.path(port)]
             self.shims.append(self.start(*shim, log=f"shim{port}.log"))
         # A path is removed once its peer has come.
-        if not wait_until(lambda: not any(os.path.exists(self.path(port)) for port in ROLES), 20):
-            raise LabFault(f"no shim comes to {self.title}: {self.log('shim1.log')}")
+        self.wait_for(self.started, lambda: not any(os.path.exists(self.path(port)) for port in ROLES), "isn't joined")
+
+    def wait_for(self, needed, holds, lacks):
+        """Waits until something holds, for which these processes are needed."""
+        def ended():
+            return any(process.poll() is not None for process in needed)
+
+        there = wait_until(lambda: ended() or holds(), PATIENCE)
+        if ended():
+            said = [self.log(name) for name in ("program.log", *(f"shim{port}.log" for port in ROLES)) if self.has_log(name)]
+            raise LabFault(f"it ended before its time: {' '.join(filter(None, said)) or 'no word of it'}")
+        if not there:
+            raise Late(f"it {lacks} within {PATIENCE} s")
 
     def close(self):
         """Lets the shims leave; the program, whose inputs end by that, must end of itself, and then the shims do."""
@@ -196,7 +214,7 @@ class Switch(Streams):
         return [*self.words, name]
 
     def plan(self):
-        lines = [f'mac = "{SWITCH_MAC}"', f'journal = "{self.journal}"']
+        lines = [f'mac = "{SWITCH_MAC}"', f'journal = "{self.journal}"', f"test_ms = {TEST}", f"probe_gap_ms = {PROBE_GAP}"]
         for port, role in ROLES.items():
             lines += ["[[port]]", f"number = {port}", f'role = "{role}"', 'format = "stream"']
             lines += [f'input = "{self.path(port)}"', f'output = "{self.path(port)}"']

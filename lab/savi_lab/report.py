@@ -18,14 +18,20 @@ def harm(result):
     return f"no harm; {result.arrived} of {len(result.frames)} frames arrive"
 
 
+def judged(journal, station):
+    """The frames that came in from a station, as (octets, verdict)."""
+    port = str(STATIONS[station][0])
+    with open(journal, encoding="ascii") as lines:
+        for words in map(str.split, lines):
+            if len(words) > 7 and words[3] == "F" and words[4] == port:
+                yield words[6], words[7]
+
+
 def verdicts_of(journal):
     """The verdicts on the attacker's frames, by their octets."""
     found = collections.defaultdict(list)
-    with open(journal, encoding="ascii") as lines:
-        for line in lines:
-            words = line.split()
-            if len(words) > 7 and words[3] == "F" and words[4] == str(STATIONS["attacker"][0]):
-                found[words[6]].append(words[7].removeprefix("drop-"))
+    for octets, verdict in judged(journal, "attacker"):
+        found[octets].append(verdict.removeprefix("drop-"))
     return found
 
 
@@ -98,14 +104,31 @@ def lines(trials, is_markdown):
     yield from (f"check of the journal of {trial.title}: {trial.checked}" for trial in trials if trial.checked)
 
 
-def faults(trial):
-    """What is wrong: honest traffic that failed, and of a switch each harm and what `check` finds."""
+def failed(trial):
+    """The honest traffic that didn't come through."""
+    return {name for name, came in trial.honest.items() if came is False}
+
+
+def faults(trial, trials):
+    """What is wrong: of a switch each harm, what `check` finds, each frame of the router that it dropped, and honest traffic
+    that failed and that a plain bridge, where one was tried, carried at the same time."""
     yield from (f"{trial.title}: {said}" for said in trial.said)
     if trial.is_peer:
         return
-    yield from (f"{trial.title}: failed: {name}" for name, came in trial.honest.items() if came is False)
+    unsure = set().union(*(failed(other) for other in trials if other.is_plain))
+    yield from (f"{trial.title}: failed: {name}" for name in trial.honest if name in failed(trial) - unsure)
     if trial.journal:
         harmed = ((name, found.suffered) for name, found in trial.results.items() if name not in UNGUARDED)
         yield from (f"{trial.title}: {name}: {suffered}" for name, suffered in harmed if suffered)
+        dropped = {verdict for _, verdict in judged(trial.journal, "router") if verdict.startswith("drop-")}
+        yield from (f"{trial.title}: a frame of the router: {verdict}" for verdict in sorted(dropped))
     if trial.checked is not None and not trial.checked.startswith("good: "):
-        yield f"{trial.title}: its journal isn't good"
+        yield f"{trial.title}: its journal isn't good: {trial.checked}"
+
+
+def delays(trial):
+    """What a busy machine is enough for."""
+    if trial.late:
+        yield f"{trial.title}: {trial.late}"
+    if trial.is_plain:
+        yield from (f"{trial.title}: {name}" for name in trial.honest if name in failed(trial))

@@ -9,7 +9,8 @@ import time
 from switch_reading import making
 from switch_reading.plan import address_text, mac_text, read_address
 
-from .namespaces import LabFault, Namespace, wait_until
+from .leases import SERVER_PORT
+from .namespaces import PATIENCE, Late, Namespace, wait_until
 
 INTERFACE = "eth0"
 # The port of the lab's datagrams, and that of its marks.
@@ -19,6 +20,9 @@ DATAGRAMS, MARKS = 4096, 4097
 OWN_PREFIX, LEASED_PREFIX = read_address("2001:db8:1::"), read_address("2001:db8:2::")
 OUTSIDE = read_address("2001:db8:f::1")
 SERVER = LEASED_PREFIX | 1
+
+# How long honest traffic is tried until it counts as stopped, in s.
+HONEST = 10
 
 ETH_P_ALL, SOL_PACKET, PACKET_ADD_MEMBERSHIP, PACKET_MR_PROMISC, PACKET_OUTGOING = 3, 263, 1, 1, 4
 
@@ -154,7 +158,7 @@ def received(datagrams):
             continue  # an ICMPv6 error of an earlier datagram
 
 
-def reaches(one, other, address, by=None, length=8, seconds=4):
+def reaches(one, other, address, by=None, length=8):
     """Whether a datagram of a station comes to an address of the other, and back. `by` is a socket of the first."""
     octets = os.urandom(length)
 
@@ -165,13 +169,13 @@ def reaches(one, other, address, by=None, length=8, seconds=4):
         time.sleep(0.05)
         return any(found == octets for found, _ in received(by or one.datagrams))
 
-    return wait_until(is_answered, seconds, 0)
+    return wait_until(is_answered, HONEST, 0)
 
 
 def reaches_from(host, router, source):
     """Whether a host that takes a further address reaches the outside from it."""
     host.space.ip("-6", "addr", "add", f"{address_text(source)}/128", "dev", INTERFACE)
-    if not wait_until(lambda: host.has(source), 5):
+    if not wait_until(lambda: host.has(source), HONEST):
         return False
     with host.open_datagrams(address_text(source), 0) as sender:
         return reaches(host, router, OUTSIDE, sender)
@@ -185,8 +189,8 @@ def start_router(station, folder, find):
     station.up()
     space.ip("-6", "addr", "add", f"{address_text(OWN_PREFIX | 1)}/64", "dev", INTERFACE)
     space.ip("-6", "route", "add", f"{address_text(LEASED_PREFIX)}/64", "dev", INTERFACE)
-    if not wait_until(lambda: station.has(station.link_local), 10):
-        raise LabFault("the router gets no address")
+    if not wait_until(lambda: station.has(station.link_local), PATIENCE):
+        raise Late(f"the router gets no address within {PATIENCE} s")
     if not (program := find("radvd")):
         return None
     name = os.path.join(folder, "radvd.conf")
@@ -199,14 +203,27 @@ def start_router(station, folder, find):
 
 
 def start_server(station, folder, find):
-    """Starts a DHCPv6 server, or answers None where there is none."""
+    """Starts a DHCPv6 server, and waits until it listens. Answers None where there is none."""
     if not (program := find("dnsmasq")):
         return None
     station.space.ip("-6", "addr", "add", f"{address_text(SERVER)}/64", "dev", INTERFACE)
     first, last = (address_text(LEASED_PREFIX | end) for end in (0x100, 0x1FF))
-    with open(os.path.join(folder, "dnsmasq.log"), "w", encoding="ascii") as log:
-        return station.space.start(
+    name = os.path.join(folder, "dnsmasq.log")
+    with open(name, "w", encoding="ascii") as log:
+        server = station.space.start(
             program, "--no-daemon", "--conf-file=/dev/null", "--port=0", "--user=root", "--no-resolv", "--no-hosts",
             f"--interface={INTERFACE}", f"--dhcp-range={first},{last},64,1h",
             f"--dhcp-leasefile={os.path.join(folder, 'leases')}", f"--pid-file={os.path.join(folder, 'dnsmasq.pid')}",
             stdout=log, stderr=log)
+    there = wait_until(lambda: server.poll() is not None or listens(station, SERVER_PORT), PATIENCE)
+    if not there or server.poll() is not None:
+        with open(name, encoding="utf-8", errors="replace") as log:
+            what = f"doesn't listen within {PATIENCE} s" if not there else "ended"
+            raise Late(f"dnsmasq {what}: {log.read().strip() or 'no word of it'}")
+    return server
+
+
+def listens(station, port):
+    """Whether a UDP socket of a station has this port."""
+    with station.space.entered(), open("/proc/thread-self/net/udp6", encoding="ascii") as sockets:
+        return any(line.split()[1].endswith(f":{port:04X}") for line in sockets)

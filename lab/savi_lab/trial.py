@@ -8,19 +8,22 @@ from dataclasses import dataclass, field
 
 from . import attacks, frames, leases
 from .attacks import Field
-from .namespaces import LabFault, die_with_parent, own_name, remove, wait_until
+from .namespaces import PATIENCE, LabFault, Late, die_with_parent, own_name, remove, undisturbed, wait_until
 from .networks import make_switch_space
-from .stations import INTERFACE, OUTSIDE, OWN_PREFIX, STATIONS, Station, reaches, reaches_from, start_router, start_server
+from .stations import (HONEST, INTERFACE, OUTSIDE, OWN_PREFIX, STATIONS, Station, reaches, reaches_from, start_router,
+                       start_server)
 
 
 @dataclass
 class Trial:
     """What became of one network. `honest` says of each kind of honest traffic whether it came through, or None where that
     wasn't tried; `said` is what the network had to say at its end. `journal` is the name of a file or None, and `checked`
-    what `check` says of it, or None."""
+    what `check` says of it, or None. `late` says what wasn't ready in time, so that the rest wasn't tried, or is empty."""
 
     title: str
     is_peer: bool
+    is_plain: bool
+    late: str = ""
     results: dict = field(default_factory=dict)
     honest: dict = field(default_factory=dict)
     said: list = field(default_factory=list)
@@ -38,15 +41,15 @@ class Ground:
         return self
 
     def __exit__(self, *_):
-        for name in ("switch", *STATIONS):
-            remove(own_name(name))
+        with undisturbed():
+            for name in ("switch", *STATIONS):
+                remove(own_name(name))
 
     def build(self, make_network):
         space = make_switch_space()
         for name in STATIONS:
             self.stations[name] = Station(name, space)
         self.network = make_network(space, self.folder)
-        self.network.up()
         return self.network
 
     def boot(self):
@@ -56,8 +59,8 @@ class Ground:
         adverts = start_router(router, self.folder, self.find)
         for station in (server, attacker, host1, host2):
             station.up()
-        if not wait_until(lambda: self.is_up(adverts), 20, 0.2):
-            raise LabFault(f"the stations don't come up: {self.lacks()}")
+        if not wait_until(lambda: self.is_up(adverts), PATIENCE, 0.2):
+            raise Late(f"not up within {PATIENCE} s: {', '.join(self.lacks())}")
         return start_server(server, self.folder, self.find) is not None
 
     def is_up(self, adverts):
@@ -85,7 +88,7 @@ def try_honest(ground, is_server):
         "the same with 4,000 octets, in fragments": reaches(host2, router, OUTSIDE, length=4000),
     }
     client = ground.field.client
-    reply = client.lease() if is_server else None
+    reply = wait_until(client.lease, HONEST, 0) if is_server else None
     address = leases.address_of(reply) if reply else None
     honest["host 1 gets a DHCPv6 lease"] = bool(address) if is_server else None
     honest["host 1 to the outside and back, from the leased address"] = (
@@ -94,20 +97,31 @@ def try_honest(ground, is_server):
 
 
 def make(make_network, folder, tell):
-    """Tries one network. `tell` is called with each thing worth saying meanwhile."""
+    """Tries one network. `tell` is called with each thing worth saying meanwhile. What a switch did until something was late
+    is judged too."""
     with Ground(folder) as ground:
         network = ground.build(make_network)
-        trial = Trial(network.title, network.is_peer)
-        is_server = ground.boot()
-        tell(f"{network.title}: the stations are up")
-        ground.field = Field(ground.stations, network.joins_hosts)
-        ground.field.client = leases.Client(ground.field.host1)
-        for title, attack in attacks.ATTACKS.items():
-            trial.results[title] = attacks.run(attack, ground.field)
-        trial.honest = try_honest(ground, is_server)
-        trial.said = network.close()
-        trial.journal, trial.checked = network.journal, network.check()
+        trial, is_joined = Trial(network.title, network.is_peer, network.is_plain), False
+        try:
+            network.up()
+            is_joined = True
+            try_all(ground, trial, tell)
+        except Late as late:
+            trial.late = str(late)
+        if is_joined:
+            trial.said = network.close()
+            trial.journal, trial.checked = network.journal, network.check()
     return trial
+
+
+def try_all(ground, trial, tell):
+    is_server = ground.boot()
+    tell(f"{trial.title}: the stations are up")
+    ground.field = Field(ground.stations, ground.network.joins_hosts)
+    ground.field.client = leases.Client(ground.field.host1)
+    for title, attack in attacks.ATTACKS.items():
+        trial.results[title] = attacks.run(attack, ground.field)
+    trial.honest = try_honest(ground, is_server)
 
 
 def work(answer, make_network, folder, tell):
@@ -118,11 +132,12 @@ def work(answer, make_network, folder, tell):
         answer.send(make(make_network, folder, tell))
         tell(f"{os.path.basename(folder)}: {time.monotonic() - began:.0f} s")
     except LabFault as fault:
-        answer.send(fault)
+        answer.send(type(fault)(f"{os.path.basename(folder)}: {fault}"))
 
 
-def make_all(networks, folder, tell):
-    """Tries the networks at once, each in a process and a folder of its own. Answers the trials in their order."""
+def make_all(networks, folder, tell, deadline):
+    """Tries the networks at once, each in a process and a folder of its own. Answers of each, in their order, the trial, or
+    the fault for which there is none."""
     context = multiprocessing.get_context("fork")
     workers = []
     try:
@@ -133,19 +148,27 @@ def make_all(networks, folder, tell):
             workers.append((context.Process(target=work, args=(sending, make_network, own, tell)), receiving))
             workers[-1][0].start()
             sending.close()
-        return [answer_of(receiving) for _, receiving in workers]
+        return [answer_of(name, receiving, deadline) for name, (_, receiving) in zip(networks, workers)]
     finally:
-        for worker, _ in workers:
-            worker.terminate()
-        for worker, _ in workers:
-            worker.join()
+        with undisturbed():
+            end_all([worker for worker, _ in workers])
 
 
-def answer_of(receiving):
+def answer_of(name, receiving, deadline):
+    """What a worker answers until the deadline, which is a moment of the clock, or None."""
+    if not receiving.poll(deadline and max(0, deadline - time.monotonic())):
+        return Late(f"{name}: not done within the time of --most")
     try:
-        answer = receiving.recv()
+        return receiving.recv()
     except EOFError:
-        raise LabFault("a trial ended without an answer") from None
-    if isinstance(answer, LabFault):
-        raise answer
-    return answer
+        return LabFault(f"{name}: it ended without an answer")
+
+
+def end_all(workers):
+    """Each cleans up when it is asked to end; one that doesn't is made to, and what it leaves is removed with the rest."""
+    for worker in workers:
+        worker.terminate()
+    for worker in workers:
+        worker.join(PATIENCE)
+        worker.kill()
+        worker.join()

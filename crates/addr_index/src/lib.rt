@@ -13,8 +13,6 @@ mod index;
 mod place;
 mod places;
 mod ring;
-#[cfg(test)]
-mod tests;
 
 pub use entry::Entry;
 pub use index::AddrIndex;

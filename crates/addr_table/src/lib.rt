@@ -14,8 +14,6 @@ mod room;
 mod sent;
 mod stored;
 mod table;
-#[cfg(test)]
-mod tests;
 
 pub use ageing::ProbeSink;
 pub use sent::SentProbe;

@@ -12,8 +12,6 @@ mod kept;
 mod laws;
 mod number;
 mod station;
-#[cfg(test)]
-mod tests;
 
 pub use fdb::{Fdb, NextRow};
 pub use laws::{learning_stays_within_limits, stations_age_once};

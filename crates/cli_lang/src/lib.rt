@@ -14,8 +14,6 @@ mod kinds;
 mod laws;
 mod reader;
 mod taking;
-#[cfg(test)]
-mod tests;
 mod text;
 mod words;
 

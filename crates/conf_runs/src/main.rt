@@ -1,7 +1,7 @@
 //! Reads configurations that changes of a text make, and prints the fault of each, or its plan.
 //!
-//! The input is lines, in which `\n` is a line feed, and a CHANGE is `OLD => NEW`, by which the first OLD in the text becomes
-//! NEW; without one the text is taken as it stands:
+//! The input is lines, in which `\n` is a line feed, and a CHANGE is `OLD => NEW`, by which the first OLD in the text
+//! becomes NEW; without one the text is taken as it stands:
 //!
 //!     text TEXT        begins a text, and forgets the changes
 //!     line TEXT        a line of it

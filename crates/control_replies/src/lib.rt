@@ -13,8 +13,6 @@ mod line;
 mod port_row;
 mod refusal;
 mod reply;
-#[cfg(test)]
-mod tests;
 
 pub use counts::Counts;
 pub use laws::{

@@ -1,5 +1,5 @@
-//! Puts events to switches one by one, and prints what becomes of each: the entry that was made, or that there was no room or
-//! nothing to be done.
+//! Puts events to switches one by one, and prints what becomes of each: the entry that was made, or that there was no room
+//! or nothing to be done.
 //!
 //! The input is lines. A scene is a plan and the events that its switch meets:
 //!

@@ -11,8 +11,6 @@ mod lease;
 mod message;
 mod option;
 mod reader;
-#[cfg(test)]
-mod tests;
 
 pub use laws::a_message_has_its_reading;
 pub use message::{

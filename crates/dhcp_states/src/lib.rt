@@ -9,8 +9,6 @@ mod bound;
 mod laws;
 mod pending;
 mod request;
-#[cfg(test)]
-mod tests;
 
 pub use bound::{Bound, INFINITE_LIFETIME, lease_end};
 pub use laws::{

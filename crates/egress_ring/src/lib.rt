@@ -12,6 +12,3 @@ mod ring;
 
 pub use item::Item;
 pub use ring::EgressRing;
-
-#[cfg(test)]
-mod tests;

@@ -8,6 +8,3 @@
 mod header;
 
 pub use header::{Eth, EthFault, read};
-
-#[cfg(test)]
-mod tests;

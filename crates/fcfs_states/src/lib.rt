@@ -18,8 +18,6 @@ mod table;
 mod tentative;
 mod test_lt;
 mod test_vp;
-#[cfg(test)]
-mod tests;
 mod times;
 mod turn;
 mod valid;

@@ -11,8 +11,6 @@
 mod classes;
 mod laws;
 mod reader;
-#[cfg(test)]
-mod tests;
 
 pub use classes::{Class, Read};
 pub use laws::a_frame_has_its_class;

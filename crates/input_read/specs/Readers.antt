@@ -22,6 +22,11 @@ abbrev pub HasFailed : InputReader → Type 0
 HasFailed (readers.Pcap state) = state ≡ captures.Ended hows.Failed
 HasFailed (readers.Stream state) = state ≡ streams.Ended hows.Failed
 
+-- what a reader that has ended answers, always
+abbrev pub last_answer : InputReader → Option Next
+last_answer (readers.Pcap state) = captures.last_answer state
+last_answer (readers.Stream state) = streams.last_answer state
+
 -- What an answer says of the octets that were taken for it, of the buffer, and of what is left. A reader keeps its form.
 abbrev pub Answers : InputReader → InputReader → List ℕ → List ℕ → Option (List ℕ) → Next → Type 0
 Answers (readers.Pcap old) (readers.Pcap new) gave buf left next = captures.Answers old new gave buf left next

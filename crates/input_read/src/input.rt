@@ -1,6 +1,6 @@
 //! What comes in at a port.
 
-ghost use Rattle.std.specs.Prelude.{◌≡◌, ◌≤◌, take};
+ghost use Rattle.std.specs.Prelude.{◌≡◌, ◌≤◌, take, IfSome};
 
 use crate::reader::InputReader;
 use savi_ends::{Clock, Source};
@@ -59,6 +59,7 @@ impl<S, C> PortInput<S, C> {
 
 impl<S: Source, C: Clock> PortInput<S, C> {
     ghost use Rattle.input_read.specs.Inputs.{Reads};
+    ghost use Rattle.input_read.specs.Readers.{last_answer};
 
     /// Reads the next record, behind the header where a capture's wasn't read yet.
     ///
@@ -68,7 +69,8 @@ impl<S: Source, C: Clock> PortInput<S, C> {
     /// `End`, `Malformed` or `Failed` nothing is read and the same comes again. The source is read in pieces as large as
     /// the reader of the form takes them. O(n) in the octets of the record.
     pub fn read(&mut self) -> Next
-        ensures { Reads S.left S.faults C.readings self.old self.new result }
+        ensures reads { Reads S.left S.faults C.readings self.old self.new result }
+        ensures again { IfSome (last_answer self.old.reader) (λ answer. (result ≡ answer) × (self.new ≡ self.old)) }
     {
         match &mut self.reader {
             InputReader::Pcap(reader) => {

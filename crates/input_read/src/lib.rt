@@ -8,8 +8,6 @@
 
 mod input;
 mod reader;
-#[cfg(test)]
-mod tests;
 
 pub use input::PortInput;
 pub use reader::InputReader;

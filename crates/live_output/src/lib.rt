@@ -7,7 +7,6 @@
 
 mod gathered;
 mod output;
-mod pace;
 mod records;
 mod writing;
 

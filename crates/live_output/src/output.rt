@@ -9,11 +9,10 @@ ghost use Rattle.live_session.specs.LiveRows.{EgressRow};
 ghost use Rattle.live_turns.specs.Seats.{HasEnded, IsNew, lock_plan};
 
 use crate::gathered::Gathered;
-use crate::pace::Pace;
 use crate::records::begin;
 use crate::writing::write_batch;
 use core_keep::KeptCore;
-use live_turns::{DrainTurn, Gate, Turns, drain_turn, end_turn};
+use live_turns::{DrainTurn, Gate, Turns, drain_turn, end_turn, sleep_at_port};
 use savi_core::Batch;
 use savi_ends::{Put, Sink};
 use savi_kinds::{Format, How, Port, Who};
@@ -54,8 +53,9 @@ impl<K: Sink> Output<K> {
     /// fails, for which the egress ends: what waits there is given up then, and nothing more is written.
     ///
     /// A capture is begun at once. Then the worker takes turns: in each it takes all that waits at the port, and writes that
-    /// behind the turn, in pieces of up to 65,536 octets. Behind a turn that found nothing it sleeps, for 50 to 800
-    /// microseconds, before it takes the next one. It takes no memory. Nothing is promised of how long it runs.
+    /// behind the turn, in pieces of up to 65,536 octets. Then it sleeps until a turn of another worker may have queued
+    /// something there, for 100 ms at most, or not at all where one did in between. It takes no memory. Nothing is promised
+    /// of how long it runs.
     pub fn run<R: Wait, G: Gate>(self, rt: &R, lock: &TableLock<KeptCore>, gate: &G) -> Output<K>
         requires { IsNew lock.now (Egress self.port) self.pass }
         ensures port { result.port ≡ self.port }
@@ -111,19 +111,18 @@ fn write_sent<K: Sink, R: Wait, G: Gate>(
         Put::Failed => return end_turn(rt, lock, gate, turns, who, How::Failed),
     }
     let mut turns = turns;
-    let mut pace = Pace::new();
     for _ in rt.forever() {
         let (next, came) = drain_turn(rt, lock, gate, turns, port, &mut room.batch);
         match came {
             DrainTurn::Took => match write_batch(format, sink, &room.batch, &mut room.gathered) {
                 Put::Done => {
-                    pace.restart();
+                    sleep_at_port(rt, lock, port);
                     turns = next;
                 }
                 Put::Failed => return end_turn(rt, lock, gate, next, who, How::Failed),
             },
             DrainTurn::Idle => {
-                pace.pause(rt);
+                sleep_at_port(rt, lock, port);
                 turns = next;
             }
             DrainTurn::Ended => return next,

@@ -108,9 +108,9 @@ fn lock_of(alloc: Global, plan: Plan) -> Result<(TableLock<KeptCore>, Vec<Pass>)
     }
 }
 
-// Runs the workers of these ports, of control and of the ticker: the input of the last port beside all others. Where no thread
-// can be made, `join` calls its second closure and then its first. So the inputs end first, the last port's before the others',
-// then control, the ticker and the outputs, and a session ends on one thread too.
+// Runs the workers of these ports, of control and of the ticker: the input of the last port beside all others. Where no
+// thread can be made, `join` calls its second closure and then its first. So the inputs end first, the last port's before
+// the others', then control, the ticker and the outputs, and a session ends on one thread too.
 #[cycle(runs)]
 fn run_all<
     R: Threads + Wait + Sync,

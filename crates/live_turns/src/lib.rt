@@ -11,8 +11,10 @@ mod kinds;
 mod taking;
 mod turns;
 mod under_lock;
+mod waking;
 
 pub use gate::{Gate, NoGate};
 pub use kinds::{DrainTurn, TickTurn};
 pub use taking::{drain_turn, end_turn, frame_turn, line_turn, tick_turn};
 pub use turns::Turns;
+pub use waking::sleep_at_port;

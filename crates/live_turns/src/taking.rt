@@ -17,6 +17,7 @@ use crate::gate::Gate;
 use crate::kinds::{DrainTurn, TickTurn};
 use crate::turns::Turns;
 use crate::under_lock::{drain, end, enter_frame, enter_line, tick};
+use crate::waking::{wake_all, wake_outputs};
 use core_keep::KeptCore;
 use savi_core::{Batch, Event, Reply};
 use savi_kinds::{How, Port, Who};
@@ -41,8 +42,10 @@ pub fn frame_turn<R: Wait, G: Gate>(
 {
     let turn = turns.announce(rt, gate);
     let mut held = lock.enter(rt, turns.into_pass());
-    let entered = enter_frame(held.value(), event);
-    (Turns::after(held.leave(), turn), entered)
+    let (entered, queued) = enter_frame(held.value(), event);
+    let pass = held.leave();
+    wake_outputs(lock, queued);
+    (Turns::after(pass, turn), entered)
 }
 
 /// One turn of control: enters a line, and puts the reply to it into `reply`, in place of what it held. Where there is no
@@ -65,7 +68,9 @@ pub fn line_turn<R: Wait, G: Gate>(
     let turn = turns.announce(rt, gate);
     let mut held = lock.enter(rt, turns.into_pass());
     let entered = enter_line(held.value(), stamp, line, reply);
-    (Turns::after(held.leave(), turn), entered)
+    let pass = held.leave();
+    wake_all(lock);
+    (Turns::after(pass, turn), entered)
 }
 
 /// One turn that ends a pass for a reason that may come whatever the history is: that of an input, or of an egress whose
@@ -86,7 +91,9 @@ pub fn end_turn<R: Wait, G: Gate>(
     let turn = turns.announce(rt, gate);
     let mut held = lock.enter(rt, turns.into_pass());
     end(held.value(), who, how);
-    Turns::after(held.leave(), turn)
+    let pass = held.leave();
+    wake_all(lock);
+    Turns::after(pass, turn)
 }
 
 /// One turn of the ticker, whose clock reads `stamp` (ms): makes a tick where an address has another state by then. Where
@@ -106,7 +113,11 @@ pub fn tick_turn<R: Wait, G: Gate>(
     let turn = turns.announce(rt, gate);
     let mut held = lock.enter(rt, turns.into_pass());
     let came = tick(held.value(), stamp);
-    (Turns::after(held.leave(), turn), came)
+    let pass = held.leave();
+    if came != TickTurn::Idle {
+        wake_all(lock);
+    }
+    (Turns::after(pass, turn), came)
 }
 
 /// One turn of the egress of a port: takes all that waits there into the batch, in place of what it held. Where nothing

@@ -12,24 +12,35 @@ ghost use Rattle.live_turns.specs.TurnKinds.{DidDrain, DidEnd, DidInput, DidLine
 use crate::kinds::{DrainTurn, TickTurn};
 use core_keep::KeptCore;
 use savi_core::{Batch, Core, Event, Reply, Stepped};
-use savi_kinds::{DEPTH_MOST, How, Port, Who};
+use savi_kinds::{DEPTH_MOST, Entry, How, Port, PortSet, Who};
 
-/// Enters a frame, or ends its pass where there is no room for it. The answer is whether it was entered.
-pub(crate) fn enter_frame(kept: &mut KeptCore, event: Event<'_>) -> bool
+/// Enters a frame, or ends its pass where there is no room for it. The answer is whether it was entered, and the ports at
+/// which something may wait for it, of which nothing is promised.
+pub(crate) fn enter_frame(kept: &mut KeptCore, event: Event<'_>) -> (bool, PortSet)
     requires open { IsOpen kept.old.core.value.plan empty kept.old.core.value.past (maker_of (event_of event)) }
     requires frame { IsFrame (event_of event) }
     requires class { IsClassed event }
     ensures plan { kept.new.core.value.plan ≡ kept.old.core.value.plan }
     ensures legal { IsLegal kept.old.core.value.plan empty kept.old.core.value.past }
-    ensures did { DidInput (event_of event.entry) result kept.old.core.value.plan kept.old.core.value.past kept.new.core.value.past }
+    ensures did { DidInput (event_of event.entry) result.0 kept.old.core.value.plan kept.old.core.value.past kept.new.core.value.past }
 {
     let _len = kept.core.len();
     match kept.core.step(event) {
-        Stepped::Done(_) | Stepped::Nothing => true,
+        Stepped::Done(entry) => (true, queued_to(entry)),
+        Stepped::Nothing => (true, PortSet::empty()),
         Stepped::Full { len } => {
             end(kept, maker(event), How::Full(len));
-            false
+            (false, PortSet(u16::MAX))
         }
+    }
+}
+
+// The ports to whose queues an entry may have put something: those of its frame, and any where it has probes.
+fn queued_to(entry: Entry) -> PortSet {
+    if entry.probes > 0 {
+        PortSet(u16::MAX)
+    } else {
+        entry.outs
     }
 }
 

@@ -15,8 +15,6 @@ mod laws;
 mod made;
 mod making;
 mod plan;
-#[cfg(test)]
-mod tests;
 
 pub use laws::loads_arrive;
 pub use made::Load;

@@ -12,8 +12,6 @@ mod laws;
 mod owned;
 mod state;
 mod table;
-#[cfg(test)]
-mod tests;
 
 pub use laws::{
     a_port_holds_what_it_has_room_for, a_still_state_is_not_touched, a_test_stands_in_silence,

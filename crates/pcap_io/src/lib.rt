@@ -12,8 +12,6 @@ mod kind;
 mod laws;
 mod reader;
 mod record;
-#[cfg(test)]
-mod tests;
 mod writer;
 
 pub use kind::{ByteOrder, HeaderKind, TimeUnit};

@@ -1,5 +1,5 @@
-//! Reads the configurations that its words name, and prints the plan of each, or what is wrong with it. Where a port's format
-//! is stream, it says that a replay refuses the plan. Without a word it prints nothing.
+//! Reads the configurations that its words name, and prints the plan of each, or what is wrong with it. Where a port's
+//! format is stream, it says that a replay refuses the plan. Without a word it prints nothing.
 //!
 //! The status is 0 where each text says a plan, and else 3.
 #![tactic(auto)]

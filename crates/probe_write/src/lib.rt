@@ -8,8 +8,6 @@
 mod frame;
 mod laws;
 mod solicitation;
-#[cfg(test)]
-mod tests;
 
 pub use frame::{PROBE_LEN, probe};
 pub use laws::probes_ask_for_their_target;

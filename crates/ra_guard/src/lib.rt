@@ -10,8 +10,6 @@
 
 mod frame_guard;
 mod laws;
-#[cfg(test)]
-mod tests;
 
 pub use frame_guard::guard;
 pub use laws::{a_class_has_its_rule, adverts_are_refused, hidden_fragments_are_refused};

@@ -18,8 +18,6 @@ mod piece;
 mod sink;
 mod source;
 mod sure_source;
-#[cfg(test)]
-mod tests;
 mod world;
 
 pub use clock::Clock;

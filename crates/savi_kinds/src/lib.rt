@@ -28,8 +28,6 @@ mod plan;
 mod plan_words;
 mod port;
 mod prefix_text;
-#[cfg(test)]
-mod tests;
 mod text;
 mod text_laws;
 mod verdict;

@@ -1,4 +1,1 @@
-pub mod Spots
-pub mod NamedSpots
-pub mod PortPlaces
 pub mod RealWorlds

@@ -10,9 +10,9 @@ use Rattle.port_ends.specs.declared.port_source.PortSource.{PortSource}
 use Rattle.port_ends.specs.declared.port_sink.PortSink.{PortSink}
 use Rattle.savi_switch.specs.declared.machine_clock.MachineClock.{MachineClock}
 use Rattle.savi_switch.specs.declared.real_world.RealWorld.{RealWorld}
-use Rattle.savi_switch.specs.Spots.{place_of}
-use Rattle.savi_switch.specs.NamedSpots.{named_place}
-use Rattle.savi_switch.specs.PortPlaces.{port_place}
+use Rattle.end_places.specs.Spots.{place_of}
+use Rattle.end_places.specs.NamedSpots.{named_place}
+use Rattle.end_places.specs.PortPlaces.{port_place}
 
 abbrev pub std_place : {R A B C D : Type 0} → RealWorld R A B C D → Std → Place (PortSink FileSink (SocketSink R A B C D))
 std_place w Out = place_of w.out

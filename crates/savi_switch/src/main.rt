@@ -2,16 +2,14 @@
 //! it.
 //!
 //! The contract of the program is that of `run` (`switch_run`), the top call, over each world that keeps the contracts of
-//! `savi_ends`; here stand the real world, of files, Unix stream sockets, standard output and standard error, and `main`, which makes it.
+//! `savi_ends`; here stand the real world, of files, Unix stream sockets, standard output and standard error, and `main`,
+//! which makes it.
 #![tactic(auto)]
 
 ghost use Rattle.std.specs.Prelude.{◌≡◌};
 
 mod machine_clock;
-mod named_spot;
-mod port_spots;
 mod real_world;
-mod spot;
 
 use file_ends::FileSink;
 use live_turns::NoGate;
@@ -34,8 +32,8 @@ fn main(rt: HostRuntime) -> ExitCode {
     ExitCode::from(status)
 }
 
-// The words behind the program's name. `Err` is the status where there is no memory for them, or where they aren't text and so
-// no form of the command line.
+// The words behind the program's name. `Err` is the status where there is no memory for them, or where they aren't text and
+// so no form of the command line.
 fn words_of(rt: HostRuntime, alloc: Global) -> Result<Vec<String>, u8> {
     let Ok(mut arguments) = env::args(&rt) else {
         return Err(say_usage(rt));

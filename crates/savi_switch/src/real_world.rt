@@ -5,9 +5,7 @@ ghost use Rattle.savi_kinds.specs.Ports.{number_of};
 ghost use Rattle.savi_ends.specs.Faults.{Rose};
 
 use crate::machine_clock::MachineClock;
-use crate::named_spot::NamedSpot;
-use crate::port_spots::PortSpots;
-use crate::spot::Spot;
+use end_places::{NamedSpot, PortSpots, Spot};
 use file_ends::{FileSink, FileSource};
 use port_ends::{PortSink, PortSource};
 use savi_ends::{Ends, OpenFailed, Sink, Source, Std, World};
@@ -103,7 +101,7 @@ impl<R: Files + Net + Wait + Copy + Drop> RealWorld<R> {
         ensures source { IfSome result (λ ends. ⟦<RealSource<R> as Source>⟧.faults ends.0 ≡ 0) }
         ensures sink { IfSome result (λ ends. ⟦<RealSink<R> as Sink>⟧.faults ends.1 ≡ 0) }
     {
-        let (source, sink) = open_sockets(self.rt, self.alloc, input, output).ok()?;
+        let (source, sink) = open_sockets(self.rt, &self.host, self.alloc, input, output).ok()?;
         Some((PortSource::Socket(source), PortSink::Socket(sink)))
     }
 }

@@ -1,13 +1,17 @@
 //! Unix stream sockets as ends of the switch: what the one peer of a path sends is a source, and a sink sends to it.
 //!
-//! An opening makes the socket of each path and listens there; its one peer is accepted at the first read or write, so ports
-//! start apart from each other, and peers may come in any order. What a peer sends or gets is outside of every contract, so
-//! such an end tells nothing of its octets. That its failures are counted is proved.
+//! An opening locks each path, makes its socket and listens there; its one peer is accepted at the first read or write, so
+//! ports start apart from each other, and peers may come in any order. A path stays locked as long as its ends live. What a
+//! peer sends or gets is outside of every contract, so such an end tells nothing of its octets. That its failures are
+//! counted is proved.
 #![tactic(auto)]
 
 mod listening;
 mod meeting;
 mod opening;
+mod path_lock;
+mod receiving;
+mod sending;
 mod socket_sink;
 mod socket_source;
 

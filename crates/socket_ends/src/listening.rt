@@ -6,10 +6,10 @@ use std::net::Net;
 use std::os::unix::fs::FileTypeExt;
 use std::os::unix::net::{UnixListener, UnixStream};
 
-/// Makes a socket at this path and listens there. A socket that is there already is taken over where nobody listens any
-/// more; else what is there stays, and the answer is `Err`.
+/// Makes a socket at this path, whose lock the caller has, and listens there. A socket that is there already is taken over
+/// where nobody listens any more; else what is there stays, and the answer is `Err`.
 ///
-/// Whether somebody listens is tried by a connection, which is closed at once.
+/// Whether somebody listens, which is no switch, is tried by a connection, which is closed at once.
 pub(crate) fn listen<R: Files + Net>(rt: &R, path: &str) -> io::Result<UnixListener> {
     if is_left(rt, path) {
         fs::remove_file(rt, path)?;

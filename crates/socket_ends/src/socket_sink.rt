@@ -1,12 +1,12 @@
 //! What is sent to a peer, as a sink.
 
-ghost use Rattle.std.specs.Prelude.{◌≡◌, ◌≤◌, None, IfOk, IfSome, length};
+ghost use Rattle.std.specs.Prelude.{◌≡◌, None};
 
 use crate::meeting::Meeting;
+use crate::sending::send;
 use savi_ends::{Put, Sink};
 use std::alloc::Global;
 use std::fs::Files;
-use std::io::Write;
 use std::net::Net;
 use std::os::unix::net::UnixStream;
 use std::sync::{Arc, Wait};
@@ -30,20 +30,6 @@ impl<R: Files + Net + Wait + Drop> SocketSink<R> {
             faults: 0,
         }
     }
-
-    // Sends a front of the piece, and says how many octets, or that it failed.
-    fn write_some(&mut self, piece: &[u8]) -> Option<usize>
-        ensures bound { IfSome result (λ n. n ≤ length piece.now) }
-        ensures same { self.new.faults ≡ self.old.faults }
-    {
-        if self.stream.is_none() {
-            self.stream = self.meeting.meet();
-        }
-        match &mut self.stream {
-            Some(stream) => stream.write(piece).ok(),
-            None => None,
-        }
-    }
 }
 
 impl<R: Files + Net + Wait + Drop> Sink for SocketSink<R> {
@@ -56,16 +42,19 @@ impl<R: Files + Net + Wait + Drop> Sink for SocketSink<R> {
     }
 
     fn write(&mut self, piece: &[u8]) -> Put {
-        let mut rest = piece;
-        while !rest.is_empty() {
-            match self.write_some(rest) {
-                None | Some(0) => {
-                    self.faults = self.faults.saturating_add(1);
-                    return Put::Failed;
-                }
-                Some(n) => rest = &rest[n..],
-            }
+        if piece.is_empty() {
+            return Put::Done;
         }
-        Put::Done
+        if self.stream.is_none() {
+            self.stream = self.meeting.meet();
+        }
+        let put = match &mut self.stream {
+            Some(stream) => send(stream, piece),
+            None => Put::Failed,
+        };
+        if put == Put::Failed {
+            self.faults = self.faults.saturating_add(1);
+        }
+        put
     }
 }

@@ -3,10 +3,10 @@
 ghost use Rattle.std.specs.Prelude.{◌≡◌, None};
 
 use crate::meeting::Meeting;
+use crate::receiving::receive;
 use savi_ends::{Got, Source};
 use std::alloc::Global;
 use std::fs::Files;
-use std::io::Read;
 use std::net::Net;
 use std::os::unix::net::UnixStream;
 use std::sync::{Arc, Wait};
@@ -46,16 +46,12 @@ impl<R: Files + Net + Wait + Drop> Source for SocketSource<R> {
             self.stream = self.meeting.meet();
         }
         let got = match &mut self.stream {
-            Some(stream) => stream.read(buf).ok(),
-            None => None,
+            Some(stream) => receive(stream, buf),
+            None => Got::Failed,
         };
-        match got {
-            Some(0) => Got::End,
-            Some(n) => Got::Bytes(n),
-            None => {
-                self.faults = self.faults.saturating_add(1);
-                Got::Failed
-            }
+        if got == Got::Failed {
+            self.faults = self.faults.saturating_add(1);
         }
+        got
     }
 }

@@ -14,7 +14,8 @@ fn main(rt: HostRuntime) -> io::Result<ExitCode> {
         println!(rt; "usage: socket_runs INPUT OUTPUT")?;
         return Ok(ExitCode::from(0));
     };
-    let Ok((mut source, mut sink)) = open_sockets(rt, alloc, input.as_str(), output.as_str()) else {
+    let Ok((mut source, mut sink)) = open_sockets(rt, &rt, alloc, input.as_str(), output.as_str())
+    else {
         println!(rt; "cannot open")?;
         return Ok(ExitCode::from(7));
     };

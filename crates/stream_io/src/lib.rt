@@ -11,8 +11,6 @@ mod ahead;
 mod laws;
 mod reader;
 mod record;
-#[cfg(test)]
-mod tests;
 mod writer;
 
 pub use laws::{

@@ -15,8 +15,6 @@ mod journal;
 mod run_lines;
 mod summary;
 mod summary_text;
-#[cfg(test)]
-mod tests;
 
 pub use buffer::Buffer;
 pub use check_line::{

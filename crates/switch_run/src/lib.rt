@@ -4,11 +4,11 @@
 //! The contract of `run` carries the theorem of the whole: where a session began there is one legal history of the plan that
 //! the configuration says, it is the replay of what the sources of control and of the ports gave to sinks that may fail, and
 //! the journal, the replies, each port's output, the summary, the lines on standard error and the status are those of that
-//! history, or, of what is written, a front where a write failed (`specs/Session.antt`). A live session, whose ports are served
-//! side by side, has one legal and finished history too, by which each end was served (`specs/Live.antt`). Where a load is asked for, its
-//! history, a plain definition of the seed and the number of packets, is summed up, and nothing is opened
-//! (`specs/Loads.antt`). Where a journal is to be checked, the line on standard output is the one answer to its text, `good`
-//! exactly where the text is the journal of a finished history (`specs/Checks.antt`).
+//! history, or, of what is written, a front where a write failed (`specs/Session.antt`). A live session, whose ports are
+//! served side by side, has one legal and finished history too, by which each end was served (`specs/Live.antt`). Where a
+//! load is asked for, its history, a plain definition of the seed and the number of packets, is summed up, and nothing is
+//! opened (`specs/Loads.antt`). Where a journal is to be checked, the line on standard output is the one answer to its text,
+//! `good` exactly where the text is the journal of a finished history (`specs/Checks.antt`).
 #![tactic(auto)]
 
 mod checks;

@@ -135,8 +135,8 @@ where
     conclude(outcome, world, errors)
 }
 
-// What of a plan is wanted behind the session, which takes the plan: the numbers of its ports and the name of its journal; and
-// room for the ends of its ports.
+// What of a plan is wanted behind the session, which takes the plan: the numbers of its ports and the name of its journal;
+// and room for the ends of its ports.
 #[derive(Drop)]
 struct Room<S, K, C> {
     numbers: Vec<Port>,

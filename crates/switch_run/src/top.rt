@@ -56,8 +56,8 @@ pub const TOO_LONG: u8 = 8;
 /// the status is 0 where it is the journal of a finished history, 4 where it isn't, and 1, 5, 6 or 7 by its cause.
 /// `gen SEED FRAMES` replays a load in memory, and sums it up: the status is 0, 1 or 6.
 ///
-/// `serve FILE` runs a live session over the ports, the control and the ticker of the plan that FILE says, and its statuses are
-/// those of `replay`. It may go on for good; nothing else waits. The gate sees each turn of its workers.
+/// `serve FILE` runs a live session over the ports, the control and the ticker of the plan that FILE says, and its statuses
+/// are those of `replay`. It may go on for good; nothing else waits. The gate sees each turn of its workers.
 pub fn run<R: Threads + Wait + Sync, W: World, G: Gate>(
     rt: &R,
     alloc: Global,

@@ -11,8 +11,6 @@ mod lock;
 mod pass;
 mod plays;
 mod tally;
-#[cfg(test)]
-mod tests;
 mod turn;
 
 pub use kept::Kept;

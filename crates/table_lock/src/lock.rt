@@ -6,13 +6,17 @@ use crate::pass::Pass;
 use crate::plays::{Draw, Look, Make, PassOn, Together};
 use crate::turn::Held;
 use crossbeam_utils::Backoff;
-use std::sync::Wait;
+use std::sync::{Mutex, Wait};
+use std::thread::Parker;
 
 mod make;
+mod sleeping;
 
-/// A value under a lock that its passes take in turns, by ticket.
+/// A value under a lock that its passes take in turns, by ticket. `admission` is held by the pass that has a ticket.
 pub struct TableLock<V: Kept> {
     pub(crate) table: Board<V>,
+    pub(crate) admission: Mutex<()>,
+    pub(crate) sleepers: Vec<Parker>,
     ghost sized: { (table.shared.table_id.words ≡ 3) × (table.shared.table_id.slots ≡ 1) },
     ghost some: { 1 ≤ table.shared.key.1 },
 }
@@ -37,8 +41,9 @@ impl<V: Kept> TableLock<V> {
 
     /// Waits for the pass's turn, and takes the value out of the lock. It takes no memory.
     ///
-    /// The pass is one of this lock's. By the rule the passes are served in the order in which they drew their tickets, but
-    /// no clause says so. Nothing is promised of how long that takes.
+    /// The pass is one of this lock's. Passes wait asleep for a mutex, and the one that has it draws a ticket, which is
+    /// served at once. The mutex says in which order they come; a ticket is what the rule rests on. Nothing is promised of
+    /// either, nor of how long that takes.
     pub fn enter<'a, R: Wait>(&'a self, rt: &R, pass: Pass) -> Held<'a, V>
         requires { IsPassOf V.fixed self.now pass }
         ensures turn { IsTurn V.fixed result }
@@ -49,6 +54,7 @@ impl<V: Kept> TableLock<V> {
         ensures own { mine (pass_number pass) (held_seen result) ≡ pass_own pass }
         ensures fixed { V.fixed (held_value result) ≡ V.fixed (lock_first self.now) }
     {
+        let admitted = self.admission.lock(rt);
         let Pass { number, badge } = pass;
         let mut place: Place<V> = badge.into_seat();
         let ticket = self.table.shared.fetch_add::<Draw>(&mut place, TICKET, 1);
@@ -61,6 +67,7 @@ impl<V: Kept> TableLock<V> {
             place,
             value,
             entered,
+            admitted,
         }
     }
 
@@ -134,7 +141,12 @@ impl<V: Kept> TableLock<V> {
                 .shared
                 .join_seat::<Together>(&mut place, badge.into_seat());
         }
-        let TableLock { table } = self;
+        let TableLock {
+            table,
+            admission: _,
+            sleepers,
+        } = self;
+        drop(sleepers);
         let mut closed = table.close_with(place);
         let value = closed.take(0);
         closed.free();

@@ -5,6 +5,7 @@ use crate::board::Place;
 use crate::kept::Kept;
 use crate::lock::TableLock;
 use crate::pass::Pass;
+use std::sync::MutexGuard;
 
 /// A turn: the value, which is away from the lock until `leave`. Until then every other pass waits.
 pub struct Held<'a, V: Kept> {
@@ -13,6 +14,7 @@ pub struct Held<'a, V: Kept> {
     pub(crate) place: Place<V>,
     pub(crate) value: V,
     pub(crate) entered: u64,
+    pub(crate) admitted: MutexGuard<'a, ()>,
 }
 
 impl<'a, V: Kept> Held<'a, V> {
@@ -47,11 +49,14 @@ impl<'a, V: Kept> Held<'a, V> {
             mut place,
             value,
             entered,
+            admitted,
         } = self;
         let grew = value.entries() > entered;
         let nothing = lock.table.shared.exchange(&mut place, 0, Some(value));
         let None = nothing else { unreachable!() };
         lock.settle(&mut place, number, grew);
-        lock.pass_on(number, place)
+        let pass = lock.pass_on(number, place);
+        drop(admitted);
+        pass
     }
 }

@@ -9,10 +9,14 @@ use timer_wheel::TimerWheel;
 /// What is due up to a moment (ms) is taken: the moment of the pair that must come and its address, or None.
 type Take = (Moment, Option<(Moment, u128)>);
 
-/// Nine moments, one of them in place of another, of eight addresses.
-const ARMS: [(u128, Moment); 9] = [
+/// Thirteen moments, one of them in place of another, of twelve addresses.
+const ARMS: [(u128, Moment); 13] = [
     (3, 200),
+    (12, 200),
     (1, 200),
+    (9, 200),
+    (11, 200),
+    (10, 200),
     (2, 65_736),
     (4, 131_272),
     (5, 10),
@@ -23,7 +27,7 @@ const ARMS: [(u128, Moment); 9] = [
 ];
 
 /// What is taken of them, once address 8 was canceled.
-const IN_ORDER: [Take; 12] = [
+const IN_ORDER: [Take; 16] = [
     // nothing yet
     (9, None),
     // at its moment
@@ -32,10 +36,13 @@ const IN_ORDER: [Take; 12] = [
     (198, None),
     // by moment
     (250, Some((199, 6))),
-    // two at one moment by address
+    // six at one moment by address
     (250, Some((200, 1))),
-    // the second of them
     (250, Some((200, 3))),
+    (250, Some((200, 9))),
+    (250, Some((200, 10))),
+    (250, Some((200, 11))),
+    (250, Some((200, 12))),
     // those of later turns aren't due
     (299, None),
     // at its new moment
@@ -72,7 +79,7 @@ pub fn count_right(alloc: Global) -> Result<usize, AllocError> {
 }
 
 fn armed_wheel(alloc: Global) -> Result<TimerWheel, AllocError> {
-    let mut wheel = TimerWheel::make(alloc, 9)?;
+    let mut wheel = TimerWheel::make(alloc, 13)?;
     for (a, due) in ARMS {
         wheel.arm(Addr(a), due);
     }

@@ -24,6 +24,3 @@ pub use laws::a_chain_has_its_outcome;
 pub use outcome::{Chain, ChainFault};
 pub use packet::{Ip, IpFault};
 pub use walk::chain;
-
-#[cfg(test)]
-mod tests;

@@ -7,8 +7,6 @@
 
 mod law;
 mod message;
-#[cfg(test)]
-mod tests;
 mod words;
 
 pub use law::sum_of_joined_parts;

@@ -20,7 +20,7 @@ pub struct Hold {
     pub until_turn: u64,
 }
 
-/// Holds these turns back. It lets one go after 20 s, and knows that it has given up then.
+/// Holds these turns back. It lets one go after 20 s, knows that it has given up then, and holds no other one any more.
 #[derive(Drop)]
 pub struct HoldingGate {
     holds: Vec<Hold>,
@@ -61,7 +61,7 @@ impl HoldingGate {
     fn wait_for<R: Wait>(&self, rt: &R, pass: u32, turn: u64) {
         let idle = AtomicU64::new(0);
         for _ in 0..LOOKS_MOST {
-            if self.has_come(pass, turn) {
+            if self.has_come(pass, turn) || self.has_given_up() {
                 return;
             }
             idle.park_timeout(rt, 0, Duration::from_millis(SLEEP_MS));

@@ -1,5 +1,6 @@
 //! What a run leaves.
 
+use crate::PASSES_MOST;
 use crate::recording_world::RecordingWorld;
 use crate::scene::Scene;
 use journal_check::{Checked, check};
@@ -8,8 +9,9 @@ use sha2::{Digest, Sha256};
 use std::alloc::{AllocError, Global};
 
 /// Prints the status, what standard error and standard output were told, what was written at each port, the replies, where
-/// control has an input, and the journal; of a load the digests of what was written at the ports and of the journal; of a live
-/// session, whose entries come in the order of its workers, the ticks of the journal, and what a check says of it.
+/// control has an input, and the journal; of a load the digests of what was written at the ports and of the journal; of a
+/// live session, whose entries come in the order of its workers, the ticks of the journal, the end of each pass, and what a
+/// check says of it.
 pub fn print_left(
     rt: &impl Print,
     alloc: Global,
@@ -53,7 +55,8 @@ pub fn print_left(
     Ok(())
 }
 
-// The ticks of each journal, each as its entry is without its number, and whether the check of it says that it is good.
+// The ticks of each journal, each as its entry is without its number; how each pass ended, in the order of the passes; and
+// whether the check of the journal says that it is good.
 fn print_history(rt: &impl Print, alloc: Global, left: &RecordingWorld) -> anyhow::Result<()> {
     for (_, sink) in left.world.outputs.as_slice() {
         let text = text_of(alloc, sink)?;
@@ -64,6 +67,10 @@ fn print_history(rt: &impl Print, alloc: Global, left: &RecordingWorld) -> anyho
                 println!(rt; "{entry}")?;
             }
         }
+        println!(rt; "ends:")?;
+        for pass in 0..PASSES_MOST {
+            print_ends(rt, text.as_str(), pass)?;
+        }
         let mut source = MemSource::new(text.as_bytes().to_vec(alloc)?, 512, Vec::new(alloc));
         match check(alloc, &mut source) {
             Checked::Good { entries: _ } => println!(rt; "check: good")?,
@@ -71,6 +78,27 @@ fn print_history(rt: &impl Print, alloc: Global, left: &RecordingWorld) -> anyho
         }
     }
     Ok(())
+}
+
+// The ends that a pass has in a journal, a line each.
+fn print_ends(rt: &impl Print, journal: &str, pass: u32) -> anyhow::Result<()> {
+    for line in journal.lines() {
+        let (_, entry) = line.split_once(' ').unwrap_or(("", line));
+        if let Some(end) = end_by(entry, pass) {
+            println!(rt; "{end}")?;
+        }
+    }
+    Ok(())
+}
+
+// Who ended and how, where an entry behind its number is an end of this pass.
+fn end_by(entry: &str, pass: u32) -> Option<&str> {
+    let (by, rest) = entry.split_once(' ')?;
+    let (_moment, act) = rest.split_once(' ')?;
+    if by.parse::<u32>() != Ok(pass) {
+        return None;
+    }
+    act.strip_prefix("E ")
 }
 
 // Whether an entry behind its number, so its pass, its moment and its act, is a tick.

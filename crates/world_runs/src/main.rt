@@ -2,8 +2,8 @@
 //!
 //! The input is lines: those of a scene, and `run NAME`, which runs the program over that scene and prints what it leaves:
 //! the status, what standard error and standard output were told, what was written at each port, the replies, where control
-//! has an input, and the journal, or of a live session the ticks of it and what a check says. A scene stays for the next run,
-//! but for the calls that fail. Its lines, where a word of `OCTETS` is digits or a name:
+//! has an input, and the journal, or of a live session the ticks of it, how each pass ended, and what a check says. A scene
+//! stays for the next run, but for the calls that fail. Its lines, where a word of `OCTETS` is digits or a name:
 //!
 //!     name NAME DIGITS     octets in hexadecimal digits; in what is printed their name stands for them
 //!     plan                 forgets the plan, the head of its journal, the captures and control's input
@@ -14,17 +14,17 @@
 //!     load SEED FRAMES     the inputs hold the captures of this load; what is written is told by its digests then
 //!     command TEXT         a line that control's input holds next
 //!     control OCTETS..     octets that control's input holds next
-//!     pieces NUMBER        how many octets a read of control gives at most
+//!     pieces NUMBER        how many octets a read of control gives at most, and in a live session one at a port
 //!     drops PORT RULE NAME..   says which rule drops these frames at a port, and is passed over here
-//!     answers TEXT         says what a check of the configuration's text, taken for a journal, answers, and is passed over here
+//!     answers TEXT         says what a check of the configuration's text, as a journal, answers, and is passed over here
 //!     refused TEXT         says how the configuration is refused, and is passed over here
 //!     words TEXT..         the words of the command line
 //!     fails NUMBER WHICH   the call that fails, counted from 1: an `opening`, a read of the `plan`, `read N` or `write N`
 //!                          at port N, `read control` or `write control`, or a write of the `journal`, of the `summary` or
 //!                          of an `error`
-//!     clock NUMBER READINGS..  the readings of the clock of this port, in ms, or of the ticker's where it is 0
-//!     hold PASS TURN OTHER NUMBER  holds this turn of a pass of a live session until the other pass has come by for its turn of
-//!                          this number; where it doesn't within 20 s, a line says so
+//!     clock WHICH READINGS..   the readings, in ms, of the clock of this port, of `control` or of the `ticker`
+//!     hold PASS TURN OTHER NUMBER  holds this turn of a pass of a live session until the other pass has come by for its turn
+//!                          of this number; where it doesn't within 20 s, a line says so
 //!     leaves TEXT          a line that a live session leaves, as it was worked out by hand, and is passed over here
 //!     openings             prints also what the program asks of its world
 //!

@@ -23,10 +23,10 @@ pub struct Scene {
     pub is_load: bool,
     /// What the input of control holds, or None.
     pub commands: Option<Vec<u8>>,
-    /// How many octets a read of control gives at most.
+    /// How many octets a read of control gives at most, and in a live session one at a port.
     pub pieces: usize,
-    /// The readings of the clocks of ports, each list behind its port's number, and behind 0 those of the ticker's clock.
-    pub clocks: Vec<(u8, Vec<u64>)>,
+    /// The readings of clocks, each list behind its port's number, or behind the word of control or of the ticker.
+    pub clocks: Vec<(String, Vec<u64>)>,
     /// The turns of a live session that are held back.
     pub holds: Vec<Hold>,
     /// The words behind the program's name.
@@ -144,24 +144,25 @@ impl Scene {
         Ok(())
     }
 
-    /// The readings of the clock of this port, or of the ticker's where it is 0. O(clocks).
-    pub fn readings(&self, alloc: Global, port: u8) -> Result<Vec<u64>, AllocError> {
-        for (number, readings) in &self.clocks {
-            if *number == port {
+    /// The readings of the clock behind this word. O(clocks).
+    pub fn readings(&self, alloc: Global, which: &str) -> Result<Vec<u64>, AllocError> {
+        for (name, readings) in &self.clocks {
+            if name.as_str() == which {
                 return readings.clone();
             }
         }
         Ok(Vec::new(alloc))
     }
 
-    // Takes the readings of a port's clock, or of the ticker's.
+    // Takes the readings of a clock.
     fn set_clock(&mut self, alloc: Global, rest: &str) -> anyhow::Result<()> {
-        let (port, rest) = rest.split_once(' ').unwrap_or((rest, ""));
+        let (which, rest) = rest.split_once(' ').unwrap_or((rest, ""));
         let mut readings = Vec::new(alloc);
         for word in rest.split_whitespace() {
             readings.push(word.parse::<u64>()?)?;
         }
-        self.clocks.push((port.parse::<u8>()?, readings))?;
+        let which = String::from_str(alloc, which)?;
+        self.clocks.push((which, readings))?;
         Ok(())
     }
 

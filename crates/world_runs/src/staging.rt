@@ -29,7 +29,7 @@ pub fn stage(alloc: Global, scene: &Scene) -> anyhow::Result<RecordingWorld> {
         outputs,
         ports: ports_of(alloc, scene)?,
         control: Some(control_of(alloc, scene)?),
-        ticker: Some(MemClock::new(scene.readings(alloc, 0)?)),
+        ticker: Some(MemClock::new(scene.readings(alloc, "ticker")?)),
         out: Some(MemSink::make(alloc, TEXT_ROOM, fault_of(alloc, scene, "summary")?)?),
         err: Some(MemSink::make(alloc, TEXT_ROOM, fault_of(alloc, scene, "error")?)?),
         fails: fault_of(alloc, scene, "opening")?,
@@ -75,8 +75,9 @@ fn ports_of(alloc: Global, scene: &Scene) -> anyhow::Result<Vec<(Port, Option<Me
         let write = format!(in alloc; "write {number}")?;
         let reads = fault_of(alloc, scene, read.as_str())?;
         let writes = fault_of(alloc, scene, write.as_str())?;
-        let source = MemSource::new(capture.clone()?, READ_MOST, reads);
-        let clock = MemClock::new(scene.readings(alloc, number)?);
+        let source = MemSource::new(capture.clone()?, most_of(scene), reads);
+        let which = format!(in alloc; "{number}")?;
+        let clock = MemClock::new(scene.readings(alloc, which.as_str())?);
         let ends = ends_of(alloc, source, room_of(scene), writes, clock)?;
         ports.push((port, Some(ends)))?;
     }
@@ -92,8 +93,19 @@ fn control_of(alloc: Global, scene: &Scene) -> Result<MemEnds, AllocError> {
     let reads = fault_of(alloc, scene, "read control")?;
     let writes = fault_of(alloc, scene, "write control")?;
     let source = MemSource::new(octets, scene.pieces.max(1), reads);
-    let clock = MemClock::new(Vec::new(alloc));
+    let clock = MemClock::new(scene.readings(alloc, "control")?);
     ends_of(alloc, source, room_of(scene), writes, clock)
+}
+
+// How many octets a read at a port gives at most.
+fn most_of(scene: &Scene) -> usize
+    ensures { 1 ≤ result }
+{
+    if scene.is_live() {
+        scene.pieces.max(1)
+    } else {
+        READ_MOST
+    }
 }
 
 // Ends with this source, and with room for so many octets, of which these writes fail.

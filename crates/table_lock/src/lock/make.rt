@@ -5,12 +5,14 @@ ghost use Rattle.table_lock.specs.Rule.{opening_view};
 
 use crate::board::{About, Place};
 use crate::kept::Kept;
+use crate::lock::sleeping::places;
 use crate::lock::{NotMade, TableLock};
 use crate::pass::Pass;
 use crate::plays::Deal;
 use atomic_table::{Refused, Table};
 use std::alloc::Global;
 use std::snapshot::Snapshot;
+use std::sync::Mutex;
 
 // The one value of a row of slots.
 fn only<V>(mut slots: Vec<Option<V>>) -> V
@@ -32,12 +34,22 @@ fn lay<V: Kept>(alloc: Global, v: V, n: u32) -> Result<(TableLock<V>, Place<V>),
     ensures err { IfErr result (λ r. r.v ≡ v) }
 {
     let about: About<V> = (Snapshot::of(&v), n);
+    let Ok(sleepers) = places(alloc) else {
+        return Err(NotMade { v });
+    };
     let Ok(mut slots) = Vec::with_capacity(alloc, 1) else {
         return Err(NotMade { v });
     };
     slots.push_reserved(Some(v));
     match Table::new(alloc, &[0, 0, 0], slots, &about) {
-        Ok((table, place)) => Ok((TableLock { table }, place)),
+        Ok((table, place)) => Ok((
+            TableLock {
+                table,
+                admission: Mutex::new(()),
+                sleepers,
+            },
+            place,
+        )),
         Err(Refused { slots }) => Err(NotMade { v: only(slots) }),
     }
 }

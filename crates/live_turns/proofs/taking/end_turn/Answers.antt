@@ -25,8 +25,8 @@ end-requires-clause-may g c =
     (ap (λ (k : KeptCore). coded k.core.value.past) c.value.ensures.value ∙ c.enter-held.ensures.seen) c.enter-held.ensures.extends c.enter-held.ensures.own
     (ap kept_fixed c.value.ensures.value ∙ c.enter-held.ensures.fixed) in subst (λ (p : Plan). MayEnd p empty c.value.result.now.core.value.past c.args.who c.args.how) (sym found.plan_is) (c.requires.may c.value.result.now.core.value.past)
 
-pub leave-requires-clause-history : goal.leave-requires-clause-history
-leave-requires-clause-history g c =
+pub leave-pass-requires-clause-history : goal.leave-pass-requires-clause-history
+leave-pass-requires-clause-history g c =
     let found : Finds c.args.lock.now c.args.who c.args.turns.pass c.value.result.now =
     finds c.args.lock.now c.args.who c.args.turns.pass c.requires.running c.into_pass.result c.value.result.now c.enter-held.result.place.me.0.seen c.into_pass.ensures
     (ap (λ (k : KeptCore). coded k.core.value.past) c.value.ensures.value ∙ c.enter-held.ensures.seen) c.enter-held.ensures.extends c.enter-held.ensures.own
@@ -41,7 +41,7 @@ returns-clause-turned g c =
     finds c.args.lock.now c.args.who c.args.turns.pass c.requires.running c.into_pass.result c.value.result.now c.enter-held.result.place.me.0.seen c.into_pass.ensures
     (ap (λ (k : KeptCore). coded k.core.value.past) c.value.ensures.value ∙ c.enter-held.ensures.seen) c.enter-held.ensures.extends c.enter-held.ensures.own
     (ap kept_fixed c.value.ensures.value ∙ c.enter-held.ensures.fixed) in
-    turned c.args.lock.now c.args.who c.args.turns.pass c.requires.running c.value.result.now c.end.new.kept c.after.result.pass found (ap pass_seen c.after.ensures ∙ c.leave.ensures.seen)
+    turned c.args.lock.now c.args.who c.args.turns.pass c.requires.running c.value.result.now c.end.new.kept c.after.result.pass found (ap pass_seen c.after.ensures ∙ c.leave-pass.ensures.seen)
     (DidEnd c.args.who c.args.how) c.end.ensures.legal c.end.ensures.did
 
 pub returns-clause-ended : goal.returns-clause-ended
@@ -50,6 +50,6 @@ returns-clause-ended g c =
     finds c.args.lock.now c.args.who c.args.turns.pass c.requires.running c.into_pass.result c.value.result.now c.enter-held.result.place.me.0.seen c.into_pass.ensures
     (ap (λ (k : KeptCore). coded k.core.value.past) c.value.ensures.value ∙ c.enter-held.ensures.seen) c.enter-held.ensures.extends c.enter-held.ensures.own
     (ap kept_fixed c.value.ensures.value ∙ c.enter-held.ensures.fixed) in
-    stands c.args.lock.now c.args.who c.args.turns.pass c.requires.running c.value.result.now c.end.new.kept c.after.result.pass found (ap pass_seen c.after.ensures ∙ c.leave.ensures.seen)
-    c.into_pass.result c.enter-held.result.number true c.into_pass.ensures c.enter-held.ensures.number (left_of c.args.lock.now c.enter-held.result.lock.now c.leave.result c.after.result.pass c.enter-held.ensures.lock c.after.ensures c.leave.ensures.pass) (ap pass_number c.after.ensures ∙ c.leave.ensures.number)
+    stands c.args.lock.now c.args.who c.args.turns.pass c.requires.running c.value.result.now c.end.new.kept c.after.result.pass found (ap pass_seen c.after.ensures ∙ c.leave-pass.ensures.seen)
+    c.into_pass.result c.enter-held.result.number true c.into_pass.ensures c.enter-held.ensures.number (left_of c.args.lock.now c.enter-held.result.lock.now c.leave-pass.result c.after.result.pass c.enter-held.ensures.lock c.after.ensures c.leave-pass.ensures.pass) (ap pass_number c.after.ensures ∙ c.leave-pass.ensures.number)
     (end_state c.value.result.now.core.value.plan c.value.result.now.core.value.past c.end.new.kept.core.value.past c.args.who c.args.how c.end.ensures.did)

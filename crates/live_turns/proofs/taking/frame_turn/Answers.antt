@@ -16,15 +16,15 @@ enter_frame-entered-requires-clause-open g c =
     (ap (λ (k : KeptCore). coded k.core.value.past) c.value.ensures.value ∙ c.enter-held.ensures.seen) c.enter-held.ensures.extends c.enter-held.ensures.own
     (ap kept_fixed c.value.ensures.value ∙ c.enter-held.ensures.fixed) in found.opens
 
-pub leave-requires-clause-history : goal.leave-requires-clause-history
-leave-requires-clause-history g c =
+pub leave-pass-requires-clause-history : goal.leave-pass-requires-clause-history
+leave-pass-requires-clause-history g c =
     let found : Finds c.args.lock.now (maker_of (event_of c.args.event)) c.args.turns.pass c.value.result.now =
     finds c.args.lock.now (maker_of (event_of c.args.event)) c.args.turns.pass c.requires.running c.into_pass.result c.value.result.now c.enter-held.result.place.me.0.seen c.into_pass.ensures
     (ap (λ (k : KeptCore). coded k.core.value.past) c.value.ensures.value ∙ c.enter-held.ensures.seen) c.enter-held.ensures.extends c.enter-held.ensures.own
     (ap kept_fixed c.value.ensures.value ∙ c.enter-held.ensures.fixed) in
     may_leave c.args.lock.now (maker_of (event_of c.args.event)) c.args.turns.pass c.requires.running c.into_pass.result c.enter-held.result.number c.value.result.now c.enter_frame-entered.new.kept c.enter-held.result.place.me.0.seen c.into_pass.ensures c.enter-held.ensures.number found
     (ap (λ (k : KeptCore). coded k.core.value.past) c.value.ensures.value ∙ c.enter-held.ensures.seen)
-    (frame_one c.value.result.now.core.value.plan c.value.result.now.core.value.past c.enter_frame-entered.new.kept.core.value.past (event_of c.args.event) c.enter_frame-entered.result c.enter_frame-entered.ensures.did)
+    (frame_one c.value.result.now.core.value.plan c.value.result.now.core.value.past c.enter_frame-entered.new.kept.core.value.past (event_of c.args.event) c.enter_frame-entered.result.0 c.enter_frame-entered.ensures.did)
 
 pub returns-clause-turned : goal.returns-clause-turned
 returns-clause-turned g c =
@@ -32,8 +32,8 @@ returns-clause-turned g c =
     finds c.args.lock.now (maker_of (event_of c.args.event)) c.args.turns.pass c.requires.running c.into_pass.result c.value.result.now c.enter-held.result.place.me.0.seen c.into_pass.ensures
     (ap (λ (k : KeptCore). coded k.core.value.past) c.value.ensures.value ∙ c.enter-held.ensures.seen) c.enter-held.ensures.extends c.enter-held.ensures.own
     (ap kept_fixed c.value.ensures.value ∙ c.enter-held.ensures.fixed) in
-    turned c.args.lock.now (maker_of (event_of c.args.event)) c.args.turns.pass c.requires.running c.value.result.now c.enter_frame-entered.new.kept c.after.result.pass found (ap pass_seen c.after.ensures ∙ c.leave.ensures.seen)
-    (DidInput (event_of c.args.event) c.enter_frame-entered.result) c.enter_frame-entered.ensures.legal c.enter_frame-entered.ensures.did
+    turned c.args.lock.now (maker_of (event_of c.args.event)) c.args.turns.pass c.requires.running c.value.result.now c.enter_frame-entered.new.kept c.after.result.pass found (ap pass_seen c.after.ensures ∙ c.leave-pass.ensures.seen)
+    (DidInput (event_of c.args.event) c.enter_frame-entered.result.0) c.enter_frame-entered.ensures.legal c.enter_frame-entered.ensures.did
 
 pub returns-clause-state : goal.returns-clause-state
 returns-clause-state g c =
@@ -41,6 +41,6 @@ returns-clause-state g c =
     finds c.args.lock.now (maker_of (event_of c.args.event)) c.args.turns.pass c.requires.running c.into_pass.result c.value.result.now c.enter-held.result.place.me.0.seen c.into_pass.ensures
     (ap (λ (k : KeptCore). coded k.core.value.past) c.value.ensures.value ∙ c.enter-held.ensures.seen) c.enter-held.ensures.extends c.enter-held.ensures.own
     (ap kept_fixed c.value.ensures.value ∙ c.enter-held.ensures.fixed) in
-    stands c.args.lock.now (maker_of (event_of c.args.event)) c.args.turns.pass c.requires.running c.value.result.now c.enter_frame-entered.new.kept c.after.result.pass found (ap pass_seen c.after.ensures ∙ c.leave.ensures.seen)
-    c.into_pass.result c.enter-held.result.number (not c.enter_frame-entered.result) c.into_pass.ensures c.enter-held.ensures.number (left_of c.args.lock.now c.enter-held.result.lock.now c.leave.result c.after.result.pass c.enter-held.ensures.lock c.after.ensures c.leave.ensures.pass) (ap pass_number c.after.ensures ∙ c.leave.ensures.number)
-    (frame_state c.value.result.now.core.value.plan c.value.result.now.core.value.past c.enter_frame-entered.new.kept.core.value.past (event_of c.args.event) c.enter_frame-entered.result c.requires.frame found.opens.running c.enter_frame-entered.ensures.did)
+    stands c.args.lock.now (maker_of (event_of c.args.event)) c.args.turns.pass c.requires.running c.value.result.now c.enter_frame-entered.new.kept c.after.result.pass found (ap pass_seen c.after.ensures ∙ c.leave-pass.ensures.seen)
+    c.into_pass.result c.enter-held.result.number (not c.enter_frame-entered.result.0) c.into_pass.ensures c.enter-held.ensures.number (left_of c.args.lock.now c.enter-held.result.lock.now c.leave-pass.result c.after.result.pass c.enter-held.ensures.lock c.after.ensures c.leave-pass.ensures.pass) (ap pass_number c.after.ensures ∙ c.leave-pass.ensures.number)
+    (frame_state c.value.result.now.core.value.plan c.value.result.now.core.value.past c.enter_frame-entered.new.kept.core.value.past (event_of c.args.event) c.enter_frame-entered.result.0 c.requires.frame found.opens.running c.enter_frame-entered.ensures.did)

@@ -16,8 +16,8 @@ tick-came-requires g c =
     (ap (λ (k : KeptCore). coded k.core.value.past) c.value.ensures.value ∙ c.enter-held.ensures.seen) c.enter-held.ensures.extends c.enter-held.ensures.own
     (ap kept_fixed c.value.ensures.value ∙ c.enter-held.ensures.fixed) in record { «open» = found.opens }
 
-pub leave-requires-clause-history : goal.leave-requires-clause-history
-leave-requires-clause-history g c =
+pub leave-pass-requires-clause-history : goal.leave-pass-requires-clause-history
+leave-pass-requires-clause-history g c =
     let found : Finds c.args.lock.now Ticker c.args.turns.pass c.value.result.now =
     finds c.args.lock.now Ticker c.args.turns.pass c.requires.running c.into_pass.result c.value.result.now c.enter-held.result.place.me.0.seen c.into_pass.ensures
     (ap (λ (k : KeptCore). coded k.core.value.past) c.value.ensures.value ∙ c.enter-held.ensures.seen) c.enter-held.ensures.extends c.enter-held.ensures.own
@@ -32,7 +32,7 @@ returns-clause-turned g c =
     finds c.args.lock.now Ticker c.args.turns.pass c.requires.running c.into_pass.result c.value.result.now c.enter-held.result.place.me.0.seen c.into_pass.ensures
     (ap (λ (k : KeptCore). coded k.core.value.past) c.value.ensures.value ∙ c.enter-held.ensures.seen) c.enter-held.ensures.extends c.enter-held.ensures.own
     (ap kept_fixed c.value.ensures.value ∙ c.enter-held.ensures.fixed) in
-    turned c.args.lock.now Ticker c.args.turns.pass c.requires.running c.value.result.now c.tick-came.new.kept c.after.result.pass found (ap pass_seen c.after.ensures ∙ c.leave.ensures.seen)
+    turned c.args.lock.now Ticker c.args.turns.pass c.requires.running c.value.result.now c.tick-came.new.kept c.after.result.pass found (ap pass_seen c.after.ensures ∙ c.leave-pass.ensures.seen)
     (DidTick c.args.stamp c.tick-came.result) c.tick-came.ensures.legal c.tick-came.ensures.did
 
 pub returns-clause-state : goal.returns-clause-state
@@ -41,6 +41,6 @@ returns-clause-state g c =
     finds c.args.lock.now Ticker c.args.turns.pass c.requires.running c.into_pass.result c.value.result.now c.enter-held.result.place.me.0.seen c.into_pass.ensures
     (ap (λ (k : KeptCore). coded k.core.value.past) c.value.ensures.value ∙ c.enter-held.ensures.seen) c.enter-held.ensures.extends c.enter-held.ensures.own
     (ap kept_fixed c.value.ensures.value ∙ c.enter-held.ensures.fixed) in
-    stands c.args.lock.now Ticker c.args.turns.pass c.requires.running c.value.result.now c.tick-came.new.kept c.after.result.pass found (ap pass_seen c.after.ensures ∙ c.leave.ensures.seen)
-    c.into_pass.result c.enter-held.result.number (ends_ticker c.tick-came.result) c.into_pass.ensures c.enter-held.ensures.number (left_of c.args.lock.now c.enter-held.result.lock.now c.leave.result c.after.result.pass c.enter-held.ensures.lock c.after.ensures c.leave.ensures.pass) (ap pass_number c.after.ensures ∙ c.leave.ensures.number)
+    stands c.args.lock.now Ticker c.args.turns.pass c.requires.running c.value.result.now c.tick-came.new.kept c.after.result.pass found (ap pass_seen c.after.ensures ∙ c.leave-pass.ensures.seen)
+    c.into_pass.result c.enter-held.result.number (ends_ticker c.tick-came.result) c.into_pass.ensures c.enter-held.ensures.number (left_of c.args.lock.now c.enter-held.result.lock.now c.leave-pass.result c.after.result.pass c.enter-held.ensures.lock c.after.ensures c.leave-pass.ensures.pass) (ap pass_number c.after.ensures ∙ c.leave-pass.ensures.number)
     (tick_state c.value.result.now.core.value.plan c.value.result.now.core.value.past c.tick-came.new.kept.core.value.past c.args.stamp c.tick-came.result found.opens.running c.tick-came.ensures.did)

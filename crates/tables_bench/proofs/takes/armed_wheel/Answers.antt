@@ -10,5 +10,5 @@ one_more old new a d i most armed before = omega (arith, ap (λ (w : Wheel). len
 pub loop-a-preserved : goal.loop-a-preserved
 loop-a-preserved c = record {
   most = ap (λ (wheel : Wheel). wheel.most) c.arm.ensures ∙ c.loop-a.invariant.most;
-  room = one_more c.loop-a.wheel c.arm.new.self _ _ c.loop-a.a-index 9 c.arm.ensures c.loop-a.invariant.room;
+  room = one_more c.loop-a.wheel c.arm.new.self _ _ c.loop-a.a-index 13 c.arm.ensures c.loop-a.invariant.room;
 }

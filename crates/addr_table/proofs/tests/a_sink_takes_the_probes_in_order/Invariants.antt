@@ -1,7 +1,0 @@
-use Rattle.std.proofs.Common.{Some}
-use Rattle.savi_kinds.specs.declared.plan.Method.TheVariants.{Mixed}
-use Rattle.addr_table.specs.Keeps.{AreSound}
-use Rattle.addr_table.proofs.tests.a_sink_takes_the_probes_in_order.Given as goal
-
-abbrev pub invariant-loop-step : goal.invariant-loop-step
-invariant-loop-step g l = AreSound (λ a. Some Mixed) l.table.rows

@@ -1,0 +1,283 @@
+//! The world of three ports.
+
+ghost use Rattle.std.specs.Prelude.{◌≡◌, ◌≤◌, ℕ, List, true, false, Some, IfOk, IfSome};
+ghost use Rattle.savi_kinds.specs.Ports.{number_of};
+ghost use Rattle.savi_ends.specs.Faults.{Rose};
+
+use crate::frames::{FIRST_OF_1, FIRST_OF_2, SECOND_OF_1, SECOND_OF_2};
+use crate::held_sink::HeldSink;
+use crate::held_source::HeldSource;
+use crate::marks::Marks;
+use end_places::{NamedSpot, PortSpots, Spot};
+use savi_ends::{Ends, MemClock, MemSink, OpenFailed, Sink, Source, Std, World};
+use savi_kinds::{Port, PortPlan, Text};
+use std::alloc::{AllocError, Global};
+
+/// The names of the configuration and of the journal.
+pub const PLAN: &str = "plan";
+
+pub const JOURNAL: &str = "journal.txt";
+
+/// Room for what is written at a port, or of the journal.
+const FILE_ROOM: usize = 8_192;
+
+/// Room for what standard output and standard error are told.
+const TEXT_ROOM: usize = 256;
+
+/// The ends of a port.
+pub type HeldEnds<'a> = Ends<HeldSource<'a>, HeldSink<'a>, MemClock>;
+
+/// A world of a configuration, three ports and a journal, whose ends it makes as they are opened. It has no control.
+#[derive(Drop)]
+pub struct HeldWorld<'a> {
+    alloc: Global,
+    rt: HostRuntime,
+    marks: &'a Marks,
+    plan: String,
+    faults: u64,
+    input: NamedSpot<HeldSource<'a>>,
+    output: NamedSpot<HeldSink<'a>>,
+    ports: PortSpots<HeldEnds<'a>>,
+    control: Spot<HeldEnds<'a>>,
+    ticker: Option<MemClock>,
+    out: Option<HeldSink<'a>>,
+    err: Option<HeldSink<'a>>,
+}
+
+impl<'a> HeldWorld<'a> {
+    ghost use Rattle.savi_ends.specs.Places.{HandedNothing};
+    ghost use Rattle.held_ends.specs.HeldWorlds.{book_of};
+
+    /// A world with this configuration that has handed out nothing. `Err` is want of memory.
+    pub fn make(
+        alloc: Global,
+        rt: HostRuntime,
+        plan: String,
+        marks: &'a Marks,
+    ) -> Result<HeldWorld<'a>, AllocError>
+        ensures { IfOk result (λ w. HandedNothing ⟦<HeldSource<'a> as Source>⟧.faults ⟦<HeldSink<'a> as Sink>⟧.faults (book_of w)) }
+    {
+        let out = MemSink::make(alloc, TEXT_ROOM, Vec::new(alloc))?;
+        let err = MemSink::make(alloc, TEXT_ROOM, Vec::new(alloc))?;
+        Ok(HeldWorld {
+            alloc,
+            rt,
+            marks,
+            plan,
+            faults: 0,
+            input: NamedSpot::new(),
+            output: NamedSpot::new(),
+            ports: PortSpots::make(alloc)?,
+            control: Spot::new(),
+            ticker: Some(MemClock::new(Vec::new(alloc))),
+            out: Some(HeldSink::new(rt, out, None)),
+            err: Some(HeldSink::new(rt, err, None)),
+        })
+    }
+
+    // The source of the configuration.
+    fn plan_source(&self) -> Result<HeldSource<'a>, AllocError>
+        ensures { IfOk result (λ s. ⟦<HeldSource<'a> as Source>⟧.faults s ≡ 0) }
+    {
+        let octets = self.plan.as_bytes().to_vec(self.alloc)?;
+        Ok(HeldSource::new(self.alloc, self.rt, octets, None))
+    }
+
+    // A sink in which nothing is written yet.
+    fn file_sink(&self, marks: Option<&'a Marks>) -> Result<HeldSink<'a>, AllocError>
+        ensures { IfOk result (λ k. ⟦<HeldSink<'a> as Sink>⟧.faults k ≡ 0) }
+    {
+        let sink = MemSink::make(self.alloc, FILE_ROOM, Vec::new(self.alloc))?;
+        Ok(HeldSink::new(self.rt, sink, marks))
+    }
+
+    // The ends of a port.
+    fn ends_of(&self, number: u8) -> Result<HeldEnds<'a>, AllocError>
+        ensures source { IfOk result (λ ends. ⟦<HeldSource<'a> as Source>⟧.faults ends.source ≡ 0) }
+        ensures sink { IfOk result (λ ends. ⟦<HeldSink<'a> as Sink>⟧.faults ends.sink ≡ 0) }
+    {
+        let mut octets = Vec::new(self.alloc);
+        match number {
+            1 => {
+                octets.extend_from_slice(&FIRST_OF_1)?;
+                octets.extend_from_slice(&SECOND_OF_1)?;
+            }
+            2 => {
+                octets.extend_from_slice(&FIRST_OF_2)?;
+                octets.extend_from_slice(&SECOND_OF_2)?;
+            }
+            _ => {}
+        }
+        let reads = if number == 1 { Some(self.marks) } else { None };
+        let writes = if number == 3 { Some(self.marks) } else { None };
+        Ok(Ends {
+            source: HeldSource::new(self.alloc, self.rt, octets, reads),
+            sink: self.file_sink(writes)?,
+            clock: MemClock::new(Vec::new(self.alloc)),
+        })
+    }
+
+    /// What was written at a port, where its ends came back.
+    pub fn sent(&self, port: Port) -> Option<&[u8]> {
+        match self.ports.kept(port) {
+            Some(ends) => Some(ends.sink.written()),
+            None => None,
+        }
+    }
+
+    /// The journal, where it came back.
+    pub fn journal(&self) -> Option<&[u8]> {
+        match self.output.kept() {
+            Some(sink) => Some(sink.written()),
+            None => None,
+        }
+    }
+
+    /// What standard output and standard error were told, where they came back.
+    pub fn told(&self, which: Std) -> Option<&[u8]> {
+        let kept = match which {
+            Std::Out => &self.out,
+            Std::Err => &self.err,
+        };
+        match kept {
+            Some(sink) => Some(sink.written()),
+            None => None,
+        }
+    }
+}
+
+// Counts an opening that failed.
+fn fault(faults: &mut u64) -> OpenFailed
+    ensures later { faults.old ≤ faults.new }
+    ensures rose { Rose faults.old faults.new }
+{
+    *faults = faults.saturating_add(1);
+    OpenFailed
+}
+
+impl<'a> World for HeldWorld<'a> {
+    ghost use Rattle.savi_ends.specs.Places.{Book, HandsOut, IsReady, Opens, OthersStay, IsOnlyOut, BothFresh};
+    ghost use Rattle.held_ends.specs.HeldWorlds.{book_of};
+
+    type S = HeldSource<'a>;
+
+    type K = HeldSink<'a>;
+
+    type C = MemClock;
+
+    ghost book = { book_of };
+
+    fn faults(&self) -> u64 {
+        self.faults
+    }
+
+    fn input(&mut self, name: &str) -> Result<HeldSource<'a>, OpenFailed> {
+        if !self.input.is_free() || name != PLAN {
+            return Err(fault(&mut self.faults));
+        }
+        let Ok(copy) = String::from_str(self.alloc, name) else {
+            return Err(fault(&mut self.faults));
+        };
+        match self.plan_source() {
+            Ok(source) => {
+                self.input.hand_out(Text::new(copy));
+                Ok(source)
+            }
+            Err(_) => Err(fault(&mut self.faults)),
+        }
+    }
+
+    fn output(&mut self, name: &str) -> Result<HeldSink<'a>, OpenFailed> {
+        if !self.output.is_free() || name != JOURNAL {
+            return Err(fault(&mut self.faults));
+        }
+        let Ok(copy) = String::from_str(self.alloc, name) else {
+            return Err(fault(&mut self.faults));
+        };
+        match self.file_sink(None) {
+            Ok(sink) => {
+                self.output.hand_out(Text::new(copy));
+                Ok(sink)
+            }
+            Err(_) => Err(fault(&mut self.faults)),
+        }
+    }
+
+    fn port(&mut self, n: Port, plan: &PortPlan) -> Result<HeldEnds<'a>, OpenFailed> {
+        let _ = plan;
+        match self.ends_of(n.get()) {
+            Ok(ends) => {
+                self.ports.hand_out(n);
+                Ok(ends)
+            }
+            Err(_) => Err(fault(&mut self.faults)),
+        }
+    }
+
+    fn control(
+        &mut self,
+        source: &str,
+        sink: &str,
+        live: bool,
+    ) -> Result<HeldEnds<'a>, OpenFailed> {
+        let _ = source;
+        let _ = sink;
+        let _ = live;
+        Err(fault(&mut self.faults))
+    }
+
+    fn ticker(&mut self) -> MemClock {
+        match self.ticker.take() {
+            Some(clock) => clock,
+            None => unreachable!(),
+        }
+    }
+
+    fn std(&mut self, which: Std) -> HeldSink<'a> {
+        let taken = match which {
+            Std::Out => self.out.take(),
+            Std::Err => self.err.take(),
+        };
+        match taken {
+            Some(sink) => sink,
+            None => unreachable!(),
+        }
+    }
+
+    fn keep_port(&mut self, n: Port, ends: HeldEnds<'a>)
+        requires { ((book_of self.old).ports (number_of n)).is_out ≡ true }
+        ensures kept { ((book_of self.new).ports (number_of n)).stands ≡ Some ends.entry }
+        ensures others { OthersStay (book_of self.old).ports (book_of self.new).ports (number_of n) }
+        ensures rest { book_of self.new ≡ record (book_of self.old) { ports = (book_of self.new).ports } }
+    {
+        self.ports.keep(n, ends);
+    }
+
+    fn keep_control(&mut self, ends: HeldEnds<'a>)
+        requires { (book_of self.old).control.is_out ≡ true }
+        ensures kept { (book_of self.new).control.stands ≡ Some ends.entry }
+        ensures rest { book_of self.new ≡ record (book_of self.old) { control = (book_of self.new).control } }
+    {
+        self.control.keep(ends);
+    }
+
+    fn keep_input(&mut self, source: HeldSource<'a>) {
+        self.input.keep(source);
+    }
+
+    fn keep_output(&mut self, name: &str, sink: HeldSink<'a>) {
+        let _ = name;
+        self.output.keep(sink);
+    }
+
+    fn keep_ticker(&mut self, clock: MemClock) {
+        self.ticker = Some(clock);
+    }
+
+    fn keep_std(&mut self, which: Std, sink: HeldSink<'a>) {
+        match which {
+            Std::Out => self.out = Some(sink),
+            Std::Err => self.err = Some(sink),
+        }
+    }
+}

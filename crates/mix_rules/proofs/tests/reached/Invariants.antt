@@ -1,6 +1,0 @@
-use Rattle.mix_rules.specs.States.{IsSoundFor}
-use Rattle.mix_rules.specs.Premises.{AllMomentsFit}
-use Rattle.mix_rules.proofs.tests.reached.Given as goal
-
-abbrev pub invariant-loop-event : goal.invariant-loop-event
-invariant-loop-event g l = IsSoundFor l.m l.state × AllMomentsFit l.state
