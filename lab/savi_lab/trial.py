@@ -1,4 +1,5 @@
 """One network: its stations come up, each attack is made, and honest traffic is tried."""
+import contextlib
 import multiprocessing
 import os
 import shutil
@@ -8,7 +9,7 @@ from dataclasses import dataclass, field
 
 from . import attacks, frames, leases
 from .attacks import Field
-from .namespaces import PATIENCE, LabFault, Late, die_with_parent, own_name, remove, undisturbed, wait_until
+from .namespaces import PATIENCE, PREFIX, LabFault, Late, die_with_parent, own_name, remove, undisturbed, wait_until
 from .networks import make_switch_space
 from .stations import (HONEST, INTERFACE, OUTSIDE, OWN_PREFIX, STATIONS, Station, reaches, reaches_from, start_router,
                        start_server)
@@ -125,14 +126,20 @@ def try_all(ground, trial, tell):
 
 
 def work(answer, make_network, folder, tell):
-    """As a process of its own, which cleans up and ends when the lab does."""
+    """As a process of its own, which cleans up and ends when the lab does; where the lab was killed, its folder too."""
     die_with_parent(signal.SIGTERM)
-    began = time.monotonic()
+    lab, began = os.getppid(), time.monotonic()
     try:
         answer.send(make(make_network, folder, tell))
         tell(f"{os.path.basename(folder)}: {time.monotonic() - began:.0f} s")
     except LabFault as fault:
         answer.send(type(fault)(f"{os.path.basename(folder)}: {fault}"))
+    finally:
+        above = os.path.dirname(folder)
+        if os.getppid() != lab and os.path.basename(above).startswith(PREFIX):
+            with undisturbed(), contextlib.suppress(OSError):
+                shutil.rmtree(folder, ignore_errors=True)
+                os.rmdir(above)
 
 
 def make_all(networks, folder, tell, deadline):
