@@ -2,7 +2,7 @@
 
 .PHONY: build look demo plan bench lab check install uninstall clean FORCE
 
-# The proved program. The first build proves each crate, 15 to 30 minutes on 4 cores; where the program was built from these
+# The proved program. The first build proves each crate, up to 40 minutes on 4 cores; where the program was built from these
 # very sources, by `make` or by the gate, it is taken as it is.
 build: build/savi_switch
 
