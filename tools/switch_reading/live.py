@@ -117,10 +117,8 @@ class Live(Replay):
             source.at += 1
             if number == CONTROL:
                 yield from self.answer(source, arrival)
-            elif arrival.octets is None:
-                self.switch.long_frame(number, arrival.stamp, arrival.length)
             else:
-                self.switch.frame(number, arrival.stamp, arrival.octets)
+                self.enter(number, arrival)
             yield AWAY
         if not source.is_over:
             yield TURN

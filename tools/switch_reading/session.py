@@ -87,13 +87,18 @@ class Replay:
         source.at += 1
         if number == CONTROL:
             self.command(source, arrival)
-        elif arrival.octets is None:
-            self.switch.long_frame(number, arrival.stamp, arrival.length)
         else:
-            self.switch.frame(number, arrival.stamp, arrival.octets)
+            self.enter(number, arrival)
         for n, items in self.switch.queues.items():
             if items:
                 self.drain(n)
+
+    def enter(self, port, arrival):
+        """Enters what came in at a port."""
+        if arrival.octets is None:
+            self.switch.long_frame(port, arrival.stamp, arrival.length)
+        else:
+            self.switch.frame(port, arrival.stamp, arrival.octets)
 
     def command(self, source, line):
         reply = self.switch.command(line.stamp, line.text)
