@@ -6,17 +6,21 @@
  * Before that each host claims its addresses by duplicate address detection, and sends packets until one from each address
  * came, so that all addresses are valid and all stations known. Never more than WINDOW packets of a sender are on their way:
  * with 1 each waits for the one before. A packet that doesn't come within 10 s is lost, and the load fails.
- * usage: stream_load [-a] [-b] [-f FRAMES] [-s SIZE] [-w WINDOW] [-g BATCH] [-n ADDRESSES] PATH PATH..
+ * usage: stream_load [-a] [-b] [-p] [-f FRAMES] [-s SIZE] [-w WINDOW] [-g BATCH] [-n ADDRESSES] PATH PATH..
  *   -a  from the first host to all others     -b  both ways in each pair
+ *   -p  to the second host and back: it is a process of its own, which answers each packet by one of its own. What is
+ *       printed is the median of the FRAMES times that this took, in s
  *   BATCH: how many packets one write has at most     ADDRESSES: how many source addresses a sender uses in turn */
 #include <errno.h>
 #include <poll.h>
+#include <signal.h>
 #include <stdint.h>
 #include <stdio.h>
 #include <stdlib.h>
 #include <string.h>
 #include <sys/socket.h>
 #include <sys/un.h>
+#include <sys/wait.h>
 #include <time.h>
 #include <unistd.h>
 
@@ -48,7 +52,7 @@ struct host {
 
 static struct host host[HOSTS];
 static int hosts;
-static int is_to_all, is_both_ways;
+static int is_to_all, is_both_ways, is_ping_pong;
 static long frames = 100000, size = LEAST, window = 128, batch = 1, addresses = 1;
 
 static void fail(const char *what)
@@ -314,6 +318,45 @@ static void run(void)
     }
 }
 
+/* Answers each packet that comes by one, until the process is killed. */
+static void answer(struct host *h)
+{
+    for (;;) {
+        long before = h->received;
+        take(h);
+        for (; before < h->received; before++)
+            give(h, h->packets, LENGTH + (size_t)size);
+    }
+}
+
+static int compare(const void *a, const void *b)
+{
+    double x = *(const double *)a, y = *(const double *)b;
+    return (x > y) - (x < y);
+}
+
+/* The median of the times that packets take to the second host and back, in s. */
+static double ping_pong(void)
+{
+    double *took = calloc((size_t)frames, sizeof *took);
+    pid_t second = fork();
+    if (took == NULL || second < 0)
+        fail("there is no memory");
+    if (second == 0)
+        answer(&host[1]);
+    for (long i = 0; i < frames; i++) {
+        double began = now();
+        give(&host[0], host[0].packets, LENGTH + (size_t)size);
+        while (host[0].received == i)
+            take(&host[0]);
+        took[i] = now() - began;
+    }
+    kill(second, SIGKILL);
+    waitpid(second, NULL, 0);
+    qsort(took, (size_t)frames, sizeof *took, compare);
+    return took[frames / 2];
+}
+
 /* Ends what goes in, and takes what still comes out. */
 static void leave(void)
 {
@@ -328,10 +371,11 @@ static void leave(void)
 static int read_options(int argc, char **argv)
 {
     int option;
-    while ((option = getopt(argc, argv, "abf:s:w:g:n:")) != -1) {
+    while ((option = getopt(argc, argv, "abpf:s:w:g:n:")) != -1) {
         switch (option) {
         case 'a': is_to_all = 1; break;
         case 'b': is_both_ways = 1; break;
+        case 'p': is_both_ways = is_ping_pong = 1; break;
         case 'f': frames = atol(optarg); break;
         case 's': size = atol(optarg); break;
         case 'w': window = atol(optarg); break;
@@ -348,8 +392,8 @@ static int read_options(int argc, char **argv)
 int main(int argc, char **argv)
 {
     if (!read_options(argc, argv)) {
-        fprintf(stderr, "usage: stream_load [-a] [-b] [-f FRAMES] [-s SIZE] [-w WINDOW] [-g BATCH] [-n ADDRESSES] PATH "
-                        "PATH..\n(SIZE from %d to %d, at most %d ADDRESSES and %d paths, an even number but with -a)\n",
+        fprintf(stderr, "usage: stream_load [-a] [-b] [-p] [-f FRAMES] [-s SIZE] [-w WINDOW] [-g BATCH] [-n ADDRESSES] "
+                        "PATH PATH..\n(SIZE from %d to %d, at most %d ADDRESSES and %d paths, an even number but with -a)\n",
                 LEAST, MOST, ADDRESSES, HOSTS);
         return 2;
     }
@@ -357,9 +401,13 @@ int main(int argc, char **argv)
     for (struct host *h = host; h < host + hosts; h++)
         if (is_sender(h))
             prepare(h);
-    double began = now();
-    run();
-    printf("%.6f\n", now() - began);
+    if (is_ping_pong) {
+        printf("%.7f\n", ping_pong());
+    } else {
+        double began = now();
+        run();
+        printf("%.6f\n", now() - began);
+    }
     leave();
     return 0;
 }

@@ -26,12 +26,12 @@ use Rattle.access_table.specs.declared.change.Change.TheVariants.{Released, Leas
 use Rattle.access_table.specs.declared.judgement.Judgement.{Judgement}
 use Rattle.access_table.specs.Kept.{Kept, Represents}
 use Rattle.access_table.specs.Events.{port_of, event_of}
-use Rattle.access_table.specs.Steps.{Answers, Hears, Moves, ComesTo, Follows}
+use Rattle.access_table.specs.Steps.{AnswersEvent, Hears, Moves, ComesTo, Follows}
 use Rattle.access_table.proofs.Standing.{events_more}
 
 module _ (r : AccessRules) (t : ℕ) where
   pub answers_follow : (base : AccessBase) (past : List Mark) (port : Port) (old new : Kept) (a : ℕ) (event : Ev) (off_link : Verdict) (answer : Answer) (result : Judgement)
-      → IsSome (r.addresses.method_of 1 a) → Answers r t old new a event base past port answer
+      → IsSome (r.addresses.method_of 1 a) → AnswersEvent r t old new a event base past port answer
       → result.verdict ≡ unwrap_or answer.verdict (Pass All)
       → result.probe ≡ option_map (λ probe. record { due = t; address = record { 0 = a }; probe = probe }) answer.probe
       → ComesTo r base t new result (if is_on_link r base 1 port t a then answered r base 1 port t past a event else comes_to off_link past)

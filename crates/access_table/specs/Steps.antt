@@ -13,7 +13,7 @@ use Rattle.access_table.specs.declared.judgement.Judgement.{Judgement}
 use Rattle.access_table.specs.Kept.{Kept, Represents}
 
 -- an event on an on-link address is told, and answered by its row of the state tables
-pub record Answers (r : AccessRules) (t : ℕ) (old new : Kept) (a : ℕ) (event : Ev) (base : AccessBase) (past : List Mark) (port : Port) (given : Answer) : Type 0 where
+pub record AnswersEvent (r : AccessRules) (t : ℕ) (old new : Kept) (a : ℕ) (event : Ev) (base : AccessBase) (past : List Mark) (port : Port) (given : Answer) : Type 0 where
   pub answer : given ≡ answer_to r base 1 port t past a event
   pub kept : Represents r base (with_event r base 1 port t a event past) t new
 
@@ -23,7 +23,7 @@ Hears r t old new a event None = (r.addresses.method_of 1 a ≡ None) × (new �
 Hears r t old new a event (Some answer) =
     IsSome (r.addresses.method_of 1 a)
     × ((base : AccessBase) (past : List Mark) (port : Port) → Represents r base past t old → IsOfVlan r.addresses 1 (port_of event)
-    → Answers r t old new a event base past port answer)
+    → AnswersEvent r t old new a event base past port answer)
 
 -- the marks become those of this step
 abbrev pub Moves : AccessRules → ℕ → Kept → Kept → (AccessBase → List Mark → List Mark) → Type 0

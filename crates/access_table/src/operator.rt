@@ -7,7 +7,7 @@ ghost use Rattle.savi_kinds.specs.declared.port.Port.{Port};
 ghost use Rattle.fcfs_states.specs.declared.event.Ev.TheVariants.{Fix, Clear};
 ghost use Rattle.mix_rules.specs.States.{has_state, is_held_at};
 ghost use Rattle.bind_table.specs.Rows.{state_in};
-ghost use Rattle.addr_table.specs.Rooms.{has_room, IsFixable};
+ghost use Rattle.addr_table.specs.Rooms.{may_hold_more, IsFixable};
 ghost use Rattle.savi_access.specs.Judged.{with_event};
 ghost use Rattle.savi_access.specs.Plans.{rules_of, vlan_among};
 ghost use Rattle.access_table.specs.Kept.{IsReady};
@@ -37,7 +37,7 @@ impl AccessTable {
 
     /// Whether the operator may fix the address to the port: it has room, or holds the address already. O(1) on average.
     pub fn may_fix(&self, a: Addr, port: Port) -> bool
-        ensures value { result ≡ (has_room self.now.addresses.per_port self.now.addresses.rows port || is_held_at (number_of port) (state_in self.now.addresses.rows a.0)) }
+        ensures value { result ≡ (may_hold_more self.now.addresses.per_port self.now.addresses.rows port || is_held_at (number_of port) (state_in self.now.addresses.rows a.0)) }
         ensures fixable { IsTrue result ↔ IsFixable self.now.addresses.per_port self.now.addresses.rows a.0 (Fix port) }
     {
         self.has_room(port) || self.state(a).holds(port)

@@ -6,14 +6,14 @@ ghost use Rattle.std.specs.Result.{result_err};
 ghost use Rattle.savi_kinds.specs.Ports.{number_of};
 ghost use Rattle.savi_kinds.specs.ValidPlan.{IsValidPlan};
 ghost use Rattle.fcfs_states.specs.declared.event.Ev.{Ev};
-ghost use Rattle.dhcp_states.specs.Requests.{request_of, open_at, count_at as requests_at, refusal, asker};
+ghost use Rattle.dhcp_states.specs.Requests.{request_of, open_at, requests_at_port, refusal, asker};
 ghost use Rattle.mix_rules.specs.States.{IsLiveAt};
 ghost use Rattle.mix_rules.specs.Premises.{IsLeaseInRange};
 ghost use Rattle.bind_table.specs.Rows.{state_in, count_at, pair_of};
 ghost use Rattle.addr_table.specs.Ages.{aged_rows, AllStill};
 ghost use Rattle.addr_table.specs.declared.sent.SentProbe.{SentProbe};
 ghost use Rattle.addr_table.specs.Sends.{sends};
-ghost use Rattle.addr_table.specs.Rooms.{has_room, IsFixable};
+ghost use Rattle.addr_table.specs.Rooms.{may_hold_more, IsFixable};
 ghost use Rattle.addr_history.specs.Probes.{probes_between};
 ghost use Rattle.savi_access.specs.Rules.{AccessRules, AccessBase, nothing_yet};
 ghost use Rattle.savi_access.specs.Marks.{Mark, Asked, Met, told, open_requests};
@@ -108,7 +108,7 @@ impl AccessTable {
 
     /// How many requests of a port are open at moment `t` (ms), at most 16. O(16 times the number of ports).
     pub fn open_requests(&self, port: Port, t: Moment) -> u32
-        ensures value { result ≡ requests_at (number_of port) (open_at t self.now.requests) }
+        ensures value { result ≡ requests_at_port (number_of port) (open_at t self.now.requests) }
         ensures most { result ≤ 16 }
     {
         self.requests.count(port, t)
@@ -123,7 +123,7 @@ impl AccessTable {
 
     // Whether the port holds fewer addresses than it may. O(1).
     pub(crate) fn has_room(&self, port: Port) -> bool
-        ensures { result ≡ has_room self.now.addresses.per_port self.now.addresses.rows port }
+        ensures { result ≡ may_hold_more self.now.addresses.per_port self.now.addresses.rows port }
     {
         self.addresses.has_room(port)
     }

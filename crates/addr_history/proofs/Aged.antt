@@ -8,11 +8,11 @@ use Rattle.fcfs_states.specs.Premises.{AreTimes}
 use Rattle.fcfs_states.proofs.AgeingLemmas.{rested_none}
 use Rattle.mix_rules.specs.declared.state.AddrState.{AddrState}
 use Rattle.mix_rules.specs.States.{nobody, has_state}
-use Rattle.mix_rules.specs.Ageing.{AgedAddr, aged_state, due_in, untouched, IsStill}
+use Rattle.mix_rules.specs.Ageing.{AgedAddr, aged_state, due_next, untouched, IsStill}
 use Rattle.mix_rules.proofs.AgeingLemmas.{aged-still, still-untouched, aged-joins-all}
 use Rattle.mix_rules.proofs.EndLemmas.{still-touched, due-touched, idle-touched}
 use Rattle.bind_table.specs.declared.row.Row.{Row}
-use Rattle.bind_table.specs.Rows.{address_of, state_in, row_of, rows_of, with_state, IsRising, AllStand, IsTable}
+use Rattle.bind_table.specs.Rows.{address_of, state_in, address_row, rows_of, with_state, IsRising, AllStand, IsTable}
 use Rattle.bind_table.proofs.Parts.{other_address, none_there, all_joined, rising_with, stand_with}
 use Rattle.bind_table.proofs.Pointwise.{changed_at}
 use Rattle.addr_table.specs.Ages.{aged_row, aged_rows}
@@ -21,7 +21,7 @@ use Rattle.addr_history.proofs.Rows.{one_table, head_state}
 pub gone : (state : AddrState) → has_state state ≡ false → state ≡ nobody
 gone state is = search rules
 
-pub rows_of-all : (P : Row → Type 0) (a : ℕ) (state : AddrState) → P (row_of a state) → AllByRecursion P (rows_of a state)
+pub rows_of-all : (P : Row → Type 0) (a : ℕ) (state : AddrState) → P (address_row a state) → AllByRecursion P (rows_of a state)
 rows_of-all P a state holds =
     elim (cases_Bool (has_state state)) [
       | inl stands ↦ rw stands (holds, tt)
@@ -128,9 +128,9 @@ module _ (k : Times) (times : AreTimes k) where
 
   -- nothing is due in a state, or ageing gives it another one
   still_or_other : (t : ℕ) (s : AddrState) → IsStill k t s ⊎ ((aged_state k t s).state ≢ s)
-  still_or_other t s = by_due (due_in k s) refl
+  still_or_other t s = by_due (due_next k s) refl
     where
-      by_due : (due : Option ℕ) → due_in k s ≡ due → IsStill k t s ⊎ ((aged_state k t s).state ≢ s)
+      by_due : (due : Option ℕ) → due_next k s ≡ due → IsStill k t s ⊎ ((aged_state k t s).state ≢ s)
       by_due None is = inl ((still-touched k times s t).1 (idle-touched k times s t is))
       by_due (Some due) is =
           elim (cases_lt t due) [

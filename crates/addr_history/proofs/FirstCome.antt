@@ -5,7 +5,7 @@ use Rattle.savi_kinds.specs.declared.plan.Method.{Method}
 use Rattle.fcfs_states.specs.declared.event.Ev.TheVariants.{Sent}
 use Rattle.fcfs_states.specs.Premises.{AreTimes}
 use Rattle.fcfs_states.specs.States.{Same}
-use Rattle.fcfs_states.specs.FirstCome.{Mark}
+use Rattle.fcfs_states.specs.FirstCome.{TimedEvent}
 use Rattle.mix_rules.specs.States.{IsSoundFor, IsLiveAt}
 use Rattle.mix_rules.specs.Next.{IsPassing}
 use Rattle.mix_rules.specs.Ageing.{aged_state}
@@ -35,7 +35,7 @@ module _ (r : AddrRules) (base : AddrBase) (times : AreTimes r.times) (vlan a : 
         (subst (λ s. ¬ IsLiveAt s port) (own_joined late early t) over)
 
     -- a packet of the address at another port that passes
-    pub keeps_from : (mark : Mark) (q : Port) → AreInTurn t0 mark.moment late → mark.event ≡ Sent q → ¬ Same q port → IsPassing (outcome_by (r.method_of vlan a) r.times mark (state_of r base (late ++ early) vlan a)).0 → IsKeptOn r base m early t0 late mark.moment vlan a port
+    pub keeps_from : (mark : TimedEvent) (q : Port) → AreInTurn t0 mark.moment late → mark.event ≡ Sent q → ¬ Same q port → IsPassing (outcome_by (r.method_of vlan a) r.times mark (state_of r base (late ++ early) vlan a)).0 → IsKeptOn r base m early t0 late mark.moment vlan a port
     keeps_from mark q run sent differ passing =
         let own : (outcome_by (r.method_of vlan a) r.times mark (state_of r base (late ++ early) vlan a)).0 ≡ run_answer m r.times (state_in (base.rows vlan) a) (marks_on vlan a late ++ marks_on vlan a early) mark =
         ap (λ method. (outcome_by method r.times mark (state_of r base (late ++ early) vlan a)).0) is

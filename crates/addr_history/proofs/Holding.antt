@@ -22,7 +22,7 @@ use Rattle.bind_table.specs.Counts.{held_once}
 use Rattle.bind_table.proofs.Held.{recounted}
 use Rattle.addr_table.specs.Ages.{aged_row, aged_rows}
 use Rattle.addr_table.specs.Keeps.{IsWithinPorts}
-use Rattle.addr_table.specs.Rooms.{room_for, has_room, IsFixable}
+use Rattle.addr_table.specs.Rooms.{room_for, may_hold_more, IsFixable}
 use Rattle.addr_history.specs.Bases.{AddrRules, AddrBase, AreTables}
 use Rattle.addr_history.specs.Marks.{Named, mark_of, last_moment}
 use Rattle.addr_history.specs.States.{outcome_by}
@@ -85,7 +85,7 @@ aged-less k times t port (row ∷ rows) =
     let all : count_at n (aged_rows k t (row ∷ rows)) ≡ count_at n (aged_row k t row) + count_at n (aged_rows k t rows) = sum_by-append (λ r. cond (is_at n r) 1 0) (aged_row k t row) (aged_rows k t rows) in
     omega (arith, all, count-own n (address_of row) new, once_less port row.state new (aged-held k t row.state port times), aged-less k times t port rows, count-first n row rows)
 
-has-room : (per_port : ℕ) (rows : List Row) (p port : Port) → Same p port → has_room per_port rows p ≡ true → count_at (number_of port) rows < per_port
+has-room : (per_port : ℕ) (rows : List Row) (p port : Port) → Same p port → may_hold_more per_port rows p ≡ true → count_at (number_of port) rows < per_port
 has-room per_port rows p port same some = subst (λ n. count_at n rows < per_port) same (ltb-true (count_at (number_of p) rows) per_port some)
 
 -- an event makes a port hold one more address only where it has room

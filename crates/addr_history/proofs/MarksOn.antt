@@ -3,20 +3,20 @@ use Rattle.std.proofs.Common.{◌≡◌, ◌==◌, ℕ, ◌≤◌, true, false, 
 use Rattle.std.proofs.lemmas.Bool.{cases_Bool, and_parts, eqb-true}
 use Rattle.savi_kinds.specs.declared.plan.Method.{Method}
 use Rattle.fcfs_states.specs.declared.times.Times.{Times}
-use Rattle.fcfs_states.specs.FirstCome.{Mark}
+use Rattle.fcfs_states.specs.FirstCome.{TimedEvent}
 use Rattle.mix_rules.specs.declared.state.AddrState.{AddrState}
-use Rattle.mix_rules.specs.FirstCome.{outcome, state_of as run_of, IsRun}
+use Rattle.mix_rules.specs.FirstCome.{outcome, state_of as run_of, IsTimelineFrom}
 use Rattle.bind_table.specs.Rows.{state_in}
 use Rattle.addr_history.specs.Bases.{AddrRules, AddrBase}
 use Rattle.addr_history.specs.Marks.{Named, mark_of, names, marks_on, AreInTurn}
 use Rattle.addr_history.specs.States.{outcome_by, outcome_of, state_of}
 
 -- marks of one address, from a state
-abbrev pub moved_by : Option Method → Times → AddrState → List Mark → AddrState
+abbrev pub moved_by : Option Method → Times → AddrState → List TimedEvent → AddrState
 moved_by method k s [] = s
 moved_by method k s (mark ∷ past) = (outcome_by method k mark (moved_by method k s past)).1
 
-pub moved-run : (m : Method) (k : Times) (s : AddrState) (marks : List Mark) → moved_by (Some m) k s marks ≡ run_of m k s marks
+pub moved-run : (m : Method) (k : Times) (s : AddrState) (marks : List TimedEvent) → moved_by (Some m) k s marks ≡ run_of m k s marks
 moved-run m k s [] = refl
 moved-run m k s (mark ∷ past) = ap (λ state. (outcome m k mark state).1) (moved-run m k s past)
 
@@ -35,16 +35,16 @@ module _ (vlan a : ℕ) where
         | inr not ↦ marks_on-other named (late ++ early) not ∙ marks_on-append late early ∙ sym (ap (λ marks. marks ++ marks_on vlan a early) (marks_on-other named late not))
       ]
 
-  run-later : (from t u : ℕ) (marks : List Mark) → t ≤ u → IsRun from t marks → IsRun from u marks
+  run-later : (from t u : ℕ) (marks : List TimedEvent) → t ≤ u → IsTimelineFrom from t marks → IsTimelineFrom from u marks
   run-later from t u [] after run = omega (arith, after, run)
   run-later from t u (mark ∷ past) after run = (omega (arith, after, run.0), run.1)
 
-  pub run_on : (from t : ℕ) (past : List Named) → AreInTurn from t past → IsRun from t (marks_on vlan a past)
+  pub run_on : (from t : ℕ) (past : List Named) → AreInTurn from t past → IsTimelineFrom from t (marks_on vlan a past)
   run_on from t [] turn = turn
   run_on from t (named ∷ past) turn =
       elim (cases_Bool (names vlan a named)) [
-        | inl is ↦ subst (IsRun from t) (sym (marks_on-own named past is)) (turn.0, run_on from named.moment past turn.1)
-        | inr not ↦ subst (IsRun from t) (sym (marks_on-other named past not)) (run-later from named.moment t (marks_on vlan a past) turn.0 (run_on from named.moment past turn.1))
+        | inl is ↦ subst (IsTimelineFrom from t) (sym (marks_on-own named past is)) (turn.0, run_on from named.moment past turn.1)
+        | inr not ↦ subst (IsTimelineFrom from t) (sym (marks_on-other named past not)) (run-later from named.moment t (marks_on vlan a past) turn.0 (run_on from named.moment past turn.1))
       ]
 
 module _ (r : AddrRules) (base : AddrBase) (vlan a : ℕ) where

@@ -12,7 +12,7 @@ use Rattle.fcfs_states.specs.declared.state.Fcfs.{Fcfs}
 use Rattle.fcfs_states.specs.declared.state.Fcfs.TheVariants.{NoBind, Tentative, Valid, TestLt, TestVp}
 use Rattle.fcfs_states.specs.declared.times.Times.{Times}
 use Rattle.fcfs_states.specs.Premises.{AreTimes}
-use Rattle.fcfs_states.specs.FirstCome.{Mark}
+use Rattle.fcfs_states.specs.FirstCome.{TimedEvent}
 use Rattle.dhcp_states.specs.declared.bound.Bound.{Bound}
 use Rattle.mix_rules.specs.declared.state.AddrState.{AddrState}
 use Rattle.mix_rules.specs.States.{nobody, IsHeldAt, is_held_at, is_fixed_to, is_bound_to, is_held_in}
@@ -24,7 +24,7 @@ use Rattle.bind_table.specs.declared.row.Row.{Row}
 use Rattle.bind_table.specs.Rows.{address_of, state_in, count_at, IsRising}
 use Rattle.bind_table.specs.Counts.{held_once}
 use Rattle.bind_table.proofs.Parts.{other_address, none_there}
-use Rattle.addr_table.specs.Rooms.{port_of, room_at}
+use Rattle.addr_table.specs.Rooms.{port_of, may_hold_more_at}
 use Rattle.addr_history.specs.Bases.{AddrRules, AddrBase, AreTables}
 use Rattle.addr_history.specs.Marks.{Named, mark_of, names}
 use Rattle.addr_history.specs.States.{outcome_by, state_of, state_at}
@@ -82,7 +82,7 @@ event-own r vlan port room (Fix p) own makes = subst (λ n. r.vlan_of n ≡ Some
 event-own r vlan port room Clear own makes = absurd makes
 
 -- who holds an address after a mark held it before, or holds it by the mark
-mark-held : (k : Times) (times : AreTimes k) (m : Method) (mark : Mark) (s : AddrState) (port : Port) → IsHeldAt (outcome m k mark s).1 port → IsHeldAt s port ⊎ MakesHolder port mark.room mark.event
+mark-held : (k : Times) (times : AreTimes k) (m : Method) (mark : TimedEvent) (s : AddrState) (port : Port) → IsHeldAt (outcome m k mark s).1 port → IsHeldAt s port ⊎ MakesHolder port mark.room mark.event
 mark-held k times m mark s port held =
     let old : AddrState = (aged_state k mark.moment s).state in
     elim (cases_Bool (is_held_at (number_of port) old)) [
@@ -194,5 +194,5 @@ pub own_room : (r : AddrRules) (base : AddrBase) (past : List Named) (named : Na
 own_room r base past named p right is =
     let t : ℕ = named.moment in
     let own : r.vlan_of (number_of p) ≡ Some named.vlan = subst (IsOfVlan r named.vlan) is right.port in
-    let room : named.room ≡ room_at r.per_port (rows_at r base past t named.vlan) (Some p) = right.room ∙ ap (room_at r.per_port (rows_at r base past t named.vlan)) is in
+    let room : named.room ≡ may_hold_more_at r.per_port (rows_at r base past t named.vlan) (Some p) = right.room ∙ ap (may_hold_more_at r.per_port (rows_at r base past t named.vlan)) is in
     room ∙ ap (λ c. nat_lt c r.per_port) (sym (ap (held_in r base past t (number_of p)) own))

@@ -4,7 +4,7 @@ use Rattle.std.specs.List.{AllByRecursion}
 use Rattle.std.proofs.lemmas.Bool.{cases_lt, cases_eq, eq-eqb, false≢true}
 use Rattle.mix_rules.specs.States.{has_state}
 use Rattle.bind_table.specs.declared.row.Row.{Row}
-use Rattle.bind_table.specs.Rows.{address_of, state_in, row_of, IsRising, AllStand}
+use Rattle.bind_table.specs.Rows.{address_of, state_in, address_row, IsRising, AllStand}
 use Rattle.bind_table.proofs.Parts.{other_address, none_there, all_weaker}
 
 -- the first row's address has its state
@@ -36,7 +36,7 @@ one_table (row ∷ rows) (other ∷ others) rising stand risings stands same =
     let high : address_of row ≤ address_of other = not_above other others row rows stands.0 rising.0 (sym (same (address_of other))) in
     let one : address_of row ≡ address_of other = omega (arith, low, high) in
     let state : row.state ≡ other.state = sym (head_state row rows) ∙ same (address_of row) ∙ ap (state_in (other ∷ others)) one ∙ head_state other others in
-    let first : row ≡ other = ap (λ n. row_of n row.state) one ∙ ap (row_of (address_of other)) state in
+    let first : row ≡ other = ap (λ n. address_row n row.state) one ∙ ap (address_row (address_of other)) state in
     ap (λ r. r ∷ rows) first ∙ ap (λ rest. other ∷ rest) (one_table rows others rising.1 stand.1 risings.1 stands.1 (tails one state))
   where
     later_none : (r : Row) (rs : List Row) (a : ℕ) → (address_of r ≡ a → ⊥) → state_in (r ∷ rs) a ≡ state_in rs a

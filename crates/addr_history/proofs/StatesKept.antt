@@ -9,7 +9,7 @@ use Rattle.fcfs_states.specs.declared.state.Fcfs.TheVariants.{NoBind, Tentative,
 use Rattle.fcfs_states.specs.declared.times.Times.{Times}
 use Rattle.fcfs_states.specs.Premises.{AreTimes}
 use Rattle.fcfs_states.specs.Ageing.{AgeRow, tentative_probe, test_lt_probe, test_vp_probe, tentative_ends, valid_ends, test_lt_ends, test_vp_ends, Ages, rests, goes_on}
-use Rattle.fcfs_states.specs.FirstCome.{Mark}
+use Rattle.fcfs_states.specs.FirstCome.{TimedEvent}
 use Rattle.fcfs_states.proofs.AgeingLemmas.{Ages-aged}
 use Rattle.mix_rules.specs.declared.state.AddrState.{AddrState}
 use Rattle.mix_rules.specs.States.{nobody, IsSoundFor}
@@ -85,7 +85,7 @@ module _ (k : Times) (times : AreTimes k) where
       sound : (m : Method) → IsSoundFor m nobody
       sound m = search rules
 
-  pub event-kept : (method : Option Method) (mark : Mark) (s : AddrState) → mark.moment ≤ 2 ^ 62 → IsLeaseInRange mark.event → IsStateAt method k mark.moment (aged_state k mark.moment s).state → IsStateAt method k mark.moment (outcome_by method k mark s).1
+  pub event-kept : (method : Option Method) (mark : TimedEvent) (s : AddrState) → mark.moment ≤ 2 ^ 62 → IsLeaseInRange mark.event → IsStateAt method k mark.moment (aged_state k mark.moment s).state → IsStateAt method k mark.moment (outcome_by method k mark s).1
   event-kept None mark s early short is = nobody-kept None mark.moment
   event-kept (Some m) mark s early short is =
       let t : ℕ = mark.moment in

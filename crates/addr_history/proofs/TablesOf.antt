@@ -4,7 +4,7 @@ use Rattle.std.proofs.lemmas.Bool.{cases_Bool, eqb-true, eq-eqb}
 use Rattle.savi_kinds.specs.declared.plan.Method.{Method}
 use Rattle.fcfs_states.specs.declared.times.Times.{Times}
 use Rattle.fcfs_states.specs.Premises.{AreTimes}
-use Rattle.fcfs_states.specs.FirstCome.{Mark}
+use Rattle.fcfs_states.specs.FirstCome.{TimedEvent}
 use Rattle.mix_rules.specs.declared.state.AddrState.{AddrState}
 use Rattle.mix_rules.specs.Next.{Outcome, next_state}
 use Rattle.mix_rules.specs.Ageing.{AgedAddr, aged_state, IsStill}
@@ -24,7 +24,7 @@ use Rattle.addr_history.proofs.Aged.{table_with, aged-table, nobody-still, still
 use Rattle.addr_history.proofs.MarksOn.{state_of-own, state_of-other}
 
 -- after an event nothing is due
-pub outcome-still : (method : Option Method) (k : Times) (times : AreTimes k) (mark : Mark) (s : AddrState) → IsStill k mark.moment (outcome_by method k mark s).1
+pub outcome-still : (method : Option Method) (k : Times) (times : AreTimes k) (mark : TimedEvent) (s : AddrState) → IsStill k mark.moment (outcome_by method k mark s).1
 outcome-still None k times mark s = nobody-still k times mark.moment
 outcome-still (Some m) k times mark s = next-still m k mark.moment mark.room (aged_state k mark.moment s).state mark.event times (aged-still k times mark.moment s)
 
@@ -132,6 +132,6 @@ module _ (r : AddrRules) (base : AddrBase) (tables : AreTables base) where
               ∙ sym (ap (λ s. (aged_state r.times t s).state) (state_of-other r (base_at r base early t0) vlan a named late not))
         ]
       where
-        same_outcome : (method : Option Method) (mark : Mark) (s other : AddrState) → (aged_state r.times mark.moment s).state ≡ (aged_state r.times mark.moment other).state → (outcome_by method r.times mark s).1 ≡ (outcome_by method r.times mark other).1
+        same_outcome : (method : Option Method) (mark : TimedEvent) (s other : AddrState) → (aged_state r.times mark.moment s).state ≡ (aged_state r.times mark.moment other).state → (outcome_by method r.times mark s).1 ≡ (outcome_by method r.times mark other).1
         same_outcome None mark s other same = refl
         same_outcome (Some m) mark s other same = ap (λ state. (next_state m r.times mark.moment mark.room state mark.event).1) same

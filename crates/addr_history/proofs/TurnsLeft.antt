@@ -10,7 +10,7 @@ use Rattle.fcfs_states.specs.Premises.{AreTimes}
 use Rattle.fcfs_states.specs.Ageing.{behind, AgeRow, tentative_probe, test_lt_probe, test_vp_probe, tentative_ends, valid_ends, test_lt_ends, test_vp_ends, Ages, rests, goes_on}
 use Rattle.fcfs_states.proofs.AgeingLemmas.{Ages-aged}
 use Rattle.mix_rules.specs.declared.state.AddrState.{AddrState}
-use Rattle.mix_rules.specs.Ageing.{aged_state, end_of, due_in, IsStill}
+use Rattle.mix_rules.specs.Ageing.{aged_state, end_of, due_next, IsStill}
 use Rattle.mix_rules.proofs.EndLemmas.{still-touched, due-touched, idle-touched}
 use Rattle.bind_table.specs.declared.row.Row.{Row}
 use Rattle.bind_table.specs.Rows.{address_of, rows_of, AllStand}
@@ -47,9 +47,9 @@ module _ (k : Times) (times : AreTimes k) (t : ℕ) where
 
   -- and so does each change of it
   still_or_fewer : (s : AddrState) → IsStill k t s ⊎ (turns_of (aged_state k t s).state < turns_of s)
-  still_or_fewer s = by_due (due_in k s) refl
+  still_or_fewer s = by_due (due_next k s) refl
     where
-      by_due : (due : Option ℕ) → due_in k s ≡ due → IsStill k t s ⊎ (turns_of (aged_state k t s).state < turns_of s)
+      by_due : (due : Option ℕ) → due_next k s ≡ due → IsStill k t s ⊎ (turns_of (aged_state k t s).state < turns_of s)
       by_due None is = inl ((still-touched k times s t).1 (idle-touched k times s t is))
       by_due (Some due) is =
           elim (cases_lt t due) [

@@ -1,7 +1,7 @@
 -- What happened to addresses, as a list of marks, the newest first.
 use Rattle.std.specs.Prelude.{ℕ, ◌≤◌, ◌==◌, ◌&&◌, Bool, List, [], ◌∷◌, filter, map}
 use Rattle.fcfs_states.specs.declared.event.Ev.{Ev}
-use Rattle.fcfs_states.specs.FirstCome.{Mark}
+use Rattle.fcfs_states.specs.FirstCome.{TimedEvent}
 use Rattle.addr_history.specs.Bases.{AddrBase}
 
 -- an event on an address of a VLAN, with its moment and whether its port had room
@@ -13,7 +13,7 @@ pub record Named : Type 0 where
   pub room : Bool
 
 -- the same without the address
-abbrev pub mark_of : Named → Mark
+abbrev pub mark_of : Named → TimedEvent
 mark_of named = record { moment = named.moment; event = named.event; room = named.room }
 
 -- whether a mark names this address of this VLAN
@@ -21,7 +21,7 @@ abbrev pub names : ℕ → ℕ → Named → Bool
 names vlan a named = named.vlan == vlan && named.address == a
 
 -- the marks that name an address
-abbrev pub marks_on : ℕ → ℕ → List Named → List Mark
+abbrev pub marks_on : ℕ → ℕ → List Named → List TimedEvent
 marks_on vlan a past = map mark_of (filter (names vlan a) past)
 
 -- the moment of the newest mark, or of what came before all of them

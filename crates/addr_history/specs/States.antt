@@ -4,7 +4,7 @@ use Rattle.savi_kinds.specs.declared.port.Port.{Port}
 use Rattle.savi_kinds.specs.declared.plan.Method.{Method}
 use Rattle.fcfs_states.specs.declared.answer.Answer.{Answer}
 use Rattle.fcfs_states.specs.declared.times.Times.{Times}
-use Rattle.fcfs_states.specs.FirstCome.{Mark}
+use Rattle.fcfs_states.specs.FirstCome.{TimedEvent}
 use Rattle.fcfs_states.specs.Next.{silence}
 use Rattle.mix_rules.specs.declared.state.AddrState.{AddrState}
 use Rattle.mix_rules.specs.States.{nobody, IsLiveAt}
@@ -17,7 +17,7 @@ use Rattle.addr_history.specs.Marks.{Named, mark_of, names}
 
 -- what a mark comes to by the method of its address: the state is aged to the mark's moment, and then takes the row of its
 -- event. An address without a method has no state.
-abbrev pub outcome_by : Option Method → Times → Mark → AddrState → Outcome
+abbrev pub outcome_by : Option Method → Times → TimedEvent → AddrState → Outcome
 outcome_by None k mark state = (silence, nobody)
 outcome_by (Some m) k mark state = outcome m k mark state
 

@@ -5,12 +5,12 @@ use Rattle.std.proofs.lemmas.Bool.{cases_Bool, cases_eq, leb-true, leb-false, eq
 use Rattle.savi_kinds.specs.declared.address.Addr.{Addr}
 use Rattle.fcfs_states.specs.declared.times.Times.{Times}
 use Rattle.mix_rules.specs.States.{nobody}
-use Rattle.mix_rules.specs.Ageing.{due_in}
+use Rattle.mix_rules.specs.Ageing.{due_next}
 use Rattle.bind_table.specs.declared.row.Row.{Row}
 use Rattle.bind_table.specs.Rows.{address_of, state_in, IsRising}
 use Rattle.bind_table.proofs.Parts.{none_there, other_address}
 use Rattle.timer_wheel.specs.declared.armed.Armed.{Armed}
-use Rattle.timer_wheel.specs.Arms.{pair_of, sooner, first_armed, due_by}
+use Rattle.timer_wheel.specs.Arms.{pair_for, sooner, first_armed, due_by}
 use Rattle.timer_wheel.specs.Laws.{IsLeast}
 use Rattle.addr_table.specs.Ages.{dues, first_due}
 use Rattle.addr_table.proofs.Lists.{all_weaker}
@@ -28,13 +28,13 @@ never-some is = cc
 module _ (k : Times) where
   -- nothing is due in a row sooner than at this moment for this address
   abbrev pub IsNoSooner : ℕ → ℕ → Row → Type 0
-  IsNoSooner due a row = (n : ℕ) → due_in k row.state ≡ Some n → IsLeast due a n (address_of row)
+  IsNoSooner due a row = (n : ℕ) → due_next k row.state ≡ Some n → IsLeast due a n (address_of row)
 
   abbrev pub IsNeverDue : Row → Type 0
-  IsNeverDue row = due_in k row.state ≡ None
+  IsNeverDue row = due_next k row.state ≡ None
 
   pub record IsFirst (due a : ℕ) (rows : List Row) : Type 0 where
-    pub own : due_in k (state_in rows a) ≡ Some due
+    pub own : due_next k (state_in rows a) ≡ Some due
     pub least : AllByRecursion (IsNoSooner due a) rows
 
   abbrev armed_for : Row → ℕ → Armed
@@ -45,49 +45,49 @@ module _ (k : Times) where
   sooner-some armed None is = never-some is
   sooner-some armed (Some f) is = elim (cases_Bool (nat_le armed.due f.0)) [ inl sooner_one ↦ never-some (rw sooner_one at is) | inr not_so ↦ never-some (rw not_so at is) ]
 
-  none_cons : (row : Row) (rows : List Row) (d : Option ℕ) → first_armed (pair_of (address_of row) d ++ dues k rows) ≡ None → (d ≡ None) × (first_due k rows ≡ None)
+  none_cons : (row : Row) (rows : List Row) (d : Option ℕ) → first_armed (pair_for (address_of row) d ++ dues k rows) ≡ None → (d ≡ None) × (first_due k rows ≡ None)
   none_cons row rows None none = (refl, none)
   none_cons row rows (Some n) none = absurd (sooner-some (armed_for row n) (first_due k rows) none)
 
   pub first_none : (rows : List Row) → first_due k rows ≡ None → AllByRecursion IsNeverDue rows
   first_none [] none = tt
   first_none (row ∷ rows) none =
-      let both : (due_in k row.state ≡ None) × (first_due k rows ≡ None) = none_cons row rows (due_in k row.state) none in
+      let both : (due_next k row.state ≡ None) × (first_due k rows ≡ None) = none_cons row rows (due_next k row.state) none in
       (both.0, first_none rows both.1)
 
   -- what is due is due for a row
-  has_row : (a due : ℕ) (row : Row) (rows : List Row) → IsRising (row ∷ rows) → due_in k (state_in rows a) ≡ Some due → state_in (row ∷ rows) a ≡ state_in rows a
+  has_row : (a due : ℕ) (row : Row) (rows : List Row) → IsRising (row ∷ rows) → due_next k (state_in rows a) ≡ Some due → state_in (row ∷ rows) a ≡ state_in rows a
   has_row a due row rows rising own = rw (other_address (address_of row) a apart) refl
     where
       apart : address_of row ≡ a → ⊥
       apart same =
           let none : state_in rows a ≡ nobody = none_there a rows (subst (λ n. AllByRecursion (λ other. n < address_of other) rows) same rising.0) in
-          let never : due_in k (state_in rows a) ≡ None = ap (due_in k) none in
+          let never : due_next k (state_in rows a) ≡ None = ap (due_next k) none in
           cc
 
   -- a row that is due no later than what is first of those behind it
-  head_first : (row : Row) (rows : List Row) (n : ℕ) → IsRising (row ∷ rows) → due_in k row.state ≡ Some n → AllByRecursion (λ other. (m : ℕ) → due_in k other.state ≡ Some m → n ≤ m) rows → IsFirst n (address_of row) (row ∷ rows)
+  head_first : (row : Row) (rows : List Row) (n : ℕ) → IsRising (row ∷ rows) → due_next k row.state ≡ Some n → AllByRecursion (λ other. (m : ℕ) → due_next k other.state ≡ Some m → n ≤ m) rows → IsFirst n (address_of row) (row ∷ rows)
   head_first row rows n rising is later =
       record {
         own = rw (eq-eqb (address_of row) (address_of row) refl) is;
         least = (λ m e. let same : n ≡ m = some-same n m (sym is ∙ e) in inr (same, (omega arith)), behind rows rising.0 later);
       }
     where
-      behind : (others : List Row) → AllByRecursion (λ other. address_of row < address_of other) others → AllByRecursion (λ other. (m : ℕ) → due_in k other.state ≡ Some m → n ≤ m) others → AllByRecursion (IsNoSooner n (address_of row)) others
+      behind : (others : List Row) → AllByRecursion (λ other. address_of row < address_of other) others → AllByRecursion (λ other. (m : ℕ) → due_next k other.state ≡ Some m → n ≤ m) others → AllByRecursion (IsNoSooner n (address_of row)) others
       behind [] high late = tt
       behind (other ∷ others) high late =
           (λ m e. let most : n ≤ m = late.0 m e in elim (cases_eq n m) [ inl same ↦ inr (same, (omega (arith, high.0))) | inr apart ↦ inl (omega (arith, most, apart)) ], behind others high.1 late.1)
 
-  no_sooner_than : (due a : ℕ) (n : ℕ) → n ≤ due → (rows : List Row) → AllByRecursion (IsNoSooner due a) rows → AllByRecursion (λ other. (m : ℕ) → due_in k other.state ≡ Some m → n ≤ m) rows
+  no_sooner_than : (due a : ℕ) (n : ℕ) → n ≤ due → (rows : List Row) → AllByRecursion (IsNoSooner due a) rows → AllByRecursion (λ other. (m : ℕ) → due_next k other.state ≡ Some m → n ≤ m) rows
   no_sooner_than due a n most rows least =
-      all_weaker (IsNoSooner due a) (λ other. (m : ℕ) → due_in k other.state ≡ Some m → n ≤ m)
+      all_weaker (IsNoSooner due a) (λ other. (m : ℕ) → due_next k other.state ≡ Some m → n ≤ m)
       (λ other h m e. elim (h m e) [ inl less ↦ omega (arith, less, most) | inr same ↦ omega (arith, same.0, most) ]) rows least
 
-  never_sooner : (n : ℕ) (rows : List Row) → AllByRecursion IsNeverDue rows → AllByRecursion (λ other. (m : ℕ) → due_in k other.state ≡ Some m → n ≤ m) rows
-  never_sooner n rows never = all_weaker IsNeverDue (λ other. (m : ℕ) → due_in k other.state ≡ Some m → n ≤ m) (λ other h m e. let both : None ≡ Some m = sym h ∙ e in cc) rows never
+  never_sooner : (n : ℕ) (rows : List Row) → AllByRecursion IsNeverDue rows → AllByRecursion (λ other. (m : ℕ) → due_next k other.state ≡ Some m → n ≤ m) rows
+  never_sooner n rows never = all_weaker IsNeverDue (λ other. (m : ℕ) → due_next k other.state ≡ Some m → n ≤ m) (λ other h m e. let both : None ≡ Some m = sym h ∙ e in cc) rows never
 
   -- the least of all is that of the row in front or of those behind it
-  first_cons : (row : Row) (rows : List Row) → IsRising (row ∷ rows) → (n : ℕ) → due_in k row.state ≡ Some n → ((due : ℕ) (a : Addr) → first_due k rows ≡ Some (due, a) → IsFirst due a.0 rows) → (o : Option (ℕ × Addr)) → first_due k rows ≡ o → (due : ℕ) (a : Addr) → sooner (armed_for row n) o ≡ Some (due, a) → IsFirst due a.0 (row ∷ rows)
+  first_cons : (row : Row) (rows : List Row) → IsRising (row ∷ rows) → (n : ℕ) → due_next k row.state ≡ Some n → ((due : ℕ) (a : Addr) → first_due k rows ≡ Some (due, a) → IsFirst due a.0 rows) → (o : Option (ℕ × Addr)) → first_due k rows ≡ o → (due : ℕ) (a : Addr) → sooner (armed_for row n) o ≡ Some (due, a) → IsFirst due a.0 (row ∷ rows)
   first_cons row rows rising n is later None rest due a first =
       let same : (n, row.address) ≡ (due, a) = some-same (n, row.address) (due, a) first in
       subst (λ (p : ℕ × Addr). IsFirst p.0 p.1.0 (row ∷ rows)) same (head_first row rows n rising is (never_sooner n rows (first_none rows rest)))
@@ -104,33 +104,33 @@ module _ (k : Times) where
             let behind : IsFirst f.0 f.1.0 rows = later f.0 f.1 rest in
             subst (λ (p : ℕ × Addr). IsFirst p.0 p.1.0 (row ∷ rows)) same
             (record {
-              own = ap (due_in k) (has_row f.1.0 f.0 row rows rising behind.own) ∙ behind.own;
+              own = ap (due_next k) (has_row f.1.0 f.0 row rows rising behind.own) ∙ behind.own;
               least = (λ m e. let at : n ≡ m = some-same n m (sym is ∙ e) in inl (omega (arith, less, at)), behind.least);
             })
       ]
 
-  first_row : (row : Row) (rows : List Row) → IsRising (row ∷ rows) → ((due : ℕ) (a : Addr) → first_due k rows ≡ Some (due, a) → IsFirst due a.0 rows) → (d : Option ℕ) → due_in k row.state ≡ d → (due : ℕ) (a : Addr) → first_armed (pair_of (address_of row) d ++ dues k rows) ≡ Some (due, a) → IsFirst due a.0 (row ∷ rows)
+  first_row : (row : Row) (rows : List Row) → IsRising (row ∷ rows) → ((due : ℕ) (a : Addr) → first_due k rows ≡ Some (due, a) → IsFirst due a.0 rows) → (d : Option ℕ) → due_next k row.state ≡ d → (due : ℕ) (a : Addr) → first_armed (pair_for (address_of row) d ++ dues k rows) ≡ Some (due, a) → IsFirst due a.0 (row ∷ rows)
   first_row row rows rising later None is due a first =
       let behind : IsFirst due a.0 rows = later due a first in
       record {
-        own = ap (due_in k) (has_row a.0 due row rows rising behind.own) ∙ behind.own;
+        own = ap (due_next k) (has_row a.0 due row rows rising behind.own) ∙ behind.own;
         least = (λ m e. let both : None ≡ Some m = sym is ∙ e in cc, behind.least);
       }
   first_row row rows rising later (Some n) is due a first = first_cons row rows rising n is later (first_due k rows) refl due a first
 
   pub first_is : (rows : List Row) → IsRising rows → (due : ℕ) (a : Addr) → first_due k rows ≡ Some (due, a) → IsFirst due a.0 rows
   first_is [] rising due a first = cc
-  first_is (row ∷ rows) rising due a first = first_row row rows rising (first_is rows rising.1) (due_in k row.state) refl due a first
+  first_is (row ∷ rows) rising due a first = first_row row rows rising (first_is rows rising.1) (due_next k row.state) refl due a first
 
   -- where nothing is due by t, each row is due later, if at all
-  pub all_late : (t : ℕ) (rows : List Row) → IsRising rows → (o : Option (ℕ × Addr)) → first_due k rows ≡ o → due_by t o ≡ None → AllByRecursion (λ row. (n : ℕ) → due_in k row.state ≡ Some n → t < n) rows
-  all_late t rows rising None first none = all_weaker IsNeverDue (λ row. (n : ℕ) → due_in k row.state ≡ Some n → t < n) (λ row h n e. let both : None ≡ Some n = sym h ∙ e in cc) rows (first_none rows first)
+  pub all_late : (t : ℕ) (rows : List Row) → IsRising rows → (o : Option (ℕ × Addr)) → first_due k rows ≡ o → due_by t o ≡ None → AllByRecursion (λ row. (n : ℕ) → due_next k row.state ≡ Some n → t < n) rows
+  all_late t rows rising None first none = all_weaker IsNeverDue (λ row. (n : ℕ) → due_next k row.state ≡ Some n → t < n) (λ row h n e. let both : None ≡ Some n = sym h ∙ e in cc) rows (first_none rows first)
   all_late t rows rising (Some f) first none =
       elim (cases_Bool (nat_le f.0 t)) [
         | inl by ↦ absurd (never-some (rw by at none))
         | inr late ↦
             let after : t < f.0 = leb-false f.0 t late in
-            all_weaker (λ row. (n : ℕ) → due_in k row.state ≡ Some n → f.0 ≤ n) (λ row. (n : ℕ) → due_in k row.state ≡ Some n → t < n) (λ row h n e. let most : f.0 ≤ n = h n e in omega (arith, most, after)) rows
+            all_weaker (λ row. (n : ℕ) → due_next k row.state ≡ Some n → f.0 ≤ n) (λ row. (n : ℕ) → due_next k row.state ≡ Some n → t < n) (λ row h n e. let most : f.0 ≤ n = h n e in omega (arith, most, after)) rows
             (no_sooner_than f.0 f.1.0 f.0 (omega arith) rows (first_is rows rising f.0 f.1 first).least)
       ]
 

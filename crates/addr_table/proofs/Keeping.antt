@@ -11,7 +11,7 @@ use Rattle.fcfs_states.specs.Premises.{AreTimes}
 use Rattle.fcfs_states.specs.States.{Same}
 use Rattle.mix_rules.specs.declared.state.AddrState.{AddrState}
 use Rattle.mix_rules.specs.States.{nobody, has_state, IsHeldAt, is_held_at}
-use Rattle.mix_rules.specs.Ageing.{AgedAddr, aged_state, due_in as due_of}
+use Rattle.mix_rules.specs.Ageing.{AgedAddr, aged_state, due_next as due_of}
 use Rattle.mix_rules.specs.Premises.{AllMomentsFit}
 use Rattle.mix_rules.specs.Next.{next_state}
 use Rattle.mix_rules.specs.Holders.{MakesHolder}
@@ -26,7 +26,7 @@ use Rattle.bind_table.proofs.Held.{recounted}
 use Rattle.timer_wheel.specs.Arms.{due_in, with_due}
 use Rattle.addr_table.specs.Ages.{dues}
 use Rattle.addr_table.specs.Keeps.{IsWithinPorts, IsWithinRules, IsSoundBy, AreSound}
-use Rattle.addr_table.specs.Rooms.{room_for, has_room, IsFixable}
+use Rattle.addr_table.specs.Rooms.{room_for, may_hold_more, IsFixable}
 use Rattle.addr_table.proofs.Arms.{arms-with, length-others, dues-at}
 use Rattle.addr_table.proofs.States.{nobody-aged}
 use Rattle.addr_table.proofs.Rooms.{held-test, test-held, rows_most}
@@ -91,7 +91,7 @@ pub aged-allowed : (k : Times) (per_port : ℕ) (rows : List Row) (a t : ℕ) �
 aged-allowed k per_port rows a t times p held = inl (aged-held k t (state_in rows a) p times held)
 
 -- an event makes one only where it has room
-room_of : (per_port : ℕ) (rows : List Row) (r p : Port) → Same r p → has_room per_port rows r ≡ true → count_at (number_of p) rows < per_port
+room_of : (per_port : ℕ) (rows : List Row) (r p : Port) → Same r p → may_hold_more per_port rows r ≡ true → count_at (number_of p) rows < per_port
 room_of per_port rows r p same room = subst (λ n. count_at n rows < per_port) same (ltb-true (count_at (number_of r) rows) per_port room)
 
 made : (per_port : ℕ) (rows : List Row) (a : ℕ) (event : Ev) (p : Port) → IsFixable per_port rows a event → ¬ IsHeldAt (state_in rows a) p → MakesHolder p (room_for per_port rows event) event → count_at (number_of p) rows < per_port

@@ -5,7 +5,7 @@ use Rattle.std.proofs.lemmas.Bool.{cases_Bool, leb-true, true≢false, false≢t
 use Rattle.savi_kinds.specs.declared.address.Addr.{Addr}
 use Rattle.fcfs_states.specs.declared.times.Times.{Times}
 use Rattle.fcfs_states.specs.Premises.{AreTimes}
-use Rattle.mix_rules.specs.Ageing.{AgedAddr, aged_state, due_in, IsStill}
+use Rattle.mix_rules.specs.Ageing.{AgedAddr, aged_state, due_next, IsStill}
 use Rattle.bind_table.specs.declared.row.Row.{Row}
 use Rattle.bind_table.specs.Rows.{address_of, state_in, rows_of, AllStand, IsTable}
 use Rattle.timer_wheel.specs.Arms.{due_by}
@@ -39,7 +39,7 @@ module _ (k : Times) (times : AreTimes k) (t : ℕ) where
   pub quiet : (rows : List Row) (per_port : ℕ) → IsTable rows → due_by t (first_due k rows) ≡ None → IsQuiet t (record { rows = rows; times = k; per_port = per_port })
   quiet rows per_port table none =
       let still : AllByRecursion (λ row. IsStill k t row.state) rows =
-      all_weaker (λ row. (n : ℕ) → due_in k row.state ≡ Some n → t < n) (λ row. IsStill k t row.state) (λ row late. idle-still k times t row.state late) rows (all_late k t rows table.rising (first_due k rows) refl none)
+      all_weaker (λ row. (n : ℕ) → due_next k row.state ≡ Some n → t < n) (λ row. IsStill k t row.state) (λ row late. idle-still k times t row.state late) rows (all_late k t rows table.rising (first_due k rows) refl none)
       in
       record {
         none = ap in_order (none-sent rows still);

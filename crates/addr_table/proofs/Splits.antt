@@ -6,7 +6,7 @@ use Rattle.std.proofs.lemmas.List.{length-append}
 use Rattle.mix_rules.specs.declared.state.AddrState.{AddrState}
 use Rattle.mix_rules.specs.States.{nobody, has_state}
 use Rattle.bind_table.specs.declared.row.Row.{Row}
-use Rattle.bind_table.specs.Rows.{state_in, row_of, rows_of, is_below, is_above, with_state, IsTable}
+use Rattle.bind_table.specs.Rows.{state_in, address_row, rows_of, is_below, is_above, with_state, IsTable}
 use Rattle.bind_table.proofs.Parts.{parts}
 use Rattle.addr_table.specs.Turns.{turns_of, turns_left}
 use Rattle.addr_table.proofs.Lists.{flat_map-append}
@@ -25,7 +25,7 @@ pub own_parts : (a : ℕ) (rows : List Row) → IsTable rows → rows ≡ with_s
 own_parts a rows table = parts a rows table.rising table.stand
 
 -- a list of something for each row: what the row of an address gives, between those of the others
-pub flat-with : {Y : Type 0} (f : Row → List Y) (g : AddrState → List Y) (a : ℕ) → ((s : AddrState) → f (row_of a s) ≡ g s) → g nobody ≡ [] → (state : AddrState) (rows : List Row) → flat_map f (with_state a state rows) ≡ flat_map f (lower a rows) ++ (g state ++ flat_map f (higher a rows))
+pub flat-with : {Y : Type 0} (f : Row → List Y) (g : AddrState → List Y) (a : ℕ) → ((s : AddrState) → f (address_row a s) ≡ g s) → g nobody ≡ [] → (state : AddrState) (rows : List Row) → flat_map f (with_state a state rows) ≡ flat_map f (lower a rows) ++ (g state ++ flat_map f (higher a rows))
 flat-with f g a is none state rows =
     flat_map-append f (lower a rows) (rows_of a state ++ higher a rows)
     ∙ ap (λ rest. flat_map f (lower a rows) ++ rest) (flat_map-append f (rows_of a state) (higher a rows) ∙ ap (λ own. own ++ flat_map f (higher a rows)) own)
@@ -33,7 +33,7 @@ flat-with f g a is none state rows =
     own : flat_map f (rows_of a state) ≡ g state
     own =
         elim (cases_Bool (has_state state)) [
-          | inl stands ↦ rw stands (append-nil (f (row_of a state)) ∙ is state)
+          | inl stands ↦ rw stands (append-nil (f (address_row a state)) ∙ is state)
           | inr gone ↦ rw gone (sym none ∙ sym (ap g (gone_is state gone)))
         ]
 

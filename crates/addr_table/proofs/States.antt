@@ -9,7 +9,7 @@ use Rattle.fcfs_states.specs.declared.state.Fcfs.TheVariants.{NoBind, Tentative,
 use Rattle.fcfs_states.specs.declared.times.Times.{Times}
 use Rattle.fcfs_states.specs.Premises.{AreTimes}
 use Rattle.fcfs_states.specs.Ageing.{behind}
-use Rattle.fcfs_states.specs.Aged.{AgedState, due_of, passed, aged_at, aged_by, aged}
+use Rattle.fcfs_states.specs.Aged.{AgedState, due_of, after_due, aged_at, aged_by, aged}
 use Rattle.fcfs_states.specs.AgeingLaws.{AreRisingAfter}
 use Rattle.fcfs_states.proofs.AgeingLemmas.{Ages-aged, rested_none}
 use Rattle.fcfs_states.proofs.AgesLemmas.{Ages-rising_after}
@@ -17,14 +17,14 @@ use Rattle.dhcp_states.specs.declared.bound.Bound.{Bound}
 use Rattle.dhcp_states.specs.Bindings.{has_ended}
 use Rattle.mix_rules.specs.declared.state.AddrState.{AddrState}
 use Rattle.mix_rules.specs.States.{nobody}
-use Rattle.mix_rules.specs.Ageing.{AgedAddr, aged_state, bound_at, end_of, sooner, due_in, untouched, IsStill}
+use Rattle.mix_rules.specs.Ageing.{AgedAddr, aged_state, bound_at, end_of, sooner_moment, due_next, untouched, IsStill}
 use Rattle.mix_rules.proofs.AgeingLemmas.{still-untouched, aged-still, aged-joins-all}
 use Rattle.mix_rules.proofs.EndLemmas.{due-touched, idle-touched, still-touched}
 use Rattle.addr_table.specs.Turns.{steps_left, ends_left, turns_of}
 use Rattle.addr_table.proofs.Lists.{all_weaker}
 
 -- each line of the ageing table leaves fewer to follow
-left-passed : (k : Times) (f : Fcfs) (due : ℕ) → due_of k f ≡ Some due → steps_left (passed k due f) < steps_left f
+left-passed : (k : Times) (f : Fcfs) (due : ℕ) → due_of k f ≡ Some due → steps_left (after_due k due f) < steps_left f
 left-passed k NoBind due e = cc
 left-passed k (Tentative p since true) due e = omega arith
 left-passed k (Tentative p since false) due e = omega arith
@@ -34,11 +34,11 @@ left-passed k (TestLt p since false) due e = omega arith
 left-passed k (TestVp p q since true) due e = omega arith
 left-passed k (TestVp p q since false) due e = omega arith
 
-left_at : (k : Times) (t : ℕ) (f : Fcfs) (later : Fcfs → AgedState) → ((g : Fcfs) → steps_left (later g).state ≤ steps_left g) → (d : Option ℕ) → due_of k f ≡ d → steps_left (aged_at t f d (λ due. later (passed k due f))).state ≤ steps_left f
+left_at : (k : Times) (t : ℕ) (f : Fcfs) (later : Fcfs → AgedState) → ((g : Fcfs) → steps_left (later g).state ≤ steps_left g) → (d : Option ℕ) → due_of k f ≡ d → steps_left (aged_at t f d (λ due. later (after_due k due f))).state ≤ steps_left f
 left_at k t f later most None is = omega arith
 left_at k t f later most (Some due) is =
     elim (cases_Bool (nat_le due t)) [
-      | inl by ↦ rw by (let less : steps_left (passed k due f) < steps_left f = left-passed k f due is in let more : steps_left (later (passed k due f)).state ≤ steps_left (passed k due f) = most (passed k due f) in omega (arith, less, more))
+      | inl by ↦ rw by (let less : steps_left (after_due k due f) < steps_left f = left-passed k f due is in let more : steps_left (later (after_due k due f)).state ≤ steps_left (after_due k due f) = most (after_due k due f) in omega (arith, less, more))
       | inr late ↦ rw late (omega arith)
     ]
 
@@ -50,8 +50,8 @@ left_by (suc lines) k t f = left_at k t f (aged_by lines k t) (left_by lines k t
 less_by : (lines : ℕ) (k : Times) (t : ℕ) (f : Fcfs) (due : ℕ) → due_of k f ≡ Some due → due ≤ t → steps_left (aged_by (suc lines) k t f).state < steps_left f
 unfolding aged_by
 less_by lines k t f due is by =
-    let less : steps_left (passed k due f) < steps_left f = left-passed k f due is in
-    let more : steps_left (aged_by lines k t (passed k due f)).state ≤ steps_left (passed k due f) = left_by lines k t (passed k due f) in
+    let less : steps_left (after_due k due f) < steps_left f = left-passed k f due is in
+    let more : steps_left (aged_by lines k t (after_due k due f)).state ≤ steps_left (after_due k due f) = left_by lines k t (after_due k due f) in
     rw (is, le-leb due t by) (omega (arith, less, more))
 
 left_aged : (k : Times) (t : ℕ) (f : Fcfs) → steps_left (aged k t f).state ≤ steps_left f
@@ -79,7 +79,7 @@ ends_less t (Some bound) end is by =
     rw over (omega (arith, all))
 
 -- what is due first is so in one of the two parts
-which : (first last : Option ℕ) (due : ℕ) → sooner first last ≡ Some due → (first ≡ Some due) ⊎ (last ≡ Some due)
+which : (first last : Option ℕ) (due : ℕ) → sooner_moment first last ≡ Some due → (first ≡ Some due) ⊎ (last ≡ Some due)
 which None None due is = cc
 which None (Some n) due is = inr is
 which (Some n) None due is = inl is
@@ -92,7 +92,7 @@ which (Some n) (Some m) due is =
 pub turns_aged : (k : Times) (t : ℕ) (s : AddrState) → turns_of (aged_state k t s).state ≤ turns_of s
 turns_aged k t s = omega (arith, left_aged k t s.fcfs, ends_aged t s.dhcp)
 
-pub turns_fall : (k : Times) (t : ℕ) (s : AddrState) (due : ℕ) → due_in k s ≡ Some due → due ≤ t → turns_of (aged_state k t s).state < turns_of s
+pub turns_fall : (k : Times) (t : ℕ) (s : AddrState) (due : ℕ) → due_next k s ≡ Some due → due ≤ t → turns_of (aged_state k t s).state < turns_of s
 turns_fall k t s due is by =
     elim (which (due_of k s.fcfs) (end_of s.dhcp) due is) [
       | inl fcfs ↦ omega (arith, less_aged k t s.fcfs due fcfs by, ends_aged t s.dhcp)
@@ -121,10 +121,10 @@ module _ (k : Times) (times : AreTimes k) where
   nobody-aged t = still-untouched k times t nobody (nobody-still k t)
 
   -- where nothing is due, or only later, ageing does nothing
-  pub idle-still : (t : ℕ) (s : AddrState) → ((due : ℕ) → due_in k s ≡ Some due → t < due) → IsStill k t s
-  idle-still t s late = by_due (due_in k s) refl
+  pub idle-still : (t : ℕ) (s : AddrState) → ((due : ℕ) → due_next k s ≡ Some due → t < due) → IsStill k t s
+  idle-still t s late = by_due (due_next k s) refl
     where
-      by_due : (d : Option ℕ) → due_in k s ≡ d → IsStill k t s
+      by_due : (d : Option ℕ) → due_next k s ≡ d → IsStill k t s
       by_due None is = (still-touched k times s t).1 (idle-touched k times s t is)
       by_due (Some due) is = (still-touched k times s t).1 (λ touched. let by : due ≤ t = (due-touched k times s t due is).0 touched in let after : t < due = late due is in omega (arith, by, after))
 
@@ -136,7 +136,7 @@ module _ (k : Times) (times : AreTimes k) where
   probes_after from t s still = all_after from (aged k t s.fcfs).probes (Ages-rising_after k t times (Ages-aged k times t s.fcfs) from still.rested)
 
   -- no probe is due before what is due first
-  pub probes_from : (t : ℕ) (s : AddrState) (due : ℕ) → due_in k s ≡ Some due → AllByRecursion (λ p. due ≤ p.0) (aged_state k t s).probes
+  pub probes_from : (t : ℕ) (s : AddrState) (due : ℕ) → due_next k s ≡ Some due → AllByRecursion (λ p. due ≤ p.0) (aged_state k t s).probes
   probes_from t s due is =
       elim (cases_lt 0 due) [
         | inl some ↦
@@ -145,7 +145,7 @@ module _ (k : Times) (times : AreTimes k) where
         | inr none ↦ all_weaker (λ p. 0 ≤ p.0) (λ p. due ≤ p.0) (λ p h. omega (arith, none)) (aged_state k t s).probes (all_from_0 (aged_state k t s).probes)
       ]
 
-  pub no_probes : (t : ℕ) (s : AddrState) → due_in k s ≡ None → (aged_state k t s).probes ≡ []
+  pub no_probes : (t : ℕ) (s : AddrState) → due_next k s ≡ None → (aged_state k t s).probes ≡ []
   no_probes t s is = ap (λ (a : AgedAddr). a.probes) (untouched-by t s (idle-still t s (λ due e. cc)))
 
   -- to age to a moment on the way first

@@ -7,7 +7,7 @@ use Rattle.fcfs_states.specs.declared.times.Times.{Times}
 use Rattle.fcfs_states.specs.Premises.{AreTimes}
 use Rattle.fcfs_states.specs.Ageing.{behind}
 use Rattle.mix_rules.specs.declared.state.AddrState.{AddrState}
-use Rattle.mix_rules.specs.Ageing.{AgedAddr, aged_state, due_in}
+use Rattle.mix_rules.specs.Ageing.{AgedAddr, aged_state, due_next}
 use Rattle.bind_table.specs.declared.row.Row.{Row}
 use Rattle.bind_table.specs.Rows.{address_of, state_in, rows_of, with_state, IsTable}
 use Rattle.bind_table.proofs.Parts.{all_filtered, below_all, above_all}
@@ -29,9 +29,9 @@ module _ (k : Times) (times : AreTimes k) (t : ℕ) where
 
   -- the probes of another address come later
   before_row : (x : SentProbe) (row : Row) → IsNoSooner k x.due x.address.0 row → (address_of row ≡ x.address.0 → ⊥) → AllByRecursion (IsBefore x) (row_sends k t row)
-  before_row x row no_sooner apart = by_due (due_in k row.state) refl
+  before_row x row no_sooner apart = by_due (due_next k row.state) refl
     where
-      by_due : (d : Option ℕ) → due_in k row.state ≡ d → AllByRecursion (IsBefore x) (row_sends k t row)
+      by_due : (d : Option ℕ) → due_next k row.state ≡ d → AllByRecursion (IsBefore x) (row_sends k t row)
       by_due None is = rw (no_probes k times t row.state is) tt
       by_due (Some n) is =
           all_sent (IsBefore x) (address_of row) (aged_state k t row.state).probes

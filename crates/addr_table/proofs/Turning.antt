@@ -10,7 +10,7 @@ use Rattle.fcfs_states.specs.declared.times.Times.{Times}
 use Rattle.fcfs_states.specs.Ageing.{behind}
 use Rattle.mix_rules.specs.declared.state.AddrState.{AddrState}
 use Rattle.mix_rules.specs.States.{has_state, IsSoundFor}
-use Rattle.mix_rules.specs.Ageing.{aged_state, due_in as due_of, IsStill}
+use Rattle.mix_rules.specs.Ageing.{aged_state, due_next as due_of, IsStill}
 use Rattle.mix_rules.specs.Premises.{AllMomentsFit}
 use Rattle.mix_rules.specs.Next.{Outcome, next_state}
 use Rattle.bind_table.specs.declared.row.Row.{Row}

@@ -3,11 +3,11 @@ use Rattle.std.specs.Prelude.{ℕ, Option, List}
 use Rattle.std.specs.List.{flat_map}
 use Rattle.savi_kinds.specs.declared.address.Addr.{Addr}
 use Rattle.fcfs_states.specs.declared.times.Times.{Times}
-use Rattle.mix_rules.specs.Ageing.{aged_state, due_in, IsStill}
+use Rattle.mix_rules.specs.Ageing.{aged_state, due_next, IsStill}
 use Rattle.bind_table.specs.declared.row.Row.{Row}
 use Rattle.bind_table.specs.Rows.{address_of, state_in, rows_of}
 use Rattle.timer_wheel.specs.declared.armed.Armed.{Armed}
-use Rattle.timer_wheel.specs.Arms.{pair_of, first_armed}
+use Rattle.timer_wheel.specs.Arms.{pair_for, first_armed}
 
 -- a row aged to t: none where no state is left
 abbrev pub aged_row : Times → ℕ → Row → List Row
@@ -23,7 +23,7 @@ AllStill k t rows = (a : ℕ) → IsStill k t (state_in rows a)
 
 -- each address with the moment at which something is due first in its state, where anything is
 abbrev pub dues : Times → List Row → List Armed
-dues k rows = flat_map (λ row. pair_of (address_of row) (due_in k row.state)) rows
+dues k rows = flat_map (λ row. pair_for (address_of row) (due_next k row.state)) rows
 
 -- what is due first of all, the least by moment and then by address
 abbrev pub first_due : Times → List Row → Option (ℕ × Addr)

@@ -9,8 +9,8 @@ use Rattle.addr_table.specs.Sends.{sent_of, sends}
 use Rattle.addr_table.specs.Turns.{turns_left}
 
 -- the probe of a turn, where there is one
-abbrev pub probes_of : Passed → List SentProbe
-probes_of passed = sent_of passed.address.0 (behind passed.due passed.probe [])
+abbrev pub turn_probes : Passed → List SentProbe
+turn_probes passed = sent_of passed.address.0 (behind passed.due passed.probe [])
 
 -- nothing is due by t
 pub record IsQuiet (t : ℕ) (table : Addresses) : Type 0 where
@@ -20,7 +20,7 @@ pub record IsQuiet (t : ℕ) (table : Addresses) : Type 0 where
 
 -- one turn was made: its probe is the first of those to come, and less may still fall due
 pub record TurnsOnce (t : ℕ) (old new : Addresses) (passed : Passed) : Type 0 where
-  pub sends : sends old.times t old.rows ≡ probes_of passed ++ sends old.times t new.rows
+  pub sends : sends old.times t old.rows ≡ turn_probes passed ++ sends old.times t new.rows
   pub rows : aged_rows old.times t new.rows ≡ aged_rows old.times t old.rows
   pub rest : new ≡ record old { rows = new.rows }
   pub fewer : turns_left new.rows < turns_left old.rows

@@ -21,21 +21,21 @@ port_of (Fix p) = Some p
 port_of Clear = None
 
 -- the port holds fewer addresses than it may
-abbrev pub has_room : ℕ → List Row → Port → Bool
-has_room per_port rows p = nat_lt (count_at (number_of p) rows) per_port
+abbrev pub may_hold_more : ℕ → List Row → Port → Bool
+may_hold_more per_port rows p = nat_lt (count_at (number_of p) rows) per_port
 
 -- there is such a port, and it has room
-abbrev pub room_at : ℕ → List Row → Option Port → Bool
-room_at per_port rows None = false
-room_at per_port rows (Some p) = has_room per_port rows p
+abbrev pub may_hold_more_at : ℕ → List Row → Option Port → Bool
+may_hold_more_at per_port rows None = false
+may_hold_more_at per_port rows (Some p) = may_hold_more per_port rows p
 
 -- the event's port has room
 abbrev pub room_for : ℕ → List Row → Ev → Bool
-room_for per_port rows event = room_at per_port rows (port_of event)
+room_for per_port rows event = may_hold_more_at per_port rows (port_of event)
 
 -- the operator fixes an address to a port only where the port has room, or holds the address already
 abbrev pub IsFixable : ℕ → List Row → ℕ → Ev → Type 0
-IsFixable per_port rows a (Fix p) = (has_room per_port rows p ≡ true) ⊎ IsHeldAt (state_in rows a) p
+IsFixable per_port rows a (Fix p) = (may_hold_more per_port rows p ≡ true) ⊎ IsHeldAt (state_in rows a) p
 IsFixable per_port rows a (Sent r) = Unit {0}
 IsFixable per_port rows a (Dad r) = Unit {0}
 IsFixable per_port rows a (Na r) = Unit {0}

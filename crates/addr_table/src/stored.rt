@@ -4,7 +4,7 @@ ghost use Rattle.std.specs.Prelude.{◌≡◌, ◌^◌, ◌≤◌, ◌<◌, ◌�
 ghost use Rattle.fcfs_states.specs.Premises.{AreTimes};
 ghost use Rattle.fcfs_states.specs.Ageing.{behind};
 ghost use Rattle.mix_rules.specs.States.{has_state};
-ghost use Rattle.mix_rules.specs.Ageing.{aged_state, due_in as due_of};
+ghost use Rattle.mix_rules.specs.Ageing.{aged_state, due_next as due_of};
 ghost use Rattle.mix_rules.specs.Premises.{AllMomentsFit};
 ghost use Rattle.bind_table.specs.Rows.{state_in, with_state};
 ghost use Rattle.timer_wheel.specs.Arms.{due_in, with_due};

@@ -10,7 +10,7 @@ ghost use Rattle.mix_rules.specs.States.{IsSoundFor, IsLiveAt};
 ghost use Rattle.bind_table.specs.Rows.{state_in, with_state, count_at, pair_of};
 ghost use Rattle.addr_table.specs.Ages.{aged_rows, AllStill};
 ghost use Rattle.addr_table.specs.Sends.{sends};
-ghost use Rattle.addr_table.specs.Rooms.{has_room, room_for, IsFixable};
+ghost use Rattle.addr_table.specs.Rooms.{may_hold_more, room_for, IsFixable};
 ghost use Rattle.addr_table.specs.Outcomes.{outcome_in};
 ghost use Rattle.addr_table.specs.Gives.{Gives};
 ghost use Rattle.addr_table.specs.Keeps.{IsWithinRules, AreSound, StaySound};
@@ -94,7 +94,7 @@ impl AddrTable {
 
     /// Whether the port holds fewer addresses than it may. O(1).
     pub fn has_room(&self, port: Port) -> bool
-        ensures { result ≡ has_room self.now.per_port self.now.rows port }
+        ensures { result ≡ may_hold_more self.now.per_port self.now.rows port }
     {
         self.table.count(port) < self.per_port
     }

@@ -4,13 +4,13 @@ use Rattle.std.proofs.lemmas.List.{length-append, take_at, drop_at}
 use Rattle.std.proofs.lemmas.Bool.{false≢true}
 use Rattle.mix_rules.specs.States.{nobody, has_state}
 use Rattle.bind_table.specs.declared.row.Row.{Row}
-use Rattle.bind_table.specs.Rows.{state_in, row_of, rows_of, is_below, is_above, with_state, IsRising, AllStand}
-use Rattle.bind_table.specs.Places.{place_of}
+use Rattle.bind_table.specs.Rows.{state_in, address_row, rows_of, is_below, is_above, with_state, IsRising, AllStand}
+use Rattle.bind_table.specs.Places.{count_below}
 use Rattle.bind_table.proofs.Places.{StandsAt, BelongsAt}
 use Rattle.bind_table.proofs.Parts.{parts, rows_of-standing}
 
 -- the rows around one that stands at a place
-pub around : (a : ℕ) (rows : List Row) (i : ℕ) → IsRising rows → AllStand rows → StandsAt a rows i → rows ≡ filter (is_below a) rows ++ row_of a (state_in rows a) ∷ filter (is_above a) rows
+pub around : (a : ℕ) (rows : List Row) (i : ℕ) → IsRising rows → AllStand rows → StandsAt a rows i → rows ≡ filter (is_below a) rows ++ address_row a (state_in rows a) ∷ filter (is_above a) rows
 around a rows i rising stand at = parts a rows rising stand ∙ ap (λ own. filter (is_below a) rows ++ (own ++ filter (is_above a) rows)) (rows_of-standing a (state_in rows a) at.state)
 
 -- the rows around the place where one would stand
@@ -19,27 +19,27 @@ between a rows i rising stand at = parts a rows rising stand ∙ ap (λ state. f
 
 pub stands_within : (a : ℕ) (rows : List Row) (i : ℕ) → IsRising rows → AllStand rows → StandsAt a rows i → i < length rows
 stands_within a rows i rising stand at =
-    let size : length rows ≡ place_of a rows + suc (length (filter (is_above a) rows)) = ap length (around a rows i rising stand at) ∙ length-append (filter (is_below a) rows) (row_of a (state_in rows a) ∷ filter (is_above a) rows) in
+    let size : length rows ≡ count_below a rows + suc (length (filter (is_above a) rows)) = ap length (around a rows i rising stand at) ∙ length-append (filter (is_below a) rows) (address_row a (state_in rows a) ∷ filter (is_above a) rows) in
     omega (arith, size, at.place)
 
 pub belongs_within : (a : ℕ) (rows : List Row) (i : ℕ) → IsRising rows → AllStand rows → BelongsAt a rows i → i ≤ length rows
 belongs_within a rows i rising stand at =
-    let size : length rows ≡ place_of a rows + length (filter (is_above a) rows) = ap length (between a rows i rising stand at) ∙ length-append (filter (is_below a) rows) (filter (is_above a) rows) in
+    let size : length rows ≡ count_below a rows + length (filter (is_above a) rows) = ap length (between a rows i rising stand at) ∙ length-append (filter (is_below a) rows) (filter (is_above a) rows) in
     omega (arith, size, at.place)
 
 -- the rows before and behind one that stands at a place
 pub front_is : (a : ℕ) (rows : List Row) (i : ℕ) → IsRising rows → AllStand rows → StandsAt a rows i → take i rows ≡ filter (is_below a) rows
 front_is a rows i rising stand at =
-    ap (take i) (around a rows i rising stand at) ∙ take_at (filter (is_below a) rows) (row_of a (state_in rows a) ∷ filter (is_above a) rows) i (sym at.place)
+    ap (take i) (around a rows i rising stand at) ∙ take_at (filter (is_below a) rows) (address_row a (state_in rows a) ∷ filter (is_above a) rows) i (sym at.place)
 
 pub behind_is : (a : ℕ) (rows : List Row) (i : ℕ) → IsRising rows → AllStand rows → StandsAt a rows i → drop (suc i) rows ≡ filter (is_above a) rows
 behind_is a rows i rising stand at = ap (drop (suc i)) (around a rows i rising stand at) ∙ drop_behind (filter (is_below a) rows) (filter (is_above a) rows) i at.place
   where
-    drop_behind : (front back : List Row) (j : ℕ) → j ≡ length front → drop (suc j) (front ++ row_of a (state_in rows a) ∷ back) ≡ back
+    drop_behind : (front back : List Row) (j : ℕ) → j ≡ length front → drop (suc j) (front ++ address_row a (state_in rows a) ∷ back) ≡ back
     drop_behind front back j is =
-        ap (λ xs. drop (suc j) xs) (regroup front back) ∙ drop_at (front ++ row_of a (state_in rows a) ∷ []) back (suc j) (omega (arith, is, length-append front (row_of a (state_in rows a) ∷ [])))
+        ap (λ xs. drop (suc j) xs) (regroup front back) ∙ drop_at (front ++ address_row a (state_in rows a) ∷ []) back (suc j) (omega (arith, is, length-append front (address_row a (state_in rows a) ∷ [])))
       where
-        regroup : (xs ys : List Row) → xs ++ row_of a (state_in rows a) ∷ ys ≡ (xs ++ row_of a (state_in rows a) ∷ []) ++ ys
+        regroup : (xs ys : List Row) → xs ++ address_row a (state_in rows a) ∷ ys ≡ (xs ++ address_row a (state_in rows a) ∷ []) ++ ys
         regroup [] ys = refl
         regroup (x ∷ xs) ys = ap (λ zs. x ∷ zs) (regroup xs ys)
 

@@ -10,7 +10,7 @@ use Rattle.addr_index.specs.Indexes.{Index, key_in}
 use Rattle.mix_rules.specs.declared.state.AddrState.{AddrState}
 use Rattle.mix_rules.specs.States.{nobody}
 use Rattle.bind_table.specs.declared.row.Row.{Row}
-use Rattle.bind_table.specs.Rows.{row_of, state_in}
+use Rattle.bind_table.specs.Rows.{address_row, state_in}
 use Rattle.bind_table.specs.Counts.{held_once, IsRecounted, once_in, AreMoved, AreHolders}
 use Rattle.bind_table.specs.Kept.{IsKept, HasPorts, HasHolders}
 use Rattle.bind_table.proofs.KeptChanges.{row_by_key}
@@ -37,7 +37,7 @@ nobody_held port low = grind (arith, nat_tests)
 
 -- the ports of the state of an address that has a key
 pub ports_of : (slab : Slab Row) (index : Index) (keys counts : List ℕ) (rows : List Row) (held : List PortSet) (a key : ℕ) → IsKept slab index keys counts rows → HasHolders slab held → key_in index a ≡ Some key → HasPorts held key (state_in rows a)
-ports_of slab index keys counts rows held a key kept holders is = holders.rows key (row_of a (state_in rows a)) (row_by_key slab index keys counts rows a key kept is)
+ports_of slab index keys counts rows held a key kept holders is = holders.rows key (address_row a (state_in rows a)) (row_by_key slab index keys counts rows a key kept is)
 
 -- what is kept for a port counts the address, where the port is in the set
 pub ports_least : (slab : Slab Row) (index : Index) (keys counts : List ℕ) (rows : List Row) (held : List PortSet) (a key : ℕ) (ports : PortSet) → IsKept slab index keys counts rows → HasHolders slab held → key_in index a ≡ Some key → ports ≡ get_or held key no_ports → (port : ℕ) → 1 ≤ port → port ≤ 16 → once_in ports port ≤ get_or counts (port - 1) 0
@@ -47,7 +47,7 @@ ports_least slab index keys counts rows held a key ports kept holders is same po
     omega (arith, once_held ports (state_in rows a) port are low, counts_least slab index keys counts rows a kept port low high)
 
 -- a row comes, or is replaced
-pub HasHolders-put : (slab later : Slab Row) (held : List PortSet) (key a : ℕ) (state : AddrState) (came : PortSet) → HasHolders slab held → Updates slab later key (Some (row_of a state)) → later.capacity ≡ slab.capacity → key < length held → AreHolders state came → HasHolders later (set held key came)
+pub HasHolders-put : (slab later : Slab Row) (held : List PortSet) (key a : ℕ) (state : AddrState) (came : PortSet) → HasHolders slab held → Updates slab later key (Some (address_row a state)) → later.capacity ≡ slab.capacity → key < length held → AreHolders state came → HasHolders later (set held key came)
 HasHolders-put slab later held key a state came holders changed same within are = record {
   rows = λ other row there. go other row there (cases_eq other key);
   room = rw (length-set {A = PortSet} held key came) (omega (arith, same, holders.room));
@@ -56,8 +56,8 @@ HasHolders-put slab later held key a state came holders changed same within are 
     go : (other : ℕ) (row : Row) → get later other ≡ Some row → (other ≡ key) ⊎ (other ≢ key) → HasPorts (set held key came) other row.state
     go other row there (inl is) =
         let told : get later key ≡ Some row = subst (λ (k : ℕ). get later k ≡ Some row) is there in
-        let renewed : get later key ≡ Some (row_of a state) = changed.changed in
-        let mine : row ≡ row_of a state = cc in
+        let renewed : get later key ≡ Some (address_row a state) = changed.changed in
+        let mine : row ≡ address_row a state = cc in
         rw (is, mine) (record {
           within = rw (length-set {A = PortSet} held key came) within;
           are = rw (get_or-set_same held key came no_ports within) are;

@@ -5,7 +5,7 @@ use Rattle.std.proofs.lemmas.Bool.{cases_Bool, eqb-true}
 use Rattle.mix_rules.specs.declared.state.AddrState.{AddrState}
 use Rattle.mix_rules.specs.States.{nobody, has_state}
 use Rattle.bind_table.specs.declared.row.Row.{Row}
-use Rattle.bind_table.specs.Rows.{address_of, state_in, row_of, AllStand}
+use Rattle.bind_table.specs.Rows.{address_of, state_in, address_row, AllStand}
 use Rattle.bind_table.specs.Kept.{HaveRows, key_of}
 use Rattle.bind_table.proofs.Parts.{other_address}
 
@@ -58,14 +58,14 @@ told_other f g key a same only (k ∷ keys) (row ∷ rows) differ told =
     (same k other ∙ told.0, told_other f g key a same only keys rows differ.1 told.1)
 
 -- the row under the key of an address
-pub row_under : (f : ℕ → Option Row) (keys : List ℕ) (rows : List Row) (a key : ℕ) → HaveRows f keys rows → key_of keys rows a ≡ Some key → f key ≡ Some (row_of a (state_in rows a))
+pub row_under : (f : ℕ → Option Row) (keys : List ℕ) (rows : List Row) (a key : ℕ) → HaveRows f keys rows → key_of keys rows a ≡ Some key → f key ≡ Some (address_row a (state_in rows a))
 row_under f [] rows a key told is = absurd (cc)
 row_under f (k ∷ keys) [] a key told is = absurd told
 row_under f (k ∷ keys) (row ∷ rows) a key told is =
     elim (cases_Bool (address_of row == a)) [
       | inl here ↦
           let same : k ≡ key = let found : Some k ≡ Some key = rw here at is in cc in
-          let mine : row ≡ row_of a row.state = ap (λ n. row_of n row.state) (eqb-true (address_of row) a here) in
+          let mine : row ≡ address_row a row.state = ap (λ n. address_row n row.state) (eqb-true (address_of row) a here) in
           rw here (sym (ap f same) ∙ told.0 ∙ ap Some mine)
       | inr later ↦ let found : key_of keys rows a ≡ Some key = rw later at is in rw later (row_under f keys rows a key told.1 found)
     ]
@@ -95,12 +95,12 @@ key_absent a (key ∷ keys) [] differ = refl
 key_absent a (key ∷ keys) (row ∷ rows) differ = rw (other_address (address_of row) a differ.0) (key_absent a keys rows differ.1)
 
 -- a key and its row between others, of which those before it have other addresses
-pub key_of-middle : (keys more : List ℕ) (rows others : List Row) (key a b : ℕ) (state : AddrState) → length keys ≡ length rows → AllByRecursion (λ row. address_of row ≢ a) rows → key_of (keys ++ key ∷ more) (rows ++ row_of a state ∷ others) b ≡ cond (a == b) (Some key) (key_of (keys ++ more) (rows ++ others) b)
+pub key_of-middle : (keys more : List ℕ) (rows others : List Row) (key a b : ℕ) (state : AddrState) → length keys ≡ length rows → AllByRecursion (λ row. address_of row ≢ a) rows → key_of (keys ++ key ∷ more) (rows ++ address_row a state ∷ others) b ≡ cond (a == b) (Some key) (key_of (keys ++ more) (rows ++ others) b)
 key_of-middle [] more [] others key a b state size differ = refl
 key_of-middle [] more (row ∷ rows) others key a b state size differ = absurd (omega (arith, size))
 key_of-middle (k ∷ keys) more [] others key a b state size differ = absurd (omega (arith, size))
 key_of-middle (k ∷ keys) more (row ∷ rows) others key a b state size differ =
-    let rest : key_of (keys ++ key ∷ more) (rows ++ row_of a state ∷ others) b ≡ cond (a == b) (Some key) (key_of (keys ++ more) (rows ++ others) b) = key_of-middle keys more rows others key a b state (omega (arith, size)) differ.1 in
+    let rest : key_of (keys ++ key ∷ more) (rows ++ address_row a state ∷ others) b ≡ cond (a == b) (Some key) (key_of (keys ++ more) (rows ++ others) b) = key_of-middle keys more rows others key a b state (omega (arith, size)) differ.1 in
     elim (cases_Bool (address_of row == b)) [
       | inl here ↦
           let apart : (a == b) ≡ false = other_address a b (λ same. differ.0 (eqb-true (address_of row) b here ∙ sym same)) in

@@ -5,7 +5,7 @@ use Rattle.std.proofs.lemmas.Bool.{cases_Bool, cases_lt, cases_eq, ltb-true, lt-
 use Rattle.mix_rules.specs.declared.state.AddrState.{AddrState}
 use Rattle.mix_rules.specs.States.{nobody, has_state}
 use Rattle.bind_table.specs.declared.row.Row.{Row}
-use Rattle.bind_table.specs.Rows.{address_of, state_in, row_of, rows_of, is_below, is_above, with_state, IsRising, AllStand}
+use Rattle.bind_table.specs.Rows.{address_of, state_in, address_row, rows_of, is_below, is_above, with_state, IsRising, AllStand}
 
 -- what holds of each item of a list holds of each that a filter leaves
 pub all_filtered : {X : Type 0} (P : X → Type 0) (p : X → Bool) (xs : List X) → AllByRecursion P xs → AllByRecursion P (filter p xs)
@@ -54,7 +54,7 @@ pub none_there : (a : ℕ) (rows : List Row) → AllByRecursion (λ row. a < add
 none_there a [] higher = refl
 none_there a (row ∷ rows) higher = rw (other_address (address_of row) a (λ same. omega (arith, higher.0, same))) (none_there a rows higher.1)
 
-pub rows_of-standing : (a : ℕ) (state : AddrState) → has_state state ≡ true → rows_of a state ≡ row_of a state ∷ []
+pub rows_of-standing : (a : ℕ) (state : AddrState) → has_state state ≡ true → rows_of a state ≡ address_row a state ∷ []
 rows_of-standing a state stands = rw stands refl
 
 -- a rising list of rows is that of the state that an address has there
@@ -71,7 +71,7 @@ parts a (row ∷ rows) rising stand =
     upper : a ≤ address_of row → (address_of row ≡ a) ⊎ (address_of row ≡ a → ⊥) → row ∷ rows ≡ with_state a (state_in (row ∷ rows) a) (row ∷ rows)
     upper not_lower (inl same) =
         let higher : AllByRecursion (λ later. a < address_of later) rows = subst (λ n. AllByRecursion (λ later. n < address_of later) rows) same rising.0 in
-        let mine : row_of a row.state ≡ row = ap (λ n. row_of n row.state) (sym same) in
+        let mine : address_row a row.state ≡ row = ap (λ n. address_row n row.state) (sym same) in
         rw (le-ltb (address_of row) a not_lower, le-ltb a (address_of row) (omega (arith, same)), eq-eqb (address_of row) a same, none_below a rows higher, all_above a rows higher, rows_of-standing a row.state stand.0)
         (ap (λ first. first ∷ rows) (sym mine))
     upper not_lower (inr other) =
@@ -109,9 +109,9 @@ rising_with a state rows rising =
     let back_rising : IsRising back = rising_filter (is_above a) rows rising in
     let higher : AllByRecursion (λ row. a < address_of row) back = above_all a rows in
     let least : AllByRecursion (λ row. a ≤ address_of row) back = all_weaker (λ row. a < address_of row) (λ row. a ≤ address_of row) (λ row h. omega (arith, h)) back higher in
-    let P : Bool → Type 0 = λ b. IsRising (filter (is_below a) rows ++ (cond b (row_of a state ∷ []) [] ++ back)) in
+    let P : Bool → Type 0 = λ b. IsRising (filter (is_below a) rows ++ (cond b (address_row a state ∷ []) [] ++ back)) in
     elim (cases_Bool (has_state state)) [
-      | inl stands ↦ subst P (sym stands) (rising_joined a (filter (is_below a) rows) (row_of a state ∷ back) (rising_filter (is_below a) rows rising) (higher, back_rising) (below_all a rows) (omega arith, least))
+      | inl stands ↦ subst P (sym stands) (rising_joined a (filter (is_below a) rows) (address_row a state ∷ back) (rising_filter (is_below a) rows rising) (higher, back_rising) (below_all a rows) (omega arith, least))
       | inr none ↦ subst P (sym none) (rising_joined a (filter (is_below a) rows) back (rising_filter (is_below a) rows rising) back_rising (below_all a rows) least)
     ]
 

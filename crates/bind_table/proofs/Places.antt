@@ -5,16 +5,16 @@ use Rattle.std.proofs.lemmas.Bool.{cases_eq, lt-ltb, le-ltb}
 use Rattle.mix_rules.specs.States.{nobody, has_state}
 use Rattle.bind_table.specs.declared.row.Row.{Row}
 use Rattle.bind_table.specs.Rows.{address_of, state_in, is_below, IsRising}
-use Rattle.bind_table.specs.Places.{place_of}
+use Rattle.bind_table.specs.Places.{count_below}
 
 -- the address has a row, which stands at i
 pub record StandsAt (a : ℕ) (rows : List Row) (i : ℕ) : Type 0 where
-  pub place : i ≡ place_of a rows
+  pub place : i ≡ count_below a rows
   pub state : has_state (state_in rows a) ≡ true
 
 -- it has none, and its row would stand at i
 pub record BelongsAt (a : ℕ) (rows : List Row) (i : ℕ) : Type 0 where
-  pub place : i ≡ place_of a rows
+  pub place : i ≡ count_below a rows
   pub state : state_in rows a ≡ nobody
 
 pub all_at : {X : Type 0} (P : X → Type 0) (xs : List X) (i : ℕ) (d : X) → AllByRecursion P xs → i < length xs → P (get_or xs i d)

@@ -5,8 +5,8 @@ use Rattle.addr_index.specs.Indexes.{Index, key_in}
 use Rattle.savi_kinds.specs.declared.port.PortSet.{PortSet}
 use Rattle.mix_rules.specs.States.{has_state}
 use Rattle.bind_table.specs.declared.row.Row.{Row}
-use Rattle.bind_table.specs.Rows.{state_in, row_of}
-use Rattle.bind_table.specs.Places.{place_of}
+use Rattle.bind_table.specs.Rows.{state_in, address_row}
+use Rattle.bind_table.specs.Places.{count_below}
 use Rattle.bind_table.specs.Bindings.{Bindings}
 use Rattle.bind_table.specs.Counts.{held_once}
 use Rattle.bind_table.specs.Kept.{rows_under, IsKept, HasRoom, HasHolders}
@@ -36,22 +36,22 @@ counts_most slab index keys counts rows keys_room most kept room port low high =
 -- the state of the row under the key of an address
 pub state_under : (slab : Slab Row) (index : Index) (keys counts : List ℕ) (rows : List Row) (a key : ℕ) (row : Row) → IsKept slab index keys counts rows → key_in index a ≡ Some key → get slab key ≡ Some row → row.state ≡ state_in rows a
 state_under slab index keys counts rows a key row kept is there =
-    let told : Some row ≡ Some (row_of a (state_in rows a)) = sym there ∙ row_by_key slab index keys counts rows a key kept is in
-    let same : row ≡ row_of a (state_in rows a) = cc in
+    let told : Some row ≡ Some (address_row a (state_in rows a)) = sym there ∙ row_by_key slab index keys counts rows a key kept is in
+    let same : row ≡ address_row a (state_in rows a) = cc in
     ap (λ (r : Row). r.state) same
 
 -- an address that the index doesn't have may get a row
 pub room_left : (slab : Slab Row) (index : Index) (keys counts : List ℕ) (table : Bindings) (a most : ℕ) → table_of (rows_under slab keys) most ≡ table → IsKept slab index keys counts (rows_under slab keys) → key_in index a ≡ None → (has_state (state_in table.rows a) ≡ true) ⊎ (length table.rows < table.most) → length (rows_under slab keys) < most
 room_left slab index keys counts table a most view kept is room =
-    room_for a (rows_under slab keys) (place_of a (rows_under slab keys)) most (belongs_without_key slab index keys counts (rows_under slab keys) a kept is)
+    room_for a (rows_under slab keys) (count_below a (rows_under slab keys)) most (belongs_without_key slab index keys counts (rows_under slab keys) a kept is)
     (subst (λ (t : Bindings). (has_state (state_in t.rows a) ≡ true) ⊎ (length t.rows < t.most)) (sym view) room)
 
 -- where its key goes
-pub place_within : (slab : Slab Row) (index : Index) (keys counts : List ℕ) (rows : List Row) (a i : ℕ) → IsKept slab index keys counts rows → key_in index a ≡ None → i ≡ place_of a rows → i ≤ length keys
+pub place_within : (slab : Slab Row) (index : Index) (keys counts : List ℕ) (rows : List Row) (a i : ℕ) → IsKept slab index keys counts rows → key_in index a ≡ None → i ≡ count_below a rows → i ≤ length keys
 place_within slab index keys counts rows a i kept is place =
-    omega (arith, place, belongs_within a rows (place_of a rows) kept.rising kept.stand (belongs_without_key slab index keys counts rows a kept is), keys_length (get slab) keys rows kept.told)
+    omega (arith, place, belongs_within a rows (count_below a rows) kept.rising kept.stand (belongs_without_key slab index keys counts rows a kept is), keys_length (get slab) keys rows kept.told)
 
 -- where it is
-pub place_below : (slab : Slab Row) (index : Index) (keys counts : List ℕ) (rows : List Row) (a key i : ℕ) → IsKept slab index keys counts rows → key_in index a ≡ Some key → i ≡ place_of a rows → i < length keys
+pub place_below : (slab : Slab Row) (index : Index) (keys counts : List ℕ) (rows : List Row) (a key i : ℕ) → IsKept slab index keys counts rows → key_in index a ≡ Some key → i ≡ count_below a rows → i < length keys
 place_below slab index keys counts rows a key i kept is place =
-    omega (arith, place, stands_within a rows (place_of a rows) kept.rising kept.stand (stands_by_key slab index keys counts rows a key kept is), keys_length (get slab) keys rows kept.told)
+    omega (arith, place, stands_within a rows (count_below a rows) kept.rising kept.stand (stands_by_key slab index keys counts rows a key kept is), keys_length (get slab) keys rows kept.told)

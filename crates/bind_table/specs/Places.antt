@@ -4,5 +4,5 @@ use Rattle.bind_table.specs.declared.row.Row.{Row}
 use Rattle.bind_table.specs.Rows.{is_below}
 
 -- how many rows have lower addresses
-abbrev pub place_of : ℕ → List Row → ℕ
-place_of a rows = length (filter (is_below a) rows)
+abbrev pub count_below : ℕ → List Row → ℕ
+count_below a rows = length (filter (is_below a) rows)

@@ -16,12 +16,12 @@ state_in [] a = nobody
 state_in (row ∷ rows) a = if address_of row == a then row.state else state_in rows a
 
 -- the row of an address with a state
-abbrev pub row_of : ℕ → AddrState → Row
-row_of a state = record { address = record { 0 = a }; state = state }
+abbrev pub address_row : ℕ → AddrState → Row
+address_row a state = record { address = record { 0 = a }; state = state }
 
 -- the rows of this address: one, or none where it has no state
 abbrev pub rows_of : ℕ → AddrState → List Row
-rows_of a state = if has_state state then row_of a state ∷ [] else []
+rows_of a state = if has_state state then address_row a state ∷ [] else []
 
 -- whether a row's address is lower than this one
 abbrev pub is_below : ℕ → Row → Bool

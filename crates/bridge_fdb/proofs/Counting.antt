@@ -5,7 +5,7 @@ use Rattle.std.proofs.lemmas.Bool.{cases_Bool, cond_both, and_parts, eqb-true, e
 use Rattle.std.proofs.lemmas.List.Elements.{All-head, All-tail, All-cons}
 use Rattle.savi_kinds.specs.Ports.{number_of}
 use Rattle.bridge_fdb.specs.declared.station.Station.{Station}
-use Rattle.bridge_fdb.specs.Stations.{mac_number, is_live, live_at, is_of, is_at, end_of, count_at}
+use Rattle.bridge_fdb.specs.Stations.{mac_number, is_live, live_at, is_of, is_at, end_of, stations_at}
 use Rattle.bridge_fdb.specs.Learning.{is_known, with_station}
 use Rattle.bridge_fdb.specs.Limits.{IsRising}
 use Rattle.bridge_fdb.specs.Places.{StandsAt}
@@ -97,7 +97,7 @@ counted_one q (x ∷ xs) some =
     ]
 
 -- no port has more than 256
-pub room_of : (stations : List (Option Station)) (slots numbers : List ℕ) (xs : List Station) → IsTied stations slots numbers xs → (port : ℕ) → count_at port xs ≤ 256
+pub room_of : (stations : List (Option Station)) (slots numbers : List ℕ) (xs : List Station) → IsTied stations slots numbers xs → (port : ℕ) → stations_at port xs ≤ 256
 room_of stations slots numbers xs tied port =
     let most : count_by (has (is_at port)) stations ≤ 256 =
     count_most (has (is_at port)) stations None (256 * (port - 1)) 256
@@ -117,7 +117,7 @@ room_of stations slots numbers xs tied port =
         ]
 
 -- a port whose slots all have live stations is full
-pub full_of : (stations : List (Option Station)) (slots numbers : List ℕ) (xs : List Station) (port u : ℕ) → IsTied stations slots numbers xs → 1 ≤ port → port ≤ 16 → ((k : ℕ) → 256 * (port - 1) ≤ k → k < 256 * (port - 1) + 256 → has (is_live u) (in_slot stations k) ≡ true) → 256 ≤ count_at port (live_at u xs)
+pub full_of : (stations : List (Option Station)) (slots numbers : List ℕ) (xs : List Station) (port u : ℕ) → IsTied stations slots numbers xs → 1 ≤ port → port ≤ 16 → ((k : ℕ) → 256 * (port - 1) ≤ k → k < 256 * (port - 1) + 256 → has (is_live u) (in_slot stations k) ≡ true) → 256 ≤ stations_at port (live_at u xs)
 full_of stations slots numbers xs port u tied low high live =
     let least : 256 ≤ count_by (has (λ x. is_at port x && is_live u x)) stations =
     count_least (has (λ x. is_at port x && is_live u x)) stations None (256 * (port - 1)) 256 (omega (arith, tied.size, low, high))
@@ -182,7 +182,7 @@ any_counted q (x ∷ xs) none =
     ]
 
 -- where there was room for a station that was unknown there were fewer
-pub fewer_before : (s : Station) (xs : List Station) → is_known s xs ≡ false → count_at (number_of s.port) (with_station s xs) ≤ 256 → count_at (number_of s.port) xs < 256
+pub fewer_before : (s : Station) (xs : List Station) → is_known s xs ≡ false → stations_at (number_of s.port) (with_station s xs) ≤ 256 → stations_at (number_of s.port) xs < 256
 fewer_before s xs unknown room =
     let p : Station → Bool = is_at (number_of s.port) in
     let q : Station → Bool = is_of (mac_number s.mac) in

@@ -5,7 +5,7 @@ use Rattle.savi_kinds.specs.Ports.{number_of}
 use Rattle.savi_kinds.specs.declared.port.Port.{Port}
 use Rattle.bridge_fdb.specs.declared.station.Station.{Station}
 use Rattle.bridge_fdb.specs.declared.full.Full.{Full}
-use Rattle.bridge_fdb.specs.Stations.{mac_number, is_live, live_at, is_of, is_at, count_at}
+use Rattle.bridge_fdb.specs.Stations.{mac_number, is_live, live_at, is_of, is_at, stations_at}
 use Rattle.bridge_fdb.specs.Learning.{with_station}
 use Rattle.bridge_fdb.specs.Limits.{IsRising}
 use Rattle.bridge_fdb.specs.Places.{StandsAt}
@@ -40,13 +40,13 @@ Tells-without old new n xs i x tells rising at is set k t below before =
     ]
 
 -- a port's 256 were found live until some moment
-pub Tells-set : (old new : Full) (p : Port) (end : ℕ) (xs : List Station) → Tells old xs → ((u : ℕ) → u < end → 256 ≤ count_at (number_of p) (live_at u xs)) → ((k : ℕ) → k < 16 → slice_index new.until k ≡ cond (number_of p == k + 1) end (slice_index old.until k)) → Tells new xs
+pub Tells-set : (old new : Full) (p : Port) (end : ℕ) (xs : List Station) → Tells old xs → ((u : ℕ) → u < end → 256 ≤ stations_at (number_of p) (live_at u xs)) → ((k : ℕ) → k < 16 → slice_index new.until k ≡ cond (number_of p == k + 1) end (slice_index old.until k)) → Tells new xs
 Tells-set old new p end xs tells live set k t below before =
     elim (cases_Bool (number_of p == k + 1)) [
       | inl here ↦
           let same : number_of p ≡ k + 1 = eqb-true (number_of p) (k + 1) here in
           let moment : slice_index new.until k ≡ end = set k below ∙ rw here refl in
-          subst (λ m. 256 ≤ count_at m (live_at t xs)) same (live t (omega (arith, before, moment)))
+          subst (λ m. 256 ≤ stations_at m (live_at t xs)) same (live t (omega (arith, before, moment)))
       | inr other ↦
           let same : slice_index new.until k ≡ slice_index old.until k = set k below ∙ rw other refl in
           tells k t below (omega (arith, before, same))

@@ -8,7 +8,7 @@ use Rattle.bridge_fdb.specs.declared.station.Station.{Station}
 use Rattle.bridge_fdb.specs.Stations.{mac_number}
 use Rattle.bridge_fdb.specs.Limits.{IsRising}
 use Rattle.bridge_fdb.specs.Places.{StandsAt, BelongsAt}
-use Rattle.bridge_fdb.specs.Kept.{numbers_of}
+use Rattle.bridge_fdb.specs.Kept.{mac_numbers}
 use Rattle.bridge_fdb.proofs.Rising.{stands, belongs_at_end, IsNonDecreasingBy-from_rising}
 
 -- the first number that isn't lower than the wanted one is among so many from low on, or it stands right behind them
@@ -19,33 +19,33 @@ pub record IsWindow (wanted : ℕ) (numbers : List ℕ) (low size : ℕ) : Type 
   pub others : AllWithin (λ n. wanted ≤ n) numbers (low + size) (length numbers)
 
 -- the number at a place is that of the station there
-pub number_at : (xs : List Station) (i : ℕ) (d : Station) (e : ℕ) → i < length xs → get_or (numbers_of xs) i e ≡ mac_number (get_or xs i d).mac
+pub number_at : (xs : List Station) (i : ℕ) (d : Station) (e : ℕ) → i < length xs → get_or (mac_numbers xs) i e ≡ mac_number (get_or xs i d).mac
 number_at xs i d e within = get_or-map (λ (station : Station). mac_number station.mac) xs i d e within
 
-pub numbers_length : (xs : List Station) → length (numbers_of xs) ≡ length xs
+pub numbers_length : (xs : List Station) → length (mac_numbers xs) ≡ length xs
 numbers_length xs = length-map xs (λ (station : Station). mac_number station.mac)
 
-pub IsNonDecreasing-numbers : (xs : List Station) → IsRising xs → IsNonDecreasing (numbers_of xs)
+pub IsNonDecreasing-numbers : (xs : List Station) → IsRising xs → IsNonDecreasing (mac_numbers xs)
 IsNonDecreasing-numbers [] rising i j e from to = absurd (omega (arith, to))
 IsNonDecreasing-numbers (x ∷ xs) rising i j e from to =
     let inside : j < length (x ∷ xs) = omega (arith, to, numbers_length (x ∷ xs)) in
     rw (number_at (x ∷ xs) i x e (omega (arith, from, inside)), number_at (x ∷ xs) j x e inside) (IsNonDecreasingBy-from_rising (x ∷ xs) rising i j x from inside)
 
-pub sorted_length : (xs : List Station) (ns : List ℕ) → ns ≡ numbers_of xs → length ns ≡ length xs
+pub sorted_length : (xs : List Station) (ns : List ℕ) → ns ≡ mac_numbers xs → length ns ≡ length xs
 sorted_length xs ns matching = ap length matching ∙ numbers_length xs
 
 -- the number at a place that is kept
-told : (xs : List Station) (ns : List ℕ) (k : ℕ) (d : Station) → ns ≡ numbers_of xs → k < length xs → get_or ns k 0 ≡ mac_number (get_or xs k d).mac
+told : (xs : List Station) (ns : List ℕ) (k : ℕ) (d : Station) → ns ≡ mac_numbers xs → k < length xs → get_or ns k 0 ≡ mac_number (get_or xs k d).mac
 told xs ns k d matching inside = ap (λ ms. get_or ms k 0) matching ∙ number_at xs k d 0 inside
 
 -- a station whose number was found
-pub stands_by_number : (n : ℕ) (xs : List Station) (ns : List ℕ) (i : ℕ) → IsRising xs → ns ≡ numbers_of xs → i < length ns → get_or ns i 0 ≡ n → StandsAt n xs i
+pub stands_by_number : (n : ℕ) (xs : List Station) (ns : List ℕ) (i : ℕ) → IsRising xs → ns ≡ mac_numbers xs → i < length ns → get_or ns i 0 ≡ n → StandsAt n xs i
 stands_by_number n xs ns i rising matching within same =
     let inside : i < length xs = omega (arith, within, sorted_length xs ns matching) in
     stands n xs i rising inside (λ d. sym (told xs ns i d matching inside) ∙ same)
 
 -- or its place, where it wasn't
-pub belongs_by_number : (n : ℕ) (xs : List Station) (ns : List ℕ) (i : ℕ) → IsRising xs → ns ≡ numbers_of xs → i ≤ length ns → AllWithin (λ m. m < n) ns 0 i → AllWithin (λ m. n ≤ m) ns i (length ns) → (i < length ns → get_or ns i 0 ≢ n) → BelongsAt n xs i
+pub belongs_by_number : (n : ℕ) (xs : List Station) (ns : List ℕ) (i : ℕ) → IsRising xs → ns ≡ mac_numbers xs → i ≤ length ns → AllWithin (λ m. m < n) ns 0 i → AllWithin (λ m. n ≤ m) ns i (length ns) → (i < length ns → get_or ns i 0 ≢ n) → BelongsAt n xs i
 belongs_by_number n xs ns i rising matching within lower others other =
     let same_length : length ns ≡ length xs = sorted_length xs ns matching in
     belongs_at_end n xs i rising (omega (arith, within, same_length))

@@ -12,7 +12,7 @@ use Rattle.std.proofs.lemmas.Option.{slice_get_read}
 use Rattle.savi_kinds.specs.Ports.{number_of}
 use Rattle.savi_kinds.specs.declared.address.Mac.{Mac}
 use Rattle.bridge_fdb.specs.declared.station.Station.{Station}
-use Rattle.bridge_fdb.specs.Stations.{mac_number, is_live, live_at, is_of, is_below, is_above, is_at, place_of}
+use Rattle.bridge_fdb.specs.Stations.{mac_number, is_live, live_at, is_of, is_below, is_above, is_at, learned_port}
 use Rattle.bridge_fdb.specs.Learning.{with_station, is_known}
 use Rattle.bridge_fdb.specs.Limits.{IsRising}
 use Rattle.bridge_fdb.specs.Places.{StandsAt, BelongsAt}
@@ -176,10 +176,10 @@ of_count p n xs i x rising at is =
     let counted : count_by p (filter (is_of n) xs) ≡ cond (p x) 1 0 + 0 = ap (count_by p) one ∙ count_by-cons p x [] in
     omega (arith, counted)
 
-pub place_found : (mac : Mac) (t : ℕ) (xs : List Station) (i : ℕ) (x : Station) → IsRising xs → StandsAt (mac_number mac) xs i → x ≡ get_or xs i x → place_of mac (live_at t xs) ≡ option_map (λ station. station.port) (cond (is_live t x) (Some x) None)
+pub place_found : (mac : Mac) (t : ℕ) (xs : List Station) (i : ℕ) (x : Station) → IsRising xs → StandsAt (mac_number mac) xs i → x ≡ get_or xs i x → learned_port mac (live_at t xs) ≡ option_map (λ station. station.port) (cond (is_live t x) (Some x) None)
 place_found mac t xs i x rising at is = ap (option_map (λ station. station.port)) (find_live t (mac_number mac) xs rising ∙ ap (live_in t) (found_at (mac_number mac) xs i x at is))
 
-pub place_missing : (mac : Mac) (t : ℕ) (xs : List Station) (i : ℕ) → IsRising xs → BelongsAt (mac_number mac) xs i → place_of mac (live_at t xs) ≡ None
+pub place_missing : (mac : Mac) (t : ℕ) (xs : List Station) (i : ℕ) → IsRising xs → BelongsAt (mac_number mac) xs i → learned_port mac (live_at t xs) ≡ None
 place_missing mac t xs i rising at = ap (option_map (λ station. station.port)) (find_live t (mac_number mac) xs rising ∙ ap (live_in t) at.none)
 
 pub known_found : (s : Station) (xs : List Station) (i : ℕ) (x : Station) → IsRising xs → StandsAt (mac_number s.mac) xs i → x ≡ get_or xs i x → is_known s (live_at s.last xs) ≡ (is_at (number_of s.port) x && is_live s.last x)

@@ -12,7 +12,7 @@ use Rattle.bridge_fdb.specs.declared.station.Station.{Station}
 use Rattle.bridge_fdb.specs.Stations.{mac_number}
 use Rattle.bridge_fdb.specs.Limits.{IsRising}
 use Rattle.bridge_fdb.specs.Places.{StandsAt}
-use Rattle.bridge_fdb.specs.Kept.{IsTied, IsOwn, in_slot, has, numbers_of}
+use Rattle.bridge_fdb.specs.Kept.{IsTied, IsOwn, in_slot, has, mac_numbers}
 use Rattle.savi_kinds.proofs.Lists.{split_at}
 use Rattle.savi_kinds.proofs.Filters.{count_by-cons}
 
@@ -136,7 +136,7 @@ IsTied-renew stations slots numbers xs i s tied rising at port number moment =
           ∙ rw (map_other stations slot (Some s) (take i slots) (front_distinct stations slots numbers xs s tied rising i at.bound), map_other stations slot (Some s) (drop (suc i) slots) (back_distinct stations slots numbers xs s tied rising i at.bound), get_or-set_same stations slot (Some s) None within, sym (take-map (in_slot stations) i slots), sym (drop-map (in_slot stations) (suc i) slots), tied.told)
           (sym (set_split (map Some xs) i (Some s) (omega (arith, at.bound, length-map xs Some))) ∙ sym (map-set Some xs i s));
       matching =
-          tied.matching ∙ sym (set-get_or (numbers_of xs) i 0)
+          tied.matching ∙ sym (set-get_or (mac_numbers xs) i 0)
           ∙ rw (get_or-map (λ (x : Station). mac_number x.mac) xs i s 0 at.bound, number) (sym (map-set (λ (x : Station). mac_number x.mac) xs i s));
       own = own_set stations slot s within (record { place = rw (sym port) old.place; in_time = moment }) tied.own;
       counted = λ p. counted p slot there within;

@@ -6,7 +6,7 @@ use Rattle.std.proofs.lemmas.List.Elements.{All-append, All-cons, All-filter, Al
 use Rattle.std.proofs.lemmas.List.Kept.{AllPairs-cons, AllPairs-filter}
 use Rattle.savi_kinds.specs.Ports.{number_of}
 use Rattle.bridge_fdb.specs.declared.station.Station.{Station}
-use Rattle.bridge_fdb.specs.Stations.{mac_number, is_of, is_below, is_above, is_at, count_at}
+use Rattle.bridge_fdb.specs.Stations.{mac_number, is_of, is_below, is_above, is_at, stations_at}
 use Rattle.bridge_fdb.specs.Learning.{is_known, is_full, with_station, learned}
 use Rattle.bridge_fdb.specs.Limits.{IsRising, IsWithinLimits}
 use Rattle.savi_kinds.proofs.Filters.{count_by-cons, count_by-push, count_by-filter-le}
@@ -33,7 +33,7 @@ IsRising-with s xs rising =
     (AllPairs-cons R s back higher (AllPairs-filter R (is_above n) xs rising))
     (All-weaker (λ y. mac_number y.mac < n) (λ y. All (R y) (s ∷ back)) (λ y low. All-cons (R y) s back low (All-weaker (R s) (R y) (λ z high. omega (arith, low, high)) back higher)) front lower)
 
-pub IsWithinLimits-with : (s : Station) (xs : List Station) → IsWithinLimits xs → s.last ≤ 2 ^ 62 → ((port : ℕ) → count_at port (with_station s xs) ≤ 256) → IsWithinLimits (with_station s xs)
+pub IsWithinLimits-with : (s : Station) (xs : List Station) → IsWithinLimits xs → s.last ≤ 2 ^ 62 → ((port : ℕ) → stations_at port (with_station s xs) ≤ 256) → IsWithinLimits (with_station s xs)
 IsWithinLimits-with s xs within moment room =
     let n : ℕ = mac_number s.mac in
     record {
@@ -60,17 +60,17 @@ known-counted p q (x ∷ xs) some =
     ]
 
 -- there is room for a station where its port has fewer than 256, or has the station
-pub room-with : (s : Station) (xs : List Station) → IsWithinLimits xs → count_at (number_of s.port) xs < 256 + count_at (number_of s.port) (filter (is_of (mac_number s.mac)) xs) → (port : ℕ) → count_at port (with_station s xs) ≤ 256
+pub room-with : (s : Station) (xs : List Station) → IsWithinLimits xs → stations_at (number_of s.port) xs < 256 + stations_at (number_of s.port) (filter (is_of (mac_number s.mac)) xs) → (port : ℕ) → stations_at port (with_station s xs) ≤ 256
 room-with s xs within room port =
-    let all : count_at port (with_station s xs) + count_at port (filter (is_of (mac_number s.mac)) xs) ≡ count_at port xs + cond (is_at port s) 1 0 = count_with (is_at port) s xs in
+    let all : stations_at port (with_station s xs) + stations_at port (filter (is_of (mac_number s.mac)) xs) ≡ stations_at port xs + cond (is_at port s) 1 0 = count_with (is_at port) s xs in
     elim (cases_Bool (is_at port s)) [
       | inl here ↦
           let same : number_of s.port ≡ port = eqb-true (number_of s.port) port here in
-          let fits : count_at port xs < 256 + count_at port (filter (is_of (mac_number s.mac)) xs) = subst (λ k. count_at k xs < 256 + count_at k (filter (is_of (mac_number s.mac)) xs)) same room in
-          let sum : count_at port (with_station s xs) + count_at port (filter (is_of (mac_number s.mac)) xs) ≡ count_at port xs + 1 = all ∙ rw here refl in
+          let fits : stations_at port xs < 256 + stations_at port (filter (is_of (mac_number s.mac)) xs) = subst (λ k. stations_at k xs < 256 + stations_at k (filter (is_of (mac_number s.mac)) xs)) same room in
+          let sum : stations_at port (with_station s xs) + stations_at port (filter (is_of (mac_number s.mac)) xs) ≡ stations_at port xs + 1 = all ∙ rw here refl in
           omega (arith, sum, fits)
       | inr other ↦
-          let sum : count_at port (with_station s xs) + count_at port (filter (is_of (mac_number s.mac)) xs) ≡ count_at port xs + 0 = all ∙ rw other refl in
+          let sum : stations_at port (with_station s xs) + stations_at port (filter (is_of (mac_number s.mac)) xs) ≡ stations_at port xs + 0 = all ∙ rw other refl in
           omega (arith, sum, within.room port)
     ]
 
@@ -81,44 +81,44 @@ learned-known s xs known =
       | inr room ↦ simp (room) refl
     ]
 
-pub learned-room : (s : Station) (xs : List Station) → count_at (number_of s.port) xs < 256 → learned s xs ≡ with_station s xs
-learned-room s xs room = rw (lt-leb 256 (count_at (number_of s.port) xs) room) refl
+pub learned-room : (s : Station) (xs : List Station) → stations_at (number_of s.port) xs < 256 → learned s xs ≡ with_station s xs
+learned-room s xs room = rw (lt-leb 256 (stations_at (number_of s.port) xs) room) refl
 
-pub learned-full : (s : Station) (xs : List Station) → 256 ≤ count_at (number_of s.port) xs → is_known s xs ≡ false → learned s xs ≡ xs
-learned-full s xs full new = rw (le-leb 256 (count_at (number_of s.port) xs) full, new) refl
+pub learned-full : (s : Station) (xs : List Station) → 256 ≤ stations_at (number_of s.port) xs → is_known s xs ≡ false → learned s xs ≡ xs
+learned-full s xs full new = rw (le-leb 256 (stations_at (number_of s.port) xs) full, new) refl
 
 pub IsWithinLimits-learned : (s : Station) (xs : List Station) → s.last ≤ 2 ^ 62 → IsWithinLimits xs → IsWithinLimits (learned s xs)
 IsWithinLimits-learned s xs moment within =
     elim (cases_Bool (is_known s xs)) [
       | inl known ↦
-          let one : 1 ≤ count_at (number_of s.port) (filter (is_of (mac_number s.mac)) xs) = known-counted (is_at (number_of s.port)) (is_of (mac_number s.mac)) xs known in
+          let one : 1 ≤ stations_at (number_of s.port) (filter (is_of (mac_number s.mac)) xs) = known-counted (is_at (number_of s.port)) (is_of (mac_number s.mac)) xs known in
           rw (learned-known s xs known) (IsWithinLimits-with s xs within moment (room-with s xs within (omega (arith, one, within.room (number_of s.port)))))
       | inr new ↦
           elim (cases_Bool (is_full s xs)) [
-            | inl full ↦ rw (learned-full s xs (leb-true 256 (count_at (number_of s.port) xs) full) new) within
+            | inl full ↦ rw (learned-full s xs (leb-true 256 (stations_at (number_of s.port) xs) full) new) within
             | inr not_full ↦
-                let room : count_at (number_of s.port) xs < 256 = leb-false 256 (count_at (number_of s.port) xs) not_full in
+                let room : stations_at (number_of s.port) xs < 256 = leb-false 256 (stations_at (number_of s.port) xs) not_full in
                 rw (learned-room s xs room) (IsWithinLimits-with s xs within moment (room-with s xs within (omega (arith, room))))
           ]
     ]
 
 -- 256 stations for each of 16 ports are 4096
-pub length-le : (stations : List Station) → ((port : ℕ) → count_at port stations ≤ 256) → length stations ≤ 4096
+pub length-le : (stations : List Station) → ((port : ℕ) → stations_at port stations ≤ 256) → length stations ≤ 4096
 length-le stations room = length-by_port (λ station. station.port) 256 stations room
 
 -- there are fewer where a port has fewer
-pub length-lt : (s : Station) (xs : List Station) → IsWithinLimits xs → count_at (number_of s.port) xs < 256 → length xs < 4096
+pub length-lt : (s : Station) (xs : List Station) → IsWithinLimits xs → stations_at (number_of s.port) xs < 256 → length xs < 4096
 length-lt s xs within room = omega (arith, length-le (xs ++ s ∷ []) more, length-append xs (s ∷ []))
   where
-    more : (port : ℕ) → count_at port (xs ++ s ∷ []) ≤ 256
+    more : (port : ℕ) → stations_at port (xs ++ s ∷ []) ≤ 256
     more port =
-        let all : count_at port (xs ++ s ∷ []) ≡ count_at port xs + cond (is_at port s) 1 0 = count_by-push (is_at port) xs s in
+        let all : stations_at port (xs ++ s ∷ []) ≡ stations_at port xs + cond (is_at port s) 1 0 = count_by-push (is_at port) xs s in
         elim (cases_Bool (is_at port s)) [
           | inl here ↦
-              let fits : count_at port xs < 256 = subst (λ k. count_at k xs < 256) (eqb-true (number_of s.port) port here) room in
-              let sum : count_at port (xs ++ s ∷ []) ≡ count_at port xs + 1 = all ∙ rw here refl in
+              let fits : stations_at port xs < 256 = subst (λ k. stations_at k xs < 256) (eqb-true (number_of s.port) port here) room in
+              let sum : stations_at port (xs ++ s ∷ []) ≡ stations_at port xs + 1 = all ∙ rw here refl in
               omega (arith, sum, fits)
           | inr other ↦
-              let sum : count_at port (xs ++ s ∷ []) ≡ count_at port xs + 0 = all ∙ rw other refl in
+              let sum : stations_at port (xs ++ s ∷ []) ≡ stations_at port xs + 0 = all ∙ rw other refl in
               omega (arith, sum, within.room port)
         ]

@@ -8,8 +8,8 @@ use Rattle.bridge_fdb.specs.declared.kept.Kept.{Kept}
 use Rattle.bridge_fdb.specs.Stations.{mac_number, is_live, end_of, is_below, is_above}
 
 -- the MAC address of each as a number
-abbrev pub numbers_of : List Station → List ℕ
-numbers_of stations = map (λ station. mac_number station.mac) stations
+abbrev pub mac_numbers : List Station → List ℕ
+mac_numbers stations = map (λ station. mac_number station.mac) stations
 
 -- what a slot has
 abbrev pub in_slot : List (Option Station) → ℕ → Option Station
@@ -50,7 +50,7 @@ LivesUntil end (Some station) = end ≤ end_of station
 -- the slots, the numbers and the list of the stations belong together
 pub record IsTied (stations : List (Option Station)) (slots numbers : List ℕ) (all : List Station) : Type 0 where
   pub told : map (in_slot stations) slots ≡ map Some all
-  pub matching : numbers ≡ numbers_of all
+  pub matching : numbers ≡ mac_numbers all
   pub own : (slot : ℕ) (station : Station) → in_slot stations slot ≡ Some station → IsOwn slot station
   -- a slot has no station but those of the list
   pub counted : (p : Station → Bool) → count_by (has p) stations ≡ count_by p all

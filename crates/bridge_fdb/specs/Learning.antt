@@ -3,7 +3,7 @@ use Rattle.std.specs.Prelude.{nat_le, Bool, not, ◌&&◌, if◌then◌else◌, 
 use Rattle.std.specs.List.{list_any}
 use Rattle.savi_kinds.specs.Ports.{number_of}
 use Rattle.bridge_fdb.specs.declared.station.Station.{Station}
-use Rattle.bridge_fdb.specs.Stations.{mac_number, is_of, is_below, is_above, is_at, count_at}
+use Rattle.bridge_fdb.specs.Stations.{mac_number, is_of, is_below, is_above, is_at, stations_at}
 
 -- whether the station is among those of its port
 abbrev pub is_known : Station → List Station → Bool
@@ -11,7 +11,7 @@ is_known station stations = list_any (λ other. is_at (number_of station.port) o
 
 -- whether its port has 256 stations
 abbrev pub is_full : Station → List Station → Bool
-is_full station stations = nat_le 256 (count_at (number_of station.port) stations)
+is_full station stations = nat_le 256 (stations_at (number_of station.port) stations)
 
 -- the stations of lower MAC addresses, this one, and those of higher ones: one with its MAC address is gone
 abbrev pub with_station : Station → List Station → List Station

@@ -2,7 +2,7 @@
 use Rattle.std.specs.Prelude.{ℕ, ◌≤◌, ◌<◌, ◌^◌, List}
 use Rattle.std.specs.List.{AllPairs, All}
 use Rattle.bridge_fdb.specs.declared.station.Station.{Station}
-use Rattle.bridge_fdb.specs.Stations.{mac_number, count_at}
+use Rattle.bridge_fdb.specs.Stations.{mac_number, stations_at}
 
 -- each station has a higher MAC address than those before it
 abbrev pub IsRising : List Station → Type 0
@@ -15,5 +15,5 @@ IsInTime stations = All (λ station. station.last ≤ 2 ^ 62) stations
 pub record IsWithinLimits (stations : List Station) : Type 0 where
   pub rising : IsRising stations
   -- no port has more than 256
-  pub room : (port : ℕ) → count_at port stations ≤ 256
+  pub room : (port : ℕ) → stations_at port stations ≤ 256
   pub in_time : IsInTime stations

@@ -44,17 +44,17 @@ abbrev pub is_at : ℕ → Station → Bool
 is_at port station = number_of station.port == port
 
 -- how many stations there are at a port
-abbrev pub count_at : ℕ → List Station → ℕ
-count_at port stations = count_by (is_at port) stations
+abbrev pub stations_at : ℕ → List Station → ℕ
+stations_at port stations = count_by (is_at port) stations
 
 -- the port of the station with this MAC address
-abbrev pub place_of : Mac → List Station → Option Port
-place_of mac stations = option_map (λ station. station.port) (find (is_of (mac_number mac)) stations)
+abbrev pub learned_port : Mac → List Station → Option Port
+learned_port mac stations = option_map (λ station. station.port) (find (is_of (mac_number mac)) stations)
 
 -- what is told of a station: its MAC address, its port, and the moment at which it ends
-abbrev pub row_of : Station → Mac × Port × ℕ
-row_of station = (station.mac, station.port, end_of station)
+abbrev pub station_told : Station → Mac × Port × ℕ
+station_told station = (station.mac, station.port, end_of station)
 
 -- what is told of those that are live at t, from a place in the list on
 abbrev pub rows_from : ℕ → ℕ → List Station → List (Mac × Port × ℕ)
-rows_from t from stations = map row_of (live_at t (drop from stations))
+rows_from t from stations = map station_told (live_at t (drop from stations))

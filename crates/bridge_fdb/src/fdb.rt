@@ -4,7 +4,7 @@ ghost use Rattle.std.specs.Prelude.{◌≡◌, ◌≤◌, ◌<◌, ◌^◌, ◌�
 ghost use Rattle.std.specs.Bool.{OnTrue, OnFalse};
 ghost use Rattle.std.specs.Option.{option_map};
 ghost use Rattle.savi_kinds.specs.Ports.{number_of};
-ghost use Rattle.bridge_fdb.specs.Stations.{mac_number, station_of, is_of, is_live, live_at, place_of, row_of, rows_from};
+ghost use Rattle.bridge_fdb.specs.Stations.{mac_number, station_of, is_of, is_live, live_at, learned_port, station_told, rows_from};
 ghost use Rattle.bridge_fdb.specs.Learning.{is_known, learned, with_station};
 ghost use Rattle.bridge_fdb.specs.Limits.{IsWithinLimits};
 ghost use Rattle.bridge_fdb.specs.Kept.{Keeps, IsFree, IsSlotOf, in_slot, listed, without};
@@ -90,7 +90,7 @@ impl Fdb {
     /// The port of the station with this MAC address that is live at moment `t` (ms): None exactly where none is.
     /// O(log n).
     pub fn place(&self, mac: Mac, t: Moment) -> Option<Port>
-        ensures { result ≡ place_of mac (live_at t self.now) }
+        ensures { result ≡ learned_port mac (live_at t self.now) }
     {
         match self.kept.search(mac) {
             Ok(at) => {
@@ -126,7 +126,7 @@ impl Fdb {
     /// The `i`-th of the stations that are live at moment `t` (ms), in order of MAC address, from 0, with its port and the
     /// moment (ms) at which it ends: None exactly past the last one. O(n).
     pub fn row(&self, i: u32, t: Moment) -> Option<(Mac, Port, Moment)>
-        ensures row { result ≡ option_map row_of (slice_get (live_at t self.now) i) }
+        ensures row { result ≡ option_map station_told (slice_get (live_at t self.now) i) }
         ensures limits { IsWithinLimits self.now }
     {
         match nth_live(&self.kept, i, t) {

@@ -3,7 +3,7 @@
 ghost use Rattle.std.specs.Prelude.{◌≡◌, ◌<◌, ◌≤◌, ◌+◌, ◌*◌, ◌-◌, ◌^◌, ◌++◌, ◌∷◌, ℕ, [], None, Some, take, drop, length, IfOk, MatchResult, slice_index_or, vec_capacity};
 ghost use Rattle.std.specs.List.{AllWithin, remove};
 ghost use Rattle.savi_kinds.specs.Ports.{number_of};
-ghost use Rattle.bridge_fdb.specs.Stations.{mac_number, live_at, count_at};
+ghost use Rattle.bridge_fdb.specs.Stations.{mac_number, live_at, stations_at};
 ghost use Rattle.bridge_fdb.specs.Learning.{with_station};
 ghost use Rattle.bridge_fdb.specs.Limits.{IsRising};
 ghost use Rattle.bridge_fdb.specs.Places.{IsPlaceOf, StandsAt, BelongsAt};
@@ -107,7 +107,7 @@ impl Kept {
     pub(crate) fn find_free(&self, p: Port, from: u8, t: Moment) -> Result<usize, Moment>
         requires kept { Keeps self.now }
         requires moment { t ≤ 2 ^ 62 }
-        ensures { MatchResult result (IsFree self.now.stations.items (number_of p) t) (λ end. (t < end) × ((u : ℕ) → u < end → 256 ≤ count_at (number_of p) (live_at u (listed self.now)))) }
+        ensures { MatchResult result (IsFree self.now.stations.items (number_of p) t) (λ end. (t < end) × ((u : ℕ) → u < end → 256 ≤ stations_at (number_of p) (live_at u (listed self.now)))) }
     {
         let first = first_slot(p);
         let middle = first + usize::from(from);

@@ -9,11 +9,11 @@ use Rattle.std.proofs.lemmas.Option.{none-some}
 use Rattle.std.proofs.lemmas.Slice.Eq.{bytes_eq-Decides}
 use Rattle.std.proofs.lemmas.List.Elements.{All-nil, All-cons, All-head, All-tail}
 use Rattle.savi_kinds.specs.declared.address.Addr.{Addr}
-use Rattle.savi_kinds.specs.AddrText.{IsGroup, joined, numbers_of, number_of_groups, IsWhole, IsCompressed, IsAddrText}
+use Rattle.savi_kinds.specs.AddrText.{IsGroup, joined, group_numbers, number_of_groups, IsWhole, IsCompressed, IsAddrText}
 use Rattle.savi_kinds.proofs.Colons.{behind, joined-behind}
 use Rattle.cli_lang.specs.Commands.{IsNoAddr}
 use Rattle.cli_lang.specs.Words.{begun_with}
-use Rattle.cli_lang.specs.CommandOf.{between_colons, groups_in, is_group, sides_of, whole_addr, compressed_addr, addr_of}
+use Rattle.cli_lang.specs.CommandOf.{between_colons, groups_in, is_hex_group, sides_of, whole_addr, compressed_addr, addr_of}
 
 -- a group, as a test and as a fact
 all_digits : (text : List ℕ) → list_all (λ c. is_digit c 16) text ≡ true → AllDigits 16 text
@@ -26,27 +26,27 @@ digits_all : (text : List ℕ) → AllDigits 16 text → list_all (λ c. is_digi
 digits_all [] h = refl
 digits_all (c ∷ text) h = and_from (is_digit c 16) (list_all (λ c. is_digit c 16) text) (lt-ltb (digit_value c) 16 h.0) (digits_all text h.1)
 
-group_is : (text : List ℕ) → is_group text ≡ true → IsGroup text
+group_is : (text : List ℕ) → is_hex_group text ≡ true → IsGroup text
 group_is text h =
     let both = and_parts (list_all (λ c. is_digit c 16) text) (nat_lt 0 (length text) && nat_le (length text) 4) h in
     let sizes = and_parts (nat_lt 0 (length text)) (nat_le (length text) 4) both.1 in
     ((ltb-true 0 (length text) sizes.0, all_digits text both.0), leb-true (length text) 4 sizes.1)
 
-is_the_group : (text : List ℕ) → IsGroup text → is_group text ≡ true
+is_the_group : (text : List ℕ) → IsGroup text → is_hex_group text ≡ true
 is_the_group text h =
     and_from (list_all (λ c. is_digit c 16) text) (nat_lt 0 (length text) && nat_le (length text) 4) (digits_all text h.0.1)
     (and_from (nat_lt 0 (length text)) (nat_le (length text) 4) (lt-ltb 0 (length text) h.0.0) (le-leb (length text) 4 h.1))
 
-groups_are : (groups : List (List ℕ)) → list_all is_group groups ≡ true → All IsGroup groups
+groups_are : (groups : List (List ℕ)) → list_all is_hex_group groups ≡ true → All IsGroup groups
 groups_are [] h = All-nil IsGroup
 groups_are (g ∷ groups) h =
-    let both = and_parts (is_group g) (list_all is_group groups) h in
+    let both = and_parts (is_hex_group g) (list_all is_hex_group groups) h in
     All-cons IsGroup g groups (group_is g both.0) (groups_are groups both.1)
 
-are_groups : (groups : List (List ℕ)) → All IsGroup groups → list_all is_group groups ≡ true
+are_groups : (groups : List (List ℕ)) → All IsGroup groups → list_all is_hex_group groups ≡ true
 are_groups [] h = refl
 are_groups (g ∷ groups) h =
-    and_from (is_group g) (list_all is_group groups) (is_the_group g (All-head IsGroup g groups h)) (are_groups groups (All-tail IsGroup g groups h))
+    and_from (is_hex_group g) (list_all is_hex_group groups) (is_the_group g (All-head IsGroup g groups h)) (are_groups groups (All-tail IsGroup g groups h))
 
 -- a digit is no colon
 no_colon : (c : ℕ) → digit_value c < 16 → (c == 58) ≡ false
@@ -184,13 +184,13 @@ sides_found (c ∷ text) sides h = at_front (bytes_eq (take 2 (c ∷ text)) (58 
 
 -- a text by the two forms
 whole_found : (text : List ℕ) (a : Addr) → whole_addr (groups_in text) ≡ Some a → IsAddrText text a
-whole_found text a h = tested (list_all is_group (groups_in text) && (length (groups_in text) == 8)) refl h
+whole_found text a h = tested (list_all is_hex_group (groups_in text) && (length (groups_in text) == 8)) refl h
   where
-    tested : (b : Bool) → (list_all is_group (groups_in text) && (length (groups_in text) == 8)) ≡ b → (if b then Some (record { 0 = number_of_groups (numbers_of (groups_in text)) }) else None) ≡ Some a → IsAddrText text a
+    tested : (b : Bool) → (list_all is_hex_group (groups_in text) && (length (groups_in text) == 8)) ≡ b → (if b then Some (record { 0 = number_of_groups (group_numbers (groups_in text)) }) else None) ≡ Some a → IsAddrText text a
     tested false is e = absurd (none-some a e)
     tested true is e =
-        let both = and_parts (list_all is_group (groups_in text)) (length (groups_in text) == 8) is in
-        let made : Addr = record { 0 = number_of_groups (numbers_of (groups_in text)) } in
+        let both = and_parts (list_all is_hex_group (groups_in text)) (length (groups_in text) == 8) is in
+        let made : Addr = record { 0 = number_of_groups (group_numbers (groups_in text)) } in
         let same : made ≡ a = cc in
         inl (record {
           groups = groups_in text;
@@ -202,18 +202,18 @@ whole_found text a h = tested (list_all is_group (groups_in text) && (length (gr
 
 compressed_found : (text front back : List ℕ) (a : Addr) → text ≡ front ++ (58 ∷ 58 ∷ back) → compressed_addr (groups_in front) (groups_in back) ≡ Some a → IsAddrText text a
 compressed_found text front back a split h =
-    tested (list_all is_group (groups_in front) && (list_all is_group (groups_in back) && nat_lt 0 zeros)) refl h
+    tested (list_all is_hex_group (groups_in front) && (list_all is_hex_group (groups_in back) && nat_lt 0 zeros)) refl h
   where
     zeros : ℕ
     zeros = 8 - (length (groups_in front) + length (groups_in back))
 
-    tested : (b : Bool) → (list_all is_group (groups_in front) && (list_all is_group (groups_in back) && nat_lt 0 zeros)) ≡ b → (if b then Some (record { 0 = number_of_groups (numbers_of (groups_in front) ++ replicate zeros 0 ++ numbers_of (groups_in back)) }) else None) ≡ Some a → IsAddrText text a
+    tested : (b : Bool) → (list_all is_hex_group (groups_in front) && (list_all is_hex_group (groups_in back) && nat_lt 0 zeros)) ≡ b → (if b then Some (record { 0 = number_of_groups (group_numbers (groups_in front) ++ replicate zeros 0 ++ group_numbers (groups_in back)) }) else None) ≡ Some a → IsAddrText text a
     tested false is e = absurd (none-some a e)
     tested true is e =
-        let both = and_parts (list_all is_group (groups_in front)) (list_all is_group (groups_in back) && nat_lt 0 zeros) is in
-        let more = and_parts (list_all is_group (groups_in back)) (nat_lt 0 zeros) both.1 in
+        let both = and_parts (list_all is_hex_group (groups_in front)) (list_all is_hex_group (groups_in back) && nat_lt 0 zeros) is in
+        let more = and_parts (list_all is_hex_group (groups_in back)) (nat_lt 0 zeros) both.1 in
         let some : 0 < zeros = ltb-true 0 zeros more.1 in
-        let made : Addr = record { 0 = number_of_groups (numbers_of (groups_in front) ++ replicate zeros 0 ++ numbers_of (groups_in back)) } in
+        let made : Addr = record { 0 = number_of_groups (group_numbers (groups_in front) ++ replicate zeros 0 ++ group_numbers (groups_in back)) } in
         let same : made ≡ a = cc in
         inr (record {
           front = groups_in front;
@@ -241,7 +241,7 @@ unfolding addr_of in_front
 whole_again text a h =
     let groups : groups_in text ≡ h.groups = ap groups_in h.spelled ∙ groups_again h.groups h.hex_digits in
     let no_sides : sides_of text ≡ None = ap sides_of (h.spelled ∙ sym (append-nil (joined h.groups))) ∙ groups_in_front h.groups [] h.hex_digits in
-    let test : (list_all is_group h.groups && (length h.groups == 8)) ≡ true = and_from (list_all is_group h.groups) (length h.groups == 8) (are_groups h.groups h.hex_digits) (eq-eqb (length h.groups) 8 h.eight) in
+    let test : (list_all is_hex_group h.groups && (length h.groups == 8)) ≡ true = and_from (list_all is_hex_group h.groups) (length h.groups == 8) (are_groups h.groups h.hex_digits) (eq-eqb (length h.groups) 8 h.eight) in
     rw (no_sides, groups, test) (ap (λ (n : ℕ). let made : Addr = record { 0 = n } in Some made) (sym h.value))
 
 compressed_again : (text : List ℕ) (a : Addr) → IsCompressed text a → addr_of text ≡ Some a

@@ -2,7 +2,7 @@
 use Rattle.std.specs.Prelude.{◌≡◌, ◌≢◌, ℕ, ◌+◌, ◌^◌, ◌<◌, ◌≤◌, Bool, true, false, IsTrue, List, [], ◌∷◌, ◌++◌, All, length, take, decimal, ◌⊎◌}
 use Rattle.savi_kinds.specs.declared.entry.How.{How}
 use Rattle.savi_kinds.specs.declared.entry.How.TheVariants as how
-use Rattle.cli_lang.specs.Words.{space}
+use Rattle.savi_kinds.specs.Characters.{space, line_feed}
 
 pub record Line : Type 0 where
   pub stamp : ℕ
@@ -12,9 +12,6 @@ pub record Line : Type 0 where
 pub record Input : Type 0 where
   pub arrivals : List Line
   pub ending : How
-
-abbrev pub line_feed : ℕ
-line_feed = 10
 
 abbrev pub HasNoFeed : List ℕ → Type 0
 HasNoFeed octets = All (λ c. c ≢ line_feed) octets

@@ -9,7 +9,7 @@ use Rattle.savi_kinds.specs.declared.address.Addr.{Addr}
 use Rattle.savi_kinds.specs.declared.port.Port.{Port}
 use Rattle.savi_kinds.specs.Ports.{number_of}
 use Rattle.savi_kinds.specs.MacText.{colon}
-use Rattle.savi_kinds.specs.AddrText.{numbers_of, number_of_groups}
+use Rattle.savi_kinds.specs.AddrText.{group_numbers, number_of_groups}
 use Rattle.cli_lang.specs.declared.kinds.Command.{Command}
 use Rattle.cli_lang.specs.declared.kinds.Command.TheVariants as command
 use Rattle.cli_lang.specs.declared.kinds.CmdFault.{CmdFault}
@@ -28,8 +28,8 @@ groups_in [] = []
 groups_in (c ∷ text) = between_colons (c ∷ text)
 
 -- one to four hexadecimal digits, of either case
-abbrev pub is_group : List ℕ → Bool
-is_group digits = list_all (λ c. is_digit c 16) digits && (nat_lt 0 (length digits) && nat_le (length digits) 4)
+abbrev pub is_hex_group : List ℕ → Bool
+is_hex_group digits = list_all (λ c. is_digit c 16) digits && (nat_lt 0 (length digits) && nat_le (length digits) 4)
 
 -- the texts in front of the first '::' and behind it
 abbrev pub sides_of : List ℕ → Option (List ℕ × List ℕ)
@@ -41,15 +41,15 @@ sides_of (c ∷ text) =
 -- form 1 of RFC 4291 section 2.2: eight groups
 abbrev pub whole_addr : List (List ℕ) → Option Addr
 whole_addr groups =
-    if list_all is_group groups && (length groups == 8)
-    then Some (record { 0 = number_of_groups (numbers_of groups) }) else None
+    if list_all is_hex_group groups && (length groups == 8)
+    then Some (record { 0 = number_of_groups (group_numbers groups) }) else None
 
 -- form 2: groups on each side of '::', which stands for as many zeros as there are groups missing, one at least
 abbrev pub compressed_addr : List (List ℕ) → List (List ℕ) → Option Addr
 compressed_addr front back =
     let zeros = 8 - (length front + length back) in
-    if list_all is_group front && (list_all is_group back && nat_lt 0 zeros)
-    then Some (record { 0 = number_of_groups (numbers_of front ++ replicate zeros 0 ++ numbers_of back) }) else None
+    if list_all is_hex_group front && (list_all is_hex_group back && nat_lt 0 zeros)
+    then Some (record { 0 = number_of_groups (group_numbers front ++ replicate zeros 0 ++ group_numbers back) }) else None
 
 -- the address that a text writes
 unfoldable pub addr_of : List ℕ → Option Addr

@@ -1,8 +1,6 @@
 -- The words of a line: what stands between its spaces, an empty word too.
 use Rattle.std.specs.Prelude.{ℕ, ◌==◌, List, [], ◌∷◌, if◌then◌else◌}
-
-abbrev pub space : ℕ
-space = 32
+use Rattle.savi_kinds.specs.Characters.{space}
 
 -- the words with one octet more at the front of the first
 abbrev pub begun_with : ℕ → List (List ℕ) → List (List ℕ)

@@ -1,8 +1,9 @@
 ghost use Rattle.std.specs.Prelude.{◌≡◌, ◌≤◌, ℕ, Bool, false, IsTrue, List, ◌++◌, Result, length};
 ghost use Rattle.std.specs.List.{join_with_byte};
+ghost use Rattle.savi_kinds.specs.Characters.{space};
 ghost use Rattle.cli_lang.specs.declared.kinds.Command.{Command};
 ghost use Rattle.cli_lang.specs.declared.kinds.CmdFault.{CmdFault};
-ghost use Rattle.cli_lang.specs.Words.{space, words_of};
+ghost use Rattle.cli_lang.specs.Words.{words_of};
 ghost use Rattle.cli_lang.specs.Commands.{LineGives};
 ghost use Rattle.cli_lang.specs.CommandOf.{command_of};
 ghost use Rattle.cli_lang.specs.Arrivals.{Line, Input, Arrive};

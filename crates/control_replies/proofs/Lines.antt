@@ -4,7 +4,8 @@ use Rattle.std.proofs.lemmas.Fmt.{length-decimal-le, length-decimal-le_wide}
 use Rattle.std.proofs.lemmas.List.{length-append, append_assoc}
 use Rattle.std.specs.List.{AllByRecursion}
 use Rattle.savi_kinds.specs.declared.port.Port.{Port}
-use Rattle.hist_store.specs.TextOfLines.{space, line_feed, joined, lines_text}
+use Rattle.savi_kinds.specs.Characters.{space, line_feed}
+use Rattle.hist_store.specs.TextOfLines.{joined, lines_text}
 use Rattle.hist_store.specs.PortTexts.{port_text}
 
 -- a number of 65 bits has at most 20 digits

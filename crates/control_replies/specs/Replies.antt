@@ -1,6 +1,6 @@
 -- The short replies to a command, each a line: why it is refused, or `ok`; and the last line of what a `show` prints.
 use Rattle.std.specs.Prelude.{ℕ, List, [], ◌∷◌, ◌++◌, codes}
-use Rattle.hist_store.specs.TextOfLines.{line_feed}
+use Rattle.savi_kinds.specs.Characters.{line_feed}
 use Rattle.control_replies.specs.declared.refusal.Refusal.{Refusal}
 use Rattle.control_replies.specs.declared.refusal.Refusal.TheVariants.{UnknownCommand, BadAddress, BadPort, NoSuchPort, TrustedPort, OffLink, PortFull, NoBinding}
 

@@ -2,7 +2,8 @@
 
 ghost use Rattle.std.specs.Prelude.{◌≡◌, ◌+◌, ◌≤◌, ◌<◌, ◌^◌, ◌∷◌, [], ◌++◌, length, IfSome};
 ghost use Rattle.arrayvec.specs.ArrayVec.{array_vec_len};
-ghost use Rattle.hist_store.specs.TextOfLines.{space, lines_text};
+ghost use Rattle.savi_kinds.specs.Characters.{space};
+ghost use Rattle.hist_store.specs.TextOfLines.{lines_text};
 ghost use Rattle.control_replies.specs.Bindings.{binding_fields, claimant_text, until_text};
 
 use crate::line::{Line, put_octets, put_port, put_word};

@@ -2,7 +2,7 @@
 
 ghost use Rattle.std.specs.Prelude.{◌≡◌, ◌+◌, ◌≤◌, ◌∷◌, ◌++◌, length, decimal};
 ghost use Rattle.arrayvec.specs.ArrayVec.{array_vec_len};
-ghost use Rattle.hist_store.specs.TextOfLines.{space};
+ghost use Rattle.savi_kinds.specs.Characters.{space};
 ghost use Rattle.hist_store.specs.PortTexts.{port_text};
 
 use arrayvec::ArrayVec;

@@ -7,7 +7,7 @@ use Rattle.dhcp6_read.specs.declared.message.Lease.{Lease}
 use Rattle.dhcp6_read.specs.declared.message.Dhcp.{Dhcp}
 use Rattle.dhcp6_read.specs.declared.message.DhcpFault.{DhcpFault}
 use Rattle.dhcp6_read.specs.declared.message.DhcpFault.TheVariants.{Short}
-use Rattle.dhcp6_read.specs.Options.{Row, GivesRows}
+use Rattle.dhcp6_read.specs.Options.{OptionsRead, GivesRows}
 use Rattle.dhcp6_read.specs.Levels.{Said, row_says, in_message}
 use Rattle.dhcp6_read.specs.Message.{kind_of, tid_of, is_relayed, duid_in, is_rapid, unless_fault, unread, read_whole, options_read, reading, Reads}
 use Rattle.dhcp6_read.specs.DhcpOf.{option_row, dhcp_of}
@@ -15,7 +15,7 @@ use Rattle.dhcp6_read.specs.Steps.{Tells}
 use Rattle.dhcp6_read.proofs.Rows.{gives_rows, row_same}
 
 abbrev pub ReadsEach : List ℕ → Result Dhcp DhcpFault → Type 0
-ReadsEach message result = (row_of : List ℕ → Row) → GivesRows row_of → result ≡ reading row_of message
+ReadsEach message result = (row_of : List ℕ → OptionsRead) → GivesRows row_of → result ≡ reading row_of message
 
 pub reads_so : (message : List ℕ) (result : Result Dhcp DhcpFault) → ReadsEach message result → Reads message result
 reads_so message result each = (option_row, gives_rows, each option_row gives_rows)
@@ -27,7 +27,7 @@ pub short_reads : (message : List ℕ) → length message < 4 → ReadsEach mess
 short_reads message few row_of gives = rw (lt-ltb (length message) 4 few) refl
 
 -- a message with a header, by whether relays send it
-headed : (row_of : List ℕ → Row) (message : List ℕ) (relayed : Bool) → 4 ≤ length message → is_relayed (kind_of message) ≡ relayed → reading row_of message ≡ cond relayed (Ok (unread message)) (options_read row_of message (row_of (drop 4 message)))
+headed : (row_of : List ℕ → OptionsRead) (message : List ℕ) (relayed : Bool) → 4 ≤ length message → is_relayed (kind_of message) ≡ relayed → reading row_of message ≡ cond relayed (Ok (unread message)) (options_read row_of message (row_of (drop 4 message)))
 headed row_of message relayed long e =
     let short : Result Dhcp DhcpFault = Err Short in
     let rest = options_read row_of message (row_of (drop 4 message)) in
@@ -50,12 +50,12 @@ relayed_reads message d long e k t u r l row_of gives =
     ap ok (same_dhcp d (kind_of message) (tid_of message) None false [] k t u r l) ∙ sym (headed row_of message true long e)
 
 -- what the options of a message say, by the octets behind its first 4
-abbrev pub said_by : (List ℕ → Row) → List ℕ → List ℕ → Said
+abbrev pub said_by : (List ℕ → OptionsRead) → List ℕ → List ℕ → Said
 said_by row_of message octets = row_says (in_message row_of (kind_of message)) (row_of octets)
 
 -- what is known of them, whichever function gives rows
 abbrev pub TellsOf : List ℕ → List ℕ → Result Bool DhcpFault → List Lease → List Lease → Type 0
-TellsOf message octets result before after = (row_of : List ℕ → Row) → GivesRows row_of → Tells (said_by row_of message octets) result before after
+TellsOf message octets result before after = (row_of : List ℕ → OptionsRead) → GivesRows row_of → Tells (said_by row_of message octets) result before after
 
 pub fault_reads : (message octets : List ℕ) (fault : DhcpFault) (before after : List Lease) → 4 ≤ length message → octets ≡ drop 4 message → is_relayed (kind_of message) ≡ false
     → TellsOf message octets (Err fault) before after → ReadsEach message (Err fault)
@@ -66,14 +66,14 @@ fault_reads message octets fault before after long at e told row_of gives =
     sym (headed row_of message false long e ∙ ap (λ (l : List DhcpFault). unless_fault l value) (subst P at (told row_of gives)).1)
 
 -- what is read in a message without a fault, all but the leases
-pub record HasRead (message octets : List ℕ) (d : Dhcp) (row_of : List ℕ → Row) : Type 0 where
+pub record HasRead (message octets : List ℕ) (d : Dhcp) (row_of : List ℕ → OptionsRead) : Type 0 where
   pub kind : d.kind ≡ kind_of message
   pub tid : d.tid ≡ tid_of message
   pub duid : d.duid ≡ duid_in (row_of octets).options
   pub rapid : d.rapid ≡ is_rapid (row_of octets).options
 
 pub whole_reads : (message octets : List ℕ) (d : Dhcp) (void : Bool) (before after : List Lease) → 4 ≤ length message → octets ≡ drop 4 message → is_relayed (kind_of message) ≡ false
-    → ((row_of : List ℕ → Row) → GivesRows row_of → HasRead message octets d row_of) → TellsOf message octets (Ok void) before after → before ≡ []
+    → ((row_of : List ℕ → OptionsRead) → GivesRows row_of → HasRead message octets d row_of) → TellsOf message octets (Ok void) before after → before ≡ []
     → d.leases.items ≡ cond void [] after → ReadsEach message (Ok d)
 whole_reads message octets d void before after long at e has told none leases row_of gives =
     let behind = drop 4 message in
@@ -100,4 +100,4 @@ dhcp_is message = (option_row, gives_rows, refl)
 pub same_dhcp_reading : (message : List ℕ) (a b : Result Dhcp DhcpFault) → Reads message a → Reads message b → a ≡ b
 same_dhcp_reading message a b p q =
     let same : p.0 ≡ q.0 = fun_ext (λ octets. row_same octets (p.0 octets) (q.0 octets) (p.1 octets) (q.1 octets)) in
-    p.2 ∙ ap (λ (r : List ℕ → Row). reading r message) same ∙ sym q.2
+    p.2 ∙ ap (λ (r : List ℕ → OptionsRead). reading r message) same ∙ sym q.2

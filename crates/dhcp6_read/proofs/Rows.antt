@@ -5,7 +5,7 @@ use Rattle.std.proofs.lemmas.Bool.{cases_lt, cond_both, both_ways, and_parts, an
 use Rattle.std.proofs.lemmas.List.{append_assoc, take_at, drop_at, drop-drop, take-append-drop, length-append, length-take-le, length-drop, get_or-take, get_or_append_left}
 use Rattle.std.proofs.lemmas.List.Elements.{All-nil, All-cons, All-head, All-tail}
 use Rattle.byteorder.specs.Endian.{big_number}
-use Rattle.dhcp6_read.specs.Options.{DhcpOption, octets_of, IsWhole, BeginsNone, Row, IsRow, GivesRows}
+use Rattle.dhcp6_read.specs.Options.{DhcpOption, octets_of, IsWhole, BeginsNone, OptionsRead, IsRow, GivesRows}
 use Rattle.dhcp6_read.specs.DhcpOf.{front_len, begins_whole, front_option, behind_front, in_front, no_option, row_within, option_row}
 use Rattle.dhcp6_read.specs.Steps.{BeginsWith}
 
@@ -44,16 +44,16 @@ options_same (a ∷ os) (b ∷ ps) x y p q m n e =
     let more = options_same os ps x y (All-tail IsWhole a os p) (All-tail IsWhole b ps q) m n first.1 in
     (ap (λ (o : DhcpOption). o ∷ os) first.0 ∙ ap (λ (l : List DhcpOption). b ∷ l) more.0, more.1)
 
-pub row_same : (octets : List ℕ) (r s : Row) → IsRow octets r → IsRow octets s → r ≡ s
+pub row_same : (octets : List ℕ) (r s : OptionsRead) → IsRow octets r → IsRow octets s → r ≡ s
 row_same octets r s p q =
     let both = options_same r.options s.options r.rest s.rest p.whole q.whole p.ends q.ends (sym p.joined ∙ q.joined) in
-    let made : List DhcpOption → List ℕ → Row = λ o x. record { options = o; rest = x } in
+    let made : List DhcpOption → List ℕ → OptionsRead = λ o x. record { options = o; rest = x } in
     ap (λ (o : List DhcpOption). made o r.rest) both.0 ∙ ap (λ (x : List ℕ). made s.options x) both.1
 
 row_none : (octets : List ℕ) → BeginsNone octets → IsRow octets (record { options = []; rest = octets })
 row_none octets none = record { whole = All-nil IsWhole; ends = none; joined = refl }
 
-row_cons : (octets behind : List ℕ) (o : DhcpOption) (row : Row) → IsWhole o → octets ≡ octets_of o ++ behind → IsRow behind row → IsRow octets (record { options = o ∷ row.options; rest = row.rest })
+row_cons : (octets behind : List ℕ) (o : DhcpOption) (row : OptionsRead) → IsWhole o → octets ≡ octets_of o ++ behind → IsRow behind row → IsRow octets (record { options = o ∷ row.options; rest = row.rest })
 row_cons octets behind o row whole e is = record {
   whole = All-cons IsWhole o row.options whole is.whole;
   ends = is.ends;
@@ -137,11 +137,11 @@ unfolding option_row
 gives_rows octets = row_is (length octets) octets (omega arith)
 
 -- the row of octets that begin with an option, and of octets that don't
-pub row_begins : (row_of : List ℕ → Row) → GivesRows row_of → (octets behind : List ℕ) (o : DhcpOption) → IsWhole o → octets ≡ octets_of o ++ behind → row_of octets ≡ record { options = o ∷ (row_of behind).options; rest = (row_of behind).rest }
+pub row_begins : (row_of : List ℕ → OptionsRead) → GivesRows row_of → (octets behind : List ℕ) (o : DhcpOption) → IsWhole o → octets ≡ octets_of o ++ behind → row_of octets ≡ record { options = o ∷ (row_of behind).options; rest = (row_of behind).rest }
 row_begins row_of gives octets behind o whole e =
     row_same octets (row_of octets) (record { options = o ∷ (row_of behind).options; rest = (row_of behind).rest }) (gives octets) (row_cons octets behind o (row_of behind) whole e (gives behind))
 
-pub row_ends : (row_of : List ℕ → Row) → GivesRows row_of → (octets : List ℕ) → BeginsNone octets → row_of octets ≡ record { options = []; rest = octets }
+pub row_ends : (row_of : List ℕ → OptionsRead) → GivesRows row_of → (octets : List ℕ) → BeginsNone octets → row_of octets ≡ record { options = []; rest = octets }
 row_ends row_of gives octets none = row_same octets (row_of octets) (record { options = []; rest = octets }) (gives octets) (row_none octets none)
 
 -- octets that are enough begin with an option

@@ -4,7 +4,7 @@ use Rattle.std.specs.Prelude.{ℕ, zero, suc, ◌+◌, ◌&&◌, nat_le, Bool, i
 use Rattle.byteorder.specs.Endian.{big_number}
 use Rattle.dhcp6_read.specs.declared.message.Dhcp.{Dhcp}
 use Rattle.dhcp6_read.specs.declared.message.DhcpFault.{DhcpFault}
-use Rattle.dhcp6_read.specs.Options.{DhcpOption, Row}
+use Rattle.dhcp6_read.specs.Options.{DhcpOption, OptionsRead}
 use Rattle.dhcp6_read.specs.Message.{reading}
 
 -- what an option's length says, where one stands at the front of these octets (RFC 8415 section 21.1)
@@ -23,21 +23,21 @@ abbrev pub behind_front : List ℕ → List ℕ
 behind_front octets = drop (front_len octets) (drop 4 octets)
 
 -- the option in front of those of a row
-abbrev pub in_front : DhcpOption → Row → Row
+abbrev pub in_front : DhcpOption → OptionsRead → OptionsRead
 in_front option row = record { options = option ∷ row.options; rest = row.rest }
 
 -- a row of no option
-abbrev pub no_option : List ℕ → Row
+abbrev pub no_option : List ℕ → OptionsRead
 no_option octets = record { options = []; rest = octets }
 
 -- the row of octets, with at most so many options
-abbrev pub row_within : ℕ → List ℕ → Row
+abbrev pub row_within : ℕ → List ℕ → OptionsRead
 row_within zero octets = no_option octets
 row_within (suc most) octets =
     if begins_whole octets then in_front (front_option octets) (row_within most (behind_front octets)) else no_option octets
 
 -- the row: it has no more options than octets
-unfoldable pub option_row : List ℕ → Row
+unfoldable pub option_row : List ℕ → OptionsRead
 option_row octets = row_within (length octets) octets
 
 -- what reading the message gives

@@ -5,7 +5,7 @@ use Rattle.byteorder.specs.Endian.{big_number}
 use Rattle.dhcp6_read.specs.declared.message.Lease.{Lease}
 use Rattle.dhcp6_read.specs.declared.message.DhcpFault.{DhcpFault}
 use Rattle.dhcp6_read.specs.declared.message.DhcpFault.TheVariants.{Overrun, Ia, Address, Duid, Status}
-use Rattle.dhcp6_read.specs.Options.{Row, number_of}
+use Rattle.dhcp6_read.specs.Options.{OptionsRead, option_code}
 
 -- The faults, by the place in the message where the option at fault begins, the first one first. Whether a status says
 -- that the addresses beside it aren't leased. The addresses that are leased, as they stand in the message.
@@ -26,11 +26,11 @@ overrun [] = []
 overrun (octet ∷ octets) = Overrun ∷ []
 
 -- what a row says, by what an option of this code and content says
-abbrev pub row_says : (ℕ → List ℕ → Said) → Row → Said
+abbrev pub row_says : (ℕ → List ℕ → Said) → OptionsRead → Said
 row_says says row = record {
-  faults = flat_map (λ option. (says (number_of option) option.content).faults) row.options ++ overrun row.rest;
-  void = list_any (λ option. (says (number_of option) option.content).void) row.options;
-  leases = flat_map (λ option. (says (number_of option) option.content).leases) row.options;
+  faults = flat_map (λ option. (says (option_code option) option.content).faults) row.options ++ overrun row.rest;
+  void = list_any (λ option. (says (option_code option) option.content).void) row.options;
+  leases = flat_map (λ option. (says (option_code option) option.content).leases) row.options;
 }
 
 -- what an option says in which others lie: their faults, and these addresses unless one of them voids them
@@ -56,17 +56,17 @@ unfoldable pub lease_of : List ℕ → Lease
 lease_of content = record { address = record { 0 = big_number 16 content }; valid = big_number 4 (drop 20 content) }
 
 -- an address with the options behind its 24 octets
-abbrev pub address_says : (List ℕ → Row) → ℕ → List ℕ → Said
+abbrev pub address_says : (List ℕ → OptionsRead) → ℕ → List ℕ → Said
 address_says row_of kind content =
     if nat_lt (length content) 24 then faulty Address else around (row_says (in_address kind) (row_of (drop 24 content))) (lease_of content ∷ [])
 
 -- an option within an IA: an address (5) or a status (13)
-abbrev pub in_ia : (List ℕ → Row) → ℕ → ℕ → List ℕ → Said
+abbrev pub in_ia : (List ℕ → OptionsRead) → ℕ → ℕ → List ℕ → Said
 in_ia row_of kind code content =
     if code == 5 then address_says row_of kind content else (if code == 13 then status_says kind content else nothing)
 
 -- an IA with the options behind its fixed octets
-abbrev pub ia_says : (List ℕ → Row) → ℕ → ℕ → List ℕ → Said
+abbrev pub ia_says : (List ℕ → OptionsRead) → ℕ → ℕ → List ℕ → Said
 ia_says row_of fixed kind content =
     if nat_lt (length content) fixed then faulty Ia else (let inner = row_says (in_ia row_of kind) (row_of (drop fixed content)) in around inner inner.leases)
 
@@ -76,6 +76,6 @@ duid_says content = if nat_lt (length content) 3 then faulty Duid else (if nat_l
 
 -- An option of a message: a client's DUID (1), an IA_NA (3) with 12 fixed octets, an IA_TA (4) with 4, or a status (13)
 -- (RFC 8415 sections 21.2, 21.4, 21.5, 21.13). Every other one is passed over.
-abbrev pub in_message : (List ℕ → Row) → ℕ → ℕ → List ℕ → Said
+abbrev pub in_message : (List ℕ → OptionsRead) → ℕ → ℕ → List ℕ → Said
 in_message row_of kind code content =
     if code == 1 then duid_says content else (if code == 3 then ia_says row_of 12 kind content else (if code == 4 then ia_says row_of 4 kind content else (if code == 13 then status_says kind content else nothing)))

@@ -6,7 +6,7 @@ use Rattle.byteorder.specs.Endian.{big_number}
 use Rattle.dhcp6_read.specs.declared.message.Dhcp.{Dhcp}
 use Rattle.dhcp6_read.specs.declared.message.DhcpFault.{DhcpFault}
 use Rattle.dhcp6_read.specs.declared.message.DhcpFault.TheVariants.{Short}
-use Rattle.dhcp6_read.specs.Options.{DhcpOption, Row, number_of, GivesRows}
+use Rattle.dhcp6_read.specs.Options.{DhcpOption, OptionsRead, option_code, GivesRows}
 use Rattle.dhcp6_read.specs.Levels.{Said, row_says, in_message}
 
 -- its type, one octet, and its transaction id, three octets (RFC 8415 section 8)
@@ -23,11 +23,11 @@ is_relayed kind = (kind == 12) || (kind == 13)
 -- the content of the first option 1, a client's DUID (RFC 8415 section 21.2)
 abbrev pub duid_in : List DhcpOption → Option (ArrayVec ℕ)
 duid_in [] = None
-duid_in (option ∷ options) = if number_of option == 1 then Some (record { items = option.content }) else duid_in options
+duid_in (option ∷ options) = if option_code option == 1 then Some (record { items = option.content }) else duid_in options
 
 -- an option 14, rapid commit, is among them (RFC 8415 section 21.14)
 abbrev pub is_rapid : List DhcpOption → Bool
-is_rapid options = list_any (λ option. number_of option == 14) options
+is_rapid options = list_any (λ option. option_code option == 14) options
 
 -- the value where there is no fault, else the first fault
 abbrev pub unless_fault : {T : Type 0} → List DhcpFault → T → Result T DhcpFault
@@ -49,15 +49,15 @@ read_whole message options said = record {
 }
 
 -- what a message reads as, where its first 4 octets are there and its options are this row
-abbrev pub options_read : (List ℕ → Row) → List ℕ → Row → Result Dhcp DhcpFault
+abbrev pub options_read : (List ℕ → OptionsRead) → List ℕ → OptionsRead → Result Dhcp DhcpFault
 options_read row_of message row =
     let said = row_says (in_message row_of (kind_of message)) row in unless_fault said.faults (read_whole message row.options said)
 
 -- what a message reads as
-abbrev pub reading : (List ℕ → Row) → List ℕ → Result Dhcp DhcpFault
+abbrev pub reading : (List ℕ → OptionsRead) → List ℕ → Result Dhcp DhcpFault
 reading row_of message =
     if nat_lt (length message) 4 then Err Short else (if is_relayed (kind_of message) then Ok (unread message) else options_read row_of message (row_of (drop 4 message)))
 
 -- reading the message gives this
 abbrev pub Reads : List ℕ → Result Dhcp DhcpFault → Type 0
-Reads message result = (row_of : List ℕ → Row) × GivesRows row_of × (result ≡ reading row_of message)
+Reads message result = (row_of : List ℕ → OptionsRead) × GivesRows row_of × (result ≡ reading row_of message)

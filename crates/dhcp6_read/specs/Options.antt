@@ -10,8 +10,8 @@ pub record DhcpOption : Type 0 where
   pub content : List ℕ
 
 -- the number of its code
-abbrev pub number_of : DhcpOption → ℕ
-number_of option = big_number 2 option.code
+abbrev pub option_code : DhcpOption → ℕ
+option_code option = big_number 2 option.code
 
 abbrev pub octets_of : DhcpOption → List ℕ
 octets_of option = option.code ++ (option.len ++ option.content)
@@ -27,21 +27,21 @@ abbrev pub BeginsNone : List ℕ → Type 0
 BeginsNone octets = (option : DhcpOption) (behind : List ℕ) → IsWhole option → octets ≡ octets_of option ++ behind → ⊥
 
 -- options, and the octets behind the last of them
-pub record Row : Type 0 where
+pub record OptionsRead : Type 0 where
   pub options : List DhcpOption
   pub rest : List ℕ
 
 -- The octets are these whole options, one behind the other, and a rest with which none begins. The options tile the
 -- octets where nothing is left.
-pub record IsRow (octets : List ℕ) (row : Row) : Type 0 where
+pub record IsRow (octets : List ℕ) (row : OptionsRead) : Type 0 where
   pub whole : All IsWhole row.options
   pub ends : BeginsNone row.rest
   pub joined : octets ≡ flat_map octets_of row.options ++ row.rest
 
 -- each list of octets has a row, and only one
 abbrev pub EachHasOneRow : Type 0
-EachHasOneRow = (octets : List ℕ) → (row : Row) × IsRow octets row × ((other : Row) → IsRow octets other → other ≡ row)
+EachHasOneRow = (octets : List ℕ) → (row : OptionsRead) × IsRow octets row × ((other : OptionsRead) → IsRow octets other → other ≡ row)
 
 -- the row of each list of octets, as a function
-abbrev pub GivesRows : (List ℕ → Row) → Type 0
+abbrev pub GivesRows : (List ℕ → OptionsRead) → Type 0
 GivesRows row_of = (octets : List ℕ) → IsRow octets (row_of octets)

@@ -2,7 +2,7 @@
 use Rattle.std.specs.Prelude.{◌≡◌, ℕ, Bool, Result, Ok, Err, List, [], ◌∷◌, ◌++◌}
 use Rattle.dhcp6_read.specs.declared.message.Lease.{Lease}
 use Rattle.dhcp6_read.specs.declared.message.DhcpFault.{DhcpFault}
-use Rattle.dhcp6_read.specs.Options.{DhcpOption, IsWhole, octets_of, number_of}
+use Rattle.dhcp6_read.specs.Options.{DhcpOption, IsWhole, octets_of, option_code}
 use Rattle.dhcp6_read.specs.Levels.{Said}
 
 -- no fault, whether they are void, and the leases put behind those before; or the first fault
@@ -13,4 +13,4 @@ Tells said (Err fault) before after = (others : List DhcpFault) × (said.faults 
 -- the octets begin with a whole option of this code and content, and these octets stand behind it
 abbrev pub BeginsWith : List ℕ → ℕ → List ℕ → List ℕ → Type 0
 BeginsWith octets code content behind =
-    (option : DhcpOption) × IsWhole option × (number_of option ≡ code) × (option.content ≡ content) × (octets ≡ octets_of option ++ behind)
+    (option : DhcpOption) × IsWhole option × (option_code option ≡ code) × (option.content ≡ content) × (octets ≡ octets_of option ++ behind)

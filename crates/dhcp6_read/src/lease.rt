@@ -3,7 +3,7 @@
 
 ghost use Rattle.std.specs.Prelude.{◌≡◌, ◌+◌, ◌*◌, ◌<◌, ◌≤◌, List, ℕ, [], length, OnOk};
 ghost use Rattle.arrayvec.specs.ArrayVec.{array_vec_len};
-ghost use Rattle.dhcp6_read.specs.Options.{Row, GivesRows};
+ghost use Rattle.dhcp6_read.specs.Options.{OptionsRead, GivesRows};
 ghost use Rattle.dhcp6_read.specs.Levels.{row_says, in_address, address_says, in_ia, ia_says};
 ghost use Rattle.dhcp6_read.specs.Steps.{Tells};
 
@@ -31,7 +31,7 @@ pub fn read_ia(
     leases: &mut Leases,
 ) -> Result<bool, DhcpFault>
     requires room { 28 * array_vec_len leases.old + length content.now ≤ 1456 }
-    ensures tells { (row_of : List ℕ → Row) → GivesRows row_of
+    ensures tells { (row_of : List ℕ → OptionsRead) → GivesRows row_of
         → Tells (ia_says row_of fixed kind content.now) result leases.old.items leases.new.items }
     ensures room { OnOk result (28 * array_vec_len leases.new ≤ 28 * array_vec_len leases.old + length content.now) }
 {
@@ -48,7 +48,7 @@ pub fn read_ia(
 /// Reads the options of an IA: whether a status among them voids its addresses. O(n).
 fn read_ia_options(kind: u8, options: &[u8], leases: &mut Leases) -> Result<bool, DhcpFault>
     requires room { 28 * array_vec_len leases.old + length options.now ≤ 1456 }
-    ensures tells { (row_of : List ℕ → Row) → GivesRows row_of
+    ensures tells { (row_of : List ℕ → OptionsRead) → GivesRows row_of
         → Tells (row_says (in_ia row_of kind) (row_of options.now)) result leases.old.items leases.new.items }
     ensures room { OnOk result (28 * array_vec_len leases.new ≤ 28 * array_vec_len leases.old + length options.now) }
 {
@@ -66,7 +66,7 @@ fn read_ia_options(kind: u8, options: &[u8], leases: &mut Leases) -> Result<bool
 /// Reads an option of an IA: whether it voids the IA's addresses. O(n).
 fn read_in_ia(kind: u8, code: u16, content: &[u8], leases: &mut Leases) -> Result<bool, DhcpFault>
     requires room { 28 * array_vec_len leases.old + 4 + length content.now ≤ 1456 }
-    ensures tells { (row_of : List ℕ → Row) → GivesRows row_of
+    ensures tells { (row_of : List ℕ → OptionsRead) → GivesRows row_of
         → Tells (in_ia row_of kind code content.now) result leases.old.items leases.new.items }
     ensures room { OnOk result (28 * array_vec_len leases.new ≤ 28 * array_vec_len leases.old + 4 + length content.now) }
 {
@@ -81,7 +81,7 @@ fn read_in_ia(kind: u8, code: u16, content: &[u8], leases: &mut Leases) -> Resul
 /// so an `Ok` is false. O(n).
 fn read_address(kind: u8, content: &[u8], leases: &mut Leases) -> Result<bool, DhcpFault>
     requires room { 28 * array_vec_len leases.old + 4 + length content.now ≤ 1456 }
-    ensures tells { (row_of : List ℕ → Row) → GivesRows row_of
+    ensures tells { (row_of : List ℕ → OptionsRead) → GivesRows row_of
         → Tells (address_says row_of kind content.now) result leases.old.items leases.new.items }
     ensures room { OnOk result (28 * array_vec_len leases.new ≤ 28 * array_vec_len leases.old + 4 + length content.now) }
 {
@@ -99,7 +99,7 @@ fn read_address(kind: u8, content: &[u8], leases: &mut Leases) -> Result<bool, D
 
 /// Reads the options of an address: whether a status among them voids it. O(n).
 fn read_address_options(kind: u8, options: &[u8]) -> Result<bool, DhcpFault>
-    ensures { (row_of : List ℕ → Row) → GivesRows row_of
+    ensures { (row_of : List ℕ → OptionsRead) → GivesRows row_of
         → Tells (row_says (in_address kind) (row_of options.now)) result [] [] }
 {
     let mut void = false;

@@ -5,7 +5,7 @@ ghost use Rattle.std.specs.Option.{option_or};
 ghost use Rattle.arrayvec.specs.ArrayVec.{array_vec_len};
 ghost use Rattle.dhcp6_read.specs.declared.message.Dhcp.{Dhcp};
 ghost use Rattle.dhcp6_read.specs.declared.message.DhcpFault.{DhcpFault};
-ghost use Rattle.dhcp6_read.specs.Options.{Row, GivesRows};
+ghost use Rattle.dhcp6_read.specs.Options.{OptionsRead, GivesRows};
 ghost use Rattle.dhcp6_read.specs.Levels.{row_says, in_message, duid_says};
 ghost use Rattle.dhcp6_read.specs.Message.{Reads, is_relayed, duid_in, is_rapid};
 ghost use Rattle.dhcp6_read.specs.Steps.{Tells};
@@ -76,14 +76,14 @@ fn is_relay_message(kind: u8) -> bool
 /// of the message. O(n).
 fn read_options(options: &[u8], dhcp: &mut Dhcp) -> Result<bool, DhcpFault>
     requires room { 28 * array_vec_len dhcp.old.leases + length options.now ≤ 1456 }
-    ensures tells { (row_of : List ℕ → Row) → GivesRows row_of
+    ensures tells { (row_of : List ℕ → OptionsRead) → GivesRows row_of
         → Tells (row_says (in_message row_of dhcp.old.kind) (row_of options.now)) result dhcp.old.leases.items dhcp.new.leases.items }
     ensures room { OnOk result (28 * array_vec_len dhcp.new.leases ≤ 28 * array_vec_len dhcp.old.leases + length options.now) }
     ensures kind { OnOk result (dhcp.new.kind ≡ dhcp.old.kind) }
     ensures tid { OnOk result (dhcp.new.tid ≡ dhcp.old.tid) }
-    ensures duid { OnOk result ((row_of : List ℕ → Row) → GivesRows row_of
+    ensures duid { OnOk result ((row_of : List ℕ → OptionsRead) → GivesRows row_of
         → dhcp.new.duid ≡ option_or dhcp.old.duid (duid_in (row_of options.now).options)) }
-    ensures rapid { OnOk result ((row_of : List ℕ → Row) → GivesRows row_of
+    ensures rapid { OnOk result ((row_of : List ℕ → OptionsRead) → GivesRows row_of
         → dhcp.new.rapid ≡ (dhcp.old.rapid || is_rapid (row_of options.now).options)) }
 {
     let mut void = false;
@@ -100,7 +100,7 @@ fn read_options(options: &[u8], dhcp: &mut Dhcp) -> Result<bool, DhcpFault>
 /// Reads an option of a message: whether it voids the message's addresses. O(n).
 fn read_option(code: u16, content: &[u8], dhcp: &mut Dhcp) -> Result<bool, DhcpFault>
     requires room { 28 * array_vec_len dhcp.old.leases + length content.now ≤ 1456 }
-    ensures tells { (row_of : List ℕ → Row) → GivesRows row_of
+    ensures tells { (row_of : List ℕ → OptionsRead) → GivesRows row_of
         → Tells (in_message row_of dhcp.old.kind code content.now) result dhcp.old.leases.items dhcp.new.leases.items }
     ensures room { OnOk result (28 * array_vec_len dhcp.new.leases ≤ 28 * array_vec_len dhcp.old.leases + length content.now) }
     ensures kind { OnOk result (dhcp.new.kind ≡ dhcp.old.kind) }

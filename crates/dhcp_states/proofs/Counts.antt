@@ -7,7 +7,7 @@ use Rattle.std.proofs.lemmas.List.Elements.{filter_passes, All-filter, filter-ap
 use Rattle.savi_kinds.specs.Ports.{number_of}
 use Rattle.savi_kinds.specs.declared.verdict.Rule.TheVariants.{PendingFull}
 use Rattle.dhcp_states.specs.declared.request.Request.{Request}
-use Rattle.dhcp_states.specs.Requests.{is_open, open_at, is_at, has_pair, count_at, has_asked, is_full, refusal, without_pair, with_request}
+use Rattle.dhcp_states.specs.Requests.{is_open, open_at, is_at, has_pair, requests_at_port, has_asked, is_full, refusal, without_pair, with_request}
 use Rattle.dhcp_states.specs.Limits.{IsWithinLimits, IsOnePerPair}
 use Rattle.savi_kinds.proofs.Filters.{filter-all, filter-wider, count_by-push, count_by-filter-le, count_by-filter_none, count_by-filter_fewer}
 use Rattle.savi_kinds.proofs.PortCounts.{length-by_port}
@@ -81,16 +81,16 @@ IsWithinLimits-without_pair tid duid {requests} within = record {
 }
 
 -- a port that isn't full has room for a request, in place of the one that it renews or beside the others
-pub has_room : (port tid : ℕ) (duid : List ℕ) (requests : List Request) → count_at port requests ≤ 16 → is_full port tid duid requests ≡ false → count_at port (without_pair tid duid requests) + 1 ≤ 16
+pub has_room : (port tid : ℕ) (duid : List ℕ) (requests : List Request) → requests_at_port port requests ≤ 16 → is_full port tid duid requests ≡ false → requests_at_port port (without_pair tid duid requests) + 1 ≤ 16
 has_room port tid duid requests most not_full =
-    let fewer : count_at port (without_pair tid duid requests) ≤ count_at port requests = count_by-filter-le (is_at port) (λ request. not (has_pair tid duid request)) requests in
+    let fewer : requests_at_port port (without_pair tid duid requests) ≤ requests_at_port port requests = count_by-filter-le (is_at port) (λ request. not (has_pair tid duid request)) requests in
     let own : Bool = has_asked port tid duid requests in
-    elim (and_cases (nat_le 16 (count_at port requests)) (not own) not_full) [
+    elim (and_cases (nat_le 16 (requests_at_port port requests)) (not own) not_full) [
       | inl below ↦
-          let less : count_at port requests < 16 = leb-false 16 (count_at port requests) below in
+          let less : requests_at_port port requests < 16 = leb-false 16 (requests_at_port port requests) below in
           omega (arith, fewer, less)
       | inr renewed ↦
-          let less : count_at port (without_pair tid duid requests) + 1 ≤ count_at port requests = count_by-filter_fewer (is_at port) (has_pair tid duid) requests (not-false own renewed) in
+          let less : requests_at_port port (without_pair tid duid requests) + 1 ≤ requests_at_port port requests = count_by-filter_fewer (is_at port) (has_pair tid duid) requests (not-false own renewed) in
           omega (arith, less, most)
     ]
 
@@ -103,20 +103,20 @@ is_full-not_refused port tid duid requests not_refused =
     ]
 
 -- so a port has at most 16 requests when one was asked that isn't refused
-count_at-with_request : (request : Request) (requests : List Request) → IsWithinLimits requests → is_full (number_of request.port) request.tid request.duid.items requests ≡ false → (port : ℕ) → count_at port (with_request request requests) ≤ 16
+count_at-with_request : (request : Request) (requests : List Request) → IsWithinLimits requests → is_full (number_of request.port) request.tid request.duid.items requests ≡ false → (port : ℕ) → requests_at_port port (with_request request requests) ≤ 16
 count_at-with_request request requests within not_full port =
     let left : List Request = without_pair request.tid request.duid.items requests in
-    let all : count_at port (left ++ request ∷ []) ≡ count_at port left + cond (is_at port request) 1 0 = count_by-push (is_at port) left request in
-    let before : count_at port left ≤ 16 = (IsWithinLimits-without_pair request.tid request.duid.items within).room port in
+    let all : requests_at_port port (left ++ request ∷ []) ≡ requests_at_port port left + cond (is_at port request) 1 0 = count_by-push (is_at port) left request in
+    let before : requests_at_port port left ≤ 16 = (IsWithinLimits-without_pair request.tid request.duid.items within).room port in
     elim (cases_Bool (is_at port request)) [
       | inl here ↦
           let same : number_of request.port ≡ port = eqb-true (number_of request.port) port here in
           let not_full_here : is_full port request.tid request.duid.items requests ≡ false = subst (λ n. is_full n request.tid request.duid.items requests ≡ false) same not_full in
-          let more : count_at port left + 1 ≤ 16 = has_room port request.tid request.duid.items requests (within.room port) not_full_here in
-          let sum : count_at port (left ++ request ∷ []) ≡ count_at port left + 1 = all ∙ rw here refl in
+          let more : requests_at_port port left + 1 ≤ 16 = has_room port request.tid request.duid.items requests (within.room port) not_full_here in
+          let sum : requests_at_port port (left ++ request ∷ []) ≡ requests_at_port port left + 1 = all ∙ rw here refl in
           omega (arith, sum, more)
       | inr other ↦
-          let sum : count_at port (left ++ request ∷ []) ≡ count_at port left + 0 = all ∙ rw other refl in
+          let sum : requests_at_port port (left ++ request ∷ []) ≡ requests_at_port port left + 0 = all ∙ rw other refl in
           omega (arith, sum, before)
     ]
 

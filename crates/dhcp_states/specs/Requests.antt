@@ -30,8 +30,8 @@ abbrev pub has_pair : ℕ → List ℕ → Request → Bool
 has_pair tid duid request = request.tid == tid && bytes_eq request.duid.items duid
 
 -- how many requests were asked at a port
-abbrev pub count_at : ℕ → List Request → ℕ
-count_at port requests = count_by (is_at port) requests
+abbrev pub requests_at_port : ℕ → List Request → ℕ
+requests_at_port port requests = count_by (is_at port) requests
 
 -- whether a port has asked with this pair
 abbrev pub has_asked : ℕ → ℕ → List ℕ → List Request → Bool
@@ -39,7 +39,7 @@ has_asked port tid duid requests = list_any (λ request. is_at port request && h
 
 -- whether a port has at least 16 of the open requests and none of them has this pair
 abbrev pub is_full : ℕ → ℕ → List ℕ → List Request → Bool
-is_full port tid duid requests = nat_le 16 (count_at port requests) && not (has_asked port tid duid requests)
+is_full port tid duid requests = nat_le 16 (requests_at_port port requests) && not (has_asked port tid duid requests)
 
 -- whether another port has an open request with this pair
 abbrev pub is_contested : ℕ → ℕ → List ℕ → List Request → Bool

@@ -3,7 +3,7 @@
 ghost use Rattle.std.specs.Prelude.{◌≡◌, ◌<◌, ◌≤◌, [], length, IfOk, OnOk, OnErr, vec_capacity};
 ghost use Rattle.std.specs.Result.{result_err};
 ghost use Rattle.savi_kinds.specs.Ports.{number_of};
-ghost use Rattle.dhcp_states.specs.Requests.{request_of, open_at, count_at, has_asked, is_full, is_contested, refusal, without_pair, with_request, asker};
+ghost use Rattle.dhcp_states.specs.Requests.{request_of, open_at, requests_at_port, has_asked, is_full, is_contested, refusal, without_pair, with_request, asker};
 ghost use Rattle.dhcp_states.specs.Limits.{IsWithinLimits};
 
 use crate::request::Request;
@@ -85,7 +85,7 @@ impl Pending {
 
     /// How many requests of port `p` are open at moment `t` (ms), at most 16. O(16 times the number of ports).
     pub fn count(&self, p: Port, t: Moment) -> u32
-        ensures value { result ≡ count_at (number_of p) (open_at t self.now) }
+        ensures value { result ≡ requests_at_port (number_of p) (open_at t self.now) }
         ensures most { result ≤ 16 }
         ensures limits { IsWithinLimits self.now }
     {
@@ -95,7 +95,7 @@ impl Pending {
 
 // How many of these requests were asked at port p and are open at t.
 fn open_count(requests: &[Request], p: Port, t: Moment) -> usize
-    ensures { result ≡ count_at (number_of p) (open_at t requests.now) }
+    ensures { result ≡ requests_at_port (number_of p) (open_at t requests.now) }
 {
     requests
         .iter()
@@ -156,7 +156,7 @@ fn is_full(requests: &[Request], p: Port, tid: u32, duid: &[u8]) -> bool
 
 // How many of these requests were asked at port p.
 fn count_at(requests: &[Request], p: Port) -> usize
-    ensures { result ≡ count_at (number_of p) requests.now }
+    ensures { result ≡ requests_at_port (number_of p) requests.now }
 {
     requests.iter().filter(|request| request.is_at(p)).count()
 }

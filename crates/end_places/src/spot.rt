@@ -12,11 +12,11 @@ pub struct Spot<X> {
 
 impl<X: Drop> Spot<X> {
     ghost use Rattle.std.specs.Prelude.{◌≡◌, true, Some};
-    ghost use Rattle.end_places.specs.Spots.{place_of, unopened};
+    ghost use Rattle.end_places.specs.Spots.{spot_place, unopened};
 
     /// A place whose end wasn't handed out yet.
     pub fn new() -> Spot<X>
-        ensures { place_of result ≡ unopened }
+        ensures { spot_place result ≡ unopened }
     {
         Spot {
             is_out: false,
@@ -26,22 +26,22 @@ impl<X: Drop> Spot<X> {
 
     /// Notes that the end was handed out.
     pub fn hand_out(&mut self)
-        ensures out { (place_of self.new).is_out ≡ true }
+        ensures out { (spot_place self.new).is_out ≡ true }
     {
         self.is_out = true;
     }
 
     /// Keeps an end.
     pub fn keep(&mut self, end: X)
-        requires { (place_of self.old).is_out ≡ true }
-        ensures { place_of self.new ≡ record (place_of self.old) { stands = Some end } }
+        requires { (spot_place self.old).is_out ≡ true }
+        ensures { spot_place self.new ≡ record (spot_place self.old) { stands = Some end } }
     {
         self.kept = Some(end);
     }
 
     /// The end that was kept, if one was.
     pub fn kept(&self) -> Option<&X>
-        ensures { option_map (λ end. end.now) result ≡ (place_of self.now).stands }
+        ensures { option_map (λ end. end.now) result ≡ (spot_place self.now).stands }
     {
         self.kept.as_ref()
     }

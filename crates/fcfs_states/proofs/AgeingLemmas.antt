@@ -7,7 +7,7 @@ use Rattle.fcfs_states.specs.declared.state.Fcfs.TheVariants.{NoBind, Tentative,
 use Rattle.fcfs_states.specs.declared.times.Times.{Times}
 use Rattle.fcfs_states.specs.Premises.{AreTimes}
 use Rattle.fcfs_states.specs.Ageing.{AgeRow, tentative_probe, test_lt_probe, test_vp_probe, tentative_ends, valid_ends, test_lt_ends, test_vp_ends, IsRested, IsEarliest, Ages, rests, goes_on}
-use Rattle.fcfs_states.specs.Aged.{AgedState, due_of, passed, probe_of, rested, aged_by, aged, IsTouched}
+use Rattle.fcfs_states.specs.Aged.{AgedState, due_of, after_due, probe_sent, rested, aged_by, aged, IsTouched}
 
 -- how many rows may still follow
 abbrev pub rank : Fcfs → ℕ
@@ -42,7 +42,7 @@ known (Some n) = something n refl
 
 module _ (k : Times) where
   -- what is due first is a row of the table
-  pub first_row : (state : Fcfs) (due : ℕ) → due_of k state ≡ Some due → AgeRow k state due (passed k due state) (probe_of state)
+  pub first_row : (state : Fcfs) (due : ℕ) → due_of k state ≡ Some due → AgeRow k state due (after_due k due state) (probe_sent state)
   first_row NoBind due e = cc
   first_row (Tentative p since true) due e = let at : since + k.gap ≡ due = cc in rw (← at) tentative_probe
   first_row (Tentative p since false) due e = let at : since + k.test ≡ due = cc in rw (← at) tentative_ends
@@ -87,8 +87,8 @@ module _ (k : Times) where
   -- a row that is the earliest is what is due first
   pub record IsFirst (state new : Fcfs) (due : ℕ) (probe : Option Probe) : Type 0 where
     pub due_is : due_of k state ≡ Some due
-    pub new_is : passed k due state ≡ new
-    pub probe_is : probe_of state ≡ probe
+    pub new_is : after_due k due state ≡ new
+    pub probe_is : probe_sent state ≡ probe
 
   pub first_is : AreTimes k → {state new : Fcfs} {due : ℕ} {probe : Option Probe} → AgeRow k state due new probe → IsEarliest k due state → IsFirst state new due probe
   first_is times tentative_probe first = record { due_is = refl; new_is = refl; probe_is = refl }
@@ -103,7 +103,7 @@ module _ (k : Times) where
   first_is times (test_vp_ends {two = false}) first = record { due_is = refl; new_is = refl; probe_is = refl }
 
   -- each row that is first leaves one row fewer to follow
-  pub rank-passed : (state : Fcfs) (due : ℕ) → due_of k state ≡ Some due → rank (passed k due state) + 1 ≡ rank state
+  pub rank-passed : (state : Fcfs) (due : ℕ) → due_of k state ≡ Some due → rank (after_due k due state) + 1 ≡ rank state
   rank-passed NoBind due e = cc
   rank-passed (Tentative p since true) due e = refl
   rank-passed (Tentative p since false) due e = refl
@@ -120,14 +120,14 @@ module _ (k : Times) where
     Ages-aged_by zero state few =
         elim (known (due_of k state)) [
           | nothing e ↦ rests (rested_none t state e)
-          | something due e ↦ let left : rank (passed k due state) + 1 ≡ rank state = rank-passed state due e in absurd (omega arith)
+          | something due e ↦ let left : rank (after_due k due state) + 1 ≡ rank state = rank-passed state due e in absurd (omega arith)
         ]
     Ages-aged_by (suc rows) state few =
         elim (known (due_of k state)) [
           | nothing e ↦ rw e (rests (rested_none t state e))
           | something due e ↦
-              let left : rank (passed k due state) + 1 ≡ rank state = rank-passed state due e in
-              let later : rank (passed k due state) ≤ rows → Ages k t (passed k due state) (aged_by rows k t (passed k due state)).probes (aged_by rows k t (passed k due state)).state = Ages-aged_by rows (passed k due state) in
+              let left : rank (after_due k due state) + 1 ≡ rank state = rank-passed state due e in
+              let later : rank (after_due k due state) ≤ rows → Ages k t (after_due k due state) (aged_by rows k t (after_due k due state)).probes (aged_by rows k t (after_due k due state)).state = Ages-aged_by rows (after_due k due state) in
               elim (cases_Bool (nat_le due t)) [
                 | inl by ↦ rw (e, by) (goes_on (first_row state due e) (leb-true due t by) (earliest times state due e) (later (omega arith)))
                 | inr late ↦ rw (e, late) (rests (rested_late times t state due e (leb-false due t late)))
@@ -145,11 +145,11 @@ module _ (k : Times) where
         ]
     Ages-only (goes_on {state = state} {due = due} row by first later) zero few =
         let is : IsFirst state _ due _ = first_is times row first in
-        let left : rank (passed k due state) + 1 ≡ rank state = rank-passed state due is.due_is in
+        let left : rank (after_due k due state) + 1 ≡ rank state = rank-passed state due is.due_is in
         absurd (omega arith)
     Ages-only (goes_on {state = state} {mid = mid} {new = new} {due = due} {probe = probe} {probes = probes} row by first later) (suc rows) few =
         let is : IsFirst state mid due probe = first_is times row first in
-        let left : rank (passed k due state) + 1 ≡ rank state = rank-passed state due is.due_is in
+        let left : rank (after_due k due state) + 1 ≡ rank state = rank-passed state due is.due_is in
         let left_mid : rank mid + 1 ≡ rank state = ap (λ s. rank s + 1) (sym is.new_is) ∙ left in
         let rest : aged_by rows k t mid ≡ record { state = new; probes = probes } = Ages-only later rows (omega arith) in
         rw (is.due_is, le-leb due t by, is.new_is, is.probe_is, rest) refl

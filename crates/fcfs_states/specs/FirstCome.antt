@@ -33,31 +33,31 @@ IsHeardAt port (Fix p) = ⊥
 IsHeardAt port Clear = ⊥
 
 -- an event with its moment, and whether its port had room
-pub record Mark : Type 0 where
+pub record TimedEvent : Type 0 where
   pub moment : ℕ
   pub event : Ev
   pub room : Bool
 
 -- the state after an event: aged to its moment, then the row of the event
-abbrev pub marked : Times → Mark → Fcfs → Fcfs
-marked k mark state = (next k mark.moment mark.room (aged k mark.moment state).state mark.event).1
+abbrev pub moved_on : Times → TimedEvent → Fcfs → Fcfs
+moved_on k mark state = (next k mark.moment mark.room (aged k mark.moment state).state mark.event).1
 
 -- the state of an address after these events, the newest of them first
-abbrev pub state_of : Times → List Mark → Fcfs
+abbrev pub state_of : Times → List TimedEvent → Fcfs
 state_of k [] = NoBind
-state_of k (mark ∷ past) = marked k mark (state_of k past)
+state_of k (mark ∷ past) = moved_on k mark (state_of k past)
 
 -- the events are of first come, first served, and none is at a later moment than a newer one, or than t
-abbrev pub IsRun : ℕ → List Mark → Type 0
-IsRun t [] = Unit {0}
-IsRun t (mark ∷ past) = (mark.moment ≤ t) × IsFcfsEvent mark.event × IsRun mark.moment past
+abbrev pub IsTimeline : ℕ → List TimedEvent → Type 0
+IsTimeline t [] = Unit {0}
+IsTimeline t (mark ∷ past) = (mark.moment ≤ t) × IsFcfsEvent mark.event × IsTimeline mark.moment past
 
 -- in none of the events above this moment was the host at the port heard
-abbrev pub IsSilentAfter : Port → ℕ → List Mark → Type 0
+abbrev pub IsSilentAfter : Port → ℕ → List TimedEvent → Type 0
 IsSilentAfter port moment marks = AllByRecursion (λ mark. moment < mark.moment → ¬ IsHeardAt port mark.event) marks
 
 -- in none of the events between these moments was the host at the port heard
-abbrev pub IsSilentWithin : Port → ℕ → ℕ → List Mark → Type 0
+abbrev pub IsSilentWithin : Port → ℕ → ℕ → List TimedEvent → Type 0
 IsSilentWithin port from to marks = AllByRecursion (λ mark. from < mark.moment → mark.moment < to → ¬ IsHeardAt port mark.event) marks
 
 -- the address is bound to the port
@@ -70,7 +70,7 @@ IsBoundTo port (TestVp p q since two) = ⊥
 
 -- The host at the port wasn't heard for as long as a test takes, up to a moment after t0 and by t. Where the address was
 -- bound to the port at t0, at which this was the state, the whole of that time lies behind t0.
-pub record IsLostByTest (k : Times) (port : Port) (t0 t : ℕ) (state : Fcfs) (marks : List Mark) : Type 0 where
+pub record IsLostByTest (k : Times) (port : Port) (t0 t : ℕ) (state : Fcfs) (marks : List TimedEvent) : Type 0 where
   pub since : ℕ
   pub after : t0 < since + k.test
   pub by : since + k.test ≤ t

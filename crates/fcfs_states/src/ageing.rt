@@ -4,7 +4,7 @@ ghost use Rattle.std.specs.Prelude.{◌≡◌, ◌≢◌, ◌+◌, ◌<◌, ◌�
 ghost use Rattle.fcfs_states.specs.Premises.{AreTimes, MomentsFit};
 ghost use Rattle.fcfs_states.specs.States.{IsSound};
 ghost use Rattle.fcfs_states.specs.Ageing.{Ages, IsRested};
-ghost use Rattle.fcfs_states.specs.Aged.{aged, due_of, passed, probe_of, IsTouched};
+ghost use Rattle.fcfs_states.specs.Aged.{aged, due_of, after_due, probe_sent, IsTouched};
 ghost use Rattle.fcfs_states.specs.AgeingLaws.{AreRising};
 
 use crate::answer::Probe;
@@ -87,7 +87,7 @@ impl Fcfs {
     fn passed(self, due: u64, k: &Times) -> (Fcfs, Option<Probe>)
         requires times { AreTimes k.now }
         requires moment { due ≤ 2 ^ 62 }
-        ensures { result ≡ (passed k.now due self, probe_of self) }
+        ensures { result ≡ (after_due k.now due self, probe_sent self) }
     {
         match self {
             Fcfs::NoBind => (Fcfs::NoBind, None),

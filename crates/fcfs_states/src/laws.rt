@@ -16,7 +16,7 @@ ghost use Rattle.fcfs_states.specs.TableLaws.{IsOnlyRow};
 ghost use Rattle.fcfs_states.specs.Ageing.{AgeRow, IsRested};
 ghost use Rattle.fcfs_states.specs.Aged.{aged};
 ghost use Rattle.fcfs_states.specs.AgeingLaws.{AreRising, AreRisingAfter, IsOnlyAgeing, joined};
-ghost use Rattle.fcfs_states.specs.FirstCome.{IsLostByTest, IsTestOf, IsHeardAt, Mark, IsRun, IsSilentAfter, state_of};
+ghost use Rattle.fcfs_states.specs.FirstCome.{IsLostByTest, IsTestOf, IsHeardAt, TimedEvent, IsTimeline, IsSilentAfter, state_of};
 
 /// Each sound state and event meets exactly one row of the table, and no event of another kind meets one.
 pub fn every_event_meets_one_row()
@@ -81,8 +81,8 @@ pub fn only_a_test_ends_a_binding()
 /// one, leaves it as it is. These runs start from no binding and have the five events of first come alone; `mix_rules` has
 /// the law for all nine kinds, from any sound state.
 pub fn a_test_stands_in_silence()
-    ensures run { (k : Times) (t : ℕ) (marks : List Mark) (port : Port) (since : ℕ)
-        → AreTimes k → IsRun t marks → IsTestOf port since (aged k t (state_of k marks)).state
+    ensures run { (k : Times) (t : ℕ) (marks : List TimedEvent) (port : Port) (since : ℕ)
+        → AreTimes k → IsTimeline t marks → IsTestOf port since (aged k t (state_of k marks)).state
         → IsSilentAfter port since marks }
     ensures row { (k : Times) (t : ℕ) (room : Bool) (state new : Fcfs) (event : Ev) (answer : Answer) (port : Port) (since : ℕ)
         → IsSound state → Row k t room state event answer new → IsTestOf port since new → since < t
@@ -95,8 +95,8 @@ pub fn a_test_stands_in_silence()
 /// from no binding and have the five events of first come alone; `mix_rules` has the law for all nine kinds, from any sound
 /// state.
 pub fn first_come_is_first_served()
-    ensures { (k : Times) (t0 t : ℕ) (early late : List Mark) (port : Port)
-        → AreTimes k → t0 ≤ t → IsRun t0 early → IsRun t (late ++ early)
+    ensures { (k : Times) (t0 t : ℕ) (early late : List TimedEvent) (port : Port)
+        → AreTimes k → t0 ≤ t → IsTimeline t0 early → IsTimeline t (late ++ early)
         → AllByRecursion (λ mark. t0 ≤ mark.moment) late
         → IsLive (aged k t0 (state_of k early)).state port
         → ¬ IsLive (aged k t (state_of k (late ++ early))).state port

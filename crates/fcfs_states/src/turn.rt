@@ -6,7 +6,7 @@ ghost use Rattle.fcfs_states.specs.States.{IsSound};
 ghost use Rattle.fcfs_states.specs.Next.{next};
 ghost use Rattle.fcfs_states.specs.Ageing.{IsRested};
 ghost use Rattle.fcfs_states.specs.Aged.{aged};
-ghost use Rattle.fcfs_states.specs.FirstCome.{marked};
+ghost use Rattle.fcfs_states.specs.FirstCome.{moved_on};
 
 use crate::ageing::Aged;
 use crate::answer::Answer;
@@ -23,7 +23,7 @@ impl Fcfs {
         requires moment { t ≤ 2 ^ 62 }
         requires sound { IsSound self.old }
         requires fits { MomentsFit self.old }
-        ensures state { self.new ≡ marked k.now (record { moment = t; event = ev; room = room }) self.old }
+        ensures state { self.new ≡ moved_on k.now (record { moment = t; event = ev; room = room }) self.old }
         ensures answer { result.1 ≡ (next k.now t room (aged k.now t self.old).state ev).0 }
         ensures probes { result.0.probes.items ≡ (aged k.now t self.old).probes }
         ensures changed { IsTrue result.0.changed ↔ ((aged k.now t self.old).state ≢ self.old) }

@@ -2,7 +2,7 @@
 use Rattle.std.specs.Prelude.{ℕ, Bool, List, Option, count_by, is_some}
 use Rattle.std.specs.List.{fold}
 use Rattle.bridge_fdb.specs.declared.station.Station.{Station}
-use Rattle.bridge_fdb.specs.Stations.{station_of, place_of}
+use Rattle.bridge_fdb.specs.Stations.{station_of, learned_port}
 use Rattle.bridge_fdb.specs.Learning.{learned}
 use Rattle.fdb_bench.specs.declared.turns.Source.{Source}
 
@@ -12,4 +12,4 @@ learned_all t stations sources = fold (λ live source. learned (station_of sourc
 
 -- how many of the sources are live somewhere
 abbrev pub count_live : List Station → List Source → ℕ
-count_live stations sources = count_by (λ source. is_some (place_of source.mac stations)) sources
+count_live stations sources = count_by (λ source. is_some (learned_port source.mac stations)) sources

@@ -1,10 +1,10 @@
 //! A file, standard output or standard error as a sink.
 
-ghost use Rattle.std.specs.Prelude.{◌≡◌, ◌≤◌, None, IfOk, length};
+ghost use Rattle.std.specs.Prelude.{◌≡◌, None, IfOk};
 
-use savi_ends::{Put, Sink};
+use savi_ends::{Put, Sink, send};
 use std::fs::{File, Files};
-use std::io::{self, Stderr, Stdout, Write};
+use std::io::{self, Stderr, Stdout};
 
 /// What takes the octets.
 #[derive(Drop)]
@@ -52,18 +52,6 @@ impl FileSink {
             faults: 0,
         }
     }
-
-    // Writes a front of the piece, and says how many octets.
-    fn write_some(&mut self, piece: &[u8]) -> io::Result<usize>
-        ensures bound { IfOk result (λ n. n ≤ length piece.now) }
-        ensures same { self.new.faults ≡ self.old.faults }
-    {
-        match &mut self.target {
-            Target::File(file) => file.write(piece),
-            Target::Out(out) => out.write(piece),
-            Target::Err(err) => err.write(piece),
-        }
-    }
 }
 
 impl Sink for FileSink {
@@ -76,16 +64,14 @@ impl Sink for FileSink {
     }
 
     fn write(&mut self, piece: &[u8]) -> Put {
-        let mut rest = piece;
-        while !rest.is_empty() {
-            match self.write_some(rest) {
-                Ok(0) | Err(_) => {
-                    self.faults = self.faults.saturating_add(1);
-                    return Put::Failed;
-                }
-                Ok(n) => rest = &rest[n..],
-            }
+        let put = match &mut self.target {
+            Target::File(file) => send(file, piece),
+            Target::Out(out) => send(out, piece),
+            Target::Err(err) => send(err, piece),
+        };
+        if put == Put::Failed {
+            self.faults = self.faults.saturating_add(1);
         }
-        Put::Done
+        put
     }
 }

@@ -1,11 +1,11 @@
 //! A file as a source.
 
-ghost use Rattle.std.specs.Prelude.{◌≡◌, ◌≤◌, None, IfOk, vec_len};
+ghost use Rattle.std.specs.Prelude.{◌≡◌, None, IfOk};
 
-use savi_ends::{Got, Source};
+use savi_ends::{Got, Source, receive};
 use std::alloc::Global;
 use std::fs::{File, Files};
-use std::io::{self, Read};
+use std::io::{self, BufReader};
 
 /// How many octets are asked of the file at once.
 const PIECE_OCTETS: usize = 65_536;
@@ -13,13 +13,8 @@ const PIECE_OCTETS: usize = 65_536;
 /// A file that is read in pieces of 64 KiB. It tells nothing of what the file holds.
 #[derive(Drop)]
 pub struct FileSource {
-    file: File,
-    piece: Vec<u8>,
-    at: usize,
-    end: usize,
+    reader: BufReader<File>,
     faults: u64,
-    ghost read: { at ≤ end },
-    ghost within: { end ≤ vec_len piece },
 }
 
 impl FileSource {
@@ -28,12 +23,8 @@ impl FileSource {
         ensures { IfOk result (λ s. ⟦<FileSource as Source>⟧.faults s ≡ 0) }
     {
         let file = File::open(rt, name)?;
-        let piece = vec![in alloc; 0; PIECE_OCTETS]?;
         Ok(FileSource {
-            file,
-            piece,
-            at: 0,
-            end: 0,
+            reader: BufReader::with_capacity(alloc, PIECE_OCTETS, file)?,
             faults: 0,
         })
     }
@@ -49,22 +40,10 @@ impl Source for FileSource {
     }
 
     fn read(&mut self, buf: &mut [u8]) -> Got {
-        if self.at == self.end {
-            match self.file.read(self.piece.as_mut_slice()) {
-                Ok(0) => return Got::End,
-                Ok(n) => {
-                    self.at = 0;
-                    self.end = n;
-                }
-                Err(_) => {
-                    self.faults = self.faults.saturating_add(1);
-                    return Got::Failed;
-                }
-            }
+        let got = receive(&mut self.reader, buf);
+        if got == Got::Failed {
+            self.faults = self.faults.saturating_add(1);
         }
-        let n = buf.len().min(self.end - self.at);
-        buf[..n].copy_from_slice(&self.piece[self.at..self.at + n]);
-        self.at += n;
-        Got::Bytes(n)
+        got
     }
 }

@@ -12,7 +12,7 @@ use Rattle.v6_chain.specs.declared.packet.IpFault.{IpFault}
 use Rattle.v6_chain.specs.declared.packet.IpFault.TheVariants.{Short, Version, Truncated, Multicast}
 use Rattle.v6_chain.specs.declared.outcome.Chain.{Chain}
 use Rattle.v6_chain.specs.declared.outcome.Chain.TheVariants as chains
-use Rattle.v6_chain.specs.Packet.{IsPacket, IsRefused, header_of, version_of}
+use Rattle.v6_chain.specs.Packet.{IsPacket, IsRefused, header_fields, version_of}
 use Rattle.v6_chain.specs.Outcome.{message_of}
 use Rattle.v6_chain.specs.ChainOf.{chain_of}
 use Rattle.v6_chain.proofs.Whole.{chain_of-outcome}
@@ -83,9 +83,9 @@ read_by_is ip payload (chains.Upper proto at fragmented) = message_read_is ip pr
 read_is : (ip : Ip) (payload : List ℕ) → IsReadOf ip payload (read_of ip payload)
 read_is ip payload = (chain_of ip payload, chain_of-outcome ip payload, read_by_is ip payload (chain_of ip payload))
 
-pub packet_decided : (payload : List ℕ) → Decides (is_packet payload) (IsPacket payload (header_of payload))
+pub packet_decided : (payload : List ℕ) → Decides (is_packet payload) (IsPacket payload (header_fields payload))
 packet_decided payload =
-    let ip : Ip = header_of payload in
+    let ip : Ip = header_fields payload in
     let parts : Decides (is_packet payload) ((version_of payload ≡ 6) × ((40 + ip.len ≤ length payload) × (LiesIn ip.src.0 multicast → ⊥))) =
     Decides-and (version_of payload == 6) _ (Decides-eqb (version_of payload) 6)
     (Decides-and (nat_le (40 + ip.len) (length payload)) _ (Decides-leb (40 + ip.len) (length payload)) (Decides-not _ (Decides-lies_in ip.src.0 multicast))) in (
@@ -94,9 +94,9 @@ packet_decided payload =
     )
 
 -- what isn't a packet has one of the four faults
-refused : (payload : List ℕ) → (IsPacket payload (header_of payload) → ⊥) → (fault : IpFault) × IsRefused payload fault
+refused : (payload : List ℕ) → (IsPacket payload (header_fields payload) → ⊥) → (fault : IpFault) × IsRefused payload fault
 refused payload not_packet =
-    let ip : Ip = header_of payload in
+    let ip : Ip = header_fields payload in
     elim (cases_lt (length payload) 40) [
       | inl short ↦ (Short, short)
       | inr long ↦
@@ -116,7 +116,7 @@ refused payload not_packet =
 
 packet_is : (eth : Eth) (payload : List ℕ) → IsPacketClass eth payload (packet_class_of eth payload)
 packet_is eth payload =
-    let ip : Ip = header_of payload in
+    let ip : Ip = header_fields payload in
     let decided : Decides (is_packet payload) (IsPacket payload ip) = packet_decided payload in
     cond_both (is_packet payload) (Ip6 eth ip (read_of ip payload)) (BadIp eth) (IsPacketClass eth payload)
     (λ packet. (refl, decided.0 packet, read_is ip payload))

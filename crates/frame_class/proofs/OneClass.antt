@@ -8,7 +8,7 @@ use Rattle.v6_chain.specs.declared.packet.IpFault.{IpFault}
 use Rattle.v6_chain.specs.declared.packet.IpFault.TheVariants.{Short, Version, Truncated, Multicast}
 use Rattle.v6_chain.specs.declared.outcome.Chain.{Chain}
 use Rattle.v6_chain.specs.declared.outcome.Chain.TheVariants as chains
-use Rattle.v6_chain.specs.Packet.{IsPacket, IsRefused, header_of}
+use Rattle.v6_chain.specs.Packet.{IsPacket, IsRefused, header_fields}
 use Rattle.v6_chain.specs.Outcome.{message_of}
 use Rattle.v6_chain.proofs.Unique.{one_outcome}
 use Rattle.nd_read.specs.declared.message.Nd.{Nd}
@@ -79,7 +79,7 @@ pub refused_not_packet : (payload : List ℕ) (ip : Ip) (fault : IpFault) → Is
 refused_not_packet payload ip Short refused packet = omega (arith, packet.whole, refused)
 refused_not_packet payload ip Version refused packet = refused.1 packet.version
 refused_not_packet payload ip Truncated refused packet =
-    let len : ip.len ≡ (header_of payload).len = ap (λ (i : Ip). i.len) packet.header in
+    let len : ip.len ≡ (header_fields payload).len = ap (λ (i : Ip). i.len) packet.header in
     omega (arith, packet.whole, refused.2, len)
 refused_not_packet payload ip Multicast refused packet =
     let P : Ip → Type 0 = λ i. LiesIn i.src.0 multicast in

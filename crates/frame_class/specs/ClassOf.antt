@@ -8,7 +8,7 @@ use Rattle.eth_frame.specs.Frame.{header_of as ethernet_of, payload_of}
 use Rattle.v6_chain.specs.declared.packet.Ip.{Ip}
 use Rattle.v6_chain.specs.declared.outcome.Chain.{Chain}
 use Rattle.v6_chain.specs.declared.outcome.Chain.TheVariants as chains
-use Rattle.v6_chain.specs.Packet.{header_of, version_of}
+use Rattle.v6_chain.specs.Packet.{header_fields, version_of}
 use Rattle.v6_chain.specs.Outcome.{message_of}
 use Rattle.v6_chain.specs.ChainOf.{chain_of}
 use Rattle.nd_read.specs.declared.message.Nd.{Nd}
@@ -30,7 +30,7 @@ is_tag kind = (kind == 0x8100) || (kind == 0x88a8)
 -- the octets begin with a whole packet of version 6 whose source is one host's (RFC 8200 section 3)
 abbrev pub is_packet : List ℕ → Bool
 is_packet payload =
-    (version_of payload == 6) && (nat_le (40 + (header_of payload).len) (length payload) && not (lies_in (header_of payload).src.0 multicast))
+    (version_of payload == 6) && (nat_le (40 + (header_fields payload).len) (length payload) && not (lies_in (header_fields payload).src.0 multicast))
 
 -- what an ICMPv6 message says for neighbor discovery: nothing behind a fragment header, nor where it is refused
 abbrev pub discovery_of : Ip → List ℕ → Bool → Option Nd
@@ -64,7 +64,7 @@ read_of ip payload = read_by ip payload (chain_of ip payload)
 
 -- what a frame with this header is, by the IPv6 packet that it should carry
 abbrev pub packet_class_of : Eth → List ℕ → Class
-packet_class_of eth payload = if is_packet payload then Ip6 eth (header_of payload) (read_of (header_of payload) payload) else BadIp eth
+packet_class_of eth payload = if is_packet payload then Ip6 eth (header_fields payload) (read_of (header_fields payload) payload) else BadIp eth
 
 -- what a frame with this header is, by its EtherType
 abbrev pub typed_class_of : Eth → List ℕ → Class

@@ -56,8 +56,8 @@ udp_length message = big_number 2 (drop 4 message)
 abbrev pub udp_payload : List ℕ → List ℕ
 udp_payload message = drop 8 message
 
--- A whole datagram for DHCPv6: no fragment header stands before it, it goes to the port of clients (546) or to that of servers
--- and relays (547) (RFC 8415 section 7.2), and it is as long as its header says.
+-- A whole datagram for DHCPv6: no fragment header stands before it, it goes to the port of clients (546) or to that of
+-- servers and relays (547) (RFC 8415 section 7.2), and it is as long as its header says.
 pub record IsForDhcp (message : List ℕ) (fragmented : Bool) : Type 0 where
   pub whole : fragmented ≡ false
   pub port : (destination_port message ≡ 546) ⊎ (destination_port message ≡ 547)

@@ -1,6 +1,7 @@
 //! Reading a frame, layer by layer.
 
 ghost use Rattle.std.specs.Prelude.{◌≡◌, ◌+◌, ◌≤◌, ◌↔◌, IsTrue, length};
+ghost use Rattle.v6_chain.specs.Packet.{IsPacket};
 ghost use Rattle.v6_chain.specs.Outcome.{IsWholeUpper};
 ghost use Rattle.v6_chain.specs.Kinds.{kind_of};
 ghost use Rattle.frame_class.specs.declared.classes.Class.{Class};
@@ -75,10 +76,18 @@ fn put_packet(eth: Eth, payload: &[u8], class: &mut Class)
     requires { FRAME_OCTETS_LEAST + length payload.now ≤ FRAME_OCTETS_MOST }
     ensures { IsPacketClass eth payload.now class.new }
 {
-    let Ok(ip) = ip(payload) else {
-        *class = Class::BadIp { eth };
-        return;
-    };
+    match ip(payload) {
+        Ok(ip) => put_chain(eth, ip, payload, class),
+        Err(_) => *class = Class::BadIp { eth },
+    }
+}
+
+/// Puts what a frame is by the header chain of its packet.
+fn put_chain(eth: Eth, ip: Ip, payload: &[u8], class: &mut Class)
+    requires packet { IsPacket payload.now ip }
+    requires most { FRAME_OCTETS_LEAST + length payload.now ≤ FRAME_OCTETS_MOST }
+    ensures { IsPacketClass eth payload.now class.new }
+{
     match chain(&ip, payload) {
         Chain::Bad(_) => {
             *class = Class::Ip6 {

@@ -106,6 +106,18 @@ fn datagrams_have_their_message(rt: HostRuntime) -> Result<(), Fail> {
                 udp(546, Some(7), false, Some(dhcp(7, &[0, 3, 0, 1], &[lease]))),
             ),
         ),
+    ] {
+        let octets = format!(in rt.alloc(); "{ETHERNET}{headers}{ADDRESSES}{body}")?;
+        let frame = frame_of(rt.alloc(), &octets)?;
+        assert_eq!(rt; class(&frame), want, "{name}");
+    }
+    Ok(())
+}
+
+/// A DUID that is too short, a wrong length, another port, and a fragment.
+#[test]
+fn other_datagrams_have_none(rt: HostRuntime) -> Result<(), Fail> {
+    for (name, headers, body, want) in [
         (
             "a Reply whose DUID has 2 octets",
             "6000000000121140",
@@ -139,7 +151,7 @@ fn datagrams_have_their_message(rt: HostRuntime) -> Result<(), Fail> {
 }
 
 #[test]
-fn frames_have_their_class(rt: HostRuntime) -> Result<(), Fail> {
+fn frames_without_a_packet_have_their_class(rt: HostRuntime) -> Result<(), Fail> {
     for (name, octets, want) in [
         ("13 octets", THIRTEEN_OCTETS, Class::Runt),
         (
@@ -162,6 +174,16 @@ fn frames_have_their_class(rt: HostRuntime) -> Result<(), Fail> {
             "33330000000102000000002286dd4000000000003b40fe800000000000000000000000000022ff020000000000000000000000000001",
             Class::BadIp { eth: eth(0x86dd) },
         ),
+    ] {
+        let frame = frame_of(rt.alloc(), octets)?;
+        assert_eq!(rt; class(&frame), want, "{name}");
+    }
+    Ok(())
+}
+
+#[test]
+fn chains_without_an_upper_header_have_their_class(rt: HostRuntime) -> Result<(), Fail> {
+    for (name, octets, want) in [
         (
             "two fragment headers",
             "33330000000102000000002286dd6000000000102c40fe800000000000000000000000000022ff0200000000000000000000000000012c000001000000023b00000100000002",
@@ -182,6 +204,16 @@ fn frames_have_their_class(rt: HostRuntime) -> Result<(), Fail> {
             "33330000000102000000002286dd6000000000082c40fe800000000000000000000000000022ff0200000000000000000000000000013a00000800000002",
             packet(44, 64, 8, Read::Later),
         ),
+    ] {
+        let frame = frame_of(rt.alloc(), octets)?;
+        assert_eq!(rt; class(&frame), want, "{name}");
+    }
+    Ok(())
+}
+
+#[test]
+fn icmp_messages_have_their_class(rt: HostRuntime) -> Result<(), Fail> {
+    for (name, octets, want) in [
         (
             "a router advertisement",
             ROUTER_ADVERT,
@@ -202,6 +234,16 @@ fn frames_have_their_class(rt: HostRuntime) -> Result<(), Fail> {
             "33330000000102000000002286dd6000000000083a40fe800000000000000000000000000022ff0200000000000000000000000000018000000000000000",
             packet(58, 64, 8, icmp(128, false, Some(Nd::Other))),
         ),
+    ] {
+        let frame = frame_of(rt.alloc(), octets)?;
+        assert_eq!(rt; class(&frame), want, "{name}");
+    }
+    Ok(())
+}
+
+#[test]
+fn other_messages_have_their_class(rt: HostRuntime) -> Result<(), Fail> {
+    for (name, octets, want) in [
         (
             "UDP to 547 with payload",
             "33330000000102000000002286dd6000000000091140fe800000000000000000000000000022ff02000000000000000000000000000102220223000900000d",
@@ -253,37 +295,56 @@ fn sent(
     }
 }
 
-/// What hosts, a router and a server of DHCPv6 send each other.
+/// The MAC address of the router.
+const ROUTER: [u8; 6] = [0x02, 0, 0, 0, 0, 0xfe];
+
+/// The group MAC addresses of all nodes, of all agents and servers of DHCPv6, and of the solicited node of ::11.
+const NODES: [u8; 6] = [0x33, 0x33, 0, 0, 0, 0x01];
+
+const SERVERS: [u8; 6] = [0x33, 0x33, 0, 0x01, 0, 0x02];
+
+const SOLICITED: [u8; 6] = [0x33, 0x33, 0xff, 0, 0, 0x11];
+
+/// fe80::fe.
+const LOCAL_FE: u128 = 0xfe80_0000_0000_0000_0000_0000_0000_00fe;
+
+/// 2001:db8:1::22.
+const GLOBAL_22: u128 = 0x2001_0db8_0001_0000_0000_0000_0000_0022;
+
+/// A lease of 600 s, and two of which the second ends at once.
+const LEASE: Lease = Lease {
+    address: Addr(0x2001_0db8_0003_0000_0000_0000_0000_0033),
+    valid: 600,
+};
+
+const BOTH: [Lease; 2] = [
+    Lease {
+        address: Addr(HOST_101),
+        valid: u32::MAX,
+    },
+    Lease {
+        address: Addr(HOST_102),
+        valid: 0,
+    },
+];
+
+/// The DUID of the host.
+const DUID: [u8; 10] = [0, 3, 0, 1, 0x02, 0, 0, 0, 0, 0x11];
+
+/// What the solicitation of duplicate address detection says.
+fn asks(target: Addr) -> Option<Nd> {
+    Some(Nd::Ns { target, dad: true })
+}
+
+/// What a host sends from ::.
 #[test]
-fn frames_of_hosts_have_their_class(rt: HostRuntime) -> Result<(), Fail> {
-    let router = [0x02, 0, 0, 0, 0, 0xfe];
-    let nodes = [0x33, 0x33, 0, 0, 0, 0x01];
-    let servers = [0x33, 0x33, 0, 0x01, 0, 0x02];
-    let solicited = [0x33, 0x33, 0xff, 0, 0, 0x11];
-    let local_fe = 0xfe80_0000_0000_0000_0000_0000_0000_00fe;
-    let global_22 = 0x2001_0db8_0001_0000_0000_0000_0000_0022;
-    let lease = Lease {
-        address: Addr(0x2001_0db8_0003_0000_0000_0000_0000_0033),
-        valid: 600,
-    };
-    let both = [
-        Lease {
-            address: Addr(HOST_101),
-            valid: u32::MAX,
-        },
-        Lease {
-            address: Addr(HOST_102),
-            valid: 0,
-        },
-    ];
-    let duid = [0, 3, 0, 1, 0x02, 0, 0, 0, 0, 0x11];
-    let asks = |target| Some(Nd::Ns { target, dad: true });
+fn frames_from_no_address_have_their_class(rt: HostRuntime) -> Result<(), Fail> {
     for (name, octets, want) in [
         (
             "duplicate address detection of a link-local address",
             ADDRESS_DETECTION,
             sent(
-                (solicited, MAC_11),
+                (SOLICITED, MAC_11),
                 (SOLICITED_NODE_11, UNSPECIFIED),
                 (58, 255, 24),
                 icmp(135, false, asks(Addr(HOST_11))),
@@ -293,37 +354,10 @@ fn frames_of_hosts_have_their_class(rt: HostRuntime) -> Result<(), Fail> {
             "duplicate address detection of a global address",
             "3333ff00001102000000001186dd6000000000183aff00000000000000000000000000000000ff0200000000000000000001ff00001187004ccc0000000020010db8000100000000000000000011",
             sent(
-                (solicited, MAC_11),
+                (SOLICITED, MAC_11),
                 (SOLICITED_NODE_11, UNSPECIFIED),
                 (58, 255, 24),
                 icmp(135, false, asks(Addr(GLOBAL_11))),
-            ),
-        ),
-        (
-            "a packet with no payload",
-            "0200000000fe02000000001186dd6000000000003b40fe800000000000000000000000000011fe8000000000000000000000000000fe",
-            sent(
-                (router, MAC_11),
-                (local_fe, HOST_11),
-                (59, 64, 0),
-                Read::Plain,
-            ),
-        ),
-        (
-            "a neighbor advertisement",
-            "33330000000102000000001186dd6000000000183afffe800000000000000000000000000011ff02000000000000000000000000000188005b8520000000fe800000000000000000000000000011",
-            sent(
-                (nodes, MAC_11),
-                (ALL_NODES, HOST_11),
-                (58, 255, 24),
-                icmp(
-                    136,
-                    false,
-                    Some(Nd::Na {
-                        target: Addr(HOST_11),
-                        flags: 0x20,
-                    }),
-                ),
             ),
         ),
         (
@@ -336,6 +370,53 @@ fn frames_of_hosts_have_their_class(rt: HostRuntime) -> Result<(), Fail> {
                 icmp(143, false, Some(Nd::Other)),
             ),
         ),
+    ] {
+        let frame = frame_of(rt.alloc(), octets)?;
+        assert_eq!(rt; class(&frame), want, "{name}");
+    }
+    Ok(())
+}
+
+#[test]
+fn frames_of_a_host_have_their_class(rt: HostRuntime) -> Result<(), Fail> {
+    for (name, octets, want) in [
+        (
+            "a packet with no payload",
+            "0200000000fe02000000001186dd6000000000003b40fe800000000000000000000000000011fe8000000000000000000000000000fe",
+            sent(
+                (ROUTER, MAC_11),
+                (LOCAL_FE, HOST_11),
+                (59, 64, 0),
+                Read::Plain,
+            ),
+        ),
+        (
+            "a neighbor advertisement",
+            "33330000000102000000001186dd6000000000183afffe800000000000000000000000000011ff02000000000000000000000000000188005b8520000000fe800000000000000000000000000011",
+            sent(
+                (NODES, MAC_11),
+                (ALL_NODES, HOST_11),
+                (58, 255, 24),
+                icmp(
+                    136,
+                    false,
+                    Some(Nd::Na {
+                        target: Addr(HOST_11),
+                        flags: 0x20,
+                    }),
+                ),
+            ),
+        ),
+    ] {
+        let frame = frame_of(rt.alloc(), octets)?;
+        assert_eq!(rt; class(&frame), want, "{name}");
+    }
+    Ok(())
+}
+
+#[test]
+fn routers_and_those_who_ask_for_them(rt: HostRuntime) -> Result<(), Fail> {
+    for (name, octets, want) in [
         (
             "a router solicitation",
             "33330000000202000000001186dd6000000000103afffe800000000000000000000000000011ff02000000000000000000000000000285007a0c000000000101020000000011",
@@ -350,8 +431,8 @@ fn frames_of_hosts_have_their_class(rt: HostRuntime) -> Result<(), Fail> {
             "a router advertisement of a router",
             "3333000000010200000000fe86dd6000000000103afffe8000000000000000000000000000feff0200000000000000000000000000018600342a400007080000000000000000",
             sent(
-                (nodes, router),
-                (ALL_NODES, local_fe),
+                (NODES, ROUTER),
+                (ALL_NODES, LOCAL_FE),
                 (58, 255, 16),
                 icmp(134, false, Some(Nd::Ra)),
             ),
@@ -360,17 +441,27 @@ fn frames_of_hosts_have_their_class(rt: HostRuntime) -> Result<(), Fail> {
             "one behind destination options",
             ADVERT_BEHIND_OPTIONS,
             sent(
-                (nodes, MAC_22),
+                (NODES, MAC_22),
                 (ALL_NODES, HOST_22),
                 (60, 255, 24),
                 icmp(134, false, Some(Nd::Ra)),
             ),
         ),
+    ] {
+        let frame = frame_of(rt.alloc(), octets)?;
+        assert_eq!(rt; class(&frame), want, "{name}");
+    }
+    Ok(())
+}
+
+#[test]
+fn forwarded_and_fragmented_packets_of_hosts(rt: HostRuntime) -> Result<(), Fail> {
+    for (name, octets, want) in [
         (
             "one that a router forwarded",
             FORWARDED_ADVERT,
             sent(
-                (nodes, MAC_22),
+                (NODES, MAC_22),
                 (ALL_NODES, HOST_22),
                 (58, 64, 16),
                 icmp(134, false, Some(Nd::Ra)),
@@ -380,8 +471,8 @@ fn frames_of_hosts_have_their_class(rt: HostRuntime) -> Result<(), Fail> {
             "a first fragment cut in its destination options",
             CUT_FIRST_FRAGMENT,
             sent(
-                (nodes, MAC_22),
-                (ALL_NODES, global_22),
+                (NODES, MAC_22),
+                (ALL_NODES, GLOBAL_22),
                 (44, 64, 16),
                 Read::Hidden,
             ),
@@ -390,20 +481,31 @@ fn frames_of_hosts_have_their_class(rt: HostRuntime) -> Result<(), Fail> {
             "the fragment behind it",
             LATER_FRAGMENT,
             sent(
-                (nodes, MAC_22),
-                (ALL_NODES, global_22),
+                (NODES, MAC_22),
+                (ALL_NODES, GLOBAL_22),
                 (44, 64, 16),
                 Read::Later,
             ),
         ),
+    ] {
+        let frame = frame_of(rt.alloc(), octets)?;
+        assert_eq!(rt; class(&frame), want, "{name}");
+    }
+    Ok(())
+}
+
+/// What a host and a server of DHCPv6 send each other.
+#[test]
+fn requests_of_dhcp_and_replies(rt: HostRuntime) -> Result<(), Fail> {
+    for (name, octets, want) in [
         (
             "a Request",
             DHCP_REQUEST,
             sent(
-                (servers, MAC_11),
+                (SERVERS, MAC_11),
                 (ALL_DHCP_AGENTS, HOST_11),
                 (17, 64, 42),
-                udp(547, Some(3), false, Some(dhcp(3, &duid, &[]))),
+                udp(547, Some(3), false, Some(dhcp(3, &DUID, &[]))),
             ),
         ),
         (
@@ -413,27 +515,37 @@ fn frames_of_hosts_have_their_class(rt: HostRuntime) -> Result<(), Fail> {
                 (MAC_11, MAC_22),
                 (HOST_11, HOST_22),
                 (17, 64, 112),
-                udp(546, Some(7), false, Some(dhcp(7, &duid, &both))),
+                udp(546, Some(7), false, Some(dhcp(7, &DUID, &BOTH))),
             ),
         ),
+    ] {
+        let frame = frame_of(rt.alloc(), octets)?;
+        assert_eq!(rt; class(&frame), want, "{name}");
+    }
+    Ok(())
+}
+
+#[test]
+fn a_lease_of_dhcp_and_its_release(rt: HostRuntime) -> Result<(), Fail> {
+    for (name, octets, want) in [
         (
             "a Reply with a lease of 600 seconds",
             "0200000000110200000000fe86dd6000000000541140fe8000000000000000000000000000fefe800000000000000000000000000011022302220054b3a0070a0b0c0001000a000300010200000000110002000a00030001020000000022000300280000000100000000000000000005001820010db80003000000000000000000330000025800000258",
             sent(
-                (MAC_11, router),
-                (HOST_11, local_fe),
+                (MAC_11, ROUTER),
+                (HOST_11, LOCAL_FE),
                 (17, 64, 84),
-                udp(546, Some(7), false, Some(dhcp(7, &duid, &[lease]))),
+                udp(546, Some(7), false, Some(dhcp(7, &DUID, &[LEASE]))),
             ),
         ),
         (
             "the Release of this lease",
             "33330001000202000000001186dd6000000000461140fe800000000000000000000000000011ff020000000000000000000000010002022202230046b567080a0b0c0001000a00030001020000000011000300280000000100000000000000000005001820010db80003000000000000000000330000025800000258",
             sent(
-                (servers, MAC_11),
+                (SERVERS, MAC_11),
                 (ALL_DHCP_AGENTS, HOST_11),
                 (17, 64, 70),
-                udp(547, Some(8), false, Some(dhcp(8, &duid, &[lease]))),
+                udp(547, Some(8), false, Some(dhcp(8, &DUID, &[LEASE]))),
             ),
         ),
     ] {

@@ -28,47 +28,74 @@ fn chain_of(alloc: Global, packet: &str) -> Result<Chain, Fail> {
     Ok(chain(&header, &payload))
 }
 
+/// Packets of the wire, and what their chains come to.
+const PACKETS: [(&str, &str, Chain); 8] = [
+    (
+        "an advertisement",
+        ADVERT,
+        Chain::Upper {
+            proto: ICMPV6,
+            at: 0,
+            fragmented: false,
+        },
+    ),
+    (
+        "behind destination options",
+        "6000000000183cfffe800000000000000000000000000022ff0200000000000000000000000000013a0001040000000086003506400007080000000000000000",
+        Chain::Upper {
+            proto: ICMPV6,
+            at: 8,
+            fragmented: false,
+        },
+    ),
+    (
+        "behind a fragment header",
+        "6000000000182cfffe800000000000000000000000000022ff0200000000000000000000000000013a0000010000000186003506400007080000000000000000",
+        Chain::Upper {
+            proto: ICMPV6,
+            at: 8,
+            fragmented: true,
+        },
+    ),
+    (
+        "with hop limit 64",
+        "6000000000103a40fe800000000000000000000000000022ff02000000000000000000000000000186003506400007080000000000000000",
+        Chain::Upper {
+            proto: ICMPV6,
+            at: 0,
+            fragmented: false,
+        },
+    ),
+    (
+        "options cut in a first fragment",
+        "6000000000102c4020010db8000100000000000000000022ff0200000000000000000000000000013c000001000000023a01010c00000000",
+        Chain::Hidden,
+    ),
+    (
+        "a later fragment",
+        "6000000000102c4020010db8000100000000000000000022ff0200000000000000000000000000013c000008000000020000000000000000",
+        Chain::Later,
+    ),
+    (
+        "padding isn't read",
+        "6000000000043a4020010db8000100000000000000000022ff02000000000000000000000000000180000000ffffffff",
+        Chain::Upper {
+            proto: ICMPV6,
+            at: 0,
+            fragmented: false,
+        },
+    ),
+    (
+        "padding doesn't fill an upper header",
+        "6000000000033a4020010db8000100000000000000000022ff02000000000000000000000000000180000000ffffffff",
+        Chain::Bad(ChainFault::Cut),
+    ),
+];
+
 #[test]
 fn packets_of_the_wire(rt: HostRuntime) -> Result<(), Fail> {
-    for (name, packet, want) in [
-        ("an advertisement", ADVERT, upper(ICMPV6, 0, false)),
-        (
-            "behind destination options",
-            "6000000000183cfffe800000000000000000000000000022ff0200000000000000000000000000013a0001040000000086003506400007080000000000000000",
-            upper(ICMPV6, 8, false),
-        ),
-        (
-            "behind a fragment header",
-            "6000000000182cfffe800000000000000000000000000022ff0200000000000000000000000000013a0000010000000186003506400007080000000000000000",
-            upper(ICMPV6, 8, true),
-        ),
-        (
-            "with hop limit 64",
-            "6000000000103a40fe800000000000000000000000000022ff02000000000000000000000000000186003506400007080000000000000000",
-            upper(ICMPV6, 0, false),
-        ),
-        (
-            "options cut in a first fragment",
-            "6000000000102c4020010db8000100000000000000000022ff0200000000000000000000000000013c000001000000023a01010c00000000",
-            Chain::Hidden,
-        ),
-        (
-            "a later fragment",
-            "6000000000102c4020010db8000100000000000000000022ff0200000000000000000000000000013c000008000000020000000000000000",
-            Chain::Later,
-        ),
-        (
-            "padding isn't read",
-            "6000000000043a4020010db8000100000000000000000022ff02000000000000000000000000000180000000ffffffff",
-            upper(ICMPV6, 0, false),
-        ),
-        (
-            "padding doesn't fill an upper header",
-            "6000000000033a4020010db8000100000000000000000022ff02000000000000000000000000000180000000ffffffff",
-            Chain::Bad(ChainFault::Cut),
-        ),
-    ] {
-        assert_eq!(rt; chain_of(rt.alloc(), packet)?, want, "{name}");
+    for (name, packet, want) in &PACKETS {
+        assert_eq!(rt; chain_of(rt.alloc(), packet)?, *want, "{name}");
     }
     Ok(())
 }
@@ -80,116 +107,148 @@ fn chain_behind(alloc: Global, next: u8, body: &str) -> Result<Chain, Fail> {
     chain_of(alloc, packet.as_str())
 }
 
+/// Next-header values of a packet with the bodies behind them, and what their chains come to.
+const BODIES: [(&str, u8, &str, Chain); 20] = [
+    (
+        "hop-by-hop options",
+        0,
+        "3a0000000000000000000000",
+        Chain::Upper {
+            proto: ICMPV6,
+            at: 8,
+            fragmented: false,
+        },
+    ),
+    (
+        "every extension header",
+        0,
+        "2b000000000000003c0000000000000087000000000000008b000000000000008c0000000000000033000000000000002c010000000000000000000011000000000000000000000000000000",
+        Chain::Upper {
+            proto: UDP,
+            at: 68,
+            fragmented: true,
+        },
+    ),
+    (
+        "options of 16 octets",
+        60,
+        "060100000000000000000000000000000000000000000000000000000000000000000000",
+        Chain::Upper {
+            proto: TCP,
+            at: 16,
+            fragmented: false,
+        },
+    ),
+    (
+        "an authentication header counts 4 octets",
+        51,
+        "3a040000000000000000000000000000000000000000000000000000",
+        Chain::Upper {
+            proto: ICMPV6,
+            at: 24,
+            fragmented: false,
+        },
+    ),
+    (
+        "an authentication header that is cut",
+        51,
+        "3a04000000000000000000000000000000000000000000",
+        Chain::Bad(ChainFault::Cut),
+    ),
+    (
+        "no next header",
+        59,
+        "",
+        Chain::Upper {
+            proto: NO_NEXT_HEADER,
+            at: 0,
+            fragmented: false,
+        },
+    ),
+    ("an unknown value", 253, "", Chain::Unknown(253)),
+    (
+        "an unknown value behind options",
+        60,
+        "fd00000000000000",
+        Chain::Unknown(253),
+    ),
+    (
+        "hop-by-hop options behind others",
+        60,
+        "00000000000000003a0000000000000000000000",
+        Chain::Bad(ChainFault::HopByHop),
+    ),
+    (
+        "hop-by-hop options twice and cut",
+        0,
+        "0000000000000000",
+        Chain::Bad(ChainFault::HopByHop),
+    ),
+    (
+        "hop-by-hop options in a first fragment",
+        44,
+        "0000000100000000",
+        Chain::Bad(ChainFault::HopByHop),
+    ),
+    (
+        "two fragment headers",
+        44,
+        "2c000001000000003a0000000000000000000000",
+        Chain::Bad(ChainFault::Twice),
+    ),
+    (
+        "a second fragment header that is cut",
+        44,
+        "2c00000100000000",
+        Chain::Bad(ChainFault::Twice),
+    ),
+    (
+        "a fragment header that is cut",
+        44,
+        "3a000001000000",
+        Chain::Bad(ChainFault::Cut),
+    ),
+    (
+        "options that are cut",
+        60,
+        "3a000000000000",
+        Chain::Bad(ChainFault::Cut),
+    ),
+    ("nothing for options", 60, "", Chain::Bad(ChainFault::Cut)),
+    (
+        "options longer than the body",
+        60,
+        "3a01000000000000",
+        Chain::Bad(ChainFault::Cut),
+    ),
+    (
+        "options longer than a first fragment",
+        44,
+        "3c000001000000003a01000000000000",
+        Chain::Hidden,
+    ),
+    (
+        "an upper header in a first fragment",
+        44,
+        "06000001000000000000000000000000000000000000000000000000",
+        Chain::Upper {
+            proto: TCP,
+            at: 8,
+            fragmented: true,
+        },
+    ),
+    (
+        "less than that",
+        44,
+        "060000010000000000000000000000000000000000000000000000",
+        Chain::Hidden,
+    ),
+];
+
 #[test]
 fn bodies_by_their_format(rt: HostRuntime) -> Result<(), Fail> {
-    for (name, next, body, want) in [
-        (
-            "hop-by-hop options",
-            0,
-            "3a0000000000000000000000",
-            upper(ICMPV6, 8, false),
-        ),
-        (
-            "every extension header",
-            0,
-            "2b000000000000003c0000000000000087000000000000008b000000000000008c0000000000000033000000000000002c010000000000000000000011000000000000000000000000000000",
-            upper(UDP, 68, true),
-        ),
-        (
-            "options of 16 octets",
-            60,
-            "060100000000000000000000000000000000000000000000000000000000000000000000",
-            upper(TCP, 16, false),
-        ),
-        (
-            "an authentication header counts 4 octets",
-            51,
-            "3a040000000000000000000000000000000000000000000000000000",
-            upper(ICMPV6, 24, false),
-        ),
-        (
-            "an authentication header that is cut",
-            51,
-            "3a04000000000000000000000000000000000000000000",
-            Chain::Bad(ChainFault::Cut),
-        ),
-        ("no next header", 59, "", upper(NO_NEXT_HEADER, 0, false)),
-        ("an unknown value", 253, "", Chain::Unknown(253)),
-        (
-            "an unknown value behind options",
-            60,
-            "fd00000000000000",
-            Chain::Unknown(253),
-        ),
-        (
-            "hop-by-hop options behind others",
-            60,
-            "00000000000000003a0000000000000000000000",
-            Chain::Bad(ChainFault::HopByHop),
-        ),
-        (
-            "hop-by-hop options twice and cut",
-            0,
-            "0000000000000000",
-            Chain::Bad(ChainFault::HopByHop),
-        ),
-        (
-            "hop-by-hop options in a first fragment",
-            44,
-            "0000000100000000",
-            Chain::Bad(ChainFault::HopByHop),
-        ),
-        (
-            "two fragment headers",
-            44,
-            "2c000001000000003a0000000000000000000000",
-            Chain::Bad(ChainFault::Twice),
-        ),
-        (
-            "a second fragment header that is cut",
-            44,
-            "2c00000100000000",
-            Chain::Bad(ChainFault::Twice),
-        ),
-        (
-            "a fragment header that is cut",
-            44,
-            "3a000001000000",
-            Chain::Bad(ChainFault::Cut),
-        ),
-        (
-            "options that are cut",
-            60,
-            "3a000000000000",
-            Chain::Bad(ChainFault::Cut),
-        ),
-        ("nothing for options", 60, "", Chain::Bad(ChainFault::Cut)),
-        (
-            "options longer than the body",
-            60,
-            "3a01000000000000",
-            Chain::Bad(ChainFault::Cut),
-        ),
-        (
-            "options longer than a first fragment",
-            44,
-            "3c000001000000003a01000000000000",
-            Chain::Hidden,
-        ),
-        (
-            "an upper header in a first fragment",
-            44,
-            "06000001000000000000000000000000000000000000000000000000",
-            upper(TCP, 8, true),
-        ),
-        (
-            "less than that",
-            44,
-            "060000010000000000000000000000000000000000000000000000",
-            Chain::Hidden,
-        ),
-    ] {
-        assert_eq!(rt; chain_behind(rt.alloc(), next, body)?, want, "{name}");
+    for (name, next, body, want) in &BODIES {
+        assert_eq!(rt; chain_behind(rt.alloc(), *next, body)?, *want, "{name}");
     }
     Ok(())
 }

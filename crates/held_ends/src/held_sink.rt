@@ -1,31 +1,38 @@
-//! A sink whose write of one frame waits.
+//! A sink whose write waits.
 
 ghost use Rattle.std.specs.Prelude.{◌≡◌, Some};
 
 use crate::frames::{FIRST_OF_2, RECORD_OCTETS};
-use crate::marks::Marks;
+use crate::marks::{LAST_TURN, Marks};
 use savi_ends::{MemSink, Put, Sink};
 use std::sync::atomic::Ordering;
 
-/// The turn for which the pass of port 2's input must have come by.
-const LAST_TURN: u64 = 3;
+/// What a write waits for.
+#[derive(Clone, Copy)]
+pub enum Hold<'a> {
+    Nothing,
+    /// The sink of port 3 notes that it was given the first frame of port 2, and its write of that frame returns only once the
+    /// pass of port 2's input has come by for its third turn.
+    FirstOf2(&'a Marks),
+    /// The sink of control notes that it was given a reply, and that write returns only once the pass of port 1's input has
+    /// come by for its third turn.
+    Reply(&'a Marks),
+}
 
-/// A sink in memory. That of port 3 notes that it was given the first frame of port 2, and its write of that frame returns
-/// only once the pass of port 2's input has come by for its third turn.
+/// A sink in memory.
 #[derive(Drop)]
 pub struct HeldSink<'a> {
     sink: MemSink,
     rt: HostRuntime,
-    // What the sink of port 3 waits by, and none for any other.
-    marks: Option<&'a Marks>,
+    hold: Hold<'a>,
 }
 
 impl<'a> HeldSink<'a> {
     /// The sink, with what was written before.
-    pub fn new(rt: HostRuntime, sink: MemSink, marks: Option<&'a Marks>) -> HeldSink<'a>
+    pub fn new(rt: HostRuntime, sink: MemSink, hold: Hold<'a>) -> HeldSink<'a>
         ensures { ⟦<HeldSink<'a> as Sink>⟧.faults result ≡ ⟦<MemSink as Sink>⟧.faults sink }
     {
-        HeldSink { sink, rt, marks }
+        HeldSink { sink, rt, hold }
     }
 
     /// What was written.
@@ -46,11 +53,16 @@ impl<'a> Sink for HeldSink<'a> {
     }
 
     fn write(&mut self, piece: &[u8]) -> Put {
-        if let Some(marks) = self.marks {
-            if has_first_of_2(piece) {
+        match self.hold {
+            Hold::FirstOf2(marks) if has_first_of_2(piece) => {
                 marks.given.store(1, Ordering::SeqCst);
                 marks.wait_for(self.rt, &marks.turn_of_2, LAST_TURN);
             }
+            Hold::Reply(marks) => {
+                marks.replied.store(1, Ordering::SeqCst);
+                marks.wait_for(self.rt, &marks.turn_of_1, LAST_TURN);
+            }
+            Hold::Nothing | Hold::FirstOf2(_) => {}
         }
         self.sink.write(piece)
     }

@@ -5,7 +5,8 @@ ghost use Rattle.savi_kinds.specs.Ports.{number_of};
 ghost use Rattle.savi_ends.specs.Faults.{Rose};
 
 use crate::frames::{FIRST_OF_1, FIRST_OF_2, SECOND_OF_1, SECOND_OF_2};
-use crate::held_sink::HeldSink;
+use crate::held_clock::HeldClock;
+use crate::held_sink::{HeldSink, Hold};
 use crate::held_source::HeldSource;
 use crate::marks::Marks;
 use end_places::{NamedSpot, PortSpots, Spot};
@@ -13,10 +14,14 @@ use savi_ends::{Ends, MemClock, MemSink, OpenFailed, Sink, Source, Std, World};
 use savi_kinds::{Port, PortPlan, Text};
 use std::alloc::{AllocError, Global};
 
-/// The names of the configuration and of the journal.
+/// The names of the configuration, of the journal, of the input of control and of its output.
 pub const PLAN: &str = "plan";
 
 pub const JOURNAL: &str = "journal.txt";
+
+pub const COMMANDS: &str = "commands";
+
+pub const REPLIES: &str = "replies";
 
 /// Room for what is written at a port, or of the journal.
 const FILE_ROOM: usize = 8_192;
@@ -24,10 +29,10 @@ const FILE_ROOM: usize = 8_192;
 /// Room for what standard output and standard error are told.
 const TEXT_ROOM: usize = 256;
 
-/// The ends of a port.
-pub type HeldEnds<'a> = Ends<HeldSource<'a>, HeldSink<'a>, MemClock>;
+/// The ends of a port, or of control.
+pub type HeldEnds<'a> = Ends<HeldSource<'a>, HeldSink<'a>, HeldClock<'a>>;
 
-/// A world of a configuration, three ports and a journal, whose ends it makes as they are opened. It has no control.
+/// A world of a configuration, three ports, control and a journal, whose ends it makes as they are opened.
 #[derive(Drop)]
 pub struct HeldWorld<'a> {
     alloc: Global,
@@ -39,7 +44,7 @@ pub struct HeldWorld<'a> {
     output: NamedSpot<HeldSink<'a>>,
     ports: PortSpots<HeldEnds<'a>>,
     control: Spot<HeldEnds<'a>>,
-    ticker: Option<MemClock>,
+    ticker: Option<HeldClock<'a>>,
     out: Option<HeldSink<'a>>,
     err: Option<HeldSink<'a>>,
 }
@@ -69,9 +74,9 @@ impl<'a> HeldWorld<'a> {
             output: NamedSpot::new(),
             ports: PortSpots::make(alloc)?,
             control: Spot::new(),
-            ticker: Some(MemClock::new(Vec::new(alloc))),
-            out: Some(HeldSink::new(rt, out, None)),
-            err: Some(HeldSink::new(rt, err, None)),
+            ticker: Some(HeldClock::new(rt, MemClock::new(Vec::new(alloc)), Some(marks))),
+            out: Some(HeldSink::new(rt, out, Hold::Nothing)),
+            err: Some(HeldSink::new(rt, err, Hold::Nothing)),
         })
     }
 
@@ -84,11 +89,11 @@ impl<'a> HeldWorld<'a> {
     }
 
     // A sink in which nothing is written yet.
-    fn file_sink(&self, marks: Option<&'a Marks>) -> Result<HeldSink<'a>, AllocError>
+    fn file_sink(&self, hold: Hold<'a>) -> Result<HeldSink<'a>, AllocError>
         ensures { IfOk result (λ k. ⟦<HeldSink<'a> as Sink>⟧.faults k ≡ 0) }
     {
         let sink = MemSink::make(self.alloc, FILE_ROOM, Vec::new(self.alloc))?;
-        Ok(HeldSink::new(self.rt, sink, marks))
+        Ok(HeldSink::new(self.rt, sink, hold))
     }
 
     // The ends of a port.
@@ -109,17 +114,47 @@ impl<'a> HeldWorld<'a> {
             _ => {}
         }
         let reads = if number == 1 { Some(self.marks) } else { None };
-        let writes = if number == 3 { Some(self.marks) } else { None };
+        let writes = if number == 3 {
+            Hold::FirstOf2(self.marks)
+        } else {
+            Hold::Nothing
+        };
         Ok(Ends {
             source: HeldSource::new(self.alloc, self.rt, octets, reads),
             sink: self.file_sink(writes)?,
-            clock: MemClock::new(Vec::new(self.alloc)),
+            clock: self.clock(),
         })
+    }
+
+    // The ends of control, which brings one line.
+    fn control_ends(&self) -> Result<HeldEnds<'a>, AllocError>
+        ensures source { IfOk result (λ ends. ⟦<HeldSource<'a> as Source>⟧.faults ends.source ≡ 0) }
+        ensures sink { IfOk result (λ ends. ⟦<HeldSink<'a> as Sink>⟧.faults ends.sink ≡ 0) }
+    {
+        let line = b"quit\n".to_vec(self.alloc)?;
+        Ok(Ends {
+            source: HeldSource::new(self.alloc, self.rt, line, None),
+            sink: self.file_sink(Hold::Reply(self.marks))?,
+            clock: self.clock(),
+        })
+    }
+
+    // A clock that reads 0 and doesn't wait.
+    fn clock(&self) -> HeldClock<'a> {
+        HeldClock::new(self.rt, MemClock::new(Vec::new(self.alloc)), None)
     }
 
     /// What was written at a port, where its ends came back.
     pub fn sent(&self, port: Port) -> Option<&[u8]> {
         match self.ports.kept(port) {
+            Some(ends) => Some(ends.sink.written()),
+            None => None,
+        }
+    }
+
+    /// The replies, where the ends of control came back.
+    pub fn replies(&self) -> Option<&[u8]> {
+        match self.control.kept() {
             Some(ends) => Some(ends.sink.written()),
             None => None,
         }
@@ -163,7 +198,7 @@ impl<'a> World for HeldWorld<'a> {
 
     type K = HeldSink<'a>;
 
-    type C = MemClock;
+    type C = HeldClock<'a>;
 
     ghost book = { book_of };
 
@@ -194,7 +229,7 @@ impl<'a> World for HeldWorld<'a> {
         let Ok(copy) = String::from_str(self.alloc, name) else {
             return Err(fault(&mut self.faults));
         };
-        match self.file_sink(None) {
+        match self.file_sink(Hold::Nothing) {
             Ok(sink) => {
                 self.output.hand_out(Text::new(copy));
                 Ok(sink)
@@ -220,13 +255,19 @@ impl<'a> World for HeldWorld<'a> {
         sink: &str,
         live: bool,
     ) -> Result<HeldEnds<'a>, OpenFailed> {
-        let _ = source;
-        let _ = sink;
-        let _ = live;
-        Err(fault(&mut self.faults))
+        if source != COMMANDS || sink != REPLIES || !live {
+            return Err(fault(&mut self.faults));
+        }
+        match self.control_ends() {
+            Ok(ends) => {
+                self.control.hand_out();
+                Ok(ends)
+            }
+            Err(_) => Err(fault(&mut self.faults)),
+        }
     }
 
-    fn ticker(&mut self) -> MemClock {
+    fn ticker(&mut self) -> HeldClock<'a> {
         match self.ticker.take() {
             Some(clock) => clock,
             None => unreachable!(),
@@ -270,7 +311,7 @@ impl<'a> World for HeldWorld<'a> {
         self.output.keep(sink);
     }
 
-    fn keep_ticker(&mut self, clock: MemClock) {
+    fn keep_ticker(&mut self, clock: HeldClock<'a>) {
         self.ticker = Some(clock);
     }
 

@@ -3,18 +3,22 @@
 //!
 //! The ports are trusted ones, over streams. Ports 1 and 2 bring two broadcast frames each, and port 3 none. The source of
 //! port 1 gives its second frame only once the sink of port 3 was given the first frame of port 2, and that write returns
-//! only once the pass of port 2's input has come by for its third turn. So a switch that reads or writes while it holds its
-//! lock, or sends only at the end, can't go on; each wait gives up after 20 s then, and is told (`Marks::has_given_up`).
+//! only once the pass of port 2's input has come by for its third turn. Control brings one line, `quit`, and the write of its
+//! reply, like the wait of the ticker's clock, returns only once the pass of port 1's input has come by for its third turn.
+//! So a switch that reads, writes or waits while it holds its lock, or sends only at the end, can't go on; each wait gives up
+//! after 20 s then, and is told (`Marks::has_given_up`).
 #![tactic(auto)]
 
 mod frames;
+mod held_clock;
 mod held_sink;
 mod held_source;
 mod held_world;
 mod marks;
 
 pub use frames::{FIRST_OF_1, FIRST_OF_2, SECOND_OF_1, SECOND_OF_2};
-pub use held_sink::HeldSink;
+pub use held_clock::HeldClock;
+pub use held_sink::{HeldSink, Hold};
 pub use held_source::HeldSource;
-pub use held_world::{HeldEnds, HeldWorld, JOURNAL, PLAN};
+pub use held_world::{COMMANDS, HeldEnds, HeldWorld, JOURNAL, PLAN, REPLIES};
 pub use marks::Marks;

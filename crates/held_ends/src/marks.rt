@@ -9,6 +9,9 @@ const LOOKS_MOST: u32 = 20_000;
 
 const SLEEP_MS: u64 = 1;
 
+/// The last turn of the inputs of ports 1 and 2, each of which has two records and ends.
+pub(crate) const LAST_TURN: u64 = 3;
+
 /// What the ends and the passes of a session have come to, each as a number that only grows.
 #[derive(Drop)]
 pub struct Marks {
@@ -19,6 +22,10 @@ pub struct Marks {
     pub asked: AtomicU64,
     /// 1 once the sink of port 3 was given the first frame of port 2.
     pub given: AtomicU64,
+    /// 1 once the sink of control was given a reply.
+    pub replied: AtomicU64,
+    /// 1 once the ticker's clock was told to wait.
+    pub waited: AtomicU64,
     // 1 once a wait has given up.
     given_up: AtomicU64,
 }
@@ -31,6 +38,8 @@ impl Marks {
             turn_of_2: AtomicU64::new(0),
             asked: AtomicU64::new(0),
             given: AtomicU64::new(0),
+            replied: AtomicU64::new(0),
+            waited: AtomicU64::new(0),
             given_up: AtomicU64::new(0),
         }
     }

@@ -13,7 +13,7 @@ const INPUT_OF_2: u32 = 1;
 /// Notes the turns of the inputs of ports 1 and 2, and holds them back: the first turn of each until the other has come by
 /// for its own, and that of port 2 also until the source of port 1 was asked for its second record; the second turn of port
 /// 2 until the sink of port 3 was given its first frame; and the second turn of port 1 until port 2 has come by for its
-/// third.
+/// third, control has a reply to write, and the ticker waits.
 #[derive(Drop)]
 pub struct HeldGate<'a> {
     pub rt: HostRuntime,
@@ -30,7 +30,11 @@ impl<'a> Gate for HeldGate<'a> {
         }
         match (pass, turn) {
             (INPUT_OF_1, 1) => marks.wait_for(self.rt, &marks.turn_of_2, 1),
-            (INPUT_OF_1, 2) => marks.wait_for(self.rt, &marks.turn_of_2, 3),
+            (INPUT_OF_1, 2) => {
+                marks.wait_for(self.rt, &marks.turn_of_2, 3);
+                marks.wait_for(self.rt, &marks.replied, 1);
+                marks.wait_for(self.rt, &marks.waited, 1);
+            }
             (INPUT_OF_2, 1) => {
                 marks.wait_for(self.rt, &marks.turn_of_1, 1);
                 marks.wait_for(self.rt, &marks.asked, 2);

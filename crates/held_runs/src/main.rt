@@ -3,7 +3,7 @@
 //!
 //! The input is the configuration, of three trusted ports over streams. What is printed is the same whatever the order in
 //! which the workers come to the switch: the status, what standard error was told, the frames that were written at each
-//! port, what a check says of the journal, how many turns the inputs of ports 1 and 2 took, and whether a wait was in vain.
+//! port, the replies, what a check says of the journal, how many turns the inputs of ports 1 and 2 took, and whether a wait was in vain.
 //! It was worked out by hand.
 #![tactic(auto)]
 
@@ -54,7 +54,7 @@ fn words_of(alloc: Global) -> Result<Vec<String>, AllocError> {
     Ok(words)
 }
 
-// Prints what standard error was told, the frames of each port, and what a check says of the journal.
+// Prints what standard error was told, the frames of each port, the replies, and what a check says of the journal.
 fn print_left(rt: &impl Print, alloc: Global, world: &HeldWorld<'_>) -> anyhow::Result<()> {
     let errors = String::from_utf8_lossy(alloc, world.told(Std::Err).unwrap_or(&[]))?;
     print!(rt; "standard error:\n{errors}")?;
@@ -66,6 +66,8 @@ fn print_left(rt: &impl Print, alloc: Global, world: &HeldWorld<'_>) -> anyhow::
             }
         }
     }
+    let replies = String::from_utf8_lossy(alloc, world.replies().unwrap_or(&[]))?;
+    print!(rt; "control:\n{replies}")?;
     let journal = world.journal().unwrap_or(&[]).to_vec(alloc)?;
     let mut source = MemSource::new(journal, 512, Vec::new(alloc));
     match check(alloc, &mut source) {

@@ -11,7 +11,7 @@ use Rattle.savi_kinds.specs.declared.entry.How.{How}
 use Rattle.savi_kinds.specs.PortSets.{no_ports}
 use Rattle.hist_store.specs.Rows.{Row}
 use Rattle.hist_store.specs.TextOfLines.{spaced}
-use Rattle.hist_store.specs.PortTexts.{port_text, ports_text}
+use Rattle.hist_store.specs.PortTexts.{port_text, members_text}
 use Rattle.hist_store.specs.VerdictTexts.{verdict_text, entry_verdict_text}
 use Rattle.hist_store.specs.EndTexts.{who_text, how_fields, IsReasonOf}
 use Rattle.hist_store.specs.LineTexts.{hex_text, act_fields, FitsAct}
@@ -40,12 +40,12 @@ pub record SaysFrame (text : List ℕ) (row : Row) : Type 0 where
   pub size : length row.octets ≡ len
   pub short : len ≤ 1518
   pub small : stamp < 2 ^ 64
-  pub text_is : text ≡ spaced (port_text port ∷ decimal stamp ∷ hex_text row.octets ∷ verdict_text verdict ∷ ports_text row.entry.outs ∷ ports_text row.entry.cuts ∷ decimal row.entry.probes ∷ decimal row.entry.lost ∷ [])
+  pub text_is : text ≡ spaced (port_text port ∷ decimal stamp ∷ hex_text row.octets ∷ verdict_text verdict ∷ members_text row.entry.outs ∷ members_text row.entry.cuts ∷ decimal row.entry.probes ∷ decimal row.entry.lost ∷ [])
 
 frame_parts : (text : List ℕ) (entry : Entry) (octets : List ℕ) (act : Act) → entry.act ≡ act → IsActInRange act → FitsAct entry octets act → 32 ∷ 70 ∷ text ≡ spaced (act_fields entry octets act) → SaysFrame text (record { entry = entry; octets = octets })
 frame_parts text entry octets (acts.Frame port stamp at len) is range fits e =
     let one = some_verdict entry.verdict fits.0 in
-    let tails : text ≡ spaced (port_text port ∷ decimal stamp ∷ hex_text octets ∷ entry_verdict_text entry.verdict ∷ ports_text entry.outs ∷ ports_text entry.cuts ∷ decimal entry.probes ∷ decimal entry.lost ∷ []) = cc in
+    let tails : text ≡ spaced (port_text port ∷ decimal stamp ∷ hex_text octets ∷ entry_verdict_text entry.verdict ∷ members_text entry.outs ∷ members_text entry.cuts ∷ decimal entry.probes ∷ decimal entry.lost ∷ []) = cc in
     record {
       port = port;
       stamp = stamp;
@@ -56,7 +56,7 @@ frame_parts text entry octets (acts.Frame port stamp at len) is range fits e =
       size = fits.1;
       short = fits.2;
       small = range.0;
-      text_is = tails ∙ ap (λ (v : Option Verdict). spaced (port_text port ∷ decimal stamp ∷ hex_text octets ∷ entry_verdict_text v ∷ ports_text entry.outs ∷ ports_text entry.cuts ∷ decimal entry.probes ∷ decimal entry.lost ∷ [])) one.1;
+      text_is = tails ∙ ap (λ (v : Option Verdict). spaced (port_text port ∷ decimal stamp ∷ hex_text octets ∷ entry_verdict_text v ∷ members_text entry.outs ∷ members_text entry.cuts ∷ decimal entry.probes ∷ decimal entry.lost ∷ [])) one.1;
     }
 frame_parts text entry octets (acts.Long port stamp len) is range fits e = absurd (apart 70 76 text _ e refl)
 frame_parts text entry octets (acts.Tick stamp) is range fits e = absurd (apart 70 84 text _ e refl)
@@ -262,7 +262,7 @@ pub record HasLetter (entry : Entry) (octets : List ℕ) (act : Act) : Type 0 wh
   pub none : (t : List ℕ) → t ≡ word → (t ≡ codes "F" → ⊥) → (t ≡ codes "D" → ⊥) → (t ≡ codes "E" → ⊥) → (t ≡ codes "T" → ⊥) → (t ≡ codes "C" → ⊥) → (t ≡ codes "L" → ⊥) → ⊥
 
 pub has_letter : (entry : Entry) (octets : List ℕ) (act : Act) → HasLetter entry octets act
-has_letter entry octets (acts.Frame port stamp at len) = record { word = codes "F"; rest = port_text port ∷ decimal stamp ∷ hex_text octets ∷ entry_verdict_text entry.verdict ∷ ports_text entry.outs ∷ ports_text entry.cuts ∷ decimal entry.probes ∷ decimal entry.lost ∷ []; fields = refl; is_word = word_of (codes "F") refl; none = λ t is f d e t' c l. f is }
+has_letter entry octets (acts.Frame port stamp at len) = record { word = codes "F"; rest = port_text port ∷ decimal stamp ∷ hex_text octets ∷ entry_verdict_text entry.verdict ∷ members_text entry.outs ∷ members_text entry.cuts ∷ decimal entry.probes ∷ decimal entry.lost ∷ []; fields = refl; is_word = word_of (codes "F") refl; none = λ t is f d e t' c l. f is }
 has_letter entry octets (acts.Long port stamp len) = record { word = codes "L"; rest = port_text port ∷ decimal stamp ∷ decimal len ∷ entry_verdict_text entry.verdict ∷ decimal entry.probes ∷ decimal entry.lost ∷ []; fields = refl; is_word = word_of (codes "L") refl; none = λ t is f d e t' c l. l is }
 has_letter entry octets (acts.Tick stamp) = record { word = codes "T"; rest = decimal stamp ∷ decimal entry.probes ∷ decimal entry.lost ∷ []; fields = refl; is_word = word_of (codes "T") refl; none = λ t is f d e t' c l. t' is }
 has_letter entry octets (acts.Command stamp at len) = record { word = codes "C"; rest = decimal stamp ∷ hex_text octets ∷ decimal entry.probes ∷ decimal entry.lost ∷ []; fields = refl; is_word = word_of (codes "C") refl; none = λ t is f d e t' c l. c is }

@@ -21,7 +21,7 @@ use Rattle.savi_kinds.specs.declared.entry.How.TheVariants as hows
 use Rattle.savi_kinds.specs.Ports.{number_of}
 use Rattle.hist_store.specs.Rows.{Row}
 use Rattle.hist_store.specs.TextOfLines.{or_dash}
-use Rattle.hist_store.specs.PortTexts.{port_text, members, ports_text}
+use Rattle.hist_store.specs.PortTexts.{port_text, members, members_text}
 use Rattle.hist_store.specs.VerdictTexts.{rule_name, scope_text, entry_verdict_text}
 use Rattle.hist_store.specs.EndTexts.{who_text, how_fields}
 use Rattle.hist_store.specs.LineTexts.{hex_text, act_fields, line_fields}
@@ -39,7 +39,7 @@ pub words_decimal : (ns : List ℕ) → IsWords (map decimal ns)
 words_decimal [] = tt
 words_decimal (n ∷ ns) = (word_decimal n, words_decimal ns)
 
-pub word_ports : (set : PortSet) → IsWord (ports_text set)
+pub word_ports : (set : PortSet) → IsWord (members_text set)
 word_ports set = word_dash (join_with_byte 44 (map decimal (members set))) (word_joined 44 (map decimal (members set)) (omega arith) (words_decimal (members set)))
 
 pub word_encoded : (octets : List ℕ) → IsBytes octets → IsWord (encode_lower octets)

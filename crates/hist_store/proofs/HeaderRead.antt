@@ -18,7 +18,7 @@ use Rattle.savi_kinds.proofs.PrefixGrammar.{one_prefix}
 use Rattle.savi_kinds.proofs.AddrWritten.{written_prefix}
 use Rattle.hist_store.specs.TextOfLines.{joined, spaced, HasNoSpace}
 use Rattle.hist_store.specs.PortTexts.{port_text}
-use Rattle.hist_store.specs.JournalTexts.{address_text, prefix_text_by, port_line, prefix_line}
+use Rattle.hist_store.specs.JournalTexts.{address_text, prefix_text_by, journal_port_line, prefix_line}
 use Rattle.hist_store.proofs.Words.{word_of, word_all, word_append, word_decimal}
 use Rattle.hist_store.proofs.AddressWords.{address_graphic}
 use Rattle.hist_store.proofs.FieldsRead.{spaceless}
@@ -34,7 +34,7 @@ spaceless_format formats.Pcap = spaceless (codes "pcap") (word_of (codes "pcap")
 spaceless_format formats.Stream = spaceless (codes "stream") (word_of (codes "stream") refl)
 
 -- what stands behind the name of a port's line
-pub port_said : (line : List ℕ) (port : Port) (role : Role) (format : Format) → line ≡ joined (port_line port role format) → line ≡ codes "port" ++ spaced (port_text port ∷ role_word role ∷ format_word format ∷ [])
+pub port_said : (line : List ℕ) (port : Port) (role : Role) (format : Format) → line ≡ joined (journal_port_line port role format) → line ≡ codes "port" ++ spaced (port_text port ∷ role_word role ∷ format_word format ∷ [])
 port_said line port role format is = is ∙ joined-spaced (codes "port") (port_text port ∷ role_word role ∷ format_word format ∷ [])
 
 -- a written MAC address is read as itself

@@ -5,20 +5,21 @@ use Rattle.std.proofs.lemmas.List.{take_more, length-take-le}
 use Rattle.std.proofs.lemmas.Option.{get_or_from_slice_get, slice_get_within}
 use Rattle.savi_kinds.specs.declared.entry.Entry.{Entry}
 use Rattle.savi_kinds.specs.declared.plan.Plan.{Plan}
+use Rattle.savi_kinds.specs.Characters.{line_feed}
 use Rattle.hist_store.specs.Rows.{Row}
-use Rattle.hist_store.specs.TextOfLines.{line_feed, lines_text}
+use Rattle.hist_store.specs.TextOfLines.{lines_text}
 use Rattle.hist_store.specs.LineTexts.{line_fields, line_text}
-use Rattle.hist_store.specs.JournalTexts.{header_lines, entry_lines, end_line, header_text, end_text, journal_text}
+use Rattle.hist_store.specs.JournalTexts.{header_lines, entry_lines, journal_end_line, journal_header_text, journal_end_text, journal_text}
 use Rattle.hist_store.proofs.LineLemmas.{lines_text-append}
 
 -- the text of the entries' lines
 abbrev pub entries_text : List Row → List ℕ
 entries_text rows = lines_text (entry_lines 0 rows)
 
-pub journal_in_parts : (address_text : ℕ → List ℕ) (plan : Plan) (rows : List Row) → journal_text address_text plan rows ≡ header_text address_text plan ++ entries_text rows ++ end_text (length rows)
+pub journal_in_parts : (address_text : ℕ → List ℕ) (plan : Plan) (rows : List Row) → journal_text address_text plan rows ≡ journal_header_text address_text plan ++ entries_text rows ++ journal_end_text (length rows)
 journal_in_parts address_text plan rows =
     let header = header_lines address_text plan in
-    let last = end_line (length rows) ∷ [] in
+    let last = journal_end_line (length rows) ∷ [] in
     lines_text-append (header ++ entry_lines 0 rows) last ∙ ap (λ t. t ++ lines_text last) (lines_text-append header (entry_lines 0 rows))
 
 entry_lines-push : (n : ℕ) (rows : List Row) (row : Row) → entry_lines n (rows ++ row ∷ []) ≡ entry_lines n rows ++ line_fields (n + length rows) row ∷ []

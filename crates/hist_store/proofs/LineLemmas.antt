@@ -1,7 +1,8 @@
 -- A line as its first field and the others behind it.
 use Rattle.std.proofs.Common.{ℕ, ◌≡◌, ◌+◌, ◌<◌, List, [], ◌∷◌, ◌++◌, length, take, map, get_or, refl, sym, ap, ◌∙◌, append_assoc}
 use Rattle.std.proofs.lemmas.List.{append-nil, map-append, take_more}
-use Rattle.hist_store.specs.TextOfLines.{space, line_feed, joined, spaced, lines_text}
+use Rattle.savi_kinds.specs.Characters.{space, line_feed}
+use Rattle.hist_store.specs.TextOfLines.{joined, spaced, lines_text}
 
 pub joined-spaced : (field : List ℕ) (fields : List (List ℕ)) → joined (field ∷ fields) ≡ field ++ spaced fields
 joined-spaced field [] = sym (append-nil field)

@@ -8,7 +8,7 @@ use Rattle.std.proofs.lemmas.Fmt.{decimal_nonempty}
 use Rattle.savi_kinds.specs.declared.port.PortSet.{PortSet}
 use Rattle.savi_kinds.specs.PortSets.{is_member}
 use Rattle.hist_store.specs.TextOfLines.{comma, dash, or_dash}
-use Rattle.hist_store.specs.PortTexts.{port_numbers, ports_text}
+use Rattle.hist_store.specs.PortTexts.{port_numbers, members_text}
 
 -- the members from 1 to k
 unfoldable pub upto : PortSet → ℕ → List ℕ
@@ -118,17 +118,17 @@ or_dash-nonempty [] h = absurd (omega arith)
 or_dash-nonempty (x ∷ xs) h = refl
 
 -- no member was written
-pub ports_text-none : (set : PortSet) (k : ℕ) (before after : List ℕ) → k ≡ 16 → IsListed set k false before after → after ++ dash ∷ [] ≡ before ++ ports_text set
+pub ports_text-none : (set : PortSet) (k : ℕ) (before after : List ℕ) → k ≡ 16 → IsListed set k false before after → after ++ dash ∷ [] ≡ before ++ members_text set
 ports_text-none set k before after all was =
     let text : List ℕ → List ℕ = λ ns. join_with_byte comma (map decimal ns) in
     let empty : listed set k ≡ [] = ap text (was.none refl) in
     let kept : after ≡ before = was.text ∙ ap (λ t. before ++ t) empty ∙ append-nil before in
-    let none : ports_text set ≡ dash ∷ [] = ap (λ ns. or_dash (text ns)) (members-is set k all ∙ was.none refl) in
+    let none : members_text set ≡ dash ∷ [] = ap (λ ns. or_dash (text ns)) (members-is set k all ∙ was.none refl) in
     ap (λ t. t ++ dash ∷ []) kept ∙ sym (ap (λ t. before ++ t) none)
 
 -- each member was written
-pub ports_text-some : (set : PortSet) (k : ℕ) (before after : List ℕ) → k ≡ 16 → IsListed set k true before after → after ≡ before ++ ports_text set
+pub ports_text-some : (set : PortSet) (k : ℕ) (before after : List ℕ) → k ≡ 16 → IsListed set k true before after → after ≡ before ++ members_text set
 ports_text-some set k before after all was =
     let text : List ℕ → List ℕ = λ ns. join_with_byte comma (map decimal ns) in
-    let some : ports_text set ≡ listed set k = ap (λ ns. or_dash (text ns)) (members-is set k all) ∙ or_dash-nonempty (listed set k) (was.some refl).1 in
+    let some : members_text set ≡ listed set k = ap (λ ns. or_dash (text ns)) (members-is set k all) ∙ or_dash-nonempty (listed set k) (was.some refl).1 in
     was.text ∙ sym (ap (λ t. before ++ t) some)

@@ -12,7 +12,7 @@ use Rattle.std.specs.Str.Parse.{AllDigits}
 use Rattle.savi_kinds.specs.declared.port.PortSet.{PortSet}
 use Rattle.savi_kinds.specs.PortSets.{is_member, no_ports}
 use Rattle.hist_store.specs.TextOfLines.{comma, or_dash}
-use Rattle.hist_store.specs.PortTexts.{port_numbers, members, ports_text, members_above, GoesOn}
+use Rattle.hist_store.specs.PortTexts.{port_numbers, members, members_text, members_above, GoesOn}
 
 -- the numbers that pass a test, of so many from a number on
 
@@ -123,16 +123,16 @@ end_of_number [] [] is = refl
 end_of_number [] (m ∷ ms) is = refl
 end_of_number (x ∷ t) ms is = let more = end_of_number t ms is.1 in rw (ne_eqb x 44 is.0) (omega (arith, more))
 
-abbrev pub place_of : List ℕ → ℕ
-place_of text = position_or_len (λ c. c == 44) text
+abbrev pub comma_place : List ℕ → ℕ
+comma_place text = position_or_len (λ c. c == 44) text
 
-cut : (text : List ℕ) (m : ℕ) (ms : List ℕ) → m ≤ 16 → text ≡ text_of (m ∷ ms) → (take (place_of text) text ≡ decimal m) × (drop (place_of text) text ≡ tail_text ms)
+cut : (text : List ℕ) (m : ℕ) (ms : List ℕ) → m ≤ 16 → text ≡ text_of (m ∷ ms) → (take (comma_place text) text ≡ decimal m) × (drop (comma_place text) text ≡ tail_text ms)
 cut text m ms small is =
     let numeral = (decimal_is_IsNumeral m (omega (arith, small))).0 in
     let whole : text ≡ decimal m ++ tail_text ms = is ∙ text_first m ms in
-    let place : place_of text ≡ length (decimal m) = ap place_of whole ∙ end_of_number (decimal m) ms (digits_without (decimal m) numeral.1) in (
-      ap (λ (t : List ℕ). take (place_of text) t) whole ∙ take_at (decimal m) (tail_text ms) (place_of text) (sym place),
-      ap (λ (t : List ℕ). drop (place_of text) t) whole ∙ drop_at (decimal m) (tail_text ms) (place_of text) (sym place),
+    let place : comma_place text ≡ length (decimal m) = ap comma_place whole ∙ end_of_number (decimal m) ms (digits_without (decimal m) numeral.1) in (
+      ap (λ (t : List ℕ). take (comma_place text) t) whole ∙ take_at (decimal m) (tail_text ms) (comma_place text) (sym place),
+      ap (λ (t : List ℕ). drop (comma_place text) t) whole ∙ drop_at (decimal m) (tail_text ms) (comma_place text) (sym place),
     )
 
 -- the first of some members, and how the text is cut behind it
@@ -142,8 +142,8 @@ pub record IsCut (last : ℕ) (set : PortSet) (text : List ℕ) : Type 0 where
   pub high : port ≤ 16
   pub none : (j : ℕ) → last < j → j < port → is_member set j ≡ false
   pub here : is_member set port ≡ true
-  pub front : take (place_of text) text ≡ decimal port
-  pub rest : drop (place_of text) text ≡ tail_text (members_above port set)
+  pub front : take (comma_place text) text ≡ decimal port
+  pub rest : drop (comma_place text) text ≡ tail_text (members_above port set)
 
 pub cut_of : (last : ℕ) (before set : PortSet) (text : List ℕ) → GoesOn last before set text → IsCut last set text
 cut_of last before set text goes =
@@ -246,7 +246,7 @@ module _ (set grown : PortSet) (last port : ℕ) (is : IsGrown set grown last po
       ]
 
   -- where nothing comes behind the new member
-  pub ended : (whole : PortSet) (text : List ℕ) → GoesOn last set whole text → (one : IsCut last whole text) → one.port ≡ port → drop (place_of text) text ≡ [] → grown ≡ whole
+  pub ended : (whole : PortSet) (text : List ℕ) → GoesOn last set whole text → (one : IsCut last whole text) → one.port ≡ port → drop (comma_place text) text ≡ [] → grown ≡ whole
   ended whole text goes one port_is empty =
       let none = subst (λ (p : ℕ). (j : ℕ) → last < j → j < p → is_member whole j ≡ false) port_is one.none in
       let here = subst (λ (p : ℕ). is_member whole p ≡ true) port_is one.here in
@@ -263,7 +263,7 @@ module _ (set grown : PortSet) (last port : ℕ) (is : IsGrown set grown last po
       no_tail (n ∷ ns) e = cc
 
   -- where another comes
-  pub went_on : (whole : PortSet) (text more : List ℕ) → GoesOn last set whole text → (one : IsCut last whole text) → one.port ≡ port → drop (place_of text) text ≡ comma ∷ more → GoesOn port grown whole more
+  pub went_on : (whole : PortSet) (text more : List ℕ) → GoesOn last set whole text → (one : IsCut last whole text) → one.port ≡ port → drop (comma_place text) text ≡ comma ∷ more → GoesOn port grown whole more
   went_on whole text more goes one port_is rest =
       let none = subst (λ (p : ℕ). (j : ℕ) → last < j → j < p → is_member whole j ≡ false) port_is one.none in
       let here = subst (λ (p : ℕ). is_member whole p ≡ true) port_is one.here in
@@ -286,7 +286,7 @@ members-is : (set : PortSet) → members set ≡ members_above 0 set
 unfolding port_numbers
 members-is set = refl
 
-pub ports_text-none : ports_text no_ports ≡ codes "-"
+pub ports_text-none : members_text no_ports ≡ codes "-"
 unfolding port_numbers
 ports_text-none = refl
 
@@ -302,7 +302,7 @@ no_digit (x ∷ xs) rest all some e =
     absurd (omega (arith, bad))
 
 -- the text of some members is not the dash
-some_text : (set : PortSet) → (one : IsFirst (is_member set) 1 16) → (0 < length (members_above 0 set)) × (ports_text set ≡ text_of (members_above 0 set)) × (codes "-" ≡ ports_text set → ⊥)
+some_text : (set : PortSet) → (one : IsFirst (is_member set) 1 16) → (0 < length (members_above 0 set)) × (members_text set ≡ text_of (members_above 0 set)) × (codes "-" ≡ members_text set → ⊥)
 some_text set one =
     let low = one.low in
     let high = one.high in
@@ -312,31 +312,31 @@ some_text set one =
     let digits : 0 < length (decimal one.place) = decimal_nonempty one.place (omega arith) in
     let long = ap length text in
     let sum = length-append (decimal one.place) (tail_text (members_above one.place set)) in
-    let whole : ports_text set ≡ text_of (members_above 0 set) = ap (λ (ns : List ℕ). or_dash (text_of ns)) (members-is set) ∙ or_dash-some (text_of (members_above 0 set)) (omega arith) in
+    let whole : members_text set ≡ text_of (members_above 0 set) = ap (λ (ns : List ℕ). or_dash (text_of ns)) (members-is set) ∙ or_dash-some (text_of (members_above 0 set)) (omega arith) in
     let numeral = (decimal_is_IsNumeral one.place (omega arith)).0 in
     (omega arith, whole, λ dash. no_digit (decimal one.place) (tail_text (members_above one.place set)) numeral.1 digits (dash ∙ whole ∙ text))
 
-none_text : (set : PortSet) → ((j : ℕ) → 1 ≤ j → j < 1 + 16 → is_member set j ≡ false) → ports_text set ≡ codes "-"
+none_text : (set : PortSet) → ((j : ℕ) → 1 ≤ j → j < 1 + 16 → is_member set j ≡ false) → members_text set ≡ codes "-"
 none_text set none = ap (λ (ns : List ℕ). or_dash (text_of ns)) (members-is set ∙ above_none set 0 (λ j low high. none j (omega arith) (omega arith)))
 
 pub none_is : (j : ℕ) → is_member no_ports j ≡ false
 none_is j = grind (arith, nat_tests)
 
-pub dash_is : (set : PortSet) → set.0 < 2 ^ 16 → codes "-" ≡ ports_text set → no_ports ≡ set
+pub dash_is : (set : PortSet) → set.0 < 2 ^ 16 → codes "-" ≡ members_text set → no_ports ≡ set
 dash_is set small is =
     elim (first (is_member set) 16 1) [
       | inl none ↦ sets_same no_ports set (omega arith) small (λ j low high. none_is j ∙ sym (none j low (omega arith)))
       | inr one ↦ absurd ((some_text set one).2 is)
     ]
 
-pub starts : (set : PortSet) (text : List ℕ) → set.0 < 2 ^ 16 → text ≡ ports_text set → (text ≡ codes "-" → ⊥) → GoesOn 0 no_ports set text
+pub starts : (set : PortSet) (text : List ℕ) → set.0 < 2 ^ 16 → text ≡ members_text set → (text ≡ codes "-" → ⊥) → GoesOn 0 no_ports set text
 starts set text small is other =
     elim (first (is_member set) 16 1) [
       | inl none ↦ absurd (other (is ∙ none_text set none))
       | inr one ↦ let some = some_text set one in record { same = λ n low high. absurd (omega arith); size = small; text_is = is ∙ some.1; some = some.0 }
     ]
 
-pub finished : (set : PortSet) (text : List ℕ) → GoesOn 0 no_ports set text → (text ≡ ports_text set) × (set.0 < 2 ^ 16)
+pub finished : (set : PortSet) (text : List ℕ) → GoesOn 0 no_ports set text → (text ≡ members_text set) × (set.0 < 2 ^ 16)
 finished set text goes =
     elim (first (is_member set) 16 1) [
       | inl none ↦
@@ -407,20 +407,20 @@ above_same (suc fuel) last a b enough same =
                 let low = one.low in
                 let high = one.high in
                 let high' = other.high in
-                let fronts : decimal one.port ≡ decimal other.port = sym one.front ∙ ap (λ (t : List ℕ). take (place_of t) t) same ∙ other.front in
+                let fronts : decimal one.port ≡ decimal other.port = sym one.front ∙ ap (λ (t : List ℕ). take (comma_place t) t) same ∙ other.front in
                 let port : one.port ≡ other.port = decimal_injective one.port other.port (omega arith) (omega arith) fronts in
-                let rests : tail_text (members_above one.port a) ≡ tail_text (members_above other.port b) = sym one.rest ∙ ap (λ (t : List ℕ). drop (place_of t) t) same ∙ other.rest in
+                let rests : tail_text (members_above one.port a) ≡ tail_text (members_above other.port b) = sym one.rest ∙ ap (λ (t : List ℕ). drop (comma_place t) t) same ∙ other.rest in
                 let tails : text_of (members_above one.port a) ≡ text_of (members_above one.port b) =
                 tail_same (members_above one.port a) (members_above other.port b) rests ∙ ap (λ (k : ℕ). text_of (members_above k b)) (sym port) in
                 behind_cut last a (text_of (members_above last a)) one (is_member b) (λ j more less. other.none j more (omega arith)) (ap (is_member b) port ∙ other.here) (above_same fuel one.port a b (omega arith) tails)
           ]
     ]
 
-pub ports_by_text : (a b : PortSet) → a.0 < 2 ^ 16 → b.0 < 2 ^ 16 → ports_text a ≡ ports_text b → a ≡ b
+pub ports_by_text : (a b : PortSet) → a.0 < 2 ^ 16 → b.0 < 2 ^ 16 → members_text a ≡ members_text b → a ≡ b
 ports_by_text a b p q same =
     elim (first (is_member a) 16 1) [
       | inl none ↦
-          let dash : codes "-" ≡ ports_text a = sym (none_text a none) in
+          let dash : codes "-" ≡ members_text a = sym (none_text a none) in
           sym (dash_is a p dash) ∙ dash_is b q (dash ∙ same)
       | inr one ↦
           elim (first (is_member b) 16 1) [

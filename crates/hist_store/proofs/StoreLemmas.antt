@@ -7,7 +7,7 @@ use Rattle.savi_kinds.specs.declared.entry.Entry.{Entry}
 use Rattle.savi_kinds.specs.declared.entry.Act.{Act}
 use Rattle.savi_kinds.specs.declared.entry.Act.TheVariants.{Frame, Long, Tick, Command, Drain, End}
 use Rattle.hist_store.specs.Rows.{Row, held, IsPlaced}
-use Rattle.hist_store.specs.StoredRows.{at_of, kept_of, row_of, IsStore}
+use Rattle.hist_store.specs.StoredRows.{at_of, kept_of, entry_row, IsStore}
 
 -- the octets of a range are the same in a longer store
 range_kept : (s m : List ℕ) (at len : ℕ) → at + len ≤ length s → take len (drop at (s ++ m)) ≡ take len (drop at s)
@@ -42,20 +42,20 @@ within_placed s m (End who how) placed = omega arith
 abbrev IsWithin : List ℕ → Entry → Type 0
 IsWithin s entry = at_of entry.act + kept_of entry.act ≤ length s
 
-rows_kept : (s m : List ℕ) (es : List Entry) → All (IsWithin s) es → map (row_of (s ++ m)) es ≡ map (row_of s) es
+rows_kept : (s m : List ℕ) (es : List Entry) → All (IsWithin s) es → map (entry_row (s ++ m)) es ≡ map (entry_row s) es
 rows_kept s m [] within = refl
 rows_kept s m (e ∷ es) within =
-    let row_is : Row → List Row = λ row. row ∷ map (row_of (s ++ m)) es in
+    let row_is : Row → List Row = λ row. row ∷ map (entry_row (s ++ m)) es in
     let octets_are : List ℕ → Row = λ octets. record { entry = e; octets = octets } in
     ap (λ octets. row_is (octets_are octets)) (range_kept s m (at_of e.act) (kept_of e.act) (All-head (IsWithin s) e es within))
-    ∙ ap (λ rows. row_of s e ∷ rows) (rows_kept s m es (All-tail (IsWithin s) e es within))
+    ∙ ap (λ rows. entry_row s e ∷ rows) (rows_kept s m es (All-tail (IsWithin s) e es within))
 
 -- the rows with one more behind them
-pub rows_push : (s m : List ℕ) (es : List Entry) (e : Entry) → All (IsWithin s) es → IsPlaced e.act (length s) m → map (row_of (s ++ m)) (es ++ e ∷ []) ≡ map (row_of s) es ++ record { entry = e; octets = m } ∷ []
+pub rows_push : (s m : List ℕ) (es : List Entry) (e : Entry) → All (IsWithin s) es → IsPlaced e.act (length s) m → map (entry_row (s ++ m)) (es ++ e ∷ []) ≡ map (entry_row s) es ++ record { entry = e; octets = m } ∷ []
 rows_push s m es e within placed =
-    let octets_are : List ℕ → List Row = λ octets. map (row_of s) es ++ record { entry = e; octets = octets } ∷ [] in
-    map-append (row_of (s ++ m)) es (e ∷ [])
-    ∙ ap (λ rows. rows ++ row_of (s ++ m) e ∷ []) (rows_kept s m es within)
+    let octets_are : List ℕ → List Row = λ octets. map (entry_row s) es ++ record { entry = e; octets = octets } ∷ [] in
+    map-append (entry_row (s ++ m)) es (e ∷ [])
+    ∙ ap (λ rows. rows ++ entry_row (s ++ m) e ∷ []) (rows_kept s m es within)
     ∙ ap octets_are (octets_placed s m e.act placed)
 
 pub held-append : (xs ys : List Row) → held (xs ++ ys) ≡ held xs + held ys
@@ -71,7 +71,7 @@ within_more s m (e ∷ es) within =
 -- a store with one more row is a store
 pub IsStore-push : (s m : List ℕ) (es : List Entry) (e : Entry) → IsStore s es → IsPlaced e.act (length s) m → IsStore (s ++ m) (es ++ e ∷ [])
 IsStore-push s m es e store placed =
-    let size : held (map (row_of (s ++ m)) (es ++ e ∷ [])) ≡ held (map (row_of s) es) + (length m + 0) = ap held (rows_push s m es e store.within placed) ∙ held-append (map (row_of s) es) (record { entry = e; octets = m } ∷ []) in
+    let size : held (map (entry_row (s ++ m)) (es ++ e ∷ [])) ≡ held (map (entry_row s) es) + (length m + 0) = ap held (rows_push s m es e store.within placed) ∙ held-append (map (entry_row s) es) (record { entry = e; octets = m } ∷ []) in
     record {
       within = All-append (IsWithin (s ++ m)) es (e ∷ []) (within_more s m es store.within) (All-cons (IsWithin (s ++ m)) e [] (within_placed s m e.act placed) (All-nil (IsWithin (s ++ m))));
       size = omega (arith, size, store.size, length-append s m);
@@ -87,5 +87,5 @@ bytes_taken (suc n) (x ∷ xs) bytes zero = bytes 0
 bytes_taken (suc n) (x ∷ xs) bytes (suc i) = bytes_taken n xs (λ k. bytes (suc k)) i
 
 -- what a store of octets keeps of each row is octets
-pub rows_bytes : (s : List ℕ) (es : List Entry) → IsBytes s → All (λ row. IsBytes row.octets) (map (row_of s) es)
-rows_bytes s es bytes = All-map (λ (row : Row). IsBytes row.octets) (row_of s) es (λ k d within. let e = slice_index_or es k d in bytes_taken (kept_of e.act) (drop (at_of e.act) s) (bytes_dropped (at_of e.act) s bytes))
+pub rows_bytes : (s : List ℕ) (es : List Entry) → IsBytes s → All (λ row. IsBytes row.octets) (map (entry_row s) es)
+rows_bytes s es bytes = All-map (λ (row : Row). IsBytes row.octets) (entry_row s) es (λ k d within. let e = slice_index_or es k d in bytes_taken (kept_of e.act) (drop (at_of e.act) s) (bytes_dropped (at_of e.act) s bytes))

@@ -27,11 +27,11 @@ abbrev pub prefix_text_by : (ℕ → List ℕ) → Prefix → List ℕ
 prefix_text_by text_of prefix = text_of prefix.net.0 ++ codes "/" ++ decimal prefix.len
 
 -- the line of a port of this role and format
-abbrev pub port_line : Port → Role → Format → List (List ℕ)
-port_line port role format = codes "port" ∷ port_text port ∷ role_word role ∷ format_word format ∷ []
+abbrev pub journal_port_line : Port → Role → Format → List (List ℕ)
+journal_port_line port role format = codes "port" ∷ port_text port ∷ role_word role ∷ format_word format ∷ []
 
-abbrev pub port_fields : PortPlan → List (List ℕ)
-port_fields port = port_line port.number port.role port.format
+abbrev pub journal_port_fields : PortPlan → List (List ℕ)
+journal_port_fields port = journal_port_line port.number port.role port.format
 
 -- the line of a prefix whose addresses are validated by this method
 abbrev pub prefix_line : (ℕ → List ℕ) → Prefix → Method → List (List ℕ)
@@ -84,24 +84,24 @@ begin_line = codes "begin" ∷ []
 
 -- the settings, the ports and the prefixes, and `begin`
 abbrev pub header_lines : (ℕ → List ℕ) → Plan → List (List (List ℕ))
-header_lines text_of plan = word_lines plan ++ limit_lines plan ++ time_lines plan ++ map port_fields plan.ports ++ map (prefix_fields text_of) plan.prefixes ++ begin_line ∷ []
+header_lines text_of plan = word_lines plan ++ limit_lines plan ++ time_lines plan ++ map journal_port_fields plan.ports ++ map (prefix_fields text_of) plan.prefixes ++ begin_line ∷ []
 
 -- the lines of the entries, the first of which has this number
 abbrev pub entry_lines : ℕ → List Row → List (List (List ℕ))
 entry_lines n [] = []
 entry_lines n (row ∷ rows) = line_fields n row ∷ entry_lines (n + 1) rows
 
-abbrev pub end_line : ℕ → List (List ℕ)
-end_line count = setting (codes "end") count
+abbrev pub journal_end_line : ℕ → List (List ℕ)
+journal_end_line count = setting (codes "end") count
 
 -- The texts, each line with its line feed.
 
-abbrev pub header_text : (ℕ → List ℕ) → Plan → List ℕ
-header_text text_of plan = lines_text (header_lines text_of plan)
+abbrev pub journal_header_text : (ℕ → List ℕ) → Plan → List ℕ
+journal_header_text text_of plan = lines_text (header_lines text_of plan)
 
-abbrev pub end_text : ℕ → List ℕ
-end_text count = lines_text (end_line count ∷ [])
+abbrev pub journal_end_text : ℕ → List ℕ
+journal_end_text count = lines_text (journal_end_line count ∷ [])
 
 -- the journal of these rows, the oldest first
 abbrev pub journal_text : (ℕ → List ℕ) → Plan → List Row → List ℕ
-journal_text text_of plan rows = lines_text (header_lines text_of plan ++ entry_lines 0 rows ++ end_line (length rows) ∷ [])
+journal_text text_of plan rows = lines_text (header_lines text_of plan ++ entry_lines 0 rows ++ journal_end_line (length rows) ∷ [])

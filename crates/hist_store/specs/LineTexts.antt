@@ -7,7 +7,7 @@ use Rattle.savi_kinds.specs.declared.entry.Act.TheVariants.{Frame, Long, Tick, C
 use Rattle.savi_kinds.specs.PortSets.{no_ports}
 use Rattle.hist_store.specs.Rows.{Row}
 use Rattle.hist_store.specs.TextOfLines.{joined, or_dash}
-use Rattle.hist_store.specs.PortTexts.{port_text, ports_text}
+use Rattle.hist_store.specs.PortTexts.{port_text, members_text}
 use Rattle.hist_store.specs.VerdictTexts.{entry_verdict_text}
 use Rattle.hist_store.specs.EndTexts.{who_text, how_fields, IsReasonOf}
 
@@ -22,7 +22,7 @@ probe_fields entry = decimal entry.probes ∷ decimal entry.lost ∷ []
 -- the act's letter and its fields
 abbrev pub act_fields : Entry → List ℕ → Act → List (List ℕ)
 act_fields entry octets (Frame port stamp at len) =
-    codes "F" ∷ port_text port ∷ decimal stamp ∷ hex_text octets ∷ entry_verdict_text entry.verdict ∷ ports_text entry.outs ∷ ports_text entry.cuts ∷ probe_fields entry
+    codes "F" ∷ port_text port ∷ decimal stamp ∷ hex_text octets ∷ entry_verdict_text entry.verdict ∷ members_text entry.outs ∷ members_text entry.cuts ∷ probe_fields entry
 act_fields entry octets (Long port stamp len) =
     codes "L" ∷ port_text port ∷ decimal stamp ∷ decimal len ∷ entry_verdict_text entry.verdict ∷ probe_fields entry
 act_fields entry octets (Tick stamp) = codes "T" ∷ decimal stamp ∷ probe_fields entry

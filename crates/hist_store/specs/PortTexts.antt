@@ -20,8 +20,8 @@ abbrev pub members : PortSet → List ℕ
 members set = filter (is_member set) port_numbers
 
 -- the members with commas between, or `-` for none
-abbrev pub ports_text : PortSet → List ℕ
-ports_text set = or_dash (join_with_byte comma (map decimal (members set)))
+abbrev pub members_text : PortSet → List ℕ
+members_text set = or_dash (join_with_byte comma (map decimal (members set)))
 
 -- the members above a port
 abbrev pub members_above : ℕ → PortSet → List ℕ

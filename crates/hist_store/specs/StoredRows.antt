@@ -24,10 +24,10 @@ kept_of (Drain port count) = 0
 kept_of (End who how) = 0
 
 -- the row of an entry
-abbrev pub row_of : List ℕ → Entry → Row
-row_of store entry = record { entry = entry; octets = take (kept_of entry.act) (drop (at_of entry.act) store) }
+abbrev pub entry_row : List ℕ → Entry → Row
+entry_row store entry = record { entry = entry; octets = take (kept_of entry.act) (drop (at_of entry.act) store) }
 
 -- each entry's octets lie in the store, and together they fill it
 pub record IsStore (store : List ℕ) (entries : List Entry) : Type 0 where
   pub within : All (λ entry. at_of entry.act + kept_of entry.act ≤ length store) entries
-  pub size : held (map (row_of store) entries) ≡ length store
+  pub size : held (map (entry_row store) entries) ≡ length store

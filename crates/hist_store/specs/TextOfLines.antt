@@ -1,13 +1,7 @@
 -- A text of lines: the fields of a line are parted by one space each, and each line ends with a line feed.
 use Rattle.std.specs.Prelude.{ℕ, ◌≢◌, List, [], ◌∷◌, ◌++◌}
 use Rattle.std.specs.List.{join_with_byte}
-
--- ' '
-abbrev pub space : ℕ
-space = 32
-
-abbrev pub line_feed : ℕ
-line_feed = 10
+use Rattle.savi_kinds.specs.Characters.{space, line_feed}
 
 -- ','
 abbrev pub comma : ℕ

@@ -1,7 +1,8 @@
 ghost use Rattle.std.specs.Prelude.{◌≡◌, ◌+◌, ◌*◌, ◌≤◌, [], ◌∷◌, ◌++◌, length, map};
 ghost use Rattle.arrayvec.specs.ArrayVec.{array_vec_len};
-ghost use Rattle.hist_store.specs.TextOfLines.{lines_text, space};
-ghost use Rattle.hist_store.specs.JournalTexts.{address_text, end_text, header_text, limit_lines, port_fields, prefix_fields, prefix_text_by, setting, time_lines, word_lines};
+ghost use Rattle.savi_kinds.specs.Characters.{space};
+ghost use Rattle.hist_store.specs.TextOfLines.{lines_text};
+ghost use Rattle.hist_store.specs.JournalTexts.{address_text, journal_end_text, journal_header_text, limit_lines, journal_port_fields, prefix_fields, prefix_text_by, setting, time_lines, word_lines};
 
 use crate::pieces::{JournalLine, put_decimal, put_number, put_octets, put_word};
 use crate::port_fields::put_port_field;
@@ -14,7 +15,7 @@ use savi_kinds::{Addr, Plan, PortPlan, PrefixPlan, put_addr, put_mac, savi_word,
 pub fn put_header(plan: &Plan, into: &mut JournalLine)
     requires ports { length plan.now.ports ≤ 16 }
     requires prefixes { length plan.now.prefixes ≤ 32 }
-    ensures { into.new.items ≡ header_text address_text plan.now }
+    ensures { into.new.items ≡ journal_header_text address_text plan.now }
 {
     into.clear();
     put_word_lines(into, plan);
@@ -28,7 +29,7 @@ pub fn put_header(plan: &Plan, into: &mut JournalLine)
 /// Writes the journal's last line, in place of what the buffer held: how many entries there are. It has its
 /// line feed.
 pub fn put_end(count: u64, into: &mut JournalLine)
-    ensures { into.new.items ≡ end_text count }
+    ensures { into.new.items ≡ journal_end_text count }
 {
     into.clear();
     put_setting(into, "end", count);
@@ -73,7 +74,7 @@ fn put_time_lines(into: &mut JournalLine, plan: &Plan)
 // Appends a line for each port.
 fn put_port_lines(into: &mut JournalLine, ports: &[PortPlan])
     requires { array_vec_len into.old + 23 * length ports.now ≤ 3400 }
-    ensures text { into.new.items ≡ into.old.items ++ lines_text (map port_fields ports.now) }
+    ensures text { into.new.items ≡ into.old.items ++ lines_text (map journal_port_fields ports.now) }
     ensures size { array_vec_len into.new ≤ array_vec_len into.old + 23 * length ports.now }
 {
     for port in ports {
@@ -84,7 +85,7 @@ fn put_port_lines(into: &mut JournalLine, ports: &[PortPlan])
 // Appends the line of a port.
 fn put_port_line(into: &mut JournalLine, port: &PortPlan)
     requires { array_vec_len into.old + 23 ≤ 3400 }
-    ensures text { into.new.items ≡ into.old.items ++ lines_text (port_fields port.now ∷ []) }
+    ensures text { into.new.items ≡ into.old.items ++ lines_text (journal_port_fields port.now ∷ []) }
     ensures size { array_vec_len into.new ≤ array_vec_len into.old + 23 }
 {
     put_octets(into, b"port");

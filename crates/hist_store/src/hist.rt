@@ -20,11 +20,11 @@ pub struct Hist {
 impl Model for Hist {
     ghost use Rattle.std.specs.Prelude.{◌≤◌, map, vec_capacity};
     ghost use Rattle.hist_store.specs.Rows.{History};
-    ghost use Rattle.hist_store.specs.StoredRows.{row_of, IsStore};
+    ghost use Rattle.hist_store.specs.StoredRows.{entry_row, IsStore};
 
     ghost Value = { History };
 
-    ghost view = { λ h. record { rows = map (row_of h.octets.items) h.entries.items; entry_room = h.entry_room; byte_room = h.byte_room } };
+    ghost view = { λ h. record { rows = map (entry_row h.octets.items) h.entries.items; entry_room = h.entry_room; byte_room = h.byte_room } };
 
     ghost invariant = { λ h. IsStore h.octets.items h.entries.items × (h.entry_room ≤ vec_capacity h.entries) × (h.byte_room ≤ vec_capacity h.octets) };
 }

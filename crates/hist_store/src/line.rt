@@ -1,5 +1,6 @@
-ghost use Rattle.std.specs.Prelude.{◌≡◌, ◌+◌, ◌≤◌, ◌++◌};
+ghost use Rattle.std.specs.Prelude.{◌≡◌, ◌+◌, ◌≤◌, ◌++◌, length};
 ghost use Rattle.arrayvec.specs.ArrayVec.{array_vec_len};
+ghost use Rattle.savi_kinds.specs.declared.entry.Act.TheVariants.{Frame};
 ghost use Rattle.hist_store.specs.TextOfLines.{spaced};
 ghost use Rattle.hist_store.specs.LineTexts.{FitsAct, FitsLine, act_fields, line_text, probe_fields};
 
@@ -7,7 +8,7 @@ use crate::end_fields::{put_how, put_who};
 use crate::pieces::{JournalLine, put_decimal, put_hex, put_number, put_word};
 use crate::port_fields::{put_port_field, put_ports};
 use crate::verdict_fields::put_entry_verdict;
-use savi_kinds::{Act, Entry};
+use savi_kinds::{Act, Entry, Port};
 
 /// Writes the journal's line of the entry with this number, in place of what the buffer held. The line is
 /// without its line feed.
@@ -33,16 +34,7 @@ fn put_act(into: &mut JournalLine, e: &Entry, octets: &[u8])
     ensures { into.new.items ≡ into.old.items ++ spaced (act_fields e.now octets.now e.now.act) }
 {
     match e.act {
-        Act::Frame { port, stamp, .. } => {
-            put_word(into, "F");
-            put_port_field(into, port);
-            put_number(into, stamp);
-            put_hex(into, octets);
-            put_entry_verdict(into, e.verdict);
-            put_ports(into, e.outs);
-            put_ports(into, e.cuts);
-            put_probes(into, e);
-        }
+        Act::Frame { port, stamp, .. } => put_frame(into, e, port, stamp, octets),
         Act::Long { port, stamp, len } => {
             put_word(into, "L");
             put_port_field(into, port);
@@ -73,6 +65,22 @@ fn put_act(into: &mut JournalLine, e: &Entry, octets: &[u8])
             put_how(into, how);
         }
     }
+}
+
+// Appends the fields of a frame, each with a space in front. Neither the place of its octets nor their count is a field.
+fn put_frame(into: &mut JournalLine, e: &Entry, port: Port, stamp: u64, octets: &[u8])
+    requires room { array_vec_len into.old + 3300 ≤ 3400 }
+    requires short { length octets.now ≤ 1518 }
+    ensures { into.new.items ≡ into.old.items ++ spaced (act_fields e.now octets.now (Frame port stamp 0 0)) }
+{
+    put_word(into, "F");
+    put_port_field(into, port);
+    put_number(into, stamp);
+    put_hex(into, octets);
+    put_entry_verdict(into, e.verdict);
+    put_ports(into, e.outs);
+    put_ports(into, e.cuts);
+    put_probes(into, e);
 }
 
 // Appends how many probes were queued and how many left out, each with a space in front.

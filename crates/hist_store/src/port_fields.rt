@@ -1,9 +1,10 @@
 ghost use Rattle.std.specs.Prelude.{◌≡◌, ◌+◌, ◌≤◌, ◌∷◌, ◌++◌, if◌then◌else◌, is_some, IfSome};
 ghost use Rattle.arrayvec.specs.ArrayVec.{array_vec_len};
-ghost use Rattle.hist_store.specs.TextOfLines.{comma, space};
+ghost use Rattle.savi_kinds.specs.Characters.{space};
+ghost use Rattle.hist_store.specs.TextOfLines.{comma};
 ghost use Rattle.savi_kinds.specs.Ports.{number_of};
 ghost use Rattle.savi_kinds.specs.PortSets.{is_member};
-ghost use Rattle.hist_store.specs.PortTexts.{port_text, ports_text};
+ghost use Rattle.hist_store.specs.PortTexts.{port_text, members_text};
 
 use crate::pieces::{JournalLine, put_decimal};
 use savi_kinds::{PORTS_MOST, Port, PortSet};
@@ -31,7 +32,7 @@ pub fn put_port(into: &mut JournalLine, port: Port)
 // is 49, as if each of the 16 members had a comma and two digits.
 pub fn put_ports(into: &mut JournalLine, set: PortSet)
     requires { array_vec_len into.old + 49 ≤ 3400 }
-    ensures text { into.new.items ≡ into.old.items ++ space ∷ ports_text set }
+    ensures text { into.new.items ≡ into.old.items ++ space ∷ members_text set }
     ensures size { array_vec_len into.new ≤ array_vec_len into.old + 49 }
 {
     into.push(b' ');

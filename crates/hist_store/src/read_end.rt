@@ -1,7 +1,8 @@
 ghost use Rattle.std.specs.Prelude.{◌≡◌, ◌↔◌, ◌^◌, ◌<◌, [], ◌∷◌, ◌++◌, ℕ, List, Option, Some, IsTrue, IfSome, IsSomeAnd, decimal};
 ghost use Rattle.savi_kinds.specs.declared.entry.Who.{Who};
 ghost use Rattle.savi_kinds.specs.declared.entry.How.{How};
-ghost use Rattle.hist_store.specs.TextOfLines.{space, spaced};
+ghost use Rattle.savi_kinds.specs.Characters.{space};
+ghost use Rattle.hist_store.specs.TextOfLines.{spaced};
 ghost use Rattle.hist_store.specs.EndTexts.{who_text, how_fields, IsReasonOf};
 ghost use Rattle.hist_store.specs.EntryLines.{IsHowInRange};
 

@@ -1,7 +1,8 @@
 ghost use Rattle.std.specs.Prelude.{IsTrue, ◌↔◌, ◌≡◌, ◌==◌, ◌^◌, ◌<◌, ◌≤◌, ◌∷◌, ◌++◌, ℕ, List, Option, Some, IfSome, IsSomeAnd, decimal, length};
 ghost use Rattle.std.specs.List.{position, position_or_len};
 ghost use Rattle.savi_kinds.specs.declared.port.Port.{Port};
-ghost use Rattle.hist_store.specs.TextOfLines.{space, spaced, HasNoSpace};
+ghost use Rattle.savi_kinds.specs.Characters.{space};
+ghost use Rattle.hist_store.specs.TextOfLines.{spaced, HasNoSpace};
 ghost use Rattle.hist_store.specs.PortTexts.{port_text};
 
 use savi_kinds::{PORTS_MOST, Port, read_decimal};

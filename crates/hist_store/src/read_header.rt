@@ -14,7 +14,7 @@ ghost use Rattle.savi_kinds.specs.MacText.{HasSixOctets};
 ghost use Rattle.savi_kinds.specs.Prefixes.{IsPrefix, first_of};
 ghost use Rattle.savi_kinds.specs.PlanWords.{role_word, method_word, format_word};
 ghost use Rattle.hist_store.specs.TextOfLines.{joined};
-ghost use Rattle.hist_store.specs.JournalTexts.{address_text, prefix_text_by, version_line, mac_line, savi_line, unknown_line, setting, port_line, prefix_line, begin_line, end_line};
+ghost use Rattle.hist_store.specs.JournalTexts.{address_text, prefix_text_by, version_line, mac_line, savi_line, unknown_line, setting, journal_port_line, prefix_line, begin_line, journal_end_line};
 ghost use Rattle.hist_store.specs.HeaderLines.{IsNextPort, IsNextPrefix};
 
 use crate::read_fields::{behind, is_word, read_number, take_field, take_port};
@@ -84,9 +84,9 @@ pub fn read_setting(line: &[u8], name: &str) -> Option<u64>
 /// Reads the line of a port behind that of the port before it, if there was one. `None` exactly where the line isn't one,
 /// or the port doesn't come behind. O(1).
 pub fn read_port_line(line: &[u8], last: Option<Port>) -> Option<(Port, Role, Format)>
-    ensures read { IfSome result (λ r. (line.now ≡ joined (port_line r.0 r.1 r.2)) × IsNextPort last r.0) }
+    ensures read { IfSome result (λ r. (line.now ≡ joined (journal_port_line r.0 r.1 r.2)) × IsNextPort last r.0) }
     ensures whole { (port : Port) (role : Role) (format : Format) → IsNextPort last port
-        → line.now ≡ joined (port_line port role format)
+        → line.now ≡ joined (journal_port_line port role format)
         → IsSomeAnd result (λ r. (r.0 ≡ port) × (r.1 ≡ role) × (r.2 ≡ format)) }
 {
     let (port, rest) = take_port(behind(line, "port")?)?;

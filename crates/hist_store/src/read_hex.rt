@@ -3,7 +3,8 @@ ghost use Rattle.std.specs.Bool.{OnTrue};
 ghost use Rattle.arrayvec.specs.ArrayVec.{array_vec_len};
 ghost use Rattle.hex.specs.Hex.{IsBytes, encode_lower};
 ghost use Rattle.savi_kinds.specs.MacText.{hex_digit};
-ghost use Rattle.hist_store.specs.TextOfLines.{space, spaced};
+ghost use Rattle.savi_kinds.specs.Characters.{space};
+ghost use Rattle.hist_store.specs.TextOfLines.{spaced};
 ghost use Rattle.hist_store.specs.LineTexts.{hex_text};
 
 use crate::read_fields::take_field;

@@ -2,17 +2,18 @@ ghost use Rattle.std.specs.Prelude.{◌≡◌, ◌==◌, ◌^◌, ◌<◌, ◌�
 ghost use Rattle.savi_kinds.specs.declared.port.PortSet.{PortSet};
 ghost use Rattle.std.specs.List.{position_or_len};
 ghost use Rattle.savi_kinds.specs.PortSets.{is_member};
-ghost use Rattle.hist_store.specs.TextOfLines.{comma, space, spaced};
-ghost use Rattle.hist_store.specs.PortTexts.{ports_text, GoesOn};
+ghost use Rattle.savi_kinds.specs.Characters.{space};
+ghost use Rattle.hist_store.specs.TextOfLines.{comma, spaced};
+ghost use Rattle.hist_store.specs.PortTexts.{members_text, GoesOn};
 
 use crate::read_fields::{behind, end_at, is_word, read_port, take_field};
 use savi_kinds::PortSet;
 
 // A set of ports as the first field.
 pub fn take_ports(text: &[u8]) -> Option<(PortSet, &[u8])>
-    ensures read { IfSome result (λ r. (text.now ≡ space ∷ ports_text r.0 ++ r.1.now) × (r.0.0 < 2 ^ 16)) }
+    ensures read { IfSome result (λ r. (text.now ≡ space ∷ members_text r.0 ++ r.1.now) × (r.0.0 < 2 ^ 16)) }
     ensures whole { (set : PortSet) (fields : List (List ℕ)) → set.0 < 2 ^ 16
-        → text.now ≡ spaced (ports_text set ∷ fields)
+        → text.now ≡ spaced (members_text set ∷ fields)
         → IsSomeAnd result (λ r. (r.0 ≡ set) × (r.1.now ≡ spaced fields)) }
 {
     let (field, rest) = take_field(text)?;
@@ -21,8 +22,8 @@ pub fn take_ports(text: &[u8]) -> Option<(PortSet, &[u8])>
 
 // A set of ports: its members in rising order, or `-` for none.
 fn read_ports(field: &[u8]) -> Option<PortSet>
-    ensures read { IfSome result (λ set. (field.now ≡ ports_text set) × (set.0 < 2 ^ 16)) }
-    ensures whole { (set : PortSet) → set.0 < 2 ^ 16 → field.now ≡ ports_text set → result ≡ Some set }
+    ensures read { IfSome result (λ set. (field.now ≡ members_text set) × (set.0 < 2 ^ 16)) }
+    ensures whole { (set : PortSet) → set.0 < 2 ^ 16 → field.now ≡ members_text set → result ≡ Some set }
 {
     if is_word(field, "-") {
         return Some(PortSet::empty());

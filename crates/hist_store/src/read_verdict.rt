@@ -2,7 +2,8 @@ ghost use Rattle.std.specs.Prelude.{◌≡◌, ◌∷◌, ◌++◌, ℕ, List, O
 ghost use Rattle.savi_kinds.specs.declared.verdict.Rule.{Rule};
 ghost use Rattle.savi_kinds.specs.declared.verdict.Scope.{Scope};
 ghost use Rattle.savi_kinds.specs.declared.verdict.Verdict.{Verdict};
-ghost use Rattle.hist_store.specs.TextOfLines.{space, spaced};
+ghost use Rattle.savi_kinds.specs.Characters.{space};
+ghost use Rattle.hist_store.specs.TextOfLines.{spaced};
 ghost use Rattle.hist_store.specs.VerdictTexts.{rule_name, scope_text, verdict_text};
 
 use crate::read_fields::{behind, is_word, read_port, take_field};

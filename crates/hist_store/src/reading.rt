@@ -1,9 +1,10 @@
 ghost use Rattle.std.specs.Prelude.{◌≡◌, ◌^◌, ◌<◌, ◌∷◌, ◌++◌, ℕ, List, [], IsSomeAnd, Option, Some, None, IfSome, IfNone, decimal};
 ghost use Rattle.savi_kinds.specs.declared.port.Port.{Port};
 ghost use Rattle.savi_kinds.specs.declared.port.PortSet.{PortSet};
+ghost use Rattle.savi_kinds.specs.Characters.{space};
 ghost use Rattle.hist_store.specs.Rows.{Row};
-ghost use Rattle.hist_store.specs.TextOfLines.{space, spaced};
-ghost use Rattle.hist_store.specs.PortTexts.{port_text, ports_text};
+ghost use Rattle.hist_store.specs.TextOfLines.{spaced};
+ghost use Rattle.hist_store.specs.PortTexts.{port_text, members_text};
 ghost use Rattle.hist_store.specs.EntryLines.{SaysEntry, SaysAct, entry_without_outs};
 
 use crate::read_end::{is_reason_of, read_how, take_who};
@@ -188,9 +189,9 @@ fn take_input(text: &[u8]) -> Option<(Port, u64, &[u8])>
 
 // The ports to which a frame was queued or would have been, and those with a full queue, as the first fields.
 fn take_outs(text: &[u8]) -> Option<(PortSet, PortSet, &[u8])>
-    ensures read { IfSome result (λ r. (text.now ≡ space ∷ ports_text r.0 ++ space ∷ ports_text r.1 ++ r.2.now) × (r.0.0 < 2 ^ 16) × (r.1.0 < 2 ^ 16)) }
+    ensures read { IfSome result (λ r. (text.now ≡ space ∷ members_text r.0 ++ space ∷ members_text r.1 ++ r.2.now) × (r.0.0 < 2 ^ 16) × (r.1.0 < 2 ^ 16)) }
     ensures whole { (outs cuts : PortSet) (fields : List (List ℕ)) → outs.0 < 2 ^ 16 → cuts.0 < 2 ^ 16
-        → text.now ≡ spaced (ports_text outs ∷ ports_text cuts ∷ fields)
+        → text.now ≡ spaced (members_text outs ∷ members_text cuts ∷ fields)
         → IsSomeAnd result (λ r. (r.0 ≡ outs) × (r.1 ≡ cuts) × (r.2.now ≡ spaced fields)) }
 {
     let (outs, rest) = take_ports(text)?;

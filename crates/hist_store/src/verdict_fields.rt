@@ -1,6 +1,6 @@
 ghost use Rattle.std.specs.Prelude.{◌≡◌, ◌+◌, ◌≤◌, ◌∷◌, ◌++◌, length};
 ghost use Rattle.arrayvec.specs.ArrayVec.{array_vec_len};
-ghost use Rattle.hist_store.specs.TextOfLines.{space};
+ghost use Rattle.savi_kinds.specs.Characters.{space};
 ghost use Rattle.hist_store.specs.VerdictTexts.{rule_name, scope_text, verdict_text, entry_verdict_text};
 
 use crate::pieces::{JournalLine, put_octets};

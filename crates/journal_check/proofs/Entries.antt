@@ -7,7 +7,7 @@ use Rattle.hist_store.specs.Rows.{Row}
 use Rattle.hist_store.specs.TextOfLines.{joined}
 use Rattle.hist_store.specs.LineTexts.{line_text}
 use Rattle.hist_store.specs.EntryLines.{SaysEntry, row_said}
-use Rattle.hist_store.specs.JournalTexts.{end_line, end_text}
+use Rattle.hist_store.specs.JournalTexts.{journal_end_line, journal_end_text}
 use Rattle.hist_store.proofs.Words.{Avoids, parted}
 use Rattle.savi_ends.specs.Octets.{in_front}
 use Rattle.savi_ends.proofs.Octets.{in_front_again}
@@ -38,12 +38,12 @@ pub plain_avoids : (t : List ℕ) → Avoids 10 t → HasNoFeed t
 plain_avoids [] avoids = tt
 plain_avoids (x ∷ t) avoids = (avoids.0, plain_avoids t avoids.1)
 
-end_avoids : (n : ℕ) → Avoids 10 (joined (end_line n))
-end_avoids n = let is = lines_end n in line_avoids (end_line n) is.0
+end_avoids : (n : ℕ) → Avoids 10 (joined (journal_end_line n))
+end_avoids n = let is = lines_end n in line_avoids (journal_end_line n) is.0
 
 -- the last line with its line feed, in front of more
-end_opened : (n : ℕ) (more : List ℕ) → end_text n ++ more ≡ joined (end_line n) ++ 10 ∷ more
-end_opened n more = append_assoc (joined (end_line n)) (10 ∷ []) more
+end_opened : (n : ℕ) (more : List ℕ) → journal_end_text n ++ more ≡ joined (journal_end_line n) ++ 10 ∷ more
+end_opened n more = append_assoc (joined (journal_end_line n)) (10 ∷ []) more
 
 fed_opened : (line rest : List ℕ) → line ++ 10 ∷ [] ++ rest ≡ line ++ 10 ∷ rest
 fed_opened line rest = append_assoc line (10 ∷ []) rest
@@ -112,7 +112,7 @@ no_line plan past line rest plain nothing = record {
       let parts = parted 10 line other rest more (avoids_plain line plain) (says_avoids other (length past) row says) e in
       nothing.entry row (subst (λ (l : List ℕ). SaysEntry l (length past) row) (sym parts.0) says);
   last = λ more finished e.
-      let parts = parted 10 line (joined (end_line (length past))) rest more (avoids_plain line plain) (end_avoids (length past)) (e ∙ end_opened (length past) more) in
+      let parts = parted 10 line (joined (journal_end_line (length past))) rest more (avoids_plain line plain) (end_avoids (length past)) (e ∙ end_opened (length past) more) in
       nothing.last finished parts.0;
 }
 
@@ -124,7 +124,7 @@ judged_bad plan past line before after taken plain nothing =
 broken_at : (plan : Plan) (past : List Row) (rest : List ℕ) → length past < 2 ^ 64 → BeginsWithNoLine rest → HasNoLine plan past rest
 broken_at plan past rest few none = record {
   entry = λ line row more says e. none line more (plain_avoids line (says_avoids line (length past) row says)) (line_short line (length past) row says) e;
-  last = λ more finished e. none (joined (end_line (length past))) more (plain_avoids (joined (end_line (length past))) (end_avoids (length past))) (end_short (length past) few) (e ∙ end_opened (length past) more);
+  last = λ more finished e. none (joined (journal_end_line (length past))) more (plain_avoids (joined (journal_end_line (length past))) (end_avoids (length past))) (end_short (length past) few) (e ∙ end_opened (length past) more);
 }
 
 pub judged_broken : (plan : Plan) (past : List Row) (before : Option (List ℕ)) → length past < 2 ^ 64 → IfSome before BeginsWithNoLine → IfSome before (λ rest. Judges plan past rest (BadLine (next_line plan past)))
@@ -133,11 +133,11 @@ judged_broken plan past (Some rest) few none = inl (refl, broken_at plan past re
 
 -- behind the last line
 
-last_good : (plan : Plan) (past : List Row) (line rest : List ℕ) (entries : ℕ) → entries ≡ length past → IsFinished plan empty past → line ≡ joined (end_line (length past)) → rest ≡ []
+last_good : (plan : Plan) (past : List Row) (line rest : List ℕ) (entries : ℕ) → entries ≡ length past → IsFinished plan empty past → line ≡ joined (journal_end_line (length past)) → rest ≡ []
     → Judges plan past (line ++ 10 ∷ rest) (Good entries)
-last_good plan past line rest entries count finished is nothing = (count, finished, ap (λ (l : List ℕ). l ++ 10 ∷ rest) is ∙ ap (λ (t : List ℕ). joined (end_line (length past)) ++ 10 ∷ t) nothing)
+last_good plan past line rest entries count finished is nothing = (count, finished, ap (λ (l : List ℕ). l ++ 10 ∷ rest) is ∙ ap (λ (t : List ℕ). joined (journal_end_line (length past)) ++ 10 ∷ t) nothing)
 
-last_more : (plan : Plan) (past : List Row) (line rest : List ℕ) (n : ℕ) → n ≡ next_line plan past + 1 → IsFinished plan empty past → line ≡ joined (end_line (length past)) → rest ≢ []
+last_more : (plan : Plan) (past : List Row) (line rest : List ℕ) (n : ℕ) → n ≡ next_line plan past + 1 → IsFinished plan empty past → line ≡ joined (journal_end_line (length past)) → rest ≢ []
     → Judges plan past (line ++ 10 ∷ rest) (BadLine n)
 last_more plan past line [] n number finished is some = absurd (some refl)
 last_more plan past line (octet ∷ more) n number finished is some =
@@ -148,7 +148,7 @@ told_some P o rest is some = subst (λ (p : Option (List ℕ)). IfSome p P) is s
 
 -- the answer where the last line may stand
 pub judged_last : (plan : Plan) (past : List Row) (line : List ℕ) (before after : Option (List ℕ)) (a : Checked) → before ≡ in_front (line ++ 10 ∷ []) after → IsFinished plan empty past
-    → line ≡ joined (end_line (length past)) → Ends plan past after a → IfRead a (IfSome before (λ rest. Judges plan past rest a))
+    → line ≡ joined (journal_end_line (length past)) → Ends plan past after a → IfRead a (IfSome before (λ rest. Judges plan past rest a))
 judged_last plan past line before after (Good entries) taken finished is ends =
     begun plan past line before after (Good entries) taken
     (λ rest told. last_good plan past line rest entries ends.0 finished is (told_some (λ (r : List ℕ). r ≡ []) after rest told ends.1))

@@ -5,7 +5,7 @@ use Rattle.savi_kinds.specs.declared.plan.Plan.{Plan}
 use Rattle.hist_store.specs.Rows.{Row}
 use Rattle.hist_store.specs.TextOfLines.{lines_text}
 use Rattle.hist_store.specs.LineTexts.{line_fields, line_text}
-use Rattle.hist_store.specs.JournalTexts.{address_text, entry_lines, end_line, end_text, journal_text}
+use Rattle.hist_store.specs.JournalTexts.{address_text, entry_lines, journal_end_line, journal_end_text, journal_text}
 use Rattle.hist_store.proofs.LineLemmas.{lines_text-append}
 use Rattle.journal_check.specs.declared.answer.Checked.TheVariants.{Good, BadLine}
 use Rattle.journal_check.specs.Headers.{Line}
@@ -35,11 +35,11 @@ past_lines plan (row ∷ past) =
     append_assoc (past_text plan past) (line_text n row) (10 ∷ []) ∙ ap (λ (t : List ℕ). t ++ lines_text (line_fields n row ∷ [])) (past_lines plan past) ∙ sym lines
 
 -- the journal is the text of the past and the last line
-journal_lines : (plan : Plan) (past : List Row) → journal_text address_text plan (reverse past) ≡ past_text plan past ++ end_text (length past)
+journal_lines : (plan : Plan) (past : List Row) → journal_text address_text plan (reverse past) ≡ past_text plan past ++ journal_end_text (length past)
 journal_lines plan past =
     let count = length (reverse past) in
-    lines_text-append (header plan ++ entry_lines 0 (reverse past)) (end_line count ∷ []) ∙ ap (λ (t : List ℕ). t ++ end_text count) (sym (past_lines plan past))
-    ∙ ap (λ (k : ℕ). past_text plan past ++ end_text k) (length-reverse past)
+    lines_text-append (header plan ++ entry_lines 0 (reverse past)) (journal_end_line count ∷ []) ∙ ap (λ (t : List ℕ). t ++ journal_end_text count) (sym (past_lines plan past))
+    ∙ ap (λ (k : ℕ). past_text plan past ++ journal_end_text k) (length-reverse past)
 
 good_behind : (octets : List ℕ) (entries : ℕ) → IsAnswerBehind octets (Good entries) → IsFinishedJournal octets entries
 good_behind octets entries x = record {
@@ -68,7 +68,7 @@ pub journal_is_good : JournalIsGood
 journal_is_good octets entries x = inr (record {
   plan = x.plan;
   past = x.past;
-  rest = end_text (length x.past);
+  rest = journal_end_text (length x.past);
   begins = record { plan_is = x.plan_is; legal = x.journal.legal; bytes = x.journal.octets; text = x.journal.journal ∙ journal_lines x.plan x.past };
   judges = (x.count, x.finished, refl);
 })

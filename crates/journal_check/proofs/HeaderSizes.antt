@@ -21,7 +21,7 @@ use Rattle.savi_kinds.specs.ValidPlan.{IsPlanPrefix, nets_of}
 use Rattle.savi_kinds.proofs.AddrWritten.{most_len}
 use Rattle.hist_store.specs.TextOfLines.{joined}
 use Rattle.hist_store.specs.PortTexts.{port_text}
-use Rattle.hist_store.specs.JournalTexts.{address_text, prefix_text_by, port_fields, prefix_fields, setting, word_lines, limit_lines, time_lines, begin_line, header_lines}
+use Rattle.hist_store.specs.JournalTexts.{address_text, prefix_text_by, journal_port_fields, prefix_fields, setting, word_lines, limit_lines, time_lines, begin_line, header_lines}
 use Rattle.journal_check.specs.Headers.{Line, IsPlan, ComesNext}
 
 abbrev AreShort : List Line → Type 0
@@ -103,7 +103,7 @@ prefix_short prefix low =
 
 -- the parts of a header
 
-ports_short : (ports : List PortPlan) → AreShort (map port_fields ports)
+ports_short : (ports : List PortPlan) → AreShort (map journal_port_fields ports)
 ports_short [] = tt
 ports_short (p ∷ ports) =
     let high : number_of p.number ≤ 16 = p.number.high in (
@@ -157,9 +157,9 @@ header_short plan is =
     let begin : AreShort (begin_line ∷ []) = (lit≤ tt, tt) in
     let two = short_append (word_lines plan) (limit_lines plan) (words_short plan is.mac) limits in
     let three = short_append (word_lines plan ++ limit_lines plan) (time_lines plan) two times in
-    let four = short_append (word_lines plan ++ limit_lines plan ++ time_lines plan) (map port_fields plan.ports) three (ports_short plan.ports) in
-    let five = short_append (word_lines plan ++ limit_lines plan ++ time_lines plan ++ map port_fields plan.ports) (map (prefix_fields address_text) plan.prefixes) four (prefixes_short plan.prefixes valid.plan_prefixes) in
-    short_append (word_lines plan ++ limit_lines plan ++ time_lines plan ++ map port_fields plan.ports ++ map (prefix_fields address_text) plan.prefixes) (begin_line ∷ []) five begin
+    let four = short_append (word_lines plan ++ limit_lines plan ++ time_lines plan) (map journal_port_fields plan.ports) three (ports_short plan.ports) in
+    let five = short_append (word_lines plan ++ limit_lines plan ++ time_lines plan ++ map journal_port_fields plan.ports) (map (prefix_fields address_text) plan.prefixes) four (prefixes_short plan.prefixes valid.plan_prefixes) in
+    short_append (word_lines plan ++ limit_lines plan ++ time_lines plan ++ map journal_port_fields plan.ports ++ map (prefix_fields address_text) plan.prefixes) (begin_line ∷ []) five begin
 
 -- no line that comes next in a header is longer
 pub next_short : (lines : List Line) (next : Line) → ComesNext lines next → length (joined next) ≤ 3400

@@ -10,7 +10,7 @@ use Rattle.savi_kinds.specs.declared.address.Prefix.{Prefix}
 use Rattle.savi_kinds.specs.Prefixes.{first_of}
 use Rattle.savi_kinds.specs.ValidPlan.{IsPlanPrefix}
 use Rattle.hist_store.specs.TextOfLines.{joined, lines_text}
-use Rattle.hist_store.specs.JournalTexts.{address_text, port_fields, prefix_fields, begin_line, header_lines, header_text}
+use Rattle.hist_store.specs.JournalTexts.{address_text, journal_port_fields, prefix_fields, begin_line, header_lines, journal_header_text}
 use Rattle.hist_store.proofs.LineLemmas.{lines_text-append}
 use Rattle.hist_store.proofs.OnePort.{the_port}
 use Rattle.hist_store.proofs.Words.{IsLine, IsLines, parted}
@@ -95,7 +95,7 @@ settings_valid s a = plan_is s (the_first ∷ []) [] a first_listed (lit< tt)
 
 -- the line of the first port, and `begin`
 abbrev last_lines : List Line
-last_lines = port_fields the_first ∷ begin_line ∷ []
+last_lines = journal_port_fields the_first ∷ begin_line ∷ []
 
 settings_header : (s : Settings) → header_lines address_text (plan_by s (the_first ∷ []) []) ≡ setting_lines s ++ last_lines
 settings_header s = refl
@@ -171,7 +171,7 @@ front s ports prefixes = setting_lines s ++ list_lines ports prefixes
 -- some line comes next behind them
 list_comes : (s : Settings) (ports : List PortPlan) (prefixes : List PrefixPlan) → AreSettings s → AreLists ports prefixes → (next : Line) × ComesNext (front s ports prefixes) next
 list_comes s [] [] a l = (
-  port_fields the_first,
+  journal_port_fields the_first,
   record { plan = plan_by s (the_first ∷ []) []; is_plan = settings_valid s a; more = begin_line ∷ []; header = refl },
 )
 list_comes s [] (x ∷ prefixes) a l = let none = l.behind_port (omega arith) in absurd (omega (arith, none))
@@ -182,8 +182,8 @@ list_comes s (p ∷ ports) prefixes a l = (
 
 front_size : (s : Settings) (ports : List PortPlan) (prefixes : List PrefixPlan) → length (front s ports prefixes) ≡ length ports + length prefixes + 11
 front_size s ports prefixes =
-    let parts = length-append (map port_fields ports) (map (prefix_fields address_text) prefixes) in
-    let first = length-map ports port_fields in
+    let parts = length-append (map journal_port_fields ports) (map (prefix_fields address_text) prefixes) in
+    let first = length-map ports journal_port_fields in
     let second = length-map prefixes (prefix_fields address_text) in
     omega (arith, parts, first, second)
 
@@ -227,7 +227,7 @@ list_more line ports prefixes ports' prefixes' whole mid after told taken listed
 
 -- the whole header was taken
 pub told_header : (s : Settings) (ports : List PortPlan) (prefixes : List PrefixPlan) (whole mid after : Option (List ℕ)) → whole ≡ in_front (lines_text (setting_lines s)) mid
-    → mid ≡ in_front (lines_text (list_lines ports prefixes ++ begin_line ∷ [])) after → whole ≡ in_front (header_text address_text (plan_by s ports prefixes)) after
+    → mid ≡ in_front (lines_text (list_lines ports prefixes ++ begin_line ∷ [])) after → whole ≡ in_front (journal_header_text address_text (plan_by s ports prefixes)) after
 told_header s ports prefixes whole mid after first second =
     let lists = list_lines ports prefixes ++ begin_line ∷ [] in
     first ∙ ap (in_front (lines_text (setting_lines s))) second ∙ in_front_again (lines_text (setting_lines s)) (lines_text lists) after

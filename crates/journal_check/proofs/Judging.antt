@@ -7,7 +7,7 @@ use Rattle.savi_kinds.specs.declared.entry.Act.TheVariants as acts
 use Rattle.hist_store.specs.Rows.{Row}
 use Rattle.hist_store.specs.LineTexts.{FitsAct, FitsLine, line_fields}
 use Rattle.hist_store.specs.EntryLines.{IsActInRange, SaysEntry, act_said, entry_said, row_said}
-use Rattle.hist_store.specs.JournalTexts.{end_text}
+use Rattle.hist_store.specs.JournalTexts.{journal_end_text}
 use Rattle.hist_store.proofs.EntryRead.{entry_same}
 use Rattle.hist_store.proofs.OneEntry.{one_entry}
 use Rattle.savi_history.specs.Bases.{Base, empty}
@@ -26,7 +26,7 @@ use Rattle.journal_check.proofs.OneAnswer.{entry_not_last}
 pub other_number : (plan : Plan) (past : List Row) (line : List ℕ) (n : ℕ) (row : Row) → SaysEntry line n row → n ≢ length past → SaysNothing plan past line
 other_number plan past line n row says other = record {
   entry = λ row' says'. other (one_entry line n (length past) row row' says says').0;
-  last = λ finished e. entry_not_last line n (length past) row [] [] says (ap (λ (l : List ℕ). l ++ 10 ∷ []) e ∙ sym (append-nil (end_text (length past))));
+  last = λ finished e. entry_not_last line n (length past) row [] [] says (ap (λ (l : List ℕ). l ++ 10 ∷ []) e ∙ sym (append-nil (journal_end_text (length past))));
 }
 
 -- the row of an event, as its line says it

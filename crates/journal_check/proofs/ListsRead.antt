@@ -16,7 +16,7 @@ use Rattle.savi_kinds.specs.Ports.{number_of}
 use Rattle.savi_kinds.specs.Prefixes.{first_of, past_of}
 use Rattle.savi_kinds.specs.ValidPlan.{IsPlanPrefix, nets_of, numbers_of}
 use Rattle.hist_store.specs.TextOfLines.{joined}
-use Rattle.hist_store.specs.JournalTexts.{address_text, port_fields, port_line, prefix_fields, prefix_line}
+use Rattle.hist_store.specs.JournalTexts.{address_text, journal_port_fields, journal_port_line, prefix_fields, prefix_line}
 use Rattle.savi_history.specs.Journals.{IsAddress, without_port_names}
 use Rattle.journal_check.specs.Headers.{Line}
 use Rattle.journal_check.specs.ListLines.{list_lines, port_by, IsAbove, IsPast, AreLists, MayAddPort, MayAddPrefix, IsListed}
@@ -150,20 +150,20 @@ module _ (ports : List PortPlan) (prefixes : List PrefixPlan) (port : Port) (rol
         addresses = are.addresses;
       }
 
-  port_line_more : prefixes ≡ [] → list_lines more_ports prefixes ≡ list_lines ports prefixes ++ port_line port role format ∷ []
+  port_line_more : prefixes ≡ [] → list_lines more_ports prefixes ≡ list_lines ports prefixes ++ journal_port_line port role format ∷ []
   port_line_more none =
-      let line = port_line port role format in
-      ap (λ (xs : List PrefixPlan). map port_fields more_ports ++ map (prefix_fields address_text) xs) none
-      ∙ append-nil (map port_fields more_ports)
-      ∙ map-append port_fields ports (port_by port role format ∷ [])
-      ∙ sym (ap (λ (ls : List Line). ls ++ line ∷ []) (ap (λ (xs : List PrefixPlan). map port_fields ports ++ map (prefix_fields address_text) xs) none ∙ append-nil (map port_fields ports)))
+      let line = journal_port_line port role format in
+      ap (λ (xs : List PrefixPlan). map journal_port_fields more_ports ++ map (prefix_fields address_text) xs) none
+      ∙ append-nil (map journal_port_fields more_ports)
+      ∙ map-append journal_port_fields ports (port_by port role format ∷ [])
+      ∙ sym (ap (λ (ls : List Line). ls ++ line ∷ []) (ap (λ (xs : List PrefixPlan). map journal_port_fields ports ++ map (prefix_fields address_text) xs) none ∙ append-nil (map journal_port_fields ports)))
 
-  pub port_listed : (line : List ℕ) → AreLists ports prefixes → MayAddPort ports prefixes port → line ≡ joined (port_line port role format) → IsListed line ports prefixes more_ports prefixes
+  pub port_listed : (line : List ℕ) → AreLists ports prefixes → MayAddPort ports prefixes port → line ≡ joined (journal_port_line port role format) → IsListed line ports prefixes more_ports prefixes
   port_listed line are may text =
       let size = ports_count in
       record {
         lists = port_lists are may;
-        next = port_line port role format;
+        next = journal_port_line port role format;
         one_more = port_line_more may.no_prefix;
         count = omega (arith, size);
         text = text;
@@ -204,8 +204,8 @@ module _ (ports : List PortPlan) (prefixes : List PrefixPlan) (prefix : Prefix) 
   prefix_line_more : list_lines ports more_prefixes ≡ list_lines ports prefixes ++ prefix_line address_text prefix method ∷ []
   prefix_line_more =
       let line = prefix_line address_text prefix method in
-      ap (λ (ls : List Line). map port_fields ports ++ ls) (map-append (prefix_fields address_text) prefixes (one ∷ []))
-      ∙ sym (append_assoc (map port_fields ports) (map (prefix_fields address_text) prefixes) (line ∷ []))
+      ap (λ (ls : List Line). map journal_port_fields ports ++ ls) (map-append (prefix_fields address_text) prefixes (one ∷ []))
+      ∙ sym (append_assoc (map journal_port_fields ports) (map (prefix_fields address_text) prefixes) (line ∷ []))
 
   pub prefix_listed : (line : List ℕ) → AreLists ports prefixes → MayAddPrefix ports prefixes prefix → line ≡ joined (prefix_line address_text prefix method) → IsListed line ports prefixes ports more_prefixes
   prefix_listed line are may text =

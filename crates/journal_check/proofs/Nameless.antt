@@ -13,7 +13,7 @@ use Rattle.savi_kinds.specs.Ports.{number_of}
 use Rattle.savi_kinds.specs.ValidPlan.{IsValidPlan, IsWithin}
 use Rattle.hist_store.specs.Rows.{Row}
 use Rattle.hist_store.specs.TextOfLines.{lines_text}
-use Rattle.hist_store.specs.JournalTexts.{address_text, begin_line, end_line, entry_lines, header_lines, journal_text, limit_lines, port_fields, prefix_fields, time_lines, word_lines}
+use Rattle.hist_store.specs.JournalTexts.{address_text, begin_line, journal_end_line, entry_lines, header_lines, journal_text, limit_lines, journal_port_fields, prefix_fields, time_lines, word_lines}
 use Rattle.addr_history.specs.Probes.{HasChanged}
 use Rattle.savi_access.specs.Rules.{AccessRules}
 use Rattle.savi_access.specs.Marks.{Mark, told}
@@ -151,16 +151,16 @@ valid_kept plan valid = record {
   prefixes = valid.prefixes;
 }
 
-port_lines_kept : (ports : List PortPlan) → map port_fields (map without_port_names ports) ≡ map port_fields ports
+port_lines_kept : (ports : List PortPlan) → map journal_port_fields (map without_port_names ports) ≡ map journal_port_fields ports
 port_lines_kept [] = refl
-port_lines_kept (p ∷ ports) = ap (λ (lines : List Line). port_fields p ∷ lines) (port_lines_kept ports)
+port_lines_kept (p ∷ ports) = ap (λ (lines : List Line). journal_port_fields p ∷ lines) (port_lines_kept ports)
 
 header_kept : (plan : Plan) → header_lines address_text (without_names plan) ≡ header_lines address_text plan
 header_kept plan =
     ap (λ (lines : List Line). word_lines plan ++ limit_lines plan ++ time_lines plan ++ lines ++ map (prefix_fields address_text) plan.prefixes ++ begin_line ∷ []) (port_lines_kept plan.ports)
 
 journal_kept : (plan : Plan) (rows : List Row) → journal_text address_text (without_names plan) rows ≡ journal_text address_text plan rows
-journal_kept plan rows = ap (λ (lines : List Line). lines_text (lines ++ entry_lines 0 rows ++ end_line (length rows) ∷ [])) (header_kept plan)
+journal_kept plan rows = ap (λ (lines : List Line). lines_text (lines ++ entry_lines 0 rows ++ journal_end_line (length rows) ∷ [])) (header_kept plan)
 
 nameless_twice : (ports : List PortPlan) → map without_port_names (map without_port_names ports) ≡ map without_port_names ports
 nameless_twice [] = refl

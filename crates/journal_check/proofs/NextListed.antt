@@ -14,7 +14,7 @@ use Rattle.savi_kinds.specs.Prefixes.{IsPrefix, first_of, past_of}
 use Rattle.savi_kinds.specs.ValidPlan.{IsPlanPrefix, nets_of, numbers_of}
 use Rattle.savi_kinds.proofs.AddrWritten.{written_prefix}
 use Rattle.hist_store.specs.TextOfLines.{joined}
-use Rattle.hist_store.specs.JournalTexts.{address_text, begin_line, port_fields, prefix_fields, prefix_text_by}
+use Rattle.hist_store.specs.JournalTexts.{address_text, begin_line, journal_port_fields, prefix_fields, prefix_text_by}
 use Rattle.hist_store.proofs.HeaderRead.{prefix_read}
 use Rattle.hist_store.proofs.OnePort.{first_apart, port_by_text}
 use Rattle.savi_history.specs.Journals.{IsAddress}
@@ -48,7 +48,7 @@ second_apart {z} {x} {y} {s} {t} e other = let tails : x ∷ s ≡ y ∷ t = cc 
 
 -- no line of a port comes first
 abbrev HasNoPort : List Line → Type 0
-HasNoPort rest = (p : PortPlan) (ls : List Line) → rest ≡ port_fields p ∷ ls → ⊥
+HasNoPort rest = (p : PortPlan) (ls : List Line) → rest ≡ journal_port_fields p ∷ ls → ⊥
 
 -- the ports of the plan are these
 record ArePorts (qs ps : List PortPlan) (rest mid : List Line) : Type 0 where
@@ -60,7 +60,7 @@ record AreMorePorts (qs ps : List PortPlan) (rest mid : List Line) : Type 0 wher
   next : PortPlan
   later : List PortPlan
   numbers : numbers_of qs ≡ numbers_of ps ++ number_of next.number ∷ numbers_of later
-  mid_is : mid ≡ port_fields next ∷ (map port_fields later ++ rest)
+  mid_is : mid ≡ journal_port_fields next ∷ (map journal_port_fields later ++ rest)
 
 ports_more : (q p : PortPlan) (qs ps : List PortPlan) (rest mid : List Line) → number_of q.number ≡ number_of p.number
     → ArePorts qs ps rest mid ⊎ AreMorePorts qs ps rest mid → ArePorts (q ∷ qs) (p ∷ ps) rest mid ⊎ AreMorePorts (q ∷ qs) (p ∷ ps) rest mid
@@ -68,9 +68,9 @@ ports_more q p qs ps rest mid same (inl all) = inl (record { numbers = ap₂ (λ
 ports_more q p qs ps rest mid same (inr more) =
     inr (record { next = more.next; later = more.later; numbers = ap₂ (λ (n : ℕ) (ns : List ℕ). n ∷ ns) same more.numbers; mid_is = more.mid_is })
 
-ports_behind : (qs ps : List PortPlan) (rest mid : List Line) → HasNoPort rest → map port_fields qs ++ rest ≡ map port_fields ps ++ mid → ArePorts qs ps rest mid ⊎ AreMorePorts qs ps rest mid
+ports_behind : (qs ps : List PortPlan) (rest mid : List Line) → HasNoPort rest → map journal_port_fields qs ++ rest ≡ map journal_port_fields ps ++ mid → ArePorts qs ps rest mid ⊎ AreMorePorts qs ps rest mid
 ports_behind [] [] rest mid none e = inl (record { numbers = refl; rest_is = e })
-ports_behind [] (p ∷ ps) rest mid none e = absurd (none p (map port_fields ps ++ mid) e)
+ports_behind [] (p ∷ ps) rest mid none e = absurd (none p (map journal_port_fields ps ++ mid) e)
 ports_behind (q ∷ qs) [] rest mid none e = inr (record { next = q; later = qs; numbers = refl; mid_is = sym e })
 ports_behind (q ∷ qs) (p ∷ ps) rest mid none e =
     let line = four_same e in
@@ -144,7 +144,7 @@ head_line : {l m : Line} {ls ms : List Line} → l ∷ ls ≡ m ∷ ms → l ≡
 head_line e = cc
 
 -- a port comes next only where there is no prefix yet
-port_next : (xs : List PrefixPlan) (next : Line) (more later : List Line) (q : PortPlan) → map (prefix_fields address_text) xs ++ next ∷ more ≡ port_fields q ∷ later → (xs ≡ []) × (next ≡ port_fields q)
+port_next : (xs : List PrefixPlan) (next : Line) (more later : List Line) (q : PortPlan) → map (prefix_fields address_text) xs ++ next ∷ more ≡ journal_port_fields q ∷ later → (xs ≡ []) × (next ≡ journal_port_fields q)
 port_next [] next more later q e = (refl, head_line e)
 port_next (x ∷ xs) next more later q e = absurd (second_apart (field_same e) refl)
 
@@ -158,15 +158,15 @@ All-middle P xs x ys all =
 
 -- the lines of the plan's lists
 abbrev plan_lists : Plan → List Line
-plan_lists plan = map port_fields plan.ports ++ (map (prefix_fields address_text) plan.prefixes ++ begin_line ∷ [])
+plan_lists plan = map journal_port_fields plan.ports ++ (map (prefix_fields address_text) plan.prefixes ++ begin_line ∷ [])
 
 lists_behind : (s : Settings) (ports : List PortPlan) (prefixes : List PrefixPlan) (next : Line) (comes : ComesNext (setting_lines s ++ list_lines ports prefixes) next)
-    → plan_lists comes.plan ≡ map port_fields ports ++ (map (prefix_fields address_text) prefixes ++ next ∷ comes.more)
+    → plan_lists comes.plan ≡ map journal_port_fields ports ++ (map (prefix_fields address_text) prefixes ++ next ∷ comes.more)
 lists_behind s ports prefixes next comes =
     let plan = comes.plan in
-    sym (append_assoc (map port_fields plan.ports) (map (prefix_fields address_text) plan.prefixes) (begin_line ∷ []))
+    sym (append_assoc (map journal_port_fields plan.ports) (map (prefix_fields address_text) plan.prefixes) (begin_line ∷ []))
     ∙ ap (λ (lines : List Line). drop 11 lines) comes.header
-    ∙ append_assoc (map port_fields ports) (map (prefix_fields address_text) prefixes) (next ∷ comes.more)
+    ∙ append_assoc (map journal_port_fields ports) (map (prefix_fields address_text) prefixes) (next ∷ comes.more)
 
 module _ (s : Settings) (ports : List PortPlan) (prefixes : List PrefixPlan) (line : List ℕ) (next : Line) (comes : ComesNext (setting_lines s ++ list_lines ports prefixes) next) where
   abbrev rest : List Line
@@ -178,7 +178,7 @@ module _ (s : Settings) (ports : List PortPlan) (prefixes : List PrefixPlan) (li
   not_port : IsNotListed ports prefixes line → AreMorePorts comes.plan.ports ports rest mid → line ≡ joined next → ⊥
   not_port none more e =
       let valid = comes.is_plan.valid in
-      let port = port_next prefixes next comes.more (map port_fields more.later ++ rest) more.next more.mid_is in
+      let port = port_next prefixes next comes.more (map journal_port_fields more.later ++ rest) more.next more.mid_is in
       let sizes = ap length more.numbers in
       let whole = numbers_size comes.plan.ports in
       let these = numbers_size ports in

@@ -5,7 +5,7 @@ use Rattle.hist_store.specs.Rows.{Row}
 use Rattle.hist_store.specs.TextOfLines.{joined}
 use Rattle.hist_store.specs.LineTexts.{line_fields, line_text}
 use Rattle.hist_store.specs.EntryLines.{SaysEntry, row_said}
-use Rattle.hist_store.specs.JournalTexts.{end_line, end_text}
+use Rattle.hist_store.specs.JournalTexts.{journal_end_line, journal_end_text}
 use Rattle.hist_store.proofs.Words.{Avoids, parted, joined_same}
 use Rattle.hist_store.proofs.FieldWords.{line_row}
 use Rattle.hist_store.proofs.OneEntry.{one_entry}
@@ -36,12 +36,12 @@ two_fields : {a b c d e : List ℕ} {fields : List (List ℕ)} → a ∷ b ∷ [
 two_fields e = cc
 
 -- the last line is that of no entry
-pub entry_not_last : (line : List ℕ) (n m : ℕ) (row : Row) (more rest : List ℕ) → SaysEntry line n row → line ++ 10 ∷ more ≡ end_text m ++ rest → ⊥
+pub entry_not_last : (line : List ℕ) (n m : ℕ) (row : Row) (more rest : List ℕ) → SaysEntry line n row → line ++ 10 ∷ more ≡ journal_end_text m ++ rest → ⊥
 entry_not_last line n m row more rest says e =
     let is = lines_end m in
-    let both : line ++ 10 ∷ more ≡ joined (end_line m) ++ 10 ∷ rest = e ∙ append_assoc (joined (end_line m)) (10 ∷ []) rest in
-    let parts = parted 10 line (joined (end_line m)) more rest (says_avoids line n row says) (line_avoids (end_line m) is.0) both in
-    let fields = joined_same (end_line m) (line_fields n row) is.0 (line_row n row says.octets) (sym parts.0 ∙ says.text) in
+    let both : line ++ 10 ∷ more ≡ joined (journal_end_line m) ++ 10 ∷ rest = e ∙ append_assoc (joined (journal_end_line m)) (10 ∷ []) rest in
+    let parts = parted 10 line (joined (journal_end_line m)) more rest (says_avoids line n row says) (line_avoids (journal_end_line m) is.0) both in
+    let fields = joined_same (journal_end_line m) (line_fields n row) is.0 (line_row n row says.octets) (sym parts.0 ∙ says.text) in
     two_fields fields
 
 longer_not : (xs : List ℕ) (x : ℕ) (more : List ℕ) → xs ≡ xs ++ x ∷ more → ⊥
@@ -49,8 +49,8 @@ longer_not [] x more e = cc
 longer_not (y ∷ xs) x more e = let tails : xs ≡ xs ++ x ∷ more = cc in longer_not xs x more tails
 
 -- nothing may stand behind the last line
-ends_more : (plan : Plan) (past : List Row) (rest : List ℕ) → rest ≡ end_text (length past) → HasMore plan past rest → ⊥
-ends_more plan past rest e more = longer_not (end_text (length past)) more.octet more.more (sym e ∙ more.text)
+ends_more : (plan : Plan) (past : List Row) (rest : List ℕ) → rest ≡ journal_end_text (length past) → HasMore plan past rest → ⊥
+ends_more plan past rest e more = longer_not (journal_end_text (length past)) more.octet more.more (sym e ∙ more.text)
 
 wrong_same : (m n : ℕ) (want have want' have' : List ℕ) → m ≡ n → want ≡ want' → have ≡ have' → Wrong m want have ≡ Wrong n want' have'
 wrong_same m n want have want' have' number wants haves =
@@ -64,18 +64,18 @@ wrong_once plan past rest want have want' have' a b =
 pub judge_once : (plan : Plan) (past : List Row) (rest : List ℕ) (a b : Checked) → Judges plan past rest a → Judges plan past rest b → a ≡ b
 judge_once plan past rest (Good m) (Good n) a b = ap Good (a.0 ∙ sym b.0)
 judge_once plan past rest (Good m) (Wrong n want have) a b =
-    absurd (entry_not_last b.1.line (length past) (length past) b.1.row b.1.more [] b.1.says (sym b.1.text ∙ a.2 ∙ sym (append-nil (end_text (length past)))))
-judge_once plan past rest (Good m) (BadLine n) a (inl b) = absurd (b.1.last [] a.1 (a.2 ∙ sym (append-nil (end_text (length past)))))
+    absurd (entry_not_last b.1.line (length past) (length past) b.1.row b.1.more [] b.1.says (sym b.1.text ∙ a.2 ∙ sym (append-nil (journal_end_text (length past)))))
+judge_once plan past rest (Good m) (BadLine n) a (inl b) = absurd (b.1.last [] a.1 (a.2 ∙ sym (append-nil (journal_end_text (length past)))))
 judge_once plan past rest (Good m) (BadLine n) a (inr b) = absurd (ends_more plan past rest a.2 b.1)
 judge_once plan past rest (Wrong m want have) (Good n) a b =
-    absurd (entry_not_last a.1.line (length past) (length past) a.1.row a.1.more [] a.1.says (sym a.1.text ∙ b.2 ∙ sym (append-nil (end_text (length past)))))
+    absurd (entry_not_last a.1.line (length past) (length past) a.1.row a.1.more [] a.1.says (sym a.1.text ∙ b.2 ∙ sym (append-nil (journal_end_text (length past)))))
 judge_once plan past rest (Wrong m want have) (Wrong n want' have') a b =
     let texts = wrong_once plan past rest want have want' have' a.1 b.1 in
     wrong_same m n want have want' have' (a.0 ∙ sym b.0) texts.0 texts.1
 judge_once plan past rest (Wrong m want have) (BadLine n) a (inl b) = absurd (b.1.entry a.1.line a.1.row a.1.more a.1.says a.1.text)
 judge_once plan past rest (Wrong m want have) (BadLine n) a (inr b) =
     absurd (entry_not_last a.1.line (length past) (length past) a.1.row a.1.more (b.1.octet ∷ b.1.more) a.1.says (sym a.1.text ∙ b.1.text))
-judge_once plan past rest (BadLine m) (Good n) (inl a) b = absurd (a.1.last [] b.1 (b.2 ∙ sym (append-nil (end_text (length past)))))
+judge_once plan past rest (BadLine m) (Good n) (inl a) b = absurd (a.1.last [] b.1 (b.2 ∙ sym (append-nil (journal_end_text (length past)))))
 judge_once plan past rest (BadLine m) (Good n) (inr a) b = absurd (ends_more plan past rest b.2 a.1)
 judge_once plan past rest (BadLine m) (Wrong n want have) (inl a) b = absurd (a.1.entry b.1.line b.1.row b.1.more b.1.says b.1.text)
 judge_once plan past rest (BadLine m) (Wrong n want have) (inr a) b =
@@ -97,7 +97,7 @@ judge_once plan past rest (BadLine m) NoMemory a b = absurd b
 pub judge_stands : (plan : Plan) (past : List Row) (rest more : List ℕ) (row : Row) (a : Checked) → Stands plan empty past row → SaysEntry (line_text (length past) row) (length past) (row_said row)
     → rest ≡ line_text (length past) row ++ 10 ∷ more → Judges plan past rest a → ⊥
 judge_stands plan past rest more row (Good m) stands says text a =
-    entry_not_last (line_text (length past) row) (length past) (length past) (row_said row) more [] says (sym text ∙ a.2 ∙ sym (append-nil (end_text (length past))))
+    entry_not_last (line_text (length past) row) (length past) (length past) (row_said row) more [] says (sym text ∙ a.2 ∙ sym (append-nil (journal_end_text (length past))))
 judge_stands plan past rest more row (Wrong m want have) stands says text a =
     let rows = entry_once a.1.line (line_text (length past) row) (length past) a.1.row (row_said row) a.1.more more a.1.says says (sym a.1.text ∙ text) in
     stands_not plan past row a.1.row want have stands rows.0 a.1.differs

@@ -20,7 +20,7 @@ use Rattle.savi_kinds.specs.declared.entry.Act.TheVariants as acts
 use Rattle.savi_kinds.specs.Ports.{number_of}
 use Rattle.hist_store.specs.TextOfLines.{joined, or_dash}
 use Rattle.hist_store.specs.Rows.{Row}
-use Rattle.hist_store.specs.PortTexts.{members, ports_text}
+use Rattle.hist_store.specs.PortTexts.{members, members_text}
 use Rattle.hist_store.specs.VerdictTexts.{rule_name, scope_text, entry_verdict_text}
 use Rattle.hist_store.specs.EndTexts.{how_fields}
 use Rattle.hist_store.specs.LineTexts.{act_fields, line_fields, line_text, FitsLine}
@@ -131,11 +131,11 @@ plain_commas (n ∷ []) = plain_decimal n
 plain_commas (n ∷ m ∷ ns) =
     plain_append (decimal n) (44 ∷ join_with_byte 44 (map decimal (m ∷ ns))) (plain_decimal n) (omega arith, plain_commas (m ∷ ns))
 
-plain_ports : (set : PortSet) → ArePlain (ports_text set)
+plain_ports : (set : PortSet) → ArePlain (members_text set)
 plain_ports set = plain_dash (join_with_byte 44 (map decimal (members set))) (plain_commas (members set))
 
-pub ports_field : (set : PortSet) → IsField (ports_text set)
-ports_field set = record { short = let few = ports_size set in omega (arith, few); plain = all_plain (ports_text set) (plain_ports set) }
+pub ports_field : (set : PortSet) → IsField (members_text set)
+ports_field set = record { short = let few = ports_size set in omega (arith, few); plain = all_plain (members_text set) (plain_ports set) }
 
 -- lists of fields that are the same, or short where they differ
 

@@ -23,12 +23,12 @@ use Rattle.savi_kinds.specs.Ports.{number_of}
 use Rattle.savi_kinds.specs.PortSets.{is_member}
 use Rattle.hist_store.specs.Rows.{Row}
 use Rattle.hist_store.specs.TextOfLines.{joined, spaced, or_dash}
-use Rattle.hist_store.specs.PortTexts.{port_text, port_numbers, ports_text}
+use Rattle.hist_store.specs.PortTexts.{port_text, port_numbers, members_text}
 use Rattle.hist_store.specs.VerdictTexts.{rule_name, scope_text, entry_verdict_text}
 use Rattle.hist_store.specs.EndTexts.{who_text, how_fields}
 use Rattle.hist_store.specs.LineTexts.{hex_text, act_fields, FitsAct}
 use Rattle.hist_store.specs.EntryLines.{IsHowInRange, IsActInRange, IsInRange, SaysEntry}
-use Rattle.hist_store.specs.JournalTexts.{end_line}
+use Rattle.hist_store.specs.JournalTexts.{journal_end_line}
 use Rattle.hist_store.proofs.LineLemmas.{joined-spaced}
 
 -- the fields of a line, each with the space in front
@@ -162,7 +162,7 @@ commas_size (n ∷ m ∷ ns) small =
     let whole = length-append (decimal n) (44 ∷ join_with_byte 44 (map decimal (m ∷ ns))) in
     omega (arith, digits, more, whole)
 
-pub ports_size : (set : PortSet) → length (ports_text set) ≤ 49
+pub ports_size : (set : PortSet) → length (members_text set) ≤ 49
 unfolding port_numbers
 ports_size set =
     let numbers = range_with_len 1 16 in
@@ -252,7 +252,7 @@ line_short line n row says =
     let act = act_size row.entry row.octets row.entry.act says.numbers says.numbers.act says.fits in
     omega (arith, text, whole, number, by, moment, act)
 
-pub end_short : (n : ℕ) → n < 2 ^ 64 → length (joined (end_line n)) ≤ 3400
+pub end_short : (n : ℕ) → n < 2 ^ 64 → length (joined (journal_end_line n)) ≤ 3400
 end_short n few =
     let whole = joined_size (codes "end") (decimal n ∷ []) in
     let digits = number_size n few in

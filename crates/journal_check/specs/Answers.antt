@@ -4,11 +4,11 @@
 use Rattle.std.specs.Prelude.{◌≡◌, ◌≢◌, ◌+◌, ◌⊎◌, ℕ, List, [], ◌∷◌, ◌++◌, length, Option, IfSome, All}
 use Rattle.hex.specs.Hex.{IsBytes}
 use Rattle.savi_kinds.specs.declared.plan.Plan.{Plan}
+use Rattle.savi_kinds.specs.Characters.{line_feed}
 use Rattle.hist_store.specs.Rows.{Row}
-use Rattle.hist_store.specs.TextOfLines.{line_feed}
 use Rattle.hist_store.specs.LineTexts.{line_text}
 use Rattle.hist_store.specs.EntryLines.{SaysEntry}
-use Rattle.hist_store.specs.JournalTexts.{address_text, header_lines, header_text, end_text}
+use Rattle.hist_store.specs.JournalTexts.{address_text, header_lines, journal_header_text, journal_end_text}
 use Rattle.savi_ends.specs.Octets.{NothingLeft}
 use Rattle.savi_history.specs.Bases.{empty}
 use Rattle.savi_history.specs.Legal.{IsLegal, IsFinished}
@@ -19,7 +19,7 @@ use Rattle.journal_check.specs.Differing.{Differs}
 
 -- the header, and the lines of the entries, the newest row first
 abbrev pub past_text : Plan → List Row → List ℕ
-past_text plan [] = header_text address_text plan
+past_text plan [] = journal_header_text address_text plan
 past_text plan (row ∷ past) = past_text plan past ++ line_text (length past) row ++ line_feed ∷ []
 
 -- the text begins with the header of a plan and the lines of a history that a switch of it may have; the rest comes behind
@@ -36,14 +36,14 @@ next_line plan past = length (header_lines address_text plan) + length past + 1
 -- no line of the next entry begins the rest, nor does the last line where it may stand
 pub record HasNoLine (plan : Plan) (past : List Row) (rest : List ℕ) : Type 0 where
   pub entry : (line : List ℕ) (row : Row) (more : List ℕ) → SaysEntry line (length past) row → rest ≢ line ++ line_feed ∷ more
-  pub last : (more : List ℕ) → IsFinished plan empty past → rest ≢ end_text (length past) ++ more
+  pub last : (more : List ℕ) → IsFinished plan empty past → rest ≢ journal_end_text (length past) ++ more
 
 -- the last line begins the rest and may stand there, but more comes behind it
 pub record HasMore (plan : Plan) (past : List Row) (rest : List ℕ) : Type 0 where
   pub finished : IsFinished plan empty past
   pub octet : ℕ
   pub more : List ℕ
-  pub text : rest ≡ end_text (length past) ++ octet ∷ more
+  pub text : rest ≡ journal_end_text (length past) ++ octet ∷ more
 
 -- a line of the next entry begins the rest, and that entry differs from those that may stand there
 pub record HasWrong (plan : Plan) (past : List Row) (rest : List ℕ) (want have : List ℕ) : Type 0 where
@@ -56,7 +56,7 @@ pub record HasWrong (plan : Plan) (past : List Row) (rest : List ℕ) (want have
 
 -- what is to be answered of the rest
 abbrev pub Judges : Plan → List Row → List ℕ → Checked → Type 0
-Judges plan past rest (Good entries) = (entries ≡ length past) × IsFinished plan empty past × (rest ≡ end_text (length past))
+Judges plan past rest (Good entries) = (entries ≡ length past) × IsFinished plan empty past × (rest ≡ journal_end_text (length past))
 Judges plan past rest (Wrong entry want have) = (entry ≡ length past) × HasWrong plan past rest want have
 Judges plan past rest (BadLine n) =
     ((n ≡ next_line plan past) × HasNoLine plan past rest) ⊎ ((n ≡ next_line plan past + 1) × HasMore plan past rest)

@@ -1,6 +1,6 @@
 -- The first line of a text.
 use Rattle.std.specs.Prelude.{◌≡◌, ◌≢◌, ◌≤◌, ℕ, List, [], ◌∷◌, ◌++◌, length}
-use Rattle.hist_store.specs.TextOfLines.{line_feed}
+use Rattle.savi_kinds.specs.Characters.{line_feed}
 
 abbrev pub HasNoFeed : List ℕ → Type 0
 HasNoFeed [] = Unit {0}

@@ -4,7 +4,8 @@ use Rattle.savi_kinds.specs.declared.plan.Plan.{Plan}
 use Rattle.savi_kinds.specs.MacText.{HasSixOctets}
 use Rattle.savi_kinds.specs.Prefixes.{first_of}
 use Rattle.savi_kinds.specs.ValidPlan.{IsValidPlan, nets_of}
-use Rattle.hist_store.specs.TextOfLines.{joined, line_feed, lines_text}
+use Rattle.savi_kinds.specs.Characters.{line_feed}
+use Rattle.hist_store.specs.TextOfLines.{joined, lines_text}
 use Rattle.hist_store.specs.JournalTexts.{address_text, header_lines}
 use Rattle.savi_history.specs.Journals.{IsAddress, without_names}
 

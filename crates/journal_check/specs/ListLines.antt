@@ -14,7 +14,7 @@ use Rattle.savi_kinds.specs.Ports.{number_of}
 use Rattle.savi_kinds.specs.Prefixes.{first_of, past_of}
 use Rattle.savi_kinds.specs.ValidPlan.{IsPlanPrefix, nets_of, numbers_of}
 use Rattle.hist_store.specs.TextOfLines.{joined}
-use Rattle.hist_store.specs.JournalTexts.{address_text, begin_line, port_fields, port_line, prefix_fields, prefix_line}
+use Rattle.hist_store.specs.JournalTexts.{address_text, begin_line, journal_port_fields, journal_port_line, prefix_fields, prefix_line}
 use Rattle.savi_history.specs.Journals.{IsAddress, without_port_names}
 use Rattle.journal_check.specs.declared.settings.Settings.{Settings}
 use Rattle.journal_check.specs.declared.lists.Listed.{Listed}
@@ -25,7 +25,7 @@ use Rattle.journal_check.specs.Headers.{Line}
 
 -- the lines of ports and of prefixes
 abbrev pub list_lines : List PortPlan → List PrefixPlan → List Line
-list_lines ports prefixes = map port_fields ports ++ map (prefix_fields address_text) prefixes
+list_lines ports prefixes = map journal_port_fields ports ++ map (prefix_fields address_text) prefixes
 
 -- a port without names
 abbrev pub port_by : Port → Role → Format → PortPlan
@@ -85,13 +85,13 @@ pub record MayAddPrefix (ports : List PortPlan) (prefixes : List PrefixPlan) (pr
 
 -- the line is none that may come next
 pub record IsNotListed (ports : List PortPlan) (prefixes : List PrefixPlan) (line : List ℕ) : Type 0 where
-  pub port : (port : Port) (role : Role) (format : Format) → MayAddPort ports prefixes port → line ≢ joined (port_line port role format)
+  pub port : (port : Port) (role : Role) (format : Format) → MayAddPort ports prefixes port → line ≢ joined (journal_port_line port role format)
   pub prefix : (prefix : Prefix) (method : Method) → MayAddPrefix ports prefixes prefix → line ≢ joined (prefix_line address_text prefix method)
   pub begin : 0 < length ports → line ≢ joined begin_line
 
 -- what the line says behind these ports and prefixes
 abbrev pub SaysListed : Listed → List PortPlan → List PrefixPlan → List ℕ → Type 0
-SaysListed (listed.Port port role format) ports prefixes line = MayAddPort ports prefixes port × (line ≡ joined (port_line port role format))
+SaysListed (listed.Port port role format) ports prefixes line = MayAddPort ports prefixes port × (line ≡ joined (journal_port_line port role format))
 SaysListed (listed.Prefix prefix method) ports prefixes line =
     MayAddPrefix ports prefixes prefix × (line ≡ joined (prefix_line address_text prefix method))
 SaysListed listed.Begin ports prefixes line = (0 < length ports) × (line ≡ joined begin_line)

@@ -1,7 +1,7 @@
 -- A text that is read in pieces: what is held of it, what is to come, and what taking a line comes to.
 use Rattle.std.specs.Prelude.{◌≡◌, ◌+◌, ◌<◌, ◌≤◌, ℕ, List, [], ◌∷◌, ◌++◌, length, take, drop, Option, IfSome}
+use Rattle.savi_kinds.specs.Characters.{line_feed}
 use Rattle.savi_ends.specs.Octets.{in_front}
-use Rattle.hist_store.specs.TextOfLines.{line_feed}
 use Rattle.journal_check.specs.declared.lines.Lines.{Lines}
 use Rattle.journal_check.specs.declared.lines.Cut.{Cut}
 use Rattle.journal_check.specs.declared.lines.Cut.TheVariants as cuts

@@ -4,7 +4,7 @@ use Rattle.savi_kinds.specs.declared.plan.Plan.{Plan}
 use Rattle.hist_store.specs.Rows.{Row}
 use Rattle.hist_store.specs.TextOfLines.{joined}
 use Rattle.hist_store.specs.EntryLines.{SaysEntry, row_said}
-use Rattle.hist_store.specs.JournalTexts.{end_line}
+use Rattle.hist_store.specs.JournalTexts.{journal_end_line}
 use Rattle.savi_history.specs.Bases.{empty}
 use Rattle.savi_history.specs.Legal.{Stands, IsFinished}
 use Rattle.savi_core.specs.Machines.{Machine}
@@ -26,10 +26,10 @@ pub record SaysWrong (plan : Plan) (past : List Row) (line want have : List ℕ)
 -- the line is that of no entry with the next number, nor the last one where that may stand
 pub record SaysNothing (plan : Plan) (past : List Row) (line : List ℕ) : Type 0 where
   pub entry : (row : Row) → ¬ SaysEntry line (length past) row
-  pub last : IsFinished plan empty past → line ≢ joined (end_line (length past))
+  pub last : IsFinished plan empty past → line ≢ joined (journal_end_line (length past))
 
 abbrev pub Turned : Machine → List ℕ → Machine → Turn → Type 0
 Turned old line new turns.Stands = (row : Row) × SaysNext old.plan old.past line row × (new ≡ record old { past = row ∷ old.past })
 Turned old line new (turns.Wrong apart) = SaysWrong old.plan old.past line apart.want apart.have
-Turned old line new turns.Last = IsFinished old.plan empty old.past × (line ≡ joined (end_line (length old.past))) × (new ≡ old)
+Turned old line new turns.Last = IsFinished old.plan empty old.past × (line ≡ joined (journal_end_line (length old.past))) × (new ≡ old)
 Turned old line new turns.Bad = SaysNothing old.plan old.past line × (new ≡ old)

@@ -4,7 +4,7 @@ ghost use Rattle.std.specs.Prelude.{◌≡◌, ◌+◌, ◌<◌, ◌≤◌, ◌�
 ghost use Rattle.savi_ends.specs.Octets.{in_front};
 ghost use Rattle.savi_ends.specs.Faults.{Rose};
 ghost use Rattle.hist_store.specs.TextOfLines.{lines_text};
-ghost use Rattle.hist_store.specs.JournalTexts.{address_text, begin_line, header_lines, header_text};
+ghost use Rattle.hist_store.specs.JournalTexts.{address_text, begin_line, header_lines, journal_header_text};
 ghost use Rattle.journal_check.specs.Pieces.{to_come};
 ghost use Rattle.journal_check.specs.Headers.{IsPlan};
 ghost use Rattle.journal_check.specs.SettingLines.{AreSettings, setting_lines};
@@ -32,7 +32,7 @@ pub fn read_header<S: Source>(
     ensures later { S.faults source.old ≤ S.faults source.new }
     ensures cause { IfErr result (λ answer. answer ≡ Checked.Failed → Rose (S.faults source.old) (S.faults source.new)) }
     ensures plan { IfOk result (λ plan. IsPlan plan
-        × (to_come lines.old (S.left source.old) ≡ in_front (header_text address_text plan) (to_come lines.new (S.left source.new)))) }
+        × (to_come lines.old (S.left source.old) ≡ in_front (journal_header_text address_text plan) (to_come lines.new (S.left source.new)))) }
     ensures bad { IfErr result (λ answer. IfRead answer (IfSome (to_come lines.old (S.left source.old)) (λ octets. IsBadHeader octets answer))) }
 {
     let mut line = ArrayVec::new();

@@ -10,7 +10,7 @@ ghost use Rattle.savi_kinds.specs.Ports.{number_of};
 ghost use Rattle.savi_kinds.specs.Prefixes.{IsPrefix};
 ghost use Rattle.savi_kinds.specs.ValidPlan.{nets_of, numbers_of};
 ghost use Rattle.hist_store.specs.TextOfLines.{joined};
-ghost use Rattle.hist_store.specs.JournalTexts.{address_text, begin_line, port_line, prefix_line};
+ghost use Rattle.hist_store.specs.JournalTexts.{address_text, begin_line, journal_port_line, prefix_line};
 
 use crate::ranges::is_plan_prefix;
 use hist_store::{is_begin_line, read_port_line, read_prefix_line};
@@ -100,9 +100,9 @@ impl Lists {
 
     // The port that the line says, if one may come next.
     fn read_port(&self, line: &[u8]) -> Option<(Port, Role, Format)>
-        ensures read { IfSome result (λ r. MayAddPort self.now.ports.items self.now.prefixes.items r.0 × (line.now ≡ joined (port_line r.0 r.1 r.2))) }
+        ensures read { IfSome result (λ r. MayAddPort self.now.ports.items self.now.prefixes.items r.0 × (line.now ≡ joined (journal_port_line r.0 r.1 r.2))) }
         ensures none { IfNone result ((port : Port) (role : Role) (format : Format) → MayAddPort self.now.ports.items self.now.prefixes.items port
-            → line.now ≢ joined (port_line port role format)) }
+            → line.now ≢ joined (journal_port_line port role format)) }
     {
         if self.ports.len() >= PORTS_MOST {
             return None;

@@ -3,7 +3,7 @@
 ghost use Rattle.std.specs.Prelude.{◌≡◌, ◌≤◌, ℕ, [], IfOk, IfSome};
 ghost use Rattle.savi_ends.specs.Octets.{in_front};
 ghost use Rattle.savi_ends.specs.Faults.{Rose};
-ghost use Rattle.hist_store.specs.JournalTexts.{address_text, header_text};
+ghost use Rattle.hist_store.specs.JournalTexts.{address_text, journal_header_text};
 ghost use Rattle.savi_history.specs.Bases.{empty};
 ghost use Rattle.savi_history.specs.Legal.{IsFinished};
 ghost use Rattle.savi_core.specs.Machines.{started};
@@ -25,8 +25,8 @@ use std::alloc::{AllocError, Global};
 /// Checks the text that a source gives up. It costs what a switch takes for the events, beside O(n) in the octets.
 ///
 /// The answer is the one that the octets have (`specs/Answers.antt`), where the source tells them: `Good` exactly where they
-/// are the journal of a finished history. `Failed` comes only where a read failed, and `NoMemory` only before the first entry
-/// is judged.
+/// are the journal of a finished history. `Failed` comes only where a read failed, and `NoMemory` only before the first
+/// entry is judged.
 pub fn check<S: Source>(alloc: Global, source: &mut S) -> Checked
     ensures later { S.faults source.old ≤ S.faults source.new }
     ensures cause { result ≡ Checked.Failed → Rose (S.faults source.old) (S.faults source.new) }
@@ -47,7 +47,7 @@ fn check_behind<S: Source>(alloc: Global, plan: Plan, lines: &mut Lines, source:
     requires { IsPlan plan }
     ensures later { S.faults source.old ≤ S.faults source.new }
     ensures cause { result ≡ Checked.Failed → Rose (S.faults source.old) (S.faults source.new) }
-    ensures answer { IfRead result (IfSome (in_front (header_text address_text plan) (to_come lines.old (S.left source.old)))
+    ensures answer { IfRead result (IfSome (in_front (journal_header_text address_text plan) (to_come lines.old (S.left source.old)))
         (λ octets. IsAnswerBehind octets result)) }
 {
     match make(alloc, plan) {
@@ -80,7 +80,7 @@ fn check_entries<S: Source>(
     requires start { core.old.past ≡ [] }
     ensures later { S.faults source.old ≤ S.faults source.new }
     ensures cause { result ≡ Checked.Failed → Rose (S.faults source.old) (S.faults source.new) }
-    ensures answer { IfRead result (IfSome (in_front (header_text address_text core.old.plan) (to_come lines.old (S.left source.old)))
+    ensures answer { IfRead result (IfSome (in_front (journal_header_text address_text core.old.plan) (to_come lines.old (S.left source.old)))
         (λ octets. IsAnswerBehind octets result)) }
 {
     let mut line = ArrayVec::new();

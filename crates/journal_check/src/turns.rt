@@ -5,7 +5,7 @@ ghost use Rattle.hist_store.specs.Rows.{Row};
 ghost use Rattle.hist_store.specs.TextOfLines.{joined};
 ghost use Rattle.hist_store.specs.LineTexts.{FitsLine, line_fields};
 ghost use Rattle.hist_store.specs.EntryLines.{SaysEntry, act_said};
-ghost use Rattle.hist_store.specs.JournalTexts.{end_line};
+ghost use Rattle.hist_store.specs.JournalTexts.{journal_end_line};
 ghost use Rattle.journal_check.specs.Differing.{first_apart, IsField, IsSameComputed, IsSameQueued};
 ghost use Rattle.journal_check.specs.Turns.{Turned};
 
@@ -78,7 +78,7 @@ fn last(core: &Core, line: &[u8]) -> Turn
 
 // Whether a line is the last one of a journal with so many entries.
 fn is_last_line(line: &[u8], count: u64) -> bool
-    ensures { IsTrue result ↔ (line.now ≡ joined (end_line count)) }
+    ensures { IsTrue result ↔ (line.now ≡ joined (journal_end_line count)) }
 {
     match read_setting(line, "end") {
         Some(said) => said == count,

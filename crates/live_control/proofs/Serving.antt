@@ -1,5 +1,5 @@
 -- The ends of control between two lines, and once control has ended.
-use Rattle.std.proofs.Common.{◌≡◌, ◌≤◌, ℕ, Bool, true, false, List, [], ◌∷◌, ◌++◌, refl, sym, ap, ◌∙◌, subst, arith, inl, inr, append-nil, append_assoc, Option, Some, None, IfSome}
+use Rattle.std.proofs.Common.{◌≡◌, ◌≤◌, ℕ, Bool, true, false, List, [], ◌∷◌, ◌++◌, refl, sym, ap, ◌∙◌, subst, arith, inl, inr, append-nil, Option, Some, None, IfSome}
 use Rattle.std.specs.List.{All, concat}
 use Rattle.std.proofs.lemmas.List.{map-append}
 use Rattle.std.proofs.lemmas.List.Elements.{All-cons, All-head, All-nil, All-tail}
@@ -13,6 +13,7 @@ use Rattle.savi_ends.specs.Octets.{Takes, IsFront, behind}
 use Rattle.savi_ends.specs.Readings.{AddsReading}
 use Rattle.savi_ends.proofs.Octets.{behind_again, takes_more}
 use Rattle.stream_io.specs.Calls.{AddsReadings}
+use Rattle.stream_io.proofs.ClockReadings.{adds_none, adds_more}
 use Rattle.cli_lang.specs.Arrivals.{Line}
 use Rattle.cli_lang.specs.Readers.{State, Comes, HasReadOne, HasEnded, ended}
 use Rattle.hist_store.specs.Rows.{Row}
@@ -25,7 +26,7 @@ use Rattle.live_session.specs.LiveInputs.{AreReadings}
 use Rattle.live_session.specs.LiveRows.{ControlRow}
 use Rattle.live_control.specs.LineTurns.{AnswersLine, IsAnswered, IsRefused}
 use Rattle.live_control.specs.Heard.{HasHeard, start}
-use Rattle.live_control.specs.Progress.{IsLeft, Serves}
+use Rattle.live_control.specs.Progress.{GoesOnOrEnds, Serves}
 use Rattle.live_control.proofs.Hearing.{goes_on, heard_end, heard_failed, heard_first, heard_line, heard_none, heard_refused}
 use Rattle.live_control.proofs.LineViews.{Shows}
 
@@ -38,23 +39,8 @@ all_last P (y ∷ xs) x all last = All-cons P y (xs ++ x ∷ []) (All-head P y x
 stamps_more : (lines : List Line) (line : Line) → line_stamps (lines ++ line ∷ []) ≡ line_stamps lines ++ line.stamp ∷ []
 stamps_more lines line = map-append (λ (l : Line). l.stamp) lines (line ∷ [])
 
--- readings of a clock
-
-adds_none : (readings : Option (List ℕ)) → AddsReadings readings readings []
-adds_none None = tt
-adds_none (Some made) = (made, refl, sym (append-nil made))
-
 some_same : {A : Type 0} {a b : A} → Some a ≡ Some b → a ≡ b
 some_same e = cc
-
-adds_more : (first mid now : Option (List ℕ)) (readings : List ℕ) (reading : ℕ) → AddsReadings first mid readings → AddsReading mid now reading → AddsReadings first now (readings ++ reading ∷ [])
-adds_more first mid None readings reading before one = tt
-adds_more first mid (Some made) readings reading before one =
-    let here : AddsReadings first (Some one.0) readings = subst (λ (o : Option (List ℕ)). AddsReadings first o readings) one.1 before in (
-      here.0,
-      here.1,
-      one.2 ∙ ap (λ (l : List ℕ). l ++ reading ∷ []) here.2 ∙ append_assoc here.0 readings (reading ∷ []),
-    )
 
 -- octets of a sink
 
@@ -230,7 +216,7 @@ module _ {S K C : Type 0} (left : S → Option (List ℕ)) (written : K → Opti
       line_over (inl refused) = line_refused refused
       line_over (inr ended) = line_last ended.0 ended.1
 
-      pub line_left : (was : Bool) → AnswersLine written sink_faults plan line was past now old.sink new.sink → IsLeft left written source_faults sink_faults readings plan now first new later was
+      pub line_left : (was : Bool) → AnswersLine written sink_faults plan line was past now old.sink new.sink → GoesOnOrEnds left written source_faults sink_faults readings plan now first new later was
       line_left true answered = line_on answered
       line_left false over = line_over over
 

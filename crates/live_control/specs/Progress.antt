@@ -33,6 +33,6 @@ module _ {S K C : Type 0} (left : S → Option (List ℕ)) (written : K → Opti
     pub unbroken : state ≢ Ended hows.Failed
 
   -- control goes on, or has ended
-  abbrev pub IsLeft : List Row → Ends S K C → Ends S K C → State → Bool → Type 0
-  IsLeft past first now state true = Serves past first now state
-  IsLeft past first now state false = ControlRow left written source_faults sink_faults readings plan empty past first now
+  abbrev pub GoesOnOrEnds : List Row → Ends S K C → Ends S K C → State → Bool → Type 0
+  GoesOnOrEnds past first now state true = Serves past first now state
+  GoesOnOrEnds past first now state false = ControlRow left written source_faults sink_faults readings plan empty past first now

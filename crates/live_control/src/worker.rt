@@ -9,8 +9,8 @@ ghost use Rattle.savi_ends.specs.declared.world.Ends.{Ends};
 ghost use Rattle.core_keep.specs.Seen.{past_seen};
 ghost use Rattle.live_session.specs.LiveRows.{ControlRow};
 ghost use Rattle.live_session.specs.LiveSession.{ControlOf};
-ghost use Rattle.live_turns.specs.Seats.{HasEnded, IsAt, IsNew, IsRunning, lock_plan};
-ghost use Rattle.live_control.specs.Progress.{IsLeft, Serves};
+ghost use Rattle.live_turns.specs.Seats.{IsEndedPass, IsAt, IsNewPass, IsRunning, lock_plan};
+ghost use Rattle.live_control.specs.Progress.{GoesOnOrEnds, Serves};
 
 use crate::answering::answer;
 use cli_lang::{LineGot, Lines};
@@ -51,8 +51,8 @@ impl<S: Source, K: Sink, C: Clock> ControlWorker<S, K, C> {
         lock: &TableLock<KeptCore>,
         gate: &G,
     ) -> ControlWorker<S, K, C>
-        requires { IsNew lock.now Control self.pass }
-        ensures ended { HasEnded lock.now Control result.pass }
+        requires { IsNewPass lock.now Control self.pass }
+        ensures ended { IsEndedPass lock.now Control result.pass }
         ensures row { ControlOf S.left K.written S.faults K.faults C.readings (lock_plan lock.now) empty (past_seen result.pass) self.ends result.ends }
     {
         let ControlWorker { pass, ends, reply } = self;
@@ -120,7 +120,7 @@ impl<S: Source, K: Sink, C: Clock> ControlEnds<S, K, C> {
         requires running { IsRunning lock.now Control turns.pass }
         requires new { past_seen turns.pass ≡ [] }
         requires unheard { self.old.reader ≡ Running 0 [] }
-        ensures ended { HasEnded lock.now Control result.pass }
+        ensures ended { IsEndedPass lock.now Control result.pass }
         ensures row { ControlRow S.left K.written S.faults K.faults C.readings (lock_plan lock.now) empty (past_seen result.pass) self.old.ends self.new.ends }
     {
         let mut turns = turns;
@@ -147,7 +147,7 @@ impl<S: Source, K: Sink, C: Clock> ControlEnds<S, K, C> {
         requires unended { control_end (past_seen turns.pass) ≡ None }
         ensures state { IsAt lock.now Control (not result.1) result.0.pass }
         ensures left { (first : Ends S K C) → Serves S.left K.written S.faults K.faults C.readings (lock_plan lock.now) (past_seen turns.pass) first self.old.ends self.old.reader
-            → IsLeft S.left K.written S.faults K.faults C.readings (lock_plan lock.now) (past_seen result.0.pass) first self.new.ends self.new.reader result.1 }
+            → GoesOnOrEnds S.left K.written S.faults K.faults C.readings (lock_plan lock.now) (past_seen result.0.pass) first self.new.ends self.new.reader result.1 }
     {
         let who = Who::Control;
         match self.reader.next(

@@ -1,5 +1,5 @@
 -- One read of an input and one turn for it.
-use Rattle.std.proofs.Common.{◌≡◌, ℕ, ◌+◌, ◌≤◌, Bool, true, false, List, [], ◌∷◌, ◌++◌, refl, sym, subst, ap, ◌∙◌, append-nil, append_assoc, Option, Some, None, take, arith}
+use Rattle.std.proofs.Common.{◌≡◌, ℕ, ◌+◌, ◌≤◌, Bool, true, false, List, [], ◌∷◌, ◌++◌, refl, sym, subst, ap, ◌∙◌, Option, Some, take, arith}
 use Rattle.savi_kinds.specs.declared.plan.Format.{Format}
 use Rattle.savi_kinds.specs.declared.plan.Format.TheVariants as forms
 use Rattle.savi_kinds.specs.declared.entry.How.{How}
@@ -13,6 +13,7 @@ use Rattle.savi_ends.specs.Readings.{AddsReading}
 use Rattle.savi_ends.proofs.Octets.{takes_more}
 use Rattle.stream_io.specs.Calls.{AddsReadings, stamp_of, stamps_in}
 use Rattle.stream_io.proofs.AheadHeld.{takes_none}
+use Rattle.stream_io.proofs.ClockReadings.{adds_none, adds_more}
 use Rattle.input_read.specs.Inputs.{Reads, frame_in}
 use Rattle.input_read.specs.Readers.{Answers, IsNew, Stamps}
 use Rattle.input_read.specs.declared.input.PortInput.{PortInput}
@@ -23,7 +24,7 @@ use Rattle.savi_history.specs.PortInputs.{arrived, input_end}
 use Rattle.live_session.specs.LiveInputs.{AreStamped, FitsInput}
 use Rattle.live_session.specs.LiveRows.{IngressRow}
 use Rattle.live_input.specs.Entered.{EndsInput, Enters}
-use Rattle.live_input.specs.Progress.{GoesOn, HasRead, HasStamped, IsLeft, form_of}
+use Rattle.live_input.specs.Progress.{GoesOn, HasRead, HasStamped, GoesOnOrEnds, form_of}
 use Rattle.live_input.proofs.Telling.{IsOne, fits_end, fits_failed, fits_full, fits_malformed, new_form, new_unbroken, one_form, one_frame, one_long, one_unbroken, read_more, read_none}
 
 -- stamps
@@ -31,16 +32,6 @@ use Rattle.live_input.proofs.Telling.{IsOne, fits_end, fits_failed, fits_full, f
 stamps_behind : (arrivals : List Arrival) (x : Arrival) → stamps_in (arrivals ++ x ∷ []) ≡ stamps_in arrivals ++ stamp_of x ∷ []
 stamps_behind [] x = refl
 stamps_behind (a ∷ arrivals) x = ap (λ (l : List ℕ). stamp_of a ∷ l) (stamps_behind arrivals x)
-
-adds_more : (read mid now : Option (List ℕ)) (stamps : List ℕ) (stamp : ℕ) → AddsReadings read mid stamps → AddsReading mid now stamp → AddsReadings read now (stamps ++ stamp ∷ [])
-adds_more read mid None stamps stamp adds one = tt
-adds_more read mid (Some new) stamps stamp adds one =
-    let front = subst (λ (o : Option (List ℕ)). AddsReadings read o stamps) one.1 adds in
-    (front.0, front.1, one.2 ∙ ap (λ (l : List ℕ). l ++ stamp ∷ []) front.2 ∙ append_assoc front.0 stamps (stamp ∷ []))
-
-adds_none : (read : Option (List ℕ)) → AddsReadings read read []
-adds_none None = tt
-adds_none (Some readings) = (readings, refl, sym (append-nil readings))
 
 -- the clock read the stamp of one arrival more, if that has none of its own
 abbrev HasStampedOne : InputReader → Option (List ℕ) → Option (List ℕ) → ℕ → Type 0
@@ -113,10 +104,10 @@ module _ {S C : Type 0} (left : S → Option (List ℕ)) (faults : S → ℕ) (r
   }
 
   -- what is left of the ends, as they are handed back with the pass
-  pub left_row : (input : PortInput S C) (past now : List Row) (new_source : S) (new_clock : C) (goes_on : Bool) → goes_on ≡ false → IsLeft left faults readings format port source clock input past goes_on
+  pub left_row : (input : PortInput S C) (past now : List Row) (new_source : S) (new_clock : C) (goes_on : Bool) → goes_on ≡ false → GoesOnOrEnds left faults readings format port source clock input past goes_on
       → new_source ≡ input.source → new_clock ≡ input.clock → now ≡ past → IngressRow left faults readings format port now source new_source clock new_clock
   left_row input past now new_source new_clock goes_on ended is_left same_source same_clock same_past =
-      let row = subst (λ (b : Bool). IsLeft left faults readings format port source clock input past b) ended is_left in
+      let row = subst (λ (b : Bool). GoesOnOrEnds left faults readings format port source clock input past b) ended is_left in
       subst (λ (t : List Row × S × C). IngressRow left faults readings format port t.0 source t.1 clock t.2) (λ i. (sym same_past i, sym same_source i, sym same_clock i)) row
 
   module _ (old new : PortInput S C) (before after : List Row) (goes : GoesOn left faults readings format port source clock old before) where
@@ -162,16 +153,16 @@ module _ {S C : Type 0} (left : S → Option (List ℕ)) (faults : S → ℕ) (r
         (λ e. cc)
 
     arrival_at : (x : Arrival) (gave : List ℕ) (entered : Bool) → Takes (left old.source) (left new.source) gave → IsOne old.reader new.reader gave x → HasStampedOne old.reader (readings old.clock) (readings new.clock) (stamp_of x) → faults old.source ≤ faults new.source
-        → Enters port x entered before after → IsLeft left faults readings format port source clock new after entered
+        → Enters port x entered before after → GoesOnOrEnds left faults readings format port source clock new after entered
     arrival_at x gave true takes one stamp later enters = more_at x gave takes one stamp later enters
     arrival_at x gave false takes one stamp later enters = full_at x gave takes one stamp later enters
 
-    pub left_frame : (stamp len : ℕ) (entered : Bool) → Reads left faults readings old new (next.Frame stamp len) → Enters port (Frame stamp (frame_in new len)) entered before after → IsLeft left faults readings format port source clock new after entered
+    pub left_frame : (stamp len : ℕ) (entered : Bool) → Reads left faults readings old new (next.Frame stamp len) → Enters port (Frame stamp (frame_in new len)) entered before after → GoesOnOrEnds left faults readings format port source clock new after entered
     left_frame stamp len entered reads enters =
         arrival_at (Frame stamp (frame_in new len)) reads.octets.0 entered reads.octets.1 (one_frame old.reader new.reader reads.octets.0 new.buf (left new.source) stamp len reads.octets.2)
         (frame_stamped readings old.clock new.clock old.reader stamp len reads.stamps) reads.later enters
 
-    pub left_long : (stamp len : ℕ) (entered : Bool) → Reads left faults readings old new (next.Long stamp len) → Enters port (Long stamp len) entered before after → IsLeft left faults readings format port source clock new after entered
+    pub left_long : (stamp len : ℕ) (entered : Bool) → Reads left faults readings old new (next.Long stamp len) → Enters port (Long stamp len) entered before after → GoesOnOrEnds left faults readings format port source clock new after entered
     left_long stamp len entered reads enters =
         arrival_at (Long stamp len) reads.octets.0 entered reads.octets.1 (one_long old.reader new.reader reads.octets.0 new.buf (left new.source) stamp len reads.octets.2)
         (long_stamped readings old.clock new.clock old.reader stamp len reads.stamps) reads.later enters

@@ -43,7 +43,7 @@ module _ {S C : Type 0} (left : S → Option (List ℕ)) (faults : S → ℕ) (r
     pub unbroken : ¬ HasFailed input.reader
 
   -- the input goes on, or has ended
-  abbrev pub IsLeft : Format → ℕ → S → C → PortInput S C → List Row → Bool → Type 0
-  IsLeft format port source clock input past true = GoesOn format port source clock input past
-  IsLeft format port source clock input past false =
+  abbrev pub GoesOnOrEnds : Format → ℕ → S → C → PortInput S C → List Row → Bool → Type 0
+  GoesOnOrEnds format port source clock input past true = GoesOn format port source clock input past
+  GoesOnOrEnds format port source clock input past false =
       IngressRow left faults readings format port past source input.source clock input.clock

@@ -7,7 +7,7 @@ ghost use Rattle.hist_store.specs.Rows.{Row};
 ghost use Rattle.savi_history.specs.Legal.{MayEndIngress};
 ghost use Rattle.savi_core.specs.Steps.{IsClassed, event_of};
 ghost use Rattle.core_keep.specs.Seen.{past_seen};
-ghost use Rattle.live_turns.specs.Seats.{HasEnded, IsAt, IsRunning, lock_plan};
+ghost use Rattle.live_turns.specs.Seats.{IsEndedPass, IsAt, IsRunning, lock_plan};
 ghost use Rattle.live_turns.specs.TurnKinds.{IsFrame, maker_of};
 ghost use Rattle.live_input.specs.Entered.{EndsInput, EntersEvent};
 
@@ -49,7 +49,7 @@ pub fn enter_ending<R: Wait, G: Gate>(
     requires running { IsRunning lock.now (Ingress port) turns.pass }
     requires may { (past : List Row) → MayEndIngress (lock_plan lock.now) past how }
     ensures entered { EndsInput (number_of port) how (past_seen turns.pass) (past_seen result.pass) }
-    ensures ended { HasEnded lock.now (Ingress port) result.pass }
+    ensures ended { IsEndedPass lock.now (Ingress port) result.pass }
 {
     end_turn(rt, lock, gate, turns, Who::Ingress(port), how)
 }

@@ -6,7 +6,7 @@ ghost use Rattle.savi_kinds.specs.declared.entry.Who.TheVariants.{Ingress};
 ghost use Rattle.savi_kinds.specs.Ports.{number_of};
 ghost use Rattle.core_keep.specs.Seen.{past_seen};
 ghost use Rattle.live_turns.specs.Seats.{IsAt, IsRunning};
-ghost use Rattle.live_input.specs.Progress.{GoesOn, IsLeft};
+ghost use Rattle.live_input.specs.Progress.{GoesOn, GoesOnOrEnds};
 
 use crate::entering::{enter_arrival, enter_ending};
 use core_keep::KeptCore;
@@ -83,7 +83,7 @@ fn enter_next<R: Wait, G: Gate, S: Source, C: Clock>(
     requires running { IsRunning lock.now (Ingress port) turns.pass }
     ensures state { IsAt lock.now (Ingress port) (not result.1) result.0.pass }
     ensures left { (format : Format) (source : S) (clock : C) → GoesOn S.left S.faults C.readings format (number_of port) source clock input.old (past_seen turns.pass)
-        → IsLeft S.left S.faults C.readings format (number_of port) source clock input.new (past_seen result.0.pass) result.1 }
+        → GoesOnOrEnds S.left S.faults C.readings format (number_of port) source clock input.new (past_seen result.0.pass) result.1 }
 {
     match input.read() {
         Next::Frame { stamp, len } => {

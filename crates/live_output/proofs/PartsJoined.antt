@@ -8,7 +8,7 @@ use Rattle.pcap_io.specs.Captures as captures
 use Rattle.stream_io.specs.Records.{stream_text, record_text}
 use Rattle.savi_history.specs.Outputs.{sent_items}
 use Rattle.savi_history.specs.Queues.{Item}
-use Rattle.savi_core.specs.Batches.{sent_item}
+use Rattle.savi_core.specs.Batches.{item_with}
 use Rattle.live_session.specs.LiveOutputs.{output_text}
 use Rattle.live_output.specs.OutputParts.{beginning, record_of, records_of}
 

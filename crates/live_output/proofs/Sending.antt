@@ -82,7 +82,8 @@ module _ {K : Type 0} (written : K → Option (List ℕ)) (faults : K → ℕ) (
           broken = λ failed. let e : Some hows.End ≡ Some hows.Failed = sym how ∙ failed in cc;
         }
 
-    -- a turn in which the egress ended for a failed write: what the sink took is a front of the output that holds what is sure
+    -- a turn in which the egress ended for a failed write: what the sink took is a front of the output that holds what is
+    -- sure
     pub sending_fails : (now : List Row) (sink : K) (octets : List ℕ) → written sink ≡ behind (written first) octets
         → IsFront octets (output_text format (sent plan empty (number_of port) before)) → IsFront (sure_output format plan empty (number_of port) before) octets
         → Rose (faults first) (faults sink) → faults first ≤ faults sink

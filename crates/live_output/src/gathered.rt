@@ -5,7 +5,7 @@ ghost use Rattle.std.specs.Bool.{OnFalse, OnTrue};
 ghost use Rattle.savi_ends.specs.declared.sink.Put.{Put};
 ghost use Rattle.savi_ends.specs.Faults.{Rose};
 ghost use Rattle.savi_ends.specs.Writes.{Extends};
-ghost use Rattle.savi_core.specs.Batches.{sent_item};
+ghost use Rattle.savi_core.specs.Batches.{item_with};
 ghost use Rattle.live_output.specs.OutputParts.{record_of};
 ghost use Rattle.live_output.specs.declared.gathered.TheConstants.{GATHERED_MOST};
 
@@ -48,7 +48,7 @@ impl Gathered {
     /// O(n) in the octets of the frame.
     pub(crate) fn add(&mut self, format: Format, moment: u64, frame: &[u8]) -> bool
         requires { length frame.now ≤ 1518 }
-        ensures added { OnTrue result (self.new.octets.items ≡ self.old.octets.items ++ record_of format (sent_item moment frame.now)) }
+        ensures added { OnTrue result (self.new.octets.items ≡ self.old.octets.items ++ record_of format (item_with moment frame.now)) }
         ensures full { OnFalse result (self.new.octets.items ≡ self.old.octets.items) }
     {
         let before = self.octets.len();

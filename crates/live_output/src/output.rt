@@ -6,7 +6,7 @@ ghost use Rattle.savi_kinds.specs.declared.entry.Who.TheVariants.{Egress};
 ghost use Rattle.savi_history.specs.Bases.{empty};
 ghost use Rattle.core_keep.specs.Seen.{past_seen};
 ghost use Rattle.live_session.specs.LiveRows.{EgressRow};
-ghost use Rattle.live_turns.specs.Seats.{HasEnded, IsNew, lock_plan};
+ghost use Rattle.live_turns.specs.Seats.{IsEndedPass, IsNewPass, lock_plan};
 
 use crate::gathered::Gathered;
 use crate::records::begin;
@@ -57,10 +57,10 @@ impl<K: Sink> Output<K> {
     /// something there, for 100 ms at most, or not at all where one did in between. It takes no memory. Nothing is promised
     /// of how long it runs.
     pub fn run<R: Wait, G: Gate>(self, rt: &R, lock: &TableLock<KeptCore>, gate: &G) -> Output<K>
-        requires { IsNew lock.now (Egress self.port) self.pass }
+        requires { IsNewPass lock.now (Egress self.port) self.pass }
         ensures port { result.port ≡ self.port }
         ensures format { result.format ≡ self.format }
-        ensures ended { HasEnded lock.now (Egress self.port) result.pass }
+        ensures ended { IsEndedPass lock.now (Egress self.port) result.pass }
         ensures row { EgressRow K.written K.faults self.format (lock_plan lock.now) empty (number_of self.port) (past_seen result.pass) self.sink result.sink }
     {
         let Output {
@@ -101,8 +101,8 @@ fn write_sent<K: Sink, R: Wait, G: Gate>(
     sink: &mut K,
     room: &mut OutputRoom,
 ) -> Turns
-    requires { IsNew lock.now (Egress port) turns.pass }
-    ensures ended { HasEnded lock.now (Egress port) result.pass }
+    requires { IsNewPass lock.now (Egress port) turns.pass }
+    ensures ended { IsEndedPass lock.now (Egress port) result.pass }
     ensures row { EgressRow K.written K.faults format (lock_plan lock.now) empty (number_of port) (past_seen result.pass) sink.old sink.new }
 {
     let who = Who::Egress(port);

@@ -4,7 +4,7 @@ ghost use Rattle.std.specs.Prelude.{◌≡◌, ◌≤◌, ◌++◌, length};
 ghost use Rattle.savi_ends.specs.declared.sink.Put.{Put};
 ghost use Rattle.savi_ends.specs.Faults.{Rose};
 ghost use Rattle.savi_ends.specs.Writes.{Extends};
-ghost use Rattle.savi_core.specs.Batches.{sent_item};
+ghost use Rattle.savi_core.specs.Batches.{item_with};
 ghost use Rattle.live_output.specs.OutputParts.{record_of, records_of};
 ghost use Rattle.live_output.specs.Writing.{Holds};
 
@@ -46,8 +46,8 @@ fn write_record<K: Sink>(
     gathered: &mut Gathered,
 ) -> Put
     requires { length frame.now ≤ 1518 }
-    ensures done { result ≡ Put.Done → Holds (K.written sink.old) (K.written sink.new) gathered.new.octets.items (gathered.old.octets.items ++ record_of format (sent_item moment frame.now)) }
-    ensures part { result ≡ Put.Failed → Extends Put.Failed (K.written sink.old) (K.written sink.new) (gathered.old.octets.items ++ record_of format (sent_item moment frame.now)) }
+    ensures done { result ≡ Put.Done → Holds (K.written sink.old) (K.written sink.new) gathered.new.octets.items (gathered.old.octets.items ++ record_of format (item_with moment frame.now)) }
+    ensures part { result ≡ Put.Failed → Extends Put.Failed (K.written sink.old) (K.written sink.new) (gathered.old.octets.items ++ record_of format (item_with moment frame.now)) }
     ensures later { K.faults sink.old ≤ K.faults sink.new }
     ensures cause { result ≡ Put.Failed → Rose (K.faults sink.old) (K.faults sink.new) }
 {

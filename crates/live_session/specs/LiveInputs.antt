@@ -28,7 +28,8 @@ pub record IsBrokenStream (before after : Option (List ℕ)) (arrivals : List Ar
   pub takes : Takes before after gave
   pub run : IsRun false 0 arrivals hows.Failed gave
 
--- what the source of a stream gave up is these arrivals, one for which there was no room, and perhaps more that was read ahead
+-- what the source of a stream gave up is these arrivals, one for which there was no room, and perhaps more that was read
+-- ahead
 pub record IsCutStream (before after : Option (List ℕ)) (arrivals : List Arrival) : Type 0 where
   pub gave : List ℕ
   pub takes : Takes before after gave

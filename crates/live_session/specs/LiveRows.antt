@@ -20,8 +20,8 @@ use Rattle.live_session.specs.LiveInputs.{FitsInput, AreReadings, AreStamped}
 use Rattle.live_session.specs.LiveOutputs.{FitsOutputOf}
 use Rattle.live_session.specs.Ticking.{ticker_end, TickedUntil}
 
--- The source of a port: what it gave up are the arrivals that the history holds of the port, each once and in order, and ends
--- as the input ended there. Its clock stamped them. It ended by a failed read only where its own faults rose.
+-- The source of a port: what it gave up are the arrivals that the history holds of the port, each once and in order, and
+-- ends as the input ended there. Its clock stamped them. It ended by a failed read only where its own faults rose.
 pub record IngressRow {S C : Type 0} (left : S → Option (List ℕ)) (faults : S → ℕ) (readings : C → Option (List ℕ))
     (format : Format) (port : ℕ) (past : List Row) (old_source new_source : S) (old_clock new_clock : C) : Type 0 where
   pub gave : (octets : List ℕ) × Takes (left old_source) (left new_source) octets

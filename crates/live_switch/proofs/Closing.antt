@@ -21,13 +21,13 @@ use Rattle.live_turns.specs.Seats.{kept_fixed, lock_plan}
 use Rattle.live_switch.specs.Dealt.{AreFor}
 use Rattle.live_switch.specs.Joined.{GoesOn, HoldsAfter, LeftSo}
 use Rattle.live_switch.specs.Seated.{AreSeats}
-use Rattle.live_switch.specs.Works.{IsOver, IsReady}
+use Rattle.live_switch.specs.Works.{IsOver, IsReadyWork}
 use Rattle.live_switch.specs.declared.work.Work.{Work}
 use Rattle.live_switch.proofs.Joining.{all_go_on, all_finished}
 
 -- what all workers of a plan have, as a session begins
 pub ready_of : {S K C : Type 0} (lock : TableLock KeptCore) (plan : Plan) (work : Work S K C) → IsValidPlan plan → lock_plan lock ≡ plan → vec_len work.ports ≡ length plan.ports
-    → AreSeats plan.ports (length plan.ports) work.seats.items → AreFor lock (length plan.ports) work.passes.items → IsReady lock work
+    → AreSeats plan.ports (length plan.ports) work.seats.items → AreFor lock (length plan.ports) work.passes.items → IsReadyWork lock work
 ready_of {S} {K} {C} lock plan work valid is_planned count seats passes = record {
   valid = subst IsValidPlan (sym is_planned) valid;
   few = omega (arith, ap (λ (p : Plan). length p.ports) is_planned, count);

@@ -15,7 +15,7 @@ use Rattle.table_lock.specs.declared.lock.TableLock.{TableLock}
 use Rattle.table_lock.specs.declared.pass.Pass.{Pass}
 use Rattle.core_keep.specs.declared.keep.KeptCore.{KeptCore}
 use Rattle.core_keep.specs.Pasts.{decoded}
-use Rattle.live_turns.specs.Seats.{IsNew, kept_fixed, lock_plan}
+use Rattle.live_turns.specs.Seats.{IsNewPass, kept_fixed, lock_plan}
 use Rattle.live_switch.specs.Dealt.{AreFor, IsFresh}
 
 -- the element behind a list
@@ -91,7 +91,7 @@ module _ (lock : TableLock KeptCore) where
         let n = dealt.size in
         (omega arith, omega arith)
 
-    pub ticker_new : IsNew lock Ticker ticker
+    pub ticker_new : IsNewPass lock Ticker ticker
     ticker_new =
         let fresh : IsFresh lock (length (lock_plan lock).ports + 1) ticker =
         subst (IsFresh lock (length (lock_plan lock).ports + 1))
@@ -99,7 +99,7 @@ module _ (lock : TableLock KeptCore) where
         (dealt.others 1 ticker (omega arith)) in
         record { of = fresh.of; known = refl; number_is = fresh.number_is; nothing = fresh.nothing }
 
-    pub control_new : IsNew lock Control control
+    pub control_new : IsNewPass lock Control control
     control_new =
         let fresh : IsFresh lock (length (lock_plan lock).ports + 0) control =
         subst (IsFresh lock (length (lock_plan lock).ports + 0))
@@ -120,10 +120,10 @@ module _ (lock : TableLock KeptCore) where
     is_placed : place_of (lock_plan lock) (number_of port) ≡ place
     is_placed = ap (λ (n : ℕ). place_of (lock_plan lock) n) port_number ∙ place_at (lock_plan lock) place valid.ports within
 
-    pub input_new : (pass : Pass) → IsFresh lock place pass → IsNew lock (Ingress port) pass
+    pub input_new : (pass : Pass) → IsFresh lock place pass → IsNewPass lock (Ingress port) pass
     input_new pass fresh = record { of = fresh.of; known = is_known; number_is = fresh.number_is ∙ sym is_placed; nothing = fresh.nothing }
 
-    pub output_new : (pass : Pass) → IsFresh lock (length (lock_plan lock).ports + (2 + place)) pass → IsNew lock (Egress port) pass
+    pub output_new : (pass : Pass) → IsFresh lock (length (lock_plan lock).ports + (2 + place)) pass → IsNewPass lock (Egress port) pass
     output_new pass fresh = record {
       of = fresh.of;
       known = is_known;

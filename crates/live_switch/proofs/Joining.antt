@@ -25,10 +25,10 @@ use Rattle.core_keep.proofs.Goings.{later_of}
 use Rattle.core_keep.proofs.PastsRead.{past_again}
 use Rattle.live_session.specs.LiveRows.{IngressRow, EgressRow}
 use Rattle.live_session.specs.LiveSession.{PortRow}
-use Rattle.live_turns.specs.Seats.{HasEnded, lock_plan}
+use Rattle.live_turns.specs.Seats.{IsEndedPass, lock_plan}
 use Rattle.live_turns.proofs.Seating.{ended_stays}
 use Rattle.live_switch.specs.Joined.{GoesOn, ArePorts, LeftSo, HoldsAfter}
-use Rattle.live_switch.specs.Served.{IsRead, IsWritten, IsControlServed, IsTicked}
+use Rattle.live_switch.specs.Served.{IsInputServed, IsOutputServed, IsControlServed, IsTickerServed}
 use Rattle.live_switch.specs.Works.{IsOver}
 use Rattle.live_switch.proofs.Dealing.{at_front, at_end}
 use Rattle.live_switch.proofs.RowsLater.{ingress_later, egress_later, control_later, ticker_later}
@@ -41,14 +41,14 @@ last_part : {X : Type 0} (P : X → Type 0) (xs : List X) (x : X) → All P (xs 
 last_part P xs x all = subst P (at_end xs x (length xs) x refl) (all (length xs) x (omega (arith, length-append xs (x ∷ []))))
 
 -- the pass of a worker that has ended
-pub over : (lock : TableLock KeptCore) (who : Who) (pass : Pass) → HasEnded lock who pass → IsOver lock pass
+pub over : (lock : TableLock KeptCore) (who : Who) (pass : Pass) → IsEndedPass lock who pass → IsOver lock pass
 over lock who pass ended = record {
   of = ended.of;
   ended = ap (λ (n : ℕ). has_ended empty n (past_seen pass)) ended.number_is ∙ ended.state;
 }
 
 -- the history has gone on from what this pass has seen, by its number
-goes_on_of : (lock : TableLock KeptCore) (who : Who) (pass : Pass) (past : List Row) → HasEnded lock who pass → GoesOn past pass → IsLater (pass_of (lock_plan lock) who) (past_seen pass) past
+goes_on_of : (lock : TableLock KeptCore) (who : Who) (pass : Pass) (past : List Row) → IsEndedPass lock who pass → GoesOn past pass → IsLater (pass_of (lock_plan lock) who) (past_seen pass) past
 goes_on_of lock who pass past ended goes_on = subst (λ (n : ℕ). IsLater n (past_seen pass) past) ended.number_is goes_on
 
 module _ {S K C : Type 0} (left : S → Option (List ℕ)) (written : K → Option (List ℕ)) (source_faults : S → ℕ)
@@ -76,7 +76,7 @@ module _ {S K C : Type 0} (left : S → Option (List ℕ)) (written : K → Opti
 
   -- the workers of one port more, whose seat is that of its place
   module _ (port : Port) (format : Format) (x : Ends S K C) (read : Pass × S × C) (wrote : Pass × K)
-      (is_read : IsRead left source_faults readings lock port format x.source x.clock read) (is_written : IsWritten written sink_faults lock port format x.sink wrote) where
+      (is_read : IsInputServed left source_faults readings lock port format x.source x.clock read) (is_written : IsOutputServed written sink_faults lock port format x.sink wrote) where
     abbrev given_back : Ends S K C
     given_back = record { source = read.1; sink = wrote.1; clock = read.2 }
 
@@ -107,7 +107,7 @@ module _ {S K C : Type 0} (left : S → Option (List ℕ)) (written : K → Opti
 
   -- control and the ticker, where no port is left
   pub holds_first : (old_control : Option (Ends S K C)) (served : Pass × Option (Ends S K C)) (old_clock : C) (ticked : Pass × C)
-      → IsControlServed left written source_faults sink_faults readings lock old_control served → IsTicked readings lock old_clock ticked
+      → IsControlServed left written source_faults sink_faults readings lock old_control served → IsTickerServed readings lock old_clock ticked
       → HoldsAfter left written source_faults sink_faults readings (lock_plan lock) (([] ++ served.0 ∷ []) ++ ticked.0 ∷ []) [] [] old_control served.1 old_clock ticked.1
   holds_first old_control served old_clock ticked is_served is_ticked past legal all =
       let P : Pass → Type 0 = GoesOn past in

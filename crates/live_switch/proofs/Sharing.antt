@@ -11,13 +11,13 @@ use Rattle.savi_ends.specs.declared.world.Ends.{Ends}
 use Rattle.table_lock.specs.declared.lock.TableLock.{TableLock}
 use Rattle.table_lock.specs.declared.pass.Pass.{Pass}
 use Rattle.core_keep.specs.declared.keep.KeptCore.{KeptCore}
-use Rattle.live_turns.specs.Seats.{IsNew, lock_plan}
+use Rattle.live_turns.specs.Seats.{IsNewPass, lock_plan}
 use Rattle.live_switch.specs.Dealt.{AreFor}
 use Rattle.live_switch.specs.Joined.{HoldsAfter}
 use Rattle.live_switch.specs.Seated.{IsSeat, AreSeats}
-use Rattle.live_switch.specs.Served.{IsRead, IsWritten, IsControlServed, IsTicked}
+use Rattle.live_switch.specs.Served.{IsInputServed, IsOutputServed, IsControlServed, IsTickerServed}
 use Rattle.live_switch.specs.Sharing.{ends_of, Took, Gave}
-use Rattle.live_switch.specs.Works.{IsDone, IsOver, IsReady}
+use Rattle.live_switch.specs.Works.{IsDone, IsOver, IsReadyWork}
 use Rattle.live_switch.specs.declared.seats.Seat.{Seat}
 use Rattle.live_switch.specs.declared.work.Back.{Back}
 use Rattle.live_switch.specs.declared.work.Work.{Work}
@@ -43,7 +43,7 @@ last_seat ports count all few seat were last p =
     subst (IsSeat (slice_index_or ports count p)) at (were.each count p seat (omega arith))
 
 module _ {S K C : Type 0} (lock : TableLock KeptCore) (work : Work S K C) (reader : IngressWorker S C) (writer : Output K) (rest : Work S K C)
-    (ready : IsReady lock work) (took : Took work reader writer rest) where
+    (ready : IsReadyWork lock work) (took : Took work reader writer rest) where
   abbrev count : ℕ
   count = vec_len rest.ports
 
@@ -59,7 +59,7 @@ module _ {S K C : Type 0} (lock : TableLock KeptCore) (work : Work S K C) (reade
   within : count < length (lock_plan lock).ports
   within = omega (arith, ready.few, took.ports_len)
 
-  pub rest_ready : IsReady lock rest
+  pub rest_ready : IsReadyWork lock rest
   rest_ready = record {
     valid = ready.valid;
     few = omega (arith, within);
@@ -67,18 +67,18 @@ module _ {S K C : Type 0} (lock : TableLock KeptCore) (work : Work S K C) (reade
     passes = fewer lock count work.passes.items took.most rest.passes.items writer.pass reader.pass passes_were took.last took.here took.below took.above took.size;
   }
 
-  pub reader_new : IsNew lock (Ingress reader.port) reader.pass
+  pub reader_new : IsNewPass lock (Ingress reader.port) reader.pass
   reader_new = input_new lock count reader.port ready.valid within (λ p. took.input.0 ∙ (seat_is p).port) reader.pass
       (input_fresh lock count work.passes.items took.most rest.passes.items writer.pass reader.pass passes_were took.last took.here took.below took.above took.size)
 
-  pub writer_new : IsNew lock (Egress writer.port) writer.pass
+  pub writer_new : IsNewPass lock (Egress writer.port) writer.pass
   writer_new = output_new lock count writer.port ready.valid within (λ p. took.output.0 ∙ (seat_is p).port) writer.pass
       (output_fresh lock count work.passes.items took.most rest.passes.items writer.pass reader.pass passes_were took.last took.here took.below took.above took.size)
 
   module _ (left : S → Option (List ℕ)) (written : K → Option (List ℕ)) (source_faults : S → ℕ) (sink_faults : K → ℕ) (readings : C → Option (List ℕ))
       (read : IngressWorker S C) (wrote : Output K) (back new : Back S K C) where
-    pub done_more : IsRead left source_faults readings lock reader.port reader.format reader.source reader.clock (read.pass, read.source, read.clock)
-        → IsWritten written sink_faults lock writer.port writer.format writer.sink (wrote.pass, wrote.sink)
+    pub done_more : IsInputServed left source_faults readings lock reader.port reader.format reader.source reader.clock (read.pass, read.source, read.clock)
+        → IsOutputServed written sink_faults lock writer.port writer.format writer.sink (wrote.pass, wrote.sink)
         → IsDone left written source_faults sink_faults readings lock rest back → Gave back read wrote new → IsDone left written source_faults sink_faults readings lock work new
     done_more is_read is_written done gave =
         let Over : Pass → Type 0 = IsOver lock in
@@ -87,8 +87,8 @@ module _ {S K C : Type 0} (lock : TableLock KeptCore) (work : Work S K C) (reade
         All-push Over (back.passes.items ++ read.pass ∷ []) wrote.pass (All-push Over back.passes.items read.pass done.ended (over lock (Ingress reader.port) read.pass is_read.ended)) (over lock (Egress writer.port) wrote.pass is_written.ended) in
         let same_port : writer.port ≡ reader.port = took.output.0 ∙ sym took.input.0 in
         let same_format : writer.format ≡ reader.format = took.output.1 ∙ sym took.input.1 in
-        let is_written' : IsWritten written sink_faults lock reader.port reader.format writer.sink (wrote.pass, wrote.sink) =
-        subst (λ (t : Port × Format). IsWritten written sink_faults lock t.0 t.1 writer.sink (wrote.pass, wrote.sink)) (λ i. (same_port i, same_format i)) is_written in
+        let is_written' : IsOutputServed written sink_faults lock reader.port reader.format writer.sink (wrote.pass, wrote.sink) =
+        subst (λ (t : Port × Format). IsOutputServed written sink_faults lock t.0 t.1 writer.sink (wrote.pass, wrote.sink)) (λ i. (same_port i, same_format i)) is_written in
         let rows : HoldsAfter left written source_faults sink_faults readings (lock_plan lock) ((back.passes.items ++ read.pass ∷ []) ++ wrote.pass ∷ []) (rest.ports.items ++ ends_of reader writer ∷ []) (back.ports.items ++ ends_of read wrote ∷ []) rest.control back.control rest.ticker back.ticker =
         holds_more left written source_faults sink_faults readings lock reader.port reader.format (ends_of reader writer) (read.pass, read.source, read.clock) (wrote.pass, wrote.sink) is_read is_written' back.passes.items rest.ports.items back.ports.items rest.control back.control rest.ticker back.ticker
         (λ p. subst (λ (n : ℕ). (reader.port ≡ (slice_index_or (lock_plan lock).ports n p).number) × (reader.format ≡ (slice_index_or (lock_plan lock).ports n p).format)) (sym size) (took.input.0 ∙ (seat_is p).port, took.input.1 ∙ (seat_is p).format)) done.rows in
@@ -106,8 +106,8 @@ module _ {S K C : Type 0} (left : S → Option (List ℕ)) (written : K → Opti
     (sink_faults : K → ℕ) (readings : C → Option (List ℕ)) (lock : TableLock KeptCore) where
   -- where no port is left: control and the ticker
   pub done_first : (work : Work S K C) (new : Back S K C) (most bare : List Pass) (ticker control : Pass) (served : Pass × Option (Ends S K C)) (ticked : Pass × C)
-      → IsReady lock work → vec_len work.ports ≡ 0 → work.passes.items ≡ most ++ ticker ∷ [] → most ≡ bare ++ control ∷ []
-      → IsControlServed left written source_faults sink_faults readings lock work.control served → IsTicked readings lock work.ticker ticked
+      → IsReadyWork lock work → vec_len work.ports ≡ 0 → work.passes.items ≡ most ++ ticker ∷ [] → most ≡ bare ++ control ∷ []
+      → IsControlServed left written source_faults sink_faults readings lock work.control served → IsTickerServed readings lock work.ticker ticked
       → vec_len new.ports ≡ vec_len work.ports → vec_capacity new.ports ≡ vec_capacity work.ports → new.control ≡ served.1 → new.ticker ≡ ticked.1
       → new.passes.items ≡ (bare ++ served.0 ∷ []) ++ ticked.0 ∷ [] → vec_len new.passes ≡ vec_len work.passes → vec_capacity new.passes ≡ vec_capacity work.passes
       → IsDone left written source_faults sink_faults readings lock work new

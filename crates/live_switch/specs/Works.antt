@@ -22,7 +22,7 @@ pub record IsOver (lock : TableLock KeptCore) (pass : Pass) : Type 0 where
   pub ended : has_ended empty (pass_number pass) (past_seen pass) ≡ true
 
 -- the workers of the first ports of the plan, of control and of the ticker have what they need
-pub record IsReady {S K C : Type 0} (lock : TableLock KeptCore) (work : Work S K C) : Type 0 where
+pub record IsReadyWork {S K C : Type 0} (lock : TableLock KeptCore) (work : Work S K C) : Type 0 where
   pub valid : IsValidPlan (lock_plan lock)
   pub few : vec_len work.ports ≤ length (lock_plan lock).ports
   pub seats : AreSeats (lock_plan lock).ports (vec_len work.ports) work.seats.items

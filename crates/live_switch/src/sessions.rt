@@ -8,10 +8,10 @@ ghost use Rattle.savi_history.specs.Bases.{empty};
 ghost use Rattle.savi_history.specs.Passes.{pass_count};
 ghost use Rattle.table_lock.specs.Passes.{lock_seats};
 ghost use Rattle.live_session.specs.LiveSession.{IsLive};
-ghost use Rattle.live_turns.specs.Seats.{IsNew, lock_plan};
+ghost use Rattle.live_turns.specs.Seats.{IsNewPass, lock_plan};
 ghost use Rattle.live_switch.specs.Dealt.{AreFor};
-ghost use Rattle.live_switch.specs.Served.{IsControlServed, IsRead, IsTicked, IsWritten};
-ghost use Rattle.live_switch.specs.Works.{IsDone, IsReady};
+ghost use Rattle.live_switch.specs.Served.{IsControlServed, IsInputServed, IsTickerServed, IsOutputServed};
+ghost use Rattle.live_switch.specs.Works.{IsDone, IsReadyWork};
 
 use crate::ready::{Closed, Ready};
 use crate::seats::seats_of;
@@ -119,7 +119,7 @@ fn run_all<
     K: Sink + Send + Drop,
     C: Clock + Send + Drop,
 >(rt: &R, lock: &TableLock<KeptCore>, gate: &G, work: Work<S, K, C>) -> Back<S, K, C>
-    requires { IsReady lock.now work }
+    requires { IsReadyWork lock.now work }
     ensures { IsDone S.left K.written S.faults K.faults C.readings lock.now work result }
 {
     if work.ports.len() == 0 {
@@ -130,14 +130,14 @@ fn run_all<
         rt,
         move || -> (Back<S, K, C>, Output<K>)
             requires sync { IsSync R.row }
-            requires rest { IsReady lock.now rest }
-            requires writer { IsNew lock.now (Egress writer.port) writer.pass }
+            requires rest { IsReadyWork lock.now rest }
+            requires writer { IsNewPass lock.now (Egress writer.port) writer.pass }
             ensures rest { IsDone S.left K.written S.faults K.faults C.readings lock.entry.now rest result.0 }
-            ensures writer { IsWritten K.written K.faults lock.entry.now writer.port writer.format writer.sink (result.1.pass, result.1.sink) }
+            ensures writer { IsOutputServed K.written K.faults lock.entry.now writer.port writer.format writer.sink (result.1.pass, result.1.sink) }
         { run_rest(rt, lock, gate, rest, writer) },
         move || -> IngressWorker<S, C>
-            requires { IsNew lock.now (Ingress reader.port) reader.pass }
-            ensures { IsRead S.left S.faults C.readings lock.entry.now reader.port reader.format reader.source reader.clock (result.pass, result.source, result.clock) }
+            requires { IsNewPass lock.now (Ingress reader.port) reader.pass }
+            ensures { IsInputServed S.left S.faults C.readings lock.entry.now reader.port reader.format reader.source reader.clock (result.pass, result.source, result.clock) }
         { reader.run(rt, lock, gate) },
     );
     put_port(back, reader, writer)
@@ -158,20 +158,20 @@ fn run_rest<
     work: Work<S, K, C>,
     writer: Output<K>,
 ) -> (Back<S, K, C>, Output<K>)
-    requires work { IsReady lock.now work }
-    requires writer { IsNew lock.now (Egress writer.port) writer.pass }
+    requires work { IsReadyWork lock.now work }
+    requires writer { IsNewPass lock.now (Egress writer.port) writer.pass }
     ensures work { IsDone S.left K.written S.faults K.faults C.readings lock.now work result.0 }
-    ensures writer { IsWritten K.written K.faults lock.now writer.port writer.format writer.sink (result.1.pass, result.1.sink) }
+    ensures writer { IsOutputServed K.written K.faults lock.now writer.port writer.format writer.sink (result.1.pass, result.1.sink) }
 {
     let (writer, back) = join(
         rt,
         move || -> Output<K>
-            requires { IsNew lock.now (Egress writer.port) writer.pass }
-            ensures { IsWritten K.written K.faults lock.entry.now writer.port writer.format writer.sink (result.pass, result.sink) }
+            requires { IsNewPass lock.now (Egress writer.port) writer.pass }
+            ensures { IsOutputServed K.written K.faults lock.entry.now writer.port writer.format writer.sink (result.pass, result.sink) }
         { writer.run(rt, lock, gate) },
         move || -> Back<S, K, C>
             requires sync { IsSync R.row }
-            requires work { IsReady lock.now work }
+            requires work { IsReadyWork lock.now work }
             ensures { IsDone S.left K.written S.faults K.faults C.readings lock.entry.now work result }
         { run_all(rt, lock, gate, work) },
     );
@@ -186,7 +186,7 @@ fn run_last<
     K: Sink + Send + Drop,
     C: Clock + Send + Drop,
 >(rt: &R, lock: &TableLock<KeptCore>, gate: &G, work: Work<S, K, C>) -> Back<S, K, C>
-    requires ready { IsReady lock.now work }
+    requires ready { IsReadyWork lock.now work }
     requires none { vec_len work.ports ≡ 0 }
     ensures { IsDone S.left K.written S.faults K.faults C.readings lock.now work result }
 {
@@ -210,11 +210,11 @@ fn run_last<
     let (timer, server) = join(
         rt,
         move || -> TickerWorker<C>
-            requires { IsNew lock.now Ticker timer.pass }
-            ensures { IsTicked C.readings lock.entry.now timer.clock (result.pass, result.clock) }
+            requires { IsNewPass lock.now Ticker timer.pass }
+            ensures { IsTickerServed C.readings lock.entry.now timer.clock (result.pass, result.clock) }
         { timer.run(rt, lock, gate) },
         move || -> ControlWorker<S, K, C>
-            requires { IsNew lock.now Control server.pass }
+            requires { IsNewPass lock.now Control server.pass }
             ensures { IsControlServed S.left K.written S.faults K.faults C.readings lock.entry.now server.ends (result.pass, result.ends) }
         { server.run(rt, lock, gate) },
     );

@@ -1,5 +1,5 @@
 -- What one more reading of the ticker's clock comes to, by what its turn did.
-use Rattle.std.proofs.Common.{◌≡◌, ℕ, List, [], ◌∷◌, ◌++◌, reverse, length, refl, sym, ap, subst, ◌∙◌, append-nil, append_assoc, Option, Some, None, inl, inr}
+use Rattle.std.proofs.Common.{◌≡◌, ℕ, List, [], ◌∷◌, reverse, length, refl, sym, ap, subst, Option, Some, inl, inr}
 use Rattle.std.proofs.lemmas.List.{reverse-append}
 use Rattle.savi_kinds.specs.declared.plan.Plan.{Plan}
 use Rattle.savi_kinds.specs.declared.entry.Who.TheVariants.{Ticker}
@@ -7,6 +7,7 @@ use Rattle.savi_kinds.specs.declared.entry.How.{How}
 use Rattle.savi_kinds.specs.declared.entry.How.TheVariants as hows
 use Rattle.savi_ends.specs.Readings.{AddsReading}
 use Rattle.stream_io.specs.Calls.{AddsReadings}
+use Rattle.stream_io.proofs.ClockReadings.{adds_none, adds_more}
 use Rattle.hist_store.specs.Rows.{Row}
 use Rattle.savi_history.specs.Bases.{empty}
 use Rattle.savi_history.specs.Events.{Tick, End, row_of}
@@ -32,18 +33,6 @@ turned_as lock before after stamp came known is turned = subst (λ (k : TickTurn
 
 pub at_as : (lock : TableLock KeptCore) (after : Pass) (came known : TickTurn) → came ≡ known → IsAt lock Ticker (ends_ticker came) after → IsAt lock Ticker (ends_ticker known) after
 at_as lock after came known is state = subst (λ (k : TickTurn). IsAt lock Ticker (ends_ticker k) after) is state
-
--- no reading yet
-adds_none : (o : Option (List ℕ)) → AddsReadings o o []
-adds_none None = tt
-adds_none (Some x) = (x, refl, sym (append-nil x))
-
--- one reading more, behind the others
-adds_more : (old mid new : Option (List ℕ)) (readings : List ℕ) (reading : ℕ) → AddsReadings old mid readings → AddsReading mid new reading → AddsReadings old new (readings ++ reading ∷ [])
-adds_more old mid None readings reading adds one = tt
-adds_more old mid (Some new) readings reading adds one =
-    let front = subst (λ (o : Option (List ℕ)). AddsReadings old o readings) one.1 adds in
-    (front.0, front.1, one.2 ∙ ap (λ (l : List ℕ). l ++ reading ∷ []) front.2 ∙ append_assoc front.0 readings (reading ∷ []))
 
 reads_more : (old mid now : Option (List ℕ)) (latest : List ℕ) (reading : ℕ) → AddsReadings old mid (reverse latest) → AddsReading mid now reading → AddsReadings old now (reverse (reading ∷ latest))
 reads_more old mid now latest reading adds one =

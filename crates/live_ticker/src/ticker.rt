@@ -5,7 +5,7 @@ ghost use Rattle.savi_kinds.specs.declared.entry.Who.TheVariants.{Ticker};
 ghost use Rattle.savi_history.specs.Bases.{empty};
 ghost use Rattle.core_keep.specs.Seen.{past_seen};
 ghost use Rattle.live_session.specs.LiveRows.{TickerRow};
-ghost use Rattle.live_turns.specs.Seats.{HasEnded, IsNew, lock_plan};
+ghost use Rattle.live_turns.specs.Seats.{IsEndedPass, IsNewPass, lock_plan};
 
 use core_keep::KeptCore;
 use live_turns::{Gate, TickTurn, Turns, tick_turn};
@@ -37,8 +37,8 @@ impl<C: Clock> TickerWorker<C> {
         lock: &TableLock<KeptCore>,
         gate: &G,
     ) -> TickerWorker<C>
-        requires { IsNew lock.now Ticker self.pass }
-        ensures ended { HasEnded lock.now Ticker result.pass }
+        requires { IsNewPass lock.now Ticker self.pass }
+        ensures ended { IsEndedPass lock.now Ticker result.pass }
         ensures row { TickerRow C.readings (lock_plan lock.now) empty (past_seen result.pass) self.clock result.clock }
     {
         let TickerWorker { pass, mut clock } = self;

@@ -9,7 +9,7 @@ use Rattle.savi_history.specs.Bases.{Base, empty}
 use Rattle.savi_history.specs.Passes.{has_ended, is_end, pass_of}
 use Rattle.core_keep.specs.declared.keep.KeptCore.{KeptCore}
 use Rattle.core_keep.specs.Seen.{AreOthers, IsLater}
-use Rattle.live_turns.specs.Seats.{IsNew, IsRunning, lock_plan}
+use Rattle.live_turns.specs.Seats.{IsNewPass, IsRunning, lock_plan}
 
 ended_behind : (base : Base) (pass : ℕ) (newer past : List Row) → AreOthers pass newer → has_ended base pass (newer ++ past) ≡ has_ended base pass past
 ended_behind base pass [] past others = refl
@@ -23,7 +23,7 @@ pub ended_stays : (base : Base) (pass : ℕ) (before now : List Row) → IsLater
 ended_stays base pass before now later = ap (has_ended base pass) later.split ∙ ended_behind base pass later.newer before later.others
 
 -- a pass that is new may take a turn
-pub new_runs : (lock : TableLock KeptCore) (who : Who) (pass : Pass) → IsNew lock who pass → IsRunning lock who pass
+pub new_runs : (lock : TableLock KeptCore) (who : Who) (pass : Pass) → IsNewPass lock who pass → IsRunning lock who pass
 new_runs lock who pass new = record {
   of = new.of;
   known = new.known;

@@ -29,11 +29,11 @@ pub record IsAt (lock : TableLock KeptCore) (who : Who) (ended : Bool) (pass : P
 abbrev pub IsRunning : TableLock KeptCore → Who → Pass → Type 0
 IsRunning lock who pass = IsAt lock who false pass
 
-abbrev pub HasEnded : TableLock KeptCore → Who → Pass → Type 0
-HasEnded lock who pass = IsAt lock who true pass
+abbrev pub IsEndedPass : TableLock KeptCore → Who → Pass → Type 0
+IsEndedPass lock who pass = IsAt lock who true pass
 
 -- the pass of `who` at the start of the session: it has seen nothing
-pub record IsNew (lock : TableLock KeptCore) (who : Who) (pass : Pass) : Type 0 where
+pub record IsNewPass (lock : TableLock KeptCore) (who : Who) (pass : Pass) : Type 0 where
   pub of : IsPassOf kept_fixed lock pass
   pub known : has_pass (lock_plan lock) who ≡ true
   pub number_is : pass_number pass ≡ pass_of (lock_plan lock) who

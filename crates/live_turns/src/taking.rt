@@ -8,7 +8,7 @@ ghost use Rattle.hist_store.specs.Rows.{Row};
 ghost use Rattle.savi_history.specs.Bases.{empty};
 ghost use Rattle.savi_history.specs.Legal.{MayEnd};
 ghost use Rattle.savi_core.specs.Steps.{IsClassed, event_of};
-ghost use Rattle.live_turns.specs.Seats.{HasEnded, IsAt, IsRunning, lock_plan};
+ghost use Rattle.live_turns.specs.Seats.{IsEndedPass, IsAt, IsRunning, lock_plan};
 ghost use Rattle.live_turns.specs.TurnKinds.{DidDrain, DidEnd, DidInput, DidLine, DidTick};
 ghost use Rattle.live_turns.specs.TurnKinds.{IsFrame, ends_egress, ends_ticker, maker_of};
 ghost use Rattle.live_turns.specs.Turned.{Turned};
@@ -86,7 +86,7 @@ pub fn end_turn<R: Wait, G: Gate>(
     requires running { IsRunning lock.now who turns.pass }
     requires may { (past : List Row) → MayEnd (lock_plan lock.now) empty past who how }
     ensures turned { Turned lock.now who turns.pass result.pass (DidEnd who how) }
-    ensures ended { HasEnded lock.now who result.pass }
+    ensures ended { IsEndedPass lock.now who result.pass }
 {
     let turn = turns.announce(rt, gate);
     let mut held = lock.enter(rt, turns.into_pass());

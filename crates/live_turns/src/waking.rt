@@ -4,16 +4,13 @@
 //! something at a port wakes it, behind the turn. No clause rests on it: each sleep has an end.
 
 use core_keep::KeptCore;
-use savi_kinds::{Port, PortSet};
+use savi_kinds::{PORTS_MOST, Port, PortSet};
 use std::sync::Wait;
 use std::time::Duration;
 use table_lock::TableLock;
 
 /// How long the egress of a port sleeps at most, in ms.
 const SLEEP_MOST_MS: u64 = 100;
-
-/// The most ports that a switch has.
-const PORTS_MOST: u32 = 16;
 
 /// Sleeps until something may wait at this port, for 100 ms at most.
 pub fn sleep_at_port<R: Wait>(rt: &R, lock: &TableLock<KeptCore>, port: Port) {
@@ -22,9 +19,9 @@ pub fn sleep_at_port<R: Wait>(rt: &R, lock: &TableLock<KeptCore>, port: Port) {
 
 // Wakes the egress of each of these ports. O(16).
 pub(crate) fn wake_outputs(lock: &TableLock<KeptCore>, ports: PortSet) {
-    for place in 1..=PORTS_MOST {
-        if ports.0 >> (place - 1) & 1 == 1 {
-            lock.wake(place);
+    for port in (1..=PORTS_MOST as u8).filter_map(Port::new) {
+        if ports.contains(port) {
+            lock.wake(port.get() as u32);
         }
     }
 }

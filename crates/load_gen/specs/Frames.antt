@@ -23,8 +23,8 @@ router_address = record { 0 = 0xfe80 * 2 ^ 112 + 0xfe }
 abbrev pub ethernet_to_router : Mac → List ℕ
 ethernet_to_router mac = router_mac.0 ++ mac.0 ++ to_be_bytes w16 0x86dd
 
--- The IPv6 header (RFC 8200 section 3): version 6, class and flow 0; payload length 0; no next header (59, section 4.7 there);
--- hop limit 64; from this source to the router.
+-- The IPv6 header (RFC 8200 section 3): version 6, class and flow 0; payload length 0; no next header (59, section 4.7
+-- there); hop limit 64; from this source to the router.
 abbrev pub header_to_router : Addr → List ℕ
 header_to_router source =
     0x60 ∷ 0 ∷ 0 ∷ 0 ∷ to_be_bytes w16 0 ++ 59 ∷ 64 ∷ to_be_bytes w128 source.0 ++ to_be_bytes w128 router_address.0

@@ -10,7 +10,7 @@ use Rattle.fcfs_states.specs.declared.times.Times.{Times}
 use Rattle.fcfs_states.specs.Premises.{AreTimes}
 use Rattle.fcfs_states.specs.States.{IsSound}
 use Rattle.fcfs_states.specs.Ageing.{IsRested, rests, goes_on, behind}
-use Rattle.fcfs_states.specs.Aged.{AgedState, aged, due_of, probe_of}
+use Rattle.fcfs_states.specs.Aged.{AgedState, aged, due_of, probe_sent}
 use Rattle.fcfs_states.specs.FirstCome.{IsTestOf}
 use Rattle.fcfs_states.proofs.AgeingLemmas.{Ages-aged, aged-is, first_row, earliest, untouched as fcfs_untouched, touched as fcfs_touched, rested_none, rested_late}
 use Rattle.fcfs_states.proofs.AgesLemmas.{AgeRow-rests}
@@ -19,7 +19,7 @@ use Rattle.dhcp_states.specs.declared.bound.Bound.{Bound}
 use Rattle.dhcp_states.specs.Bindings.{has_ended, binding_at}
 use Rattle.mix_rules.specs.declared.state.AddrState.{AddrState}
 use Rattle.mix_rules.specs.States.{IsSoundFor, IsLiveAt, IsLiveBy, owner_of}
-use Rattle.mix_rules.specs.Ageing.{aged_state, bound_at, end_of, sooner, due_in, IsStill, IsTouched}
+use Rattle.mix_rules.specs.Ageing.{aged_state, bound_at, end_of, sooner_moment, due_next, IsStill, IsTouched}
 use Rattle.mix_rules.specs.Ends.{IsTested, EndsByTest, EndsByTime}
 use Rattle.mix_rules.proofs.AgeingLemmas.{still-untouched, untouched-still}
 
@@ -28,7 +28,7 @@ data Soonest (first last : Option ℕ) (due : ℕ) : Type 0 where
   the_first : first ≡ Some due → (after : (n : ℕ) → last ≡ Some n → due ≤ n) → Soonest first last due
   the_last : last ≡ Some due → (after : (n : ℕ) → first ≡ Some n → due ≤ n) → Soonest first last due
 
-soonest : (first last : Option ℕ) (due : ℕ) → sooner first last ≡ Some due → Soonest first last due
+soonest : (first last : Option ℕ) (due : ℕ) → sooner_moment first last ≡ Some due → Soonest first last due
 soonest None None due is = cc
 soonest None (Some n) due is = the_last is (λ m e. cc)
 soonest (Some n) None due is = the_first is (λ m e. cc)
@@ -60,24 +60,24 @@ module _ (k : Times) (times : AreTimes k) where
       by_due (Some due) is = rested_late k times t fcfs due is (late due is)
 
   module _ (s : AddrState) (t : ℕ) where
-    idle-still : due_in k s ≡ None → IsStill k t s
+    idle-still : due_next k s ≡ None → IsStill k t s
     idle-still is =
         record {
           rested = fcfs_rests t s.fcfs (λ n e. absurd (none_first (due_of k s.fcfs) (end_of s.dhcp) n is e));
           stands = binding_stands t s.dhcp (λ n e. absurd (none_last (due_of k s.fcfs) (end_of s.dhcp) n is e));
         }
       where
-        none_first : (first last : Option ℕ) (n : ℕ) → sooner first last ≡ None → first ≡ Some n → ⊥
+        none_first : (first last : Option ℕ) (n : ℕ) → sooner_moment first last ≡ None → first ≡ Some n → ⊥
         none_first None last n is e = cc
         none_first (Some m) None n is e = cc
         none_first (Some m) (Some l) n is e = cc
 
-        none_last : (first last : Option ℕ) (n : ℕ) → sooner first last ≡ None → last ≡ Some n → ⊥
+        none_last : (first last : Option ℕ) (n : ℕ) → sooner_moment first last ≡ None → last ≡ Some n → ⊥
         none_last None last n is e = cc
         none_last (Some m) None n is e = cc
         none_last (Some m) (Some l) n is e = cc
 
-    module _ (due : ℕ) (is : due_in k s ≡ Some due) where
+    module _ (due : ℕ) (is : due_next k s ≡ Some due) where
       before-still : t < due → IsStill k t s
       before-still below =
           elim (soonest (due_of k s.fcfs) (end_of s.dhcp) due is) [
@@ -107,35 +107,35 @@ module _ (k : Times) (times : AreTimes k) where
 
     -- untouched and still are one
     pub still-touched : IsStill k t s ↔ ¬ IsTouched k t s
-    still-touched = (λ still touched. touched (still-untouched k times t s still), by_due (due_in k s) refl)
+    still-touched = (λ still touched. touched (still-untouched k times t s still), by_due (due_next k s) refl)
       where
-        by_due : (due : Option ℕ) → due_in k s ≡ due → ¬ IsTouched k t s → IsStill k t s
+        by_due : (due : Option ℕ) → due_next k s ≡ due → ¬ IsTouched k t s → IsStill k t s
         by_due None is idle = idle-still is
         by_due (Some due) is idle = elim (cases_lt t due) [ inl below ↦ before-still due is below | inr by ↦ absurd (idle (after-touched due is by)) ]
 
-    pub idle-touched : due_in k s ≡ None → ¬ IsTouched k t s
+    pub idle-touched : due_next k s ≡ None → ¬ IsTouched k t s
     idle-touched is touched = touched (still-untouched k times t s (idle-still is))
 
-  pub due_first : (s : AddrState) → IfSome (due_in k s) (λ due. (t : ℕ) → (IsTouched k t s ↔ (due ≤ t)))
-  due_first s = by_due (due_in k s) refl
+  pub due_first : (s : AddrState) → IfSome (due_next k s) (λ due. (t : ℕ) → (IsTouched k t s ↔ (due ≤ t)))
+  due_first s = by_due (due_next k s) refl
     where
-      by_due : (due : Option ℕ) → due_in k s ≡ due → IfSome due (λ due. (t : ℕ) → (IsTouched k t s ↔ (due ≤ t)))
+      by_due : (due : Option ℕ) → due_next k s ≡ due → IfSome due (λ due. (t : ℕ) → (IsTouched k t s ↔ (due ≤ t)))
       by_due None is = tt
       by_due (Some due) is = λ t. due-touched s t due is
 
-  pub due_never : (s : AddrState) (due : Option ℕ) → due ≡ due_in k s → IsNone due → (t : ℕ) → ¬ IsTouched k t s
+  pub due_never : (s : AddrState) (due : Option ℕ) → due ≡ due_next k s → IsNone due → (t : ℕ) → ¬ IsTouched k t s
   due_never s None is none t = idle-touched s t (sym is)
   due_never s (Some due) is none t = cc
 
 -- to age to the moment at which something is due first sends one probe, or none
 module _ (k : Times) (times : AreTimes k) where
-  first_probe : (fcfs : Fcfs) (due : ℕ) → due_of k fcfs ≡ Some due → (aged k due fcfs).probes ≡ behind due (probe_of fcfs) []
+  first_probe : (fcfs : Fcfs) (due : ℕ) → due_of k fcfs ≡ Some due → (aged k due fcfs).probes ≡ behind due (probe_sent fcfs) []
   first_probe fcfs due is = ap (λ (a : AgedState). a.probes) (aged-is k times due (goes_on (first_row k fcfs due is) (let le : due ≤ due = omega arith in le) (earliest k times fcfs due is) (rests (AgeRow-rests k times (first_row k fcfs due is)))))
 
-  pub due-probe : (s : AddrState) (due : ℕ) → due_in k s ≡ Some due → (probe : Option Probe) × ((aged_state k due s).probes ≡ behind due probe [])
+  pub due-probe : (s : AddrState) (due : ℕ) → due_next k s ≡ Some due → (probe : Option Probe) × ((aged_state k due s).probes ≡ behind due probe [])
   due-probe s due is =
       elim (soonest (due_of k s.fcfs) (end_of s.dhcp) due is) [
-        | the_first e after ↦ (probe_of s.fcfs, first_probe s.fcfs due e)
+        | the_first e after ↦ (probe_sent s.fcfs, first_probe s.fcfs due e)
         | the_last e after ↦ by_due (due_of k s.fcfs) refl after
       ]
     where
@@ -144,7 +144,7 @@ module _ (k : Times) (times : AreTimes k) where
       by_due (Some n) first after =
           elim (cases_lt due n) [
             | inl below ↦ (None, ap (λ (a : AgedState). a.probes) (fcfs_untouched k times due s.fcfs (rested_late k times due s.fcfs n first below)))
-            | inr above ↦ (probe_of s.fcfs, first_probe s.fcfs due (let at : n ≡ due = (let least : due ≤ n = after n refl in omega arith) in first ∙ ap Some at))
+            | inr above ↦ (probe_sent s.fcfs, first_probe s.fcfs due (let at : n ≡ due = (let least : due ≤ n = after n refl in omega arith) in first ∙ ap Some at))
           ]
 
 -- a test that stands, or will once the binding ends

@@ -20,7 +20,7 @@ use Rattle.dhcp_states.specs.declared.bound.Bound.{Bound}
 use Rattle.mix_rules.specs.declared.state.AddrState.{AddrState}
 use Rattle.mix_rules.specs.States.{IsOf, IsBeside, IsSoundFor}
 use Rattle.mix_rules.specs.Table.{Row, lease_to, Takes, none_begins, moves_on, fixed_at, free_with, fixed_sent, fixed_na, fixed_dad, fixed_sent_elsewhere, fixed_dad_elsewhere, fixed_na_elsewhere, fixed_trusted_dad, fixed_trusted_na, fixed_lease, fixed_release, bound_sent, bound_na, bound_dad, bound_sent_elsewhere, bound_dad_elsewhere, bound_na_elsewhere, bound_trusted_dad, bound_trusted_na, unassigned_sent, unassigned_dad, unassigned_na, unassigned_trusted_dad, unassigned_trusted_na, by_first_come, lease_in_fcfs_prefix, lease_of_0, lease_of_0_elsewhere, lease_of_0_unbound, lease_renews, lease_moves, lease_elsewhere_full, lease_elsewhere_claimed, lease_makes, lease_makes_beside, lease_unbound_full, lease_unbound_claimed, release_ends, release_elsewhere, release_unbound, fix, clear}
-use Rattle.mix_rules.specs.Next.{Outcome, next_state, by_parts, is_dhcp, is_fcfs, is_taken_beside, is_free, is_of, is_granted, ended_at, leased, bound_by}
+use Rattle.mix_rules.specs.Next.{Outcome, next_state, by_parts, is_dhcp, is_fcfs, is_taken_beside, is_free, is_only_at, is_granted, ended_at, leased, bound_by}
 
 -- beside a binding at p the state that stands takes its own row, in which room decides nothing
 next_room : (k : Times) (t : ℕ) (room : Bool) (p : Port) (fcfs : Fcfs) (event : Ev) → IsOf p fcfs → fcfs ≢ NoBind → is_taken_beside p event ≡ true → next k t false fcfs event ≡ next k t room fcfs event
@@ -154,7 +154,7 @@ module _ (m : Method) (k : Times) (t : ℕ) (room : Bool) where
       elsewhere_row bound differ (TestLt p since two) = lease_elsewhere_claimed assigns some differ (λ e. cc)
       elsewhere_row bound differ (TestVp p q since two) = lease_elsewhere_claimed assigns some differ (λ e. cc)
 
-      unbound_row : (fcfs : Fcfs) → Row m k t room (free_with fcfs None) (Lease r valid) silence (free_with fcfs (if is_free room fcfs || is_of r fcfs then lease_to m k t room r valid else None))
+      unbound_row : (fcfs : Fcfs) → Row m k t room (free_with fcfs None) (Lease r valid) silence (free_with fcfs (if is_free room fcfs || is_only_at r fcfs then lease_to m k t room r valid else None))
       unbound_row NoBind = elim (cases_Bool room) [ inl is ↦ rw is (lease_makes assigns some refl) | inr is ↦ rw is (lease_unbound_full assigns some refl) ]
       unbound_row (Tentative p since two) = elim (cases p r) [ one same is ↦ rw is (lease_makes_beside assigns some (tentative_some p since two) same) | two_ports differ is ↦ rw is (lease_unbound_claimed assigns some differ) ]
       unbound_row (Valid p until) = elim (cases p r) [ one same is ↦ rw is (lease_makes_beside assigns some (valid_some p until) same) | two_ports differ is ↦ rw is (lease_unbound_claimed assigns some differ) ]
@@ -244,14 +244,14 @@ not_free room (Valid p until) some = refl
 not_free room (TestLt p since two) some = refl
 not_free room (TestVp p q since two) some = refl
 
-own_is : (p : Port) (fcfs : Fcfs) → fcfs ≢ NoBind → IsOf p fcfs → is_of p fcfs ≡ true
+own_is : (p : Port) (fcfs : Fcfs) → fcfs ≢ NoBind → IsOf p fcfs → is_only_at p fcfs ≡ true
 own_is p NoBind some of = absurd (some refl)
 own_is p (Tentative q since two) some of = same_is q p of
 own_is p (Valid q until) some of = same_is q p of
 own_is p (TestLt q since two) some of = same_is q p of
 own_is p (TestVp q r since two) some of = absurd of
 
-other_is : (p : Port) (fcfs : Fcfs) → ¬ IsOf p fcfs → is_of p fcfs ≡ false
+other_is : (p : Port) (fcfs : Fcfs) → ¬ IsOf p fcfs → is_only_at p fcfs ≡ false
 other_is p NoBind other = refl
 other_is p (Tentative q since two) other = differ_is q p other
 other_is p (Valid q until) other = differ_is q p other

@@ -36,14 +36,14 @@ end_of None = None
 end_of (Some bound) = bound.until
 
 -- the sooner of two moments, where there are any
-abbrev pub sooner : Option ℕ → Option ℕ → Option ℕ
-sooner None late = late
-sooner (Some first) None = Some first
-sooner (Some first) (Some late) = Some (if nat_le first late then first else late)
+abbrev pub sooner_moment : Option ℕ → Option ℕ → Option ℕ
+sooner_moment None late = late
+sooner_moment (Some first) None = Some first
+sooner_moment (Some first) (Some late) = Some (if nat_le first late then first else late)
 
 -- the moment at which something is due first
-abbrev pub due_in : Times → AddrState → Option ℕ
-due_in k s = sooner (due_of k s.fcfs) (end_of s.dhcp)
+abbrev pub due_next : Times → AddrState → Option ℕ
+due_next k s = sooner_moment (due_of k s.fcfs) (end_of s.dhcp)
 
 -- ageing to t changes nothing and sends no probe
 abbrev pub untouched : AddrState → AgedAddr

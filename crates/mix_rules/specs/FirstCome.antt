@@ -5,7 +5,7 @@ use Rattle.savi_kinds.specs.declared.port.Port.{Port}
 use Rattle.savi_kinds.specs.declared.plan.Method.{Method}
 use Rattle.fcfs_states.specs.declared.answer.Answer.{Answer}
 use Rattle.fcfs_states.specs.declared.times.Times.{Times}
-use Rattle.fcfs_states.specs.FirstCome.{Mark, IsSilentWithin, IsBoundTo}
+use Rattle.fcfs_states.specs.FirstCome.{TimedEvent, IsSilentWithin, IsBoundTo}
 use Rattle.mix_rules.specs.declared.state.AddrState.{AddrState}
 use Rattle.mix_rules.specs.States.{owner_of, IsFixedAt}
 use Rattle.mix_rules.specs.Next.{Outcome, next_state}
@@ -13,26 +13,26 @@ use Rattle.mix_rules.specs.Ageing.{aged_state}
 use Rattle.mix_rules.specs.Ends.{IsByOperator, EndsByEvent, EndsByTime}
 
 -- what an event comes to: the state is aged to its moment, and then takes its row
-abbrev pub outcome : Method → Times → Mark → AddrState → Outcome
+abbrev pub outcome : Method → Times → TimedEvent → AddrState → Outcome
 outcome m k mark s = next_state m k mark.moment mark.room (aged_state k mark.moment s).state mark.event
 
 -- the state of an address after these events, the newest of them first, from a state before them
-abbrev pub state_of : Method → Times → AddrState → List Mark → AddrState
+abbrev pub state_of : Method → Times → AddrState → List TimedEvent → AddrState
 state_of m k base [] = base
 state_of m k base (mark ∷ past) = (outcome m k mark (state_of m k base past)).1
 
 -- that state aged to t
-abbrev pub state_at : Method → Times → AddrState → List Mark → ℕ → AddrState
+abbrev pub state_at : Method → Times → AddrState → List TimedEvent → ℕ → AddrState
 state_at m k base past t = (aged_state k t (state_of m k base past)).state
 
 -- the answer to an event after these
-abbrev pub answer_at : Method → Times → AddrState → List Mark → Mark → Answer
+abbrev pub answer_at : Method → Times → AddrState → List TimedEvent → TimedEvent → Answer
 answer_at m k base past mark = (outcome m k mark (state_of m k base past)).0
 
 -- no event is at a later moment than a newer one, or than t, or at an earlier one than `from`
-abbrev pub IsRun : ℕ → ℕ → List Mark → Type 0
-IsRun from t [] = from ≤ t
-IsRun from t (mark ∷ past) = (mark.moment ≤ t) × IsRun from mark.moment past
+abbrev pub IsTimelineFrom : ℕ → ℕ → List TimedEvent → Type 0
+IsTimelineFrom from t [] = from ≤ t
+IsTimelineFrom from t (mark ∷ past) = (mark.moment ≤ t) × IsTimelineFrom from mark.moment past
 
 -- the port owns the address: it is fixed there or, not being fixed, bound there by DHCP
 abbrev pub IsOwnedAt : AddrState → Port → Type 0
@@ -40,16 +40,16 @@ IsOwnedAt s port = IsFixedAt (owner_of s.fixed s.dhcp) port
 
 -- somewhere in a run from a state, up to t, an ageing to a moment was of this kind, or an event at its moment was of that
 -- kind, seen with the state that it found (aged) and the state that it left
-module _ (m : Method) (k : Times) (base : AddrState) (Ageing : ℕ → AddrState → Type 0) (Event : Mark → AddrState → AddrState → Type 0) where
-  pub data OnTheWay : ℕ → List Mark → Type 0 where
-    by_age : {t : ℕ} {past : List Mark} → Ageing t (state_of m k base past) → OnTheWay t past
-    by_event : {t : ℕ} {mark : Mark} {past : List Mark} → Event mark (state_at m k base past mark.moment) (state_of m k base (mark ∷ past)) → OnTheWay t (mark ∷ past)
-    earlier : {t : ℕ} {mark : Mark} {past : List Mark} → OnTheWay mark.moment past → OnTheWay t (mark ∷ past)
+module _ (m : Method) (k : Times) (base : AddrState) (Ageing : ℕ → AddrState → Type 0) (Event : TimedEvent → AddrState → AddrState → Type 0) where
+  pub data OnTheWay : ℕ → List TimedEvent → Type 0 where
+    by_age : {t : ℕ} {past : List TimedEvent} → Ageing t (state_of m k base past) → OnTheWay t past
+    by_event : {t : ℕ} {mark : TimedEvent} {past : List TimedEvent} → Event mark (state_at m k base past mark.moment) (state_of m k base (mark ∷ past)) → OnTheWay t (mark ∷ past)
+    earlier : {t : ℕ} {mark : TimedEvent} {past : List TimedEvent} → OnTheWay mark.moment past → OnTheWay t (mark ∷ past)
 
 -- First cause: the host at the port wasn't heard for as long as a test takes, up to a moment after t0 and by t. Where the
 -- address was fixed, bound by DHCP or bound by first come at t0, at which this was the state, the whole of that time lies
 -- behind t0.
-pub record IsSilenced (k : Times) (port : Port) (t0 t : ℕ) (state : AddrState) (marks : List Mark) : Type 0 where
+pub record IsSilenced (k : Times) (port : Port) (t0 t : ℕ) (state : AddrState) (marks : List TimedEvent) : Type 0 where
   pub since : ℕ
   pub after : t0 < since + k.test
   pub by : since + k.test ≤ t
@@ -57,17 +57,17 @@ pub record IsSilenced (k : Times) (port : Port) (t0 t : ℕ) (state : AddrState)
   pub whole : IsOwnedAt state port ⊎ IsBoundTo port state.fcfs → t0 ≤ since
 
 -- Second cause: one of the events is the operator's.
-abbrev pub HasOperator : List Mark → Type 0
+abbrev pub HasOperator : List TimedEvent → Type 0
 HasOperator [] = ⊥
 HasOperator (mark ∷ past) = IsByOperator mark.event ⊎ HasOperator past
 
 -- Third cause: a binding by DHCP at the port ended, by its time or by an event.
-abbrev pub BindingEnds : Method → Times → AddrState → Port → ℕ → List Mark → Type 0
+abbrev pub BindingEnds : Method → Times → AddrState → Port → ℕ → List TimedEvent → Type 0
 BindingEnds m k base port t marks = OnTheWay m k base (λ t s. EndsByTime port t s) (λ mark s new. EndsByEvent port mark.event s new) t marks
 
 -- The port has had the address since t0, after the events of `early`; those of `late` came by t. It keeps it, but for one
 -- of the three causes.
-pub data IsKept (m : Method) (k : Times) (base : AddrState) (early : List Mark) (t0 : ℕ) (late : List Mark) (t : ℕ) (port : Port) : Type 0 where
+pub data IsKept (m : Method) (k : Times) (base : AddrState) (early : List TimedEvent) (t0 : ℕ) (late : List TimedEvent) (t : ℕ) (port : Port) : Type 0 where
   but_for_silence : IsSilenced k port t0 t (state_at m k base early t0) (late ++ early) → IsKept m k base early t0 late t port
   but_for_operator : HasOperator late → IsKept m k base early t0 late t port
   but_for_dhcp : BindingEnds m k (state_at m k base early t0) port t late → IsKept m k base early t0 late t port

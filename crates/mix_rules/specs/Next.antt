@@ -81,17 +81,17 @@ is_free room (TestLt p since two) = false
 is_free room (TestVp p q since two) = false
 
 -- first come has a state of the port alone
-abbrev pub is_of : Port → Fcfs → Bool
-is_of port NoBind = false
-is_of port (Tentative p since two) = is_same p port
-is_of port (Valid p until) = is_same p port
-is_of port (TestLt p since two) = is_same p port
-is_of port (TestVp p q since two) = false
+abbrev pub is_only_at : Port → Fcfs → Bool
+is_only_at port NoBind = false
+is_only_at port (Tentative p since two) = is_same p port
+is_only_at port (Valid p until) = is_same p port
+is_only_at port (TestLt p since two) = is_same p port
+is_only_at port (TestVp p q since two) = false
 
 -- whether a lease binds the address to p
 abbrev pub is_granted : Bool → Port → Fcfs → Option Bound → Bool
 is_granted room p fcfs (Some bound) = is_same bound.p p || is_free room fcfs
-is_granted room p fcfs None = is_free room fcfs || is_of p fcfs
+is_granted room p fcfs None = is_free room fcfs || is_only_at p fcfs
 
 -- what stands of a binding once the client at p gave the address up
 abbrev pub ended_at : Port → Option Bound → Option Bound

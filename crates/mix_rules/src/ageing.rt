@@ -10,7 +10,7 @@ use fcfs_states::{Aged, Times};
 
 impl AddrState {
     ghost use Rattle.mix_rules.specs.States.{IsSoundFor};
-    ghost use Rattle.mix_rules.specs.Ageing.{aged_state, due_in, IsStill, IsTouched};
+    ghost use Rattle.mix_rules.specs.Ageing.{aged_state, due_next, IsStill, IsTouched};
     ghost use Rattle.mix_rules.specs.Premises.{AllMomentsFit};
 
     /// Ages the state to moment `t` (ms): what fell due by then takes place, each thing at its own moment, and each method
@@ -43,7 +43,7 @@ impl AddrState {
     pub fn due(&self, k: &Times) -> Option<u64>
         requires times { AreTimes k.now }
         requires fits { AllMomentsFit self.now }
-        ensures value { result ≡ due_in k.now self.now }
+        ensures value { result ≡ due_next k.now self.now }
         ensures first { IfSome result (λ due. (t : ℕ) → (IsTouched k.now t self.now ↔ (due ≤ t))) }
         ensures never { IsNone result → (t : ℕ) → ¬ IsTouched k.now t self.now }
     {
@@ -54,7 +54,7 @@ impl AddrState {
     fn first_due(&self, k: &Times) -> Option<u64>
         requires times { AreTimes k.now }
         requires fits { AllMomentsFit self.now }
-        ensures { result ≡ due_in k.now self.now }
+        ensures { result ≡ due_next k.now self.now }
     {
         let end = self.dhcp.and_then(|bound| bound.until);
         match (self.fcfs.due(k), end) {

@@ -11,7 +11,7 @@ use Rattle.nd_read.specs.declared.message.NdFault.{NdFault}
 use Rattle.nd_read.specs.declared.message.NdFault.TheVariants.{HopLimit, Code, Short, Checksum, Target, Options, Unspecified, Solicited}
 use Rattle.nd_read.specs.Messages.{kind_of, code_of, flags_of, target_of, fixed_len, behind_fixed, named}
 use Rattle.nd_read.specs.Options.{NdOption}
-use Rattle.nd_read.specs.Tests.{HasOptions, NamesSource, Passes, PassesBefore, number_of, IsFirstFailed, IsTested, Reads, solicited_node}
+use Rattle.nd_read.specs.Tests.{HasOptions, NamesSource, Passes, PassesBefore, test_number, IsFirstFailed, IsTested, Reads, solicited_node}
 use Rattle.nd_read.specs.OptionRow.{has_kind}
 use Rattle.nd_read.specs.NdOf.{implies, options_of, is_rs, is_ns, is_na, is_tested, passes, tests, first_fault, unless_failed, nd_of}
 use Rattle.nd_read.proofs.InPrefix.{Decides-leb, Decides-lies_in}
@@ -63,7 +63,7 @@ tested_decided message =
 -- these are the tests from this place on
 abbrev AreFrom : ℕ → List NdFault → Type 0
 AreFrom place [] = place ≡ 9
-AreFrom place (test ∷ later) = (number_of test ≡ place) × AreFrom (place + 1) later
+AreFrom place (test ∷ later) = (test_number test ≡ place) × AreFrom (place + 1) later
 
 tests_are : AreFrom 1 tests
 tests_are = (refl, (refl, (refl, (refl, (refl, (refl, (refl, (refl, refl))))))))
@@ -77,12 +77,12 @@ fault_is : (ip : Ip) (message : List ℕ) (later : List NdFault) (place : ℕ) �
 fault_is ip message [] place from known = let P : ℕ → Type 0 = λ n. PassesBefore n ip message in subst P from known
 fault_is ip message (test ∷ later) place from known =
     let P : ℕ → Type 0 = λ n. PassesBefore n ip message in
-    let before : PassesBefore (number_of test) ip message = subst P (sym from.0) known in
+    let before : PassesBefore (test_number test) ip message = subst P (sym from.0) known in
     let decided : Decides (passes test ip message) (Passes test ip message) = passes_decided test ip message in
     cond_both (not (passes test ip message)) (Some test) (find (λ test. not (passes test ip message)) later) (IsFault ip message)
     (λ fails. first_failed ip message test before (not_from_Decides _ decided (not-true _ fails)))
     (λ holds.
-    let more : PassesBefore (number_of test + 1) ip message = before_more ip message test before (decided.0 (not-false _ holds)) in
+    let more : PassesBefore (test_number test + 1) ip message = before_more ip message test before (decided.0 (not-false _ holds)) in
     fault_is ip message later (place + 1) from.1 (subst P (ap (λ (n : ℕ). n + 1) from.0) more))
 
 reads_by : (ip : Ip) (message : List ℕ) (fault : Option NdFault) → IsTested message → IsFault ip message fault → Reads ip message (unless_failed (named ip message) fault)

@@ -35,24 +35,24 @@ Passes Unspecified ip message =
 Passes Solicited ip message = IsNa message → LiesIn ip.dst.0 multicast → bit_and (flags_of message) 0x40 ≡ 0
 
 -- the place of a test in their order
-abbrev pub number_of : NdFault → ℕ
-number_of HopLimit = 1
-number_of Code = 2
-number_of Short = 3
-number_of Checksum = 4
-number_of Target = 5
-number_of Options = 6
-number_of Unspecified = 7
-number_of Solicited = 8
+abbrev pub test_number : NdFault → ℕ
+test_number HopLimit = 1
+test_number Code = 2
+test_number Short = 3
+test_number Checksum = 4
+test_number Target = 5
+test_number Options = 6
+test_number Unspecified = 7
+test_number Solicited = 8
 
 -- it passes the tests before a place in their order
 abbrev pub PassesBefore : ℕ → Ip → List ℕ → Type 0
-PassesBefore place ip message = (test : NdFault) → number_of test < place → Passes test ip message
+PassesBefore place ip message = (test : NdFault) → test_number test < place → Passes test ip message
 
 -- the fault of the first test that fails
 pub record IsFirstFailed (ip : Ip) (message : List ℕ) (fault : NdFault) : Type 0 where
   pub fails : ¬ Passes fault ip message
-  pub before : PassesBefore (number_of fault) ip message
+  pub before : PassesBefore (test_number fault) ip message
 
 -- the messages that are tested; the others are named by their type alone
 abbrev pub IsTested : List ℕ → Type 0

@@ -10,11 +10,11 @@ octets_of Little width n = to_le_bytes width n
 octets_of Big width n = to_be_bytes width n
 
 -- the number of 32 bits in these four octets
-abbrev pub number_of : ByteOrder → List ℕ → ℕ
-number_of Little octets = from_le_bytes w32 octets
-number_of Big octets = from_be_bytes w32 octets
+abbrev pub number_from : ByteOrder → List ℕ → ℕ
+number_from Little octets = from_le_bytes w32 octets
+number_from Big octets = from_be_bytes w32 octets
 
 -- the number of 32 bits in the four octets from a place on
 abbrev pub number_at : ByteOrder → ℕ → List ℕ → ℕ
 number_at order at octets =
-    number_of order (slice_index octets at ∷ slice_index octets (at + 1) ∷ slice_index octets (at + 2) ∷ slice_index octets (at + 3) ∷ [])
+    number_from order (slice_index octets at ∷ slice_index octets (at + 1) ∷ slice_index octets (at + 2) ∷ slice_index octets (at + 3) ∷ [])

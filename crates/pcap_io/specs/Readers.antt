@@ -22,15 +22,15 @@ Comes (Fresh kinds) octets input = Arrive kinds octets input
 Comes (Running kind place) octets input = IsRun kind place input.arrivals input.ending octets
 Comes (Ended ending) octets input = input ≡ ended ending
 
--- how many octets were read so far
-abbrev pub place_of : State → ℕ
-place_of (Fresh kinds) = 0
-place_of (Running kind place) = place
-place_of (Ended ending) = 0
+-- where the next record begins: how many octets were read so far
+abbrev pub record_place : State → ℕ
+record_place (Fresh kinds) = 0
+record_place (Running kind place) = place
+record_place (Ended ending) = 0
 
 -- the state holds no place past 2^62
 abbrev pub IsPlaced : State → Type 0
-IsPlaced state = place_of state ≤ 2 ^ 62
+IsPlaced state = record_place state ≤ 2 ^ 62
 
 -- From the first state to the second one these octets were taken and gave these arrivals: whatever comes
 -- behind them, they come before it.
@@ -43,9 +43,9 @@ HasRead first now gave arrivals =
 -- One arrival was read, a record of at least 16 octets, and the reader stands behind it.
 pub record HasReadOne (old new : State) (gave : List ℕ) (arrival : Arrival) : Type 0 where
   pub read : HasRead old new gave (arrival ∷ [])
-  pub running : (kind : HeaderKind) × (new ≡ Running kind (place_of old + length gave))
+  pub running : (kind : HeaderKind) × (new ≡ Running kind (record_place old + length gave))
   pub some : 16 ≤ length gave
-  pub placed : place_of old + length gave ≤ 2 ^ 62
+  pub placed : record_place old + length gave ≤ 2 ^ 62
 
 -- Nothing comes any more, and the input ends so: what was taken, alone and with what is left behind it,
 -- where that is told, is no arrival and this ending.

@@ -12,7 +12,7 @@ use Rattle.savi_kinds.specs.Arrivals.{Arrival}
 use Rattle.savi_kinds.specs.Arrivals as arrivals
 use Rattle.savi_ends.specs.Faults.{Rose}
 use Rattle.savi_ends.specs.Octets.{Takes}
-use Rattle.pcap_io.specs.Readers.{State, Comes, HasRead, place_of}
+use Rattle.pcap_io.specs.Readers.{State, Comes, HasRead, record_place}
 use Rattle.pcap_io.specs.Runs.{ended}
 use Rattle.hist_store.specs.Rows.{Row}
 use Rattle.savi_history.specs.Bases.{empty}
@@ -71,9 +71,9 @@ read_more : {S K C : Type 0} (left : S → Option (List ℕ)) (past : List Row) 
     → FitsAhead first.reader new.reader (one ++ two) new.buf (left first.ends.source) (left new.ends.source) (arrived (number_of first.port) past) (input_end (number_of first.port) past) a
 read_more left past first old new one two ahead.Unread a_is take_one take_two none read is = absurd is
 read_more left past first old new one two (ahead.Frame stamp len) a_is take_one take_two none read is =
-    (none, read_twice first.reader old.reader new.reader one two (arrived (number_of first.port) past) (arrivals.Frame stamp (take len new.buf) ∷ []) read is.read, (is.running.0, place_of old.reader + length two, is.running.1))
+    (none, read_twice first.reader old.reader new.reader one two (arrived (number_of first.port) past) (arrivals.Frame stamp (take len new.buf) ∷ []) read is.read, (is.running.0, record_place old.reader + length two, is.running.1))
 read_more left past first old new one two (ahead.Long stamp len) a_is take_one take_two none read is =
-    (none, read_twice first.reader old.reader new.reader one two (arrived (number_of first.port) past) (arrivals.Long stamp len ∷ []) read is.read, (is.running.0, place_of old.reader + length two, is.running.1))
+    (none, read_twice first.reader old.reader new.reader one two (arrived (number_of first.port) past) (arrivals.Long stamp len ∷ []) read is.read, (is.running.0, record_place old.reader + length two, is.running.1))
 read_more left past first old new one two ahead.End a_is take_one take_two none read is =
     (none, whole_at first.reader old.reader one two (arrived (number_of first.port) past) hows.End (left first.ends.source) (left old.ends.source) (left new.ends.source) take_one take_two read is.whole)
 read_more left past first old new one two (ahead.Malformed at) a_is take_one take_two none read is =

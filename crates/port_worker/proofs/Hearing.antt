@@ -6,9 +6,9 @@ use Rattle.std.proofs.lemmas.List.Elements.{All-cons, All-nil}
 use Rattle.std.proofs.lemmas.List.{get_or_append_left}
 use Rattle.savi_kinds.specs.declared.entry.How.{How}
 use Rattle.savi_kinds.specs.declared.entry.How.TheVariants as hows
+use Rattle.savi_kinds.specs.Characters.{space}
 use Rattle.savi_ends.specs.Octets.{Takes, NothingLeft, in_front}
 use Rattle.cli_lang.specs.Arrivals.{Line, Input, Says, IsRun, EndsAs}
-use Rattle.cli_lang.specs.Words.{space}
 use Rattle.cli_lang.specs.Readers.{State, Running, Ended, Comes, HasRead, HasReadOne, HasEnded, ended}
 use Rattle.cli_lang.proofs.Existence.{some_later}
 use Rattle.savi_history.specs.Readable.{IsControlEnding}

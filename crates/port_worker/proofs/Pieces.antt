@@ -14,7 +14,7 @@ use Rattle.pcap_io.specs.Captures.{header_text, record_text, records_text, captu
 use Rattle.savi_history.specs.Queues.{Item}
 use Rattle.savi_history.specs.Outputs.{sent_items}
 use Rattle.savi_history.specs.PortOutputs.{pieces, TookPieces}
-use Rattle.savi_core.specs.Batches.{sent_item}
+use Rattle.savi_core.specs.Batches.{item_with}
 use Rattle.port_worker.specs.SentFrames.{records, TookAs, TookMore}
 
 behind_none : (o : Option (List ℕ)) → o ≡ behind o []
@@ -88,16 +88,16 @@ get_at (y ∷ ys) zero x d is = cc
 get_at (y ∷ ys) (suc i) x d is = get_at ys i x d is
 
 -- what stands behind a front of a batch
-split_at : (batch : List Item) (i moment : ℕ) (frame : List ℕ) → i < length batch → slice_get batch i ≡ Some (sent_item moment frame) → take (i + 1) batch ≡ take i batch ++ sent_item moment frame ∷ []
+split_at : (batch : List Item) (i moment : ℕ) (frame : List ℕ) → i < length batch → slice_get batch i ≡ Some (item_with moment frame) → take (i + 1) batch ≡ take i batch ++ item_with moment frame ∷ []
 split_at batch i moment frame inside item =
-    take_more batch i (sent_item moment frame) inside ∙ ap (λ (x : Item). take i batch ++ x ∷ []) (get_at batch i (sent_item moment frame) (sent_item moment frame) item)
+    take_more batch i (item_with moment frame) inside ∙ ap (λ (x : Item). take i batch ++ x ∷ []) (get_at batch i (item_with moment frame) (item_with moment frame) item)
 
 -- one more frame of a batch is written
-pub wrote_more : (first mid new : Option (List ℕ)) (batch : List Item) (i moment : ℕ) (frame : List ℕ) → i < length batch → slice_get batch i ≡ Some (sent_item moment frame)
+pub wrote_more : (first mid new : Option (List ℕ)) (batch : List Item) (i moment : ℕ) (frame : List ℕ) → i < length batch → slice_get batch i ≡ Some (item_with moment frame)
     → TookPieces first mid (records (take i batch)) None → Extends put.Done mid new (record_text moment frame) → TookPieces first new (records (take (i + 1) batch)) None
 wrote_more first mid new batch i moment frame inside item so_far wrote =
     subst (λ (l : List (List ℕ)). TookPieces first new l None)
-    (sym (ap records (split_at batch i moment frame inside item) ∙ records-append (take i batch) (sent_item moment frame ∷ [])))
+    (sym (ap records (split_at batch i moment frame inside item) ∙ records-append (take i batch) (item_with moment frame ∷ [])))
     (took_then first mid new (records (take i batch)) (record_text moment frame ∷ []) so_far (took_one put.Done mid new (record_text moment frame) wrote))
 
 -- a failed write in front of more of them
@@ -112,13 +112,13 @@ front_of_more before after xs ys whole took =
     )
 
 -- a frame of a batch that is not written whole
-pub wrote_front : (first mid new : Option (List ℕ)) (batch : List Item) (i moment : ℕ) (frame : List ℕ) → i < length batch → slice_get batch i ≡ Some (sent_item moment frame)
+pub wrote_front : (first mid new : Option (List ℕ)) (batch : List Item) (i moment : ℕ) (frame : List ℕ) → i < length batch → slice_get batch i ≡ Some (item_with moment frame)
     → TookPieces first mid (records (take i batch)) None → Extends put.Failed mid new (record_text moment frame) → TookAs put.Failed first new (records batch)
 wrote_front first mid new batch i moment frame inside item so_far wrote =
     let failed = took_one put.Failed mid new (record_text moment frame) wrote in
     let here = took_until first mid new (records (take i batch)) (record_text moment frame ∷ []) failed.0 so_far failed.1 in
     let upto : records (take (i + 1) batch) ≡ records (take i batch) ++ record_text moment frame ∷ [] =
-    ap records (split_at batch i moment frame inside item) ∙ records-append (take i batch) (sent_item moment frame ∷ []) in
+    ap records (split_at batch i moment frame inside item) ∙ records-append (take i batch) (item_with moment frame ∷ []) in
     let all : (records (take i batch) ++ record_text moment frame ∷ []) ++ records (drop (i + 1) batch) ≡ records batch =
     ap (λ (l : List (List ℕ)). l ++ records (drop (i + 1) batch)) (sym upto)
     ∙ sym (records-append (take (i + 1) batch) (drop (i + 1) batch))

@@ -12,7 +12,7 @@ use Rattle.savi_kinds.specs.Arrivals as arrivals
 use Rattle.savi_ends.specs.Octets.{Takes}
 use Rattle.pcap_io.specs.declared.kind.HeaderKind.{HeaderKind}
 use Rattle.pcap_io.specs.Runs.{IsRun, EndsAs, ended}
-use Rattle.pcap_io.specs.Readers.{State, Comes, HasRead, place_of}
+use Rattle.pcap_io.specs.Readers.{State, Comes, HasRead, record_place}
 use Rattle.pcap_io.proofs.Existence.{some_later}
 use Rattle.hist_store.specs.Rows.{Row}
 use Rattle.savi_history.specs.Passes.{pass_of}
@@ -174,8 +174,8 @@ at_turn left port state buf ahead.Done t is = cc
 -- one more read, behind what was read
 pub read_ahead : (first mid now : State) (one two : List ℕ) (front : List Arrival) (buf : List ℕ) (left : Option (List ℕ)) (a : Ahead) → HasRead first mid one front → IsReadAs mid now two buf left a → HasReadAhead first now (one ++ two) buf front a
 read_ahead first mid now one two front buf left ahead.Unread read is = absurd is
-read_ahead first mid now one two front buf left (ahead.Frame stamp len) read is = (read_twice first mid now one two front (arrivals.Frame stamp (take len buf) ∷ []) read is.read, (is.running.0, place_of mid + length two, is.running.1))
-read_ahead first mid now one two front buf left (ahead.Long stamp len) read is = (read_twice first mid now one two front (arrivals.Long stamp len ∷ []) read is.read, (is.running.0, place_of mid + length two, is.running.1))
+read_ahead first mid now one two front buf left (ahead.Frame stamp len) read is = (read_twice first mid now one two front (arrivals.Frame stamp (take len buf) ∷ []) read is.read, (is.running.0, record_place mid + length two, is.running.1))
+read_ahead first mid now one two front buf left (ahead.Long stamp len) read is = (read_twice first mid now one two front (arrivals.Long stamp len ∷ []) read is.read, (is.running.0, record_place mid + length two, is.running.1))
 read_ahead first mid now one two front buf left ahead.End read is = tt
 read_ahead first mid now one two front buf left (ahead.Malformed at) read is = tt
 read_ahead first mid now one two front buf left ahead.Failed read is = (is.taken.0, read_behind first mid one two front is.taken.0 read is.taken.1)

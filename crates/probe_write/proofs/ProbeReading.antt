@@ -18,7 +18,7 @@ use Rattle.nd_read.specs.declared.message.NdFault.TheVariants.{HopLimit, Code, S
 use Rattle.nd_read.specs.Messages.{named, target_of, IsNs, behind_fixed}
 use Rattle.nd_read.specs.Options.{NdOption, AreOptions, IsWhole, HasKind, octets_of}
 use Rattle.nd_read.specs.Tests.{Passes, Reads, solicited_node}
-use Rattle.probe_write.specs.ProbeFrame.{no_address, solicited_node_of, group_mac_of, solicitation_with, solicitation_of, ethernet_of, header_of, probe_of}
+use Rattle.probe_write.specs.ProbeFrame.{no_address, solicited_node_of, group_mac_of, solicitation_with, solicitation_of, ethernet_of, header_octets, probe_of}
 use Rattle.probe_write.specs.ProbeReading.{ip_of, AsksFor}
 use Rattle.probe_write.proofs.ProbeOctets.{length-solicitation, field_is}
 use Rattle.v6_sum.proofs.Checksums.{checksum-filled}
@@ -26,18 +26,18 @@ use Rattle.v6_sum.proofs.WordLists.{IsBelow, below-append, below-high_first}
 use Rattle.v6_sum.specs.InternetChecksum.{with_word_at}
 
 -- the packet behind the Ethernet header
-pub packet_is : (mac : Mac) (target : Addr) → length mac.0 ≡ 6 → drop 14 (probe_of mac target) ≡ header_of target ++ solicitation_of target
+pub packet_is : (mac : Mac) (target : Addr) → length mac.0 ≡ 6 → drop 14 (probe_of mac target) ≡ header_octets target ++ solicitation_of target
 unfolding probe_of
 packet_is mac target six =
     let ethernet = ethernet_of mac target in
     let len : length ethernet ≡ 14 = omega (arith, six, length-append (group_mac_of (solicited_node_of target) ++ mac.0) (134 ∷ 221 ∷ []), length-append (group_mac_of (solicited_node_of target)) mac.0) in
-    ap (drop 14) (append_assoc ethernet (header_of target) (solicitation_of target)) ∙ drop_at ethernet (header_of target ++ solicitation_of target) 14 len
+    ap (drop 14) (append_assoc ethernet (header_octets target) (solicitation_of target)) ∙ drop_at ethernet (header_octets target ++ solicitation_of target) 14 len
 
 group-fits : (target : Addr) → (solicited_node_of target).0 < 256 ^ 16
 unfolding solicited_node_of
 group-fits target = omega arith
 
-pub is_packet : (target : Addr) → IsPacket (header_of target ++ solicitation_of target) (ip_of target)
+pub is_packet : (target : Addr) → IsPacket (header_octets target ++ solicitation_of target) (ip_of target)
 is_packet target =
     let group = (solicited_node_of target).0 in
     let address : ℕ → Ip = λ n. record { src = no_address; dst = record { 0 = n }; next = 58; hop = 255; len = 24 } in
@@ -45,7 +45,7 @@ is_packet target =
     record {
       header = ap address (sym back);
       version = refl;
-      whole = omega (arith, length-append (header_of target) (solicitation_of target), length-solicitation target (checksum no_address (solicited_node_of target) 58 (solicitation_with target 0)));
+      whole = omega (arith, length-append (header_octets target) (solicitation_of target), length-solicitation target (checksum no_address (solicited_node_of target) 58 (solicitation_with target 0)));
       source = λ h. omega (arith, h.0);
     }
 
@@ -105,7 +105,7 @@ unfolding probe_of
 length-probe mac target =
     let ethernet = ethernet_of mac target in
     let sol = length-solicitation target (checksum no_address (solicited_node_of target) 58 (solicitation_with target 0)) in
-    omega (arith, sol, length-append (ethernet ++ header_of target) (solicitation_of target), length-append ethernet (header_of target), length-append (group_mac_of (solicited_node_of target) ++ mac.0) (134 ∷ 221 ∷ []), length-append (group_mac_of (solicited_node_of target)) mac.0)
+    omega (arith, sol, length-append (ethernet ++ header_octets target) (solicitation_of target), length-append ethernet (header_octets target), length-append (group_mac_of (solicited_node_of target) ++ mac.0) (134 ∷ 221 ∷ []), length-append (group_mac_of (solicited_node_of target)) mac.0)
 
 octets-below : (target : Addr) → IsBelow 256 (solicitation_with target 0)
 unfolding solicitation_with
@@ -130,7 +130,7 @@ message_is : (mac : Mac) (target : Addr) → length mac.0 ≡ 6 → drop 54 (pro
 message_is mac target six =
     sym (drop-drop 40 14 (probe_of mac target))
     ∙ ap (drop 40) (packet_is mac target six)
-    ∙ drop_at (header_of target) (solicitation_of target) 40 refl
+    ∙ drop_at (header_octets target) (solicitation_of target) 40 refl
 
 pub asks_for : (mac : Mac) (target : Addr) → length mac.0 ≡ 6 → target.0 < 2 ^ 128 → (LiesIn target.0 multicast → ⊥) → AsksFor target (probe_of mac target)
 asks_for mac target six fits single = record {

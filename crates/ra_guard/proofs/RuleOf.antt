@@ -17,7 +17,7 @@ use Rattle.nd_read.proofs.InPrefix.{Decides-leb, Decides-lies_in}
 use Rattle.frame_class.specs.declared.classes.Class.{Class}
 use Rattle.frame_class.specs.declared.classes.Class.TheVariants.{Runt, Tagged, Other, BadIp, Ip6}
 use Rattle.frame_class.specs.declared.classes.Read.TheVariants.{Bad, Hidden, Unknown, Icmp, Udp}
-use Rattle.ra_guard.specs.Guard.{HasEth, IsTagged, IsBad, IsHidden, IsUnknown, HasIcmp, HasUdp, IsRouterAdvert, IsDiscovery, IsValidated, IsFromServer, Applies, NoneBefore, IsFirst, is_reserved, link_local_unicast}
+use Rattle.ra_guard.specs.Guard.{HasEth, IsTagged, IsBad, IsHidden, IsUnknown, HasIcmp, HasUdp, IsRouterAdvert, IsDiscovery, IsValidatedType, IsFromServer, Applies, NoneBefore, IsFirst, is_reserved, link_local_unicast}
 use Rattle.ra_guard.specs.GuardOf.{is_validating, is_host, is_runt, has_eth, is_tagged, is_bad, is_hidden, is_unknown, has_icmp, has_udp, is_router_advert, is_discovery, is_validated, is_octet, is_from_server, applies, message_rules, guard_of}
 use Rattle.ra_guard.proofs.RuleOrder.{none_more, one_first}
 
@@ -87,7 +87,7 @@ advert_decided ip kind =
 discovery_decided : (kind : ℕ) → Decides (is_discovery kind) (IsDiscovery kind)
 discovery_decided kind = Decides-and (nat_le 133 kind) _ (Decides-leb 133 kind) (Decides-leb kind 137)
 
-validated_decided : (kind : ℕ) → Decides (is_validated kind) (IsValidated kind)
+validated_decided : (kind : ℕ) → Decides (is_validated kind) (IsValidatedType kind)
 validated_decided kind = Decides-or (kind == 133) _ (Decides-eqb kind 133) (Decides-or (kind == 135) _ (Decides-eqb kind 135) (Decides-eqb kind 136))
 
 fragmented_decided : (fragmented : Bool) → Decides (not fragmented) (fragmented ≡ false)
@@ -132,7 +132,7 @@ applies_decided role drop_unknown class rules.FragmentedNd =
     (icmp_decided (λ ip kind fragmented nd. is_discovery kind && fragmented) (λ ip kind fragmented nd. IsDiscovery kind × (fragmented ≡ true)) (λ ip kind fragmented nd. Decides-and (is_discovery kind) fragmented (discovery_decided kind) (itself fragmented)) class)
 applies_decided role drop_unknown class rules.BadNd =
     Decides-and (is_validating role) _ (validating_decided role)
-    (icmp_decided (λ ip kind fragmented nd. is_validated kind && (not fragmented && is_none nd)) (λ ip kind fragmented nd. IsValidated kind × (fragmented ≡ false) × (nd ≡ None)) (λ ip kind fragmented nd.
+    (icmp_decided (λ ip kind fragmented nd. is_validated kind && (not fragmented && is_none nd)) (λ ip kind fragmented nd. IsValidatedType kind × (fragmented ≡ false) × (nd ≡ None)) (λ ip kind fragmented nd.
     Decides-like (is_validated kind && (not fragmented && is_none nd)) (λ h. (h.0, h.1.0, h.1.1)) (λ h. (h.0, (h.1, h.2)))
     (Decides-and (is_validated kind) _ (validated_decided kind) (Decides-and (not fragmented) _ (fragmented_decided fragmented) (none_decided nd)))) class)
 applies_decided role drop_unknown class rules.Redirect =

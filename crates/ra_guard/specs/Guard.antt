@@ -74,8 +74,8 @@ abbrev pub IsDiscovery : ℕ → Type 0
 IsDiscovery kind = (133 ≤ kind) × (kind ≤ 137)
 
 -- router solicitation, neighbor solicitation and neighbor advertisement
-abbrev pub IsValidated : ℕ → Type 0
-IsValidated kind = (kind ≡ 133) ⊎ ((kind ≡ 135) ⊎ (kind ≡ 136))
+abbrev pub IsValidatedType : ℕ → Type 0
+IsValidatedType kind = (kind ≡ 133) ⊎ ((kind ≡ 135) ⊎ (kind ≡ 136))
 
 -- A datagram to a DHCPv6 client (port 546), or one to a server or relay (port 547) with a message that relays and servers
 -- send one another: Relay-forw (12) or Relay-repl (13).
@@ -107,7 +107,7 @@ Applies role drop_unknown class rules.FragmentedNd =
     (role ≢ roles.Trusted) × HasIcmp (λ ip kind fragmented nd. IsDiscovery kind × (fragmented ≡ true)) class
 -- a message of neighbor discovery that fails its validation (RFC 4861 sections 6.1.1, 7.1.1 and 7.1.2)
 Applies role drop_unknown class rules.BadNd =
-    (role ≢ roles.Trusted) × HasIcmp (λ ip kind fragmented nd. IsValidated kind × (fragmented ≡ false) × (nd ≡ None)) class
+    (role ≢ roles.Trusted) × HasIcmp (λ ip kind fragmented nd. IsValidatedType kind × (fragmented ≡ false) × (nd ≡ None)) class
 -- a redirect (type 137, RFC 4861 section 8), which only routers send
 Applies role drop_unknown class rules.Redirect =
     (role ≢ roles.Trusted) × HasIcmp (λ ip kind fragmented nd. kind ≡ 137) class

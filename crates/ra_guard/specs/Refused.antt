@@ -8,7 +8,7 @@ use Rattle.savi_kinds.specs.Rules.{rule_number}
 use Rattle.eth_frame.specs.Frame.{header_of, payload_of}
 use Rattle.v6_chain.specs.declared.packet.Ip.{Ip}
 use Rattle.v6_chain.specs.Packet.{IsPacket}
-use Rattle.v6_chain.specs.Outcome.{Shows, IsHidden}
+use Rattle.v6_chain.specs.Outcome.{Shows, HidesUpper}
 use Rattle.frame_class.specs.declared.classes.Class.{Class}
 use Rattle.frame_class.specs.Reading.{ipv6_type, IsClassOf}
 use Rattle.ra_guard.specs.Guard.{Applies, IsFirst, link_local_unicast}
@@ -31,7 +31,7 @@ pub record IsHiddenFrame (frame : List ℕ) : Type 0 where
   pub ip : Ip
   pub ipv6 : (header_of frame).kind ≡ ipv6_type
   pub packet : IsPacket (payload_of frame) ip
-  pub hidden : IsHidden ip (payload_of frame)
+  pub hidden : HidesUpper ip (payload_of frame)
 
 -- the guard stops each frame with this property, at a port whose sources are validated, by a rule up to this number
 abbrev pub IsStopped : (List ℕ → Type 0) → ℕ → Type 0

@@ -3,7 +3,7 @@
 ghost use Rattle.std.specs.Prelude.{◌≡◌, ◌≢◌, ◌↔◌, Option, IsTrue};
 ghost use Rattle.savi_kinds.specs.Prefixes.{LiesIn};
 ghost use Rattle.savi_kinds.specs.declared.verdict.Rule.{Rule};
-ghost use Rattle.ra_guard.specs.Guard.{Applies, NoneBefore, IsFirst, IsRouterAdvert, IsDiscovery, IsValidated, IsFromServer, is_reserved, link_local_unicast};
+ghost use Rattle.ra_guard.specs.Guard.{Applies, NoneBefore, IsFirst, IsRouterAdvert, IsDiscovery, IsValidatedType, IsFromServer, is_reserved, link_local_unicast};
 ghost use Rattle.ra_guard.specs.Parts.{IsPacketRule, IsMessageRule};
 
 use frame_class::{Class, Read};
@@ -128,7 +128,7 @@ fn is_discovery(kind: u8) -> bool
 
 /// Whether messages of a type are validated when they are read (RFC 4861 sections 6.1.1 and 7.1).
 fn is_validated(kind: u8) -> bool
-    ensures { IsTrue result ↔ IsValidated kind }
+    ensures { IsTrue result ↔ IsValidatedType kind }
 {
     matches!(
         kind,

@@ -10,13 +10,13 @@ use Rattle.eth_frame.specs.Frame.{header_of as ethernet_of, payload_of}
 use Rattle.v6_chain.specs.declared.packet.Ip.{Ip}
 use Rattle.v6_chain.specs.declared.outcome.Chain.{Chain}
 use Rattle.v6_chain.specs.declared.outcome.Chain.TheVariants as chains
-use Rattle.v6_chain.specs.Packet.{header_of, body_of}
+use Rattle.v6_chain.specs.Packet.{header_fields, body_of}
 use Rattle.v6_chain.specs.Outcome.{message_of}
 use Rattle.v6_chain.specs.ChainOf.{chain_of}
 use Rattle.dhcp6_read.specs.declared.message.Dhcp.{Dhcp}
 use Rattle.dhcp6_read.specs.declared.message.DhcpFault.{DhcpFault}
 use Rattle.dhcp6_read.specs.declared.message.Lease.{Lease}
-use Rattle.dhcp6_read.specs.Options.{DhcpOption, Row, number_of}
+use Rattle.dhcp6_read.specs.Options.{DhcpOption, OptionsRead, option_code}
 use Rattle.dhcp6_read.specs.Levels.{Said, row_says, status_says, in_address, lease_of, address_says, in_ia, ia_says, duid_says, in_message}
 use Rattle.dhcp6_read.specs.Message.{read_whole, unless_fault, reading, is_relayed, kind_of as dhcp_kind}
 use Rattle.dhcp6_read.specs.DhcpOf.{begins_whole, front_option, behind_front, in_front, no_option, row_within, option_row, dhcp_of}
@@ -49,7 +49,7 @@ abbrev HaveBytes : List DhcpOption → Type 0
 HaveBytes [] = Unit {0}
 HaveBytes (option ∷ options) = IsBytes option.content × HaveBytes options
 
-row_at : (b : Bool) (octets : List ℕ) (row : Row) → IsBytes octets → HaveBytes row.options → HaveBytes (if b then in_front (front_option octets) row else no_option octets).options
+row_at : (b : Bool) (octets : List ℕ) (row : OptionsRead) → IsBytes octets → HaveBytes row.options → HaveBytes (if b then in_front (front_option octets) row else no_option octets).options
 row_at true octets row bytes rest = (bytes_take (big_number 2 (drop 2 octets)) (drop 4 octets) (bytes_drop 4 octets bytes), rest)
 row_at false octets row bytes rest = tt
 
@@ -69,11 +69,11 @@ no_leases : AreShort []
 no_leases = All-nil (λ (lease : Lease). lease.valid < 2 ^ 32)
 
 flat_short : (says : ℕ → List ℕ → Said) → ((code : ℕ) (content : List ℕ) → IsBytes content → Short (says code content)) → (options : List DhcpOption) → HaveBytes options
-    → AreShort (flat_map (λ (option : DhcpOption). (says (number_of option) option.content).leases) options)
+    → AreShort (flat_map (λ (option : DhcpOption). (says (option_code option) option.content).leases) options)
 flat_short says short [] bytes = no_leases
 flat_short says short (option ∷ options) bytes =
-    All-append (λ (lease : Lease). lease.valid < 2 ^ 32) (says (number_of option) option.content).leases (flat_map (λ (o : DhcpOption). (says (number_of o) o.content).leases) options)
-    (short (number_of option) option.content bytes.0) (flat_short says short options bytes.1)
+    All-append (λ (lease : Lease). lease.valid < 2 ^ 32) (says (option_code option) option.content).leases (flat_map (λ (o : DhcpOption). (says (option_code o) o.content).leases) options)
+    (short (option_code option) option.content bytes.0) (flat_short says short options bytes.1)
 
 none_if : (b : Bool) (leases : List Lease) → AreShort leases → AreShort (if b then [] else leases)
 none_if true leases short = no_leases
@@ -90,7 +90,7 @@ lease_short : (content : List ℕ) → IsBytes content → (lease_of content).va
 unfolding lease_of
 lease_short content bytes = four_bytes (drop 20 content) (bytes_drop 20 content bytes)
 
-module _ (row_of : List ℕ → Row) (gives : (octets : List ℕ) → IsBytes octets → HaveBytes (row_of octets).options) (kind : ℕ) where
+module _ (row_of : List ℕ → OptionsRead) (gives : (octets : List ℕ) → IsBytes octets → HaveBytes (row_of octets).options) (kind : ℕ) where
   address_short : (content : List ℕ) → IsBytes content → Short (address_says row_of kind content)
   address_short content bytes =
       said_if (nat_lt (length content) 24) _ _ no_leases
@@ -125,9 +125,9 @@ reads_if : (b : Bool) (x y : Result Dhcp DhcpFault) → Reads x → Reads y → 
 reads_if true x y first second = first
 reads_if false x y first second = second
 
-reading_short : (row_of : List ℕ → Row) → ((octets : List ℕ) → IsBytes octets → HaveBytes (row_of octets).options) → (message : List ℕ) → IsBytes message → Reads (reading row_of message)
+reading_short : (row_of : List ℕ → OptionsRead) → ((octets : List ℕ) → IsBytes octets → HaveBytes (row_of octets).options) → (message : List ℕ) → IsBytes message → Reads (reading row_of message)
 reading_short row_of gives message bytes =
-    let row : Row = row_of (drop 4 message) in
+    let row : OptionsRead = row_of (drop 4 message) in
     let said : Said = row_says (in_message row_of (dhcp_kind message)) row in
     reads_if (nat_lt (length message) 4) _ _ tt
     (reads_if (is_relayed (dhcp_kind message)) _ _ no_leases
@@ -182,7 +182,7 @@ typed_short : (eth : Eth) (payload : List ℕ) → IsBytes payload → AreLifeti
 typed_short eth payload bytes =
     class_if (is_tag eth.kind) _ _ tt
     (class_if (eth.kind == ipv6_type) _ _
-    (class_if (is_packet payload) _ _ (read_short (header_of payload) payload (chain_of (header_of payload) payload) bytes) tt)
+    (class_if (is_packet payload) _ _ (read_short (header_fields payload) payload (chain_of (header_fields payload) payload) bytes) tt)
     tt)
 
 -- valid lifetimes in a frame are of 32 bits

@@ -117,7 +117,8 @@ module _ (r : AccessRules) (base : AccessBase) where
       own_live : IsLiveHere r base vlan port t (with_event r base vlan port t a (Sent port) past) a
       own_live = subst (λ s. IsLiveAt s port) (sym own_state) (sent-stays m r.addresses.times t named.room (state_now past a) port live)
 
-      -- what the source of a packet is told leaves each address that is live at the port live there, and makes none live there
+      -- what the source of a packet is told leaves each address that is live at the port live there, and makes none live
+      -- there
       pub same_target : (b : ℕ) → (IsLiveHere r base vlan port t (with_event r base vlan port t a (Sent port) past) b ↔ IsLiveHere r base vlan port t past b)
       same_target b =
           elim (cases_Bool (names vlan b named)) [

@@ -30,7 +30,7 @@ use Rattle.savi_core.specs.Lanes.{Lane}
 use Rattle.savi_core.specs.Rings.{Rings, shut_in, uncounted}
 use Rattle.savi_core.specs.Waits.{Show}
 use Rattle.savi_core.specs.Judges.{Judges, Ages}
-use Rattle.savi_core.specs.Remembers.{Kept, Remembers}
+use Rattle.savi_core.specs.Remembers.{CoreState, Remembers}
 use Rattle.savi_core.specs.Tells.{Tells}
 use Rattle.savi_core.proofs.Lanes.{probed_lane}
 use Rattle.savi_core.proofs.Probing.{shut_by}
@@ -38,11 +38,11 @@ use Rattle.savi_core.proofs.Stepping.{probed_now, probes_now}
 use Rattle.savi_core.proofs.Telling.{frame_offers, few_frame, few_due_by}
 
 -- the moment of an entry with a stamp is of 62 bits
-pub early_now : {k : Kept} (was : Remembers k) (stamp t : ℕ) → t ≡ moment_at k.base (reverse k.rows) stamp → t ≤ 2 ^ 62
+pub early_now : {k : CoreState} (was : Remembers k) (stamp t : ℕ) → t ≡ moment_at k.base (reverse k.rows) stamp → t ≤ 2 ^ 62
 early_now {k} was stamp t moment_is = omega (arith, moment_is, last_small k.plan k.base (reverse k.rows) was.within was.legal)
 
 -- what is said of a plan that is lent is said of the core's
-module _ {k : Kept} (was : Remembers k) (table : Table) (tells : Tells k.plan k.base (reverse k.rows) k.moment table) (lent : Plan) (same : lent ≡ k.plan) (t : ℕ) (order : k.moment ≤ t) where
+module _ {k : CoreState} (was : Remembers k) (table : Table) (tells : Tells k.plan k.base (reverse k.rows) k.moment table) (lent : Plan) (same : lent ≡ k.plan) (t : ℕ) (order : k.moment ≤ t) where
   given : Represents (rules_of lent) (access_of k.base) (marks k.plan k.base (reverse k.rows)) k.moment table
   given = subst (λ (p : Plan). Represents (rules_of p) (access_of k.base) (marks k.plan k.base (reverse k.rows)) k.moment table) (sym same) tells.states
 
@@ -58,7 +58,7 @@ module _ {k : Kept} (was : Remembers k) (table : Table) (tells : Tells k.plan k.
   aged_here table' rings rings' raw =
       subst (λ (p : Plan). Ages (rules_of p) k.moment t table' rings rings' (access_of k.base) (marks k.plan k.base (reverse k.rows))) same (raw (access_of k.base) (marks k.plan k.base (reverse k.rows)) given order)
 
-module _ {k : Kept} (was : Remembers k) (table : Table) (tells : Tells k.plan k.base (reverse k.rows) k.moment table) (table' : Table) (rings rings' : Rings) (lanes_are : rings.lanes ≡ k.lanes) (shut_are : rings.shut ≡ k.shut) (t stamp : ℕ) (moment_is : t ≡ moment_at k.base (reverse k.rows) stamp) where
+module _ {k : CoreState} (was : Remembers k) (table : Table) (tells : Tells k.plan k.base (reverse k.rows) k.moment table) (table' : Table) (rings rings' : Rings) (lanes_are : rings.lanes ≡ k.lanes) (shut_are : rings.shut ≡ k.shut) (t stamp : ℕ) (moment_is : t ≡ moment_at k.base (reverse k.rows) stamp) where
   start : uncounted rings ≡ record { lanes = k.lanes; shut = k.shut; queued = 0; lost = 0 }
   start = ap (λ (lanes : List (Lane Queued)). record { lanes = lanes; shut = rings.shut; queued = 0; lost = 0 }) lanes_are ∙ ap (λ (shut : PortSet). record { lanes = k.lanes; shut = shut; queued = 0; lost = 0 }) shut_are
 

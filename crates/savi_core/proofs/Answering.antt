@@ -12,10 +12,10 @@ use Rattle.savi_kinds.specs.declared.port.PortSet.{PortSet}
 use Rattle.savi_kinds.specs.declared.entry.Act.{Act}
 use Rattle.savi_kinds.specs.declared.entry.Act.TheVariants as acts
 use Rattle.savi_kinds.specs.Ports.{number_of}
-use Rattle.dhcp_states.specs.Requests.{open_at, count_at as requests_at}
+use Rattle.dhcp_states.specs.Requests.{open_at, requests_at_port}
 use Rattle.bind_table.specs.Rows.{count_at}
 use Rattle.bridge_fdb.specs.declared.station.Station.{Station}
-use Rattle.bridge_fdb.specs.Stations.{live_at, row_of}
+use Rattle.bridge_fdb.specs.Stations.{live_at, station_told}
 use Rattle.cli_lang.specs.declared.kinds.Command.{Command}
 use Rattle.cli_lang.specs.declared.kinds.Command.TheVariants.{ShowBindings, ShowPorts, ShowCounters, ShowStations}
 use Rattle.cli_lang.specs.declared.kinds.CmdFault.{CmdFault}
@@ -43,7 +43,7 @@ use Rattle.savi_core.specs.Knows.{Knows}
 use Rattle.savi_core.specs.Lanes.{Lane, no_lane}
 use Rattle.savi_core.specs.Machines.{Machine, base_of}
 use Rattle.savi_core.specs.Refused.{IsCommand, EndsWithCommand, IsRefusalBy, IsRefusal}
-use Rattle.savi_core.specs.Remembers.{Kept, Remembers}
+use Rattle.savi_core.specs.Remembers.{CoreState, Remembers}
 use Rattle.savi_core.specs.Rings.{Rings, shut_in}
 use Rattle.savi_core.specs.Shows.{kept_row}
 use Rattle.savi_core.specs.Tells.{Tells}
@@ -151,7 +151,7 @@ map_same f g [] same = refl
 map_same f g (x ∷ xs) same =
     ap (λ y. y ∷ map f xs) (same 0 x (omega arith) refl) ∙ ap (λ ys. g x ∷ ys) (map_same f g xs (λ k y within is. same (suc k) y (omega (arith, within)) is))
 
-module _ {k : Kept} (was : Remembers k) where
+module _ {k : CoreState} (was : Remembers k) where
   abbrev past : List Row
   past = reverse k.rows
 
@@ -173,7 +173,7 @@ module _ {k : Kept} (was : Remembers k) where
       row_same port.number port.role
       (ap (λ (set : PortSet). shut_in set n) shut ∙ ap (λ (by : ℕ → Bool). by n) was.shut_ports)
       (ap (count_at n) states.rows)
-      (ap (λ t. requests_at n (open_at t table.requests)) was.last ∙ ap (requests_at n) states.requests)
+      (ap (λ t. requests_at_port n (open_at t table.requests)) was.last ∙ ap (requests_at_port n) states.requests)
       (ap (λ (all : List (Lane Queued)). length (get_or all place no_lane).items) lanes ∙ sym (waits_at was n place no_lane known refl))
 
   pub ports_are : (table : Table) (rings : Rings) (text : List ℕ) → Tells k.plan k.base (reverse k.rows) k.moment table → rings.lanes ≡ k.lanes → rings.shut ≡ k.shut
@@ -185,8 +185,8 @@ module _ {k : Kept} (was : Remembers k) where
       (λ i port within at. row_is table rings port tells lanes shut (item_known k.plan i port within at)))
 
   pub stations_are : (kept : List Station) (text : List ℕ) → Knows kept k.moment k.base (reverse k.rows)
-      → text ≡ stations_text (map row_of (live_at k.moment kept)) → text ≡ reply_to k.plan k.base (reverse k.rows) now (Ok ShowStations)
+      → text ≡ stations_text (map station_told (live_at k.moment kept)) → text ≡ reply_to k.plan k.base (reverse k.rows) now (Ok ShowStations)
   stations_are kept text knows is =
       is
-      ∙ ap (λ live. stations_text (map row_of live)) (live_later kept k.moment k.moment k.base (reverse k.rows) (omega arith) knows)
-      ∙ ap (λ t. stations_text (map row_of (live_at t (stations the_vlan k.base (reverse k.rows))))) was.last
+      ∙ ap (λ live. stations_text (map station_told live)) (live_later kept k.moment k.moment k.base (reverse k.rows) (omega arith) knows)
+      ∙ ap (λ t. stations_text (map station_told (live_at t (stations the_vlan k.base (reverse k.rows))))) was.last

@@ -16,6 +16,7 @@ use Rattle.savi_kinds.specs.declared.port.PortSet.{PortSet}
 use Rattle.savi_kinds.specs.declared.verdict.Verdict.{Verdict}
 use Rattle.savi_kinds.specs.declared.verdict.Verdict.TheVariants.{Drop}
 use Rattle.savi_kinds.specs.declared.entry.Entry.{Entry}
+use Rattle.savi_kinds.specs.declared.entry.Act.{Act}
 use Rattle.savi_kinds.specs.declared.entry.Act.TheVariants as acts
 use Rattle.savi_kinds.specs.declared.entry.Who.TheVariants.{Ingress, Control, Ticker}
 use Rattle.savi_kinds.specs.Ports.{number_of}
@@ -33,21 +34,21 @@ use Rattle.savi_core.specs.Steps.{entry_of}
 abbrev pub long_made : Port → ℕ → ℕ → ℕ → ℕ → Verdict → ℕ → ℕ → Entry
 long_made port stamp len by moment verdict queued missed = record { by = by; moment = moment; act = acts.Long port stamp len; verdict = Some verdict; outs = no_ports; cuts = no_ports; probes = queued; lost = missed }
 
-abbrev pub made : Port → ℕ → ℕ → ℕ → ℕ → ℕ → Verdict → PortSet → PortSet → ℕ → ℕ → Entry
-made port stamp len by moment at verdict out cut queued missed = record { by = by; moment = moment; act = acts.Frame port stamp at len; verdict = Some verdict; outs = out; cuts = cut; probes = queued; lost = missed }
+abbrev pub made : ℕ → ℕ → Act → Verdict → PortSet → PortSet → ℕ → ℕ → Entry
+made by moment act verdict out cut queued missed = record { by = by; moment = moment; act = act; verdict = Some verdict; outs = out; cuts = cut; probes = queued; lost = missed }
 
 -- an entry whose parts are those of a frame's row is that row's
-pub frame_entry_is : (m : Machine) (port : Port) (stamp : ℕ) (octets : List ℕ) (by moment at : ℕ) (verdict : Verdict) (out cut : PortSet) (queued missed : ℕ) → by ≡ pass_of m.plan (Ingress port) → moment ≡ moment_at (base_of m) m.past stamp → at ≡ held m.past → verdict ≡ verdict_of m.plan (base_of m) m.past port stamp octets
+pub frame_entry_is : (m : Machine) (port : Port) (stamp : ℕ) (octets : List ℕ) (by moment : ℕ) (act : Act) (verdict : Verdict) (out cut : PortSet) (queued missed : ℕ) → by ≡ pass_of m.plan (Ingress port) → moment ≡ moment_at (base_of m) m.past stamp → act ≡ events.frame_act m.past port stamp octets → verdict ≡ verdict_of m.plan (base_of m) m.past port stamp octets
     → out ≡ outs the_vlan m.plan (base_of m) m.past (number_of port) (moment_at (base_of m) m.past stamp) octets verdict → cut ≡ cuts m.plan (base_of m) m.past (events.frame_act m.past port stamp octets) octets out
     → queued ≡ probes m.plan (base_of m) m.past (events.frame_act m.past port stamp octets) octets → missed ≡ lost m.plan (base_of m) m.past (events.frame_act m.past port stamp octets) octets
-    → made port stamp (length octets) by moment at verdict out cut queued missed ≡ entry_of m (events.Frame port stamp octets)
-frame_entry_is m port stamp octets by moment at verdict out cut queued missed by_is moment_is at_is verdict_is out_is cut_is queued_is missed_is =
-    let act = events.frame_act m.past port stamp octets in
+    → made by moment act verdict out cut queued missed ≡ entry_of m (events.Frame port stamp octets)
+frame_entry_is m port stamp octets by moment act verdict out cut queued missed by_is moment_is act_is verdict_is out_is cut_is queued_is missed_is =
+    let framed = events.frame_act m.past port stamp octets in
     let goes : out ≡ events.outs_of m.plan (base_of m) m.past port stamp octets =
     out_is ∙ ap (λ (v : Verdict). outs the_vlan m.plan (base_of m) m.past (number_of port) (moment_at (base_of m) m.past stamp) octets v) verdict_is in
-    let left_out : cut ≡ cuts m.plan (base_of m) m.past act octets (events.outs_of m.plan (base_of m) m.past port stamp octets) =
-    cut_is ∙ ap (λ (o : PortSet). cuts m.plan (base_of m) m.past act octets o) goes in
-    cc (by_is, moment_is, at_is, verdict_is, goes, left_out, queued_is, missed_is)
+    let left_out : cut ≡ cuts m.plan (base_of m) m.past framed octets (events.outs_of m.plan (base_of m) m.past port stamp octets) =
+    cut_is ∙ ap (λ (o : PortSet). cuts m.plan (base_of m) m.past framed octets o) goes in
+    cc (by_is, moment_is, act_is, verdict_is, goes, left_out, queued_is, missed_is)
 
 -- so is the entry of a frame that is too long
 pub long_entry_is : (m : Machine) (port : Port) (stamp len by moment : ℕ) (verdict : Verdict) (queued missed : ℕ) → by ≡ pass_of m.plan (Ingress port) → moment ≡ moment_at (base_of m) m.past stamp → verdict ≡ judged_long (base_of m) m.past port

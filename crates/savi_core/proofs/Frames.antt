@@ -8,8 +8,8 @@ use Rattle.egress_ring.specs.declared.item.Item.{Item as Queued}
 use Rattle.egress_ring.specs.declared.item.Item.TheVariants.{Frame, Probe}
 use Rattle.hist_store.specs.Rows.{Row}
 use Rattle.savi_history.specs.Queues.{item_of}
-use Rattle.savi_core.specs.Batches.{sent_item}
-use Rattle.savi_core.specs.Waits.{frame_of, shown, IsThere}
+use Rattle.savi_core.specs.Batches.{item_with}
+use Rattle.savi_core.specs.Waits.{frame_of, queued_item, IsThere}
 
 pub frame_of-more : (rows more : List Row) (n : ℕ) → n < length rows → frame_of (rows ++ more) n ≡ frame_of rows n
 frame_of-more [] more n within = absurd (omega arith)
@@ -20,16 +20,16 @@ pub frame_of-last : (rows : List Row) (r : Row) → frame_of (rows ++ r ∷ []) 
 frame_of-last [] r = refl
 frame_of-last (first ∷ rows) r = frame_of-last rows r
 
-pub shown-more : (mac : Mac) (rows more : List Row) (it : Queued) → IsThere rows it → shown mac (rows ++ more) it ≡ shown mac rows it
+pub shown-more : (mac : Mac) (rows more : List Row) (it : Queued) → IsThere rows it → queued_item mac (rows ++ more) it ≡ queued_item mac rows it
 shown-more mac rows more (Frame n) was = frame_of-more rows more n was.0
 shown-more mac rows more (Probe due target) was = refl
 
 -- items stand for the same in a longer history
-pub shown_all : (mac : Mac) (rows more : List Row) (its : List Queued) → All (IsThere rows) its → map (shown mac (rows ++ more)) its ≡ map (shown mac rows) its
+pub shown_all : (mac : Mac) (rows more : List Row) (its : List Queued) → All (IsThere rows) its → map (queued_item mac (rows ++ more)) its ≡ map (queued_item mac rows) its
 shown_all mac rows more [] all = refl
 shown_all mac rows more (it ∷ its) all =
-    ap (λ first. first ∷ map (shown mac (rows ++ more)) its) (shown-more mac rows more it (All-head (IsThere rows) it its all))
-    ∙ ap (λ rest. shown mac rows it ∷ rest) (shown_all mac rows more its (All-tail (IsThere rows) it its all))
+    ap (λ first. first ∷ map (queued_item mac (rows ++ more)) its) (shown-more mac rows more it (All-head (IsThere rows) it its all))
+    ∙ ap (λ rest. queued_item mac rows it ∷ rest) (shown_all mac rows more its (All-tail (IsThere rows) it its all))
 
 is_there-more : (rows more : List Row) (it : Queued) → IsThere rows it → IsThere (rows ++ more) it
 is_there-more rows more (Frame n) was = (omega (arith, was.0, length-append rows more), rw (frame_of-more rows more n was.0) was.1)
@@ -42,8 +42,8 @@ pub is_there-last : (rows : List Row) (r : Row) → length r.octets ≤ 1518 →
 is_there-last rows r short = (omega (arith, length-append rows (r ∷ [])), rw (frame_of-last rows r) short)
 
 -- an entry and its octets, as a store tells them, are its frame
-pub frame_read : (rows : List Row) (n : ℕ) (e : Entry) (octets : List ℕ) → IsSomeAnd (slice_get rows n) (λ row. row.entry ≡ e) → IsSomeAnd (slice_get rows n) (λ row. row.octets ≡ octets) → frame_of rows n ≡ sent_item e.moment octets
+pub frame_read : (rows : List Row) (n : ℕ) (e : Entry) (octets : List ℕ) → IsSomeAnd (slice_get rows n) (λ row. row.entry ≡ e) → IsSomeAnd (slice_get rows n) (λ row. row.octets ≡ octets) → frame_of rows n ≡ item_with e.moment octets
 frame_read [] n e octets entry_is octets_are = absurd entry_is
 frame_read (r ∷ rows) zero e octets entry_is octets_are =
-    ap (λ (x : Entry). sent_item x.moment r.octets) entry_is ∙ ap (sent_item e.moment) octets_are
+    ap (λ (x : Entry). item_with x.moment r.octets) entry_is ∙ ap (item_with e.moment) octets_are
 frame_read (r ∷ rows) (suc n) e octets entry_is octets_are = frame_read rows n e octets entry_is octets_are

@@ -32,7 +32,7 @@ use Rattle.savi_history.proofs.Teaching.{row_moment, last_small}
 use Rattle.savi_history.proofs.Individuals.{eth_is}
 use Rattle.savi_history.proofs.Directing.{AreNumbers, member_filter}
 use Rattle.savi_core.specs.Knows.{Knows}
-use Rattle.savi_core.specs.Remembers.{Kept, Remembers}
+use Rattle.savi_core.specs.Remembers.{CoreState, Remembers}
 use Rattle.savi_core.proofs.Members.{same_members}
 use Rattle.savi_core.proofs.Remembering.{reverse_push}
 use Rattle.savi_core.proofs.Stepping.{row}
@@ -73,7 +73,7 @@ frame_teaches e octets port stamp at len (Pass scope) live act_is verdict_is =
 frame_teaches e octets port stamp at len (Drop rule) live act_is verdict_is =
     ap (λ (a : Act). after_entry the_vlan (row e octets) a live) act_is ∙ ap (λ (v : Option Verdict). if is_pass v && (the_vlan == the_vlan) then taught port e.moment (ethernet_of octets) live else live) verdict_is
 
-module _ {k : Kept} (was : Remembers k) (kept : List Station) (knows : Knows kept k.moment k.base (reverse k.rows)) where
+module _ {k : CoreState} (was : Remembers k) (kept : List Station) (knows : Knows kept k.moment k.base (reverse k.rows)) where
   moment_later : (event : Event) (e : Entry) → e ≡ (row_of k.plan k.base (reverse k.rows) event).entry → k.moment ≤ e.moment
   moment_later event e e_is =
       let small = last_small k.plan k.base (reverse k.rows) was.within was.legal in

@@ -26,7 +26,7 @@ use Rattle.savi_history.specs.Queues.{Item, item_of, room_at, probed, framed, wa
 use Rattle.savi_history.proofs.Closed.{same_port}
 use Rattle.savi_history.proofs.PortPlaces.{place_within}
 use Rattle.savi_core.specs.Lanes.{Lane, with_frame, is_cut, with_drained, with_ended, lane_of}
-use Rattle.savi_core.specs.Waits.{shown, shown_lane, IsThere, AreThere}
+use Rattle.savi_core.specs.Waits.{queued_item, shown_lane, IsThere, AreThere}
 use Rattle.savi_core.proofs.Frames.{frame_of-last, shown_all, there_more, is_there-last}
 
 and_false : (b : Bool) → (b && false) ≡ false
@@ -76,14 +76,14 @@ pub there_still : (rows : List Row) (r : Row) (lane : Lane Queued) → AreThere 
 there_still rows r lane there = there_more rows (r ∷ []) lane.items there
 
 module _ (mac : Mac) (rows : List Row) (r : Row) (outs : PortSet) (lane : Lane Queued) (there : AreThere rows lane) where
-  pushed : map (shown mac (rows ++ r ∷ [])) (lane.items ++ queued.Frame (length rows) ∷ []) ≡ map (shown mac rows) lane.items ++ item_of r ∷ []
+  pushed : map (queued_item mac (rows ++ r ∷ [])) (lane.items ++ queued.Frame (length rows) ∷ []) ≡ map (queued_item mac rows) lane.items ++ item_of r ∷ []
   pushed =
-      map-append (shown mac (rows ++ r ∷ [])) lane.items (queued.Frame (length rows) ∷ [])
-      ∙ ap (λ front. front ++ shown mac (rows ++ r ∷ []) (queued.Frame (length rows)) ∷ []) (shown_all mac rows (r ∷ []) lane.items there)
-      ∙ ap (λ last. map (shown mac rows) lane.items ++ last ∷ []) (frame_of-last rows r)
+      map-append (queued_item mac (rows ++ r ∷ [])) lane.items (queued.Frame (length rows) ∷ [])
+      ∙ ap (λ front. front ++ queued_item mac (rows ++ r ∷ []) (queued.Frame (length rows)) ∷ []) (shown_all mac rows (r ∷ []) lane.items there)
+      ∙ ap (λ last. map (queued_item mac rows) lane.items ++ last ∷ []) (frame_of-last rows r)
 
   framed_at : (b c : Bool) → shown_lane mac (rows ++ r ∷ []) (if b then (if c then record lane { items = lane.items ++ queued.Frame (length rows) ∷ [] } else lane) else lane)
-      ≡ (if b then (if c then record (shown_lane mac rows lane) { items = map (shown mac rows) lane.items ++ item_of r ∷ [] } else shown_lane mac rows lane) else shown_lane mac rows lane)
+      ≡ (if b then (if c then record (shown_lane mac rows lane) { items = map (queued_item mac rows) lane.items ++ item_of r ∷ [] } else shown_lane mac rows lane) else shown_lane mac rows lane)
   framed_at true true = ap (λ (items : List Item). laned lane.number lane.trusted lane.room items) pushed
   framed_at true false = shown_more mac rows r lane there
   framed_at false c = shown_more mac rows r lane there
@@ -92,8 +92,8 @@ module _ (mac : Mac) (rows : List Row) (r : Row) (outs : PortSet) (lane : Lane Q
   pub shown_framed : shown_lane mac (rows ++ r ∷ []) (with_frame (queued.Frame (length rows)) outs lane) ≡ with_frame (item_of r) outs (shown_lane mac rows lane)
   shown_framed =
       framed_at (is_member outs lane.number) (nat_lt (length lane.items) lane.room)
-      ∙ ap (λ (n : ℕ). if is_member outs lane.number then (if nat_lt n lane.room then record (shown_lane mac rows lane) { items = map (shown mac rows) lane.items ++ item_of r ∷ [] } else shown_lane mac rows lane) else shown_lane mac rows lane)
-      (sym (length-map lane.items (shown mac rows)))
+      ∙ ap (λ (n : ℕ). if is_member outs lane.number then (if nat_lt n lane.room then record (shown_lane mac rows lane) { items = map (queued_item mac rows) lane.items ++ item_of r ∷ [] } else shown_lane mac rows lane) else shown_lane mac rows lane)
+      (sym (length-map lane.items (queued_item mac rows)))
 
   there_at : length r.octets ≤ 1518 → (b c : Bool) → AreThere (rows ++ r ∷ []) (if b then (if c then record lane { items = lane.items ++ queued.Frame (length rows) ∷ [] } else lane) else lane)
   there_at short true true = All-push (IsThere (rows ++ r ∷ [])) lane.items (queued.Frame (length rows)) (there_more rows (r ∷ []) lane.items there) (is_there-last rows r short)
@@ -106,7 +106,7 @@ module _ (mac : Mac) (rows : List Row) (r : Row) (outs : PortSet) (lane : Lane Q
 pub shown_drained : (mac : Mac) (rows : List Row) (r : Row) (count : ℕ) (lane : Lane Queued) → AreThere rows lane → shown_lane mac (rows ++ r ∷ []) (with_drained count lane) ≡ with_drained count (shown_lane mac rows lane)
 shown_drained mac rows r count lane there =
     ap (λ (items : List Item). laned lane.number lane.trusted lane.room items)
-    (sym (drop-map (shown mac (rows ++ r ∷ [])) count lane.items) ∙ ap (drop count) (shown_all mac rows (r ∷ []) lane.items there))
+    (sym (drop-map (queued_item mac (rows ++ r ∷ [])) count lane.items) ∙ ap (drop count) (shown_all mac rows (r ∷ []) lane.items there))
 
 pub there_drained : (rows : List Row) (r : Row) (count : ℕ) (lane : Lane Queued) → AreThere rows lane → AreThere (rows ++ r ∷ []) (with_drained count lane)
 there_drained rows r count lane there = All-drop (IsThere (rows ++ r ∷ [])) count lane.items (there_more rows (r ∷ []) lane.items there)
@@ -136,7 +136,7 @@ there_ended rows r (hows.Full len) lane there = there_still rows r lane there
 
 module _ (mac : Mac) (rows : List Row) (outs : PortSet) where
   cut_shown : (lane : Lane Queued) → is_cut outs (shown_lane mac rows lane) ≡ is_cut outs lane
-  cut_shown lane = ap (λ (n : ℕ). is_member outs lane.number && nat_le lane.room n) (length-map lane.items (shown mac rows))
+  cut_shown lane = ap (λ (n : ℕ). is_member outs lane.number && nat_le lane.room n) (length-map lane.items (queued_item mac rows))
 
   cuts_at : (lane : Lane Queued) (lanes : List (Lane Queued)) (b : Bool) → map (λ (x : Lane Queued). x.number) (filter (is_cut outs) lanes) ≡ map (λ (x : Lane Item). x.number) (filter (is_cut outs) (map (shown_lane mac rows) lanes))
       → map (λ (x : Lane Queued). x.number) (if b then lane ∷ filter (is_cut outs) lanes else filter (is_cut outs) lanes)

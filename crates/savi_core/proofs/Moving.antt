@@ -6,7 +6,7 @@ use Rattle.egress_ring.specs.declared.item.Item.{Item as Queued}
 use Rattle.egress_ring.specs.Waiting.{Waiting, with_first}
 use Rattle.hist_store.specs.Rows.{Row}
 use Rattle.savi_history.specs.Queues.{Item}
-use Rattle.savi_core.specs.Waits.{shown, IsThere}
+use Rattle.savi_core.specs.Waits.{queued_item, IsThere}
 
 module _ (mac : Mac) (rows : List Row) (all : List Queued) (there : All (IsThere rows) all) (done : ℕ) (item : Queued) (rest : List Queued) (within : done < length all) (split : drop done all ≡ item ∷ rest) where
   fronts : get_or all done item ∷ drop (done + 1) all ≡ item ∷ rest
@@ -21,11 +21,11 @@ module _ (mac : Mac) (rows : List Row) (all : List Queued) (there : All (IsThere
   is_there : IsThere rows item
   is_there = subst (λ (it : Queued). IsThere rows it) item_is (there done item within)
 
-  taken_more : take (done + 1) (map (shown mac rows) all) ≡ take done (map (shown mac rows) all) ++ shown mac rows item ∷ []
+  taken_more : take (done + 1) (map (queued_item mac rows) all) ≡ take done (map (queued_item mac rows) all) ++ queued_item mac rows item ∷ []
   taken_more =
-      let in_map : done < length (map (shown mac rows) all) = omega (arith, within, length-map all (shown mac rows)) in
-      take_more (map (shown mac rows) all) done (shown mac rows item) in_map
-      ∙ ap (λ it. take done (map (shown mac rows) all) ++ it ∷ []) (get_or-map (shown mac rows) all done item (shown mac rows item) within ∙ ap (shown mac rows) item_is)
+      let in_map : done < length (map (queued_item mac rows) all) = omega (arith, within, length-map all (queued_item mac rows)) in
+      take_more (map (queued_item mac rows) all) done (queued_item mac rows item) in_map
+      ∙ ap (λ it. take done (map (queued_item mac rows) all) ++ it ∷ []) (get_or-map (queued_item mac rows) all done item (queued_item mac rows item) within ∙ ap (queued_item mac rows) item_is)
 
 -- where fewer than all were taken, one is left
 none_left : (all : List Queued) (done : ℕ) → done < length all → drop done all ≡ [] → ⊥
@@ -35,7 +35,7 @@ none_left all done within gone = omega (arith, within, ap length gone, length-dr
 pub record HasMoved (mac : Mac) (rows : List Row) (count : ℕ) (start now : Waiting) (into : List Item) : Type 0 where
   pub within : length into ≤ count
   pub left : now ≡ record start { items = drop (length into) start.items }
-  pub taken : into ≡ take (length into) (map (shown mac rows) start.items)
+  pub taken : into ≡ take (length into) (map (queued_item mac rows) start.items)
 
 module _ {mac : Mac} {rows : List Row} {count : ℕ} {start now : Waiting} {into : List Item} (was : HasMoved mac rows count start now into) (there : All (IsThere rows) start.items) (fewer : length into < count) (enough : count ≤ length start.items) where
   inside : length into < length start.items
@@ -54,7 +54,7 @@ module _ {mac : Mac} {rows : List Row} {count : ℕ} {start now : Waiting} {into
     next_there = is_there mac rows start.items there (length into) item now'.items inside split
 
     -- and has moved
-    pub moved_more : (read : Item) (into' : List Item) → shown mac rows item ≡ read → into' ≡ into ++ read ∷ [] → HasMoved mac rows count start now' into'
+    pub moved_more : (read : Item) (into' : List Item) → queued_item mac rows item ≡ read → into' ≡ into ++ read ∷ [] → HasMoved mac rows count start now' into'
     moved_more read into' read_is are =
         let done = length into in
         let depth_is : start.depth ≡ now'.depth = sym (ap (λ (w : Waiting). w.depth) was.left) ∙ ap (λ (w : Waiting). w.depth) front in
@@ -65,6 +65,6 @@ module _ {mac : Mac} {rows : List Row} {count : ℕ} {start now : Waiting} {into
           left = rw more (ap (λ (its : List Queued). let w : Waiting = record { items = its; depth = now'.depth } in w) rest
               ∙ ap (λ (n : ℕ). let w : Waiting = record { items = drop (length into + 1) start.items; depth = n } in w) (sym depth_is));
           taken = rw more (are ∙ ap (λ (its : List Item). its ++ read ∷ []) was.taken
-              ∙ ap (λ (i : Item). take (length into) (map (shown mac rows) start.items) ++ i ∷ []) (sym read_is)
+              ∙ ap (λ (i : Item). take (length into) (map (queued_item mac rows) start.items) ++ i ∷ []) (sym read_is)
               ∙ sym (taken_more mac rows start.items there (length into) item now'.items inside split));
         }

@@ -16,7 +16,7 @@ use Rattle.savi_history.specs.Queues.{Item, probe_item, is_probed, room_at, queu
 use Rattle.savi_history.proofs.Joining.{joined_more, joined_few, joined_within, room_low}
 use Rattle.savi_history.proofs.Depth.{queue_within}
 use Rattle.savi_core.specs.Lanes.{Lane, goes_to, takes_one, with_probe, takes, leaves_out, lane_of}
-use Rattle.savi_core.specs.Waits.{shown, shown_lane, Show}
+use Rattle.savi_core.specs.Waits.{queued_item, shown_lane, Show}
 use Rattle.savi_core.specs.Rings.{Rings, shut_in, counted, ring_item, after_probe}
 use Rattle.savi_core.proofs.Places.{length-numbers}
 use Rattle.savi_core.proofs.Lanes.{probed_lane}
@@ -108,7 +108,7 @@ lost_by (sent ∷ sents) rings fits =
 module _ (mac : Mac) (rows : List Row) where
   waiting_shown : (lanes : List (Lane Queued)) → waiting (map (shown_lane mac rows) lanes) ≡ waiting lanes
   waiting_shown [] = refl
-  waiting_shown (lane ∷ lanes) = omega (arith, length-map lane.items (shown mac rows), waiting_shown lanes)
+  waiting_shown (lane ∷ lanes) = omega (arith, length-map lane.items (queued_item mac rows), waiting_shown lanes)
 
   offered_shown : (shut : ℕ → Bool) (sents : List SentProbe) (lanes : List (Lane Queued)) → offered shut sents (map (shown_lane mac rows) lanes) ≡ offered shut sents lanes
   offered_shown shut sents [] = refl

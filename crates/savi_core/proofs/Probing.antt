@@ -20,7 +20,7 @@ use Rattle.savi_history.specs.Offers.{Offer, offer_of, offers}
 use Rattle.savi_history.specs.Passes.{role_of, is_trusted}
 use Rattle.savi_history.specs.Queues.{Item, probe_item, is_probed, room_at, queue, joined, all_joined, offered_at}
 use Rattle.savi_core.specs.Lanes.{Lane, goes_to, takes_one, with_probe, lane_of}
-use Rattle.savi_core.specs.Waits.{shown, shown_lane, IsThere, AreThere, Show}
+use Rattle.savi_core.specs.Waits.{queued_item, shown_lane, IsThere, AreThere, Show}
 use Rattle.savi_core.specs.Rings.{Rings, shut_in, ring_item, after_probe}
 use Rattle.savi_core.proofs.Lanes.{laned, map_twice, probed_lane}
 
@@ -65,8 +65,8 @@ module _ (shut : ℕ → Bool) (mac : Mac) (sent : SentProbe) where
 
   module _ (rows : List Row) (lane : Lane Queued) where
     shown_at : (b c : Bool) → shown_lane mac rows (if b then (if c then record lane { items = lane.items ++ ring_item sent ∷ [] } else lane) else lane)
-        ≡ (if b then (if c then record (shown_lane mac rows lane) { items = map (shown mac rows) lane.items ++ probe_shown mac sent ∷ [] } else shown_lane mac rows lane) else shown_lane mac rows lane)
-    shown_at true true = ap (λ (items : List Item). laned lane.number lane.trusted lane.room items) (map-append (shown mac rows) lane.items (ring_item sent ∷ []))
+        ≡ (if b then (if c then record (shown_lane mac rows lane) { items = map (queued_item mac rows) lane.items ++ probe_shown mac sent ∷ [] } else shown_lane mac rows lane) else shown_lane mac rows lane)
+    shown_at true true = ap (λ (items : List Item). laned lane.number lane.trusted lane.room items) (map-append (queued_item mac rows) lane.items (ring_item sent ∷ []))
     shown_at true false = refl
     shown_at false c = refl
 
@@ -74,8 +74,8 @@ module _ (shut : ℕ → Bool) (mac : Mac) (sent : SentProbe) where
     shown_probe : shown_lane mac rows (with_probe shut (ring_item sent) sent.probe lane) ≡ with_probe shut (probe_shown mac sent) sent.probe (shown_lane mac rows lane)
     shown_probe =
         shown_at (goes_to shut sent.probe lane) (takes_one lane)
-        ∙ ap (λ (n : ℕ). if goes_to shut sent.probe lane then (if nat_lt n lane.room then record (shown_lane mac rows lane) { items = map (shown mac rows) lane.items ++ probe_shown mac sent ∷ [] } else shown_lane mac rows lane) else shown_lane mac rows lane)
-        (sym (length-map lane.items (shown mac rows)))
+        ∙ ap (λ (n : ℕ). if goes_to shut sent.probe lane then (if nat_lt n lane.room then record (shown_lane mac rows lane) { items = map (queued_item mac rows) lane.items ++ probe_shown mac sent ∷ [] } else shown_lane mac rows lane) else shown_lane mac rows lane)
+        (sym (length-map lane.items (queued_item mac rows)))
 
 there_at : (rows : List Row) (sent : SentProbe) (lane : Lane Queued) → AreThere rows lane → (b c : Bool) → AreThere rows (if b then (if c then record lane { items = lane.items ++ ring_item sent ∷ [] } else lane) else lane)
 there_at rows sent lane there true true = All-push (IsThere rows) lane.items (ring_item sent) there tt

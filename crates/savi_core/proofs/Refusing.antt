@@ -12,7 +12,7 @@ use Rattle.savi_history.specs.Commands.{rows_after, refusal_of}
 use Rattle.savi_history.specs.Marks.{marks}
 use Rattle.savi_history.specs.Events as events
 use Rattle.savi_history.specs.Events.{Event, row_of}
-use Rattle.savi_core.specs.Remembers.{Kept, Remembers}
+use Rattle.savi_core.specs.Remembers.{CoreState, Remembers}
 use Rattle.savi_core.specs.Refused.{IsRefusalBy, IsRefusal}
 use Rattle.savi_core.proofs.Remembering.{reverse_push}
 use Rattle.savi_core.proofs.Stepping.{row}
@@ -26,7 +26,7 @@ IsNoCommand (events.Tick stamp) = Unit {0}
 IsNoCommand (events.Drain port count) = Unit {0}
 IsNoCommand (events.End who how) = Unit {0}
 
-module _ {k : Kept} (was : Remembers k) where
+module _ {k : CoreState} (was : Remembers k) where
   silent : (event : Event) (e : Entry) (octets : List ℕ) (refused : Option Refusal) → IsNoCommand event → IsRefusalBy k.plan k.base (reverse k.rows) (row e octets) (row_of k.plan k.base (reverse k.rows) event).entry.act refused
   silent (events.Frame port stamp frame) e octets refused none = tt
   silent (events.Long port stamp len) e octets refused none = tt

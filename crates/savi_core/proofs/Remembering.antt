@@ -22,7 +22,7 @@ use Rattle.savi_history.specs.Legal.{MayCome}
 use Rattle.savi_history.proofs.Depth.{queue_within}
 use Rattle.savi_history.proofs.Starting.{empty_within}
 use Rattle.savi_core.specs.Lanes.{Lane, empty_lane, lane_of}
-use Rattle.savi_core.specs.Waits.{shown, shown_lane, IsThere, AreThere, Show}
+use Rattle.savi_core.specs.Waits.{queued_item, shown_lane, IsThere, AreThere, Show}
 use Rattle.savi_history.specs.ShutPorts.{shut_after, is_shut}
 use Rattle.savi_history.proofs.Directing.{and-false}
 use Rattle.std.proofs.Math.Path.{fun_ext}
@@ -34,7 +34,7 @@ use Rattle.savi_kinds.specs.declared.entry.Act.{Act}
 use Rattle.savi_core.specs.Counts.{still_to_come, waiting_at, open_below}
 use Rattle.savi_core.specs.PassMarks.{open_among}
 use Rattle.savi_core.proofs.Ending.{none_ended}
-use Rattle.savi_core.specs.Remembers.{Kept, Remembers}
+use Rattle.savi_core.specs.Remembers.{CoreState, Remembers}
 use Rattle.savi_core.proofs.Places.{length-numbers, place_at, pass_within}
 use Rattle.savi_core.proofs.PlaceTable.{role_at}
 use Rattle.savi_core.proofs.Lanes.{laned}
@@ -97,7 +97,7 @@ remembers_start plan lanes valid are = record {
 }
 
 -- one more row, by the event that it is of
-pub record HasNext (k : Kept) (r : Row) (ended' : List Bool) (shut' : PortSet) (lanes' : List (Lane Queued)) : Type 0 where
+pub record HasNext (k : CoreState) (r : Row) (ended' : List Bool) (shut' : PortSet) (lanes' : List (Lane Queued)) : Type 0 where
   pub passes : (pass : ℕ) → pass < pass_count k.plan → get_or ended' pass false ≡ ((is_end r.entry.act && (r.entry.by == pass)) || get_or k.ended pass false)
   pub marks : length ended' ≡ length k.ended
   pub shut_ports : shut_in shut' ≡ (λ number. is_shut k.base number (r ∷ reverse k.rows))
@@ -105,7 +105,7 @@ pub record HasNext (k : Kept) (r : Row) (ended' : List Bool) (shut' : PortSet) (
   pub octets : held k.rows + length r.octets ≤ k.plan.bytes
   pub room : k.plan.entries < length k.rows + 1 + 4130 → length k.rows + 1 + still_to_come k.plan k.base (r ∷ reverse k.rows) ≤ k.plan.entries
 
-module _ {k : Kept} (was : Remembers k) where
+module _ {k : CoreState} (was : Remembers k) where
   abbrev pub past : List Row
   past = reverse k.rows
 
@@ -144,7 +144,7 @@ module _ {k : Kept} (was : Remembers k) where
   -- how many items wait there
   pub waits_at : (number p : ℕ) (d : Lane Queued) → has_port k.plan number ≡ true → p ≡ place_of k.plan number → length (queue k.plan k.base number (reverse k.rows)) ≡ length (get_or k.lanes p d).items
   waits_at number p d known place_is =
-      ap (λ (lane : Lane Item). length lane.items) (sym (lane_at was.queues number p d known place_is)) ∙ length-map (get_or k.lanes p d).items (shown k.plan.mac k.rows)
+      ap (λ (lane : Lane Item). length lane.items) (sym (lane_at was.queues number p d known place_is)) ∙ length-map (get_or k.lanes p d).items (queued_item k.plan.mac k.rows)
 
   pub few_to_come : still_to_come k.plan k.base (reverse k.rows) ≤ 4130
   few_to_come =

@@ -26,7 +26,7 @@ use Rattle.savi_history.specs.Vlans.{the_vlan}
 use Rattle.savi_history.specs.Marks.{judged_at}
 use Rattle.savi_history.specs.Offers.{in_answer}
 use Rattle.savi_core.specs.Judges.{Judges, Ages}
-use Rattle.savi_core.specs.Remembers.{Kept, Remembers}
+use Rattle.savi_core.specs.Remembers.{CoreState, Remembers}
 use Rattle.savi_core.proofs.Members.{same_members}
 
 -- probes leave the ports as they are
@@ -45,7 +45,7 @@ shut_judged r from t shut port class kept old new verdict base past fact =
     ∙ shut_probed (probes_between r.addresses base.addresses (told past) from t the_vlan ++ in_answer (judged_at r base shut past port t class).probe) (uncounted old)
 
 -- what is remembered, with the same shut ports given otherwise
-pub shut_as : {k : Kept} {shut : PortSet} → k.shut ≡ shut → Remembers k → Remembers (record k { shut = shut })
+pub shut_as : {k : CoreState} {shut : PortSet} → k.shut ≡ shut → Remembers k → Remembers (record k { shut = shut })
 shut_as {k} same was = subst (λ (s : PortSet). Remembers (record k { shut = s })) same was
 
 -- of a set of ports those that aren't shut, where all members are of the plan

@@ -35,7 +35,7 @@ use Rattle.std.proofs.Math.Path.{fun_ext}
 use Rattle.cli_lang.specs.CommandOf.{command_of}
 use Rattle.savi_history.specs.ShutPorts.{shut_by as shut_by_command, shut_after, is_shut}
 use Rattle.savi_core.specs.Rings.{Rings, shut_in, after_probe}
-use Rattle.savi_core.specs.Remembers.{Kept, Remembers}
+use Rattle.savi_core.specs.Remembers.{CoreState, Remembers}
 use Rattle.savi_core.proofs.Places.{placed, pass_within}
 use Rattle.savi_core.proofs.Lanes.{probed_lane, there_drained, shown_drained, there_ended, shown_ended, lane_long, lane_ticked, lane_commanded, lane_drained, lane_elsewhere, IsNoEgress, lane_behind_input, lane_ended, lane_apart}
 use Rattle.savi_core.proofs.Probing.{shut_by, show_probed}
@@ -69,7 +69,7 @@ pub stepped_view : (plan : Plan) (rows : List Row) (e : Entry) (octets : List �
 stepped_view plan rows e octets event m view is_row =
     ap (machine plan) (reverse_push rows (row e octets) ∙ ap (λ (r : Row). r ∷ reverse rows) is_row) ∙ ap (λ (x : Machine). with_event x event) view
 
-module _ {k : Kept} (was : Remembers k) where
+module _ {k : CoreState} (was : Remembers k) where
   -- the lanes once the probes of an entry were offered, whatever they are
   pub probed_now : (act : Act) (octets : List ℕ) (sents : List SentProbe) (rings : Rings) → shut_in rings.shut ≡ shut_by k.base (reverse k.rows) → map offer_of sents ≡ offers k.plan k.base (reverse k.rows) act octets → rings.lanes ≡ k.lanes
       → Show k.plan k.rows (fold after_probe rings sents).lanes (probed_lane k.plan k.base (reverse k.rows) act octets)

@@ -15,7 +15,7 @@ use Rattle.control_replies.specs.Counters.{all_rules}
 use Rattle.savi_history.specs.Limits.{has_room}
 use Rattle.savi_history.specs.Summary.{is_pass, number_with}
 use Rattle.savi_history.specs.Shown.{is_drop_by, counts_of}
-use Rattle.savi_core.specs.Remembers.{Kept, Remembers}
+use Rattle.savi_core.specs.Remembers.{CoreState, Remembers}
 use Rattle.savi_core.specs.Tallies.{Tally, tally_of}
 use Rattle.savi_core.proofs.Remembering.{reverse_push, room_for}
 use Rattle.savi_core.proofs.Stepping.{row}
@@ -103,7 +103,7 @@ counted_next e octets past verdict tally counted verdict_is =
     ∙ same _ _ _ _ _ _ _ _ _ _ _ _ (drops e.verdict past) (passes e.verdict past)
     (swapped (counts_of past).cut (count_ones e.cuts.0)) (swapped (counts_of past).probes e.probes) (swapped (counts_of past).lost e.lost) (next (length past))
 
-module _ {k : Kept} (was : Remembers k) where
+module _ {k : CoreState} (was : Remembers k) where
   -- where there is room for an entry, few enough were counted
   pub few_counted : (tally : Tally) → tally ≡ tally_of (reverse k.rows) → length k.rows < k.plan.entries → tally.entries < 1000000
   few_counted tally counted room =

@@ -33,7 +33,7 @@ use Rattle.savi_history.specs.Judged.{judged_of}
 use Rattle.savi_history.specs.Offers.{due_by, in_answer, offer_of, offers}
 use Rattle.savi_history.specs.Events as events
 use Rattle.savi_history.specs.Events.{Event, row_of}
-use Rattle.savi_core.specs.Remembers.{Kept, Remembers}
+use Rattle.savi_core.specs.Remembers.{CoreState, Remembers}
 use Rattle.savi_core.specs.Tells.{Tells}
 use Rattle.savi_core.proofs.Remembering.{reverse_push}
 use Rattle.savi_core.proofs.Stepping.{row}
@@ -67,7 +67,7 @@ one_answer : (o : Option SentProbe) → length (in_answer o) ≤ 1
 one_answer None = omega arith
 one_answer (Some sent) = omega arith
 
-module _ {k : Kept} (was : Remembers k) (table : Table) (tells : Tells k.plan k.base (reverse k.rows) k.moment table) where
+module _ {k : CoreState} (was : Remembers k) (table : Table) (tells : Tells k.plan k.base (reverse k.rows) k.moment table) where
   -- the table stands for the last moment of the history
   pub states_now : Represents (rules_of k.plan) (access_of k.base) (marks k.plan k.base (reverse k.rows)) (last_moment k.base (reverse k.rows)) table
   states_now = subst (λ (t : ℕ). Represents (rules_of k.plan) (access_of k.base) (marks k.plan k.base (reverse k.rows)) t table) was.last tells.states

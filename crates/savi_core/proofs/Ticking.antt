@@ -18,11 +18,11 @@ use Rattle.savi_history.specs.Moments.{last_moment}
 use Rattle.savi_history.specs.Marks.{marks}
 use Rattle.savi_history.specs.Offers.{due_by}
 use Rattle.savi_history.specs.Ticks.{HasChangedBy}
-use Rattle.savi_core.specs.Remembers.{Kept, Remembers}
+use Rattle.savi_core.specs.Remembers.{CoreState, Remembers}
 use Rattle.savi_core.specs.Tells.{Tells}
 use Rattle.savi_core.proofs.Telling.{states_now}
 
-module _ {k : Kept} (was : Remembers k) (table : Table) (tells : Tells k.plan k.base (reverse k.rows) k.moment table) (moment : ℕ) (later : last_moment k.base (reverse k.rows) ≤ moment) where
+module _ {k : CoreState} (was : Remembers k) (table : Table) (tells : Tells k.plan k.base (reverse k.rows) k.moment table) (moment : ℕ) (later : last_moment k.base (reverse k.rows) ≤ moment) where
   abbrev rows_then : ℕ → List AddressRow
   rows_then t = rows_at (rules_of k.plan).addresses (access_of k.base).addresses (told (marks k.plan k.base (reverse k.rows))) t the_vlan
 

@@ -2,5 +2,5 @@
 use Rattle.std.specs.Prelude.{ℕ, List}
 use Rattle.savi_history.specs.Queues.{Item}
 
-abbrev pub sent_item : ℕ → List ℕ → Item
-sent_item moment octets = record { moment = moment; octets = octets }
+abbrev pub item_with : ℕ → List ℕ → Item
+item_with moment octets = record { moment = moment; octets = octets }

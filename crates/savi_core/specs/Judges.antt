@@ -12,8 +12,8 @@ use Rattle.savi_history.specs.Marks.{judged_at}
 use Rattle.savi_history.specs.Offers.{in_answer}
 use Rattle.savi_core.specs.Rings.{Rings, uncounted, after_probe}
 
--- All states are aged to t, and the probes that fall due are offered, counted from 0 on. Then a frame of this class at the port,
--- which is shut or not, is judged, what it tells is told, and the probe that answers it is offered behind the others.
+-- All states are aged to t, and the probes that fall due are offered, counted from 0 on. Then a frame of this class at the
+-- port, which is shut or not, is judged, what it tells is told, and the probe that answers it is offered behind the others.
 pub record Judges (r : AccessRules) (from t : ℕ) (shut : Bool) (port : Port) (class : Class) (kept : Kept) (old new : Rings) (verdict : Verdict) (base : AccessBase) (past : List Mark) : Type 0 where
   pub verdict_is : verdict ≡ (judged_at r base shut past port t class).verdict
   pub states : Represents r base (judged_at r base shut past port t class).marks t kept

@@ -18,7 +18,7 @@ use Rattle.savi_core.specs.Counts.{still_to_come}
 
 -- the plan, what its history goes on from, the rows with the oldest first, the moment of the last one, which passes have
 -- ended, which ports are shut, and the queues
-pub record Kept : Type 0 where
+pub record CoreState : Type 0 where
   pub plan : Plan
   pub base : Base
   pub rows : List Row
@@ -27,7 +27,7 @@ pub record Kept : Type 0 where
   pub shut : PortSet
   pub lanes : List (Lane Queued)
 
-pub record Remembers (k : Kept) : Type 0 where
+pub record Remembers (k : CoreState) : Type 0 where
   pub valid : IsValidPlan k.plan
   pub within : IsWithinLimits k.plan k.base
   pub legal : IsLegal k.plan k.base (reverse k.rows)

@@ -1,5 +1,5 @@
--- The queues of all ports, which of the ports are shut, and the probes that the queues took and left out since both were last
--- counted anew.
+-- The queues of all ports, which of the ports are shut, and the probes that the queues took and left out since both were
+-- last counted anew.
 use Rattle.std.specs.Prelude.{ℕ, ◌+◌, ◌==◌, ◌&&◌, nat_le, min, Bool, if◌then◌else◌, List, map}
 use Rattle.std.specs.List.{count_by}
 use Rattle.savi_kinds.specs.declared.port.PortSet.{PortSet}

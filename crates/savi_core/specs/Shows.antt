@@ -3,7 +3,7 @@ use Rattle.std.specs.Prelude.{ℕ, length, slice_index_or}
 use Rattle.savi_kinds.specs.declared.plan.Plan.{Plan}
 use Rattle.savi_kinds.specs.declared.plan.PortPlan.{PortPlan}
 use Rattle.savi_kinds.specs.Ports.{number_of}
-use Rattle.dhcp_states.specs.Requests.{open_at, count_at as requests_at}
+use Rattle.dhcp_states.specs.Requests.{open_at, requests_at_port}
 use Rattle.bind_table.specs.Rows.{count_at}
 use Rattle.access_table.specs.Kept.{Kept}
 use Rattle.control_replies.specs.declared.port_row.PortRow.{PortRow}
@@ -18,6 +18,6 @@ kept_row kept rings plan t port = record {
   role = port.role;
   is_shut = shut_in rings.shut (number_of port.number);
   held = count_at (number_of port.number) kept.addresses.rows;
-  pending = requests_at (number_of port.number) (open_at t kept.requests);
+  pending = requests_at_port (number_of port.number) (open_at t kept.requests);
   queued = length (slice_index_or rings.lanes (place_of plan (number_of port.number)) no_lane).items;
 }

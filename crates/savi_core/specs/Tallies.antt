@@ -13,8 +13,8 @@ pub record Tally : Type 0 where
 abbrev pub tally_of : List Row → Tally
 tally_of past = record { counts = counts_of past; entries = length past }
 
--- Counts of so many entries are no greater than these bounds: an entry is of one frame at most, which is left out at 16 ports
--- at most, and its probes, queued and lost, are numbers of 32 bits.
+-- Counts of so many entries are no greater than these bounds: an entry is of one frame at most, which is left out at 16
+-- ports at most, and its probes, queued and lost, are numbers of 32 bits.
 pub record AreFew (entries : ℕ) (counts : Counts) : Type 0 where
   pub rules : All (λ count. count ≤ entries) counts.by_rule
   pub pass : counts.pass ≤ entries

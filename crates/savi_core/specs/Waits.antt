@@ -17,13 +17,13 @@ frame_of (r ∷ rows) zero = item_of r
 frame_of (r ∷ rows) (suc n) = frame_of rows n
 
 -- a frame carries the moment of its row; a probe, of which the switch is the source, the moment at which it was due
-abbrev pub shown : Mac → List Row → Queued → Item
-shown mac rows (entries.Frame n) = frame_of rows n
-shown mac rows (entries.Probe due target) = record { moment = due; octets = probe_of mac target }
+abbrev pub queued_item : Mac → List Row → Queued → Item
+queued_item mac rows (entries.Frame n) = frame_of rows n
+queued_item mac rows (entries.Probe due target) = record { moment = due; octets = probe_of mac target }
 
 -- the lane with what its items stand for
 abbrev pub shown_lane : Mac → List Row → Lane Queued → Lane Item
-shown_lane mac rows lane = record { number = lane.number; trusted = lane.trusted; room = lane.room; items = map (shown mac rows) lane.items }
+shown_lane mac rows lane = record { number = lane.number; trusted = lane.trusted; room = lane.room; items = map (queued_item mac rows) lane.items }
 
 -- a probe, or the frame of a row that is there, of a size that a frame has
 abbrev pub IsThere : List Row → Queued → Type 0

@@ -23,11 +23,11 @@ impl Model for Slot {
 }
 
 impl Slot {
-    ghost use Rattle.savi_core.specs.Batches.{sent_item};
+    ghost use Rattle.savi_core.specs.Batches.{item_with};
 
     /// A slot with nothing in it.
     fn new() -> Slot
-        ensures { result ≡ sent_item 0 [] }
+        ensures { result ≡ item_with 0 [] }
     {
         Slot {
             moment: 0,
@@ -38,7 +38,7 @@ impl Slot {
     /// Puts an item in place of what is there.
     fn set(&mut self, moment: Moment, octets: &[u8])
         requires { length octets.now ≤ 1518 }
-        ensures { self.new ≡ sent_item moment octets.now }
+        ensures { self.new ≡ item_with moment octets.now }
     {
         self.moment = moment;
         self.octets.clear();
@@ -68,7 +68,7 @@ impl Model for Batch {
 }
 
 impl Batch {
-    ghost use Rattle.savi_core.specs.Batches.{sent_item};
+    ghost use Rattle.savi_core.specs.Batches.{item_with};
 
     /// An empty batch, with room for 256 items of 1,518 octets. It takes all its memory here.
     pub fn make(alloc: Global) -> Result<Batch, AllocError>
@@ -91,7 +91,7 @@ impl Batch {
     /// The octets of the item with this number, counted from 0, and its moment (ms). O(1).
     pub fn item(&self, i: u32) -> (u64, &[u8])
         requires { i < length self.now }
-        ensures item { slice_get self.now i ≡ Some (sent_item result.0 result.1.now) }
+        ensures item { slice_get self.now i ≡ Some (item_with result.0 result.1.now) }
         ensures size { length result.1.now ≤ 1518 }
     {
         let slot = &self.slots[i as usize];
@@ -109,7 +109,7 @@ impl Batch {
     pub(crate) fn put(&mut self, moment: Moment, octets: &[u8])
         requires room { length self.old < 256 }
         requires size { length octets.now ≤ 1518 }
-        ensures { self.new ≡ self.old ++ sent_item moment octets.now ∷ [] }
+        ensures { self.new ≡ self.old ++ item_with moment octets.now ∷ [] }
     {
         self.slots[self.used].set(moment, octets);
         self.used += 1;

@@ -9,7 +9,7 @@ ghost use Rattle.savi_history.specs.Moments.{last_moment};
 ghost use Rattle.savi_history.specs.Shown.{counts_of, reply_to, shown};
 ghost use Rattle.savi_history.specs.Events as events;
 ghost use Rattle.savi_history.specs.Legal.{IsLegal};
-ghost use Rattle.savi_core.specs.Machines.{HasShortQueues, base_of, started, row_at, queue_at, number_at};
+ghost use Rattle.savi_core.specs.Machines.{HasShortQueues, base_of, started, row_at, queue_at, number_at, with_event};
 ghost use Rattle.savi_core.specs.Counts.{open_below};
 ghost use Rattle.savi_core.specs.Refused.{EndsWithCommand};
 ghost use Rattle.frame_class.specs.Reading.{IsClassOf};
@@ -266,8 +266,8 @@ impl Core {
         self.tally.counts()
     }
 
-    /// Whether there is room for another input: 4,130 entries are kept free for drains and ends, and room for the octets of the
-    /// longest frame. O(1).
+    /// Whether there is room for another input: 4,130 entries are kept free for drains and ends, and room for the octets of
+    /// the longest frame. O(1).
     pub fn has_room(&self) -> bool
         ensures { result ≡ has_room self.now.plan self.now.past }
     {
@@ -282,13 +282,26 @@ impl Core {
         requires class { IsClassOf octets.now class.now }
         ensures { Did self.old (events.Frame port stamp octets.now) self.new result }
     {
-        if !self.has_room() {
-            return Stepped::Full {
+        if self.has_room() {
+            Stepped::Done(self.enter_frame(port, stamp, octets, class))
+        } else {
+            Stepped::Full {
                 len: self.hist.len(),
-            };
+            }
         }
+    }
+
+    // Enters a frame for which there is room. The answer is its entry.
+    fn enter_frame(&mut self, port: Port, stamp: u64, octets: &[u8], class: &Class) -> Entry
+        requires may { MayStep self.old (events.Frame port stamp octets.now) }
+        requires room { has_room self.old.plan self.old.past ≡ true }
+        requires class { IsClassOf octets.now class.now }
+        ensures entered { self.new ≡ with_event self.old (events.Frame port stamp octets.now) }
+        ensures entry { result ≡ entry_of self.old (events.Frame port stamp octets.now) }
+    {
         let by = self.ports.pass_of(Who::Ingress(port));
         let moment = moment_at(self.moment, stamp);
+        let act = self.frame_act(port, stamp, octets);
         let verdict = judge(
             &mut self.access,
             &mut self.queues,
@@ -311,12 +324,7 @@ impl Core {
         let entry = Entry {
             by,
             moment,
-            act: Act::Frame {
-                port,
-                stamp,
-                at: self.hist.held(),
-                len: octets.len() as u32,
-            },
+            act,
             verdict: Some(verdict),
             outs,
             cuts,
@@ -327,7 +335,20 @@ impl Core {
         self.moment = moment;
         self.tally.add(&entry);
         self.hist.append(entry, octets);
-        Stepped::Done(entry)
+        entry
+    }
+
+    // The act of a frame, whose octets come next in the store.
+    fn frame_act(&self, port: Port, stamp: u64, octets: &[u8]) -> Act
+        requires { length octets.now ≤ 1518 }
+        ensures { result ≡ events.frame_act self.now.past port stamp octets.now }
+    {
+        Act::Frame {
+            port,
+            stamp,
+            at: self.hist.held(),
+            len: octets.len() as u32,
+        }
     }
 
     // The entry of a drain.

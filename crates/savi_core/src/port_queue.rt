@@ -4,7 +4,7 @@ ghost use Rattle.std.specs.Prelude.{◌≡◌, ◌≤◌, not, [], length, map, 
 ghost use Rattle.savi_core.specs.Lanes.{empty_lane, goes_at, goes_to, takes_one, takes_none, with_offered, with_probe, with_drained, with_ended};
 ghost use Rattle.egress_ring.specs.declared.item.Item.TheVariants as entries;
 ghost use Rattle.savi_core.specs.Rings.{ring_item, shut_in};
-ghost use Rattle.savi_core.specs.Waits.{AreThere, IsThere, shown};
+ghost use Rattle.savi_core.specs.Waits.{AreThere, IsThere, queued_item};
 
 use crate::batch::Batch;
 use crate::ports::is_trusted;
@@ -120,7 +120,7 @@ impl PortQueue {
         requires most { count ≤ 256 }
         requires empty { into.old ≡ [] }
         ensures left { self.new ≡ with_drained count self.old }
-        ensures taken { into.new ≡ take count (map (shown mac hist.now.rows) self.old.items) }
+        ensures taken { into.new ≡ take count (map (queued_item mac hist.now.rows) self.old.items) }
     {
         move_items(&mut self.ring, hist, mac, count, into);
     }
@@ -145,7 +145,7 @@ fn move_items(queue: &mut EgressRing, hist: &Hist, mac: Mac, count: u32, into: &
     requires most { count ≤ 256 }
     requires empty { into.old ≡ [] }
     ensures left { queue.new ≡ record queue.old { items = drop count queue.old.items } }
-    ensures taken { into.new ≡ take count (map (shown mac hist.now.rows) queue.old.items) }
+    ensures taken { into.new ≡ take count (map (queued_item mac hist.now.rows) queue.old.items) }
 {
     while into.len() < count {
         match queue.take() {

@@ -8,7 +8,7 @@ ghost use Rattle.savi_kinds.specs.PortSets.{is_member, no_ports};
 ghost use Rattle.savi_kinds.specs.ValidPlan.{IsValidPlan, numbers_of};
 ghost use Rattle.savi_history.specs.Passes.{has_port, has_pass};
 ghost use Rattle.savi_core.specs.Rings.{Rings, uncounted, after_probe, shut_in, with_shut};
-ghost use Rattle.savi_core.specs.Waits.{AreThere, shown};
+ghost use Rattle.savi_core.specs.Waits.{AreThere, queued_item};
 
 use crate::batch::Batch;
 use crate::port_queue::PortQueue;
@@ -157,7 +157,7 @@ impl Queues {
         requires most { count ≤ 256 }
         requires empty { into.old ≡ [] }
         ensures left { self.new ≡ record self.old { lanes = slice_set self.old.lanes place (with_drained count (slice_index_or self.old.lanes place no_lane)) } }
-        ensures taken { into.new ≡ take count (map (shown mac hist.now.rows) (slice_index_or self.old.lanes place no_lane).items) }
+        ensures taken { into.new ≡ take count (map (queued_item mac hist.now.rows) (slice_index_or self.old.lanes place no_lane).items) }
     {
         self.queues[place].drain(hist, mac, count, into);
     }

@@ -2,7 +2,7 @@
 
 ghost use Rattle.std.specs.Prelude.{◌≡◌, ◌≤◌, ◌*◌, ℕ, [], length, map, true};
 ghost use Rattle.savi_kinds.specs.Ports.{number_of};
-ghost use Rattle.bridge_fdb.specs.Stations.{live_at, row_of};
+ghost use Rattle.bridge_fdb.specs.Stations.{live_at, station_told};
 ghost use Rattle.control_replies.specs.Bindings.{bindings_text};
 ghost use Rattle.control_replies.specs.Shows.{ports_text, stations_text};
 ghost use Rattle.savi_access.specs.Plans.{times_of};
@@ -78,7 +78,7 @@ fn port_row(
 /// address. O(n) in the stations that are kept, at most 4,096.
 pub(crate) fn show_stations(fdb: &Fdb, t: Moment, into: &mut Reply)
     requires empty { into.old ≡ [] }
-    ensures { into.new ≡ stations_text (map row_of (live_at t fdb.now)) }
+    ensures { into.new ≡ stations_text (map station_told (live_at t fdb.now)) }
 {
     let mut from = 0;
     while let Some(next) = fdb.next_row(from, t) {

@@ -8,16 +8,16 @@ use Rattle.savi_ends.specs.declared.world.Std.{Std}
 use Rattle.savi_ends.specs.declared.world.Std.TheVariants as std
 use Rattle.savi_ends.specs.declared.mem_world.MemWorld.{MemWorld}
 use Rattle.savi_ends.specs.Places.{Place, OthersStay, IsOnlyOut, IsReady, HandedNothing}
-use Rattle.savi_ends.specs.MemPlaces.{place_of, first_place, named_places, numbered_places}
+use Rattle.savi_ends.specs.MemPlaces.{place_holding, first_place, named_places, numbered_places}
 use Rattle.savi_ends.specs.MemWorlds.{book_of, std_place}
 use Rattle.savi_ends.specs.FreshWorlds.{IsFreshWorld, source_faults, sink_faults}
 
 -- a place that holds a fresh end
-pub ready_place : {X : Type 0} (IsFresh : X → Type 0) (o : Option X) → IsSomeAnd o IsFresh → IsReady IsFresh (place_of o)
+pub ready_place : {X : Type 0} (IsFresh : X → Type 0) (o : Option X) → IsSomeAnd o IsFresh → IsReady IsFresh (place_holding o)
 ready_place IsFresh None full = absurd full
 ready_place IsFresh (Some x) full = record { here = refl; fresh = full }
 
-ready_case : {X : Type 0} (IsFresh : X → Type 0) (b : Bool) (o : Option X) (place : Place X) → IsSomeAnd o IsFresh → IsReady IsFresh place → IsReady IsFresh (cond b (place_of o) place)
+ready_case : {X : Type 0} (IsFresh : X → Type 0) (b : Bool) (o : Option X) (place : Place X) → IsSomeAnd o IsFresh → IsReady IsFresh place → IsReady IsFresh (cond b (place_holding o) place)
 ready_case IsFresh true o place full rest = ready_place IsFresh o full
 ready_case IsFresh false o place full rest = rest
 

@@ -6,8 +6,8 @@ use Rattle.savi_kinds.specs.Ports.{number_of}
 use Rattle.savi_ends.specs.Places.{Place}
 
 -- a place that is empty counts as handed out
-abbrev pub place_of : {X : Type 0} → Option X → Place X
-place_of x = record { is_out = is_none x; stands = x }
+abbrev pub place_holding : {X : Type 0} → Option X → Place X
+place_holding x = record { is_out = is_none x; stands = x }
 
 -- a name or port without a place is an opening that fails
 abbrev pub no_place : {X : Type 0} → Place X
@@ -16,7 +16,7 @@ no_place = record { is_out = false; stands = None }
 -- the first place whose key passes the test
 abbrev pub first_place : {Key X : Type 0} → (Key → Bool) → List (Key × Option X) → Place X
 first_place test [] = no_place
-first_place test (p ∷ places) = if test p.0 then place_of p.1 else first_place test places
+first_place test (p ∷ places) = if test p.0 then place_holding p.1 else first_place test places
 
 -- the first place of this name
 abbrev pub named_places : {X : Type 0} → List (List ℕ × Option X) → List ℕ → Place X

@@ -7,13 +7,13 @@ use Rattle.savi_ends.specs.declared.mem_sink.MemSink.{MemSink}
 use Rattle.savi_ends.specs.declared.mem_clock.MemClock.{MemClock}
 use Rattle.savi_ends.specs.declared.mem_world.MemWorld.{MemWorld}
 use Rattle.savi_ends.specs.Places.{Place, Book}
-use Rattle.savi_ends.specs.MemPlaces.{place_of, named_places, numbered_places}
+use Rattle.savi_ends.specs.MemPlaces.{place_holding, named_places, numbered_places}
 use Rattle.savi_ends.specs.Counts.{next_count, is_listed}
 
 -- the places of standard output and standard error
 abbrev pub std_place : {X : Type 0} → Option X → Option X → Std → Place X
-std_place out err std.Out = place_of out
-std_place out err std.Err = place_of err
+std_place out err std.Out = place_holding out
+std_place out err std.Err = place_holding err
 
 -- all places of the world
 abbrev pub book_of : MemWorld → Book MemSource MemSink MemClock
@@ -22,8 +22,8 @@ book_of w = record {
   inputs = named_places w.inputs.items;
   outputs = named_places w.outputs.items;
   ports = numbered_places w.ports.items;
-  control = place_of w.control;
-  ticker = place_of w.ticker;
+  control = place_holding w.control;
+  ticker = place_holding w.ticker;
   std = std_place w.out w.err;
 }
 

@@ -13,7 +13,7 @@ use Rattle.savi_kinds.specs.declared.plan.Format.TheVariants.{Pcap, Stream}
 use Rattle.savi_kinds.specs.declared.address.Mac.{Mac}
 use Rattle.savi_kinds.specs.MacText.{hex_digit, hex_pair, mac_text}
 use Rattle.savi_kinds.specs.PlanWords.{role_word, method_word, format_word}
-use Rattle.hist_store.specs.JournalTexts.{prefix_text_by, port_fields, prefix_fields, word_lines, limit_lines, time_lines, begin_line, header_lines, end_line}
+use Rattle.hist_store.specs.JournalTexts.{prefix_text_by, journal_port_fields, prefix_fields, word_lines, limit_lines, time_lines, begin_line, header_lines, journal_end_line}
 use Rattle.savi_history.specs.Journals.{IsAddressText}
 use Rattle.hist_store.proofs.Words.{IsWord, is_word, IsWords, IsLine, IsLines, word_of, word_all, word_append, word_decimal, word_joined, lines_append}
 use Rattle.hist_store.proofs.FieldWords.{word_port}
@@ -46,14 +46,14 @@ word_format : (format : Format) → IsWord (format_word format)
 word_format Pcap = word_of (codes "pcap") refl
 word_format Stream = word_of (codes "stream") refl
 
-lines_ports : (ports : List PortPlan) → IsLines (map port_fields ports)
+lines_ports : (ports : List PortPlan) → IsLines (map journal_port_fields ports)
 lines_ports [] = tt
 lines_ports (p ∷ ports) = ((word_of (codes "port") refl, (word_port p.number, (word_role p.role, (word_format p.format, tt)))), lines_ports ports)
 
 setting_line : (name : List ℕ) (value : ℕ) → is_word name ≡ true → IsLine (name ∷ decimal value ∷ [])
 setting_line name value word = (word_of name word, (word_decimal value, tt))
 
-pub lines_end : (count : ℕ) → IsLines (end_line count ∷ [])
+pub lines_end : (count : ℕ) → IsLines (journal_end_line count ∷ [])
 lines_end count = (setting_line (codes "end") count refl, tt)
 
 module _ (address_text : ℕ → List ℕ) (is : IsAddressText address_text) where
@@ -88,6 +88,6 @@ module _ (address_text : ℕ → List ℕ) (is : IsAddressText address_text) whe
       let begin : IsLines (begin_line ∷ []) = ((word_of (codes "begin") refl, tt), tt) in
       let two = lines_append (word_lines plan) (limit_lines plan) words limits in
       let three = lines_append (word_lines plan ++ limit_lines plan) (time_lines plan) two times in
-      let four = lines_append (word_lines plan ++ limit_lines plan ++ time_lines plan) (map port_fields plan.ports) three (lines_ports plan.ports) in
-      let five = lines_append (word_lines plan ++ limit_lines plan ++ time_lines plan ++ map port_fields plan.ports) (map (prefix_fields address_text) plan.prefixes) four (lines_prefixes plan.prefixes) in
-      lines_append (word_lines plan ++ limit_lines plan ++ time_lines plan ++ map port_fields plan.ports ++ map (prefix_fields address_text) plan.prefixes) (begin_line ∷ []) five begin
+      let four = lines_append (word_lines plan ++ limit_lines plan ++ time_lines plan) (map journal_port_fields plan.ports) three (lines_ports plan.ports) in
+      let five = lines_append (word_lines plan ++ limit_lines plan ++ time_lines plan ++ map journal_port_fields plan.ports) (map (prefix_fields address_text) plan.prefixes) four (lines_prefixes plan.prefixes) in
+      lines_append (word_lines plan ++ limit_lines plan ++ time_lines plan ++ map journal_port_fields plan.ports ++ map (prefix_fields address_text) plan.prefixes) (begin_line ∷ []) five begin

@@ -16,7 +16,7 @@ use Rattle.savi_kinds.specs.Prefixes.{first_of}
 use Rattle.savi_kinds.specs.ValidPlan.{IsValidPlan, IsPlanPrefix, nets_of}
 use Rattle.hist_store.specs.PortTexts.{port_text}
 use Rattle.savi_kinds.specs.PlanWords.{role_word, method_word, format_word}
-use Rattle.hist_store.specs.JournalTexts.{prefix_text_by, port_fields, prefix_fields, word_lines, limit_lines, time_lines, begin_line, header_lines}
+use Rattle.hist_store.specs.JournalTexts.{prefix_text_by, journal_port_fields, prefix_fields, word_lines, limit_lines, time_lines, begin_line, header_lines}
 use Rattle.savi_history.specs.Journals.{without_port_names, without_names, IsAddress, IsAddressText}
 use Rattle.hist_store.proofs.Words.{avoids_all, parted}
 use Rattle.hist_store.proofs.OnePort.{first_apart, port_by_text}
@@ -70,15 +70,15 @@ module _ (address_text : ℕ → List ℕ) (is : IsAddressText address_text) whe
   abbrev behind : List PrefixPlan → List Line → List Line
   behind xs es = map (prefix_fields address_text) xs ++ (begin_line ∷ es)
 
-  no_port : (q : PortPlan) (xs : List PrefixPlan) (es ls : List Line) → behind xs es ≡ port_fields q ∷ ls → ⊥
+  no_port : (q : PortPlan) (xs : List PrefixPlan) (es ls : List Line) → behind xs es ≡ journal_port_fields q ∷ ls → ⊥
   no_port q [] es ls e = first_apart (field_apart e) refl
   no_port q (x ∷ xs) es ls e = second_apart (field_apart e) refl
 
-  same_ports : (ps qs : List PortPlan) (xs ys : List PrefixPlan) (es fs : List Line) → map port_fields ps ++ behind xs es ≡ map port_fields qs ++ behind ys fs
+  same_ports : (ps qs : List PortPlan) (xs ys : List PrefixPlan) (es fs : List Line) → map journal_port_fields ps ++ behind xs es ≡ map journal_port_fields qs ++ behind ys fs
       → (map without_port_names ps ≡ map without_port_names qs) × (behind xs es ≡ behind ys fs)
   same_ports [] [] xs ys es fs e = (refl, e)
-  same_ports [] (q ∷ qs) xs ys es fs e = absurd (no_port q xs es (map port_fields qs ++ behind ys fs) e)
-  same_ports (p ∷ ps) [] xs ys es fs e = absurd (no_port p ys fs (map port_fields ps ++ behind xs es) (sym e))
+  same_ports [] (q ∷ qs) xs ys es fs e = absurd (no_port q xs es (map journal_port_fields qs ++ behind ys fs) e)
+  same_ports (p ∷ ps) [] xs ys es fs e = absurd (no_port p ys fs (map journal_port_fields ps ++ behind xs es) (sym e))
   same_ports (p ∷ ps) (q ∷ qs) xs ys es fs e =
       let line = port_line e in
       let first : without_port_names p ≡ without_port_names q = port_plan_same p q line.first line.second line.third in
@@ -125,13 +125,13 @@ module _ (address_text : ℕ → List ℕ) (is : IsAddressText address_text) whe
 
   -- what is behind the header's lines of one value each
   abbrev behind_settings : Plan → List Line → List Line
-  behind_settings plan es = map port_fields plan.ports ++ behind plan.prefixes es
+  behind_settings plan es = map journal_port_fields plan.ports ++ behind plan.prefixes es
 
   regrouped : (w l t p x b e : List Line) → w ++ l ++ t ++ p ++ x ++ b ++ e ≡ w ++ (l ++ (t ++ (p ++ (x ++ (b ++ e)))))
   regrouped w l t p x b e = simp append_assoc
 
   in_order : (plan : Plan) (es : List Line) → header_lines address_text plan ++ es ≡ word_lines plan ++ (limit_lines plan ++ (time_lines plan ++ behind_settings plan es))
-  in_order plan es = regrouped (word_lines plan) (limit_lines plan) (time_lines plan) (map port_fields plan.ports) (map (prefix_fields address_text) plan.prefixes) (begin_line ∷ []) es
+  in_order plan es = regrouped (word_lines plan) (limit_lines plan) (time_lines plan) (map journal_port_fields plan.ports) (map (prefix_fields address_text) plan.prefixes) (begin_line ∷ []) es
 
   -- the values of the settings are the same
   record IsSameSettings (plan plan' : Plan) (es fs : List Line) : Type 0 where

@@ -11,7 +11,7 @@ use Rattle.savi_kinds.specs.declared.entry.How.TheVariants as hows
 use Rattle.savi_kinds.specs.Ports.{number_of}
 use Rattle.savi_kinds.specs.ValidPlan.{IsValidPlan}
 use Rattle.hist_store.specs.Rows.{Row}
-use Rattle.hist_store.specs.PortTexts.{port_text, ports_text}
+use Rattle.hist_store.specs.PortTexts.{port_text, members_text}
 use Rattle.hist_store.specs.VerdictTexts.{entry_verdict_text}
 use Rattle.hist_store.specs.EndTexts.{who_text, how_fields}
 use Rattle.hist_store.specs.LineTexts.{hex_text, line_fields}
@@ -109,8 +109,8 @@ event_fields c (End who how) = codes "E" ∷ who_text who ∷ how_fields how
 abbrev computed : Entry → Computed
 computed e = record {
   verdict = entry_verdict_text e.verdict;
-  outs = ports_text e.outs;
-  cuts = ports_text e.cuts;
+  outs = members_text e.outs;
+  cuts = members_text e.cuts;
   probes = decimal e.probes;
   lost = decimal e.lost;
 }

@@ -7,7 +7,7 @@ use Rattle.savi_kinds.specs.declared.plan.Plan.{Plan}
 use Rattle.savi_kinds.specs.ValidPlan.{IsValidPlan}
 use Rattle.hist_store.specs.Rows.{Row}
 use Rattle.hist_store.specs.LineTexts.{line_fields}
-use Rattle.hist_store.specs.JournalTexts.{header_lines, entry_lines, end_line, journal_text}
+use Rattle.hist_store.specs.JournalTexts.{header_lines, entry_lines, journal_end_line, journal_text}
 use Rattle.savi_history.specs.Bases.{Base, empty}
 use Rattle.savi_history.specs.Events.{Event, row_of}
 use Rattle.savi_history.specs.Legal.{IsLegal}
@@ -83,12 +83,12 @@ rows_same plan plan' base (r ∷ past) (r' ∷ past') same valid valid' legal le
 
 -- each journal is made of lines
 lines_journal : (address_text : ℕ → List ℕ) → IsAddressText address_text → (plan : Plan) (past : List Row) → All HasOctets past
-    → IsLines (header_lines address_text plan ++ entry_lines 0 (reverse past) ++ end_line (length (reverse past)) ∷ [])
+    → IsLines (header_lines address_text plan ++ entry_lines 0 (reverse past) ++ journal_end_line (length (reverse past)) ∷ [])
 lines_journal address_text is plan past has =
     let header = lines_header address_text is plan in
     let entries = lines_rows 0 (reverse past) (octets_reversed past has) in
     let last = lines_end (length (reverse past)) in
-    lines_append (header_lines address_text plan ++ entry_lines 0 (reverse past)) (end_line (length (reverse past)) ∷ [])
+    lines_append (header_lines address_text plan ++ entry_lines 0 (reverse past)) (journal_end_line (length (reverse past)) ∷ [])
     (lines_append (header_lines address_text plan) (entry_lines 0 (reverse past)) header entries) last
 
 pub journal_tells : (address_text : ℕ → List ℕ) → IsAddressText address_text → (plan plan' : Plan) (past past' : List Row) (text : List ℕ)
@@ -97,9 +97,9 @@ journal_tells address_text is plan plan' past past' text of of' =
     let rows = reverse past in
     let rows' = reverse past' in
     let texts : journal_text address_text plan rows ≡ journal_text address_text plan' rows' = sym of.journal ∙ of'.journal in
-    let lines = lines_same (header_lines address_text plan ++ entry_lines 0 rows ++ end_line (length rows) ∷ []) (header_lines address_text plan' ++ entry_lines 0 rows' ++ end_line (length rows') ∷ [])
+    let lines = lines_same (header_lines address_text plan ++ entry_lines 0 rows ++ journal_end_line (length rows) ∷ []) (header_lines address_text plan' ++ entry_lines 0 rows' ++ journal_end_line (length rows') ∷ [])
     (lines_journal address_text is plan past of.octets) (lines_journal address_text is plan' past' of'.octets) texts in
-    let entries = same_from_push (header_lines address_text plan ++ entry_lines 0 rows) (header_lines address_text plan' ++ entry_lines 0 rows') (end_line (length rows)) (end_line (length rows')) lines in
+    let entries = same_from_push (header_lines address_text plan ++ entry_lines 0 rows) (header_lines address_text plan' ++ entry_lines 0 rows') (journal_end_line (length rows)) (journal_end_line (length rows')) lines in
     let parts = header_by_lines address_text is plan plan' (entry_lines 0 rows) (entry_lines 0 rows') of.valid of'.valid of.addresses of'.addresses entries.0 in
     record {
       plans = parts.0;

@@ -19,7 +19,7 @@ use Rattle.fcfs_states.specs.declared.answer.Probe.{Probe}
 use Rattle.mix_rules.specs.States.{has_state}
 use Rattle.mix_rules.specs.declared.state.AddrState.{AddrState}
 use Rattle.bind_table.specs.declared.row.Row.{Row as State}
-use Rattle.bind_table.specs.Rows.{address_of, row_of, rows_of, is_below, is_above, state_in, with_state}
+use Rattle.bind_table.specs.Rows.{address_of, address_row, rows_of, is_below, is_above, state_in, with_state}
 use Rattle.addr_table.specs.declared.sent.SentProbe.{SentProbe}
 use Rattle.addr_table.specs.Sends.{sent_of, all_sends}
 use Rattle.addr_history.specs.Bases.{AddrRules, AddrBase}
@@ -87,8 +87,8 @@ quiet_rows a state rows quiet all =
     All-append IsQuiet (filter (is_below a) rows) (rows_of a state ++ filter (is_above a) rows) (All-filter (is_below a) IsQuiet rows all)
     (All-append IsQuiet (rows_of a state) (filter (is_above a) rows) (own (has_state state)) (All-filter (is_above a) IsQuiet rows all))
   where
-    own : (b : Bool) → AreQuiet (if b then row_of a state ∷ [] else [])
-    own true = All-cons IsQuiet (row_of a state) [] quiet (All-nil IsQuiet)
+    own : (b : Bool) → AreQuiet (if b then address_row a state ∷ [] else [])
+    own true = All-cons IsQuiet (address_row a state) [] quiet (All-nil IsQuiet)
     own false = All-nil IsQuiet
 
 quiet_after : (r : AddrRules) (base : AddrBase) (vlan : ℕ) (marks : List Mark) → AreQuiet (base.rows vlan) → All IsOfOperator marks → AreQuiet (rows_after r base (told marks) vlan)

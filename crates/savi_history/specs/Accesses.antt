@@ -18,8 +18,8 @@ use Rattle.savi_history.specs.ShutPorts.{is_shut}
 use Rattle.savi_history.specs.Marks.{marks}
 use Rattle.savi_history.specs.Adverts.{IsFrameAt}
 
--- The frame of a row had access at the port, by what was told before it: the port wasn't shut, no rule on messages stopped the
--- frame, and its source was live there at the row's moment, or a named exception permitted it.
+-- The frame of a row had access at the port, by what was told before it: the port wasn't shut, no rule on messages stopped
+-- the frame, and its source was live there at the row's moment, or a named exception permitted it.
 abbrev pub HadAccess : Plan → Base → List Row → Row → Port → Type 0
 HadAccess plan base past r port =
     (is_shut base (number_of port) past ≡ false)

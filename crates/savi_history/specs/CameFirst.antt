@@ -17,9 +17,9 @@ use Rattle.savi_history.specs.Marks.{marks}
 abbrev pub IsLiveAtEnd : Plan → Base → List Row → ℕ → Port → Type 0
 IsLiveAtEnd plan base past a port = IsLiveAfter (rules_of plan).addresses (access_of base).addresses (told (marks plan base past)) (last_moment base past) the_vlan a port
 
--- The port had an address of this method at the end of `early`. By what was told in `late`, behind it, and up to moment t, it
--- lost the address: by its host's silence for as long as a test takes, by the operator, or by the end of a binding by DHCP
--- there (`mix_rules/specs/FirstCome`).
+-- The port had an address of this method at the end of `early`. By what was told in `late`, behind it, and up to moment t,
+-- it lost the address: by its host's silence for as long as a test takes, by the operator, or by the end of a binding by
+-- DHCP there (`mix_rules/specs/FirstCome`).
 pub record IsLostSince (plan : Plan) (base : Base) (early late : List Row) (t a : ℕ) (method : Method) (port : Port) : Type 0 where
   -- what was told in `late`
   pub new : List Mark

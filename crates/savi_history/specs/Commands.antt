@@ -8,7 +8,7 @@ use Rattle.fcfs_states.specs.declared.event.Ev.TheVariants.{Fix, Clear}
 use Rattle.mix_rules.specs.States.{has_state, is_held_at}
 use Rattle.bind_table.specs.declared.row.Row.{Row}
 use Rattle.bind_table.specs.Rows.{state_in}
-use Rattle.addr_table.specs.Rooms.{has_room, room_for}
+use Rattle.addr_table.specs.Rooms.{may_hold_more, room_for}
 use Rattle.addr_history.specs.Tables.{rows_at}
 use Rattle.cli_lang.specs.declared.kinds.Command.{Command}
 use Rattle.cli_lang.specs.declared.kinds.Command.TheVariants as orders
@@ -28,7 +28,7 @@ rows_after plan base marks moment = rows_at (rules_of plan).addresses base.addre
 
 -- the port has room for the address, or holds it already
 abbrev pub may_hold : Plan → List Row → Port → ℕ → Bool
-may_hold plan rows port a = has_room plan.per_port rows port || is_held_at (number_of port) (state_in rows a)
+may_hold plan rows port a = may_hold_more plan.per_port rows port || is_held_at (number_of port) (state_in rows a)
 
 -- why an address isn't fixed to a port, if it isn't: the first of these causes
 abbrev pub static_refusal : Plan → List Row → ℕ → Port → Option Refusal

@@ -1,6 +1,6 @@
--- What the octets of control's source are to the history, by how control ended. `Arrives` says which lines some octets are, and
--- how they end, where the input was seen to end behind them and where it wasn't; `before` and `after` are what the source had
--- left, where it tells that.
+-- What the octets of control's source are to the history, by how control ended. `Arrives` says which lines some octets are,
+-- and how they end, where the input was seen to end behind them and where it wasn't; `before` and `after` are what the
+-- source had left, where it tells that.
 use Rattle.std.specs.Prelude.{◌≡◌, ℕ, Bool, true, false, IsTrue, List, [], ◌∷◌, ◌++◌, All, Option, Some, None, IfSome}
 use Rattle.savi_kinds.specs.declared.entry.How.{How}
 use Rattle.savi_kinds.specs.declared.entry.How.TheVariants as hows

@@ -1,5 +1,5 @@
--- What the entries of a history tell of addresses and requests (RFC 6620 section 3.2, RFC 7513 section 6, RFC 8074): the marks of
--- each frame, and of each command of the operator, by what was told before it.
+-- What the entries of a history tell of addresses and requests (RFC 6620 section 3.2, RFC 7513 section 6, RFC 8074): the
+-- marks of each frame, and of each command of the operator, by what was told before it.
 use Rattle.std.specs.Prelude.{◌≡◌, ◌⊎◌, ℕ, Bool, true, false, List, [], ◌∷◌}
 use Rattle.savi_kinds.specs.declared.port.Port.{Port}
 use Rattle.savi_kinds.specs.declared.plan.Plan.{Plan}

@@ -1,6 +1,6 @@
 -- Which probes an entry calls for, neighbor solicitations for duplicate address detection that the switch sends (RFC 6620
--- section 3.2.3, RFC 7513 section 6.4): those that fell due since the entry before it, in the order in which they are due and
--- then of address, and last the one with which its own frame is answered.
+-- section 3.2.3, RFC 7513 section 6.4): those that fell due since the entry before it, in the order in which they are due
+-- and then of address, and last the one with which its own frame is answered.
 use Rattle.std.specs.Prelude.{ℕ, Option, Some, None, List, [], ◌∷◌, ◌++◌, map}
 use Rattle.savi_kinds.specs.declared.plan.Plan.{Plan}
 use Rattle.savi_kinds.specs.declared.address.Addr.{Addr}

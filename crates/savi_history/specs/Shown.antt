@@ -1,5 +1,5 @@
--- What a command is answered on control: why it is refused; `ok`; or, for a `show`, what the switch knows. A command is refused by
--- what stood before its entry; a `show` reads the history with the entry and the probes that fell due by then.
+-- What a command is answered on control: why it is refused; `ok`; or, for a `show`, what the switch knows. A command is
+-- refused by what stood before its entry; a `show` reads the history with the entry and the probes that fell due by then.
 use Rattle.std.specs.Prelude.{ℕ, ◌==◌, Bool, false, List, [], ◌∷◌, length, map, count_ones, Option, Some, None, Result, Ok, Err}
 use Rattle.savi_kinds.specs.declared.plan.Plan.{Plan}
 use Rattle.savi_kinds.specs.declared.plan.PortPlan.{PortPlan}
@@ -8,9 +8,9 @@ use Rattle.savi_kinds.specs.declared.verdict.Verdict.{Verdict}
 use Rattle.savi_kinds.specs.declared.verdict.Verdict.TheVariants.{Pass, Drop}
 use Rattle.savi_kinds.specs.Ports.{number_of}
 use Rattle.savi_kinds.specs.Rules.{rule_number}
-use Rattle.dhcp_states.specs.Requests.{count_at as requests_at}
+use Rattle.dhcp_states.specs.Requests.{requests_at_port}
 use Rattle.bind_table.specs.Rows.{count_at}
-use Rattle.bridge_fdb.specs.Stations.{live_at, row_of}
+use Rattle.bridge_fdb.specs.Stations.{live_at, station_told}
 use Rattle.cli_lang.specs.declared.kinds.Command.{Command}
 use Rattle.cli_lang.specs.declared.kinds.Command.TheVariants.{ShowBindings, ShowPorts, ShowCounters, ShowStations, Clear, Static, Shut, Reopen, Quit}
 use Rattle.cli_lang.specs.declared.kinds.CmdFault.{CmdFault}
@@ -40,8 +40,8 @@ is_drop_by rule None = false
 is_drop_by rule (Some (Pass scope)) = false
 is_drop_by rule (Some (Drop by)) = rule_number by == rule_number rule
 
--- what a history counts: how many frames each rule dropped, how many passed, how often a frame was left out at a port, and how
--- many probes were queued and left out
+-- what a history counts: how many frames each rule dropped, how many passed, how often a frame was left out at a port, and
+-- how many probes were queued and left out
 abbrev pub counts_of : List Row → Counts
 counts_of past = record {
   by_rule = map (λ rule. number_with (λ r. is_drop_by rule r.entry.verdict) past) all_rules;
@@ -58,7 +58,7 @@ port_row plan base past moment port = record {
   role = port.role;
   is_shut = is_shut base (number_of port.number) past;
   held = count_at (number_of port.number) (rows_after plan (access_of base) (marks plan base past) moment);
-  pending = requests_at (number_of port.number) (open_requests (access_of base) the_vlan (marks plan base past) moment);
+  pending = requests_at_port (number_of port.number) (open_requests (access_of base) the_vlan (marks plan base past) moment);
   queued = length (queue plan base (number_of port.number) past);
 }
 
@@ -68,7 +68,7 @@ reply_to plan base past moment (Err fault) = refusal_text (fault_refusal fault)
 reply_to plan base past moment (Ok ShowBindings) = bindings_text (times_of plan) (rows_after plan (access_of base) (marks plan base past) moment)
 reply_to plan base past moment (Ok ShowPorts) = ports_text (map (port_row plan base past moment) plan.ports)
 reply_to plan base past moment (Ok ShowCounters) = counters_text (counts_of past)
-reply_to plan base past moment (Ok ShowStations) = stations_text (map row_of (live_at moment (stations the_vlan base past)))
+reply_to plan base past moment (Ok ShowStations) = stations_text (map station_told (live_at moment (stations the_vlan base past)))
 reply_to plan base past moment (Ok (Clear address)) = ok_text
 reply_to plan base past moment (Ok (Static address port)) = ok_text
 reply_to plan base past moment (Ok (Shut port)) = ok_text

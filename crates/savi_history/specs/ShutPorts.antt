@@ -1,5 +1,5 @@
--- Which ports are shut: those of which the operator's last `shut` or `open` was a `shut`. A frame that comes in at a shut port is
--- dropped, and neither frames nor probes go to one.
+-- Which ports are shut: those of which the operator's last `shut` or `open` was a `shut`. A frame that comes in at a shut
+-- port is dropped, and neither frames nor probes go to one.
 use Rattle.std.specs.Prelude.{ℕ, ◌==◌, Bool, true, false, if◌then◌else◌, List, [], ◌∷◌, Result, Ok, Err}
 use Rattle.std.specs.List.{list_any}
 use Rattle.savi_kinds.specs.declared.entry.Act.{Act}

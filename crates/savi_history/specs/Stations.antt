@@ -1,5 +1,5 @@
--- The stations that a switch knows, recomputed from the entries of a history: a frame that passes teaches that the station of
--- its source MAC address is at its port, and nothing else teaches (IEEE 802.1Q sections 8.7, 8.8 and 8.8.3).
+-- The stations that a switch knows, recomputed from the entries of a history: a frame that passes teaches that the station
+-- of its source MAC address is at its port, and nothing else teaches (IEEE 802.1Q sections 8.7, 8.8 and 8.8.3).
 use Rattle.std.specs.Prelude.{ℕ, ◌==◌, ◌&&◌, nat_lt, Bool, if◌then◌else◌, List, [], ◌∷◌, length, Option, Some, None}
 use Rattle.savi_kinds.specs.declared.port.Port.{Port}
 use Rattle.savi_kinds.specs.declared.entry.Act.{Act}
@@ -8,7 +8,7 @@ use Rattle.savi_kinds.specs.Macs.{is_group}
 use Rattle.eth_frame.specs.declared.header.Eth.{Eth}
 use Rattle.eth_frame.specs.Frame.{header_of}
 use Rattle.bridge_fdb.specs.declared.station.Station.{Station}
-use Rattle.bridge_fdb.specs.Stations.{station_of, live_at, place_of}
+use Rattle.bridge_fdb.specs.Stations.{station_of, live_at, learned_port}
 use Rattle.bridge_fdb.specs.Learning.{learned}
 use Rattle.hist_store.specs.Rows.{Row}
 use Rattle.savi_history.specs.Bases.{Base}
@@ -45,7 +45,7 @@ stations vlan base (r ∷ past) = after_entry vlan r r.entry.act (live_at r.entr
 -- the port of the station for which a frame with this header is; a frame for a group address is for none
 abbrev pub port_among : List Station → Option Eth → Option Port
 port_among stations None = None
-port_among stations (Some eth) = if is_group eth.dst then None else place_of eth.dst stations
+port_among stations (Some eth) = if is_group eth.dst then None else learned_port eth.dst stations
 
 -- the port at which a frame's destination is known at a moment after this past
 abbrev pub known_port : ℕ → Base → List Row → ℕ → List ℕ → Option Port

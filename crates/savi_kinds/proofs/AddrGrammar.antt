@@ -15,7 +15,7 @@ use Rattle.std.specs.declared.net.ipv6_addr.Ipv6Addr.{Ipv6Addr}
 use Rattle.std.proofs.NetLemmas.Arrays.{eight_items}
 use Rattle.std.proofs.NetLemmas.Theorems.{IsIpv6Text_unique}
 use Rattle.savi_kinds.specs.declared.address.Addr.{Addr}
-use Rattle.savi_kinds.specs.AddrText.{IsGroup, numbers_of, joined, number_of_groups, IsWhole, IsCompressed, IsAddrText}
+use Rattle.savi_kinds.specs.AddrText.{IsGroup, group_numbers, joined, number_of_groups, IsWhole, IsCompressed, IsAddrText}
 use Rattle.savi_kinds.proofs.Colons.{behind, joined-behind}
 
 -- how often a character stands in a text
@@ -78,14 +78,14 @@ marks-joined b mark [] h = refl
 marks-joined b mark (g ∷ gs) h =
     rw joined-behind (omega (arith, marks-append b g (behind gs), marks-digits b mark g (All-head IsGroup g gs h).0.1, marks-behind b mark gs (All-tail IsGroup g gs h)))
 
-more_groups : (ipv4 : Bool) (gs : List (List ℕ)) → All IsGroup gs → IsGroupsAfter ipv4 (58 ∷ []) (behind gs) (numbers_of gs)
+more_groups : (ipv4 : Bool) (gs : List (List ℕ)) → All IsGroup gs → IsGroupsAfter ipv4 (58 ∷ []) (behind gs) (group_numbers gs)
 more_groups ipv4 [] h = refl
 more_groups ipv4 (g ∷ gs) h =
     let first = All-head IsGroup g gs h in
     inl (g, behind gs, refl, ((first.0, refl), first.1), more_groups ipv4 gs (All-tail IsGroup g gs h))
 
 -- a row of groups is one of the grammar
-groups_in_grammar : (ipv4 : Bool) (gs : List (List ℕ)) → All IsGroup gs → IsGroups ipv4 (joined gs) (numbers_of gs)
+groups_in_grammar : (ipv4 : Bool) (gs : List (List ℕ)) → All IsGroup gs → IsGroups ipv4 (joined gs) (group_numbers gs)
 groups_in_grammar ipv4 [] h = refl
 groups_in_grammar ipv4 (g ∷ gs) h =
     let first = All-head IsGroup g gs h in
@@ -96,7 +96,7 @@ record Row (spell : List (List ℕ) → List ℕ) (text numbers : List ℕ) : Ty
   groups : List (List ℕ)
   hex : All IsGroup groups
   spelled : text ≡ spell groups
-  value : numbers ≡ numbers_of groups
+  value : numbers ≡ group_numbers groups
 
 dotted_tail : (lead last octets text : List ℕ) → dots text ≡ 0 → text ≡ lead ++ last → IsDotted last octets → ⊥
 dotted_tail lead last octets text none split dotted = omega (arith, dots-dotted last octets dotted, ap dots split, dots-append lead last)
@@ -138,7 +138,7 @@ pub record InGrammar (text : List ℕ) (a : Addr) : Type 0 where
 
 whole_in_grammar : (text : List ℕ) (a : Addr) → IsWhole text a → InGrammar text a
 whole_in_grammar text a h = record {
-  numbers = numbers_of h.groups;
+  numbers = group_numbers h.groups;
   colon_hex = inl (rw h.spelled (groups_in_grammar true h.groups h.hex_digits), length-map h.groups (digits_value 16) ∙ h.eight);
   value = h.value;
 }
@@ -147,19 +147,19 @@ compressed_in_grammar : (text : List ℕ) (a : Addr) → IsCompressed text a →
 compressed_in_grammar text a h =
     let front_len = length-map h.front (digits_value 16) in
     let back_len = length-map h.back (digits_value 16) in
-    let gap : 8 - length (numbers_of h.front) - length (numbers_of h.back) ≡ h.zeros = omega (arith, h.eight) in
+    let gap : 8 - length (group_numbers h.front) - length (group_numbers h.back) ≡ h.zeros = omega (arith, h.eight) in
     record {
-      numbers = numbers_of h.front ++ replicate h.zeros 0 ++ numbers_of h.back;
+      numbers = group_numbers h.front ++ replicate h.zeros 0 ++ group_numbers h.back;
       colon_hex = inr (record {
         head_text = joined h.front;
         tail_text = joined h.back;
-        head = numbers_of h.front;
-        tail = numbers_of h.back;
+        head = group_numbers h.front;
+        tail = group_numbers h.back;
         spelled = h.spelled;
         head_groups = groups_in_grammar false h.front h.hex_front;
         tail_groups = groups_in_grammar true h.back h.hex_back;
         room = omega (arith, h.eight, h.some);
-        value = ap (λ n. numbers_of h.front ++ replicate n 0 ++ numbers_of h.back) (sym gap);
+        value = ap (λ n. group_numbers h.front ++ replicate n 0 ++ group_numbers h.back) (sym gap);
       });
       value = h.value;
     }

@@ -13,8 +13,8 @@ abbrev pub IsGroup : List ℕ → Type 0
 IsGroup digits = IsNumeral 16 digits × (length digits ≤ 4)
 
 -- the numbers that groups write
-abbrev pub numbers_of : List (List ℕ) → List ℕ
-numbers_of groups = map (digits_value 16) groups
+abbrev pub group_numbers : List (List ℕ) → List ℕ
+group_numbers groups = map (digits_value 16) groups
 
 -- groups with a colon between each two
 abbrev pub joined : List (List ℕ) → List ℕ
@@ -30,7 +30,7 @@ pub record IsWhole (text : List ℕ) (a : Addr) : Type 0 where
   pub hex_digits : All IsGroup groups
   pub eight : length groups ≡ 8
   pub spelled : text ≡ joined groups
-  pub value : a.0 ≡ number_of_groups (numbers_of groups)
+  pub value : a.0 ≡ number_of_groups (group_numbers groups)
 
 -- form 2: groups on each side of one '::', which stands for one group of zeros or more
 pub record IsCompressed (text : List ℕ) (a : Addr) : Type 0 where
@@ -42,7 +42,7 @@ pub record IsCompressed (text : List ℕ) (a : Addr) : Type 0 where
   pub some : 1 ≤ zeros
   pub eight : length front + zeros + length back ≡ 8
   pub spelled : text ≡ joined front ++ codes "::" ++ joined back
-  pub value : a.0 ≡ number_of_groups (numbers_of front ++ replicate zeros 0 ++ numbers_of back)
+  pub value : a.0 ≡ number_of_groups (group_numbers front ++ replicate zeros 0 ++ group_numbers back)
 
 -- the text writes this address
 abbrev pub IsAddrText : List ℕ → Addr → Type 0

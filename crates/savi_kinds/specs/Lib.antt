@@ -9,3 +9,4 @@ pub mod PlanWords
 pub mod Arrivals
 pub mod AddrText
 pub mod PrefixText
+pub mod Characters

@@ -10,13 +10,13 @@ use Rattle.port_ends.specs.declared.port_source.PortSource.{PortSource}
 use Rattle.port_ends.specs.declared.port_sink.PortSink.{PortSink}
 use Rattle.savi_switch.specs.declared.machine_clock.MachineClock.{MachineClock}
 use Rattle.savi_switch.specs.declared.real_world.RealWorld.{RealWorld}
-use Rattle.end_places.specs.Spots.{place_of}
+use Rattle.end_places.specs.Spots.{spot_place}
 use Rattle.end_places.specs.NamedSpots.{named_place}
 use Rattle.end_places.specs.PortPlaces.{port_place}
 
 abbrev pub std_place : {R A B C D : Type 0} → RealWorld R A B C D → Std → Place (PortSink FileSink (SocketSink R A B C D))
-std_place w Out = place_of w.out
-std_place w Err = place_of w.err
+std_place w Out = spot_place w.out
+std_place w Err = spot_place w.err
 
 abbrev pub book_of : {R A B C D : Type 0} → RealWorld R A B C D →
     Book (PortSource FileSource (SocketSource R A B C D)) (PortSink FileSink (SocketSink R A B C D)) MachineClock
@@ -25,7 +25,7 @@ book_of w = record {
   inputs = named_place w.input;
   outputs = named_place w.output;
   ports = port_place w.ports;
-  control = place_of w.control;
-  ticker = place_of w.ticker;
+  control = spot_place w.control;
+  ticker = spot_place w.ticker;
   std = std_place w;
 }

@@ -10,8 +10,6 @@ mod listening;
 mod meeting;
 mod opening;
 mod path_lock;
-mod receiving;
-mod sending;
 mod socket_sink;
 mod socket_source;
 

@@ -3,8 +3,7 @@
 ghost use Rattle.std.specs.Prelude.{◌≡◌, None};
 
 use crate::meeting::Meeting;
-use crate::sending::send;
-use savi_ends::{Put, Sink};
+use savi_ends::{Put, Sink, send};
 use std::alloc::Global;
 use std::fs::Files;
 use std::net::Net;

@@ -3,8 +3,7 @@
 ghost use Rattle.std.specs.Prelude.{◌≡◌, None};
 
 use crate::meeting::Meeting;
-use crate::receiving::receive;
-use savi_ends::{Got, Source};
+use savi_ends::{Got, Source, receive};
 use std::alloc::Global;
 use std::fs::Files;
 use std::net::Net;

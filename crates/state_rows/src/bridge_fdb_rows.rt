@@ -1,7 +1,7 @@
 //! Stations as frames come in.
 
 ghost use Rattle.std.specs.Prelude.{◌≡◌, IfOk, map};
-ghost use Rattle.bridge_fdb.specs.Stations.{live_at, row_of};
+ghost use Rattle.bridge_fdb.specs.Stations.{live_at, station_told};
 
 use crate::plain::port;
 use bridge_fdb::Fdb;
@@ -52,7 +52,7 @@ fn stations_are_learned_and_end(rt: HostRuntime) -> Result<(), Fail> {
 
 // What is told of all stations that are live at t, in order.
 fn rows(alloc: Global, fdb: &Fdb, t: Moment) -> Result<Vec<(Mac, Port, Moment)>, AllocError>
-    ensures { IfOk result (λ rows. rows.items ≡ map row_of (live_at t fdb.now)) }
+    ensures { IfOk result (λ rows. rows.items ≡ map station_told (live_at t fdb.now)) }
 {
     let mut rows = Vec::new(alloc);
     let mut from = 0;

@@ -57,9 +57,44 @@ fn expect_bindings(rt: &impl Abort, reply: &mut Reply, rows: [(Addr, AddrState);
 #[test]
 fn bindings_are_shown(rt: HostRuntime) -> Result<(), AllocError> {
     let mut reply = Reply::make(rt.alloc())?;
-    let (one, two, last) = (port(1), port(2), port(16));
+    let one = port(1);
     let none = (LOCAL_11, AddrState::none());
     let own = (LOCAL_11, valid(one, 302_000));
+    let beside = Fcfs::Valid {
+        p: one,
+        until: 301_500,
+    };
+    let endless = bound(one, None, Fcfs::NoBind);
+    let cases: [([(Addr, AddrState); 3], &str); 4] = [
+        ([none, none, none], "end\n"),
+        (
+            [
+                (GLOBAL_11, valid(one, 303_000)),
+                (LOCAL_11, valid(one, 302_100)),
+                none,
+            ],
+            "2001:db8:1::11 1 valid - 303000\nfe80::11 1 valid - 302100\nend\n",
+        ),
+        (
+            [(LEASED, endless), own, (LOCAL_22, valid(port(5), 302_100))],
+            "2001:db8:2::101 1 bound - -\nfe80::11 1 valid - 302000\nfe80::22 5 valid - 302100\nend\n",
+        ),
+        (
+            [(MIXED_33, bound(one, Some(722_100), beside)), own, none],
+            "2001:db8:3::33 1 bound - 722100\n2001:db8:3::33 1 valid - 301500\nfe80::11 1 valid - 302000\nend\n",
+        ),
+    ];
+    for (rows, want) in cases {
+        expect_bindings(&rt, &mut reply, rows, want);
+    }
+    Ok(())
+}
+
+#[test]
+fn each_state_has_its_word(rt: HostRuntime) -> Result<(), AllocError> {
+    let mut reply = Reply::make(rt.alloc())?;
+    let (one, two, last) = (port(1), port(2), port(16));
+    let none = (LOCAL_11, AddrState::none());
     let tentative = first_come(Fcfs::Tentative {
         p: one,
         since: 1_000,
@@ -80,48 +115,14 @@ fn bindings_are_shown(rt: HostRuntime) -> Result<(), AllocError> {
         fixed: Some(one),
         ..AddrState::none()
     };
-    let beside = Fcfs::Valid {
-        p: one,
-        until: 301_500,
-    };
-    let endless = bound(one, None, Fcfs::NoBind);
-    let cases: [([(Addr, AddrState); 3], &str); 8] = [
-        ([none, none, none], "end\n"),
-        (
-            [
-                (GLOBAL_11, valid(one, 303_000)),
-                (LOCAL_11, valid(one, 302_100)),
-                none,
-            ],
-            "2001:db8:1::11 1 valid - 303000\nfe80::11 1 valid - 302100\nend\n",
-        ),
-        (
-            [(LOCAL_11, tentative), none, none],
-            "fe80::11 1 tentative - 1500\nend\n",
-        ),
-        (
-            [(LOCAL_11, claimed), none, none],
-            "fe80::11 1 testing-vp 2 2500\nend\n",
-        ),
-        (
-            [(LOCAL_11, tested), none, none],
-            "fe80::11 16 testing-lt - 303000\nend\n",
-        ),
-        (
-            [(LEASED, endless), own, (LOCAL_22, valid(port(5), 302_100))],
-            "2001:db8:2::101 1 bound - -\nfe80::11 1 valid - 302000\nfe80::22 5 valid - 302100\nend\n",
-        ),
-        (
-            [(MIXED_33, bound(one, Some(722_100), beside)), own, none],
-            "2001:db8:3::33 1 bound - 722100\n2001:db8:3::33 1 valid - 301500\nfe80::11 1 valid - 302000\nend\n",
-        ),
-        (
-            [(LOCAL_11, fixed), none, none],
-            "fe80::11 1 static - -\nend\n",
-        ),
+    let cases: [(AddrState, &str); 4] = [
+        (tentative, "fe80::11 1 tentative - 1500\nend\n"),
+        (claimed, "fe80::11 1 testing-vp 2 2500\nend\n"),
+        (tested, "fe80::11 16 testing-lt - 303000\nend\n"),
+        (fixed, "fe80::11 1 static - -\nend\n"),
     ];
-    for (rows, want) in cases {
-        expect_bindings(&rt, &mut reply, rows, want);
+    for (state, want) in cases {
+        expect_bindings(&rt, &mut reply, [(LOCAL_11, state), none, none], want);
     }
     Ok(())
 }

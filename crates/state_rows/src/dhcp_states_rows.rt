@@ -3,10 +3,15 @@
 use crate::plain::port;
 use dhcp_states::{Bound, DUID_OCTETS_MOST, Pending, lease_end};
 use savi_kinds::{LAST_MOMENT, Rule};
+use std::alloc::Global;
+use std::process::Abort;
 use std::test::Fail;
 
 /// A DUID by link-layer address (RFC 8415 section 11.4).
 const DUID: [u8; 10] = [0, 3, 0, 1, 2, 0, 0, 0, 0, 1];
+
+/// A DUID of as many octets as one may have (RFC 8415 section 11.1).
+const LONGEST: [u8; DUID_OCTETS_MOST] = [7; DUID_OCTETS_MOST];
 
 #[test]
 fn a_port_has_sixteen_open_requests(rt: HostRuntime) -> Result<(), Fail> {
@@ -51,11 +56,10 @@ fn a_port_has_sixteen_open_requests(rt: HostRuntime) -> Result<(), Fail> {
     Ok(())
 }
 
-#[test]
-fn a_reply_is_for_the_port_that_asked(rt: HostRuntime) -> Result<(), Fail> {
-    let mut pending = Pending::make(rt.alloc())?;
+// Requests of two ports at 2,050 ms, of which one has the pair of another one.
+fn asked(rt: &impl Abort, alloc: Global) -> Result<Pending, Fail> {
+    let mut pending = Pending::make(alloc)?;
     let (p1, p2) = (port(1), port(16));
-    let longest = [7; DUID_OCTETS_MOST];
     let requests = [
         ("a first request", p1, 7, &DUID[..], Ok(())),
         (
@@ -73,18 +77,25 @@ fn a_reply_is_for_the_port_that_asked(rt: HostRuntime) -> Result<(), Fail> {
             &DUID[..9],
             Ok(()),
         ),
-        ("the longest DUID", p2, 7, &longest, Ok(())),
+        ("the longest DUID", p2, 7, &LONGEST, Ok(())),
         (
             "a DUID that begins the longest",
             p1,
             7,
-            &longest[..129],
+            &LONGEST[..129],
             Ok(()),
         ),
     ];
     for (name, p, tid, duid, want) in requests {
         assert_eq!(rt; pending.request(p, tid, duid, 2_050), want, "{name}");
     }
+    Ok(pending)
+}
+
+#[test]
+fn a_reply_is_for_the_port_that_asked(rt: HostRuntime) -> Result<(), Fail> {
+    let mut pending = asked(&rt, rt.alloc())?;
+    let (p1, p2) = (port(1), port(16));
     let replies = [
         ("an id that nobody has", 9, &DUID[..], 2_100, None),
         ("the first request", 7, &DUID, 2_100, Some(p1)),
@@ -97,8 +108,8 @@ fn a_reply_is_for_the_port_that_asked(rt: HostRuntime) -> Result<(), Fail> {
             2_100,
             Some(p2),
         ),
-        ("the longest DUID", 7, &longest, 122_049, Some(p2)),
-        ("when its time has come", 7, &longest[..129], 122_050, None),
+        ("the longest DUID", 7, &LONGEST, 122_049, Some(p2)),
+        ("when its time has come", 7, &LONGEST[..129], 122_050, None),
     ];
     for (name, tid, duid, t, want) in replies {
         assert_eq!(rt; pending.reply(tid, duid, t), want, "{name}");

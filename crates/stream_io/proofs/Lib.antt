@@ -7,3 +7,4 @@ pub mod Uniqueness
 pub mod WholeRuns
 pub mod BeforeFault
 pub mod BeforeMore
+pub mod ClockReadings

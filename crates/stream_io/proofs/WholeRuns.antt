@@ -127,13 +127,13 @@ ended_unread ending last (told ∷ later) before after new is calls_are =
     let same = unread ending last before.readings between.readings is (subst (λ (answer : Next). Stamps (λ readings. readings) before.readings between.readings answer) again.0 calls_are.2.stamps) in
     ended_unread ending last later between after new is (subst (λ (state : State). AreCalls state between later new after) again.1 calls_are.3) ∙ same
 
-adds_none : (old new : Option (List ℕ)) → new ≡ old → AddsReadings old new []
-adds_none old None same = tt
-adds_none old (Some new) same = (new, sym same, sym (append-nil new))
+adds_none_by : (old new : Option (List ℕ)) → new ≡ old → AddsReadings old new []
+adds_none_by old None same = tt
+adds_none_by old (Some new) same = (new, sym same, sym (append-nil new))
 
-adds_more : (old mid new : Option (List ℕ)) (reading : ℕ) (readings : List ℕ) → AddsReading old mid reading → AddsReadings mid new readings → AddsReadings old new (reading ∷ readings)
-adds_more old mid None reading readings first later = tt
-adds_more old mid (Some new) reading readings first later =
+adds_in_front : (old mid new : Option (List ℕ)) (reading : ℕ) (readings : List ℕ) → AddsReading old mid reading → AddsReadings mid new readings → AddsReadings old new (reading ∷ readings)
+adds_in_front old mid None reading readings first later = tt
+adds_in_front old mid (Some new) reading readings first later =
     let one : AddsReading old (Some later.0) reading = subst (λ (o : Option (List ℕ)). AddsReading old o reading) later.1 first in
     (one.0, one.1, later.2 ∙ ap (λ (l : List ℕ). l ++ readings) one.2 ∙ append_assoc one.0 (reading ∷ []) readings)
 
@@ -141,18 +141,18 @@ adds_more old mid (Some new) reading readings first later =
 one_reading : (state mid : State) (gave buf : List ℕ) (left : Option (List ℕ)) (before between after : Outside) (answer : Next) (later : List Told) (new : State) → Answers state mid gave buf left answer → Stamps (λ readings. readings) before.readings between.readings answer → AreCalls mid between later new after → AddsReadings between.readings after.readings (stamps_of later)
     → AddsReadings before.readings after.readings (stamps_of (record { answer = answer; buf = buf } ∷ later))
 one_reading state mid gave buf left before between after (next.Frame stamp len) later new answers stamps calls_are others =
-    adds_more before.readings between.readings after.readings stamp (stamps_of later) stamps others
+    adds_in_front before.readings between.readings after.readings stamp (stamps_of later) stamps others
 one_reading state mid gave buf left before between after (next.Long stamp len) later new answers stamps calls_are others =
-    adds_more before.readings between.readings after.readings stamp (stamps_of later) stamps others
+    adds_in_front before.readings between.readings after.readings stamp (stamps_of later) stamps others
 one_reading state mid gave buf left before between after next.End later new answers stamps calls_are others =
-    adds_none before.readings after.readings (ended_unread how.End next.End later between after new refl (subst (λ (s : State). AreCalls s between later new after) answers.0 calls_are) ∙ stamps)
+    adds_none_by before.readings after.readings (ended_unread how.End next.End later between after new refl (subst (λ (s : State). AreCalls s between later new after) answers.0 calls_are) ∙ stamps)
 one_reading state mid gave buf left before between after (next.Malformed at) later new answers stamps calls_are others =
-    adds_none before.readings after.readings (ended_unread (how.Malformed at) (next.Malformed at) later between after new refl (subst (λ (s : State). AreCalls s between later new after) answers.0 calls_are) ∙ stamps)
+    adds_none_by before.readings after.readings (ended_unread (how.Malformed at) (next.Malformed at) later between after new refl (subst (λ (s : State). AreCalls s between later new after) answers.0 calls_are) ∙ stamps)
 one_reading state mid gave buf left before between after next.Failed later new answers stamps calls_are others =
-    adds_none before.readings after.readings (ended_unread how.Failed next.Failed later between after new refl (subst (λ (s : State). AreCalls s between later new after) answers.0 calls_are) ∙ stamps)
+    adds_none_by before.readings after.readings (ended_unread how.Failed next.Failed later between after new refl (subst (λ (s : State). AreCalls s between later new after) answers.0 calls_are) ∙ stamps)
 
 pub stamps_are_readings : StampsAreReadings
-stamps_are_readings old new before after [] calls_are = adds_none before.readings after.readings (ap (λ (o : Outside). o.readings) calls_are.1)
+stamps_are_readings old new before after [] calls_are = adds_none_by before.readings after.readings (ap (λ (o : Outside). o.readings) calls_are.1)
 stamps_are_readings old new before after (told ∷ later) calls_are =
     let call = calls_are.2.octets in
     one_reading old calls_are.0 call.0 told.buf calls_are.1.left before calls_are.1 after told.answer later new call.2 calls_are.2.stamps calls_are.3 (stamps_are_readings calls_are.0 new calls_are.1 after later calls_are.3)

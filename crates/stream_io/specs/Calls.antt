@@ -79,8 +79,8 @@ stamps_in (a ∷ arrivals) = stamp_of a ∷ stamps_in arrivals
 abbrev pub stamps_of : List Told → List ℕ
 stamps_of calls = stamps_in (arrivals_of calls)
 
--- The answers of a new reader are the records of all the octets that its source had left, in their order, each with the stamp
--- that was told, and then how they end.
+-- The answers of a new reader are the records of all the octets that its source had left, in their order, each with the
+-- stamp that was told, and then how they end.
 abbrev pub CallsGiveInput : Type 0
 CallsGiveInput =
     (octets : List ℕ) (readings : Option (List ℕ)) (calls : List Told) (new : State) (after : Outside)

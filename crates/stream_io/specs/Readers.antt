@@ -26,13 +26,13 @@ Comes seen (Running place held) octets input = IsRun seen place input.arrivals i
 Comes seen (Ended ending) octets input = input ≡ ended ending
 
 -- where the next record begins
-abbrev pub place_of : State → ℕ
-place_of (Running place held) = place
-place_of (Ended ending) = 0
+abbrev pub record_place : State → ℕ
+record_place (Running place held) = place
+record_place (Ended ending) = 0
 
 -- the state holds no place past 2^62
 abbrev pub IsPlaced : State → Type 0
-IsPlaced state = place_of state ≤ 2 ^ 62
+IsPlaced state = record_place state ≤ 2 ^ 62
 
 -- From the first state to the second one these octets were taken and gave these arrivals: whatever comes behind them, the
 -- arrivals come before it.
@@ -47,9 +47,9 @@ pub record HasReadOne (old new : State) (gave : List ℕ) (arrival : Arrival) : 
   pub read : HasRead old new gave (arrival ∷ [])
   pub size : ℕ
   pub held : List ℕ
-  pub running : new ≡ Running (place_of old + size) held
+  pub running : new ≡ Running (record_place old + size) held
   pub some : 4 ≤ size
-  pub placed : place_of old + size ≤ 2 ^ 62
+  pub placed : record_place old + size ≤ 2 ^ 62
 
 -- The input ends so, whatever is left behind what was taken; or since nothing is left.
 abbrev pub HasEnded : State → State → List ℕ → Option (List ℕ) → How → Type 0

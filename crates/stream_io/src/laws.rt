@@ -37,8 +37,8 @@ pub fn calls_before_fault()
     ensures { CallsBeforeFault }
 {}
 
-/// Law: what a reader told that goes on is a front of what it took: the first records of the octets that its source gave, and
-/// none is left out.
+/// Law: what a reader told that goes on is a front of what it took: the first records of the octets that its source gave,
+/// and none is left out.
 pub fn calls_before_more()
     ensures { CallsBeforeMore }
 {}

@@ -1,13 +1,14 @@
 -- What a failed write leaves is a front of the text.
 use Rattle.std.proofs.Common.{ℕ, ◌+◌, zero, suc, List, [], ◌∷◌, ◌++◌, length, take, refl, arith, ap, sym, ◌∙◌, Option}
 use Rattle.std.proofs.lemmas.List.{append_assoc, take_all}
+use Rattle.savi_kinds.specs.Characters.{line_feed}
 use Rattle.savi_ends.specs.declared.sink.Put.{Put}
 use Rattle.savi_ends.specs.declared.sink.Put.TheVariants as put
 use Rattle.savi_ends.specs.Octets.{behind, IsFront}
 use Rattle.savi_ends.specs.Writes.{Extends}
 use Rattle.savi_ends.proofs.Octets.{behind_again}
 use Rattle.hist_store.specs.Rows.{Row}
-use Rattle.hist_store.specs.TextOfLines.{line_feed, lines_text}
+use Rattle.hist_store.specs.TextOfLines.{lines_text}
 use Rattle.hist_store.specs.LineTexts.{line_text}
 use Rattle.hist_store.specs.JournalTexts.{entry_lines}
 use Rattle.switch_report.specs.Buffers.{Holds}

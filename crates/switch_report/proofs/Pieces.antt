@@ -1,11 +1,12 @@
 -- One piece behind another.
 use Rattle.std.proofs.Common.{◌≡◌, ℕ, ◌+◌, zero, suc, List, [], ◌∷◌, ◌++◌, length, take, refl, arith, ap, sym, subst, ◌∙◌, Option, Some, None, unwrap_or, IsSomeAnd, slice_get}
 use Rattle.std.proofs.lemmas.List.{append_assoc, append-nil, take_all}
+use Rattle.savi_kinds.specs.Characters.{line_feed}
 use Rattle.savi_ends.specs.Octets.{behind, IsFront}
 use Rattle.savi_ends.proofs.Octets.{behind_again}
 use Rattle.savi_kinds.specs.declared.entry.Entry.{Entry}
 use Rattle.hist_store.specs.Rows.{Row}
-use Rattle.hist_store.specs.TextOfLines.{joined, line_feed, lines_text}
+use Rattle.hist_store.specs.TextOfLines.{joined, lines_text}
 use Rattle.hist_store.specs.LineTexts.{line_text}
 use Rattle.hist_store.specs.JournalTexts.{entry_lines}
 use Rattle.switch_report.specs.Buffers.{Holds}

@@ -10,27 +10,27 @@ use Rattle.journal_check.specs.Answers.{IfRead, IsAnswer}
 use Rattle.journal_check.specs.Laws.{IsFinishedJournal}
 use Rattle.switch_report.specs.RunLines.{cannot_open_line, memory_line, read_failed_line}
 use Rattle.switch_run.specs.Causes.{IsOneOf, IsUnserved, Keeps, TookOrPart, quiet_statuses, statuses}
-use Rattle.switch_run.specs.Checks.{IsAnswered, IsCheckRun, IsJournalUnopened, IsJudged, IsKept, IsRead, check_line, check_status}
+use Rattle.switch_run.specs.Checks.{IsAnswered, IsCheckRun, IsCheckedUnopened, IsJudged, IsKept, IsTextRead, check_line, check_status}
 use Rattle.switch_run.specs.Session.{Told, ToldBy}
 use Rattle.run_config.proofs.Configured.{of_told}
 use Rattle.switch_run.proofs.Loading.{told_nothing}
 use Rattle.switch_run.proofs.Running.{Ran, inputs_first, inputs_last, ran_told, ran_quiet, ran_open, out≢err}
 
 -- what holds of the statuses of texts that were read holds of this one
-by_answer : (P : ℕ → Type 0) (answer : Checked) → IsRead answer → P 0 → P 4 → P (check_status answer)
+by_answer : (P : ℕ → Type 0) (answer : Checked) → IsTextRead answer → P 0 → P 4 → P (check_status answer)
 by_answer P (Good entries) read zero four = zero
 by_answer P (Wrong entry want have) read zero four = four
 by_answer P (BadLine n) read zero four = four
 by_answer P Failed read zero four = absurd read
 by_answer P NoMemory read zero four = absurd read
 
-by_line : (P : ℕ → Type 0) (answer : Checked) (status : ℕ) (done : Bool) → IsRead answer → P 0 → P 4 → P 6 → status ≡ (if done then check_status answer else 6) → P status
+by_line : (P : ℕ → Type 0) (answer : Checked) (status : ℕ) (done : Bool) → IsTextRead answer → P 0 → P 4 → P 6 → status ≡ (if done then check_status answer else 6) → P status
 by_line P answer status true read zero four six is = subst P (sym is) (by_answer P answer read zero four)
 by_line P answer status false read zero four six is = subst P (sym is) six
 
 module _ {S K C : Type 0} (left : S → Option (List ℕ)) (written : K → Option (List ℕ)) (source_faults : S → ℕ) (sink_faults : K → ℕ) (file : List ℕ) (Says : List ℕ → Type 0) (old new : Book S K C) (status : ℕ) (run : IsCheckRun left written source_faults sink_faults file Says old new status) where
   abbrev Did : Type 0
-  Did = IsJournalUnopened file Says old new status ⊎ (IsKept source_faults file old new × IsJudged left written source_faults sink_faults file Says old new status)
+  Did = IsCheckedUnopened file Says old new status ⊎ (IsKept source_faults file old new × IsJudged left written source_faults sink_faults file Says old new status)
 
   by_did : (P : ℕ → Type 0) → Did → P 0 → P 1 → P 4 → P 5 → P 6 → P 7 → P status
   by_did P (inl unopened) zero one four five six seven = subst P (sym unopened.status_is) seven
@@ -128,8 +128,8 @@ module _ {S K C : Type 0} (left : S → Option (List ℕ)) (written : K → Opti
       subst (λ (p : Place S). Keeps (λ told back. source_faults told ≤ source_faults back) p (b3.inputs file)) first
       (subst (λ (p : Place S). Keeps (λ told back. source_faults told ≤ source_faults back) (b1.inputs file) p) (sym last) kept)
 
-  moved_check : IsJournalUnopened file (ToldBy sink_faults written e e') b1 b2 status ⊎ (IsKept source_faults file b1 b2 × IsJudged left written source_faults sink_faults file (ToldBy sink_faults written e e') b1 b2 status)
-      → IsJournalUnopened file (Told sink_faults written b0 b3) b0 b3 status ⊎ (IsKept source_faults file b0 b3 × IsJudged left written source_faults sink_faults file (Told sink_faults written b0 b3) b0 b3 status)
+  moved_check : IsCheckedUnopened file (ToldBy sink_faults written e e') b1 b2 status ⊎ (IsKept source_faults file b1 b2 × IsJudged left written source_faults sink_faults file (ToldBy sink_faults written e e') b1 b2 status)
+      → IsCheckedUnopened file (Told sink_faults written b0 b3) b0 b3 status ⊎ (IsKept source_faults file b0 b3 × IsJudged left written source_faults sink_faults file (Told sink_faults written b0 b3) b0 b3 status)
   moved_check (inl unopened) = inl (record {
     status_is = unopened.status_is;
     fault = ran_open b0 b1 b2 b3 e e' ran unopened.fault;
@@ -171,7 +171,7 @@ check_rest {S} {K} {C} b0 b1 b2 b3 opened kept wrote =
     ∙ ap (λ (n : ℕ). record b0 { faults = n; inputs = b2.inputs; std = b3.std }) (sym faults)
     ∙ ap (λ (i : List ℕ → Place S). record b0 { faults = b3.faults; inputs = i; std = b3.std }) (sym inputs)
 
-if_read : (answer : Checked) (P : Type 0) → IsRead answer → IfRead answer P → P
+if_read : (answer : Checked) (P : Type 0) → IsTextRead answer → IfRead answer P → P
 if_read (Good entries) P read is = is
 if_read (Wrong entry want have) P read is = is
 if_read (BadLine n) P read is = is
@@ -180,7 +180,7 @@ if_read NoMemory P read is = absurd read
 
 -- what was found of the source that was handed out is the answer to the text that stood in its place, and was written
 pub answered_with : {S K C : Type 0} (left : S → Option (List ℕ)) (written : K → Option (List ℕ)) (sink_faults : K → ℕ) (file : List ℕ) (errors : K) (source : S) (checked answer : Checked) (line : List ℕ) (old new : Book S K C) (middle : Place K) (status answered : ℕ)
-    → IfSome (old.inputs file).stands (λ told. source ≡ told) → Found left source checked → checked ≡ answer → IsRead answer → line ≡ check_line answer → answered ≡ check_status answer → middle ≡ old.std Out
+    → IfSome (old.inputs file).stands (λ told. source ≡ told) → Found left source checked → checked ≡ answer → IsTextRead answer → line ≡ check_line answer → answered ≡ check_status answer → middle ≡ old.std Out
     → ((done : Bool) × Keeps (TookOrPart sink_faults written done line) middle (new.std Out) × (status ≡ (if done then answered else 6)))
     → IsAnswered left written sink_faults file (ToldBy sink_faults written errors errors) old new status
 answered_with {S} {K} {C} left written sink_faults file errors source checked answer line old new middle status answered told found is read line_is status_is same (done, keeps, cause) =

@@ -68,8 +68,8 @@ abbrev pub KeepsControl : {S K C : Type 0} → (Ends S K C → Ends S K C → Ty
 KeepsControl Holds None old new = new ≡ old
 KeepsControl Holds (Some names) old new = Keeps Holds old new
 
--- The ends of each port of the plan are kept, read and written in their own place, and so are those of control, where the plan
--- names them, and the journal's sink.
+-- The ends of each port of the plan are kept, read and written in their own place, and so are those of control, where the
+-- plan names them, and the journal's sink.
 pub record KeepsAll {S K C : Type 0} (left : S → Option (List ℕ)) (written : K → Option (List ℕ)) (plan : Plan) (old new : Book S K C) : Type 0 where
   pub ports : All (λ port. Keeps (IsUsed left written) (old.ports port) (new.ports port)) (numbers_of plan.ports)
   pub control : KeepsControl (IsUsed left written) plan.control old.control new.control
@@ -79,7 +79,8 @@ pub record KeepsAll {S K C : Type 0} (left : S → Option (List ℕ)) (written :
 abbrev pub IsBack : {X : Type 0} → Place X → Place X → Type 0
 IsBack old new = IfSome old.stands (λ told. IsSomeAnd new.stands (λ kept. kept ≡ told))
 
--- the ends of every port, of control and of every output, and the ticker's clock, where the world tells them, are as they were
+-- the ends of every port, of control and of every output, and the ticker's clock, where the world tells them, are as they
+-- were
 pub record IsUnused {S K C : Type 0} (old new : Book S K C) : Type 0 where
   pub ports : (port : ℕ) → IsBack (old.ports port) (new.ports port)
   pub control : IsBack old.control new.control
@@ -103,8 +104,8 @@ pub record IsElsewhereSame {S K C : Type 0} (file : List ℕ) (old new : Book S 
   pub ticker : new.ticker ≡ old.ticker
   pub inputs : OthersStay old.inputs new.inputs file
 
--- With this plan no port but those of the plan was touched, and no output by name but the journal, nor control where the plan
--- names none.
+-- With this plan no port but those of the plan was touched, and no output by name but the journal, nor control where the
+-- plan names none.
 pub record IsOffPlanSame {S K C : Type 0} (plan : Plan) (old new : Book S K C) : Type 0 where
   pub ports : (port : ℕ) → All (λ n. n ≢ port) (numbers_of plan.ports) → new.ports port ≡ old.ports port
   pub control : plan.control ≡ None → new.control ≡ old.control

@@ -1,5 +1,5 @@
--- What the check of a journal has done: its file was read, the line that its text is answered with was written, and nothing else
--- was touched.
+-- What the check of a journal has done: its file was read, the line that its text is answered with was written, and nothing
+-- else was touched.
 use Rattle.std.specs.Prelude.{◌≡◌, ◌≤◌, ◌⊎◌, ℕ, Bool, if◌then◌else◌, List, [], Option}
 use Rattle.savi_ends.specs.declared.world.Std.TheVariants.{Out}
 use Rattle.savi_ends.specs.Faults.{Rose}
@@ -30,15 +30,15 @@ check_status Failed = 5
 check_status NoMemory = 1
 
 -- the text was read, up to where its answer shows, and there was memory
-abbrev pub IsRead : Checked → Type 0
-IsRead (Good entries) = Unit {0}
-IsRead (Wrong entry want have) = Unit {0}
-IsRead (BadLine n) = Unit {0}
-IsRead Failed = ⊥
-IsRead NoMemory = ⊥
+abbrev pub IsTextRead : Checked → Type 0
+IsTextRead (Good entries) = Unit {0}
+IsTextRead (Wrong entry want have) = Unit {0}
+IsTextRead (BadLine n) = Unit {0}
+IsTextRead Failed = ⊥
+IsTextRead NoMemory = ⊥
 
 -- The file could not be opened, and its place is as it was.
-pub record IsJournalUnopened {S K C : Type 0} (file : List ℕ) (Says : List ℕ → Type 0) (old new : Book S K C) (status : ℕ) : Type 0 where
+pub record IsCheckedUnopened {S K C : Type 0} (file : List ℕ) (Says : List ℕ → Type 0) (old new : Book S K C) (status : ℕ) : Type 0 where
   pub status_is : status ≡ 7
   pub fault : Rose old.faults new.faults
   pub errors : Says (cannot_open_line file)
@@ -59,11 +59,11 @@ pub record IsJournalUnread {S K C : Type 0} (source_faults : S → ℕ) (file : 
   pub out : new.std Out ≡ old.std Out
 
 -- Where the file tells its text, this is the one answer to it: `Good` exactly where the text is the journal of a finished
--- history. Standard output took its line, or a front of it where a write failed, and then the status says so; standard error was
--- told nothing.
+-- history. Standard output took its line, or a front of it where a write failed, and then the status says so; standard error
+-- was told nothing.
 pub record IsAnswered {S K C : Type 0} (left : S → Option (List ℕ)) (written : K → Option (List ℕ)) (sink_faults : K → ℕ) (file : List ℕ) (Says : List ℕ → Type 0) (old new : Book S K C) (status : ℕ) : Type 0 where
   pub answer : Checked
-  pub read : IsRead answer
+  pub read : IsTextRead answer
   pub is : OfText left (old.inputs file) (λ text. IsAnswer text answer)
   pub alone : OfText left (old.inputs file) (λ text. (other : Checked) → IsAnswer text other → answer ≡ other)
   pub good : (entries : ℕ) → answer ≡ Good entries → OfText left (old.inputs file) (λ text. IsFinishedJournal text entries)
@@ -86,6 +86,6 @@ IsJudged left written source_faults sink_faults file Says old new status =
 -- The file could not be opened, or it was checked, and its source is kept. No other input, no output, no port and no end of
 -- control was touched.
 pub record IsCheckRun {S K C : Type 0} (left : S → Option (List ℕ)) (written : K → Option (List ℕ)) (source_faults : S → ℕ) (sink_faults : K → ℕ) (file : List ℕ) (Says : List ℕ → Type 0) (old new : Book S K C) (status : ℕ) : Type 0 where
-  pub did : IsJournalUnopened file Says old new status ⊎ (IsKept source_faults file old new × IsJudged left written source_faults sink_faults file Says old new status)
+  pub did : IsCheckedUnopened file Says old new status ⊎ (IsKept source_faults file old new × IsJudged left written source_faults sink_faults file Says old new status)
   pub inputs : OthersStay old.inputs new.inputs file
   pub rest : new ≡ record old { faults = new.faults; inputs = new.inputs; std = new.std }

@@ -24,15 +24,15 @@ module _ {S K C : Type 0} (left : S → Option (List ℕ)) (written : K → Opti
     pub journal_was : TookOrPart sink_faults written journal_written (journal_text address_text plan (reverse past)) journal journal'
     pub tells : IsJournalOf address_text plan past (journal_text address_text plan (reverse past))
 
-  -- What a history was to the place of control, by the names of the plan. Where it names control's input and output, their ends
-  -- are kept there, and they were served; where it doesn't, the place wasn't touched, and no line was entered.
+  -- What a history was to the place of control, by the names of the plan. Where it names control's input and output, their
+  -- ends are kept there, and they were served; where it doesn't, the place wasn't touched, and no line was entered.
   abbrev pub ServesControlAt : Plan → List Row → Option (List ℕ × List ℕ) → Place (Ends S K C) → Place (Ends S K C) → Type 0
   ServesControlAt plan past None old new = NoControlRow past × (new ≡ old)
   ServesControlAt plan past (Some names) old new = Keeps (ControlRow left written source_faults sink_faults readings plan empty past) old new
 
-  -- A live session of this plan: one history is legal and finished; the ends of each port, of control, where the plan names it,
-  -- and the ticker's clock are kept in their own place, and by the history they were served; it is reported; and no other port or
-  -- output was touched.
+  -- A live session of this plan: one history is legal and finished; the ends of each port, of control, where the plan names
+  -- it, and the ticker's clock are kept in their own place, and by the history they were served; it is reported; and no
+  -- other port or output was touched.
   pub record IsServeOf (plan : Plan) (Says : List ℕ → Type 0) (old new : Book S K C) (status : ℕ) : Type 0 where
     pub past : List Row
     pub legal : IsLegal plan empty past

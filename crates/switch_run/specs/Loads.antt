@@ -17,8 +17,9 @@ pub record IsLoadUnplayed {K : Type 0} (Says : List ℕ → Type 0) (old new : P
   pub errors : Says memory_line
   pub out : new ≡ old
 
--- The history of a load, at a switch of its plan, is legal and finished, and every end in it is an ordinary one. Standard output
--- took its summary, or a front of it where a write failed, and then the status says so; standard error was told nothing.
+-- The history of a load, at a switch of its plan, is legal and finished, and every end in it is an ordinary one. Standard
+-- output took its summary, or a front of it where a write failed, and then the status says so; standard error was told
+-- nothing.
 pub record IsLoadSummed {K : Type 0} (written : K → Option (List ℕ)) (faults : K → ℕ) (seed frames : ℕ) (Says : List ℕ → Type 0) (old new : Place K) (status : ℕ) : Type 0 where
   pub plan : Plan
   pub load : IsLoadPlan plan

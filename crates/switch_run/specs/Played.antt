@@ -10,7 +10,8 @@ use Rattle.port_worker.specs.declared.session.Ready.{Ready}
 use Rattle.port_worker.specs.Served.{ServesEnds}
 use Rattle.switch_run.specs.Causes.{TookOrPart}
 
--- One legal history of the plan: what it was to the ends of control, where there are any, and of the ports, and to the journal.
+-- One legal history of the plan: what it was to the ends of control, where there are any, and of the ports, and to the
+-- journal.
 pub record IsPlayed {S K C : Type 0} (left : S → Option (List ℕ)) (written : K → Option (List ℕ)) (source_faults : S → ℕ) (sink_faults : K → ℕ) (plan : Plan) (past : List Row) (old new : Ready S K C) (journal journal' : K) (journal_written : Bool) : Type 0 where
   pub legal : IsLegal plan empty past
   pub serves : ServesEnds left written source_faults sink_faults plan empty past old.control new.control old.ports.items new.ports.items

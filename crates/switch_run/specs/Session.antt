@@ -54,8 +54,9 @@ pub record IsSummed {K : Type 0} (written : K → Option (List ℕ)) (faults : K
   pub errors : Says (end_lines past ++ journal_lines journal_written)
   pub cause : status ≡ status_of (journal_written && summary_written) past
 
--- What a history was to the place of control, by the names of the plan. Where it names control's input and output, their ends
--- are kept there, and they were served: control has an input. Where it doesn't, the place wasn't touched, and control has none.
+-- What a history was to the place of control, by the names of the plan. Where it names control's input and output, their
+-- ends are kept there, and they were served: control has an input. Where it doesn't, the place wasn't touched, and control
+-- has none.
 abbrev pub ServesControlPlace : {S K C : Type 0} → (S → Option (List ℕ)) → (K → Option (List ℕ)) → (S → ℕ) → (K → ℕ) → Plan → List Row → Option (List ℕ × List ℕ) → Option control.Input → Option ℕ → Place (Ends S K C) → Place (Ends S K C) → Type 0
 ServesControlPlace left written source_faults sink_faults plan past None None stop old new = new ≡ old
 ServesControlPlace left written source_faults sink_faults plan past None (Some input) stop old new = ⊥
@@ -63,10 +64,10 @@ ServesControlPlace left written source_faults sink_faults plan past (Some names)
 ServesControlPlace left written source_faults sink_faults plan past (Some names) (Some input) stop old new =
     Keeps (IsControlServed left written source_faults sink_faults plan empty past input stop) old new
 
--- What a history of this plan leaves: the journal took its text, which is that of no other legal history, or a front of it where
--- a write failed; it is summed up on the standard outputs and in the status; no advertisement and no hidden fragment passed the
--- port of a host or a server; and where sources are validated, an IPv6 frame passed such a port exactly where no rule on messages
--- stopped it and its source was live there, or a named exception permitted it.
+-- What a history of this plan leaves: the journal took its text, which is that of no other legal history, or a front of it
+-- where a write failed; it is summed up on the standard outputs and in the status; no advertisement and no hidden fragment
+-- passed the port of a host or a server; and where sources are validated, an IPv6 frame passed such a port exactly where no
+-- rule on messages stopped it and its source was live there, or a named exception permitted it.
 pub record IsReported {S K C : Type 0} (written : K → Option (List ℕ)) (sink_faults : K → ℕ) (plan : Plan) (past : List Row) (Says : List ℕ → Type 0) (old new : Book S K C) (status : ℕ) : Type 0 where
   -- whether the journal was written
   pub journal_written : Bool
@@ -78,9 +79,9 @@ pub record IsReported {S K C : Type 0} (written : K → Option (List ℕ)) (sink
   -- where sources are validated
   pub access : plan.savi ≡ true → AllPassedRightly plan empty past
 
--- A replay with this plan: one history, legal and finished, is the replay of what the sources of control, where the plan names
--- it, and of the plan's ports gave to sinks that stop so; the ends of control and of each port are kept in their own place, and
--- the history fits what was given up and taken there; and it is reported.
+-- A replay with this plan: one history, legal and finished, is the replay of what the sources of control, where the plan
+-- names it, and of the plan's ports gave to sinks that stop so; the ends of control and of each port are kept in their own
+-- place, and the history fits what was given up and taken there; and it is reported.
 pub record IsReplayOf {S K C : Type 0} (left : S → Option (List ℕ)) (written : K → Option (List ℕ)) (source_faults : S → ℕ) (sink_faults : K → ℕ) (plan : Plan) (Says : List ℕ → Type 0) (old new : Book S K C) (status : ℕ) : Type 0 where
   pub past : List Row
   pub legal : IsLegal plan empty past
@@ -129,8 +130,8 @@ pub record IsPortUnopened {S K C : Type 0} (plan : Plan) (Says : List ℕ → Ty
   pub elsewhere : IsOffPlanSame plan old new
   pub errors : Says (cannot_open_line (port_name port))
 
--- The plan names control, and its ends could not be opened: the ends of each port are kept, and control and each output are as
--- they were.
+-- The plan names control, and its ends could not be opened: the ends of each port are kept, and control and each output are
+-- as they were.
 pub record IsControlUnopened {S K C : Type 0} (plan : Plan) (Says : List ℕ → Type 0) (old new : Book S K C) : Type 0 where
   pub named : IsSome plan.control
   pub kept : All (λ n. IsSome (new.ports n).stands) (numbers_of plan.ports)
@@ -172,8 +173,8 @@ pub record IsNoPlan {S K C : Type 0} (replay : Bool) (left : S → Option (List 
   pub errors : Says (config_line fault)
 
 -- There was no memory. The input of the configuration is as it was, or kept, and a front of it was read. Either no port, no
--- output and no ends of control were touched, or the ends of all ports of the plan, of control, where the plan names it, and of the
--- journal are kept, and no others were touched.
+-- output and no ends of control were touched, or the ends of all ports of the plan, of control, where the plan names it, and
+-- of the journal are kept, and no others were touched.
 pub record IsUnplayed {S K C : Type 0} (replay : Bool) (left : S → Option (List ℕ)) (written : K → Option (List ℕ)) (file : List ℕ) (old new : Book S K C) : Type 0 where
   pub input : (new.inputs file ≡ old.inputs file) ⊎ IsReadFrom left (old.inputs file) (new.inputs file)
   pub ends : IsUnserved old new ⊎ ((plan : Plan) × IsConfigured replay left (old.inputs file) plan × KeepsAll left written plan old new × IsOffPlanSame plan old new)

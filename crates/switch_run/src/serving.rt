@@ -89,14 +89,7 @@ where
     ensures others { OthersStay (W.book world.old).std (W.book world.new).std Std.Out }
     ensures rest { W.book world.new ≡ record (W.book world.old) { faults = (W.book world.new).faults; outputs = (W.book world.new).outputs; ports = (W.book world.new).ports; control = (W.book world.new).control; ticker = (W.book world.new).ticker; std = (W.book world.new).std } }
 {
-    let Ok(
-        Room {
-            numbers,
-            mut held,
-            journal,
-        },
-    ) = room_for(alloc, &plan)
-    else {
+    let Ok((numbers, mut held, journal)) = room_for(alloc, &plan) else {
         let _put = tell_memory(errors);
         return NO_MEMORY;
     };
@@ -136,32 +129,20 @@ where
 }
 
 // What of a plan is wanted behind the session, which takes the plan: the numbers of its ports and the name of its journal;
-// and room for the ends of its ports.
-#[derive(Drop)]
-struct Room<S, K, C> {
-    numbers: Vec<Port>,
-    held: Vec<Ends<S, K, C>>,
-    journal: Text,
-}
-
-// The room for a plan. `Err` is want of memory.
+// and between them room for the ends of its ports. `Err` is want of memory.
 fn room_for<S: Drop, K: Drop, C: Drop>(
     alloc: Global,
     plan: &Plan,
-) -> Result<Room<S, K, C>, AllocError>
-    ensures empty { IfOk result (λ room. room.held.items ≡ []) }
-    ensures room { IfOk result (λ room. length plan.now.ports ≤ vec_capacity room.held) }
-    ensures numbers { IfOk result (λ room. map number_of room.numbers.items ≡ numbers_of plan.now.ports) }
-    ensures journal { IfOk result (λ room. room.journal ≡ plan.now.journal) }
+) -> Result<(Vec<Port>, Vec<Ends<S, K, C>>, Text), AllocError>
+    ensures numbers { IfOk result (λ room. map number_of room.0.items ≡ numbers_of plan.now.ports) }
+    ensures empty { IfOk result (λ room. room.1.items ≡ []) }
+    ensures room { IfOk result (λ room. length plan.now.ports ≤ vec_capacity room.1) }
+    ensures journal { IfOk result (λ room. room.2 ≡ plan.now.journal) }
 {
     let journal = Text::new(String::from_str(alloc, plan.journal.as_str())?);
     let held = Vec::with_capacity(alloc, plan.ports.as_slice().len())?;
     let numbers = port_numbers(alloc, plan.ports.as_slice())?;
-    Ok(Room {
-        numbers,
-        held,
-        journal,
-    })
+    Ok((numbers, held, journal))
 }
 
 // The numbers of these ports, in their order. `Err` is want of memory.

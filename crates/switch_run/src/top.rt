@@ -37,7 +37,7 @@ pub const NO_MEMORY: u8 = 1;
 pub const USAGE: u8 = 2;
 /// The configuration says no plan.
 pub const CONFIG_FAULT: u8 = 3;
-/// An input was malformed.
+/// An input was malformed, or the text that was checked is no journal of a finished history.
 pub const MALFORMED: u8 = 4;
 /// A read failed.
 pub const READ_FAULT: u8 = 5;
@@ -45,7 +45,7 @@ pub const READ_FAULT: u8 = 5;
 pub const WRITE_FAULT: u8 = 6;
 /// Something could not be opened.
 pub const OPEN_FAULT: u8 = 7;
-/// There was no room in the history for an input.
+/// There was no room in the history for what came in, or for a tick.
 pub const TOO_LONG: u8 = 8;
 
 /// Does what the words behind the program's name ask for, over this world, and answers the status.

@@ -2,12 +2,12 @@ ghost use Rattle.std.specs.Prelude.{◌≡◌, ◌≤◌};
 
 use crate::board::{Board, MADE, Place, SERVING, TICKET, TICKETS_END};
 use crate::kept::Kept;
+use crate::lock::sleeping::Sleeper;
 use crate::pass::Pass;
 use crate::plays::{Draw, Look, Make, PassOn, Together};
 use crate::turn::Held;
 use crossbeam_utils::Backoff;
 use std::sync::{Mutex, Wait};
-use std::thread::Parker;
 
 mod make;
 mod sleeping;
@@ -16,7 +16,7 @@ mod sleeping;
 pub struct TableLock<V: Kept> {
     pub(crate) table: Board<V>,
     pub(crate) admission: Mutex<()>,
-    pub(crate) sleepers: Vec<Parker>,
+    pub(crate) sleepers: Vec<Sleeper>,
     ghost sized: { (table.shared.table_id.words ≡ 3) × (table.shared.table_id.slots ≡ 1) },
     ghost some: { 1 ≤ table.shared.key.1 },
 }

@@ -1,6 +1,6 @@
 //! Captures, read and written.
 
-use crate::outcomes::{frame, long, malformed, outcome};
+use crate::outcomes::{frame, malformed, outcome};
 use pcap_io::{ByteOrder, HeaderKind, PcapReader, TimeUnit, begin, put};
 use savi_ends::{MemClock, MemSink, MemSource};
 use savi_kinds::Next;
@@ -18,6 +18,10 @@ const LITTLE_NANOSECONDS: [u8; 24] =
 
 const BIG_NANOSECONDS: [u8; 24] =
     *b"\xa1\xb2\x3c\x4d\0\x02\0\x04\0\0\0\0\0\0\0\0\0\x04\0\0\0\0\0\x01";
+
+const CUT_SHORT: [u8; 23] = *b"\xd4\xc3\xb2\xa1\x02\0\x04\0\0\0\0\0\0\0\0\0\0\0\x04\0\x01\0\0";
+
+const END: Next = Next::End;
 
 const OTHER_MAGIC: [u8; 24] = *b"\x0a\x0d\x0d\x0a\x02\0\x04\0\0\0\0\0\0\0\0\0\0\0\x04\0\x01\0\0\0";
 
@@ -60,80 +64,150 @@ fn answers(mut reader: PcapReader, mut source: MemSource, mut clock: MemClock) -
     ]
 }
 
+// Headers with records behind them, and the first four answers to each.
+const CAPTURES: [(&str, &[u8], &[Record], [Next; 4]); 14] = [
+    ("nothing", &[], &[], [Next::Malformed { at: 0 }; 4]),
+    (
+        "a header cut short",
+        &CUT_SHORT,
+        &[],
+        [Next::Malformed { at: 0 }; 4],
+    ),
+    ("a header", &LITTLE_MICROSECONDS, &[], [END; 4]),
+    (
+        "another magic",
+        &OTHER_MAGIC,
+        &[],
+        [Next::Malformed { at: 0 }; 4],
+    ),
+    (
+        "another version",
+        &OTHER_VERSION,
+        &[],
+        [Next::Malformed { at: 0 }; 4],
+    ),
+    (
+        "another link type",
+        &RAW_IP,
+        &[],
+        [Next::Malformed { at: 0 }; 4],
+    ),
+    (
+        "1.5 s in nanoseconds",
+        &BIG_NANOSECONDS,
+        &[(*b"\0\0\0\x01\x1d\xcd\x65\0\0\0\0\x36\0\0\0\x36", 54)],
+        [
+            Next::Frame {
+                stamp: 1500,
+                len: 54,
+            },
+            END,
+            END,
+            END,
+        ],
+    ),
+    (
+        "falling stamps, and a frame without octets",
+        &LITTLE_MICROSECONDS,
+        &[AT_5_S, AT_4_S, (*b"\0\0\0\0\0\0\0\0\0\0\0\0\0\0\0\0", 0)],
+        [
+            Next::Frame {
+                stamp: 5000,
+                len: 54,
+            },
+            Next::Frame {
+                stamp: 4000,
+                len: 54,
+            },
+            Next::Frame { stamp: 0, len: 0 },
+            END,
+        ],
+    ),
+    (
+        "13, 1,518 and 1,519 octets",
+        &LITTLE_MICROSECONDS,
+        &[
+            (*b"\0\0\0\0\xe7\x03\0\0\x0d\0\0\0\x0d\0\0\0", 13),
+            (*b"\0\0\0\0\xe8\x03\0\0\xee\x05\0\0\xee\x05\0\0", 1518),
+            (*b"\0\0\0\0\xff\xff\xff\xff\xef\x05\0\0\0\0\0\0", 1519),
+        ],
+        [
+            Next::Frame { stamp: 0, len: 13 },
+            Next::Frame {
+                stamp: 1,
+                len: 1518,
+            },
+            Next::Long {
+                stamp: 4_294_967,
+                len: 1519,
+            },
+            END,
+        ],
+    ),
+    (
+        "the longest record",
+        &BIG_MICROSECONDS,
+        &[(*b"\0\0\0\x02\0\0\0\0\0\x04\0\0\0\x04\0\0", 262_144)],
+        [
+            Next::Long {
+                stamp: 2000,
+                len: 262_144,
+            },
+            END,
+            END,
+            END,
+        ],
+    ),
+    (
+        "a record that is too long",
+        &BIG_MICROSECONDS,
+        &[(*b"\0\0\0\x02\0\0\0\0\0\x04\0\x01\0\x04\0\x01", 262_145)],
+        [Next::Malformed { at: 24 }; 4],
+    ),
+    (
+        "a long record cut short",
+        &LITTLE_NANOSECONDS,
+        &[(*b"\0\0\0\0\0\0\0\0\xef\x05\0\0\xef\x05\0\0", 1518)],
+        [Next::Malformed { at: 24 }; 4],
+    ),
+    (
+        "the first record of a capture of Linux",
+        &LITTLE_NANOSECONDS,
+        &[(*b"\x71\xd1\x08\x6b\x10\xce\xcd\x30\x5a\0\0\0\x5a\0\0\0", 90)],
+        [
+            Next::Frame {
+                stamp: 1_795_740_017_818,
+                len: 90,
+            },
+            END,
+            END,
+            END,
+        ],
+    ),
+    (
+        "the same in microseconds",
+        &BIG_MICROSECONDS,
+        &[(*b"\x6b\x08\xd1\x71\0\x0c\x7e\x6a\0\0\0\x5a\0\0\0\x5a", 90)],
+        [
+            Next::Frame {
+                stamp: 1_795_740_017_818,
+                len: 90,
+            },
+            END,
+            END,
+            END,
+        ],
+    ),
+];
+
 #[test]
 fn captures_are_read(rt: HostRuntime) -> Result<(), Fail> {
     let alloc = rt.alloc();
-    let end = Next::End;
-    let rows: [(&str, &[u8], &[Record], [Next; 4]); 14] = [
-        ("nothing", &[], &[], [malformed(0); 4]),
-        (
-            "a header cut short",
-            &LITTLE_MICROSECONDS[..23],
-            &[],
-            [malformed(0); 4],
-        ),
-        ("a header", &LITTLE_MICROSECONDS, &[], [end; 4]),
-        ("another magic", &OTHER_MAGIC, &[], [malformed(0); 4]),
-        ("another version", &OTHER_VERSION, &[], [malformed(0); 4]),
-        ("another link type", &RAW_IP, &[], [malformed(0); 4]),
-        (
-            "1.5 s in nanoseconds",
-            &BIG_NANOSECONDS,
-            &[(*b"\0\0\0\x01\x1d\xcd\x65\0\0\0\0\x36\0\0\0\x36", 54)],
-            [frame(1500, 54), end, end, end],
-        ),
-        (
-            "falling stamps, and a frame without octets",
-            &LITTLE_MICROSECONDS,
-            &[AT_5_S, AT_4_S, (*b"\0\0\0\0\0\0\0\0\0\0\0\0\0\0\0\0", 0)],
-            [frame(5000, 54), frame(4000, 54), frame(0, 0), end],
-        ),
-        (
-            "13, 1,518 and 1,519 octets",
-            &LITTLE_MICROSECONDS,
-            &[
-                (*b"\0\0\0\0\xe7\x03\0\0\x0d\0\0\0\x0d\0\0\0", 13),
-                (*b"\0\0\0\0\xe8\x03\0\0\xee\x05\0\0\xee\x05\0\0", 1518),
-                (*b"\0\0\0\0\xff\xff\xff\xff\xef\x05\0\0\0\0\0\0", 1519),
-            ],
-            [frame(0, 13), frame(1, 1518), long(4_294_967, 1519), end],
-        ),
-        (
-            "the longest record",
-            &BIG_MICROSECONDS,
-            &[(*b"\0\0\0\x02\0\0\0\0\0\x04\0\0\0\x04\0\0", 262_144)],
-            [long(2000, 262_144), end, end, end],
-        ),
-        (
-            "a record that is too long",
-            &BIG_MICROSECONDS,
-            &[(*b"\0\0\0\x02\0\0\0\0\0\x04\0\x01\0\x04\0\x01", 262_145)],
-            [malformed(24); 4],
-        ),
-        (
-            "a long record cut short",
-            &LITTLE_NANOSECONDS,
-            &[(*b"\0\0\0\0\0\0\0\0\xef\x05\0\0\xef\x05\0\0", 1518)],
-            [malformed(24); 4],
-        ),
-        (
-            "the first record of a capture of Linux",
-            &LITTLE_NANOSECONDS,
-            &[(*b"\x71\xd1\x08\x6b\x10\xce\xcd\x30\x5a\0\0\0\x5a\0\0\0", 90)],
-            [frame(1_795_740_017_818, 90), end, end, end],
-        ),
-        (
-            "the same in microseconds",
-            &BIG_MICROSECONDS,
-            &[(*b"\x6b\x08\xd1\x71\0\x0c\x7e\x6a\0\0\0\x5a\0\0\0\x5a", 90)],
-            [frame(1_795_740_017_818, 90), end, end, end],
-        ),
-    ];
-    for (name, header, records, want) in rows {
+    for (name, header, records, want) in &CAPTURES {
         let octets = capture(alloc, header, records)?;
         let source = MemSource::new(octets, 4096, Vec::new(alloc));
         let clock = MemClock::new(Vec::new(alloc));
-        assert_eq!(rt; answers(PcapReader::new(), source, clock), want, "{name}");
+        assert_eq!(rt; answers(PcapReader::new(), source, clock), *want, "{name}");
     }
     Ok(())
 }

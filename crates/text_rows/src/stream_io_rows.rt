@@ -1,6 +1,6 @@
 //! Streams of frames, read and written.
 
-use crate::outcomes::{frame, long, malformed, outcome};
+use crate::outcomes::{frame, malformed, outcome};
 use savi_ends::{MemClock, MemSink, MemSource, Put};
 use savi_kinds::Next;
 use std::alloc::{AllocError, Global};
@@ -35,55 +35,91 @@ fn answers(alloc: Global, mut source: MemSource) -> Result<[Next; 4], AllocError
     Ok([first, second, third, fourth])
 }
 
+// Records, and the first four answers to each stream.
+const STREAMS: [(&str, &[([u8; 4], usize)], [Next; 4]); 7] = [
+    ("nothing", &[], [END; 4]),
+    (
+        "frames of 0, 70 and 1,518 octets",
+        &[
+            (*b"\0\0\0\0", 0),
+            (*b"\0\0\0\x46", 70),
+            (*b"\0\0\x05\xee", 1518),
+        ],
+        [
+            Next::Frame { stamp: 10, len: 0 },
+            Next::Frame { stamp: 20, len: 70 },
+            Next::Frame {
+                stamp: 30,
+                len: 1518,
+            },
+            END,
+        ],
+    ),
+    (
+        "1,519 octets, and the most, between frames",
+        &[
+            (*b"\0\0\x05\xef", 1519),
+            (*b"\0\0\0\x0e", 14),
+            (*b"\0\x04\0\0", 262_144),
+        ],
+        [
+            Next::Long {
+                stamp: 10,
+                len: 1519,
+            },
+            Next::Frame { stamp: 20, len: 14 },
+            Next::Long {
+                stamp: 30,
+                len: 262_144,
+            },
+            END,
+        ],
+    ),
+    (
+        "one octet too many",
+        &[(*b"\0\0\0\x0e", 14), (*b"\0\x04\0\x01", 262_145)],
+        [
+            Next::Frame { stamp: 10, len: 14 },
+            Next::Malformed { at: 18 },
+            Next::Malformed { at: 18 },
+            Next::Malformed { at: 18 },
+        ],
+    ),
+    (
+        "the greatest length, and nothing behind it",
+        &[(*b"\xff\xff\xff\xff", 0)],
+        [Next::Malformed { at: 0 }; 4],
+    ),
+    (
+        "a length cut short",
+        &[(*b"\0\0\0\x0e", 14), (*b"\0\0\0\0", 0), (*b"\0\0\0\x02", 1)],
+        [
+            Next::Frame { stamp: 10, len: 14 },
+            Next::Frame { stamp: 20, len: 0 },
+            Next::Malformed { at: 22 },
+            Next::Malformed { at: 22 },
+        ],
+    ),
+    (
+        "a long record cut short",
+        &[(*b"\0\0\0\0", 0), (*b"\0\x04\0\0", 262_143)],
+        [
+            Next::Frame { stamp: 10, len: 0 },
+            Next::Malformed { at: 4 },
+            Next::Malformed { at: 4 },
+            Next::Malformed { at: 4 },
+        ],
+    ),
+];
+
 #[test]
 fn streams_are_read(rt: HostRuntime) -> Result<(), Fail> {
     let alloc = rt.alloc();
-    let rows: [(&str, &[([u8; 4], usize)], [Next; 4]); 7] = [
-        ("nothing", &[], [END; 4]),
-        (
-            "frames of 0, 70 and 1,518 octets",
-            &[
-                (*b"\0\0\0\0", 0),
-                (*b"\0\0\0\x46", 70),
-                (*b"\0\0\x05\xee", 1518),
-            ],
-            [frame(10, 0), frame(20, 70), frame(30, 1518), END],
-        ),
-        (
-            "1,519 octets, and the most, between frames",
-            &[
-                (*b"\0\0\x05\xef", 1519),
-                (*b"\0\0\0\x0e", 14),
-                (*b"\0\x04\0\0", 262_144),
-            ],
-            [long(10, 1519), frame(20, 14), long(30, 262_144), END],
-        ),
-        (
-            "one octet too many",
-            &[(*b"\0\0\0\x0e", 14), (*b"\0\x04\0\x01", 262_145)],
-            [frame(10, 14), malformed(18), malformed(18), malformed(18)],
-        ),
-        (
-            "the greatest length, and nothing behind it",
-            &[(*b"\xff\xff\xff\xff", 0)],
-            [malformed(0); 4],
-        ),
-        (
-            "a length cut short",
-            &[(*b"\0\0\0\x0e", 14), (*b"\0\0\0\0", 0), (*b"\0\0\0\x02", 1)],
-            [frame(10, 14), frame(20, 0), malformed(22), malformed(22)],
-        ),
-        (
-            "a long record cut short",
-            &[(*b"\0\0\0\0", 0), (*b"\0\x04\0\0", 262_143)],
-            [frame(10, 0), malformed(4), malformed(4), malformed(4)],
-        ),
-    ];
-    for (name, parts, want) in rows {
+    for (name, parts, want) in &STREAMS {
         let octets = records(alloc, parts)?;
         for most in [1, 2, 3, 5, 1 << 20] {
             let source = MemSource::new(octets.clone()?, most, Vec::new(alloc));
-            assert_eq!(rt; answers(alloc, source)?, want, "{name}, {most} at a time");
+            assert_eq!(rt; answers(alloc, source)?, *want, "{name}, {most} at a time");
         }
     }
     Ok(())

@@ -6,7 +6,7 @@ use Rattle.std.proofs.lemmas.List.{get_or-set_same, get_or-set_other, length-set
 use Rattle.slab.specs.Slab.{Slab}
 use Rattle.timer_wheel.specs.declared.armed.Armed.{Armed}
 use Rattle.timer_wheel.specs.Rows.{row_at}
-use Rattle.timer_wheel.specs.Rings.{bucket_of, row_of, is_node, bucket_in, bucket_at, rank_of, rank_in, rank_at, IsRinged}
+use Rattle.timer_wheel.specs.Rings.{bucket_of, node_row, is_node, bucket_in, bucket_at, rank_of, rank_in, rank_at, IsRinged}
 use Rattle.timer_wheel.specs.Kept.{IsWired}
 use Rattle.timer_wheel.specs.Searches.{GoesBehind, LeastOf}
 use Rattle.timer_wheel.proofs.Pointwise.{none-some}
@@ -14,20 +14,20 @@ use Rattle.timer_wheel.proofs.Slots.{AddsRow, DropsRow}
 use Rattle.timer_wheel.proofs.Links.{IsFirst, first_least, put_in, take_out}
 
 -- the node of a key
-pub row_of-key : (slots : List (Option Armed)) (key : ℕ) → row_of slots (1024 + key) ≡ row_at slots key
+pub row_of-key : (slots : List (Option Armed)) (key : ℕ) → node_row slots (1024 + key) ≡ row_at slots key
 row_of-key slots key =
     let same : 1024 + key - 1024 ≡ key = omega arith in
     rw (le-ltb (1024 + key) 1024 (omega arith)) (ap (row_at slots) same)
 
 -- an end has no row
-pub row_of-end : (slots : List (Option Armed)) (node : ℕ) → node < 1024 → row_of slots node ≡ None
+pub row_of-end : (slots : List (Option Armed)) (node : ℕ) → node < 1024 → node_row slots node ≡ None
 row_of-end slots node end = rw (lt-ltb node 1024 end) refl
 
 -- a node with a row is that of its key
-pub row_key : (slots : List (Option Armed)) (node : ℕ) (armed : Armed) → row_of slots node ≡ Some armed → (1024 ≤ node) × (row_at slots (node - 1024) ≡ Some armed)
+pub row_key : (slots : List (Option Armed)) (node : ℕ) (armed : Armed) → node_row slots node ≡ Some armed → (1024 ≤ node) × (row_at slots (node - 1024) ≡ Some armed)
 row_key slots node armed found =
     elim (cases_lt node 1024) [
-      | inl end ↦ absurd (none-some (row_of slots node) armed (row_of-end slots node end) found)
+      | inl end ↦ absurd (none-some (node_row slots node) armed (row_of-end slots node end) found)
       | inr row ↦ (row, rw (le-ltb node 1024 row) at found)
     ]
 
@@ -38,18 +38,18 @@ or_true : (b : Bool) → (b || true) ≡ true
 or_true true = refl
 or_true false = refl
 
-pub node-row : (slots : List (Option Armed)) (node : ℕ) (armed : Armed) → row_of slots node ≡ Some armed → is_node slots node ≡ true
+pub node-row : (slots : List (Option Armed)) (node : ℕ) (armed : Armed) → node_row slots node ≡ Some armed → is_node slots node ≡ true
 node-row slots node armed found = ap (λ o. nat_lt node 1024 || is_some o) found ∙ or_true (nat_lt node 1024)
 
 -- a node is an end or has a row
 pub record IsEnd (slots : List (Option Armed)) (node : ℕ) : Type 0 where
   pub low : node < 1024
-  pub none : row_of slots node ≡ None
+  pub none : node_row slots node ≡ None
 
-pub node_cases : (slots : List (Option Armed)) (node : ℕ) → is_node slots node ≡ true → IsEnd slots node ⊎ ((armed : Armed) × (row_of slots node ≡ Some armed))
-node_cases slots node is = go (cases_lt node 1024) (row_of slots node) refl
+pub node_cases : (slots : List (Option Armed)) (node : ℕ) → is_node slots node ≡ true → IsEnd slots node ⊎ ((armed : Armed) × (node_row slots node ≡ Some armed))
+node_cases slots node is = go (cases_lt node 1024) (node_row slots node) refl
   where
-    go : (node < 1024) ⊎ (1024 ≤ node) → (o : Option Armed) → row_of slots node ≡ o → IsEnd slots node ⊎ ((armed : Armed) × (row_of slots node ≡ Some armed))
+    go : (node < 1024) ⊎ (1024 ≤ node) → (o : Option Armed) → node_row slots node ≡ o → IsEnd slots node ⊎ ((armed : Armed) × (node_row slots node ≡ Some armed))
     go (inl low) o found = inl (record { low = low; none = row_of-end slots node low })
     go (inr high) None found =
         let no : (false || false) ≡ true = ap (λ b. b || false) (sym (le-ltb node 1024 high)) ∙ ap (λ o. nat_lt node 1024 || is_some o) (sym found) ∙ is in
@@ -75,7 +75,7 @@ node_within rows later earlier node wired is =
     ]
 
 -- the other nodes when the row of a key changes
-pub row_of-other : (old new : List (Option Armed)) (key node : ℕ) → ((k : ℕ) → k ≢ key → row_at new k ≡ row_at old k) → node ≢ 1024 + key → row_of new node ≡ row_of old node
+pub row_of-other : (old new : List (Option Armed)) (key node : ℕ) → ((k : ℕ) → k ≢ key → row_at new k ≡ row_at old k) → node ≢ 1024 + key → node_row new node ≡ node_row old node
 row_of-other old new key node others differs =
     elim (cases_lt node 1024) [
       | inl end ↦ row_of-end new node end ∙ sym (row_of-end old node end)
@@ -102,7 +102,7 @@ keeps_others old new key others = record {
 
 not_node : (slots : List (Option Armed)) (key : ℕ) → row_at slots key ≡ None → is_node slots (1024 + key) ≡ false
 not_node slots key empty =
-    let none : row_of slots (1024 + key) ≡ None = row_of-key slots key ∙ empty in
+    let none : node_row slots (1024 + key) ≡ None = row_of-key slots key ∙ empty in
     ap (λ o. nat_lt (1024 + key) 1024 || is_some o) none ∙ ap (λ b. b || false) (le-ltb (1024 + key) 1024 (omega arith))
 
 differ : (slots : List (Option Armed)) (x y : ℕ) → is_node slots x ≡ false → is_node slots y ≡ true → y ≢ x
@@ -141,7 +141,7 @@ ringed_added old new later earlier key armed p adds goes ring in_later in_earlie
     absent : is_node old (1024 + key) ≡ false
     absent = not_node old key adds.empty
 
-    mine : row_of new (1024 + key) ≡ Some armed
+    mine : node_row new (1024 + key) ≡ Some armed
     mine = row_of-key new key ∙ adds.added
 
     others : KeepsOthers old new (1024 + key)
@@ -172,7 +172,7 @@ ringed_dropped old new later earlier key armed drops ring p_in n_in =
     })
     ring
   where
-    mine : row_of old (1024 + key) ≡ Some armed
+    mine : node_row old (1024 + key) ≡ Some armed
     mine = row_of-key old key ∙ drops.there
 
     some_rank : rank_of armed ≡ 0 → ⊥
@@ -182,13 +182,13 @@ ringed_dropped old new later earlier key armed drops ring p_in n_in =
     others = keeps_others old new key drops.others
 
 -- the node that follows the end of a bucket has its least row, if it has any
-pub bucket_least : (slots : List (Option Armed)) (later earlier : List ℕ) (bucket : ℕ) → IsRinged slots later earlier → bucket < 1024 → LeastOf slots (λ armed. bucket_of armed ≡ bucket) (row_of slots (get_or later bucket 0))
-bucket_least slots later earlier bucket ring low = go (row_of slots (get_or later bucket 0)) refl
+pub bucket_least : (slots : List (Option Armed)) (later earlier : List ℕ) (bucket : ℕ) → IsRinged slots later earlier → bucket < 1024 → LeastOf slots (λ armed. bucket_of armed ≡ bucket) (node_row slots (get_or later bucket 0))
+bucket_least slots later earlier bucket ring low = go (node_row slots (get_or later bucket 0)) refl
   where
     -- the first node is no later than a row of the bucket
     first : (key : ℕ) (armed : Armed) → row_at slots key ≡ Some armed → bucket_of armed ≡ bucket → (rank_at slots (get_or later bucket 0) ≢ 0) × (rank_at slots (get_or later bucket 0) ≤ rank_of armed)
     first key armed there such =
-        let mine : row_of slots (1024 + key) ≡ Some armed = row_of-key slots key ∙ there in
+        let mine : node_row slots (1024 + key) ≡ Some armed = row_of-key slots key ∙ there in
         let rank : rank_at slots (1024 + key) ≡ rank_of armed = ap rank_in mine in
         let found : IsFirst (rank_at slots) (λ y. get_or later y 0) (bucket_at slots (1024 + key)) (1024 + key) =
         first_least (is_node slots) (bucket_at slots) (rank_at slots) (λ y. get_or later y 0) (λ y. get_or earlier y 0) ring (end_bucket slots) (rank_of armed) (1024 + key) (node-row slots (1024 + key) armed mine) (omega (arith, rank))
@@ -197,7 +197,7 @@ bucket_least slots later earlier bucket ring low = go (row_of slots (get_or late
         let of_bucket : IsFirst (rank_at slots) (λ y. get_or later y 0) bucket (1024 + key) = subst (λ b. IsFirst (rank_at slots) (λ y. get_or later y 0) b (1024 + key)) here found in
         (of_bucket.some, omega (arith, of_bucket.least, rank))
 
-    go : (o : Option Armed) → row_of slots (get_or later bucket 0) ≡ o → LeastOf slots (λ armed. bucket_of armed ≡ bucket) o
+    go : (o : Option Armed) → node_row slots (get_or later bucket 0) ≡ o → LeastOf slots (λ armed. bucket_of armed ≡ bucket) o
     go None is = λ key armed there such. (first key armed there such).0 (ap rank_in is)
     go (Some least) is = record {
       row = record { key = get_or later bucket 0 - 1024; there = (row_key slots (get_or later bucket 0) least is).1 };

@@ -4,7 +4,7 @@ use Rattle.std.proofs.lemmas.Bool.{cases_Bool, cases_eq, cases_lt, lt-ltb, le-lt
 use Rattle.std.proofs.lemmas.List.Elements.{All-head, All-tail, All-cons, All-weaker}
 use Rattle.savi_kinds.specs.declared.address.Addr.{Addr}
 use Rattle.timer_wheel.specs.declared.armed.Armed.{Armed}
-use Rattle.timer_wheel.specs.Arms.{is_of, is_below, is_above, IsRising, due_in, with_due, pair_of, sooner, first_armed, due_by}
+use Rattle.timer_wheel.specs.Arms.{is_of, is_below, is_above, IsRising, due_in, with_due, pair_for, sooner, first_armed, due_by}
 use Rattle.timer_wheel.specs.Laws.{IsLeast}
 use Rattle.timer_wheel.proofs.Rising.{behind, rest_rising, is_of-other, due_in-none}
 
@@ -61,7 +61,7 @@ due_in-stops p a (x ∷ xs) stops =
 
 -- what is due for an address once something was armed or canceled for it
 pub due_in-with_same : (a : ℕ) (o : Option ℕ) (xs : List Armed) → due_in (with_due a o xs) a ≡ o
-due_in-with_same a o xs = due_in-append (filter (is_below a) xs) (pair_of a o ++ filter (is_above a) xs) a ∙ rw front (mine o)
+due_in-with_same a o xs = due_in-append (filter (is_below a) xs) (pair_for a o ++ filter (is_above a) xs) a ∙ rw front (mine o)
   where
     front : due_in (filter (is_below a) xs) a ≡ None
     front = due_in-stops (is_below a) a xs (λ x same. le-ltb x.address.0 a (omega (arith, same)))
@@ -69,15 +69,15 @@ due_in-with_same a o xs = due_in-append (filter (is_below a) xs) (pair_of a o ++
     back : due_in (filter (is_above a) xs) a ≡ None
     back = due_in-stops (is_above a) a xs (λ x same. le-ltb a x.address.0 (omega (arith, same)))
 
-    mine : (p : Option ℕ) → due_in (pair_of a p ++ filter (is_above a) xs) a ≡ p
+    mine : (p : Option ℕ) → due_in (pair_for a p ++ filter (is_above a) xs) a ≡ p
     mine None = back
     mine (Some d) = rw (eq-eqb a a refl) refl
 
 -- and for another one
 pub due_in-with_other : (a b : ℕ) (o : Option ℕ) (xs : List Armed) → b ≢ a → due_in (with_due a o xs) b ≡ due_in xs b
-due_in-with_other a b o xs other = due_in-append (filter (is_below a) xs) (pair_of a o ++ filter (is_above a) xs) b ∙ go (cases_lt b a)
+due_in-with_other a b o xs other = due_in-append (filter (is_below a) xs) (pair_for a o ++ filter (is_above a) xs) b ∙ go (cases_lt b a)
   where
-    past : (p : Option ℕ) → due_in (pair_of a p ++ filter (is_above a) xs) b ≡ due_in (filter (is_above a) xs) b
+    past : (p : Option ℕ) → due_in (pair_for a p ++ filter (is_above a) xs) b ≡ due_in (filter (is_above a) xs) b
     past None = refl
     past (Some d) = rw (is_of-other b (record { address = record { 0 = a }; due = d }) (λ same. other (sym same))) refl
 
@@ -85,7 +85,7 @@ due_in-with_other a b o xs other = due_in-append (filter (is_below a) xs) (pair_
     none_behind None = refl
     none_behind (Some x) = refl
 
-    go : (b < a) ⊎ (a ≤ b) → or_else (due_in (filter (is_below a) xs) b) (due_in (pair_of a o ++ filter (is_above a) xs) b) ≡ due_in xs b
+    go : (b < a) ⊎ (a ≤ b) → or_else (due_in (filter (is_below a) xs) b) (due_in (pair_for a o ++ filter (is_above a) xs) b) ≡ due_in xs b
     go (inl low) =
         rw (past o, due_in-stops (is_above a) b xs (λ x same. le-ltb a x.address.0 (omega (arith, same, low))), due_in-passes (is_below a) b xs (λ x same. lt-ltb x.address.0 a (omega (arith, same, low))))
         (none_behind (due_in xs b))

@@ -7,7 +7,7 @@ use Rattle.slab.specs.Slab.{Slab, slab_len, Updates}
 use Rattle.timer_wheel.specs.declared.armed.Armed.{Armed}
 use Rattle.timer_wheel.specs.Arms.{is_of}
 use Rattle.timer_wheel.specs.Rows.{row_at, other_than, others_than}
-use Rattle.timer_wheel.specs.Rings.{is_node, row_of}
+use Rattle.timer_wheel.specs.Rings.{is_node, node_row}
 use Rattle.timer_wheel.specs.Kept.{HasRow, IsWired}
 use Rattle.timer_wheel.specs.Searches.{GoesBehind}
 use Rattle.timer_wheel.proofs.Rising.{is_of-other}
@@ -37,7 +37,7 @@ address_others a (Some y ∷ slots) zero x found same =
 address_others a (o ∷ slots) (suc key) x found same = address_others a slots key x found same
 
 -- what a linked node shows is its row
-pub shown : (a : ℕ) (slots : List (Option Armed)) (node : ℕ) → is_node (map (other_than a) slots) node ≡ true → row_of slots node ≡ row_of (map (other_than a) slots) node
+pub shown : (a : ℕ) (slots : List (Option Armed)) (node : ℕ) → is_node (map (other_than a) slots) node ≡ true → node_row slots node ≡ node_row (map (other_than a) slots) node
 shown a slots node is =
     elim (node_cases (map (other_than a) slots) node is) [
       | inl end ↦ row_of-end slots node end.low ∙ sym end.none

@@ -7,7 +7,7 @@ use Rattle.std.proofs.lemmas.List.{append-nil}
 use Rattle.savi_kinds.proofs.Filters.{filter-all, filter-none}
 use Rattle.savi_kinds.proofs.Pairs.{AllPairs-head, AllPairs-tail, AllPairs-append}
 use Rattle.timer_wheel.specs.declared.armed.Armed.{Armed}
-use Rattle.timer_wheel.specs.Arms.{is_of, is_below, is_above, IsRising, due_in, with_due, pair_of}
+use Rattle.timer_wheel.specs.Arms.{is_of, is_below, is_above, IsRising, due_in, with_due, pair_for}
 
 -- in a rising list those behind a pair are higher
 pub behind : (x : Armed) (xs : List Armed) → IsRising (x ∷ xs) → All (λ y. x.address.0 < y.address.0) xs
@@ -79,4 +79,4 @@ with_due-again a d xs =
     filter-append (is_below a) (filter (is_below a) xs) (filter (is_above a) xs) ∙ ap (λ ys. ys ++ filter (is_below a) (filter (is_above a) xs)) (filter-twice (is_below a) xs) ∙ ap (λ ys. filter (is_below a) xs ++ ys) (low-high a xs) ∙ append-nil (filter (is_below a) xs) in
     let high : filter (is_above a) (with_due a None xs) ≡ filter (is_above a) xs =
     filter-append (is_above a) (filter (is_below a) xs) (filter (is_above a) xs) ∙ ap (λ ys. ys ++ filter (is_above a) (filter (is_above a) xs)) (high-low a xs) ∙ filter-twice (is_above a) xs in
-    ap (λ ys. ys ++ (pair_of a (Some d) ++ filter (is_above a) (with_due a None xs))) low ∙ ap (λ ys. filter (is_below a) xs ++ (pair_of a (Some d) ++ ys)) high
+    ap (λ ys. ys ++ (pair_for a (Some d) ++ filter (is_above a) (with_due a None xs))) low ∙ ap (λ ys. filter (is_below a) xs ++ (pair_for a (Some d) ++ ys)) high

@@ -2,7 +2,7 @@
 use Rattle.std.proofs.Common.{◌≡◌, ◌≢◌, ◌⊎◌, ℕ, ◌^◌, ◌≤◌, ◌<◌, ◌==◌, nat_lt, true, false, ◌&&◌, List, get_or, Option, Some, refl, sym, ap, ◌∙◌, arith, inl, inr}
 use Rattle.std.proofs.lemmas.Bool.{cases_eq, cases_lt, lt-ltb, le-ltb, eq-eqb, ltb-true, eqb-true, or_cases, and_parts, false≢true}
 use Rattle.timer_wheel.specs.declared.armed.Armed.{Armed}
-use Rattle.timer_wheel.specs.Rings.{is_node, bucket_at, bucket_of, rank_at, rank_of, rank_in, row_of, is_sooner, IsRinged}
+use Rattle.timer_wheel.specs.Rings.{is_node, bucket_at, bucket_of, rank_at, rank_of, rank_in, node_row, is_sooner, IsRinged}
 use Rattle.timer_wheel.proofs.Nodes.{node-end, row_of-end, end_bucket}
 
 -- a node of the pair's bucket, behind which all are higher
@@ -24,7 +24,7 @@ starts slots later earlier armed bucket ring is low =
     }
 
 -- the node before a row that is higher
-pub goes_back : (slots : List (Option Armed)) (later earlier : List ℕ) (armed row : Armed) (node : ℕ) → IsRinged slots later earlier → IsBelow slots later armed node → row_of slots node ≡ Some row → rank_of armed < rank_of row → IsBelow slots later armed (get_or earlier node 0)
+pub goes_back : (slots : List (Option Armed)) (later earlier : List ℕ) (armed row : Armed) (node : ℕ) → IsRinged slots later earlier → IsBelow slots later armed node → node_row slots node ≡ Some row → rank_of armed < rank_of row → IsBelow slots later armed (get_or earlier node 0)
 goes_back slots later earlier armed row node ring is found less =
     let forth : get_or later (get_or earlier node 0) 0 ≡ node = ring.forth node is.there in
     let rank : rank_at slots (get_or later (get_or earlier node 0) 0) ≡ rank_of row = ap (rank_at slots) forth ∙ ap rank_in found in
@@ -35,7 +35,7 @@ goes_back slots later earlier armed row node ring is found less =
     }
 
 -- the walk comes to lower ranks
-pub ranks_fall : (slots : List (Option Armed)) (later earlier : List ℕ) (row : Armed) (node : ℕ) → IsRinged slots later earlier → is_node slots node ≡ true → row_of slots node ≡ Some row → rank_at slots (get_or earlier node 0) < rank_at slots node
+pub ranks_fall : (slots : List (Option Armed)) (later earlier : List ℕ) (row : Armed) (node : ℕ) → IsRinged slots later earlier → is_node slots node ≡ true → node_row slots node ≡ Some row → rank_at slots (get_or earlier node 0) < rank_at slots node
 ranks_fall slots later earlier row node ring is found =
     let forth : rank_at slots (get_or later (get_or earlier node 0) 0) ≡ rank_at slots node = ap (rank_at slots) (ring.forth node is) in
     let rank : rank_at slots node ≡ rank_of row = ap rank_in found in

@@ -31,13 +31,13 @@ due_in [] a = None
 due_in (armed ∷ arms) a = if is_of a armed then Some armed.due else due_in arms a
 
 -- the pair of an address: one, or none where nothing is due
-abbrev pub pair_of : ℕ → Option ℕ → List Armed
-pair_of a None = []
-pair_of a (Some due) = record { address = record { 0 = a }; due = due } ∷ []
+abbrev pub pair_for : ℕ → Option ℕ → List Armed
+pair_for a None = []
+pair_for a (Some due) = record { address = record { 0 = a }; due = due } ∷ []
 
 -- the pairs once an address is due at this moment, or at none: the lower ones, its own, the higher ones
 abbrev pub with_due : ℕ → Option ℕ → List Armed → List Armed
-with_due a due arms = filter (is_below a) arms ++ (pair_of a due ++ filter (is_above a) arms)
+with_due a due arms = filter (is_below a) arms ++ (pair_for a due ++ filter (is_above a) arms)
 
 -- which is due sooner: this pair, whose address is the lower one, or the other
 abbrev pub sooner : Armed → Option (ℕ × Addr) → Option (ℕ × Addr)

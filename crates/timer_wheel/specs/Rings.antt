@@ -28,12 +28,12 @@ is_in slice None = false
 is_in slice (Some armed) = slice_of armed == slice
 
 -- the row of a node, or none at an end
-abbrev pub row_of : List (Option Armed) → ℕ → Option Armed
-row_of slots node = if nat_lt node 1024 then None else row_at slots (node - 1024)
+abbrev pub node_row : List (Option Armed) → ℕ → Option Armed
+node_row slots node = if nat_lt node 1024 then None else row_at slots (node - 1024)
 
 -- whether a number is that of an end, or of a row that is there
 abbrev pub is_node : List (Option Armed) → ℕ → Bool
-is_node slots node = nat_lt node 1024 || is_some (row_of slots node)
+is_node slots node = nat_lt node 1024 || is_some (node_row slots node)
 
 abbrev pub bucket_in : ℕ → Option Armed → ℕ
 bucket_in node None = node
@@ -41,7 +41,7 @@ bucket_in node (Some armed) = bucket_of armed
 
 -- the bucket of a node
 abbrev pub bucket_at : List (Option Armed) → ℕ → ℕ
-bucket_at slots node = bucket_in node (row_of slots node)
+bucket_at slots node = bucket_in node (node_row slots node)
 
 -- where a pair stands in this order
 abbrev pub rank_of : Armed → ℕ
@@ -53,7 +53,7 @@ rank_in (Some armed) = rank_of armed
 
 -- the rank of a node: 0 at an end
 abbrev pub rank_at : List (Option Armed) → ℕ → ℕ
-rank_at slots node = rank_in (row_of slots node)
+rank_at slots node = rank_in (node_row slots node)
 
 -- The nodes form rings: the one behind a node and the one before it are nodes of its bucket, and each is the other's other
 -- neighbor. The one behind a node has a higher rank, or is an end.

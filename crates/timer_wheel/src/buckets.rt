@@ -3,7 +3,7 @@
 ghost use Rattle.std.specs.Prelude.{◌≡◌, ◌≢◌, ◌≤◌, ◌<◌, ◌+◌, ◌^◌, ℕ, None, Some, IsSome, slice_index};
 ghost use Rattle.slab.specs.Slab.{Updates, HasRoomFor, slab_len};
 ghost use Rattle.timer_wheel.specs.Rows.{row_at, others_than};
-ghost use Rattle.timer_wheel.specs.Rings.{row_of as row_of_node, slice_of, bucket_of, sooner_of, is_in as is_in_slice};
+ghost use Rattle.timer_wheel.specs.Rings.{node_row as row_of_node, slice_of, bucket_of, sooner_of, is_in as is_in_slice};
 ghost use Rattle.timer_wheel.specs.Kept.{IsWired, HasRow, IsEarly};
 ghost use Rattle.timer_wheel.specs.Searches.{GoesBehind, LeastOf};
 ghost use Rattle.timer_wheel.specs.declared.armed.Armed.{Armed};

@@ -7,7 +7,7 @@ use Rattle.v6_chain.specs.declared.outcome.Chain.TheVariants.{Bad, Hidden, Unkno
 use Rattle.v6_chain.specs.Kinds.{kind_of}
 use Rattle.v6_chain.specs.Packet.{body_of}
 use Rattle.v6_chain.specs.Headers.{Header, has_fragment, octets_of, value_behind, AreChained}
-use Rattle.v6_chain.specs.Outcome.{IsWholeUpper, IsOutcome, IsWithin, IsHidden, Shows, message_of}
+use Rattle.v6_chain.specs.Outcome.{IsWholeUpper, IsOutcome, IsWithin, HidesUpper, Shows, message_of}
 use Rattle.v6_chain.proofs.Unique.{one_outcome}
 
 -- the body has as many octets as the payload length says
@@ -47,7 +47,7 @@ one_message ip payload p q m n f g a b =
     (cc, a.2 ∙ ap (λ (x : ℕ). message_of ip payload x) at_is ∙ sym b.2, cc)
 
 -- and none where it is hidden
-pub shows_not_hidden : (ip : Ip) (payload : List ℕ) (proto : ℕ) (message : List ℕ) (fragmented : Bool) → Shows ip payload proto message fragmented → IsHidden ip payload → ⊥
+pub shows_not_hidden : (ip : Ip) (payload : List ℕ) (proto : ℕ) (message : List ℕ) (fragmented : Bool) → Shows ip payload proto message fragmented → HidesUpper ip payload → ⊥
 shows_not_hidden ip payload proto message fragmented shown hidden =
     let same : Upper proto shown.0 fragmented ≡ Hidden = one_outcome ip payload (Upper proto shown.0 fragmented) Hidden shown.1 hidden in
     cc

@@ -59,5 +59,5 @@ abbrev pub Shows : Ip → List ℕ → ℕ → List ℕ → Bool → Type 0
 Shows ip payload proto message fragmented = (at : ℕ) × IsOutcome ip payload (Upper proto at fragmented) × (message ≡ message_of ip payload at)
 
 -- the packet is a first fragment in which the chain, or the least of its upper header, isn't whole (RFC 7112)
-abbrev pub IsHidden : Ip → List ℕ → Type 0
-IsHidden ip payload = IsOutcome ip payload Hidden
+abbrev pub HidesUpper : Ip → List ℕ → Type 0
+HidesUpper ip payload = IsOutcome ip payload Hidden

@@ -11,8 +11,8 @@ abbrev pub version_of : List ℕ → ℕ
 version_of payload = slice_index payload 0 / 16
 
 -- the fields behind the version, the traffic class and the flow label
-abbrev pub header_of : List ℕ → Ip
-header_of payload = record {
+abbrev pub header_fields : List ℕ → Ip
+header_fields payload = record {
   len = big_number 2 (drop 4 payload);
   next = slice_index payload 6;
   hop = slice_index payload 7;
@@ -22,7 +22,7 @@ header_of payload = record {
 
 -- the octets begin with a whole packet of version 6 that has this header and whose source is one host's
 pub record IsPacket (payload : List ℕ) (ip : Ip) : Type 0 where
-  pub header : ip ≡ header_of payload
+  pub header : ip ≡ header_fields payload
   pub version : version_of payload ≡ 6
   pub whole : 40 + ip.len ≤ length payload
   pub source : LiesIn ip.src.0 multicast → ⊥
@@ -31,8 +31,8 @@ pub record IsPacket (payload : List ℕ) (ip : Ip) : Type 0 where
 abbrev pub IsRefused : List ℕ → IpFault → Type 0
 IsRefused payload Short = length payload < 40
 IsRefused payload Version = (40 ≤ length payload) × (version_of payload ≢ 6)
-IsRefused payload Truncated = (40 ≤ length payload) × (version_of payload ≡ 6) × (length payload < 40 + (header_of payload).len)
-IsRefused payload Multicast = (version_of payload ≡ 6) × (40 + (header_of payload).len ≤ length payload) × LiesIn (header_of payload).src.0 multicast
+IsRefused payload Truncated = (40 ≤ length payload) × (version_of payload ≡ 6) × (length payload < 40 + (header_fields payload).len)
+IsRefused payload Multicast = (version_of payload ≡ 6) × (40 + (header_fields payload).len ≤ length payload) × LiesIn (header_fields payload).src.0 multicast
 
 -- reading the octets gives this header or this fault
 abbrev pub Reads : List ℕ → Result Ip IpFault → Type 0

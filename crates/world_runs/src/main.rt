@@ -23,8 +23,8 @@
 //!                          at port N, `read control` or `write control`, or a write of the `journal`, of the `summary` or
 //!                          of an `error`
 //!     clock WHICH READINGS..   the readings, in ms, of the clock of this port, of `control` or of the `ticker`
-//!     hold PASS TURN OTHER NUMBER  holds this turn of a pass of a live session until the other pass has come by for its turn
-//!                          of this number; where it doesn't within 20 s, a line says so
+//!     hold PASS TURN OTHER NUMBER  holds this turn of a pass of a live session until the other pass has come by for its
+//!                          turn of this number; where it doesn't within 20 s, a line says so
 //!     leaves TEXT          a line that a live session leaves, as it was worked out by hand, and is passed over here
 //!     openings             prints also what the program asks of its world
 //!

@@ -1,7 +1,7 @@
 use Rattle.std.proofs.Common.{[], ◌∷◌, ◌++◌, ap, refl, arith, length-append}
 use Rattle.savi_ends.proofs.Octets.{takes_more}
 use Rattle.pcap_io.specs.Kinds.{classic_kinds}
-use Rattle.pcap_io.specs.Readers.{Fresh, place_of}
+use Rattle.pcap_io.specs.Readers.{Fresh, record_place}
 use Rattle.pcap_io.proofs.CallsJoined.{has_read_none, has_read_more, takes_none}
 use Rattle.capture_bench.proofs.Counting.{one_read}
 use Rattle.capture_bench.proofs.count.Goals as goal
@@ -20,7 +20,7 @@ loop-records-preserved g c =
     let was = c.loop-records.invariant in
     let call = c.next.ensures.octets in
     let one = one_read c.loop-records.reader c.next.new.self call.0 c.next.new.buf (g.S.Source.left c.next.new.source) c.next.result call.2 c.in-Frame.is in
-    let place = ap place_of one.1.running.1 in
+    let place = ap record_place one.1.running.1 in
     record {
       read = (
         was.read.0 ++ call.0,

@@ -7,17 +7,81 @@ use crate::kept::Kept;
 use crate::lock::TableLock;
 use std::alloc::{AllocError, Global};
 use std::sync::Wait;
-use std::thread::Parker;
+use std::sync::atomic::{AtomicBool, Ordering};
+use std::thread::{Parker, yield_now};
 use std::time::Duration;
 
 /// A lock has so many places to sleep at.
 const PLACES: usize = 34;
 
+/// So often a thread looks whether it was woken before it sleeps, and lets others run in between: some 50 microseconds where
+/// no other has anything to do. What comes within that time needs no call of the system to wake it.
+const LOOKS: u32 = 150;
+
+/// A place to sleep at: whether who sleeps there was woken since its last sleep, whether it sleeps in the system now, and
+/// whether its last sleep ended because it was woken.
+#[derive(Drop)]
+pub(crate) struct Sleeper {
+    woken: AtomicBool,
+    parked: AtomicBool,
+    busy: AtomicBool,
+    parker: Parker,
+}
+
+impl Sleeper {
+    fn new() -> Sleeper {
+        Sleeper {
+            woken: AtomicBool::new(false),
+            parked: AtomicBool::new(false),
+            busy: AtomicBool::new(false),
+            parker: Parker::new(),
+        }
+    }
+
+    fn sleep<R: Wait>(&self, rt: &R, most: Duration) {
+        let is_woken = self.is_woken_soon() || self.is_woken_later(rt, most);
+        self.busy.store(is_woken, Ordering::SeqCst);
+        self.woken.store(false, Ordering::SeqCst);
+    }
+
+    // Looks for a while whether it was woken, where the last sleep ended so.
+    fn is_woken_soon(&self) -> bool {
+        if !self.busy.load(Ordering::SeqCst) {
+            return false;
+        }
+        for _ in 0..LOOKS {
+            if self.woken.load(Ordering::SeqCst) {
+                return true;
+            }
+            yield_now();
+        }
+        false
+    }
+
+    // Sleeps in the system until it is woken, for so long at most. Who wakes it writes `woken` before reading `parked`, and
+    // here it is the other way round: one of both sees what the other wrote.
+    fn is_woken_later<R: Wait>(&self, rt: &R, most: Duration) -> bool {
+        self.parked.store(true, Ordering::SeqCst);
+        if !self.woken.load(Ordering::SeqCst) {
+            self.parker.park_timeout(rt, most);
+        }
+        self.parked.store(false, Ordering::SeqCst);
+        self.woken.load(Ordering::SeqCst)
+    }
+
+    fn wake(&self) {
+        self.woken.store(true, Ordering::SeqCst);
+        if self.parked.load(Ordering::SeqCst) {
+            self.parker.unpark();
+        }
+    }
+}
+
 // Places where nobody sleeps yet.
-pub(crate) fn places(alloc: Global) -> Result<Vec<Parker>, AllocError> {
+pub(crate) fn places(alloc: Global) -> Result<Vec<Sleeper>, AllocError> {
     let mut sleepers = Vec::with_capacity(alloc, PLACES)?;
     for _ in 0..PLACES {
-        sleepers.push(Parker::new())?;
+        sleepers.push(Sleeper::new())?;
     }
     Ok(sleepers)
 }
@@ -25,9 +89,12 @@ pub(crate) fn places(alloc: Global) -> Result<Vec<Parker>, AllocError> {
 impl<V: Kept> TableLock<V> {
     /// Sleeps at a place from 0 to 33 until it is woken, for so long at most; or not at all where it was woken since its
     /// last sleep, or there is no such place. It may end early. One thread at a time may sleep at a place.
+    ///
+    /// Where the last sleep there ended because it was woken, it first looks for some 50 microseconds whether it is woken
+    /// again, and gives its processor to others meanwhile.
     pub fn sleep<R: Wait>(&self, rt: &R, place: u32, most: Duration) {
         if let Some(sleeper) = self.sleepers.get(place as usize) {
-            sleeper.park_timeout(rt, most);
+            sleeper.sleep(rt, most);
         }
     }
 
@@ -35,7 +102,7 @@ impl<V: Kept> TableLock<V> {
     /// only where somebody sleeps there.
     pub fn wake(&self, place: u32) {
         if let Some(sleeper) = self.sleepers.get(place as usize) {
-            sleeper.unpark();
+            sleeper.wake();
         }
     }
 }

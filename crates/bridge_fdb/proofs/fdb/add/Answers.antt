@@ -1,7 +1,7 @@
 use Rattle.std.proofs.Common.{◌≡◌, ◌≤◌, ◌+◌, ℕ, List, true, subst, arith}
 use Rattle.std.proofs.lemmas.Bool.{lt-ltb}
 use Rattle.bridge_fdb.specs.declared.station.Station.{Station}
-use Rattle.bridge_fdb.specs.Stations.{mac_number, is_of, is_live, count_at}
+use Rattle.bridge_fdb.specs.Stations.{mac_number, is_of, is_live, stations_at}
 use Rattle.bridge_fdb.specs.Learning.{with_station}
 use Rattle.bridge_fdb.specs.Kept.{listed}
 use Rattle.bridge_fdb.proofs.Parts.{live_with}
@@ -19,8 +19,8 @@ returns-clause-live c =
 
 pub returns-clause-limits : goal.returns-clause-limits
 returns-clause-limits c =
-    let room : (port : ℕ) → count_at port (with_station c.args.station (listed c.args.kept.now)) ≤ 256 =
-    λ port. subst (λ (xs : List Station). count_at port xs ≤ 256) c.insert.ensures.listed (room_of c.insert.new.self.stations.items c.insert.new.self.slots.items c.insert.new.self.numbers.items (listed c.insert.new.self) c.insert.ensures.kept.tied port) in
+    let room : (port : ℕ) → stations_at port (with_station c.args.station (listed c.args.kept.now)) ≤ 256 =
+    λ port. subst (λ (xs : List Station). stations_at port xs ≤ 256) c.insert.ensures.listed (room_of c.insert.new.self.stations.items c.insert.new.self.slots.items c.insert.new.self.numbers.items (listed c.insert.new.self) c.insert.ensures.kept.tied port) in
     rw c.insert.ensures.listed (IsWithinLimits-with c.args.station (listed c.args.kept.now) c.requires.limits c.requires.moment room)
 
 pub returns-clause-full : goal.returns-clause-full

@@ -2,7 +2,7 @@ use Rattle.std.proofs.Common.{◌≡◌, ◌≤◌, ◌+◌, ℕ, List, true, fa
 use Rattle.std.proofs.lemmas.Bool.{eq-eqb, eqb-true, false≢true, lt-ltb}
 use Rattle.savi_kinds.specs.Ports.{number_of}
 use Rattle.bridge_fdb.specs.declared.station.Station.{Station}
-use Rattle.bridge_fdb.specs.Stations.{mac_number, is_of, is_at, is_live, count_at}
+use Rattle.bridge_fdb.specs.Stations.{mac_number, is_of, is_at, is_live, stations_at}
 use Rattle.bridge_fdb.specs.Learning.{with_station}
 use Rattle.bridge_fdb.specs.Places.{StandsAt, BelongsAt}
 use Rattle.bridge_fdb.specs.Kept.{IsOwn, listed, without}
@@ -55,8 +55,8 @@ returns-clause-live c =
 pub returns-clause-limits : goal.returns-clause-limits
 returns-clause-limits c =
     let others : List Station = without (mac_number c.args.ended.mac) (listed c.args.kept.now) in
-    let room : (port : ℕ) → count_at port (with_station c.args.station others) ≤ 256 =
-    λ port. subst (λ (xs : List Station). count_at port xs ≤ 256) (left c) (room_of c.exchange.new.self.stations.items c.exchange.new.self.slots.items c.exchange.new.self.numbers.items (listed c.exchange.new.self) c.exchange.ensures.kept.tied port) in
+    let room : (port : ℕ) → stations_at port (with_station c.args.station others) ≤ 256 =
+    λ port. subst (λ (xs : List Station). stations_at port xs ≤ 256) (left c) (room_of c.exchange.new.self.stations.items c.exchange.new.self.slots.items c.exchange.new.self.numbers.items (listed c.exchange.new.self) c.exchange.ensures.kept.tied port) in
     rw (left c) (IsWithinLimits-with c.args.station others (IsWithinLimits-without (mac_number c.args.ended.mac) (listed c.args.kept.now) c.requires.limits) c.requires.moment room)
 
 pub returns-clause-full : goal.returns-clause-full

@@ -1,7 +1,7 @@
 use Rattle.std.proofs.Common.{◌≡◌, ◌≤◌, true, sym, refl, ◌∙◌, arith, filter}
 use Rattle.std.proofs.lemmas.Bool.{and_parts, eqb-true}
 use Rattle.savi_kinds.specs.Ports.{number_of}
-use Rattle.bridge_fdb.specs.Stations.{mac_number, is_at, is_live, is_of, count_at}
+use Rattle.bridge_fdb.specs.Stations.{mac_number, is_at, is_live, is_of, stations_at}
 use Rattle.bridge_fdb.specs.Places.{StandsAt, BelongsAt}
 use Rattle.bridge_fdb.specs.Kept.{listed}
 use Rattle.bridge_fdb.proofs.Parts.{known_found, known_missing, of_count}
@@ -18,8 +18,8 @@ pub returns-then-is_renewed_by-clause-limits : goal.returns-then-is_renewed_by-c
 returns-then-is_renewed_by-clause-limits c =
     let at : StandsAt (mac_number c.args.station.mac) (listed c.args.kept.now) c.in-Ok.at = c.in-Ok.ensures in
     let both : (is_at (number_of c.args.station.port) c.at-old.result ≡ true) × (is_live c.args.station.last c.at-old.result ≡ true) = and_parts (is_at (number_of c.args.station.port) c.at-old.result) (is_live c.args.station.last c.at-old.result) (sym c.is_renewed_by.ensures ∙ c.if-is_renewed_by.true) in
-    let one : count_at (number_of c.args.station.port) (filter (is_of (mac_number c.args.station.mac)) (listed c.args.kept.now)) ≡ 1 = of_count (is_at (number_of c.args.station.port)) (mac_number c.args.station.mac) (listed c.args.kept.now) c.in-Ok.at c.at-old.result c.requires.limits.rising at c.at-old.ensures ∙ rw both.0 refl in
-    let most : count_at (number_of c.args.station.port) (listed c.args.kept.now) ≤ 256 = c.requires.limits.room (number_of c.args.station.port) in
+    let one : stations_at (number_of c.args.station.port) (filter (is_of (mac_number c.args.station.mac)) (listed c.args.kept.now)) ≡ 1 = of_count (is_at (number_of c.args.station.port)) (mac_number c.args.station.mac) (listed c.args.kept.now) c.in-Ok.at c.at-old.result c.requires.limits.rising at c.at-old.ensures ∙ rw both.0 refl in
+    let most : stations_at (number_of c.args.station.port) (listed c.args.kept.now) ≤ 256 = c.requires.limits.room (number_of c.args.station.port) in
     rw c.renew.ensures.listed (IsWithinLimits-with c.args.station (listed c.args.kept.now) c.requires.limits c.requires.moment (room-with c.args.station (listed c.args.kept.now) c.requires.limits (omega (arith, one, most))))
 
 pub returns-then-is_renewed_by-clause-full : goal.returns-then-is_renewed_by-clause-full

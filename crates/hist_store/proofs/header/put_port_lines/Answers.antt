@@ -1,5 +1,5 @@
 use Rattle.std.proofs.Common.{arith}
-use Rattle.hist_store.specs.JournalTexts.{port_fields}
+use Rattle.hist_store.specs.JournalTexts.{journal_port_fields}
 use Rattle.hist_store.proofs.LineLemmas.{written_next}
 use Rattle.hist_store.proofs.header.put_port_lines.Goals as goal
 
@@ -7,6 +7,6 @@ pub loop-port-preserved : goal.loop-port-preserved
 loop-port-preserved c =
     let was = c.loop-port.invariant in
     record {
-      text = written_next port_fields c.args.ports.now c.loop-port.port-index c.port-item.result c.args.into.now.items c.loop-port.into.items c.put_port_line.new.into.items c.loop-port-test.true c.port-item.is was.text c.put_port_line.ensures.text;
+      text = written_next journal_port_fields c.args.ports.now c.loop-port.port-index c.port-item.result c.args.into.now.items c.loop-port.into.items c.put_port_line.new.into.items c.loop-port-test.true c.port-item.is was.text c.put_port_line.ensures.text;
       size = omega (arith, was.size, c.put_port_line.ensures.size);
     }

@@ -2,7 +2,8 @@ use Rattle.std.proofs.Common.{◌≡◌, [], ◌∷◌, refl, arith}
 use Rattle.std.proofs.lemmas.List.{nil_from_length, append_assoc}
 use Rattle.std.proofs.lemmas.Bool.{eqb-true}
 use Rattle.hex.specs.Hex.{encode_with}
-use Rattle.hist_store.specs.TextOfLines.{dash, space}
+use Rattle.savi_kinds.specs.Characters.{space}
+use Rattle.hist_store.specs.TextOfLines.{dash}
 use Rattle.hist_store.specs.LineTexts.{hex_text}
 use Rattle.hist_store.proofs.pieces.put_hex.Goals as goal
 

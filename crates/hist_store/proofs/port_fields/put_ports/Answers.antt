@@ -1,6 +1,7 @@
 use Rattle.std.proofs.Common.{ℕ, ◌≡◌, Bool, cond, List, [], ◌∷◌, ◌++◌, decimal, sym, ap, subst, ◌∙◌, arith, append_assoc}
-use Rattle.hist_store.specs.TextOfLines.{comma, space}
-use Rattle.hist_store.specs.PortTexts.{ports_text}
+use Rattle.savi_kinds.specs.Characters.{space}
+use Rattle.hist_store.specs.TextOfLines.{comma}
+use Rattle.hist_store.specs.PortTexts.{members_text}
 use Rattle.hist_store.proofs.MemberLemmas.{IsListed, IsListed-none, IsListed-member, IsListed-other, ports_text-none, ports_text-some}
 use Rattle.hist_store.proofs.port_fields.put_ports.Goals as goal
 use Rattle.hist_store.proofs.port_fields.put_ports.Goals.{in-Some, in_default}
@@ -29,10 +30,10 @@ pub returns-then-not-any-clause-text : goal.returns-then-not-any-clause-text
 returns-then-not-any-clause-text c =
     let before = c.push.new.self.items in
     let listed = subst (λ (b : Bool). IsListed c.args.set c.loop-index.index b before c.loop-index.into.items) c.if-not-any.true c.loop-index.invariant in
-    c.push-then-not-any.ensures.items ∙ ports_text-none c.args.set c.loop-index.index before c.loop-index.into.items (omega arith) listed ∙ behind c.args.into.now.items before (ports_text c.args.set) c.push.ensures.items
+    c.push-then-not-any.ensures.items ∙ ports_text-none c.args.set c.loop-index.index before c.loop-index.into.items (omega arith) listed ∙ behind c.args.into.now.items before (members_text c.args.set) c.push.ensures.items
 
 pub returns-else-not-any-clause-text : goal.returns-else-not-any-clause-text
 returns-else-not-any-clause-text c =
     let before = c.push.new.self.items in
     let listed = subst (λ (b : Bool). IsListed c.args.set c.loop-index.index b before c.loop-index.into.items) c.if-not-any.false c.loop-index.invariant in
-    ports_text-some c.args.set c.loop-index.index before c.loop-index.into.items (omega arith) listed ∙ behind c.args.into.now.items before (ports_text c.args.set) c.push.ensures.items
+    ports_text-some c.args.set c.loop-index.index before c.loop-index.into.items (omega arith) listed ∙ behind c.args.into.now.items before (members_text c.args.set) c.push.ensures.items

@@ -7,7 +7,7 @@ use Rattle.savi_kinds.specs.Ports.{number_of}
 use Rattle.hist_store.specs.PortTexts.{GoesOn}
 use Rattle.hist_store.proofs.OnePort.{the_port}
 use Rattle.hist_store.proofs.EndRead.{none_left}
-use Rattle.hist_store.proofs.PortsRead.{place_of, cut_of, IsGrown, ends, goes_on, ended, went_on, tail_cases, if_some, grown_above}
+use Rattle.hist_store.proofs.PortsRead.{comma_place, cut_of, IsGrown, ends, goes_on, ended, went_on, tail_cases, if_some, grown_above}
 use Rattle.hist_store.proofs.read_ports.+read_members.Goals as goal
 
 empty_from : (t : List ℕ) (b : Bool) → b ≡ (length t == 0) → b ≡ true → t ≡ []
@@ -30,7 +30,7 @@ read_members-requires t c =
       above = c.requires;
       size = c.know_ports.ensures;
     } in
-    let size = length-drop (place_of c.args.text.now) c.args.text.now in
+    let size = length-drop (comma_place c.args.text.now) c.args.text.now in
     let rest = ap length (sym c.cut_member.ensures.rest ∙ c.in_ok-more.ensures.read) in
     (omega (arith, c.decreases, size, rest), λ n low high. grown_above c.args.set c.with-grown.result c.args.last port.number grown n (omega (arith, low, c.get-2.ensures.value)) high)
 

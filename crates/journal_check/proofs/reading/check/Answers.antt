@@ -1,6 +1,6 @@
 use Rattle.std.proofs.Common.{ℕ, List, ap, sym, ◌∙◌}
 use Rattle.savi_ends.specs.Octets.{in_front}
-use Rattle.hist_store.specs.JournalTexts.{address_text, header_text}
+use Rattle.hist_store.specs.JournalTexts.{address_text, journal_header_text}
 use Rattle.journal_check.specs.Pieces.{to_come}
 use Rattle.journal_check.proofs.FeedPlaces.{in_front_none}
 use Rattle.journal_check.proofs.Whole.{answer_behind, answer_bad, answer_only, answer_good, answer_journal}
@@ -9,7 +9,7 @@ use Rattle.journal_check.proofs.reading.check.Goals as goal
 pub returns-in-Ok-clause-answer : goal.returns-in-Ok-clause-answer
 returns-in-Ok-clause-answer g c =
     let left = g.S.Source.left c.args.source.now in
-    let behind = in_front (header_text address_text c.in-Ok.plan) (to_come c.read_header.new.lines (g.S.Source.left c.read_header.new.source)) in
+    let behind = in_front (journal_header_text address_text c.in-Ok.plan) (to_come c.read_header.new.lines (g.S.Source.left c.read_header.new.source)) in
     answer_behind c.check_behind.result left behind (sym (ap (λ (l : List ℕ). in_front l left) c.new-lines.ensures ∙ in_front_none left) ∙ c.in-Ok.ensures.plan.1) c.check_behind.ensures.answer
 
 pub returns-in-Ok-clause-only : goal.returns-in-Ok-clause-only

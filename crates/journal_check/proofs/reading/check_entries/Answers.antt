@@ -3,7 +3,7 @@ use Rattle.std.proofs.lemmas.List.Elements.{All-nil}
 use Rattle.hex.specs.Hex.{IsBytes}
 use Rattle.hist_store.specs.Rows.{Row}
 use Rattle.savi_ends.specs.Octets.{in_front}
-use Rattle.hist_store.specs.JournalTexts.{address_text, header_text}
+use Rattle.hist_store.specs.JournalTexts.{address_text, journal_header_text}
 use Rattle.savi_history.specs.Bases.{empty}
 use Rattle.savi_history.specs.Legal.{IsLegal}
 use Rattle.savi_history.proofs.Telling.{AreOctets}
@@ -59,7 +59,7 @@ returns-in-Broken-clause-answer g c =
     let was = c.entries.invariant in
     let m = c.entries.core in
     let before = to_come c.entries.lines (g.S.Source.left c.entries.source) in
-    let whole = in_front (header_text address_text c.args.core.now.plan) (to_come c.args.lines.now (g.S.Source.left c.args.source.now)) in
+    let whole = in_front (journal_header_text address_text c.args.core.now.plan) (to_come c.args.lines.now (g.S.Source.left c.args.source.now)) in
     let plan_is = subst IsPlan (sym was.plan) c.requires.plan in
     let few : length m.past < 2 ^ 64 = omega (arith, c.len-entry.ensures.len) in
     subst (λ (a : Checked). IfRead a (IfSome whole (λ octets. IsAnswerBehind octets a))) (sym c.bad_line.ensures)
@@ -72,7 +72,7 @@ returns-in-Wrong-clause-answer g c =
     let apart = c.in-Wrong.apart in
     let before = to_come c.entries.lines (g.S.Source.left c.entries.source) in
     let after = to_come c.next.new.self (g.S.Source.left c.next.new.source) in
-    let whole = in_front (header_text address_text c.args.core.now.plan) (to_come c.args.lines.now (g.S.Source.left c.args.source.now)) in
+    let whole = in_front (journal_header_text address_text c.args.core.now.plan) (to_come c.args.lines.now (g.S.Source.left c.args.source.now)) in
     let plan_is = subst IsPlan (sym was.plan) c.requires.plan in
     answered_if m.plan m.past whole before (Wrong c.len-entry.result apart.want apart.have) plan_is was.legal was.bytes was.told
     (judged_wrong m.plan m.past c.next.new.line.items before after c.len-entry.result apart.want apart.have c.in-Line.ensures.taken.1 c.len-entry.ensures.len
@@ -84,7 +84,7 @@ returns-in-Last-clause-answer g c =
     let m = c.entries.core in
     let before = to_come c.entries.lines (g.S.Source.left c.entries.source) in
     let after = to_come c.next.new.self (g.S.Source.left c.next.new.source) in
-    let whole = in_front (header_text address_text c.args.core.now.plan) (to_come c.args.lines.now (g.S.Source.left c.args.source.now)) in
+    let whole = in_front (journal_header_text address_text c.args.core.now.plan) (to_come c.args.lines.now (g.S.Source.left c.args.source.now)) in
     let plan_is = subst IsPlan (sym was.plan) c.requires.plan in
     let ends = subst (λ (n : Machine). Ends n.plan n.past after c.finish.result) c.in-Last.ensures.2 c.finish.ensures.ends in
     answered_if m.plan m.past whole before c.finish.result plan_is was.legal was.bytes was.told
@@ -97,7 +97,7 @@ returns-in-Bad-clause-answer g c =
     let m = c.entries.core in
     let before = to_come c.entries.lines (g.S.Source.left c.entries.source) in
     let after = to_come c.next.new.self (g.S.Source.left c.next.new.source) in
-    let whole = in_front (header_text address_text c.args.core.now.plan) (to_come c.args.lines.now (g.S.Source.left c.args.source.now)) in
+    let whole = in_front (journal_header_text address_text c.args.core.now.plan) (to_come c.args.lines.now (g.S.Source.left c.args.source.now)) in
     let plan_is = subst IsPlan (sym was.plan) c.requires.plan in
     let bad = c.bad_line-in-Bad.ensures ∙ ap (λ (n : Machine). BadLine (next_line n.plan n.past)) c.in-Bad.ensures.1 in
     let nothing = subst (SaysNothing m.plan m.past) c.as_slice.ensures.value c.in-Bad.ensures.0 in

@@ -1,6 +1,6 @@
 use Rattle.std.specs.Prelude.{◌≡◌, ◌≤◌, ◌-◌, ◌^◌, length}
 use Rattle.savi_ends.specs.Octets.{in_front}
-use Rattle.hist_store.specs.JournalTexts.{address_text, header_text}
+use Rattle.hist_store.specs.JournalTexts.{address_text, journal_header_text}
 use Rattle.savi_history.specs.Bases.{empty}
 use Rattle.savi_history.specs.Legal.{IsLegal}
 use Rattle.savi_history.proofs.Telling.{AreOctets}
@@ -15,7 +15,7 @@ invariant-entries g l = record {
   plan : l.core.plan ≡ l.initial.core.plan;
   legal : IsLegal l.core.plan empty l.core.past;
   bytes : AreOctets l.core.past;
-  told : in_front (header_text address_text l.initial.core.plan) (to_come l.initial.lines (g.S.Source.left l.initial.source))
+  told : in_front (journal_header_text address_text l.initial.core.plan) (to_come l.initial.lines (g.S.Source.left l.initial.source))
       ≡ in_front (past_text l.core.plan l.core.past) (to_come l.lines (g.S.Source.left l.source));
 }
 

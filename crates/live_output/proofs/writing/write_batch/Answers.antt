@@ -2,7 +2,7 @@ use Rattle.std.proofs.Common.{◌≡◌, ◌<◌, ◌++◌, ◌+◌, ℕ, List, 
 use Rattle.std.proofs.lemmas.List.{take_all}
 use Rattle.savi_ends.specs.declared.sink.Put.TheVariants as put
 use Rattle.savi_ends.specs.Writes.{Extends}
-use Rattle.savi_core.specs.Batches.{sent_item}
+use Rattle.savi_core.specs.Batches.{item_with}
 use Rattle.live_output.specs.OutputParts.{record_of, records_of}
 use Rattle.live_output.specs.Writing.{Holds}
 use Rattle.live_output.proofs.Held.{holds_all, holds_more, failed_more, failed_before, flushed}
@@ -17,8 +17,8 @@ loop-i-init g c = record {
 
 pub loop-i-preserved : goal.loop-i-preserved
 loop-i-preserved g c =
-    let record_is = record_of c.args.format (sent_item c.item-moment.result.0 c.item-moment.result.1.now) in
-    let upto = records_upto c.args.format c.args.batch.now c.loop-i.i (sent_item c.item-moment.result.0 c.item-moment.result.1.now) (omega arith) c.item-moment.ensures.item in
+    let record_is = record_of c.args.format (item_with c.item-moment.result.0 c.item-moment.result.1.now) in
+    let upto = records_upto c.args.format c.args.batch.now c.loop-i.i (item_with c.item-moment.result.0 c.item-moment.result.1.now) (omega arith) c.item-moment.ensures.item in
     record {
       later = omega (arith, c.loop-i.invariant.later, c.in-Done.ensures.later);
       holds = subst (λ (l : List ℕ). Holds (g.K.Sink.written c.args.sink.now) (g.K.Sink.written c.write_record.new.sink) c.write_record.new.gathered.octets.items l) (sym upto)
@@ -32,8 +32,8 @@ returns-in-Failed-clause-extends g c =
     let new = g.K.Sink.written c.write_record.new.sink in
     let i = c.loop-i.i in
     let batch = c.args.batch.now in
-    let record_is = record_of c.args.format (sent_item c.item-moment.result.0 c.item-moment.result.1.now) in
-    let upto = records_upto c.args.format batch i (sent_item c.item-moment.result.0 c.item-moment.result.1.now) (omega arith) c.item-moment.ensures.item in
+    let record_is = record_of c.args.format (item_with c.item-moment.result.0 c.item-moment.result.1.now) in
+    let upto = records_upto c.args.format batch i (item_with c.item-moment.result.0 c.item-moment.result.1.now) (omega arith) c.item-moment.ensures.item in
     let here : Extends put.Failed old new (records_of c.args.format (take i batch) ++ record_is) =
     failed_more old (g.K.Sink.written c.loop-i.sink) new c.loop-i.gathered.octets.items (records_of c.args.format (take i batch)) c.loop-i.invariant.holds record_is (c.in-Failed.ensures.part refl) in
     subst (Extends put.Failed old new) (sym (records_split c.args.format batch (i + 1)))

@@ -2,8 +2,8 @@ use Rattle.std.proofs.Common.{rules}
 use denote.Param.{param}
 use denote.Param.Send.{IsSend, IsSync, sendable}
 use Rattle.savi_kinds.specs.declared.entry.Who.TheVariants.{Egress, Ingress}
-use Rattle.live_turns.specs.Seats.{IsNew}
-use Rattle.live_switch.specs.Works.{IsReady}
+use Rattle.live_turns.specs.Seats.{IsNewPass}
+use Rattle.live_switch.specs.Works.{IsReadyWork}
 use Rattle.live_switch.proofs.Sharing.{rest_ready, reader_new, writer_new, done_more}
 use Rattle.live_switch.proofs.sessions.+runs.Goals as goal
 
@@ -15,11 +15,11 @@ run_all-join-back-requires-after_bounds g t c κs within =
     let send_c : IsSend (param 4 g.row.C) = search rules in
     let sync_r : IsSync (param 0 g.row.R) = search rules in
     let sync_g : IsSync (param 1 g.row.G) = search rules in
-    let reader : IsNew c.args.lock.now (Ingress c.take_port-reader.result.0.port) c.take_port-reader.result.0.pass =
+    let reader : IsNewPass c.args.lock.now (Ingress c.take_port-reader.result.0.port) c.take_port-reader.result.0.pass =
     reader_new c.args.lock.now c.args.work c.take_port-reader.result.0 c.take_port-reader.result.1 c.take_port-reader.result.2 c.requires c.take_port-reader.ensures in
-    let writer : IsNew c.args.lock.now (Egress c.take_port-reader.result.1.port) c.take_port-reader.result.1.pass =
+    let writer : IsNewPass c.args.lock.now (Egress c.take_port-reader.result.1.port) c.take_port-reader.result.1.pass =
     writer_new c.args.lock.now c.args.work c.take_port-reader.result.0 c.take_port-reader.result.1 c.take_port-reader.result.2 c.requires c.take_port-reader.ensures in
-    let rest : IsReady c.args.lock.now c.take_port-reader.result.2 =
+    let rest : IsReadyWork c.args.lock.now c.take_port-reader.result.2 =
     rest_ready c.args.lock.now c.args.work c.take_port-reader.result.0 c.take_port-reader.result.1 c.take_port-reader.result.2 c.requires c.take_port-reader.ensures in
     search (rules, sendable)
 

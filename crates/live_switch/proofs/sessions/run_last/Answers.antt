@@ -2,7 +2,7 @@ use Rattle.std.proofs.Common.{◌≡◌, ℕ, ◌+◌, ◌++◌, ◌∷◌, [], 
 use denote.Param.Send.{sendable}
 use Rattle.savi_kinds.specs.declared.entry.Who.TheVariants.{Control, Ticker}
 use Rattle.table_lock.specs.declared.pass.Pass.{Pass}
-use Rattle.live_turns.specs.Seats.{IsNew}
+use Rattle.live_turns.specs.Seats.{IsNewPass}
 use Rattle.live_switch.specs.Dealt.{AreFor}
 use Rattle.live_switch.proofs.Dealing.{control_new, ticker_new}
 use Rattle.live_switch.proofs.Popped.{popped, popped_len}
@@ -17,8 +17,8 @@ join-timer-requires-after_bounds g c κs within =
     let dealt : AreFor c.args.lock.now 0 all = subst (λ (n : ℕ). AreFor c.args.lock.now n all) c.requires.none c.requires.ready.passes in
     let last : all ≡ most ++ c.unwrap.result ∷ [] = popped all most c.pop.result c.unwrap.result c.pop.ensures.items c.unwrap.ensures in
     let first : most ≡ bare ++ c.unwrap-2.result ∷ [] = popped most bare c.pop-2.result c.unwrap-2.result c.pop-2.ensures.items c.unwrap-2.ensures in
-    let control : IsNew c.args.lock.now Control c.unwrap-2.result = control_new c.args.lock.now all most bare c.unwrap.result c.unwrap-2.result dealt last first in
-    let ticker : IsNew c.args.lock.now Ticker c.unwrap.result = ticker_new c.args.lock.now all most bare c.unwrap.result c.unwrap-2.result dealt last first in
+    let control : IsNewPass c.args.lock.now Control c.unwrap-2.result = control_new c.args.lock.now all most bare c.unwrap.result c.unwrap-2.result dealt last first in
+    let ticker : IsNewPass c.args.lock.now Ticker c.unwrap.result = ticker_new c.args.lock.now all most bare c.unwrap.result c.unwrap-2.result dealt last first in
     let send_s = c.type_bounds.send-S in
     let send_k = c.type_bounds.send-K in
     let send_c = c.type_bounds.send-C in

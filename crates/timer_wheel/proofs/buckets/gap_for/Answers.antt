@@ -1,7 +1,7 @@
 use Rattle.std.proofs.Common.{◌≡◌, ◌≢◌, ◌+◌, ◌-◌, ◌%◌, ◌^◌, ◌<◌, ◌≤◌, ap, sym, ◌∙◌, subst, length, get_or, Some, arith}
 use Rattle.std.proofs.lemmas.List.{get_or_default}
 use Rattle.timer_wheel.specs.Rows.{row_at, others_than}
-use Rattle.timer_wheel.specs.Rings.{row_of, bucket_of, rank_of, rank_in, rank_at}
+use Rattle.timer_wheel.specs.Rings.{node_row, bucket_of, rank_of, rank_in, rank_at}
 use Rattle.timer_wheel.proofs.Nodes.{node-end, node_within, row_key}
 use Rattle.timer_wheel.proofs.Walks.{IsBelow, starts, goes_back, ranks_fall, sooner_rank, later_rank, same_rank}
 use Rattle.timer_wheel.proofs.Renewing.{address_others, shown}
@@ -25,7 +25,7 @@ loop-row-init c =
     }
 
 -- the node's row
-found : (c : goal.After-row_known-in-Some-2-1) → row_of (others_than c.args.armed.address.0 c.args.rows.now).slots c.loop-row.before ≡ Some c.in-Some.row
+found : (c : goal.After-row_known-in-Some-2-1) → node_row (others_than c.args.armed.address.0 c.args.rows.now).slots c.loop-row.before ≡ Some c.in-Some.row
 found c = sym (shown c.args.armed.address.0 c.args.rows.now.slots c.loop-row.before c.loop-row.invariant.below.there) ∙ sym c.in-Some.ensures
 
 -- the node that is read
@@ -41,7 +41,7 @@ index-before-requires-in-Some c =
 
 pub returns-then-is_before : goal.returns-then-is_before
 returns-then-is_before c =
-    let found : row_of (others_than c.args.armed.address.0 c.args.rows.now).slots c.loop-row.before ≡ Some c.in-Some.row = sym (shown c.args.armed.address.0 c.args.rows.now.slots c.loop-row.before c.loop-row.invariant.below.there) ∙ sym c.in-Some.ensures in
+    let found : node_row (others_than c.args.armed.address.0 c.args.rows.now).slots c.loop-row.before ≡ Some c.in-Some.row = sym (shown c.args.armed.address.0 c.args.rows.now.slots c.loop-row.before c.loop-row.invariant.below.there) ∙ sym c.in-Some.ensures in
     let there : row_at (others_than c.args.armed.address.0 c.args.rows.now).slots (c.loop-row.before - 1024) ≡ Some c.in-Some.row = (row_key (others_than c.args.armed.address.0 c.args.rows.now).slots c.loop-row.before c.in-Some.row found).1 in
     let row_fits : c.in-Some.row.address.0 < 2 ^ 128 = c.requires.wired.fits (c.loop-row.before - 1024) c.in-Some.row there in
     let lower : rank_of c.in-Some.row < rank_of c.args.armed = sooner_rank c.in-Some.row c.args.armed row_fits (sym c.if-is_before.ensures) in

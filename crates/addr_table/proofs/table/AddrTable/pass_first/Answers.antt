@@ -1,6 +1,6 @@
 use Rattle.std.proofs.Common.{◌≡◌, [], ap, sym, ◌∙◌, subst}
 use Rattle.fcfs_states.specs.Ageing.{behind}
-use Rattle.mix_rules.specs.Ageing.{due_in, aged_state}
+use Rattle.mix_rules.specs.Ageing.{due_next, aged_state}
 use Rattle.bind_table.specs.Rows.{state_in}
 use Rattle.bind_table.specs.Bindings.{Bindings}
 use Rattle.addr_table.specs.Addresses.{Addresses}
@@ -16,7 +16,7 @@ returns-in_err-due-clause-turn c =
 
 pub pass-probe-requires-clause-first : goal.pass-probe-requires-clause-first
 pass-probe-requires-clause-first c =
-    ap (due_in c.self.inside.times) c.get-state.ensures
+    ap (due_next c.self.inside.times) c.get-state.ensures
     ∙ own_due c.self.inside.times c.self.inside.per_port c.args.t c.self.inside.table c.self.inside.wheel c.in_ok-due.due c.in_ok-due.address c.self.invariant.0 c.self.invariant.1 c.in_ok-due.ensures.value
 
 pub set-requires-clause-row : goal.set-requires-clause-row

@@ -5,8 +5,8 @@ use Rattle.addr_index.specs.Indexes.{key_in}
 use Rattle.savi_kinds.specs.PortSets.{no_ports}
 use Rattle.mix_rules.specs.States.{nobody}
 use Rattle.bind_table.specs.declared.row.Row.{Row}
-use Rattle.bind_table.specs.Rows.{state_in, row_of, with_state}
-use Rattle.bind_table.specs.Places.{place_of}
+use Rattle.bind_table.specs.Rows.{state_in, address_row, with_state}
+use Rattle.bind_table.specs.Places.{count_below}
 use Rattle.bind_table.specs.Counts.{AreHolders}
 use Rattle.bind_table.specs.Kept.{rows_under, IsKept, HasRoom, HasPorts, HasHolders}
 use Rattle.bind_table.proofs.Keys.{keys_length}
@@ -29,8 +29,8 @@ recount-requires-clause-least c =
 pub renew-requires : goal.renew-requires
 renew-requires c = rw (row_by_key c.self.inside.rows c.self.inside.index c.self.inside.order.items c.self.inside.counts (rows_under c.self.inside.rows c.self.inside.order.items) c.args.a.0 c.in-Some.key c.self.invariant.0 (sym c.in-Some.ensures)) refl
 
-updates : (c : goal.After-renew) → Updates c.self.inside.rows c.renew.new.rows c.in-Some.key (Some (row_of c.args.a.0 c.args.s))
-updates c = c.renew.ensures.updates (row_of c.args.a.0 (state_in (rows_under c.self.inside.rows c.self.inside.order.items) c.args.a.0)) (row_by_key c.self.inside.rows c.self.inside.index c.self.inside.order.items c.self.inside.counts (rows_under c.self.inside.rows c.self.inside.order.items) c.args.a.0 c.in-Some.key c.self.invariant.0 (sym c.in-Some.ensures))
+updates : (c : goal.After-renew) → Updates c.self.inside.rows c.renew.new.rows c.in-Some.key (Some (address_row c.args.a.0 c.args.s))
+updates c = c.renew.ensures.updates (address_row c.args.a.0 (state_in (rows_under c.self.inside.rows c.self.inside.order.items) c.args.a.0)) (row_by_key c.self.inside.rows c.self.inside.index c.self.inside.order.items c.self.inside.counts (rows_under c.self.inside.rows c.self.inside.order.items) c.args.a.0 c.in-Some.key c.self.invariant.0 (sym c.in-Some.ensures))
 
 renewed_here : (c : goal.After-renew) → IsKept c.renew.new.rows c.self.inside.index c.self.inside.order.items c.recount.new.counts (with_state c.args.a.0 c.args.s (rows_under c.self.inside.rows c.self.inside.order.items))
 renewed_here c =
@@ -69,7 +69,7 @@ insert_reserved-key-requires c =
 
 pub insert-requires-clause-place : goal.insert-requires-clause-place
 insert-requires-clause-place c =
-    let place : c.count_lower-at.result ≡ place_of c.args.a.0 (rows_under c.self.inside.rows c.self.inside.order.items) = rw (← c.as_slice.ensures.value) c.count_lower-at.ensures in
+    let place : c.count_lower-at.result ≡ count_below c.args.a.0 (rows_under c.self.inside.rows c.self.inside.order.items) = rw (← c.as_slice.ensures.value) c.count_lower-at.ensures in
     place_within c.self.inside.rows c.self.inside.index c.self.inside.order.items c.self.inside.counts (rows_under c.self.inside.rows c.self.inside.order.items) c.args.a.0 c.count_lower-at.result c.self.invariant.0 (sym c.in-None.ensures) place
 
 pub insert-requires-clause-room : goal.insert-requires-clause-room
@@ -88,7 +88,7 @@ inserted_here c =
     let slab : Slab Row = c.self.inside.rows in
     let rows : List Row = rows_under c.self.inside.rows c.self.inside.order.items in
     let is : key_in c.self.inside.index c.args.a.0 ≡ None = sym c.in-None.ensures in
-    let place : c.count_lower-at.result ≡ place_of c.args.a.0 rows = rw (← c.as_slice.ensures.value) c.count_lower-at.ensures in
+    let place : c.count_lower-at.result ≡ count_below c.args.a.0 rows = rw (← c.as_slice.ensures.value) c.count_lower-at.ensures in
     let none : AreHolders nobody c.empty.result = subst (AreHolders nobody) (sym c.empty.ensures) nobody_held in
     rw c.insert.ensures.items
     (inserted c.self.inside.rows c.insert_reserved-key.new.self c.self.inside.index c.insert-in-None.new.self c.self.inside.order.items c.self.inside.counts c.recount-in-None.new.counts rows c.args.a.0 c.insert_reserved-key.result c.count_lower-at.result c.args.s c.self.invariant.0 is place c.requires.state c.insert_reserved-key.ensures.was_vacant c.insert_reserved-key.ensures.updates c.insert_reserved-key.ensures.len c.insert-in-None.ensures.keys c.insert-in-None.ensures.len

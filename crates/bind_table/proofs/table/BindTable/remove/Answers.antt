@@ -4,8 +4,8 @@ use Rattle.addr_index.specs.Indexes.{key_in}
 use Rattle.savi_kinds.specs.PortSets.{no_ports}
 use Rattle.mix_rules.specs.States.{nobody}
 use Rattle.bind_table.specs.declared.row.Row.{Row}
-use Rattle.bind_table.specs.Rows.{state_in, with_state, row_of}
-use Rattle.bind_table.specs.Places.{place_of}
+use Rattle.bind_table.specs.Rows.{state_in, with_state, address_row}
+use Rattle.bind_table.specs.Places.{count_below}
 use Rattle.bind_table.specs.Bindings.{Bindings}
 use Rattle.bind_table.specs.Counts.{AreHolders}
 use Rattle.bind_table.specs.Kept.{rows_under, IsKept, HasRoom, HasPorts}
@@ -20,7 +20,7 @@ returns-in_default c =
     let rows : List Row = rows_under c.self.inside.rows c.self.inside.order.items in
     let is : key_in c.self.inside.index c.args.a.0 ≡ None = sym c.in_default.ensures in
     subst (λ (t : Bindings). t ≡ record { rows = with_state c.args.a.0 nobody t.rows; most = t.most }) c.self.view_is
-    (ap (λ (xs : List Row). table_of xs c.self.inside.most) (nothing_there c.args.a.0 rows (place_of c.args.a.0 rows) c.self.invariant.0.rising c.self.invariant.0.stand (belongs_without_key c.self.inside.rows c.self.inside.index c.self.inside.order.items c.self.inside.counts rows c.args.a.0 c.self.invariant.0 is)))
+    (ap (λ (xs : List Row). table_of xs c.self.inside.most) (nothing_there c.args.a.0 rows (count_below c.args.a.0 rows) c.self.invariant.0.rising c.self.invariant.0.stand (belongs_without_key c.self.inside.rows c.self.inside.index c.self.inside.order.items c.self.inside.counts rows c.args.a.0 c.self.invariant.0 is)))
 
 pub index-requires : goal.index-requires
 index-requires c = omega (arith, (ports_of c.self.inside.rows c.self.inside.index c.self.inside.order.items c.self.inside.counts (rows_under c.self.inside.rows c.self.inside.order.items) c.self.inside.held.items c.args.a.0 c.in-Some.key c.self.invariant.0 c.self.invariant.2 (sym c.in-Some.ensures)).within, c.self.inside.held.ok.0)
@@ -28,7 +28,7 @@ index-requires c = omega (arith, (ports_of c.self.inside.rows c.self.inside.inde
 pub remove-requires : goal.remove-requires
 remove-requires c =
     let rows : List Row = rows_under c.self.inside.rows c.self.inside.order.items in
-    let place : c.count_lower-at.result ≡ place_of c.args.a.0 rows = rw (← c.as_slice.ensures.value) c.count_lower-at.ensures in
+    let place : c.count_lower-at.result ≡ count_below c.args.a.0 rows = rw (← c.as_slice.ensures.value) c.count_lower-at.ensures in
     omega (arith, place_below c.self.inside.rows c.self.inside.index c.self.inside.order.items c.self.inside.counts rows c.args.a.0 c.in-Some.key c.count_lower-at.result c.self.invariant.0 (sym c.in-Some.ensures) place, c.self.inside.order.ok.0)
 
 pub recount-requires-clause-least : goal.recount-requires-clause-least
@@ -49,8 +49,8 @@ removed_here : (c : goal.After-recount) → IsKept c.try_remove.new.self c.remov
 removed_here c =
     let rows : List Row = rows_under c.self.inside.rows c.self.inside.order.items in
     let is : key_in c.self.inside.index c.args.a.0 ≡ Some c.in-Some.key = sym c.in-Some.ensures in
-    let place : c.count_lower-at.result ≡ place_of c.args.a.0 rows = rw (← c.as_slice.ensures.value) c.count_lower-at.ensures in
-    let row : get c.self.inside.rows c.in-Some.key ≡ Some (row_of c.args.a.0 (state_in rows c.args.a.0)) = row_by_key c.self.inside.rows c.self.inside.index c.self.inside.order.items c.self.inside.counts (rows_under c.self.inside.rows c.self.inside.order.items) c.args.a.0 c.in-Some.key c.self.invariant.0 is in
+    let place : c.count_lower-at.result ≡ count_below c.args.a.0 rows = rw (← c.as_slice.ensures.value) c.count_lower-at.ensures in
+    let row : get c.self.inside.rows c.in-Some.key ≡ Some (address_row c.args.a.0 (state_in rows c.args.a.0)) = row_by_key c.self.inside.rows c.self.inside.index c.self.inside.order.items c.self.inside.counts (rows_under c.self.inside.rows c.self.inside.order.items) c.args.a.0 c.in-Some.key c.self.invariant.0 is in
     let len : slab_len c.try_remove.new.self + 1 ≡ slab_len c.self.inside.rows = subst (λ (o : Option Row). OnSome o (slab_len c.try_remove.new.self + 1 ≡ slab_len c.self.inside.rows)) (c.try_remove.ensures.value ∙ row) c.try_remove.ensures.len in
     let there : HasPorts c.self.inside.held.items c.in-Some.key (state_in rows c.args.a.0) = ports_of c.self.inside.rows c.self.inside.index c.self.inside.order.items c.self.inside.counts (rows_under c.self.inside.rows c.self.inside.order.items) c.self.inside.held.items c.args.a.0 c.in-Some.key c.self.invariant.0 c.self.invariant.2 is in
     let same : c.index.result.now ≡ get_or c.self.inside.held.items c.in-Some.key no_ports = read_ports c.self.inside.held.items c.in-Some.key c.index.result.now there.within c.index.ensures in

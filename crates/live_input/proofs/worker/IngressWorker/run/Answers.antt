@@ -4,7 +4,7 @@ use Rattle.savi_kinds.specs.declared.entry.Who.TheVariants.{Ingress}
 use Rattle.table_lock.specs.declared.pass.Pass.{Pass}
 use Rattle.hist_store.specs.Rows.{Row}
 use Rattle.core_keep.specs.Seen.{past_seen}
-use Rattle.live_turns.specs.Seats.{HasEnded, IsAt, IsRunning}
+use Rattle.live_turns.specs.Seats.{IsEndedPass, IsAt, IsRunning}
 use Rattle.live_turns.proofs.Seating.{new_runs}
 use Rattle.live_input.specs.Progress.{GoesOn}
 use Rattle.live_input.proofs.Going.{goes_first, left_row}
@@ -28,7 +28,7 @@ returns-then-not-goes_on g c =
     record {
       port = refl;
       format = refl;
-      ended = subst (λ (pass : Pass). HasEnded c.args.lock.now (Ingress worker.port) pass) (sym c.into_pass.ensures) at_end;
+      ended = subst (λ (pass : Pass). IsEndedPass c.args.lock.now (Ingress worker.port) pass) (sym c.into_pass.ensures) at_end;
       row = left_row g.S.Source.left g.S.Source.faults g.C.Clock.readings worker.format (number_of worker.port) worker.source worker.clock c.enter_next-back.new.input (past_seen turns.pass) (past_seen c.into_pass.result) c.into_ends-source.result.0 c.into_ends-source.result.1 c.enter_next-back.result.1
           c.if-not-goes_on.true (c.enter_next-back.ensures.left worker.format worker.source worker.clock c.loop.invariant.goes) c.into_ends-source.ensures.source c.into_ends-source.ensures.clock (ap past_seen c.into_pass.ensures);
     }

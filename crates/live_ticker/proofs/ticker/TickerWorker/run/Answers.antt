@@ -1,7 +1,7 @@
 use Rattle.std.proofs.Common.{sym, subst}
 use Rattle.savi_kinds.specs.declared.entry.Who.TheVariants.{Ticker}
 use Rattle.core_keep.specs.Seen.{past_seen}
-use Rattle.live_turns.specs.Seats.{IsNew, lock_plan}
+use Rattle.live_turns.specs.Seats.{IsNewPass, lock_plan}
 use Rattle.live_turns.proofs.Seating.{new_runs}
 use Rattle.live_turns.specs.declared.kinds.TickTurn.TheVariants as ticks
 use Rattle.live_ticker.proofs.Reading.{at_as, full_row, idle_tick, last_row, made_tick, nothing_yet, row_as, turned_as}
@@ -9,7 +9,7 @@ use Rattle.live_ticker.proofs.ticker.TickerWorker.run.Goals as goal
 
 pub loop-init : goal.loop-init
 loop-init g c =
-    let new : IsNew c.args.lock.now Ticker c.new-turns.result.pass = subst (IsNew c.args.lock.now Ticker) (sym c.new-turns.ensures) c.requires in
+    let new : IsNewPass c.args.lock.now Ticker c.new-turns.result.pass = subst (IsNewPass c.args.lock.now Ticker) (sym c.new-turns.ensures) c.requires in
     record {
       running = new_runs c.args.lock.now Ticker c.new-turns.result.pass new;
       ticked = nothing_yet (lock_plan c.args.lock.now) (past_seen c.new-turns.result.pass) (g.C.Clock.readings c.args.self.clock) new.nothing;

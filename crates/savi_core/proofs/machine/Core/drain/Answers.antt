@@ -14,7 +14,7 @@ use Rattle.savi_core.specs.Machines.{Machine, queue_at, with_event}
 use Rattle.savi_core.specs.Steps.{entry_of, count_of}
 use Rattle.savi_core.specs.Lanes.{Lane, no_lane}
 use Rattle.savi_core.specs.Rings.{Rings}
-use Rattle.savi_core.specs.Waits.{shown}
+use Rattle.savi_core.specs.Waits.{queued_item}
 use Rattle.savi_core.proofs.Remembering.{waits_at}
 use Rattle.savi_core.proofs.Showing.{lane_at, lane_in, there_in}
 use Rattle.savi_core.proofs.Stepping.{row, drain_fits, remembers_drain, stepped_view}
@@ -114,7 +114,7 @@ returns c =
     let count_is : count ≡ count_of m port c.args.most = c.min-count.ensures ∙ ap (min c.args.most) waits in
     let e_is = subst (λ (x : Machine). e ≡ entry_of x (events.Drain port count)) (sym c.self.view_is) c.drain_entry-entry.ensures in (
       (λ none. c.if-count-eq0.false (omega (arith, count_is, ap length none))),
-      c.drain.ensures.taken ∙ ap (λ (p : Plan). take count (map (shown p.mac rows) (get_or inside.queues.lanes c.place_of-place.result no_lane).items)) c.plan.ensures.plan
+      c.drain.ensures.taken ∙ ap (λ (p : Plan). take count (map (queued_item p.mac rows) (get_or inside.queues.lanes c.place_of-place.result no_lane).items)) c.plan.ensures.plan
           ∙ ap (take count) (items_are ∙ queue_is) ∙ ap (λ n. take n (queue_at m port)) count_is,
       rw c.append.ensures (stepped_view inside.ports rows e [] (events.Drain port count) m c.self.view_is (ap (λ (x : Entry). row x []) e_is)
           ∙ ap (λ n. with_event m (events.Drain port n)) count_is),

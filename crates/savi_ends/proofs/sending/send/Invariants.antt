@@ -1,7 +1,7 @@
 -- What is gone from `rest` was written.
 use Rattle.std.proofs.Common.{◌≡◌, ℕ, List, ◌++◌, length}
 use Rattle.std.specs.Io.KnownBytes.{Appends}
-use Rattle.socket_ends.proofs.sending.send.Given as goal
+use Rattle.savi_ends.proofs.sending.send.Given as goal
 
 abbrev pub invariant-loop-rest : goal.invariant-loop-rest
 invariant-loop-rest g l = (sent : List ℕ) × (l.initial.rest ≡ sent ++ l.rest) × Appends (g.W.Write.contents l.initial.writer) (g.W.Write.contents l.writer) sent

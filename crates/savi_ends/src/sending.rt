@@ -4,12 +4,12 @@ ghost use Rattle.std.specs.Prelude.{◌≡◌, List, ℕ};
 ghost use Rattle.std.specs.Io.KnownBytes.{Appends};
 ghost use Rattle.savi_ends.specs.Octets.{IsFront};
 
-use savi_ends::Put;
+use crate::sink::Put;
 use std::io::Write;
 
 /// Writes a piece, in as many writes as the writer makes of it. `Failed` where a write failed or took nothing; then a front
 /// of the piece was written.
-pub(crate) fn send<W: Write>(writer: &mut W, piece: &[u8]) -> Put
+pub fn send<W: Write>(writer: &mut W, piece: &[u8]) -> Put
     ensures done { result ≡ Put.Done → Appends (W.contents writer.old) (W.contents writer.new) piece.now }
     ensures part { result ≡ Put.Failed → (front : List ℕ) × IsFront front piece.now × Appends (W.contents writer.old) (W.contents writer.new) front }
 {

@@ -3,7 +3,10 @@ use Rattle.savi_kinds.specs.declared.plan.Plan.{Plan}
 use Rattle.savi_kinds.specs.Ports.{number_of}
 use Rattle.savi_kinds.specs.ValidPlan.{IsValidPlan}
 use Rattle.savi_kinds.specs.declared.entry.Entry.{Entry}
+use Rattle.savi_kinds.specs.declared.entry.Act.{Act}
+use Rattle.savi_kinds.specs.declared.entry.Act.TheVariants as acts
 use Rattle.egress_ring.specs.declared.item.Item.TheVariants as queued
+use Rattle.hist_store.specs.Rows.{held, IsPlaced}
 use Rattle.savi_access.specs.Plans.{rules_of}
 use Rattle.access_table.specs.Kept.{IsReady}
 use Rattle.savi_history.specs.Bases.{empty, access_of}
@@ -38,7 +41,7 @@ use Rattle.savi_core.proofs.Knowing.{place_is, knows_frame}
 use Rattle.savi_core.proofs.Telling.{tells_frame}
 use Rattle.savi_core.proofs.AgedAndJudged.{early_now, judged_here, verdict_now, states_after, shows_framed, counts_framed}
 use Rattle.savi_core.proofs.Stepping.{row, may_frame, remembers_frame, stepped_view}
-use Rattle.savi_core.proofs.machine.Core.frame.Goals as goal
+use Rattle.savi_core.proofs.machine.Core.enter_frame.Goals as goal
 
 moment_is : (c : goal.After-append) → c.moment_at-moment.result ≡ moment_at empty (reverse c.self.inside.hist.rows) c.args.stamp
 moment_is c = c.moment_at-moment.ensures ∙ ap (λ n. max n (min c.args.stamp (2 ^ 62))) c.self.invariant.0.last
@@ -83,7 +86,7 @@ counts c =
 may : (c : goal.After-append) → MayCome c.self.inside.ports empty (reverse c.self.inside.hist.rows) (events.Frame c.args.port c.args.stamp c.args.octets.now)
 may c =
     let event = events.Frame c.args.port c.args.stamp c.args.octets.now in
-    subst (λ (m : Machine). MayCome m.plan (base_of m) m.past event) (sym c.self.view_is) (may_frame c.args.self.now c.args.port c.args.stamp c.args.octets.now c.requires.may (sym c.has_room.ensures ∙ c.if-not-has_room.false) c.ranges.stamp.fits)
+    subst (λ (m : Machine). MayCome m.plan (base_of m) m.past event) (sym c.self.view_is) (may_frame c.args.self.now c.args.port c.args.stamp c.args.octets.now c.requires.may c.requires.room c.ranges.stamp.fits)
 
 -- the ports that are shut stay so
 still_shut : (c : goal.After-append) → c.judge-verdict.new.queues.shut ≡ c.self.inside.queues.shut
@@ -97,7 +100,10 @@ abbrev inner : (c : goal.After-append) → Machine
 inner c = record { plan = c.self.inside.ports; past = reverse c.self.inside.hist.rows }
 
 abbrev made_now : (c : goal.After-append) → Entry
-made_now c = made c.args.port c.args.stamp (length c.args.octets.now) c.pass_of-by.result c.moment_at-moment.result c.held.result c.judge-verdict.result c.outs-outs.result c.offer_frame-cuts.result c.queued.result c.lost.result
+made_now c = made c.pass_of-by.result c.moment_at-moment.result c.frame_act-act.result c.judge-verdict.result c.outs-outs.result c.offer_frame-cuts.result c.queued.result c.lost.result
+
+act_is : (c : goal.After-append) → c.frame_act-act.result ≡ events.frame_act (reverse c.self.inside.hist.rows) c.args.port c.args.stamp c.args.octets.now
+act_is c = c.frame_act-act.ensures ∙ sym (ap (λ (m : Machine). events.frame_act m.past c.args.port c.args.stamp c.args.octets.now) c.self.view_is)
 
 inner_is : (c : goal.After-append) → made_now c ≡ entry_of (inner c) (events.Frame c.args.port c.args.stamp c.args.octets.now)
 inner_is c =
@@ -109,10 +115,10 @@ inner_is c =
     let act = events.frame_act past port stamp octets in
     let verdict = c.judge-verdict.result in
     let later : inside.moment ≤ c.moment_at-moment.result = omega (arith, c.moment_at-moment.ensures) in
-    frame_entry_is (inner c) port stamp octets c.pass_of-by.result c.moment_at-moment.result c.held.result verdict c.outs-outs.result c.offer_frame-cuts.result c.queued.result c.lost.result
+    frame_entry_is (inner c) port stamp octets c.pass_of-by.result c.moment_at-moment.result c.frame_act-act.result verdict c.outs-outs.result c.offer_frame-cuts.result c.queued.result c.lost.result
     c.pass_of-by.ensures
     (moment_is c)
-    (c.held.ensures ∙ sym (held-reverse inside.hist.rows))
+    (act_is c)
     (verdict_now c.self.invariant.0 inside.access c.self.invariant.5 c.judge-verdict.new.access inside.queues c.judge-verdict.new.queues refl refl c.moment_at-moment.result stamp (moment_is c) port octets c.args.class.now c.requires.class verdict (judges c))
     (open_outs inside.ports empty past (outs_by inside.ports (number_of port) (port_among (live_at c.moment_at-moment.result inside.fdb) (eth_of c.args.class.now)) verdict) c.outs-outs.result c.outs-outs.ensures.known
     (λ n least. c.outs-outs.ensures.outs n least ∙ ap (λ (shut : ℕ → Bool). is_member (outs_by inside.ports (number_of port) (port_among (live_at c.moment_at-moment.result inside.fdb) (eth_of c.args.class.now)) verdict) n && not (shut n)) (shut_now c))
@@ -139,12 +145,19 @@ teach-requires c = early_now c.self.invariant.0 c.args.stamp c.moment_at-moment.
 pub append-requires-clause-bytes : goal.append-requires-clause-bytes
 append-requires-clause-bytes c =
     let event = events.Frame c.args.port c.args.stamp c.args.octets.now in
-    let may_come = subst (λ (m : Machine). MayCome m.plan (base_of m) m.past event) (sym c.self.view_is) (may_frame c.args.self.now c.args.port c.args.stamp c.args.octets.now c.requires.may (sym c.has_room.ensures ∙ c.if-not-has_room.false) c.ranges.stamp.fits) in
+    let may_come = subst (λ (m : Machine). MayCome m.plan (base_of m) m.past event) (sym c.self.view_is) (may_frame c.args.self.now c.args.port c.args.stamp c.args.octets.now c.requires.may c.requires.room c.ranges.stamp.fits) in
     omega (arith, (room_for c.self.invariant.0 may_come.0.room).1, may_come.1, c.self.invariant.2)
+
+pub append-requires-clause-placed : goal.append-requires-clause-placed
+append-requires-clause-placed c =
+    let placed : c.frame_act-act.result ≡ acts.Frame c.args.port c.args.stamp (held c.self.inside.hist.rows) (length c.args.octets.now) =
+    c.frame_act-act.ensures ∙ sym (ap (λ (m : Machine). events.frame_act m.past c.args.port c.args.stamp c.args.octets.now) c.self.view_is)
+    ∙ ap (λ (n : ℕ). acts.Frame c.args.port c.args.stamp n (length c.args.octets.now)) (held-reverse c.self.inside.hist.rows) in
+    subst (λ (act : Act). IsPlaced act (held c.self.inside.hist.rows) c.args.octets.now) (sym placed) (refl, refl)
 
 pub add-requires : goal.add-requires
 add-requires c =
-    let room = subst (λ (m : Machine). has_room m.plan m.past ≡ true) (sym c.self.view_is) (sym c.has_room.ensures ∙ c.if-not-has_room.false) in
+    let room = subst (λ (m : Machine). has_room m.plan m.past ≡ true) (sym c.self.view_is) c.requires.room in
     few_counted_before c.self.invariant.0 c.self.inside.tally c.self.invariant.7 room
 
 pub invariant_of-self : goal.invariant_of-self
@@ -154,7 +167,7 @@ invariant_of-self c =
     let stamp = c.args.stamp in
     let octets = c.args.octets.now in
     let e = made_now c in
-    let lanes_are = ap (λ (r : Rings). r.lanes) c.offer_frame-cuts.ensures.lanes ∙ ap (λ n. map (with_frame (queued.Frame n) c.outs-outs.result) c.judge-verdict.new.queues.lanes) c.len-2.ensures.len in
+    let lanes_are = ap (λ (r : Rings). r.lanes) c.offer_frame-cuts.ensures.lanes ∙ ap (λ n. map (with_frame (queued.Frame n) c.outs-outs.result) c.judge-verdict.new.queues.lanes) c.len.ensures.len in
     let states = states_after c.self.invariant.0 inside.access c.self.invariant.5 c.judge-verdict.new.access inside.queues c.judge-verdict.new.queues refl refl c.moment_at-moment.result stamp (moment_is c) port octets c.args.class.now c.requires.class c.judge-verdict.result (judges c) in
     rw c.append.ensures (
       shut_as (sym (ap (λ (r : Rings). r.shut) c.offer_frame-cuts.ensures.lanes ∙ still_shut c)) (remembers_frame c.self.invariant.0 port stamp octets e c.judge-verdict.new.queues.lanes c.offer_frame-cuts.new.self.lanes (may c) (inner_is c) (before c) lanes_are),
@@ -167,12 +180,11 @@ invariant_of-self c =
       counted_too c.self.invariant.0 inside.tally c.add.new.self e octets c.self.invariant.7 c.add.ensures,
     )
 
-pub returns : goal.returns
-returns c =
+pub returns-clause-entered : goal.returns-clause-entered
+returns-clause-entered c =
     let inside = c.self.inside in
-    let octets = c.args.octets.now in (
-      sym c.has_room.ensures ∙ c.if-not-has_room.false,
-      tt,
-      rw c.append.ensures (stepped_view inside.ports inside.hist.rows (made_now c) octets (events.Frame c.args.port c.args.stamp octets) c.args.self.now c.self.view_is (ap (λ (x : Entry). row x octets) (inner_is c))),
-      entry_is c,
-    )
+    let octets = c.args.octets.now in
+    rw c.append.ensures (stepped_view inside.ports inside.hist.rows (made_now c) octets (events.Frame c.args.port c.args.stamp octets) c.args.self.now c.self.view_is (ap (λ (x : Entry). row x octets) (inner_is c)))
+
+pub returns-clause-entry : goal.returns-clause-entry
+returns-clause-entry c = entry_is c
