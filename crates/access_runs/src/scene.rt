@@ -3,7 +3,7 @@
 ghost use Rattle.std.specs.Prelude.{◌≡◌, ◌≤◌, ◌^◌, ℕ};
 ghost use Rattle.savi_kinds.specs.ValidPlan.{IsValidPlan};
 ghost use Rattle.savi_access.specs.Plans.{rules_of};
-ghost use Rattle.access_table.specs.Kept.{IsReady};
+ghost use Rattle.access_table.specs.Kept.{IsAgedTo};
 
 use crate::switch::{age, at_start, verdict_on};
 use access_table::AccessTable;
@@ -119,8 +119,8 @@ fn follow(
     line: &str,
 ) -> anyhow::Result<()>
     requires plan { IsValidPlan plan.now }
-    requires ready { (from : ℕ) × IsReady (rules_of plan.now) from table.old }
-    ensures { (from : ℕ) × IsReady (rules_of plan.now) from table.new }
+    requires ready { (from : ℕ) × IsAgedTo (rules_of plan.now) from table.old }
+    ensures { (from : ℕ) × IsAgedTo (rules_of plan.now) from table.new }
 {
     let mut words = line.split(' ');
     match (words.next(), words.next(), words.next(), words.next()) {
@@ -141,8 +141,8 @@ fn enter(
     words: (&str, &str, &str),
 ) -> anyhow::Result<()>
     requires plan { IsValidPlan plan.now }
-    requires ready { (from : ℕ) × IsReady (rules_of plan.now) from table.old }
-    ensures { (from : ℕ) × IsReady (rules_of plan.now) from table.new }
+    requires ready { (from : ℕ) × IsAgedTo (rules_of plan.now) from table.old }
+    ensures { (from : ℕ) × IsAgedTo (rules_of plan.now) from table.new }
 {
     let (number, moment, name) = words;
     let t = moment_of(moment);
@@ -159,8 +159,8 @@ fn enter(
 
 // The states at a moment.
 fn show(rt: &impl Print, table: &mut AccessTable, plan: &Plan, moment: &str) -> anyhow::Result<()>
-    requires ready { (from : ℕ) × IsReady (rules_of plan.now) from table.old }
-    ensures { (from : ℕ) × IsReady (rules_of plan.now) from table.new }
+    requires ready { (from : ℕ) × IsAgedTo (rules_of plan.now) from table.old }
+    ensures { (from : ℕ) × IsAgedTo (rules_of plan.now) from table.new }
 {
     age(table, plan, moment_of(moment));
     println!(rt; "at {moment}:")?;

@@ -4,7 +4,7 @@ ghost use Rattle.std.specs.Prelude.{◌≡◌, ◌≤◌, ◌^◌, ℕ, IfOk};
 ghost use Rattle.savi_kinds.specs.Ports.{number_of};
 ghost use Rattle.savi_kinds.specs.ValidPlan.{IsValidPlan};
 ghost use Rattle.savi_access.specs.Plans.{rules_of, has_port};
-ghost use Rattle.access_table.specs.Kept.{IsReady};
+ghost use Rattle.access_table.specs.Kept.{IsAgedTo};
 
 use access_table::AccessTable;
 use addr_table::{ProbeSink, SentProbe};
@@ -25,7 +25,7 @@ impl ProbeSink for Silent {
 /// Nothing was told yet.
 pub fn at_start(alloc: Global, plan: &Plan) -> Result<AccessTable, AllocError>
     requires { IsValidPlan plan.now }
-    ensures { IfOk result (λ table. (from : ℕ) × IsReady (rules_of plan.now) from table) }
+    ensures { IfOk result (λ table. (from : ℕ) × IsAgedTo (rules_of plan.now) from table) }
 {
     AccessTable::make(alloc, plan)
 }
@@ -33,8 +33,8 @@ pub fn at_start(alloc: Global, plan: &Plan) -> Result<AccessTable, AllocError>
 /// Ages all states to `t` (ms).
 pub fn age(table: &mut AccessTable, plan: &Plan, t: Moment)
     requires moment { t ≤ 2 ^ 62 }
-    requires ready { (from : ℕ) × IsReady (rules_of plan.now) from table.old }
-    ensures { IsReady (rules_of plan.now) t table.new }
+    requires ready { (from : ℕ) × IsAgedTo (rules_of plan.now) from table.old }
+    ensures { IsAgedTo (rules_of plan.now) t table.new }
 {
     let mut sink = Silent;
     table.age_to(t, &mut sink);
@@ -50,8 +50,8 @@ pub fn verdict_on(
 ) -> Option<Verdict>
     requires plan { IsValidPlan plan.now }
     requires moment { t ≤ 2 ^ 62 }
-    requires ready { (from : ℕ) × IsReady (rules_of plan.now) from table.old }
-    ensures { IsReady (rules_of plan.now) t table.new }
+    requires ready { (from : ℕ) × IsAgedTo (rules_of plan.now) from table.old }
+    ensures { IsAgedTo (rules_of plan.now) t table.new }
 {
     age(table, plan, t);
     if octets.len() > FRAME_OCTETS_MOST || !has_port(plan, port) {

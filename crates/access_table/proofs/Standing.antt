@@ -36,7 +36,7 @@ use Rattle.savi_access.specs.Judged.{named_for, answer_to, with_event, with_even
 use Rattle.savi_access.proofs.States.{none_some}
 use Rattle.savi_access.proofs.Requests.{open_with, open_without}
 use Rattle.savi_access.proofs.Keeping.{told_follows}
-use Rattle.access_table.specs.Kept.{Kept, Represents, IsReady}
+use Rattle.access_table.specs.Kept.{Kept, Represents, IsAgedTo}
 
 -- where none asked there is nothing to take away
 pub none_without : (tid : ℕ) (duid : List ℕ) (requests : List Request) → asker tid duid requests ≡ None → without_pair tid duid requests ≡ requests
@@ -178,9 +178,9 @@ events_more r base port t event (first ∷ leases) lease past =
     events_more r base port t event leases lease (if is_on_link r base 1 port t first.address.0 then with_event r base 1 port t first.address.0 (event first) past else past)
 
 -- after an event all states are still aged, and sound
-pub event_ready : (r : AccessRules) (t : ℕ) (old new : Kept) (a : ℕ) (m : Method) (rows : List Row) → IsReady r t old → r.addresses.method_of 1 a ≡ Some m → new.addresses ≡ record old.addresses { rows = rows } → AllStill old.addresses.times t new.addresses.rows
+pub event_ready : (r : AccessRules) (t : ℕ) (old new : Kept) (a : ℕ) (m : Method) (rows : List Row) → IsAgedTo r t old → r.addresses.method_of 1 a ≡ Some m → new.addresses ≡ record old.addresses { rows = rows } → AllStill old.addresses.times t new.addresses.rows
     → ((method_of : ℕ → Option Method) → method_of a ≡ Some m → AreSound method_of old.addresses.rows → AreSound method_of new.addresses.rows)
-    → IsReady r t new
+    → IsAgedTo r t new
 event_ready r t old new a m rows ready found addresses still sound = record {
   still = subst (λ (k : Times). AllStill k t new.addresses.rows) (sym (ap (λ (x : Addresses). x.times) addresses)) still;
   sound = sound (r.addresses.method_of 1) found ready.sound;

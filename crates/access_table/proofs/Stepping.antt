@@ -25,8 +25,8 @@ use Rattle.access_table.specs.declared.change.Change.{Change}
 use Rattle.access_table.specs.declared.change.Change.TheVariants.{Released, Leased}
 use Rattle.access_table.specs.declared.judgement.Judgement.{Judgement}
 use Rattle.access_table.specs.Kept.{Kept, Represents}
-use Rattle.access_table.specs.Events.{port_of, event_of}
-use Rattle.access_table.specs.Steps.{AnswersEvent, Hears, Moves, ComesTo, Follows}
+use Rattle.access_table.specs.Events.{change_port, change_event}
+use Rattle.access_table.specs.Steps.{AnswersEvent, Hears, Moves, ComesTo, FollowsStep}
 use Rattle.access_table.proofs.Standing.{events_more}
 
 module _ (r : AccessRules) (t : ℕ) where
@@ -43,7 +43,7 @@ module _ (r : AccessRules) (t : ℕ) where
         kept = is.kept;
       })
 
-  own_event : (change : Change) (lease : Offered) → r.addresses.vlan_of (number_of (port_of change)) ≡ Some 1 → IsOfVlan r.addresses 1 (event_port (event_of change lease))
+  own_event : (change : Change) (lease : Offered) → r.addresses.vlan_of (number_of (change_port change)) ≡ Some 1 → IsOfVlan r.addresses 1 (event_port (change_event change lease))
   own_event (Released p) lease own = own
   own_event (Leased p) lease own = own
 
@@ -57,14 +57,14 @@ module _ (r : AccessRules) (t : ℕ) where
 
   -- one address more of a message
   pub one_more : (port : Port) (change : Change) (start old new : Kept) (leases : List Offered) (lease : Offered) (event : Ev) (o : Option Answer)
-      → event ≡ event_of change lease → r.addresses.vlan_of (number_of (port_of change)) ≡ Some 1
-      → Moves r t start old (λ base past. with_events r base 1 port t (event_of change) leases past)
+      → event ≡ change_event change lease → r.addresses.vlan_of (number_of (change_port change)) ≡ Some 1
+      → Moves r t start old (λ base past. with_events r base 1 port t (change_event change) leases past)
       → Hears r t old new lease.address.0 event o
-      → Moves r t start new (λ base past. with_events r base 1 port t (event_of change) (leases ++ lease ∷ []) past)
+      → Moves r t start new (λ base past. with_events r base 1 port t (change_event change) (leases ++ lease ∷ []) past)
   one_more port change start old new leases lease event o same own told heard = λ base past is.
-      let marks : List Mark = with_events r base 1 port t (event_of change) leases past in
-      subst (λ (ms : List Mark). Represents r base ms t new) (sym (events_more r base port t (event_of change) leases lease past))
-      (told_here port base old new lease.address.0 (event_of change lease) marks o (own_event change lease own) (subst (λ (e : Ev). Hears r t old new lease.address.0 e o) same heard) (told base past is))
+      let marks : List Mark = with_events r base 1 port t (change_event change) leases past in
+      subst (λ (ms : List Mark). Represents r base ms t new) (sym (events_more r base port t (change_event change) leases lease past))
+      (told_here port base old new lease.address.0 (change_event change lease) marks o (own_event change lease own) (subst (λ (e : Ev). Hears r t old new lease.address.0 e o) same heard) (told base past is))
 
   -- a Reply without a DUID, or another message
   replied_none : (base : AccessBase) (port : Port) (past : List Mark) (dhcp : Dhcp) (s : Option (ArrayVec ℕ)) → None ≡ option_map (λ (d : ArrayVec ℕ). d.items) s → replied r base 1 port t past dhcp s ≡ past
@@ -87,7 +87,7 @@ module _ (r : AccessRules) (t : ℕ) where
 
   pub reply_asked : (port : Port) (old between new : Kept) (dhcp : Dhcp) (s : Option (ArrayVec ℕ)) (duid : List ℕ) (q : Port) → Some duid ≡ option_map (λ (d : ArrayVec ℕ). d.items) s → Some q ≡ asker dhcp.tid duid (open_at t old.requests)
       → Moves r t old between (λ base past. Met 1 t dhcp.tid duid ∷ past)
-      → (r.addresses.vlan_of (number_of q) ≡ Some 1 → Moves r t between new (λ base past. with_events r base 1 port t (event_of (Leased q)) dhcp.leases.items past))
+      → (r.addresses.vlan_of (number_of q) ≡ Some 1 → Moves r t between new (λ base past. with_events r base 1 port t (change_event (Leased q)) dhcp.leases.items past))
       → Moves r t old new (λ base past. replied r base 1 port t past dhcp s)
   reply_asked port old between new dhcp s duid q own asks met told = λ base past is.
       let here : asker dhcp.tid duid (open_requests base 1 past t) ≡ Some q = ap (asker dhcp.tid duid) (sym is.requests) ∙ sym asks in
@@ -104,7 +104,7 @@ module _ (r : AccessRules) (t : ℕ) where
 
   pub asks_for : (port : Port) (old new : Kept) (dhcp : Dhcp) (s : Option (ArrayVec ℕ)) (duid : List ℕ) (o : Option Rule) (result : Judgement) → Some duid ≡ option_map (λ (d : ArrayVec ℕ). d.items) s → o ≡ refusal (number_of port) dhcp.tid duid (open_at t old.requests)
       → ((base : AccessBase) (past : List Mark) → Represents r base past t old → ComesTo r base t new result (asked_by r base 1 port t past dhcp.tid duid o))
-      → Follows r t old new result (λ base past. to_server_by r base 1 port t past dhcp s)
+      → FollowsStep r t old new result (λ base past. to_server_by r base 1 port t past dhcp s)
   asks_for port old new dhcp s duid o result own refused comes = λ base past is.
       subst (λ (j : Judged). ComesTo r base t new result j) (sym (to_server_some base port past dhcp s duid o own (ap (refusal (number_of port) dhcp.tid duid) (sym is.requests) ∙ sym refused))) (comes base past is)
 
@@ -119,7 +119,7 @@ module _ (r : AccessRules) (t : ℕ) where
   -- a message to servers by which none asks
   pub gives_up_for : (port : Port) (old new : Kept) (dhcp : Dhcp) (s : Option (ArrayVec ℕ)) (result : Judgement) → None ≡ option_map (λ (d : ArrayVec ℕ). d.items) s → result ≡ record { verdict = Pass All; probe = None }
       → Moves r t old new (λ base past. if gives_up dhcp then with_events r base 1 port t (λ lease. Release port) dhcp.leases.items past else past)
-      → Follows r t old new result (λ base past. to_server_by r base 1 port t past dhcp s)
+      → FollowsStep r t old new result (λ base past. to_server_by r base 1 port t past dhcp s)
   gives_up_for port old new dhcp None result own passed told = λ base past is. record {
     verdict = ap (λ (j : Judgement). j.verdict) passed;
     probe = ap (λ (j : Judgement). j.probe) passed;

@@ -20,11 +20,11 @@ IsOfFrame (Fix p) = ⊥
 IsOfFrame Clear = ⊥
 
 -- the port whose host a message of DHCPv6 names addresses for
-abbrev pub port_of : Change → Port
-port_of (Released p) = p
-port_of (Leased p) = p
+abbrev pub change_port : Change → Port
+change_port (Released p) = p
+change_port (Leased p) = p
 
 -- what the message makes of an address in it
-abbrev pub event_of : Change → Offered → Ev
-event_of (Released p) = λ lease. Release p
-event_of (Leased p) = λ lease. Lease p lease.valid
+abbrev pub change_event : Change → Offered → Ev
+change_event (Released p) = λ lease. Release p
+change_event (Leased p) = λ lease. Lease p lease.valid

@@ -28,6 +28,6 @@ pub record Represents (r : AccessRules) (base : AccessBase) (past : List Mark) (
   pub per_port : kept.addresses.per_port ≡ r.addresses.per_port
 
 -- all states are aged to t, and each is sound for the method of its address
-pub record IsReady (r : AccessRules) (t : ℕ) (kept : Kept) : Type 0 where
+pub record IsAgedTo (r : AccessRules) (t : ℕ) (kept : Kept) : Type 0 where
   pub still : AllStill kept.addresses.times t kept.addresses.rows
   pub sound : AreSound (r.addresses.method_of 1) kept.addresses.rows

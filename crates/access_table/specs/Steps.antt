@@ -36,6 +36,6 @@ pub record ComesTo (r : AccessRules) (base : AccessBase) (t : ℕ) (new : Kept) 
   pub kept : Represents r base judged.marks t new
 
 -- a frame comes to what the step says, whatever was told before it
-abbrev pub Follows : AccessRules → ℕ → Kept → Kept → Judgement → (AccessBase → List Mark → Judged) → Type 0
-Follows r t old new result step =
+abbrev pub FollowsStep : AccessRules → ℕ → Kept → Kept → Judgement → (AccessBase → List Mark → Judged) → Type 0
+FollowsStep r t old new result step =
     (base : AccessBase) (past : List Mark) → Represents r base past t old → ComesTo r base t new result (step base past)

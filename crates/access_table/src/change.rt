@@ -1,7 +1,7 @@
 // What a message of DHCPv6 makes of the addresses in it.
 
 ghost use Rattle.std.specs.Prelude.{◌≡◌};
-ghost use Rattle.access_table.specs.Events.{event_of};
+ghost use Rattle.access_table.specs.Events.{change_event};
 
 use dhcp6_read::Lease;
 use fcfs_states::Ev;
@@ -19,7 +19,7 @@ pub enum Change {
 impl Change {
     /// The event on an address in the message.
     pub fn event(self, lease: Lease) -> Ev
-        ensures { result ≡ event_of self lease }
+        ensures { result ≡ change_event self lease }
     {
         match self {
             Change::Released(port) => Ev::Release(port),

@@ -6,13 +6,13 @@ ghost use Rattle.savi_kinds.specs.ValidPlan.{IsValidPlan};
 ghost use Rattle.savi_kinds.specs.declared.port.Port.{Port};
 ghost use Rattle.addr_table.specs.Rooms.{port_of as event_port};
 ghost use Rattle.addr_history.specs.Legal.{IsOfVlan};
-ghost use Rattle.savi_access.specs.Judged.{judged, judged_for, validated, trusted, unspecified, sourced, message, to_server, to_client_or_other, replied, asked, answered, with_events, is_on_link, comes_to};
+ghost use Rattle.savi_access.specs.Judged.{judged, judged_for, validated, trusted, from_unspecified, sourced, message, to_server, to_client_or_other, replied, asked, answered, with_events, is_on_link, comes_to};
 ghost use Rattle.savi_access.specs.Frames.{answered_duid, dhcp_to, gives_up};
 ghost use Rattle.fcfs_states.specs.declared.event.Ev.TheVariants.{Release};
 ghost use Rattle.savi_access.specs.Plans.{rules_of, has_port, role_of, vlan_among};
-ghost use Rattle.access_table.specs.Kept.{Represents, IsReady};
-ghost use Rattle.access_table.specs.Events.{IsOfFrame, port_of, event_of};
-ghost use Rattle.access_table.specs.Steps.{Moves, Follows};
+ghost use Rattle.access_table.specs.Kept.{Represents, IsAgedTo};
+ghost use Rattle.access_table.specs.Events.{IsOfFrame, change_port, change_event};
+ghost use Rattle.access_table.specs.Steps.{Moves, FollowsStep};
 
 use crate::change::Change;
 use crate::frames::{
@@ -38,9 +38,9 @@ impl AccessTable {
         requires plan { IsValidPlan plan.now }
         requires port { has_port plan.now (number_of port) ≡ true }
         requires moment { t ≤ 2 ^ 62 }
-        requires ready { IsReady (rules_of plan.now) t self.old }
-        ensures ready { IsReady (rules_of plan.now) t self.new }
-        ensures judged { Follows (rules_of plan.now) t self.old self.new result (λ base past. judged (rules_of plan.now) base 1 port t past class.now) }
+        requires ready { IsAgedTo (rules_of plan.now) t self.old }
+        ensures ready { IsAgedTo (rules_of plan.now) t self.new }
+        ensures judged { FollowsStep (rules_of plan.now) t self.old self.new result (λ base past. judged (rules_of plan.now) base 1 port t past class.now) }
     {
         let role = role_of(plan, port);
         if let Some(rule) = guard(role, plan.drop_unknown, class) {
@@ -60,9 +60,9 @@ impl AccessTable {
         requires plan { IsValidPlan plan.now }
         requires port { vlan_among plan.now.ports (number_of port) ≡ Some 1 }
         requires moment { t ≤ 2 ^ 62 }
-        requires ready { IsReady (rules_of plan.now) t self.old }
-        ensures ready { IsReady (rules_of plan.now) t self.new }
-        ensures judged { Follows (rules_of plan.now) t self.old self.new result (λ base past. validated (rules_of plan.now) base 1 port t past class.now) }
+        requires ready { IsAgedTo (rules_of plan.now) t self.old }
+        ensures ready { IsAgedTo (rules_of plan.now) t self.new }
+        ensures judged { FollowsStep (rules_of plan.now) t self.old self.new result (λ base past. validated (rules_of plan.now) base 1 port t past class.now) }
     {
         match class {
             Class::Ip6 { ip, read, .. } => {
@@ -83,9 +83,9 @@ impl AccessTable {
         requires plan { IsValidPlan plan.now }
         requires port { vlan_among plan.now.ports (number_of port) ≡ Some 1 }
         requires moment { t ≤ 2 ^ 62 }
-        requires ready { IsReady (rules_of plan.now) t self.old }
-        ensures ready { IsReady (rules_of plan.now) t self.new }
-        ensures judged { Follows (rules_of plan.now) t self.old self.new result (λ base past. unspecified (rules_of plan.now) base 1 port t past ip.now read.now) }
+        requires ready { IsAgedTo (rules_of plan.now) t self.old }
+        ensures ready { IsAgedTo (rules_of plan.now) t self.new }
+        ensures judged { FollowsStep (rules_of plan.now) t self.old self.new result (λ base past. from_unspecified (rules_of plan.now) base 1 port t past ip.now read.now) }
     {
         match dad_target(read) {
             Some(target) => {
@@ -107,9 +107,9 @@ impl AccessTable {
         requires plan { IsValidPlan plan.now }
         requires port { vlan_among plan.now.ports (number_of port) ≡ Some 1 }
         requires moment { t ≤ 2 ^ 62 }
-        requires ready { IsReady (rules_of plan.now) t self.old }
-        ensures ready { IsReady (rules_of plan.now) t self.new }
-        ensures judged { Follows (rules_of plan.now) t self.old self.new result (λ base past. sourced (rules_of plan.now) base 1 port t past ip.now read.now) }
+        requires ready { IsAgedTo (rules_of plan.now) t self.old }
+        ensures ready { IsAgedTo (rules_of plan.now) t self.new }
+        ensures judged { FollowsStep (rules_of plan.now) t self.old self.new result (λ base past. sourced (rules_of plan.now) base 1 port t past ip.now read.now) }
     {
         let off_link = Verdict::Drop(Rule::OffLink);
         let sent = self.event(plan, ip.src, Ev::Sent(port), t, off_link);
@@ -124,9 +124,9 @@ impl AccessTable {
         requires plan { IsValidPlan plan.now }
         requires port { vlan_among plan.now.ports (number_of port) ≡ Some 1 }
         requires moment { t ≤ 2 ^ 62 }
-        requires ready { IsReady (rules_of plan.now) t self.old }
-        ensures ready { IsReady (rules_of plan.now) t self.new }
-        ensures judged { Follows (rules_of plan.now) t self.old self.new result (λ base past. message (rules_of plan.now) base 1 port t past read.now) }
+        requires ready { IsAgedTo (rules_of plan.now) t self.old }
+        ensures ready { IsAgedTo (rules_of plan.now) t self.new }
+        ensures judged { FollowsStep (rules_of plan.now) t self.old self.new result (λ base past. message (rules_of plan.now) base 1 port t past read.now) }
     {
         if let Some(target) = advertised_target(read) {
             let not_own = Verdict::Drop(Rule::NaTarget);
@@ -143,9 +143,9 @@ impl AccessTable {
         requires plan { IsValidPlan plan.now }
         requires port { vlan_among plan.now.ports (number_of port) ≡ Some 1 }
         requires moment { t ≤ 2 ^ 62 }
-        requires ready { IsReady (rules_of plan.now) t self.old }
-        ensures ready { IsReady (rules_of plan.now) t self.new }
-        ensures judged { Follows (rules_of plan.now) t self.old self.new result (λ base past. to_server (rules_of plan.now) base 1 port t past dhcp.now) }
+        requires ready { IsAgedTo (rules_of plan.now) t self.old }
+        ensures ready { IsAgedTo (rules_of plan.now) t self.new }
+        ensures judged { FollowsStep (rules_of plan.now) t self.old self.new result (λ base past. to_server (rules_of plan.now) base 1 port t past dhcp.now) }
     {
         let Some(duid) = asking_duid(dhcp) else {
             self.give_up(plan, port, dhcp, t);
@@ -162,8 +162,8 @@ impl AccessTable {
         requires plan { IsValidPlan plan.now }
         requires port { vlan_among plan.now.ports (number_of port) ≡ Some 1 }
         requires moment { t ≤ 2 ^ 62 }
-        requires ready { IsReady (rules_of plan.now) t self.old }
-        ensures ready { IsReady (rules_of plan.now) t self.new }
+        requires ready { IsAgedTo (rules_of plan.now) t self.old }
+        ensures ready { IsAgedTo (rules_of plan.now) t self.new }
         ensures told { Moves (rules_of plan.now) t self.old self.new (λ base past. if gives_up dhcp.now then with_events (rules_of plan.now) base 1 port t (λ lease. Release port) dhcp.now.leases.items past else past) }
     {
         if !gives_up(dhcp) {
@@ -176,9 +176,9 @@ impl AccessTable {
     fn to_client_or_other(&mut self, plan: &Plan, read: &Read, t: Moment) -> Judgement
         requires plan { IsValidPlan plan.now }
         requires moment { t ≤ 2 ^ 62 }
-        requires ready { IsReady (rules_of plan.now) t self.old }
-        ensures ready { IsReady (rules_of plan.now) t self.new }
-        ensures judged { (port : Port) → Follows (rules_of plan.now) t self.old self.new result (λ base past. to_client_or_other (rules_of plan.now) base 1 port t past (dhcp_to 546 read.now)) }
+        requires ready { IsAgedTo (rules_of plan.now) t self.old }
+        ensures ready { IsAgedTo (rules_of plan.now) t self.new }
+        ensures judged { (port : Port) → FollowsStep (rules_of plan.now) t self.old self.new result (λ base past. to_client_or_other (rules_of plan.now) base 1 port t past (dhcp_to 546 read.now)) }
     {
         if let Some(dhcp) = dhcp_to(DHCP6_CLIENT_PORT, read) {
             self.reply(plan, dhcp, t);
@@ -190,8 +190,8 @@ impl AccessTable {
     fn reply(&mut self, plan: &Plan, dhcp: &Dhcp, t: Moment)
         requires plan { IsValidPlan plan.now }
         requires moment { t ≤ 2 ^ 62 }
-        requires ready { IsReady (rules_of plan.now) t self.old }
-        ensures ready { IsReady (rules_of plan.now) t self.new }
+        requires ready { IsAgedTo (rules_of plan.now) t self.old }
+        ensures ready { IsAgedTo (rules_of plan.now) t self.new }
         ensures told { (port : Port) → Moves (rules_of plan.now) t self.old self.new (λ base past. replied (rules_of plan.now) base 1 port t past dhcp.now (answered_duid dhcp.now)) }
     {
         let Some(duid) = answered_duid(dhcp) else {
@@ -207,9 +207,9 @@ impl AccessTable {
     fn trusted(&mut self, plan: &Plan, class: &Class, t: Moment) -> Judgement
         requires plan { IsValidPlan plan.now }
         requires moment { t ≤ 2 ^ 62 }
-        requires ready { IsReady (rules_of plan.now) t self.old }
-        ensures ready { IsReady (rules_of plan.now) t self.new }
-        ensures judged { (port : Port) → Follows (rules_of plan.now) t self.old self.new result (λ base past. trusted (rules_of plan.now) base 1 port t past class.now) }
+        requires ready { IsAgedTo (rules_of plan.now) t self.old }
+        ensures ready { IsAgedTo (rules_of plan.now) t self.new }
+        ensures judged { (port : Port) → FollowsStep (rules_of plan.now) t self.old self.new result (λ base past. trusted (rules_of plan.now) base 1 port t past class.now) }
     {
         let Class::Ip6 { read, .. } = class else {
             return Judgement::passed();
@@ -229,10 +229,10 @@ impl AccessTable {
         requires plan { IsValidPlan plan.now }
         requires vlan { IsOfVlan (rules_of plan.now).addresses 1 (event_port ev) }
         requires moment { t ≤ 2 ^ 62 }
-        requires ready { IsReady (rules_of plan.now) t self.old }
+        requires ready { IsAgedTo (rules_of plan.now) t self.old }
         requires frame { IsOfFrame ev }
-        ensures ready { IsReady (rules_of plan.now) t self.new }
-        ensures judged { (port : Port) → Follows (rules_of plan.now) t self.old self.new result (λ base past. if is_on_link (rules_of plan.now) base 1 port t a.0 then answered (rules_of plan.now) base 1 port t past a.0 ev else comes_to off_link past) }
+        ensures ready { IsAgedTo (rules_of plan.now) t self.new }
+        ensures judged { (port : Port) → FollowsStep (rules_of plan.now) t self.old self.new result (λ base past. if is_on_link (rules_of plan.now) base 1 port t a.0 then answered (rules_of plan.now) base 1 port t past a.0 ev else comes_to off_link past) }
     {
         match self.tell(plan, a, ev, t) {
             Some(answer) => Judgement::answered(answer, a, t),
@@ -244,9 +244,9 @@ impl AccessTable {
     fn tell_each(&mut self, plan: &Plan, leases: &[Lease], change: Change, t: Moment)
         requires plan { IsValidPlan plan.now }
         requires moment { t ≤ 2 ^ 62 }
-        requires ready { IsReady (rules_of plan.now) t self.old }
-        ensures ready { IsReady (rules_of plan.now) t self.new }
-        ensures told { (port : Port) → vlan_among plan.now.ports (number_of (port_of change)) ≡ Some 1 → Moves (rules_of plan.now) t self.old self.new (λ base past. with_events (rules_of plan.now) base 1 port t (event_of change) leases.now past) }
+        requires ready { IsAgedTo (rules_of plan.now) t self.old }
+        ensures ready { IsAgedTo (rules_of plan.now) t self.new }
+        ensures told { (port : Port) → vlan_among plan.now.ports (number_of (change_port change)) ≡ Some 1 → Moves (rules_of plan.now) t self.old self.new (λ base past. with_events (rules_of plan.now) base 1 port t (change_event change) leases.now past) }
     {
         for lease in leases {
             self.tell(plan, lease.address, change.event(*lease), t);

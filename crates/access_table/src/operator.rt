@@ -10,7 +10,7 @@ ghost use Rattle.bind_table.specs.Rows.{state_in};
 ghost use Rattle.addr_table.specs.Rooms.{may_hold_more, IsFixable};
 ghost use Rattle.savi_access.specs.Judged.{with_event};
 ghost use Rattle.savi_access.specs.Plans.{rules_of, vlan_among};
-ghost use Rattle.access_table.specs.Kept.{IsReady};
+ghost use Rattle.access_table.specs.Kept.{IsAgedTo};
 ghost use Rattle.access_table.specs.Steps.{Moves};
 
 use crate::plans::method_of;
@@ -49,10 +49,10 @@ impl AccessTable {
         requires plan { IsValidPlan plan.now }
         requires vlan { vlan_among plan.now.ports (number_of port) ≡ Some 1 }
         requires moment { t ≤ 2 ^ 62 }
-        requires ready { IsReady (rules_of plan.now) t self.old }
+        requires ready { IsAgedTo (rules_of plan.now) t self.old }
         requires on_link { IsSome ((rules_of plan.now).addresses.method_of 1 a.0) }
         requires fixable { IsFixable self.old.addresses.per_port self.old.addresses.rows a.0 (Fix port) }
-        ensures ready { IsReady (rules_of plan.now) t self.new }
+        ensures ready { IsAgedTo (rules_of plan.now) t self.new }
         ensures told { Moves (rules_of plan.now) t self.old self.new (λ base past. with_event (rules_of plan.now) base 1 port t a.0 (Fix port) past) }
     {
         self.tell(plan, a, Ev::Fix(port), t);
@@ -63,9 +63,9 @@ impl AccessTable {
     pub fn clear(&mut self, plan: &Plan, a: Addr, t: Moment)
         requires plan { IsValidPlan plan.now }
         requires moment { t ≤ 2 ^ 62 }
-        requires ready { IsReady (rules_of plan.now) t self.old }
+        requires ready { IsAgedTo (rules_of plan.now) t self.old }
         requires state { IsTrue (has_state (state_in self.old.addresses.rows a.0)) }
-        ensures ready { IsReady (rules_of plan.now) t self.new }
+        ensures ready { IsAgedTo (rules_of plan.now) t self.new }
         ensures told { (port : Port) → Moves (rules_of plan.now) t self.old self.new (λ base past. with_event (rules_of plan.now) base 1 port t a.0 Clear past) }
     {
         self.tell(plan, a, Ev::Clear, t);

@@ -18,7 +18,7 @@ ghost use Rattle.addr_history.specs.Probes.{probes_between};
 ghost use Rattle.savi_access.specs.Rules.{AccessRules, AccessBase, nothing_yet};
 ghost use Rattle.savi_access.specs.Marks.{Mark, Asked, Met, told, open_requests};
 ghost use Rattle.savi_access.specs.Plans.{rules_of};
-ghost use Rattle.access_table.specs.Kept.{Represents, IsReady};
+ghost use Rattle.access_table.specs.Kept.{Represents, IsAgedTo};
 ghost use Rattle.access_table.specs.Steps.{Hears, Moves};
 
 use crate::plans::method_of;
@@ -52,7 +52,7 @@ impl AccessTable {
     pub fn make(alloc: Global, plan: &Plan) -> Result<AccessTable, AllocError>
         requires { IsValidPlan plan.now }
         ensures start { IfOk result (λ table. Represents (rules_of plan.now) nothing_yet [] 0 table) }
-        ensures ready { IfOk result (λ table. (t : ℕ) → IsReady (rules_of plan.now) t table) }
+        ensures ready { IfOk result (λ table. (t : ℕ) → IsAgedTo (rules_of plan.now) t table) }
     {
         let times = Times {
             gap: plan.gap,
@@ -132,10 +132,10 @@ impl AccessTable {
     pub(crate) fn tell(&mut self, plan: &Plan, a: Addr, ev: Ev, t: Moment) -> Option<Answer>
         requires plan { IsValidPlan plan.now }
         requires moment { t ≤ 2 ^ 62 }
-        requires ready { IsReady (rules_of plan.now) t self.old }
+        requires ready { IsAgedTo (rules_of plan.now) t self.old }
         requires lease { IsLeaseInRange ev }
         requires fixable { IsFixable self.old.addresses.per_port self.old.addresses.rows a.0 ev }
-        ensures ready { IsReady (rules_of plan.now) t self.new }
+        ensures ready { IsAgedTo (rules_of plan.now) t self.new }
         ensures heard { Hears (rules_of plan.now) t self.old self.new a.0 ev result }
     {
         let method = method_of(plan, a)?;
@@ -175,7 +175,7 @@ impl AccessTable {
         ensures sent { (r : AccessRules) (base : AccessBase) (past : List Mark) (from : ℕ)
             → Represents r base past from self.old → from ≤ t
             → sink.new ≡ fold S.after sink.old (probes_between r.addresses base.addresses (told past) from t 1) }
-        ensures ready { (r : AccessRules) (from : ℕ) → IsReady r from self.old → IsReady r t self.new }
+        ensures ready { (r : AccessRules) (from : ℕ) → IsAgedTo r from self.old → IsAgedTo r t self.new }
     {
         self.addresses.age_to(t, sink);
     }

@@ -7,10 +7,10 @@ use Rattle.fcfs_states.specs.declared.state.Fcfs.{Fcfs}
 use Rattle.fcfs_states.specs.declared.state.Fcfs.TheVariants.{NoBind, Tentative, Valid, TestLt, TestVp}
 use Rattle.fcfs_states.specs.declared.times.Times.{Times}
 use Rattle.fcfs_states.specs.Premises.{AreTimes}
-use Rattle.fcfs_states.specs.Ageing.{behind, AgeRow, tentative_probe, test_lt_probe, test_vp_probe, tentative_ends, valid_ends, test_lt_ends, test_vp_ends, Ages, rests, goes_on}
+use Rattle.fcfs_states.specs.Ageing.{probes_behind, AgeRow, tentative_probe, test_lt_probe, test_vp_probe, tentative_ends, valid_ends, test_lt_ends, test_vp_ends, Ages, rests, goes_on}
 use Rattle.fcfs_states.proofs.AgeingLemmas.{Ages-aged}
 use Rattle.mix_rules.specs.declared.state.AddrState.{AddrState}
-use Rattle.mix_rules.specs.Ageing.{aged_state, end_of, due_next, IsStill}
+use Rattle.mix_rules.specs.Ageing.{aged_state, bound_end, due_next, IsStill}
 use Rattle.mix_rules.proofs.EndLemmas.{still-touched, due-touched, idle-touched}
 use Rattle.bind_table.specs.declared.row.Row.{Row}
 use Rattle.bind_table.specs.Rows.{address_of, rows_of, AllStand}
@@ -24,7 +24,7 @@ use Rattle.addr_history.proofs.Aged.{still-state}
 use Rattle.addr_history.proofs.AllSends.{sent_at}
 
 module _ (k : Times) where
-  row-turns : {state new : Fcfs} {due : ℕ} {probe : Option Probe} → AgeRow k state due new probe → (probes : List (ℕ × Probe)) (left : ℕ) → left + length probes ≤ steps_left new → left + length (behind due probe probes) ≤ steps_left state
+  row-turns : {state new : Fcfs} {due : ℕ} {probe : Option Probe} → AgeRow k state due new probe → (probes : List (ℕ × Probe)) (left : ℕ) → left + length probes ≤ steps_left new → left + length (probes_behind due probe probes) ≤ steps_left state
   row-turns tentative_probe probes left few = omega arith
   row-turns test_lt_probe probes left few = omega arith
   row-turns test_vp_probe probes left few = omega arith
@@ -103,7 +103,7 @@ few_ends None = omega arith
 few_ends (Some end) = omega arith
 
 pub few_turns_of : (s : AddrState) → turns_of s ≤ 6
-few_turns_of s = omega (arith, few_steps s.fcfs, few_ends (end_of s.dhcp))
+few_turns_of s = omega (arith, few_steps s.fcfs, few_ends (bound_end s.dhcp))
 
 pub few_turns : (rows : List Row) → turns_left rows ≤ 6 * length rows
 few_turns [] = omega arith

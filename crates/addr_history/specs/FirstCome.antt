@@ -2,7 +2,7 @@
 use Rattle.std.specs.Prelude.{ℕ, List}
 use Rattle.savi_kinds.specs.declared.port.Port.{Port}
 use Rattle.savi_kinds.specs.declared.plan.Method.{Method}
-use Rattle.mix_rules.specs.FirstCome.{IsKept}
+use Rattle.mix_rules.specs.FirstCome.{KeepsAddress}
 use Rattle.bind_table.specs.Rows.{state_in}
 use Rattle.addr_history.specs.Bases.{AddrRules, AddrBase}
 use Rattle.addr_history.specs.Marks.{Named, marks_on}
@@ -11,4 +11,4 @@ use Rattle.addr_history.specs.Marks.{Named, marks_on}
 -- it keeps it, but for one of the three causes.
 abbrev pub IsKeptOn : AddrRules → AddrBase → Method → List Named → ℕ → List Named → ℕ → ℕ → ℕ → Port → Type 0
 IsKeptOn r base m early t0 late t vlan a port =
-    IsKept m r.times (state_in (base.rows vlan) a) (marks_on vlan a early) t0 (marks_on vlan a late) t port
+    KeepsAddress m r.times (state_in (base.rows vlan) a) (marks_on vlan a early) t0 (marks_on vlan a late) t port

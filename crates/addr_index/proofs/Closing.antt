@@ -5,7 +5,7 @@ use Rattle.std.proofs.lemmas.Bool.{cases_Bool, cases_eq, eqb-true, eq-eqb}
 use Rattle.addr_index.specs.declared.entry.Entry.{Entry}
 use Rattle.addr_index.specs.Indexes.{is_of, HasOneEach}
 use Rattle.addr_index.specs.Homes.{home_of}
-use Rattle.addr_index.specs.Ways.{IsOnWay, IsOffWay, IsRound, IsPassed, IsAhead}
+use Rattle.addr_index.specs.Ways.{IsOnWay, IsOffWay, IsRound, IsPassedPlace, IsAhead}
 use Rattle.addr_index.specs.Places.{in_place, entries_of, IsReached, IsReachedBut, IsOther, IsRoomFor, HasSameEntries, ClosesGap}
 use Rattle.addr_index.proofs.Ways.{end_off, on_off, by_gap, shorter, further, beside, cases_passed, passed_ahead, way_passed, ahead_by, none_ahead, passed_at, passed_later, not_passed, ahead_more}
 use Rattle.addr_index.proofs.Filling.{found_place, absent_places, find_filled, count_filled, length_filled, find_emptied, count_emptied, length_emptied, empty_place}
@@ -26,7 +26,7 @@ within_places (o ∷ places) zero e there = omega arith
 within_places (o ∷ places) (suc p) e there = omega (arith, within_places places p e there)
 
 -- a search that comes to an empty place has found none
-pub room_for : (places : List (Option Entry)) (a from steps at : ℕ) → IsReached (length places) places → from ≡ home_of a (length places) → from < length places → steps < length places → IsRound (length places) (from + steps) at → ((p : ℕ) → p < length places → IsPassed (length places) from steps p → IsOther a (in_place places p)) → in_place places at ≡ None → IsRoomFor a places at
+pub room_for : (places : List (Option Entry)) (a from steps at : ℕ) → IsReached (length places) places → from ≡ home_of a (length places) → from < length places → steps < length places → IsRound (length places) (from + steps) at → ((p : ℕ) → p < length places → IsPassedPlace (length places) from steps p → IsOther a (in_place places p)) → in_place places at ≡ None → IsRoomFor a places at
 room_for places a from steps at reached home fn sn round others empty = record {
   within = round.within;
   empty = empty;
@@ -34,7 +34,7 @@ room_for places a from steps at reached home fn sn round others empty = record {
   absent = absent_places places a (λ p e within there same. go p e within there same (cases_passed (length places) from steps p));
 }
   where
-    go : (p : ℕ) (e : Entry) → p < length places → in_place places p ≡ Some e → e.address ≡ a → IsPassed (length places) from steps p ⊎ IsAhead (length places) from steps p → ⊥
+    go : (p : ℕ) (e : Entry) → p < length places → in_place places p ≡ Some e → e.address ≡ a → IsPassedPlace (length places) from steps p ⊎ IsAhead (length places) from steps p → ⊥
     go p e within there same (inl passed) =
         let other : IsOther a (Some e) = subst (IsOther a) there (others p within passed) in
         other same
@@ -45,7 +45,7 @@ room_for places a from steps at reached home fn sn round others empty = record {
         reached p at e there (subst (λ (h : ℕ). IsOnWay h p at) home' on) round.within empty
 
 -- a search that goes once round meets an empty place
-pub room_met : (places : List (Option Entry)) (a from steps : ℕ) → from < length places → steps ≡ length places → length (entries_of places) < length places → ((p : ℕ) → p < length places → IsPassed (length places) from steps p → IsOther a (in_place places p)) → ⊥
+pub room_met : (places : List (Option Entry)) (a from steps : ℕ) → from < length places → steps ≡ length places → length (entries_of places) < length places → ((p : ℕ) → p < length places → IsPassedPlace (length places) from steps p → IsOther a (in_place places p)) → ⊥
 room_met places a from steps fn all sparse others =
     let (q, q_within, q_empty) = empty_place places sparse in
     elim (cases_passed (length places) from steps q) [

@@ -6,7 +6,7 @@ use Rattle.addr_index.specs.declared.entry.Entry.{Entry}
 use Rattle.addr_index.specs.Indexes.{Index, is_of, key_in, HasOneEach}
 use Rattle.addr_index.specs.Homes.{home_of}
 use Rattle.addr_index.specs.Ways.{IsOnWay}
-use Rattle.addr_index.specs.Places.{in_place, entries_of, IsReached, IsPlaceOf, IsRoomFor, HasSameEntries, IsTable}
+use Rattle.addr_index.specs.Places.{in_place, entries_of, IsReached, IsPlaceOf, IsRoomFor, HasSameEntries, IsPlaceTable}
 use Rattle.addr_index.proofs.Entries.{count_absent}
 use Rattle.addr_index.proofs.Filling.{found_place, find_filled, count_filled, length_filled, find_emptied, count_emptied, length_emptied, none_in_empty}
 use Rattle.addr_index.proofs.Closing.{within_places}
@@ -44,7 +44,7 @@ place_absent places most a p each place absent =
     cc
 
 -- an entry is taken in
-pub IsTable-insert : (places : List (Option Entry)) (len most p : ℕ) (e : Entry) → IsTable places len most → IsRoomFor e.address places p → len < most → IsTable (set places p (Some e)) (len + 1) most
+pub IsTable-insert : (places : List (Option Entry)) (len most p : ℕ) (e : Entry) → IsPlaceTable places len most → IsRoomFor e.address places p → len < most → IsPlaceTable (set places p (Some e)) (len + 1) most
 IsTable-insert places len most p e table room less = record {
   reached = rw (length-set {A = Option Entry} places p (Some e)) reached;
   distinct = λ b. (elim (cases_Bool (is_of b e)) [
@@ -102,7 +102,7 @@ length_removed places a p place =
     length_emptied places p e there
 
 -- an entry is given up
-pub IsTable-remove : (places new : List (Option Entry)) (len most a p : ℕ) → IsTable places len most → IsPlaceOf a places p → HasSameEntries (set places p None) new → IsReached (length new) new → length new ≡ length places → IsTable new (len - 1) most
+pub IsTable-remove : (places new : List (Option Entry)) (len most a p : ℕ) → IsPlaceTable places len most → IsPlaceOf a places p → HasSameEntries (set places p None) new → IsReached (length new) new → length new ≡ length places → IsPlaceTable new (len - 1) most
 IsTable-remove places new len most a p table place same reached size = record {
   reached = reached;
   distinct = same.distinct;
@@ -129,7 +129,7 @@ length_remove places new most a p each place same =
     omega (arith, one, same.count, length_removed places a p place)
 
 -- no entry
-pub IsTable-empty : (places : List (Option Entry)) (most : ℕ) → ((p : ℕ) → p < length places → in_place places p ≡ None) → 1 ≤ most → 2 * most ≤ length places → length places ≤ 2 ^ 22 → IsTable places 0 most
+pub IsTable-empty : (places : List (Option Entry)) (most : ℕ) → ((p : ℕ) → p < length places → in_place places p ≡ None) → 1 ≤ most → 2 * most ≤ length places → length places ≤ 2 ^ 22 → IsPlaceTable places 0 most
 IsTable-empty places most empty some sparse limit = record {
   reached = λ p x e there on within none. (let nothing : in_place places p ≡ None = empty p (within_places places p e there) in cc);
   distinct = λ b. rw nowhere (omega arith);

@@ -1,7 +1,7 @@
 -- Ways along the ring of places.
 use Rattle.std.proofs.Common.{◌≢◌, ◌≤◌, ◌<◌, ◌+◌, ◌⊎◌, ℕ, inl, inr, arith}
 use Rattle.std.proofs.lemmas.Bool.{cases_lt}
-use Rattle.addr_index.specs.Ways.{IsOnWay, IsOffWay, IsRound, IsPassed, IsAhead}
+use Rattle.addr_index.specs.Ways.{IsOnWay, IsOffWay, IsRound, IsPassedPlace, IsAhead}
 
 -- the end of a way isn't on it
 pub end_off : (a b : ℕ) → IsOnWay a b b → ⊥
@@ -42,7 +42,7 @@ beside n k at next p r r' pa pn = record {
   past = λ h. grind arith;
 }
 
-pub cases_passed : (n from steps x : ℕ) → IsPassed n from steps x ⊎ IsAhead n from steps x
+pub cases_passed : (n from steps x : ℕ) → IsPassedPlace n from steps x ⊎ IsAhead n from steps x
 cases_passed n from steps x =
     elim (cases_lt x from) [
       | inl before ↦ elim (cases_lt (x + n) (from + steps)) [
@@ -55,24 +55,24 @@ cases_passed n from steps x =
       ]
     ]
 
-pub passed_ahead : (n from steps x : ℕ) → IsPassed n from steps x → IsAhead n from steps x → ⊥
+pub passed_ahead : (n from steps x : ℕ) → IsPassedPlace n from steps x → IsAhead n from steps x → ⊥
 passed_ahead n from steps x passed ahead = grind arith
 
 -- all on the way to a place was passed
-pub way_passed : (n from steps at x : ℕ) → IsRound n (from + steps) at → from < n → steps < n → x < n → IsOnWay from at x → IsPassed n from steps x
+pub way_passed : (n from steps at x : ℕ) → IsRound n (from + steps) at → from < n → steps < n → x < n → IsOnWay from at x → IsPassedPlace n from steps x
 way_passed n from steps at x r fn sn xn on = record { straight = λ h. grind arith; round = λ h. grind arith }
 
 -- a place ahead is reached by `at`
 pub ahead_by : (n from steps at x : ℕ) → IsRound n (from + steps) at → from < n → steps < n → x < n → IsAhead n from steps x → x ≢ at → IsOnWay from x at
 ahead_by n from steps at x r fn sn xn ahead other = record { begun = λ h. grind arith; before = λ h. grind arith; round = λ h h'. grind arith }
 
-pub passed_at : (n from steps at : ℕ) → IsRound n (from + steps) at → from < n → steps < n → IsPassed n from (steps + 1) at
+pub passed_at : (n from steps at : ℕ) → IsRound n (from + steps) at → from < n → steps < n → IsPassedPlace n from (steps + 1) at
 passed_at n from steps at r fn sn = record { straight = λ h. grind arith; round = λ h. grind arith }
 
-pub passed_later : (n from steps x : ℕ) → IsPassed n from steps x → IsPassed n from (steps + 1) x
+pub passed_later : (n from steps x : ℕ) → IsPassedPlace n from steps x → IsPassedPlace n from (steps + 1) x
 passed_later n from steps x passed = record { straight = λ h. grind arith; round = λ h. grind arith }
 
-pub not_passed : (n from steps at x : ℕ) → IsRound n (from + steps) at → from < n → steps < n → x < n → IsPassed n from steps x → at ≢ x
+pub not_passed : (n from steps at x : ℕ) → IsRound n (from + steps) at → from < n → steps < n → x < n → IsPassedPlace n from steps x → at ≢ x
 not_passed n from steps at x r fn sn xn passed same = grind arith
 
 pub ahead_more : (n from steps at x : ℕ) → IsRound n (from + steps) at → from < n → steps < n → x < n → x ≢ at → IsAhead n from steps x → IsAhead n from (steps + 1) x

@@ -5,7 +5,7 @@ use Rattle.std.specs.Option.{option_map}
 use Rattle.addr_index.specs.declared.entry.Entry.{Entry}
 use Rattle.addr_index.specs.Indexes.{is_of, HasOneEach}
 use Rattle.addr_index.specs.Homes.{home_of}
-use Rattle.addr_index.specs.Ways.{IsOnWay, IsOffWay, IsRound, IsPassed, IsAhead}
+use Rattle.addr_index.specs.Ways.{IsOnWay, IsOffWay, IsRound, IsPassedPlace, IsAhead}
 
 -- the entry of an address, given by its upper and its lower 64 bits, and its key, where there is one
 abbrev pub entry_if : Bool → ℕ → ℕ → ℕ → Option Entry
@@ -51,7 +51,7 @@ pub record HasSameEntries (old new : List (Option Entry)) : Type 0 where
   pub distinct : HasOneEach (entries_of new)
 
 -- the places of an index of so many entries, with room for so many
-pub record IsTable (places : List (Option Entry)) (len most : ℕ) : Type 0 where
+pub record IsPlaceTable (places : List (Option Entry)) (len most : ℕ) : Type 0 where
   pub reached : IsReached (length places) places
   pub distinct : HasOneEach (entries_of places)
   pub count : length (entries_of places) ≡ len
@@ -67,7 +67,7 @@ pub record ClosesGap (count : ℕ) (initial places : List (Option Entry)) (empti
   pub same : HasSameEntries initial places
   pub within : gap < count
   pub empty : in_place places gap ≡ None
-  pub passed : IsPassed count emptied steps gap
+  pub passed : IsPassedPlace count emptied steps gap
   pub reached : (at : ℕ) → IsRound count (emptied + steps) at → IsReachedBut count gap at places
   -- an empty place is still ahead
   pub ahead : (place : ℕ) × (place < count) × IsAhead count emptied steps place × (in_place places place ≡ None)

@@ -20,7 +20,7 @@ pub record IsRound (places steps place : ℕ) : Type 0 where
   pub round : places ≤ steps → place + places ≡ steps
 
 -- a place that is passed by so many steps from another one on
-pub record IsPassed (places from steps place : ℕ) : Type 0 where
+pub record IsPassedPlace (places from steps place : ℕ) : Type 0 where
   pub straight : from ≤ place → place < from + steps
   pub round : place < from → place + places < from + steps
 

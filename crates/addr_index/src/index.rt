@@ -25,13 +25,13 @@ pub struct AddrIndex {
 
 impl Model for AddrIndex {
     ghost use Rattle.addr_index.specs.Indexes.{Index};
-    ghost use Rattle.addr_index.specs.Places.{IsTable, entries_of};
+    ghost use Rattle.addr_index.specs.Places.{IsPlaceTable, entries_of};
 
     ghost Value = { Index };
 
     ghost view = { λ i. record { entries = entries_of i.places.items; most = i.most } };
 
-    ghost invariant = { λ i. IsTable i.places.items i.len i.most };
+    ghost invariant = { λ i. IsPlaceTable i.places.items i.len i.most };
 }
 
 impl AddrIndex {

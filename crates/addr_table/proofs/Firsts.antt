@@ -10,8 +10,8 @@ use Rattle.bind_table.specs.declared.row.Row.{Row}
 use Rattle.bind_table.specs.Rows.{address_of, state_in, IsRising}
 use Rattle.bind_table.proofs.Parts.{none_there, other_address}
 use Rattle.timer_wheel.specs.declared.armed.Armed.{Armed}
-use Rattle.timer_wheel.specs.Arms.{pair_for, sooner, first_armed, due_by}
-use Rattle.timer_wheel.specs.Laws.{IsLeast}
+use Rattle.timer_wheel.specs.Arms.{pair_for, sooner, first_armed, due_within}
+use Rattle.timer_wheel.specs.Laws.{IsNoLater}
 use Rattle.addr_table.specs.Ages.{dues, first_due}
 use Rattle.addr_table.proofs.Lists.{all_weaker}
 
@@ -28,7 +28,7 @@ never-some is = cc
 module _ (k : Times) where
   -- nothing is due in a row sooner than at this moment for this address
   abbrev pub IsNoSooner : ℕ → ℕ → Row → Type 0
-  IsNoSooner due a row = (n : ℕ) → due_next k row.state ≡ Some n → IsLeast due a n (address_of row)
+  IsNoSooner due a row = (n : ℕ) → due_next k row.state ≡ Some n → IsNoLater due a n (address_of row)
 
   abbrev pub IsNeverDue : Row → Type 0
   IsNeverDue row = due_next k row.state ≡ None
@@ -123,7 +123,7 @@ module _ (k : Times) where
   first_is (row ∷ rows) rising due a first = first_row row rows rising (first_is rows rising.1) (due_next k row.state) refl due a first
 
   -- where nothing is due by t, each row is due later, if at all
-  pub all_late : (t : ℕ) (rows : List Row) → IsRising rows → (o : Option (ℕ × Addr)) → first_due k rows ≡ o → due_by t o ≡ None → AllByRecursion (λ row. (n : ℕ) → due_next k row.state ≡ Some n → t < n) rows
+  pub all_late : (t : ℕ) (rows : List Row) → IsRising rows → (o : Option (ℕ × Addr)) → first_due k rows ≡ o → due_within t o ≡ None → AllByRecursion (λ row. (n : ℕ) → due_next k row.state ≡ Some n → t < n) rows
   all_late t rows rising None first none = all_weaker IsNeverDue (λ row. (n : ℕ) → due_next k row.state ≡ Some n → t < n) (λ row h n e. let both : None ≡ Some n = sym h ∙ e in cc) rows (first_none rows first)
   all_late t rows rising (Some f) first none =
       elim (cases_Bool (nat_le f.0 t)) [
@@ -135,7 +135,7 @@ module _ (k : Times) where
       ]
 
 -- what is due by t is due first
-pub first_by : (t : ℕ) (o : Option (ℕ × Addr)) (due : ℕ) (a : Addr) → due_by t o ≡ Some (due, a) → (o ≡ Some (due, a)) × (due ≤ t)
+pub first_by : (t : ℕ) (o : Option (ℕ × Addr)) (due : ℕ) (a : Addr) → due_within t o ≡ Some (due, a) → (o ≡ Some (due, a)) × (due ≤ t)
 first_by t None due a is = absurd (never-some (sym is))
 first_by t (Some f) due a is =
     elim (cases_Bool (nat_le f.0 t)) [

@@ -8,7 +8,7 @@ use Rattle.fcfs_states.specs.Premises.{AreTimes}
 use Rattle.mix_rules.specs.Ageing.{AgedAddr, aged_state, due_next, IsStill}
 use Rattle.bind_table.specs.declared.row.Row.{Row}
 use Rattle.bind_table.specs.Rows.{address_of, state_in, rows_of, AllStand, IsTable}
-use Rattle.timer_wheel.specs.Arms.{due_by}
+use Rattle.timer_wheel.specs.Arms.{due_within}
 use Rattle.addr_table.specs.Ages.{aged_row, aged_rows, first_due}
 use Rattle.addr_table.specs.Sends.{sent_of, row_sends, all_sends, in_order}
 use Rattle.addr_table.specs.Turns.{turns_of}
@@ -36,7 +36,7 @@ module _ (k : Times) (times : AreTimes k) (t : ℕ) where
       let own : row_sends k t row ≡ [] = ap (λ (a : AgedAddr). sent_of (address_of row) a.probes) (untouched-by k times t row.state still.0) in
       ap (λ own. own ++ all_sends k t rows) own ∙ none-sent rows still.1
 
-  pub quiet : (rows : List Row) (per_port : ℕ) → IsTable rows → due_by t (first_due k rows) ≡ None → IsQuiet t (record { rows = rows; times = k; per_port = per_port })
+  pub quiet : (rows : List Row) (per_port : ℕ) → IsTable rows → due_within t (first_due k rows) ≡ None → IsQuiet t (record { rows = rows; times = k; per_port = per_port })
   quiet rows per_port table none =
       let still : AllByRecursion (λ row. IsStill k t row.state) rows =
       all_weaker (λ row. (n : ℕ) → due_next k row.state ≡ Some n → t < n) (λ row. IsStill k t row.state) (λ row late. idle-still k times t row.state late) rows (all_late k t rows table.rising (first_due k rows) refl none)
@@ -56,11 +56,11 @@ module _ (k : Times) (times : AreTimes k) (t : ℕ) where
       let equal : turns_of (aged_state k t (state_in rows a.0)).state ≡ turns_of (state_in rows a.0) = ap turns_of kept in
       omega (arith, less, equal)
 
-  none_by : (o : Option (ℕ × Addr)) → is_some (due_by t o) ≡ false → due_by t o ≡ None
+  none_by : (o : Option (ℕ × Addr)) → is_some (due_within t o) ≡ false → due_within t o ≡ None
   none_by None is = refl
   none_by (Some f) is = elim (cases_Bool (nat_le f.0 t)) [ inl by ↦ absurd (true≢false (rw by at is)) | inr late ↦ rw late refl ]
 
-  some_by : (rows : List Row) → IsTable rows → (o : Option (ℕ × Addr)) → first_due k rows ≡ o → is_some (due_by t o) ≡ true → aged_rows k t rows ≢ rows
+  some_by : (rows : List Row) → IsTable rows → (o : Option (ℕ × Addr)) → first_due k rows ≡ o → is_some (due_within t o) ≡ true → aged_rows k t rows ≢ rows
   some_by rows table None first is = absurd (false≢true is)
   some_by rows table (Some f) first is =
       elim (cases_Bool (nat_le f.0 t)) [
@@ -69,8 +69,8 @@ module _ (k : Times) (times : AreTimes k) (t : ℕ) where
       ]
 
   -- what a test says that asks whether anything is due by t
-  pub quiet_by : (rows : List Row) (per_port : ℕ) → IsTable rows → (b : Bool) → b ≡ is_some (due_by t (first_due k rows)) → b ≡ false → IsQuiet t (record { rows = rows; times = k; per_port = per_port })
+  pub quiet_by : (rows : List Row) (per_port : ℕ) → IsTable rows → (b : Bool) → b ≡ is_some (due_within t (first_due k rows)) → b ≡ false → IsQuiet t (record { rows = rows; times = k; per_port = per_port })
   quiet_by rows per_port table b is not_so = quiet rows per_port table (none_by (first_due k rows) (sym is ∙ not_so))
 
-  pub changes_by : (rows : List Row) → IsTable rows → (b : Bool) → b ≡ is_some (due_by t (first_due k rows)) → ((b ≡ true) ↔ (aged_rows k t rows ≢ rows))
+  pub changes_by : (rows : List Row) → IsTable rows → (b : Bool) → b ≡ is_some (due_within t (first_due k rows)) → ((b ≡ true) ↔ (aged_rows k t rows ≢ rows))
   changes_by rows table b is = (λ so. some_by rows table (first_due k rows) refl (sym is ∙ so), λ changed. elim (cases_Bool b) [ inl so ↦ so | inr not_so ↦ absurd (changed (quiet_by rows 0 table b is not_so).aged) ])

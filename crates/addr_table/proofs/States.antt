@@ -8,16 +8,16 @@ use Rattle.fcfs_states.specs.declared.state.Fcfs.{Fcfs}
 use Rattle.fcfs_states.specs.declared.state.Fcfs.TheVariants.{NoBind, Tentative, Valid, TestLt, TestVp}
 use Rattle.fcfs_states.specs.declared.times.Times.{Times}
 use Rattle.fcfs_states.specs.Premises.{AreTimes}
-use Rattle.fcfs_states.specs.Ageing.{behind}
+use Rattle.fcfs_states.specs.Ageing.{probes_behind}
 use Rattle.fcfs_states.specs.Aged.{AgedState, due_of, after_due, aged_at, aged_by, aged}
 use Rattle.fcfs_states.specs.AgeingLaws.{AreRisingAfter}
 use Rattle.fcfs_states.proofs.AgeingLemmas.{Ages-aged, rested_none}
 use Rattle.fcfs_states.proofs.AgesLemmas.{Ages-rising_after}
 use Rattle.dhcp_states.specs.declared.bound.Bound.{Bound}
-use Rattle.dhcp_states.specs.Bindings.{has_ended}
+use Rattle.dhcp_states.specs.Bindings.{is_over}
 use Rattle.mix_rules.specs.declared.state.AddrState.{AddrState}
 use Rattle.mix_rules.specs.States.{nobody}
-use Rattle.mix_rules.specs.Ageing.{AgedAddr, aged_state, bound_at, end_of, sooner_moment, due_next, untouched, IsStill}
+use Rattle.mix_rules.specs.Ageing.{AgedAddr, aged_state, bound_at, bound_end, sooner_moment, due_next, untouched, IsStill}
 use Rattle.mix_rules.proofs.AgeingLemmas.{still-untouched, aged-still, aged-joins-all}
 use Rattle.mix_rules.proofs.EndLemmas.{due-touched, idle-touched, still-touched}
 use Rattle.addr_table.specs.Turns.{steps_left, ends_left, turns_of}
@@ -62,19 +62,19 @@ less_aged : (k : Times) (t : ℕ) (f : Fcfs) (due : ℕ) → due_of k f ≡ Some
 unfolding aged
 less_aged k t f due is by = less_by 4 k t f due is by
 
-pub ends_aged : (t : ℕ) (dhcp : Option Bound) → ends_left (end_of (bound_at t dhcp)) ≤ ends_left (end_of dhcp)
+pub ends_aged : (t : ℕ) (dhcp : Option Bound) → ends_left (bound_end (bound_at t dhcp)) ≤ ends_left (bound_end dhcp)
 ends_aged t None = omega arith
-ends_aged t (Some bound) = by_test (has_ended t bound.until) refl
+ends_aged t (Some bound) = by_test (is_over t bound.until) refl
   where
-    by_test : (ended : Bool) → has_ended t bound.until ≡ ended → ends_left (end_of (bound_at t (Some bound))) ≤ ends_left bound.until
+    by_test : (ended : Bool) → is_over t bound.until ≡ ended → ends_left (bound_end (bound_at t (Some bound))) ≤ ends_left bound.until
     by_test true is = rw is (omega arith)
     by_test false is = rw is (omega arith)
 
-ends_less : (t : ℕ) (dhcp : Option Bound) (end : ℕ) → end_of dhcp ≡ Some end → end ≤ t → ends_left (end_of (bound_at t dhcp)) < ends_left (end_of dhcp)
+ends_less : (t : ℕ) (dhcp : Option Bound) (end : ℕ) → bound_end dhcp ≡ Some end → end ≤ t → ends_left (bound_end (bound_at t dhcp)) < ends_left (bound_end dhcp)
 ends_less t None end is by = cc
 ends_less t (Some bound) end is by =
     let was : bound.until ≡ Some end = is in
-    let over : has_ended t bound.until ≡ true = rw was (le-leb end t by) in
+    let over : is_over t bound.until ≡ true = rw was (le-leb end t by) in
     let all : ends_left bound.until ≡ 1 = ap ends_left was in
     rw over (omega (arith, all))
 
@@ -86,7 +86,7 @@ which (Some n) None due is = inl is
 which (Some n) (Some m) due is =
     elim (cases_Bool (nat_le n m)) [
       | inl before ↦ inl (rw before at is)
-      | inr behind ↦ inr (rw behind at is)
+      | inr probes_behind ↦ inr (rw probes_behind at is)
     ]
 
 pub turns_aged : (k : Times) (t : ℕ) (s : AddrState) → turns_of (aged_state k t s).state ≤ turns_of s
@@ -94,7 +94,7 @@ turns_aged k t s = omega (arith, left_aged k t s.fcfs, ends_aged t s.dhcp)
 
 pub turns_fall : (k : Times) (t : ℕ) (s : AddrState) (due : ℕ) → due_next k s ≡ Some due → due ≤ t → turns_of (aged_state k t s).state < turns_of s
 turns_fall k t s due is by =
-    elim (which (due_of k s.fcfs) (end_of s.dhcp) due is) [
+    elim (which (due_of k s.fcfs) (bound_end s.dhcp) due is) [
       | inl fcfs ↦ omega (arith, less_aged k t s.fcfs due fcfs by, ends_aged t s.dhcp)
       | inr dhcp ↦ omega (arith, left_aged k t s.fcfs, ends_less t s.dhcp due dhcp by)
     ]
@@ -112,7 +112,7 @@ all_from_0 [] = tt
 all_from_0 (p ∷ probes) = (omega arith, all_from_0 probes)
 
 -- of probes that are one at most, the first is all
-pub only_probe : (due : ℕ) (probe : Option Probe) (probes : List (ℕ × Probe)) → probes ≡ behind due probe [] → (x : ℕ × Probe) → slice_get probes 0 ≡ Some x → probes ≡ (due, x.1) ∷ []
+pub only_probe : (due : ℕ) (probe : Option Probe) (probes : List (ℕ × Probe)) → probes ≡ probes_behind due probe [] → (x : ℕ × Probe) → slice_get probes 0 ≡ Some x → probes ≡ (due, x.1) ∷ []
 only_probe due None probes is x first = absurd (none-some x (sym (ap (λ ps. slice_get ps 0) is) ∙ first))
 only_probe due (Some q) probes is x first = is ∙ ap (λ (y : ℕ × Probe). (due, y.1) ∷ []) (same_Some (due, q) x (sym (ap (λ ps. slice_get ps 0) is) ∙ first))
 

@@ -5,7 +5,7 @@ use Rattle.std.proofs.lemmas.Bool.{cases_lt}
 use Rattle.fcfs_states.specs.declared.answer.Probe.{Probe}
 use Rattle.fcfs_states.specs.declared.times.Times.{Times}
 use Rattle.fcfs_states.specs.Premises.{AreTimes}
-use Rattle.fcfs_states.specs.Ageing.{behind}
+use Rattle.fcfs_states.specs.Ageing.{probes_behind}
 use Rattle.mix_rules.specs.declared.state.AddrState.{AddrState}
 use Rattle.mix_rules.specs.Ageing.{AgedAddr, aged_state, due_next}
 use Rattle.bind_table.specs.declared.row.Row.{Row}
@@ -86,7 +86,7 @@ module _ (k : Times) (times : AreTimes k) (t : ℕ) where
         (all_weaker (λ row. a < address_of row) (λ row. address_of row ≡ a → ⊥) (λ row more same. omega (arith, more, same)) (higher a rows) (above_all a rows))
 
     -- all probes, with that which the turn sends in its place
-    split : (probe : Option Probe) → (aged_state k due (state_in rows a)).probes ≡ behind due probe [] → all_sends k t rows ≡ all_sends k t (lower a rows) ++ (sent_of a (behind due probe []) ++ (sent_of a (aged_state k t (aged_state k due (state_in rows a)).state).probes ++ all_sends k t (higher a rows)))
+    split : (probe : Option Probe) → (aged_state k due (state_in rows a)).probes ≡ probes_behind due probe [] → all_sends k t rows ≡ all_sends k t (lower a rows) ++ (sent_of a (probes_behind due probe []) ++ (sent_of a (aged_state k t (aged_state k due (state_in rows a)).state).probes ++ all_sends k t (higher a rows)))
     split probe is =
         let early : List (ℕ × Probe) = (aged_state k due (state_in rows a)).probes in
         let late : List (ℕ × Probe) = (aged_state k t (aged_state k due (state_in rows a)).state).probes in
@@ -97,7 +97,7 @@ module _ (k : Times) (times : AreTimes k) (t : ℕ) where
         ∙ ap (λ rest. all_sends k t (lower a rows) ++ rest) (append_assoc (sent_of a early) (sent_of a late) (all_sends k t (higher a rows)))
         ∙ ap (λ own. all_sends k t (lower a rows) ++ (sent_of a own ++ (sent_of a late ++ all_sends k t (higher a rows)))) is
 
-    pub step_sends : (probe : Option Probe) → (aged_state k due (state_in rows a)).probes ≡ behind due probe [] → sends k t rows ≡ sent_of a (behind due probe []) ++ sends k t (with_state a (aged_state k due (state_in rows a)).state rows)
+    pub step_sends : (probe : Option Probe) → (aged_state k due (state_in rows a)).probes ≡ probes_behind due probe [] → sends k t rows ≡ sent_of a (probes_behind due probe []) ++ sends k t (with_state a (aged_state k due (state_in rows a)).state rows)
     step_sends None is = ap in_order (split None is ∙ sym (sends-with a (aged_state k due (state_in rows a)).state rows))
     step_sends (Some probe) is =
         let x : SentProbe = record { due = due; address = record { 0 = a }; probe = probe } in

@@ -7,7 +7,7 @@ use Rattle.fcfs_states.specs.declared.answer.Answer.{Answer}
 use Rattle.fcfs_states.specs.declared.answer.Probe.{Probe}
 use Rattle.fcfs_states.specs.declared.event.Ev.{Ev}
 use Rattle.fcfs_states.specs.declared.times.Times.{Times}
-use Rattle.fcfs_states.specs.Ageing.{behind}
+use Rattle.fcfs_states.specs.Ageing.{probes_behind}
 use Rattle.mix_rules.specs.declared.state.AddrState.{AddrState}
 use Rattle.mix_rules.specs.States.{has_state, IsSoundFor}
 use Rattle.mix_rules.specs.Ageing.{aged_state, due_next as due_of, IsStill}
@@ -18,7 +18,7 @@ use Rattle.bind_table.specs.Rows.{state_in, with_state}
 use Rattle.bind_table.specs.Bindings.{Bindings}
 use Rattle.bind_table.proofs.Parts.{state_cases}
 use Rattle.timer_wheel.specs.declared.armed.Armed.{Armed}
-use Rattle.timer_wheel.specs.Arms.{Wheel, due_in, with_due, first_armed, due_by}
+use Rattle.timer_wheel.specs.Arms.{Wheel, due_in, with_due, first_armed, due_within}
 use Rattle.addr_table.specs.Addresses.{Addresses}
 use Rattle.addr_table.specs.Ages.{dues, first_due, AllStill}
 use Rattle.addr_table.specs.Armed.{IsArmed}
@@ -59,9 +59,9 @@ module _ (k : Times) (per_port : ℕ) (table table_new : Bindings) (wheel wheel_
   }
 
 -- a turn of what is due first by t
-module _ (k : Times) (per_port t : ℕ) (table : Bindings) (wheel : Wheel) (due : ℕ) (address : Addr) (kept : IsWithinRules k per_port table.rows) (armed : IsArmed k per_port table wheel) (found : Some (due, address) ≡ due_by t (first_armed wheel.arms)) where
+module _ (k : Times) (per_port t : ℕ) (table : Bindings) (wheel : Wheel) (due : ℕ) (address : Addr) (kept : IsWithinRules k per_port table.rows) (armed : IsArmed k per_port table wheel) (found : Some (due, address) ≡ due_within t (first_armed wheel.arms)) where
   both : (first_due k table.rows ≡ Some (due, address)) × (due ≤ t)
-  both = first_by t (first_due k table.rows) due address (ap (λ arms. due_by t (first_armed arms)) (sym armed.arms) ∙ sym found)
+  both = first_by t (first_due k table.rows) due address (ap (λ arms. due_within t (first_armed arms)) (sym armed.arms) ∙ sym found)
 
   pub due_soon : due ≤ t
   due_soon = both.1
@@ -96,7 +96,7 @@ module _ (k : Times) (per_port t : ℕ) (table : Bindings) (wheel : Wheel) (due 
         let left : length (with_due address.0 None (dues k table.rows)) < 16 * per_port = taken_place k per_port table.rows address.0 state kept kept_turn (inl stands) (16 * per_port) refl in
         inr (omega (arith, ap length arms, most, left))
 
-    pub turn : (probe : Option Probe) → (aged_state k due (state_in table.rows address.0)).probes ≡ behind due probe [] → (rows : List Row) → rows ≡ with_state address.0 state table.rows
+    pub turn : (probe : Option Probe) → (aged_state k due (state_in table.rows address.0)).probes ≡ probes_behind due probe [] → (rows : List Row) → rows ≡ with_state address.0 state table.rows
         → TurnsOnce t (record { rows = table.rows; times = k; per_port = per_port }) (record { rows = rows; times = k; per_port = per_port }) (record { due = due; address = address; probe = probe })
     turn probe probes rows is =
         let s : AddrState = state_in table.rows address.0 in
@@ -110,8 +110,8 @@ module _ (k : Times) (per_port t : ℕ) (table : Bindings) (wheel : Wheel) (due 
         })
 
 -- nothing is due by t
-pub no_turn : (k : Times) (per_port t : ℕ) (table : Bindings) (wheel : Wheel) → IsWithinRules k per_port table.rows → IsArmed k per_port table wheel → None ≡ due_by t (first_armed wheel.arms) → IsQuiet t (record { rows = table.rows; times = k; per_port = per_port })
-no_turn k per_port t table wheel kept armed none = quiet k kept.times t table.rows per_port kept.table (ap (λ arms. due_by t (first_armed arms)) (sym armed.arms) ∙ sym none)
+pub no_turn : (k : Times) (per_port t : ℕ) (table : Bindings) (wheel : Wheel) → IsWithinRules k per_port table.rows → IsArmed k per_port table wheel → None ≡ due_within t (first_armed wheel.arms) → IsQuiet t (record { rows = table.rows; times = k; per_port = per_port })
+no_turn k per_port t table wheel kept armed none = quiet k kept.times t table.rows per_port kept.table (ap (λ arms. due_within t (first_armed arms)) (sym armed.arms) ∙ sym none)
 
 -- an event on an address
 module _ (m : Method) (k : Times) (per_port t : ℕ) (table : Bindings) (wheel : Wheel) (now : Addresses) (a : ℕ) (event : Ev) (room : Bool) (before : AddrState) (answer : Answer) (state : AddrState) (kept : IsWithinRules k per_port table.rows) (view : view_of table.rows k per_port ≡ now) (room_is : room ≡ room_for now.per_port now.rows event) (before_is : before ≡ state_in table.rows a) (value : next_state m k t room before event ≡ (answer, state)) where

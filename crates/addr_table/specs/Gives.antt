@@ -18,6 +18,6 @@ pub record GivesNone (t : ℕ) (old new : Addresses) : Type 0 where
   pub still : AllStill old.times t new.rows
 
 -- the one or the other
-abbrev pub Gives : ℕ → Addresses → Addresses → Option SentProbe → Type 0
-Gives t old new None = GivesNone t old new
-Gives t old new (Some sent) = GivesOne t old new sent
+abbrev pub GivesProbe : ℕ → Addresses → Addresses → Option SentProbe → Type 0
+GivesProbe t old new None = GivesNone t old new
+GivesProbe t old new (Some sent) = GivesOne t old new sent

@@ -1,6 +1,6 @@
 -- One turn of ageing: what is due first, if it is due by t, comes to pass at its own moment.
 use Rattle.std.specs.Prelude.{ℕ, ◌≡◌, ◌<◌, Option, Some, None, List, [], ◌++◌}
-use Rattle.fcfs_states.specs.Ageing.{behind}
+use Rattle.fcfs_states.specs.Ageing.{probes_behind}
 use Rattle.addr_table.specs.declared.passed.Passed.{Passed}
 use Rattle.addr_table.specs.declared.sent.SentProbe.{SentProbe}
 use Rattle.addr_table.specs.Addresses.{Addresses}
@@ -10,7 +10,7 @@ use Rattle.addr_table.specs.Turns.{turns_left}
 
 -- the probe of a turn, where there is one
 abbrev pub turn_probes : Passed → List SentProbe
-turn_probes passed = sent_of passed.address.0 (behind passed.due passed.probe [])
+turn_probes passed = sent_of passed.address.0 (probes_behind passed.due passed.probe [])
 
 -- nothing is due by t
 pub record IsQuiet (t : ℕ) (table : Addresses) : Type 0 where

@@ -3,7 +3,7 @@ use Rattle.std.specs.Prelude.{ℕ, ◌+◌, true, false, Option, Some, None, Lis
 use Rattle.fcfs_states.specs.declared.state.Fcfs.{Fcfs}
 use Rattle.fcfs_states.specs.declared.state.Fcfs.TheVariants.{NoBind, Tentative, Valid, TestLt, TestVp}
 use Rattle.mix_rules.specs.declared.state.AddrState.{AddrState}
-use Rattle.mix_rules.specs.Ageing.{end_of}
+use Rattle.mix_rules.specs.Ageing.{bound_end}
 use Rattle.bind_table.specs.declared.row.Row.{Row}
 
 -- by first come: so many lines of the ageing table may follow
@@ -23,7 +23,7 @@ ends_left None = 0
 ends_left (Some end) = 1
 
 abbrev pub turns_of : AddrState → ℕ
-turns_of s = steps_left s.fcfs + ends_left (end_of s.dhcp)
+turns_of s = steps_left s.fcfs + ends_left (bound_end s.dhcp)
 
 -- the same for all rows
 abbrev pub turns_left : List Row → ℕ

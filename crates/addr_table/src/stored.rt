@@ -2,7 +2,7 @@
 
 ghost use Rattle.std.specs.Prelude.{◌≡◌, ◌^◌, ◌≤◌, ◌<◌, ◌⊎◌, ◌↔◌, Some, [], IsSome, IsTrue, true, length};
 ghost use Rattle.fcfs_states.specs.Premises.{AreTimes};
-ghost use Rattle.fcfs_states.specs.Ageing.{behind};
+ghost use Rattle.fcfs_states.specs.Ageing.{probes_behind};
 ghost use Rattle.mix_rules.specs.States.{has_state};
 ghost use Rattle.mix_rules.specs.Ageing.{aged_state, due_next as due_of};
 ghost use Rattle.mix_rules.specs.Premises.{AllMomentsFit};
@@ -58,7 +58,7 @@ pub fn pass(state: &mut AddrState, due: Moment, k: &Times) -> Option<Probe>
     requires fits { AllMomentsFit state.old }
     requires first { due_of k.now state.old ≡ Some due }
     ensures state { state.new ≡ (aged_state k.now due state.old).state }
-    ensures probe { (aged_state k.now due state.old).probes ≡ behind due result [] }
+    ensures probe { (aged_state k.now due state.old).probes ≡ probes_behind due result [] }
     ensures fits { AllMomentsFit state.new }
 {
     let aged = state.age(due, k);

@@ -12,7 +12,7 @@ ghost use Rattle.addr_table.specs.Ages.{aged_rows, AllStill};
 ghost use Rattle.addr_table.specs.Sends.{sends};
 ghost use Rattle.addr_table.specs.Rooms.{may_hold_more, room_for, IsFixable};
 ghost use Rattle.addr_table.specs.Outcomes.{outcome_in};
-ghost use Rattle.addr_table.specs.Gives.{Gives};
+ghost use Rattle.addr_table.specs.Gives.{GivesProbe};
 ghost use Rattle.addr_table.specs.Keeps.{IsWithinRules, AreSound, StaySound};
 ghost use Rattle.addr_table.specs.OneTurn.{Turns};
 
@@ -151,7 +151,7 @@ impl AddrTable {
     // it serves `age_to` alone.
     pub(crate) fn next_probe(&mut self, t: Moment) -> Option<SentProbe>
         requires { t ≤ 2 ^ 62 }
-        ensures given { Gives t self.old self.new result }
+        ensures given { GivesProbe t self.old self.new result }
         ensures sound { StaySound self.old.rows self.new.rows }
     {
         while let Some(passed) = self.pass_first(t) {

@@ -5,7 +5,7 @@ use Rattle.std.proofs.lemmas.Bool.{cases_Bool, cond_both, and_parts, eqb-true, e
 use Rattle.std.proofs.lemmas.List.Elements.{All-head, All-tail, All-cons}
 use Rattle.savi_kinds.specs.Ports.{number_of}
 use Rattle.bridge_fdb.specs.declared.station.Station.{Station}
-use Rattle.bridge_fdb.specs.Stations.{mac_number, is_live, live_at, is_of, is_at, end_of, stations_at}
+use Rattle.bridge_fdb.specs.Stations.{mac_number, is_live, live_at, is_of, is_at, station_end, stations_at}
 use Rattle.bridge_fdb.specs.Learning.{is_known, with_station}
 use Rattle.bridge_fdb.specs.Limits.{IsRising}
 use Rattle.bridge_fdb.specs.Places.{StandsAt}
@@ -151,7 +151,7 @@ LivesUntil-earlier a b (Some y) earlier lives = omega (arith, earlier, lives)
 
 pub live_before : (end u : ℕ) (o : Option Station) → u < end → LivesUntil end o → has (is_live u) o ≡ true
 live_before end u None before lives = absurd lives
-live_before end u (Some y) before lives = lt-ltb u (end_of y) (omega (arith, before, lives))
+live_before end u (Some y) before lives = lt-ltb u (station_end y) (omega (arith, before, lives))
 
 -- where one with the MAC address has ended, the same are live without it
 pub ended_one : (t n : ℕ) (xs : List Station) → IsRising xs → 1 ≤ count_by (λ x. is_of n x && not (is_live t x)) xs → live_at t (without n xs) ≡ live_at t xs

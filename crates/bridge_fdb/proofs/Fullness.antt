@@ -10,7 +10,7 @@ use Rattle.bridge_fdb.specs.Learning.{with_station}
 use Rattle.bridge_fdb.specs.Limits.{IsRising}
 use Rattle.bridge_fdb.specs.Places.{StandsAt}
 use Rattle.bridge_fdb.specs.Kept.{without}
-use Rattle.bridge_fdb.specs.Full.{Tells}
+use Rattle.bridge_fdb.specs.Full.{TellsFull}
 use Rattle.savi_kinds.proofs.Filters.{filter-none}
 use Rattle.bridge_fdb.proofs.Parts.{count_with, of_count}
 use Rattle.bridge_fdb.proofs.Without.{count_without}
@@ -21,14 +21,14 @@ abbrev lives_at : ℕ → ℕ → Station → Bool
 lives_at port t station = is_at port station && is_live t station
 
 -- one is put in whose MAC address none has
-pub Tells-with : (full : Full) (s : Station) (xs : List Station) → Tells full xs → All (λ x. is_of (mac_number s.mac) x ≡ false) xs → Tells full (with_station s xs)
+pub Tells-with : (full : Full) (s : Station) (xs : List Station) → TellsFull full xs → All (λ x. is_of (mac_number s.mac) x ≡ false) xs → TellsFull full (with_station s xs)
 Tells-with full s xs tells new k t below before =
     let p : Station → Bool = lives_at (k + 1) t in
     let none : count_by p (filter (is_of (mac_number s.mac)) xs) ≡ 0 = ap (count_by p) (filter-none (is_of (mac_number s.mac)) xs new) in
     omega (arith, tells k t below before, count_by-filter (is_at (k + 1)) (is_live t) xs, count_by-filter (is_at (k + 1)) (is_live t) (with_station s xs), count_with p s xs, none)
 
 -- one is given up, whose port is told of no longer
-pub Tells-without : (old new : Full) (n : ℕ) (xs : List Station) (i : ℕ) (x : Station) → Tells old xs → IsRising xs → StandsAt n xs i → x ≡ get_or xs i x → ((k : ℕ) → k < 16 → slice_index new.until k ≡ cond (number_of x.port == k + 1) 0 (slice_index old.until k)) → Tells new (without n xs)
+pub Tells-without : (old new : Full) (n : ℕ) (xs : List Station) (i : ℕ) (x : Station) → TellsFull old xs → IsRising xs → StandsAt n xs i → x ≡ get_or xs i x → ((k : ℕ) → k < 16 → slice_index new.until k ≡ cond (number_of x.port == k + 1) 0 (slice_index old.until k)) → TellsFull new (without n xs)
 Tells-without old new n xs i x tells rising at is set k t below before =
     elim (cases_Bool (number_of x.port == k + 1)) [
       | inl here ↦ let none : slice_index new.until k ≡ 0 = set k below ∙ rw here refl in absurd (omega (arith, before, none))
@@ -40,7 +40,7 @@ Tells-without old new n xs i x tells rising at is set k t below before =
     ]
 
 -- a port's 256 were found live until some moment
-pub Tells-set : (old new : Full) (p : Port) (end : ℕ) (xs : List Station) → Tells old xs → ((u : ℕ) → u < end → 256 ≤ stations_at (number_of p) (live_at u xs)) → ((k : ℕ) → k < 16 → slice_index new.until k ≡ cond (number_of p == k + 1) end (slice_index old.until k)) → Tells new xs
+pub Tells-set : (old new : Full) (p : Port) (end : ℕ) (xs : List Station) → TellsFull old xs → ((u : ℕ) → u < end → 256 ≤ stations_at (number_of p) (live_at u xs)) → ((k : ℕ) → k < 16 → slice_index new.until k ≡ cond (number_of p == k + 1) end (slice_index old.until k)) → TellsFull new xs
 Tells-set old new p end xs tells live set k t below before =
     elim (cases_Bool (number_of p == k + 1)) [
       | inl here ↦
@@ -53,7 +53,7 @@ Tells-set old new p end xs tells live set k t below before =
     ]
 
 -- one is seen again at its port
-pub Tells-renewed : (old new : Full) (s : Station) (xs : List Station) (i : ℕ) (x : Station) → Tells old xs → IsRising xs → StandsAt (mac_number s.mac) xs i → x ≡ get_or xs i x → number_of x.port ≡ number_of s.port → ((k : ℕ) → k < 16 → slice_index new.until k ≤ slice_index old.until k) → slice_index new.until (number_of s.port - 1) ≤ s.last + 300000 → Tells new (with_station s xs)
+pub Tells-renewed : (old new : Full) (s : Station) (xs : List Station) (i : ℕ) (x : Station) → TellsFull old xs → IsRising xs → StandsAt (mac_number s.mac) xs i → x ≡ get_or xs i x → number_of x.port ≡ number_of s.port → ((k : ℕ) → k < 16 → slice_index new.until k ≤ slice_index old.until k) → slice_index new.until (number_of s.port - 1) ≤ s.last + 300000 → TellsFull new (with_station s xs)
 Tells-renewed old new s xs i x tells rising at is port lower own k t below before =
     let p : Station → Bool = lives_at (k + 1) t in
     let moment : t < slice_index old.until k = omega (arith, before, lower k below) in

@@ -5,7 +5,7 @@ use Rattle.std.specs.List.{filter_map}
 use Rattle.savi_kinds.specs.Ports.{number_of}
 use Rattle.bridge_fdb.specs.declared.station.Station.{Station}
 use Rattle.bridge_fdb.specs.declared.kept.Kept.{Kept}
-use Rattle.bridge_fdb.specs.Stations.{mac_number, is_live, end_of, is_below, is_above}
+use Rattle.bridge_fdb.specs.Stations.{mac_number, is_live, station_end, is_below, is_above}
 
 -- the MAC address of each as a number
 abbrev pub mac_numbers : List Station → List ℕ
@@ -45,7 +45,7 @@ pub record IsFree (stations : List (Option Station)) (port t slot : ℕ) : Type 
 -- a slot has a station that ends no earlier than at some moment
 abbrev pub LivesUntil : ℕ → Option Station → Type 0
 LivesUntil end None = ⊥
-LivesUntil end (Some station) = end ≤ end_of station
+LivesUntil end (Some station) = end ≤ station_end station
 
 -- the slots, the numbers and the list of the stations belong together
 pub record IsTied (stations : List (Option Station)) (slots numbers : List ℕ) (all : List Station) : Type 0 where

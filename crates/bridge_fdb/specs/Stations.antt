@@ -16,12 +16,12 @@ abbrev pub station_of : Mac → Port → ℕ → Station
 station_of mac port t = record { mac = mac; port = port; last = t }
 
 -- the moment at which a station ends: 300 s after it was seen last, the recommended ageing time (IEEE 802.1Q table 8-6)
-abbrev pub end_of : Station → ℕ
-end_of station = station.last + 300000
+abbrev pub station_end : Station → ℕ
+station_end station = station.last + 300000
 
 -- a station is live before the moment at which it ends, and at that moment it is no longer
 abbrev pub is_live : ℕ → Station → Bool
-is_live t station = nat_lt t (end_of station)
+is_live t station = nat_lt t (station_end station)
 
 -- the stations that are live at moment t
 abbrev pub live_at : ℕ → List Station → List Station
@@ -53,7 +53,7 @@ learned_port mac stations = option_map (λ station. station.port) (find (is_of (
 
 -- what is told of a station: its MAC address, its port, and the moment at which it ends
 abbrev pub station_told : Station → Mac × Port × ℕ
-station_told station = (station.mac, station.port, end_of station)
+station_told station = (station.mac, station.port, station_end station)
 
 -- what is told of those that are live at t, from a place in the list on
 abbrev pub rows_from : ℕ → ℕ → List Station → List (Mac × Port × ℕ)

@@ -8,7 +8,7 @@ ghost use Rattle.bridge_fdb.specs.Stations.{mac_number, station_of, is_of, is_li
 ghost use Rattle.bridge_fdb.specs.Learning.{is_known, learned, with_station};
 ghost use Rattle.bridge_fdb.specs.Limits.{IsWithinLimits};
 ghost use Rattle.bridge_fdb.specs.Kept.{Keeps, IsFree, IsSlotOf, in_slot, listed, without};
-ghost use Rattle.bridge_fdb.specs.Full.{Tells};
+ghost use Rattle.bridge_fdb.specs.Full.{TellsFull};
 ghost use Rattle.bridge_fdb.specs.declared.station.Station.{Station};
 
 use crate::full::Full;
@@ -34,13 +34,13 @@ impl Model for Fdb {
     ghost use Rattle.bridge_fdb.specs.declared.station.Station.{Station};
     ghost use Rattle.bridge_fdb.specs.Limits.{IsWithinLimits};
     ghost use Rattle.bridge_fdb.specs.Kept.{Keeps, listed};
-    ghost use Rattle.bridge_fdb.specs.Full.{Tells};
+    ghost use Rattle.bridge_fdb.specs.Full.{TellsFull};
 
     ghost Value = { List Station };
 
     ghost view = { λ f. listed f.kept };
 
-    ghost invariant = { λ f. Keeps f.kept × IsWithinLimits (listed f.kept) × Tells f.full (listed f.kept) };
+    ghost invariant = { λ f. Keeps f.kept × IsWithinLimits (listed f.kept) × TellsFull f.full (listed f.kept) };
 }
 
 /// What is told of a live station, and where the next one is looked for.
@@ -173,14 +173,14 @@ fn nth_live(kept: &Kept, i: u32, t: Moment) -> Option<Station>
 fn renew(kept: &mut Kept, full: &mut Full, station: Station) -> bool
     requires kept { Keeps kept.old }
     requires limits { IsWithinLimits (listed kept.old) }
-    requires full { Tells full.old (listed kept.old) }
+    requires full { TellsFull full.old (listed kept.old) }
     requires moment { station.last ≤ 2 ^ 62 }
     ensures known { result ≡ is_known station (live_at station.last (listed kept.old)) }
     ensures renewed { OnTrue result (listed kept.new ≡ with_station station (listed kept.old)) }
     ensures unchanged { OnFalse result (listed kept.new ≡ listed kept.old) }
     ensures kept { Keeps kept.new }
     ensures limits { IsWithinLimits (listed kept.new) }
-    ensures full { Tells full.new (listed kept.new) }
+    ensures full { TellsFull full.new (listed kept.new) }
 {
     match kept.search(station.mac) {
         Ok(at) => {
@@ -203,13 +203,13 @@ fn renew(kept: &mut Kept, full: &mut Full, station: Station) -> bool
 fn admit(kept: &mut Kept, full: &mut Full, station: Station)
     requires kept { Keeps kept.old }
     requires limits { IsWithinLimits (listed kept.old) }
-    requires full { Tells full.old (listed kept.old) }
+    requires full { TellsFull full.old (listed kept.old) }
     requires moment { station.last ≤ 2 ^ 62 }
     requires unknown { is_known station (live_at station.last (listed kept.old)) ≡ false }
     ensures learned { live_at station.last (listed kept.new) ≡ learned station (live_at station.last (listed kept.old)) }
     ensures kept { Keeps kept.new }
     ensures limits { IsWithinLimits (listed kept.new) }
-    ensures full { Tells full.new (listed kept.new) }
+    ensures full { TellsFull full.new (listed kept.new) }
 {
     if station.last < full.until(station.port) {
         return;
@@ -227,12 +227,12 @@ fn admit(kept: &mut Kept, full: &mut Full, station: Station)
 fn give_up(kept: &mut Kept, full: &mut Full, mac: Mac)
     requires kept { Keeps kept.old }
     requires limits { IsWithinLimits (listed kept.old) }
-    requires full { Tells full.old (listed kept.old) }
+    requires full { TellsFull full.old (listed kept.old) }
     ensures listed { listed kept.new ≡ without (mac_number mac) (listed kept.old) }
     ensures slots { (slot : ℕ) (station : Station) → in_slot kept.new.stations.items slot ≡ Some station → (in_slot kept.old.stations.items slot ≡ Some station) × (is_of (mac_number mac) station ≡ false) }
     ensures kept { Keeps kept.new }
     ensures limits { IsWithinLimits (listed kept.new) }
-    ensures full { Tells full.new (listed kept.new) }
+    ensures full { TellsFull full.new (listed kept.new) }
 {
     match kept.search(mac) {
         Ok(at) => {
@@ -248,13 +248,13 @@ fn give_up(kept: &mut Kept, full: &mut Full, mac: Mac)
 fn put(kept: &mut Kept, full: &mut Full, slot: usize, station: Station)
     requires kept { Keeps kept.old }
     requires limits { IsWithinLimits (listed kept.old) }
-    requires full { Tells full.old (listed kept.old) }
+    requires full { TellsFull full.old (listed kept.old) }
     requires moment { station.last ≤ 2 ^ 62 }
     requires free { IsFree kept.old.stations.items (number_of station.port) station.last slot }
     ensures live { live_at station.last (listed kept.new) ≡ with_station station (live_at station.last (listed kept.old)) }
     ensures kept { Keeps kept.new }
     ensures limits { IsWithinLimits (listed kept.new) }
-    ensures full { Tells full.new (listed kept.new) }
+    ensures full { TellsFull full.new (listed kept.new) }
 {
     give_up(kept, full, station.mac);
     match kept.stations[slot] {
@@ -267,7 +267,7 @@ fn put(kept: &mut Kept, full: &mut Full, slot: usize, station: Station)
 fn exchange(kept: &mut Kept, full: &mut Full, slot: usize, ended: Station, station: Station)
     requires kept { Keeps kept.old }
     requires limits { IsWithinLimits (listed kept.old) }
-    requires full { Tells full.old (listed kept.old) }
+    requires full { TellsFull full.old (listed kept.old) }
     requires moment { station.last ≤ 2 ^ 62 }
     requires unknown { find (is_of (mac_number station.mac)) (listed kept.old) ≡ None }
     requires there { in_slot kept.old.stations.items slot ≡ Some ended }
@@ -276,7 +276,7 @@ fn exchange(kept: &mut Kept, full: &mut Full, slot: usize, ended: Station, stati
     ensures live { live_at station.last (listed kept.new) ≡ with_station station (live_at station.last (listed kept.old)) }
     ensures kept { Keeps kept.new }
     ensures limits { IsWithinLimits (listed kept.new) }
-    ensures full { Tells full.new (listed kept.new) }
+    ensures full { TellsFull full.new (listed kept.new) }
 {
     let Ok(gone) = kept.search(ended.mac) else {
         unreachable!()
@@ -292,7 +292,7 @@ fn exchange(kept: &mut Kept, full: &mut Full, slot: usize, ended: Station, stati
 fn add(kept: &mut Kept, full: &Full, slot: usize, station: Station)
     requires kept { Keeps kept.old }
     requires limits { IsWithinLimits (listed kept.old) }
-    requires full { Tells full.now (listed kept.old) }
+    requires full { TellsFull full.now (listed kept.old) }
     requires moment { station.last ≤ 2 ^ 62 }
     requires unknown { find (is_of (mac_number station.mac)) (listed kept.old) ≡ None }
     requires empty { in_slot kept.old.stations.items slot ≡ None }
@@ -300,7 +300,7 @@ fn add(kept: &mut Kept, full: &Full, slot: usize, station: Station)
     ensures live { live_at station.last (listed kept.new) ≡ with_station station (live_at station.last (listed kept.old)) }
     ensures kept { Keeps kept.new }
     ensures limits { IsWithinLimits (listed kept.new) }
-    ensures full { Tells full.now (listed kept.new) }
+    ensures full { TellsFull full.now (listed kept.new) }
 {
     match kept.search(station.mac) {
         Ok(_) => unreachable!(),

@@ -3,7 +3,7 @@
 
 ghost use Rattle.std.specs.Prelude.{◌≡◌, ◌<◌, ◌≤◌, ◌+◌, ◌-◌, ◌^◌, ◌==◌, ℕ, [], min, slice_index, if◌then◌else◌};
 ghost use Rattle.savi_kinds.specs.Ports.{number_of};
-ghost use Rattle.bridge_fdb.specs.Full.{Tells};
+ghost use Rattle.bridge_fdb.specs.Full.{TellsFull};
 
 use crate::station::{AGEING_TIME_MS, STATIONS_MOST};
 use savi_kinds::{Moment, PORTS_MOST, Port};
@@ -27,7 +27,7 @@ fn index(p: Port) -> usize
 impl Full {
     // No port is full.
     pub(crate) fn nowhere() -> Full
-        ensures { Tells result [] }
+        ensures { TellsFull result [] }
     {
         Full {
             until: [0; PORTS_MOST],

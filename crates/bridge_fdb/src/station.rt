@@ -26,7 +26,7 @@ pub struct Station {
 
 impl Station {
     ghost use Rattle.savi_kinds.specs.Ports.{number_of};
-    ghost use Rattle.bridge_fdb.specs.Stations.{is_live, is_at, end_of};
+    ghost use Rattle.bridge_fdb.specs.Stations.{is_live, is_at, station_end};
 
     // Whether the station is live at t.
     pub(crate) fn is_live(&self, t: Moment) -> bool
@@ -52,7 +52,7 @@ impl Station {
     // The moment at which it ends.
     pub(crate) fn end(&self) -> Moment
         requires { self.now.last ≤ 2 ^ 62 }
-        ensures { result ≡ end_of self.now }
+        ensures { result ≡ station_end self.now }
     {
         self.last + AGEING_TIME_MS
     }

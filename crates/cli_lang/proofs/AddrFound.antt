@@ -9,7 +9,7 @@ use Rattle.std.proofs.lemmas.Option.{none-some}
 use Rattle.std.proofs.lemmas.Slice.Eq.{bytes_eq-Decides}
 use Rattle.std.proofs.lemmas.List.Elements.{All-nil, All-cons, All-head, All-tail}
 use Rattle.savi_kinds.specs.declared.address.Addr.{Addr}
-use Rattle.savi_kinds.specs.AddrText.{IsGroup, joined, group_numbers, number_of_groups, IsWhole, IsCompressed, IsAddrText}
+use Rattle.savi_kinds.specs.AddrText.{IsGroup, joined_groups, group_numbers, number_of_groups, IsEightGroups, IsCompressed, IsAddrText}
 use Rattle.savi_kinds.proofs.Colons.{behind, joined-behind}
 use Rattle.cli_lang.specs.Commands.{IsNoAddr}
 use Rattle.cli_lang.specs.Words.{begun_with}
@@ -79,7 +79,7 @@ parts_joined (c ∷ text) =
       | inr other ↦ rw (ne_eqb c 58 other) (begun_text c (between_colons text) ∙ ap (λ (t : List ℕ). c ∷ t) (parts_joined text))
     ]
 
-groups_joined : (text : List ℕ) → joined (groups_in text) ≡ text
+groups_joined : (text : List ℕ) → joined_groups (groups_in text) ≡ text
 groups_joined [] = refl
 groups_joined (c ∷ text) = parts_joined (c ∷ text)
 
@@ -105,7 +105,7 @@ not_empty : (text rest : List ℕ) → 0 < length text → groups_in (text ++ re
 not_empty [] rest some = absurd (omega arith)
 not_empty (c ∷ text) rest some = refl
 
-groups_again : (groups : List (List ℕ)) → All IsGroup groups → groups_in (joined groups) ≡ groups
+groups_again : (groups : List (List ℕ)) → All IsGroup groups → groups_in (joined_groups groups) ≡ groups
 groups_again [] h = refl
 groups_again (g ∷ groups) h =
     ap groups_in (joined-behind g groups) ∙ not_empty g (behind groups) (All-head IsGroup g groups h).0.0 ∙ cut_again g groups h
@@ -148,7 +148,7 @@ behind_in_front (g ∷ groups) text h =
     ∙ ap (in_front (58 ∷ [])) (digits_in_front g rest group.0.1 ∙ ap (in_front g) (behind_in_front groups text (All-tail IsGroup g groups h)) ∙ in_front_twice g (behind groups) (sides_of text))
     ∙ in_front_twice (58 ∷ []) (g ++ behind groups) (sides_of text)
 
-groups_in_front : (groups : List (List ℕ)) (text : List ℕ) → All IsGroup groups → sides_of (joined groups ++ text) ≡ in_front (joined groups) (sides_of text)
+groups_in_front : (groups : List (List ℕ)) (text : List ℕ) → All IsGroup groups → sides_of (joined_groups groups ++ text) ≡ in_front (joined_groups groups) (sides_of text)
 groups_in_front [] text h = sym (in_front_none (sides_of text))
 groups_in_front (g ∷ groups) text h =
     rw joined-behind (ap sides_of (append_assoc g (behind groups) text)
@@ -223,7 +223,7 @@ compressed_found text front back a split h =
           hex_back = groups_are (groups_in back) more.0;
           some = omega arith;
           eight = omega arith;
-          spelled = split ∙ ap₂ (λ (x y : List ℕ). x ++ (58 ∷ 58 ∷ y)) (sym (groups_joined front)) (sym (groups_joined back)) ∙ sym (append_assoc (joined (groups_in front)) (58 ∷ 58 ∷ []) (joined (groups_in back)));
+          spelled = split ∙ ap₂ (λ (x y : List ℕ). x ++ (58 ∷ 58 ∷ y)) (sym (groups_joined front)) (sym (groups_joined back)) ∙ sym (append_assoc (joined_groups (groups_in front)) (58 ∷ 58 ∷ []) (joined_groups (groups_in back)));
           value = sym (ap (λ (x : Addr). x.0) same);
         })
 
@@ -236,18 +236,18 @@ addr_found text a h = sided (sides_of text) refl h
     sided (Some s) is e = compressed_found text s.0 s.1 a (sides_found text s is) e
 
 -- and a text of an address has one
-whole_again : (text : List ℕ) (a : Addr) → IsWhole text a → addr_of text ≡ Some a
+whole_again : (text : List ℕ) (a : Addr) → IsEightGroups text a → addr_of text ≡ Some a
 unfolding addr_of in_front
 whole_again text a h =
     let groups : groups_in text ≡ h.groups = ap groups_in h.spelled ∙ groups_again h.groups h.hex_digits in
-    let no_sides : sides_of text ≡ None = ap sides_of (h.spelled ∙ sym (append-nil (joined h.groups))) ∙ groups_in_front h.groups [] h.hex_digits in
+    let no_sides : sides_of text ≡ None = ap sides_of (h.spelled ∙ sym (append-nil (joined_groups h.groups))) ∙ groups_in_front h.groups [] h.hex_digits in
     let test : (list_all is_hex_group h.groups && (length h.groups == 8)) ≡ true = and_from (list_all is_hex_group h.groups) (length h.groups == 8) (are_groups h.groups h.hex_digits) (eq-eqb (length h.groups) 8 h.eight) in
     rw (no_sides, groups, test) (ap (λ (n : ℕ). let made : Addr = record { 0 = n } in Some made) (sym h.value))
 
 compressed_again : (text : List ℕ) (a : Addr) → IsCompressed text a → addr_of text ≡ Some a
 unfolding addr_of in_front
 compressed_again text a h =
-    let sides : sides_of text ≡ Some (joined h.front ++ [], joined h.back) = ap sides_of (h.spelled ∙ append_assoc (joined h.front) (58 ∷ 58 ∷ []) (joined h.back)) ∙ groups_in_front h.front (58 ∷ 58 ∷ joined h.back) h.hex_front in
+    let sides : sides_of text ≡ Some (joined_groups h.front ++ [], joined_groups h.back) = ap sides_of (h.spelled ∙ append_assoc (joined_groups h.front) (58 ∷ 58 ∷ []) (joined_groups h.back)) ∙ groups_in_front h.front (58 ∷ 58 ∷ joined_groups h.back) h.hex_front in
     let zeros : 8 - (length h.front + length h.back) ≡ h.zeros = omega (arith, h.eight) in
     let some : nat_lt 0 h.zeros ≡ true = lt-ltb 0 h.zeros (omega (arith, h.some)) in
     rw (sides, append-nil, groups_again h.front h.hex_front, groups_again h.back h.hex_back, are_groups h.front h.hex_front, are_groups h.back h.hex_back, zeros, some)

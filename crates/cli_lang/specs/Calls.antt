@@ -48,16 +48,16 @@ AnswersAre [] lines ending = Unit {0}
 AnswersAre (told ∷ later) lines ending = Tells told.answer told.buf (λ rest. AnswersAre later rest ending) (AllAnswer told.answer later) lines ending
 
 -- the stamps of the lines that were told, one after the other: of a live input the readings of its clock
-abbrev pub stamp_of : LineGot → List ℕ → List ℕ
-stamp_of (got.Line stamp len) stamps = stamp ∷ stamps
-stamp_of got.End stamps = []
-stamp_of (got.Malformed at) stamps = []
-stamp_of (got.Overlong at) stamps = []
-stamp_of got.Failed stamps = []
+abbrev pub stamp_told : LineGot → List ℕ → List ℕ
+stamp_told (got.Line stamp len) stamps = stamp ∷ stamps
+stamp_told got.End stamps = []
+stamp_told (got.Malformed at) stamps = []
+stamp_told (got.Overlong at) stamps = []
+stamp_told got.Failed stamps = []
 
 abbrev pub stamps_of : List Told → List ℕ
 stamps_of [] = []
-stamps_of (told ∷ later) = stamp_of told.answer (stamps_of later)
+stamps_of (told ∷ later) = stamp_told told.answer (stamps_of later)
 
 -- The answers of a new reader are the input that its source's octets are, where that is read to its end.
 abbrev pub CallsGiveInput : Type 0

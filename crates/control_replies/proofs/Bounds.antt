@@ -28,7 +28,7 @@ use Rattle.control_replies.specs.declared.counts.Counts.{Counts}
 use Rattle.control_replies.specs.Replies.{refusal_text, end_text}
 use Rattle.control_replies.specs.Bindings.{claimant_text, until_text, binding_fields, fcfs_lines, bound_lines, state_lines, binding_lines, all_binding_lines, bindings_text, HasMoments, HasEnd, IsStored}
 use Rattle.control_replies.specs.Shows.{shut_word, port_fields, port_line, ports_text, station_fields, station_line, stations_text, HasCounts, IsStation}
-use Rattle.control_replies.specs.Counters.{all_rules, count_of, counter_fields, rule_fields, other_lines, counters_text, AreCounts}
+use Rattle.control_replies.specs.Counters.{all_rules, dropped_count, counter_fields, rule_fields, other_lines, counters_text, AreCounts}
 use Rattle.control_replies.proofs.Lines.{twenty_digits, port_digits, line_size, lines_more, lines_size}
 
 pub refusal_size : (refusal : Refusal) → length (refusal_text refusal) ≤ 23
@@ -166,8 +166,8 @@ all_have P each (x ∷ xs) = (each x, all_have P each xs)
 pub counters_size : (counts : Counts) → AreCounts counts → length (counters_text counts) ≤ 1057
 counters_size counts are =
     let first : List (List (List ℕ)) = map (rule_fields counts) all_rules in
-    let each = λ (rule : Rule) (fits : count_of counts rule < 2 ^ 64). counter_size (rule_name rule) (count_of counts rule) (name_size rule) fits in
-    let by_rule : length (lines_text first) ≤ 39 * 23 = lines_size (rule_fields counts) (λ rule. count_of counts rule < 2 ^ 64) 39 all_rules each (all_have (λ rule. count_of counts rule < 2 ^ 64) are.by_rule all_rules) in
+    let each = λ (rule : Rule) (fits : dropped_count counts rule < 2 ^ 64). counter_size (rule_name rule) (dropped_count counts rule) (name_size rule) fits in
+    let by_rule : length (lines_text first) ≤ 39 * 23 = lines_size (rule_fields counts) (λ rule. dropped_count counts rule < 2 ^ 64) 39 all_rules each (all_have (λ rule. dropped_count counts rule < 2 ^ 64) are.by_rule all_rules) in
     let pass = counter_size (codes "Pass") counts.pass (omega arith) are.pass in
     let cut = counter_size (codes "Cut") counts.cut (omega arith) are.cut in
     let probes = counter_size (codes "Probes") counts.probes (omega arith) are.probes in

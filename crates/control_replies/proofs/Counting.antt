@@ -7,13 +7,13 @@ use Rattle.hist_store.specs.VerdictTexts.{rule_name}
 use Rattle.hist_store.proofs.LineLemmas.{written_each, written_more}
 use Rattle.control_replies.specs.Replies.{end_text}
 use Rattle.control_replies.specs.declared.counts.Counts.{Counts}
-use Rattle.control_replies.specs.Counters.{all_rules, count_of, counter_fields, rule_fields, other_lines, counters_text}
+use Rattle.control_replies.specs.Counters.{all_rules, dropped_count, counter_fields, rule_fields, other_lines, counters_text}
 
 -- the lines of the rules up to the next one
 pub counted_next : (counts : Counts) (i : ℕ) (name : List ℕ) (count : ℕ) (old items new : List ℕ)
     → i < length all_rules
     → name ≡ rule_name (get_or all_rules i PortDown)
-    → count ≡ count_of counts (get_or all_rules i PortDown)
+    → count ≡ dropped_count counts (get_or all_rules i PortDown)
     → items ≡ old ++ lines_text (map (rule_fields counts) (take i all_rules))
     → new ≡ items ++ lines_text (counter_fields name count ∷ [])
     → new ≡ old ++ lines_text (map (rule_fields counts) (take (i + 1) all_rules))

@@ -17,8 +17,8 @@ all_rules =
     ∷ OffLink ∷ NotAssigned ∷ PortFull ∷ WrongPort ∷ Unverified ∷ Contested ∷ NaTarget ∷ PendingFull ∷ DhcpContested ∷ []
 
 -- how many frames a rule dropped: that of number 1 stands at index 0
-abbrev pub count_of : Counts → Rule → ℕ
-count_of counts rule = slice_index counts.by_rule (rule_number rule - 1)
+abbrev pub dropped_count : Counts → Rule → ℕ
+dropped_count counts rule = slice_index counts.by_rule (rule_number rule - 1)
 
 -- a line: a name and a count
 abbrev pub counter_fields : List ℕ → ℕ → List (List ℕ)
@@ -26,7 +26,7 @@ counter_fields name count = name ∷ decimal count ∷ []
 
 -- the line of a rule
 abbrev pub rule_fields : Counts → Rule → List (List ℕ)
-rule_fields counts rule = counter_fields (rule_name rule) (count_of counts rule)
+rule_fields counts rule = counter_fields (rule_name rule) (dropped_count counts rule)
 
 -- the lines behind those of the rules
 abbrev pub other_lines : Counts → List (List (List ℕ))
@@ -42,7 +42,7 @@ counters_text counts = lines_text (map (rule_fields counts) all_rules ++ other_l
 
 -- each count is a number of 64 bits, as the code has them
 pub record AreCounts (counts : Counts) : Type 0 where
-  pub by_rule : (rule : Rule) → count_of counts rule < 2 ^ 64
+  pub by_rule : (rule : Rule) → dropped_count counts rule < 2 ^ 64
   pub pass : counts.pass < 2 ^ 64
   pub cut : counts.cut < 2 ^ 64
   pub probes : counts.probes < 2 ^ 64

@@ -1,7 +1,7 @@
 //! What the counters count.
 
 ghost use Rattle.std.specs.Prelude.{◌≡◌};
-ghost use Rattle.control_replies.specs.Counters.{count_of};
+ghost use Rattle.control_replies.specs.Counters.{dropped_count};
 
 use savi_kinds::Rule;
 
@@ -26,7 +26,7 @@ pub struct Counts {
 impl Counts {
     /// How many frames a rule dropped. O(1).
     pub fn of(&self, rule: Rule) -> u64
-        ensures { result ≡ count_of self.now rule }
+        ensures { result ≡ dropped_count self.now rule }
     {
         self.by_rule[usize::from(rule.number() - 1)]
     }

@@ -1,16 +1,16 @@
 -- A history is read again of its code.
 use Rattle.std.proofs.Common.{◌≡◌, ℕ, suc, ◌+◌, List, [], ◌∷◌, ◌++◌, length, refl, ap, sym, ◌∙◌, append_assoc, append-nil, length-append, arith}
 use Rattle.hist_store.specs.Rows.{Row}
-use Rattle.table_lock.specs.Entries.{History}
-use Rattle.core_keep.specs.RowCodes.{row_code, row_at}
+use Rattle.table_lock.specs.Entries.{EntryList}
+use Rattle.core_keep.specs.RowCodes.{row_code, row_by_code}
 use Rattle.core_keep.specs.Pasts.{coded, decoded}
 use Rattle.core_keep.proofs.RowsRead.{row_again}
 
 -- what came later is in front of what came before
-pub decoded_behind : (a b : History) → decoded (a ++ b) ≡ decoded b ++ decoded a
+pub decoded_behind : (a b : EntryList) → decoded (a ++ b) ≡ decoded b ++ decoded a
 decoded_behind [] b = sym (append-nil (decoded b))
 decoded_behind (code ∷ a) b =
-    ap (λ (xs : List Row). xs ++ row_at code ∷ []) (decoded_behind a b) ∙ append_assoc (decoded b) (decoded a) (row_at code ∷ [])
+    ap (λ (xs : List Row). xs ++ row_by_code code ∷ []) (decoded_behind a b) ∙ append_assoc (decoded b) (decoded a) (row_by_code code ∷ [])
 
 pub past_again : (past : List Row) → decoded (coded past) ≡ past
 past_again [] = refl

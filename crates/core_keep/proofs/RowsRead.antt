@@ -18,7 +18,7 @@ use Rattle.savi_kinds.specs.Ports.{number_of}
 use Rattle.savi_kinds.specs.Rules.{rule_number}
 use Rattle.hist_store.specs.Rows.{Row}
 use Rattle.core_keep.specs.PortNumbers.{port_where, port_at}
-use Rattle.core_keep.specs.RowCodes.{who_code, how_code, act_code, verdict_code, row_code, who_at, how_at, act_at, verdict_at, row_from, made_by, row_at}
+use Rattle.core_keep.specs.RowCodes.{who_code, how_code, act_code, verdict_code, row_code, who_at, how_at, act_at, verdict_at, row_from, made_by, row_by_code}
 
 the_port : (number : ℕ) → 1 ≤ number → number ≤ 16 → Port
 the_port number low high = record { number = number; low = low; high = high }
@@ -118,7 +118,7 @@ verdict_again (Some (Drop rule)) = (4, rule_number rule, refl, rule_again rule)
 abbrev judged_as : Row → Act → Option Verdict → Row
 judged_as row act verdict = record row { entry = record row.entry { act = act; verdict = verdict } }
 
-pub row_again : (row : Row) → row_at (row_code row) ≡ row
+pub row_again : (row : Row) → row_by_code (row_code row) ≡ row
 row_again row =
     let a = act_again row.entry.act in let v = verdict_again row.entry.verdict in
     let numbers : List ℕ → List ℕ = λ (rest : List ℕ).
@@ -129,4 +129,4 @@ row_again row =
     ∙ ap (λ (x : Option Verdict). judged_as row row.entry.act x) v.3
 
 pub one_row : (row other : Row) → row_code row ≡ row_code other → row ≡ other
-one_row row other same = sym (row_again row) ∙ ap row_at same ∙ row_again other
+one_row row other same = sym (row_again row) ∙ ap row_by_code same ∙ row_again other

@@ -116,5 +116,5 @@ abbrev pub made_by : ℕ → Row → Row
 made_by by row = record row { entry = record row.entry { by = by } }
 
 -- the row that has this code
-abbrev pub row_at : ℕ × List ℕ → Row
-row_at code = made_by code.0 (row_from code.1)
+abbrev pub row_by_code : ℕ × List ℕ → Row
+row_by_code code = made_by code.0 (row_from code.1)

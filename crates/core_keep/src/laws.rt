@@ -3,15 +3,15 @@
 ghost use Rattle.std.specs.Prelude.{◌≡◌, ℕ, List, length};
 ghost use Rattle.savi_kinds.specs.declared.plan.Plan.{Plan};
 ghost use Rattle.hist_store.specs.Rows.{Row};
-ghost use Rattle.table_lock.specs.Entries.{History, StartsWith, mine};
-ghost use Rattle.core_keep.specs.RowCodes.{row_at, row_code};
+ghost use Rattle.table_lock.specs.Entries.{EntryList, StartsWith, mine};
+ghost use Rattle.core_keep.specs.RowCodes.{row_by_code, row_code};
 ghost use Rattle.core_keep.specs.PlanCodes.{plan_code};
 ghost use Rattle.core_keep.specs.Pasts.{coded, decoded};
 ghost use Rattle.core_keep.specs.Seen.{IsLater};
 
 /// Law: a row is read again of its code, so no two rows have the same one.
 pub fn a_code_says_one_row()
-    ensures read { (row : Row) → row_at (row_code row) ≡ row }
+    ensures read { (row : Row) → row_by_code (row_code row) ≡ row }
     ensures one { (row other : Row) → row_code row ≡ row_code other → row ≡ other }
 {}
 
@@ -30,6 +30,6 @@ pub fn a_code_says_one_history()
 /// Law: where a history begins with what a pass had seen, and has no further entry of that pass, it went on by rows of
 /// others alone.
 pub fn a_pass_knows_its_own()
-    ensures { (pass : ℕ) (seen now : History) → StartsWith now seen → mine pass now ≡ mine pass seen
+    ensures { (pass : ℕ) (seen now : EntryList) → StartsWith now seen → mine pass now ≡ mine pass seen
         → IsLater pass (decoded seen) (decoded now) }
 {}

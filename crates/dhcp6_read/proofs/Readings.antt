@@ -11,7 +11,7 @@ use Rattle.dhcp6_read.specs.Options.{OptionsRead, GivesRows}
 use Rattle.dhcp6_read.specs.Levels.{Said, row_says, in_message}
 use Rattle.dhcp6_read.specs.Message.{kind_of, tid_of, is_relayed, duid_in, is_rapid, unless_fault, unread, read_whole, options_read, reading, Reads}
 use Rattle.dhcp6_read.specs.DhcpOf.{option_row, dhcp_of}
-use Rattle.dhcp6_read.specs.Steps.{Tells}
+use Rattle.dhcp6_read.specs.Steps.{TellsLeases}
 use Rattle.dhcp6_read.proofs.Rows.{gives_rows, row_same}
 
 abbrev pub ReadsEach : List ℕ → Result Dhcp DhcpFault → Type 0
@@ -55,13 +55,13 @@ said_by row_of message octets = row_says (in_message row_of (kind_of message)) (
 
 -- what is known of them, whichever function gives rows
 abbrev pub TellsOf : List ℕ → List ℕ → Result Bool DhcpFault → List Lease → List Lease → Type 0
-TellsOf message octets result before after = (row_of : List ℕ → OptionsRead) → GivesRows row_of → Tells (said_by row_of message octets) result before after
+TellsOf message octets result before after = (row_of : List ℕ → OptionsRead) → GivesRows row_of → TellsLeases (said_by row_of message octets) result before after
 
 pub fault_reads : (message octets : List ℕ) (fault : DhcpFault) (before after : List Lease) → 4 ≤ length message → octets ≡ drop 4 message → is_relayed (kind_of message) ≡ false
     → TellsOf message octets (Err fault) before after → ReadsEach message (Err fault)
 fault_reads message octets fault before after long at e told row_of gives =
     let behind = drop 4 message in
-    let P : List ℕ → Type 0 = λ l. Tells (said_by row_of message l) (Err fault) before after in
+    let P : List ℕ → Type 0 = λ l. TellsLeases (said_by row_of message l) (Err fault) before after in
     let value = read_whole message (row_of behind).options (said_by row_of message behind) in
     sym (headed row_of message false long e ∙ ap (λ (l : List DhcpFault). unless_fault l value) (subst P at (told row_of gives)).1)
 
@@ -77,7 +77,7 @@ pub whole_reads : (message octets : List ℕ) (d : Dhcp) (void : Bool) (before a
     → d.leases.items ≡ cond void [] after → ReadsEach message (Ok d)
 whole_reads message octets d void before after long at e has told none leases row_of gives =
     let behind = drop 4 message in
-    let P : List ℕ → Type 0 = λ l. Tells (said_by row_of message l) (Ok void) before after in
+    let P : List ℕ → Type 0 = λ l. TellsLeases (said_by row_of message l) (Ok void) before after in
     let Q : List ℕ → Type 0 = λ l. HasRead message l d row_of in
     let k = subst Q at (has row_of gives) in
     let t = subst P at (told row_of gives) in

@@ -5,8 +5,8 @@ use Rattle.std.proofs.lemmas.Bool.{cases_lt, cond_both, both_ways, and_parts, an
 use Rattle.std.proofs.lemmas.List.{append_assoc, take_at, drop_at, drop-drop, take-append-drop, length-append, length-take-le, length-drop, get_or-take, get_or_append_left}
 use Rattle.std.proofs.lemmas.List.Elements.{All-nil, All-cons, All-head, All-tail}
 use Rattle.byteorder.specs.Endian.{big_number}
-use Rattle.dhcp6_read.specs.Options.{DhcpOption, octets_of, IsWhole, BeginsNone, OptionsRead, IsRow, GivesRows}
-use Rattle.dhcp6_read.specs.DhcpOf.{front_len, begins_whole, front_option, behind_front, in_front, no_option, row_within, option_row}
+use Rattle.dhcp6_read.specs.Options.{DhcpOption, octets_of, IsWhole, BeginsNone, OptionsRead, IsOptionsRead, GivesRows}
+use Rattle.dhcp6_read.specs.DhcpOf.{front_len, begins_whole, front_option, behind_front, with_option, no_option, row_within, option_row}
 use Rattle.dhcp6_read.specs.Steps.{BeginsWith}
 
 append_same : (p q x y : List ℕ) → length p ≡ length q → p ++ x ≡ q ++ y → (p ≡ q) × (x ≡ y)
@@ -44,16 +44,16 @@ options_same (a ∷ os) (b ∷ ps) x y p q m n e =
     let more = options_same os ps x y (All-tail IsWhole a os p) (All-tail IsWhole b ps q) m n first.1 in
     (ap (λ (o : DhcpOption). o ∷ os) first.0 ∙ ap (λ (l : List DhcpOption). b ∷ l) more.0, more.1)
 
-pub row_same : (octets : List ℕ) (r s : OptionsRead) → IsRow octets r → IsRow octets s → r ≡ s
+pub row_same : (octets : List ℕ) (r s : OptionsRead) → IsOptionsRead octets r → IsOptionsRead octets s → r ≡ s
 row_same octets r s p q =
     let both = options_same r.options s.options r.rest s.rest p.whole q.whole p.ends q.ends (sym p.joined ∙ q.joined) in
     let made : List DhcpOption → List ℕ → OptionsRead = λ o x. record { options = o; rest = x } in
     ap (λ (o : List DhcpOption). made o r.rest) both.0 ∙ ap (λ (x : List ℕ). made s.options x) both.1
 
-row_none : (octets : List ℕ) → BeginsNone octets → IsRow octets (record { options = []; rest = octets })
+row_none : (octets : List ℕ) → BeginsNone octets → IsOptionsRead octets (record { options = []; rest = octets })
 row_none octets none = record { whole = All-nil IsWhole; ends = none; joined = refl }
 
-row_cons : (octets behind : List ℕ) (o : DhcpOption) (row : OptionsRead) → IsWhole o → octets ≡ octets_of o ++ behind → IsRow behind row → IsRow octets (record { options = o ∷ row.options; rest = row.rest })
+row_cons : (octets behind : List ℕ) (o : DhcpOption) (row : OptionsRead) → IsWhole o → octets ≡ octets_of o ++ behind → IsOptionsRead behind row → IsOptionsRead octets (record { options = o ∷ row.options; rest = row.rest })
 row_cons octets behind o row whole e is = record {
   whole = All-cons IsWhole o row.options whole is.whole;
   ends = is.ends;
@@ -110,11 +110,11 @@ first_joined octets n =
     let o : DhcpOption = record { code = take 2 octets; len = take 2 (drop 2 octets); content = take n (drop 4 octets) } in
     sym (regroup o (drop n (drop 4 octets)) ∙ ap (λ (l : List ℕ). take 2 octets ++ (take 2 (drop 2 octets) ++ l)) c ∙ ap (λ (l : List ℕ). take 2 octets ++ (take 2 (drop 2 octets) ++ l)) (sym d) ∙ ap (λ (l : List ℕ). take 2 octets ++ l) b ∙ a)
 
-row_is : (most : ℕ) (octets : List ℕ) → length octets ≤ most → IsRow octets (row_within most octets)
+row_is : (most : ℕ) (octets : List ℕ) → length octets ≤ most → IsOptionsRead octets (row_within most octets)
 row_is zero octets h = row_none octets (begins_none octets (inl (omega arith)))
 row_is (suc most) octets h =
     let behind = behind_front octets in
-    cond_both (begins_whole octets) (in_front (front_option octets) (row_within most behind)) (no_option octets) (IsRow octets)
+    cond_both (begins_whole octets) (with_option (front_option octets) (row_within most behind)) (no_option octets) (IsOptionsRead octets)
     (λ whole.
     let parts = and_parts (nat_le 4 (length octets)) (nat_le (4 + front_len octets) (length octets)) whole in
     let long = leb-true 4 (length octets) parts.0 in

@@ -8,7 +8,7 @@ use Rattle.dhcp6_read.specs.declared.message.DhcpFault.{DhcpFault}
 use Rattle.dhcp6_read.specs.declared.message.DhcpFault.TheVariants.{Overrun}
 use Rattle.dhcp6_read.specs.Options.{DhcpOption, BeginsNone, OptionsRead, GivesRows, option_code}
 use Rattle.dhcp6_read.specs.Levels.{Said, row_says, overrun}
-use Rattle.dhcp6_read.specs.Steps.{Tells, BeginsWith}
+use Rattle.dhcp6_read.specs.Steps.{TellsLeases, BeginsWith}
 use Rattle.dhcp6_read.proofs.Rows.{row_begins, row_ends, begins_none}
 
 -- What all the octets say is what the rest says, behind the options that are read: these have no fault, one of them
@@ -24,7 +24,7 @@ faults_in says options = flat_map (λ option. (says (option_code option) option.
 
 goes_more : (says : ℕ → List ℕ → Said) (whole : Said) (o : DhcpOption) (row : OptionsRead) (void voids : Bool) (before leases after : List Lease)
     → Goes whole (row_says says (record { options = o ∷ row.options; rest = row.rest })) void before leases
-    → Tells (says (option_code o) o.content) (Ok voids) leases after
+    → TellsLeases (says (option_code o) o.content) (Ok voids) leases after
     → Goes whole (row_says says row) (void || voids) before after
 goes_more says whole o row void voids before leases after known told =
     let left = row_says says row in
@@ -36,13 +36,13 @@ goes_more says whole o row void voids before leases after known told =
     }
 
 goes_end : (says : ℕ → List ℕ → Said) (whole : Said) (void : Bool) (before leases : List Lease)
-    → Goes whole (row_says says (record { options = []; rest = [] })) void before leases → Tells whole (Ok void) before leases
+    → Goes whole (row_says says (record { options = []; rest = [] })) void before leases → TellsLeases whole (Ok void) before leases
 goes_end says whole void before leases known = (known.same_faults, known.same_void ∙ or-false void, sym (known.same_leases ∙ append-nil leases))
 
 goes_fault : (says : ℕ → List ℕ → Said) (whole : Said) (o : DhcpOption) (row : OptionsRead) (void : Bool) (fault : DhcpFault) (before leases after end : List Lease)
     → Goes whole (row_says says (record { options = o ∷ row.options; rest = row.rest })) void before leases
-    → Tells (says (option_code o) o.content) (Err fault) leases after
-    → Tells whole (Err fault) before end
+    → TellsLeases (says (option_code o) o.content) (Err fault) leases after
+    → TellsLeases whole (Err fault) before end
 goes_fault says whole o row void fault before leases after end known told = (
   (told.0 ++ faults_in says row.options) ++ overrun row.rest,
   known.same_faults ∙ ap (λ (l : List DhcpFault). (l ++ faults_in says row.options) ++ overrun row.rest) told.1,
@@ -50,7 +50,7 @@ goes_fault says whole o row void fault before leases after end known told = (
 
 goes_overrun : (says : ℕ → List ℕ → Said) (whole : Said) (octet : ℕ) (octets : List ℕ) (void : Bool) (before leases end : List Lease)
     → Goes whole (row_says says (record { options = []; rest = octet ∷ octets })) void before leases
-    → Tells whole (Err Overrun) before end
+    → TellsLeases whole (Err Overrun) before end
 goes_overrun says whole octet octets void before leases end known = ([], known.same_faults)
 
 -- the same for each function that gives rows, with the rest of the octets in place of what it says
@@ -59,15 +59,15 @@ Continues says octets rest void before leases =
     (row_of : List ℕ → OptionsRead) → GivesRows row_of → Goes (row_says (says row_of) (row_of octets)) (row_says (says row_of) (row_of rest)) void before leases
 
 abbrev pub TellsEach : ((List ℕ → OptionsRead) → Said) → Result Bool DhcpFault → List Lease → List Lease → Type 0
-TellsEach said result before after = (row_of : List ℕ → OptionsRead) → GivesRows row_of → Tells (said row_of) result before after
+TellsEach said result before after = (row_of : List ℕ → OptionsRead) → GivesRows row_of → TellsLeases (said row_of) result before after
 
 pub starts : (says : (List ℕ → OptionsRead) → ℕ → List ℕ → Said) (octets : List ℕ) (before : List Lease) → Continues says octets octets false before before
 starts says octets before row_of gives = record { same_faults = refl; same_void = refl; same_leases = refl }
 
-at_option : (says : ℕ → List ℕ → Said) (r : Result Bool DhcpFault) (leases after : List Lease) (m n : ℕ) (c d : List ℕ) → m ≡ n → c ≡ d → Tells (says n d) r leases after → Tells (says m c) r leases after
+at_option : (says : ℕ → List ℕ → Said) (r : Result Bool DhcpFault) (leases after : List Lease) (m n : ℕ) (c d : List ℕ) → m ≡ n → c ≡ d → TellsLeases (says n d) r leases after → TellsLeases (says m c) r leases after
 at_option says r leases after m n c d e f told =
-    let P : ℕ → Type 0 = λ k. Tells (says k d) r leases after in
-    let Q : List ℕ → Type 0 = λ l. Tells (says m l) r leases after in
+    let P : ℕ → Type 0 = λ k. TellsLeases (says k d) r leases after in
+    let Q : List ℕ → Type 0 = λ l. TellsLeases (says m l) r leases after in
     subst Q (sym f) (subst P (sym e) told)
 
 pub goes_on : (says : (List ℕ → OptionsRead) → ℕ → List ℕ → Said) (octets rest behind content : List ℕ) (code : ℕ) (void voids : Bool) (before leases after : List Lease)

@@ -23,8 +23,8 @@ abbrev pub behind_front : List ℕ → List ℕ
 behind_front octets = drop (front_len octets) (drop 4 octets)
 
 -- the option in front of those of a row
-abbrev pub in_front : DhcpOption → OptionsRead → OptionsRead
-in_front option row = record { options = option ∷ row.options; rest = row.rest }
+abbrev pub with_option : DhcpOption → OptionsRead → OptionsRead
+with_option option row = record { options = option ∷ row.options; rest = row.rest }
 
 -- a row of no option
 abbrev pub no_option : List ℕ → OptionsRead
@@ -34,7 +34,7 @@ no_option octets = record { options = []; rest = octets }
 abbrev pub row_within : ℕ → List ℕ → OptionsRead
 row_within zero octets = no_option octets
 row_within (suc most) octets =
-    if begins_whole octets then in_front (front_option octets) (row_within most (behind_front octets)) else no_option octets
+    if begins_whole octets then with_option (front_option octets) (row_within most (behind_front octets)) else no_option octets
 
 -- the row: it has no more options than octets
 unfoldable pub option_row : List ℕ → OptionsRead

@@ -14,8 +14,8 @@ pub record Said : Type 0 where
   pub void : Bool
   pub leases : List Lease
 
-abbrev pub nothing : Said
-nothing = record { faults = []; void = false; leases = [] }
+abbrev pub says_nothing : Said
+says_nothing = record { faults = []; void = false; leases = [] }
 
 abbrev pub faulty : DhcpFault → Said
 faulty fault = record { faults = fault ∷ []; void = false; leases = [] }
@@ -49,7 +49,7 @@ status_says kind content =
 
 -- an option within an address: a status (13)
 abbrev pub in_address : ℕ → ℕ → List ℕ → Said
-in_address kind code content = if code == 13 then status_says kind content else nothing
+in_address kind code content = if code == 13 then status_says kind content else says_nothing
 
 -- an address: 16 octets, its preferred and its valid lifetime in 4 octets each (RFC 8415 section 21.6)
 unfoldable pub lease_of : List ℕ → Lease
@@ -63,7 +63,7 @@ address_says row_of kind content =
 -- an option within an IA: an address (5) or a status (13)
 abbrev pub in_ia : (List ℕ → OptionsRead) → ℕ → ℕ → List ℕ → Said
 in_ia row_of kind code content =
-    if code == 5 then address_says row_of kind content else (if code == 13 then status_says kind content else nothing)
+    if code == 5 then address_says row_of kind content else (if code == 13 then status_says kind content else says_nothing)
 
 -- an IA with the options behind its fixed octets
 abbrev pub ia_says : (List ℕ → OptionsRead) → ℕ → ℕ → List ℕ → Said
@@ -72,10 +72,10 @@ ia_says row_of fixed kind content =
 
 -- a client's DUID: 3 to 130 octets (RFC 8415 sections 11.1, 21.2)
 abbrev pub duid_says : List ℕ → Said
-duid_says content = if nat_lt (length content) 3 then faulty Duid else (if nat_lt 130 (length content) then faulty Duid else nothing)
+duid_says content = if nat_lt (length content) 3 then faulty Duid else (if nat_lt 130 (length content) then faulty Duid else says_nothing)
 
 -- An option of a message: a client's DUID (1), an IA_NA (3) with 12 fixed octets, an IA_TA (4) with 4, or a status (13)
 -- (RFC 8415 sections 21.2, 21.4, 21.5, 21.13). Every other one is passed over.
 abbrev pub in_message : (List ℕ → OptionsRead) → ℕ → ℕ → List ℕ → Said
 in_message row_of kind code content =
-    if code == 1 then duid_says content else (if code == 3 then ia_says row_of 12 kind content else (if code == 4 then ia_says row_of 4 kind content else (if code == 13 then status_says kind content else nothing)))
+    if code == 1 then duid_says content else (if code == 3 then ia_says row_of 12 kind content else (if code == 4 then ia_says row_of 4 kind content else (if code == 13 then status_says kind content else says_nothing)))

@@ -33,15 +33,15 @@ pub record OptionsRead : Type 0 where
 
 -- The octets are these whole options, one behind the other, and a rest with which none begins. The options tile the
 -- octets where nothing is left.
-pub record IsRow (octets : List ℕ) (row : OptionsRead) : Type 0 where
+pub record IsOptionsRead (octets : List ℕ) (row : OptionsRead) : Type 0 where
   pub whole : All IsWhole row.options
   pub ends : BeginsNone row.rest
   pub joined : octets ≡ flat_map octets_of row.options ++ row.rest
 
 -- each list of octets has a row, and only one
 abbrev pub EachHasOneRow : Type 0
-EachHasOneRow = (octets : List ℕ) → (row : OptionsRead) × IsRow octets row × ((other : OptionsRead) → IsRow octets other → other ≡ row)
+EachHasOneRow = (octets : List ℕ) → (row : OptionsRead) × IsOptionsRead octets row × ((other : OptionsRead) → IsOptionsRead octets other → other ≡ row)
 
 -- the row of each list of octets, as a function
 abbrev pub GivesRows : (List ℕ → OptionsRead) → Type 0
-GivesRows row_of = (octets : List ℕ) → IsRow octets (row_of octets)
+GivesRows row_of = (octets : List ℕ) → IsOptionsRead octets (row_of octets)

@@ -5,7 +5,7 @@ ghost use Rattle.std.specs.Prelude.{◌≡◌, ◌+◌, ◌*◌, ◌<◌, ◌≤
 ghost use Rattle.arrayvec.specs.ArrayVec.{array_vec_len};
 ghost use Rattle.dhcp6_read.specs.Options.{OptionsRead, GivesRows};
 ghost use Rattle.dhcp6_read.specs.Levels.{row_says, in_address, address_says, in_ia, ia_says};
-ghost use Rattle.dhcp6_read.specs.Steps.{Tells};
+ghost use Rattle.dhcp6_read.specs.Steps.{TellsLeases};
 
 use crate::message::{DhcpFault, Lease, Leases};
 use crate::option::{is_void, split_option};
@@ -32,7 +32,7 @@ pub fn read_ia(
 ) -> Result<bool, DhcpFault>
     requires room { 28 * array_vec_len leases.old + length content.now ≤ 1456 }
     ensures tells { (row_of : List ℕ → OptionsRead) → GivesRows row_of
-        → Tells (ia_says row_of fixed kind content.now) result leases.old.items leases.new.items }
+        → TellsLeases (ia_says row_of fixed kind content.now) result leases.old.items leases.new.items }
     ensures room { OnOk result (28 * array_vec_len leases.new ≤ 28 * array_vec_len leases.old + length content.now) }
 {
     if content.len() < fixed {
@@ -49,7 +49,7 @@ pub fn read_ia(
 fn read_ia_options(kind: u8, options: &[u8], leases: &mut Leases) -> Result<bool, DhcpFault>
     requires room { 28 * array_vec_len leases.old + length options.now ≤ 1456 }
     ensures tells { (row_of : List ℕ → OptionsRead) → GivesRows row_of
-        → Tells (row_says (in_ia row_of kind) (row_of options.now)) result leases.old.items leases.new.items }
+        → TellsLeases (row_says (in_ia row_of kind) (row_of options.now)) result leases.old.items leases.new.items }
     ensures room { OnOk result (28 * array_vec_len leases.new ≤ 28 * array_vec_len leases.old + length options.now) }
 {
     let mut void = false;
@@ -67,7 +67,7 @@ fn read_ia_options(kind: u8, options: &[u8], leases: &mut Leases) -> Result<bool
 fn read_in_ia(kind: u8, code: u16, content: &[u8], leases: &mut Leases) -> Result<bool, DhcpFault>
     requires room { 28 * array_vec_len leases.old + 4 + length content.now ≤ 1456 }
     ensures tells { (row_of : List ℕ → OptionsRead) → GivesRows row_of
-        → Tells (in_ia row_of kind code content.now) result leases.old.items leases.new.items }
+        → TellsLeases (in_ia row_of kind code content.now) result leases.old.items leases.new.items }
     ensures room { OnOk result (28 * array_vec_len leases.new ≤ 28 * array_vec_len leases.old + 4 + length content.now) }
 {
     match code {
@@ -82,7 +82,7 @@ fn read_in_ia(kind: u8, code: u16, content: &[u8], leases: &mut Leases) -> Resul
 fn read_address(kind: u8, content: &[u8], leases: &mut Leases) -> Result<bool, DhcpFault>
     requires room { 28 * array_vec_len leases.old + 4 + length content.now ≤ 1456 }
     ensures tells { (row_of : List ℕ → OptionsRead) → GivesRows row_of
-        → Tells (address_says row_of kind content.now) result leases.old.items leases.new.items }
+        → TellsLeases (address_says row_of kind content.now) result leases.old.items leases.new.items }
     ensures room { OnOk result (28 * array_vec_len leases.new ≤ 28 * array_vec_len leases.old + 4 + length content.now) }
 {
     if content.len() < ADDRESS_FIXED_LEN {
@@ -100,7 +100,7 @@ fn read_address(kind: u8, content: &[u8], leases: &mut Leases) -> Result<bool, D
 /// Reads the options of an address: whether a status among them voids it. O(n).
 fn read_address_options(kind: u8, options: &[u8]) -> Result<bool, DhcpFault>
     ensures { (row_of : List ℕ → OptionsRead) → GivesRows row_of
-        → Tells (row_says (in_address kind) (row_of options.now)) result [] [] }
+        → TellsLeases (row_says (in_address kind) (row_of options.now)) result [] [] }
 {
     let mut void = false;
     let mut rest = options;
@@ -115,7 +115,7 @@ fn read_address_options(kind: u8, options: &[u8]) -> Result<bool, DhcpFault>
 
 /// Reads an option of an address: whether it voids the address. O(1).
 fn read_in_address(kind: u8, code: u16, content: &[u8]) -> Result<bool, DhcpFault>
-    ensures { Tells (in_address kind code content.now) result [] [] }
+    ensures { TellsLeases (in_address kind code content.now) result [] [] }
 {
     match code {
         STATUS_CODE => is_void(kind, content),

@@ -3,7 +3,7 @@
 ghost use Rattle.std.specs.Prelude.{◌≡◌, [], length, MatchResult};
 ghost use Rattle.dhcp6_read.specs.Options.{BeginsNone, EachHasOneRow};
 ghost use Rattle.dhcp6_read.specs.Levels.{status_says};
-ghost use Rattle.dhcp6_read.specs.Steps.{BeginsWith, Tells};
+ghost use Rattle.dhcp6_read.specs.Steps.{BeginsWith, TellsLeases};
 
 use crate::message::{DECLINE, DhcpFault, RELEASE};
 use byteorder::{BigEndian, ByteOrder};
@@ -57,7 +57,7 @@ pub fn split_option(octets: &[u8]) -> Result<Front<'_>, DhcpFault>
 
 /// Whether a status in a message of this type voids the addresses beside it. O(1).
 pub fn is_void(kind: u8, content: &[u8]) -> Result<bool, DhcpFault>
-    ensures { Tells (status_says kind content.now) result [] [] }
+    ensures { TellsLeases (status_says kind content.now) result [] [] }
 {
     if content.len() < STATUS_FIXED_LEN {
         return Err(DhcpFault::Status);

@@ -8,7 +8,7 @@ ghost use Rattle.dhcp6_read.specs.declared.message.DhcpFault.{DhcpFault};
 ghost use Rattle.dhcp6_read.specs.Options.{OptionsRead, GivesRows};
 ghost use Rattle.dhcp6_read.specs.Levels.{row_says, in_message, duid_says};
 ghost use Rattle.dhcp6_read.specs.Message.{Reads, is_relayed, duid_in, is_rapid};
-ghost use Rattle.dhcp6_read.specs.Steps.{Tells};
+ghost use Rattle.dhcp6_read.specs.Steps.{TellsLeases};
 
 use crate::lease::{STATUS_CODE, read_ia};
 use crate::message::{Dhcp, DhcpFault, Duid, Leases, RELAY_FORW, RELAY_REPL};
@@ -77,7 +77,7 @@ fn is_relay_message(kind: u8) -> bool
 fn read_options(options: &[u8], dhcp: &mut Dhcp) -> Result<bool, DhcpFault>
     requires room { 28 * array_vec_len dhcp.old.leases + length options.now ≤ 1456 }
     ensures tells { (row_of : List ℕ → OptionsRead) → GivesRows row_of
-        → Tells (row_says (in_message row_of dhcp.old.kind) (row_of options.now)) result dhcp.old.leases.items dhcp.new.leases.items }
+        → TellsLeases (row_says (in_message row_of dhcp.old.kind) (row_of options.now)) result dhcp.old.leases.items dhcp.new.leases.items }
     ensures room { OnOk result (28 * array_vec_len dhcp.new.leases ≤ 28 * array_vec_len dhcp.old.leases + length options.now) }
     ensures kind { OnOk result (dhcp.new.kind ≡ dhcp.old.kind) }
     ensures tid { OnOk result (dhcp.new.tid ≡ dhcp.old.tid) }
@@ -101,7 +101,7 @@ fn read_options(options: &[u8], dhcp: &mut Dhcp) -> Result<bool, DhcpFault>
 fn read_option(code: u16, content: &[u8], dhcp: &mut Dhcp) -> Result<bool, DhcpFault>
     requires room { 28 * array_vec_len dhcp.old.leases + length content.now ≤ 1456 }
     ensures tells { (row_of : List ℕ → OptionsRead) → GivesRows row_of
-        → Tells (in_message row_of dhcp.old.kind code content.now) result dhcp.old.leases.items dhcp.new.leases.items }
+        → TellsLeases (in_message row_of dhcp.old.kind code content.now) result dhcp.old.leases.items dhcp.new.leases.items }
     ensures room { OnOk result (28 * array_vec_len dhcp.new.leases ≤ 28 * array_vec_len dhcp.old.leases + length content.now) }
     ensures kind { OnOk result (dhcp.new.kind ≡ dhcp.old.kind) }
     ensures tid { OnOk result (dhcp.new.tid ≡ dhcp.old.tid) }

@@ -10,13 +10,13 @@ abbrev pub lease_end : ℕ → ℕ → Option ℕ
 lease_end valid t = if valid == 0xffffffff then None else Some (t + 1000 * valid + 120000)
 
 -- whether what ends at `until` has ended at t: so it has at `until` itself
-abbrev pub has_ended : ℕ → Option ℕ → Bool
-has_ended t None = false
-has_ended t (Some until) = nat_le until t
+abbrev pub is_over : ℕ → Option ℕ → Bool
+is_over t None = false
+is_over t (Some until) = nat_le until t
 
 -- what stands of a binding at t
 abbrev pub binding_at : ℕ → Bound → Option Bound
-binding_at t bound = if has_ended t bound.until then None else Some bound
+binding_at t bound = if is_over t bound.until then None else Some bound
 
 -- what stands of a binding when the client at a port releases the address: a binding at another port stays
 abbrev pub released_at : ℕ → Bound → Option Bound

@@ -7,8 +7,8 @@ pub record Waiting : Type 0 where
   pub depth : ℕ
 
 -- nothing waits
-abbrev pub nothing : ℕ → Waiting
-nothing depth = record { items = []; depth = depth }
+abbrev pub nothing_waits : ℕ → Waiting
+nothing_waits depth = record { items = []; depth = depth }
 
 -- one more item waits, behind the others
 abbrev pub with_last : Waiting → Item → Waiting

@@ -2,7 +2,7 @@
 
 ghost use Rattle.std.specs.Prelude.{◌≡◌, ◌<◌, ◌≤◌, ◌↔◌, [], length, IsTrue, IfOk, MatchOption};
 ghost use Rattle.std.specs.Bool.{OnTrue, OnFalse};
-ghost use Rattle.egress_ring.specs.Waiting.{nothing, with_last, with_first};
+ghost use Rattle.egress_ring.specs.Waiting.{nothing_waits, with_last, with_first};
 
 use crate::item::Item;
 use circular_buffer::HeapCircularBuffer;
@@ -29,7 +29,7 @@ impl Model for EgressRing {
 impl EgressRing {
     /// An empty queue for `depth` items. It takes all its memory here.
     pub fn make(alloc: Global, depth: u32) -> Result<EgressRing, AllocError>
-        ensures { IfOk result (λ ring. ring ≡ nothing depth) }
+        ensures { IfOk result (λ ring. ring ≡ nothing_waits depth) }
     {
         let buffer = HeapCircularBuffer::with_capacity(alloc, depth as usize)?;
         Ok(EgressRing { buffer })
@@ -64,7 +64,7 @@ impl EgressRing {
 
     /// Gives up all items. O(n).
     pub fn wipe(&mut self)
-        ensures { self.new ≡ nothing self.old.depth }
+        ensures { self.new ≡ nothing_waits self.old.depth }
     {
         self.buffer.clear();
     }

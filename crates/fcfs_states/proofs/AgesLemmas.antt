@@ -8,14 +8,14 @@ use Rattle.fcfs_states.specs.declared.state.Fcfs.TheVariants.{NoBind, Tentative,
 use Rattle.fcfs_states.specs.declared.times.Times.{Times}
 use Rattle.fcfs_states.specs.Premises.{AreTimes, MomentsFit}
 use Rattle.fcfs_states.specs.States.{IsSound, IsLive}
-use Rattle.fcfs_states.specs.Ageing.{AgeRow, tentative_probe, test_lt_probe, test_vp_probe, tentative_ends, valid_ends, test_lt_ends, test_vp_ends, IsRested, Ages, rests, goes_on, behind}
+use Rattle.fcfs_states.specs.Ageing.{AgeRow, tentative_probe, test_lt_probe, test_vp_probe, tentative_ends, valid_ends, test_lt_ends, test_vp_ends, IsRested, Ages, rests, goes_on, probes_behind}
 use Rattle.fcfs_states.specs.Aged.{aged}
-use Rattle.fcfs_states.specs.AgeingLaws.{AreRising, AreRisingAfter, joined}
+use Rattle.fcfs_states.specs.AgeingLaws.{AreRising, AreRisingAfter, joined_ageing}
 use Rattle.fcfs_states.specs.FirstCome.{IsTestOf}
 use Rattle.fcfs_states.proofs.AgeingLemmas.{probes_left, rested_none, rested_late, Ages-aged, aged-is}
 
 -- one list of probes behind another
-behind-append : (due : ℕ) (probe : Option Probe) (early late : List (ℕ × Probe)) → behind due probe (early ++ late) ≡ behind due probe early ++ late
+behind-append : (due : ℕ) (probe : Option Probe) (early late : List (ℕ × Probe)) → probes_behind due probe (early ++ late) ≡ probes_behind due probe early ++ late
 behind-append due None early late = refl
 behind-append due (Some probe) early late = refl
 
@@ -63,7 +63,7 @@ module _ (k : Times) where
   AgeRow-fits times test_lt_ends early fits = tt
   AgeRow-fits times test_vp_ends early fits = omega arith
 
-  -- behind each row nothing is due at its own moment
+  -- probes_behind each row nothing is due at its own moment
   pub AgeRow-rests : AreTimes k → {state new : Fcfs} {due : ℕ} {probe : Option Probe} → AgeRow k state due new probe → IsRested k due new
   AgeRow-rests times (tentative_probe {p = p} {since = since}) = rested_late k times (since + k.gap) (Tentative p since false) (since + k.test) refl (omega arith)
   AgeRow-rests times (test_lt_probe {p = p} {since = since}) = rested_late k times (since + k.gap) (TestLt p since false) (since + k.test) refl (omega arith)
@@ -73,7 +73,7 @@ module _ (k : Times) where
   AgeRow-rests times (test_lt_ends {since = since}) = rested_none k (since + k.test) NoBind refl
   AgeRow-rests times (test_vp_ends {q = q} {since = since}) = rested_late k times (since + k.test) (Valid q (since + k.test + k.life)) (since + k.test + k.life) refl (omega arith)
 
-  AgeRow-few : {state new : Fcfs} {due : ℕ} {probe : Option Probe} → AgeRow k state due new probe → (probes : List (ℕ × Probe)) → length probes ≤ probes_left new → length (behind due probe probes) ≤ probes_left state
+  AgeRow-few : {state new : Fcfs} {due : ℕ} {probe : Option Probe} → AgeRow k state due new probe → (probes : List (ℕ × Probe)) → length probes ≤ probes_left new → length (probes_behind due probe probes) ≤ probes_left state
   AgeRow-few tentative_probe probes few = omega arith
   AgeRow-few test_lt_probe probes few = omega arith
   AgeRow-few test_vp_probe probes few = omega arith
@@ -104,7 +104,7 @@ module _ (k : Times) where
         rw (← behind-append due probe probes late) (goes_on row (let le : due ≤ u = omega arith in le) first (Ages-joins u below later after))
 
     -- the probes are due by t
-    behind_by : (due : ℕ) (probe : Option Probe) (probes : List (ℕ × Probe)) → due ≤ t → AllByRecursion (λ p. p.0 ≤ t) probes → AllByRecursion (λ p. p.0 ≤ t) (behind due probe probes)
+    behind_by : (due : ℕ) (probe : Option Probe) (probes : List (ℕ × Probe)) → due ≤ t → AllByRecursion (λ p. p.0 ≤ t) probes → AllByRecursion (λ p. p.0 ≤ t) (probes_behind due probe probes)
     behind_by due None probes by all = all
     behind_by due (Some probe) probes by all = (by, all)
 
@@ -113,7 +113,7 @@ module _ (k : Times) where
     Ages-by (goes_on {due = due} {probe = probe} {probes = probes} row by first later) = behind_by due probe probes by (Ages-by later)
 
     -- and rise
-    behind_rising : (from due : ℕ) (probe : Option Probe) (probes : List (ℕ × Probe)) → from < due → AreRisingAfter due probes → AreRisingAfter from (behind due probe probes)
+    behind_rising : (from due : ℕ) (probe : Option Probe) (probes : List (ℕ × Probe)) → from < due → AreRisingAfter due probes → AreRisingAfter from (probes_behind due probe probes)
     behind_rising from due None probes below rising = rising_weaken from due probes below rising
     behind_rising from due (Some probe) probes below rising = (below, rising)
 
@@ -122,7 +122,7 @@ module _ (k : Times) where
     Ages-rising_after times (goes_on {due = due} {probe = probe} {probes = probes} row by first later) from idle =
         behind_rising from due probe probes (idle due _ probe row) (Ages-rising_after times later due (AgeRow-rests times row))
 
-    behind_in_order : (due : ℕ) (probe : Option Probe) (probes : List (ℕ × Probe)) → AreRisingAfter due probes → AreRising probes → AreRising (behind due probe probes)
+    behind_in_order : (due : ℕ) (probe : Option Probe) (probes : List (ℕ × Probe)) → AreRisingAfter due probes → AreRising probes → AreRising (probes_behind due probe probes)
     behind_in_order due None probes after rising = rising
     behind_in_order due (Some probe) probes after rising = after
 
@@ -132,5 +132,5 @@ module _ (k : Times) where
         behind_in_order due probe probes (Ages-rising_after times later due (AgeRow-rests times row)) (Ages-rising times later)
 
   -- one ageing and a later one are one
-  pub aged-joins : AreTimes k → (t u : ℕ) (state : Fcfs) → t ≤ u → aged k u state ≡ joined (aged k t state) (aged k u (aged k t state).state)
+  pub aged-joins : AreTimes k → (t u : ℕ) (state : Fcfs) → t ≤ u → aged k u state ≡ joined_ageing (aged k t state) (aged k u (aged k t state).state)
   aged-joins times t u state below = aged-is k times u (Ages-joins t u below (Ages-aged k times t state) (Ages-aged k times u (aged k t state).state))

@@ -5,7 +5,7 @@ use Rattle.fcfs_states.specs.declared.answer.Probe.TheVariants.{Trusted, To}
 use Rattle.fcfs_states.specs.declared.state.Fcfs.{Fcfs}
 use Rattle.fcfs_states.specs.declared.state.Fcfs.TheVariants.{NoBind, Tentative, Valid, TestLt, TestVp}
 use Rattle.fcfs_states.specs.declared.times.Times.{Times}
-use Rattle.fcfs_states.specs.Ageing.{behind}
+use Rattle.fcfs_states.specs.Ageing.{probes_behind}
 
 -- the moment at which something is due first
 abbrev pub due_of : Times → Fcfs → Option ℕ
@@ -44,7 +44,7 @@ abbrev pub rested : Fcfs → AgedState
 rested state = record { state = state; probes = [] }
 
 abbrev pub after_probe : ℕ → Option Probe → AgedState → AgedState
-after_probe due probe later = record { state = later.state; probes = behind due probe later.probes }
+after_probe due probe later = record { state = later.state; probes = probes_behind due probe later.probes }
 
 -- what is due first, where that is at or before t, and then what comes later
 abbrev pub aged_at : ℕ → Fcfs → Option ℕ → (ℕ → AgedState) → AgedState

@@ -9,9 +9,9 @@ use Rattle.fcfs_states.specs.declared.state.Fcfs.TheVariants.{NoBind, Tentative,
 use Rattle.fcfs_states.specs.declared.times.Times.{Times}
 
 -- these probes, each with its moment, behind one that is due before them, where there is one
-abbrev pub behind : ℕ → Option Probe → List (ℕ × Probe) → List (ℕ × Probe)
-behind due None probes = probes
-behind due (Some probe) probes = (due, probe) ∷ probes
+abbrev pub probes_behind : ℕ → Option Probe → List (ℕ × Probe) → List (ℕ × Probe)
+probes_behind due None probes = probes
+probes_behind due (Some probe) probes = (due, probe) ∷ probes
 
 module _ (k : Times) where
   -- the ageing table, a line for each thing that falls due: the state before, when it is due, the state after, the probe
@@ -36,4 +36,4 @@ module _ (k : Times) where
   module _ (t : ℕ) where
     pub data Ages : Fcfs → List (ℕ × Probe) → Fcfs → Type 0 where
       rests : {state : Fcfs} → IsRested t state → Ages state [] state
-      goes_on : {state mid new : Fcfs} {due : ℕ} {probe : Option Probe} {probes : List (ℕ × Probe)} → AgeRow state due mid probe → due ≤ t → IsEarliest due state → Ages mid probes new → Ages state (behind due probe probes) new
+      goes_on : {state mid new : Fcfs} {due : ℕ} {probe : Option Probe} {probes : List (ℕ × Probe)} → AgeRow state due mid probe → due ≤ t → IsEarliest due state → Ages mid probes new → Ages state (probes_behind due probe probes) new

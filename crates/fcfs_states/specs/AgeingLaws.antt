@@ -12,8 +12,8 @@ pub record IsOnlyAgeing (k : Times) (t : ℕ) (state : Fcfs) (outcome : AgedStat
   pub only : (other : AgedState) → Ages k t state other.probes other.state → other ≡ outcome
 
 -- one ageing and a later one, as one
-abbrev pub joined : AgedState → AgedState → AgedState
-joined early late = record { state = late.state; probes = early.probes ++ late.probes }
+abbrev pub joined_ageing : AgedState → AgedState → AgedState
+joined_ageing early late = record { state = late.state; probes = early.probes ++ late.probes }
 
 -- each moment is above the one before it, the first above this one
 abbrev pub AreRisingAfter : ℕ → List (ℕ × Probe) → Type 0

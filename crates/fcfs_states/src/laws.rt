@@ -15,7 +15,7 @@ ghost use Rattle.fcfs_states.specs.Next.{next};
 ghost use Rattle.fcfs_states.specs.TableLaws.{IsOnlyRow};
 ghost use Rattle.fcfs_states.specs.Ageing.{AgeRow, IsRested};
 ghost use Rattle.fcfs_states.specs.Aged.{aged};
-ghost use Rattle.fcfs_states.specs.AgeingLaws.{AreRising, AreRisingAfter, IsOnlyAgeing, joined};
+ghost use Rattle.fcfs_states.specs.AgeingLaws.{AreRising, AreRisingAfter, IsOnlyAgeing, joined_ageing};
 ghost use Rattle.fcfs_states.specs.FirstCome.{IsLostByTest, IsTestOf, IsHeardAt, TimedEvent, IsTimeline, IsSilentAfter, state_of};
 
 /// Each sound state and event meets exactly one row of the table, and no event of another kind meets one.
@@ -35,7 +35,7 @@ pub fn ageing_is_one()
 /// late, a state is aged.
 pub fn ageing_composes()
     ensures { (k : Times) (t u : ℕ) (state : Fcfs) → AreTimes k → t ≤ u
-        → aged k u state ≡ joined (aged k t state) (aged k u (aged k t state).state) }
+        → aged k u state ≡ joined_ageing (aged k t state) (aged k u (aged k t state).state) }
 {}
 
 /// Where a state was aged to t nothing is due in it by then.

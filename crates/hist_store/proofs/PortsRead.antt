@@ -12,7 +12,7 @@ use Rattle.std.specs.Str.Parse.{AllDigits}
 use Rattle.savi_kinds.specs.declared.port.PortSet.{PortSet}
 use Rattle.savi_kinds.specs.PortSets.{is_member, no_ports}
 use Rattle.hist_store.specs.TextOfLines.{comma, or_dash}
-use Rattle.hist_store.specs.PortTexts.{port_numbers, members, members_text, members_above, GoesOn}
+use Rattle.hist_store.specs.PortTexts.{port_numbers, members, members_text, members_above, ListsMembersAbove}
 
 -- the numbers that pass a test, of so many from a number on
 
@@ -145,7 +145,7 @@ pub record IsCut (last : ℕ) (set : PortSet) (text : List ℕ) : Type 0 where
   pub front : take (comma_place text) text ≡ decimal port
   pub rest : drop (comma_place text) text ≡ tail_text (members_above port set)
 
-pub cut_of : (last : ℕ) (before set : PortSet) (text : List ℕ) → GoesOn last before set text → IsCut last set text
+pub cut_of : (last : ℕ) (before set : PortSet) (text : List ℕ) → ListsMembersAbove last before set text → IsCut last set text
 cut_of last before set text goes =
     elim (first (is_member set) (16 - last) (last + 1)) [
       | inl none ↦
@@ -201,7 +201,7 @@ module _ (set grown : PortSet) (last port : ℕ) (is : IsGrown set grown last po
   grown_above j low high = let more = is.low in grown_other j (omega arith) (λ same. omega arith) ∙ is.above j (omega arith) high
 
   -- the last member is read
-  pub ends : (text rest : List ℕ) → rest ≡ [] → text ≡ decimal port ++ rest → GoesOn last set grown text
+  pub ends : (text rest : List ℕ) → rest ≡ [] → text ≡ decimal port ++ rest → ListsMembersAbove last set grown text
   ends text rest none is_text =
       let low = is.low in
       let next : members_above last grown ≡ port ∷ members_above port grown = above_next grown last port is.low is.high grown_between grown_here in
@@ -215,7 +215,7 @@ module _ (set grown : PortSet) (last port : ℕ) (is : IsGrown set grown last po
       }
 
   -- another member comes behind it
-  pub goes_on : (whole : PortSet) (text rest more : List ℕ) → rest ≡ comma ∷ more → text ≡ decimal port ++ rest → GoesOn port grown whole more → GoesOn last set whole text
+  pub goes_on : (whole : PortSet) (text rest more : List ℕ) → rest ≡ comma ∷ more → text ≡ decimal port ++ rest → ListsMembersAbove port grown whole more → ListsMembersAbove last set whole text
   goes_on whole text rest more comma_is is_text goes =
       let low = is.low in
       let between : (j : ℕ) → last < j → j < port → is_member whole j ≡ false = λ j above below. goes.same j (omega arith) (omega arith) ∙ grown_between j above below in
@@ -234,7 +234,7 @@ module _ (set grown : PortSet) (last port : ℕ) (is : IsGrown set grown last po
       behind_comma (n ∷ ns) t is_t some = ap (λ (u : List ℕ). comma ∷ u) is_t
 
   -- up to the new member the sets are the same
-  same_to : (whole : PortSet) (text : List ℕ) → GoesOn last set whole text → ((j : ℕ) → last < j → j < port → is_member whole j ≡ false) → is_member whole port ≡ true → (n : ℕ) → 1 ≤ n → n ≤ port → is_member whole n ≡ is_member grown n
+  same_to : (whole : PortSet) (text : List ℕ) → ListsMembersAbove last set whole text → ((j : ℕ) → last < j → j < port → is_member whole j ≡ false) → is_member whole port ≡ true → (n : ℕ) → 1 ≤ n → n ≤ port → is_member whole n ≡ is_member grown n
   same_to whole text goes none here n low high =
       elim (cases_eq n port) [
         | inl same ↦ ap (is_member whole) same ∙ here ∙ sym grown_here ∙ ap (is_member grown) (sym same)
@@ -246,7 +246,7 @@ module _ (set grown : PortSet) (last port : ℕ) (is : IsGrown set grown last po
       ]
 
   -- where nothing comes behind the new member
-  pub ended : (whole : PortSet) (text : List ℕ) → GoesOn last set whole text → (one : IsCut last whole text) → one.port ≡ port → drop (comma_place text) text ≡ [] → grown ≡ whole
+  pub ended : (whole : PortSet) (text : List ℕ) → ListsMembersAbove last set whole text → (one : IsCut last whole text) → one.port ≡ port → drop (comma_place text) text ≡ [] → grown ≡ whole
   ended whole text goes one port_is empty =
       let none = subst (λ (p : ℕ). (j : ℕ) → last < j → j < p → is_member whole j ≡ false) port_is one.none in
       let here = subst (λ (p : ℕ). is_member whole p ≡ true) port_is one.here in
@@ -263,7 +263,7 @@ module _ (set grown : PortSet) (last port : ℕ) (is : IsGrown set grown last po
       no_tail (n ∷ ns) e = cc
 
   -- where another comes
-  pub went_on : (whole : PortSet) (text more : List ℕ) → GoesOn last set whole text → (one : IsCut last whole text) → one.port ≡ port → drop (comma_place text) text ≡ comma ∷ more → GoesOn port grown whole more
+  pub went_on : (whole : PortSet) (text more : List ℕ) → ListsMembersAbove last set whole text → (one : IsCut last whole text) → one.port ≡ port → drop (comma_place text) text ≡ comma ∷ more → ListsMembersAbove port grown whole more
   went_on whole text more goes one port_is rest =
       let none = subst (λ (p : ℕ). (j : ℕ) → last < j → j < p → is_member whole j ≡ false) port_is one.none in
       let here = subst (λ (p : ℕ). is_member whole p ≡ true) port_is one.here in
@@ -329,14 +329,14 @@ dash_is set small is =
       | inr one ↦ absurd ((some_text set one).2 is)
     ]
 
-pub starts : (set : PortSet) (text : List ℕ) → set.0 < 2 ^ 16 → text ≡ members_text set → (text ≡ codes "-" → ⊥) → GoesOn 0 no_ports set text
+pub starts : (set : PortSet) (text : List ℕ) → set.0 < 2 ^ 16 → text ≡ members_text set → (text ≡ codes "-" → ⊥) → ListsMembersAbove 0 no_ports set text
 starts set text small is other =
     elim (first (is_member set) 16 1) [
       | inl none ↦ absurd (other (is ∙ none_text set none))
       | inr one ↦ let some = some_text set one in record { same = λ n low high. absurd (omega arith); size = small; text_is = is ∙ some.1; some = some.0 }
     ]
 
-pub finished : (set : PortSet) (text : List ℕ) → GoesOn 0 no_ports set text → (text ≡ members_text set) × (set.0 < 2 ^ 16)
+pub finished : (set : PortSet) (text : List ℕ) → ListsMembersAbove 0 no_ports set text → (text ≡ members_text set) × (set.0 < 2 ^ 16)
 finished set text goes =
     elim (first (is_member set) 16 1) [
       | inl none ↦

@@ -6,7 +6,7 @@ use Rattle.hex.specs.Hex.{IsBytes}
 use Rattle.savi_kinds.specs.declared.entry.Entry.{Entry}
 use Rattle.savi_kinds.specs.declared.entry.Act.{Act}
 use Rattle.savi_kinds.specs.declared.entry.Act.TheVariants.{Frame, Long, Tick, Command, Drain, End}
-use Rattle.hist_store.specs.Rows.{Row, held, IsPlaced}
+use Rattle.hist_store.specs.Rows.{Row, held, KeepsOctets}
 use Rattle.hist_store.specs.StoredRows.{at_of, kept_of, entry_row, IsStore}
 
 -- the octets of a range are the same in a longer store
@@ -23,7 +23,7 @@ range_added s m at len first size =
     let all : length m ≤ len = omega (arith, size) in
     ap (take len) (drop_at s m at from) ∙ take_all len m all
 
-octets_placed : (s m : List ℕ) (act : Act) → IsPlaced act (length s) m → take (kept_of act) (drop (at_of act) (s ++ m)) ≡ m
+octets_placed : (s m : List ℕ) (act : Act) → KeepsOctets act (length s) m → take (kept_of act) (drop (at_of act) (s ++ m)) ≡ m
 octets_placed s m (Frame port stamp at len) placed = range_added s m at len placed.0 placed.1
 octets_placed s m (Command stamp at len) placed = range_added s m at len placed.0 placed.1
 octets_placed s m (Long port stamp len) placed = sym placed
@@ -31,7 +31,7 @@ octets_placed s m (Tick stamp) placed = sym placed
 octets_placed s m (Drain port count) placed = sym placed
 octets_placed s m (End who how) placed = sym placed
 
-within_placed : (s m : List ℕ) (act : Act) → IsPlaced act (length s) m → at_of act + kept_of act ≤ length (s ++ m)
+within_placed : (s m : List ℕ) (act : Act) → KeepsOctets act (length s) m → at_of act + kept_of act ≤ length (s ++ m)
 within_placed s m (Frame port stamp at len) placed = rw (length-append s m) (omega (arith, placed.0, placed.1))
 within_placed s m (Command stamp at len) placed = rw (length-append s m) (omega (arith, placed.0, placed.1))
 within_placed s m (Long port stamp len) placed = omega arith
@@ -51,7 +51,7 @@ rows_kept s m (e ∷ es) within =
     ∙ ap (λ rows. entry_row s e ∷ rows) (rows_kept s m es (All-tail (IsWithin s) e es within))
 
 -- the rows with one more behind them
-pub rows_push : (s m : List ℕ) (es : List Entry) (e : Entry) → All (IsWithin s) es → IsPlaced e.act (length s) m → map (entry_row (s ++ m)) (es ++ e ∷ []) ≡ map (entry_row s) es ++ record { entry = e; octets = m } ∷ []
+pub rows_push : (s m : List ℕ) (es : List Entry) (e : Entry) → All (IsWithin s) es → KeepsOctets e.act (length s) m → map (entry_row (s ++ m)) (es ++ e ∷ []) ≡ map (entry_row s) es ++ record { entry = e; octets = m } ∷ []
 rows_push s m es e within placed =
     let octets_are : List ℕ → List Row = λ octets. map (entry_row s) es ++ record { entry = e; octets = octets } ∷ [] in
     map-append (entry_row (s ++ m)) es (e ∷ [])
@@ -69,7 +69,7 @@ within_more s m (e ∷ es) within =
     All-cons (IsWithin (s ++ m)) e es (rw (length-append s m) (omega (arith, first))) (within_more s m es (All-tail (IsWithin s) e es within))
 
 -- a store with one more row is a store
-pub IsStore-push : (s m : List ℕ) (es : List Entry) (e : Entry) → IsStore s es → IsPlaced e.act (length s) m → IsStore (s ++ m) (es ++ e ∷ [])
+pub IsStore-push : (s m : List ℕ) (es : List Entry) (e : Entry) → IsStore s es → KeepsOctets e.act (length s) m → IsStore (s ++ m) (es ++ e ∷ [])
 IsStore-push s m es e store placed =
     let size : held (map (entry_row (s ++ m)) (es ++ e ∷ [])) ≡ held (map (entry_row s) es) + (length m + 0) = ap held (rows_push s m es e store.within placed) ∙ held-append (map (entry_row s) es) (record { entry = e; octets = m } ∷ []) in
     record {

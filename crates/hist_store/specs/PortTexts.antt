@@ -28,7 +28,7 @@ abbrev pub members_above : ℕ → PortSet → List ℕ
 members_above last set = filter (is_member set) (range_with_len (last + 1) (16 - last))
 
 -- the text is that of a set's members above a port, of which there are some; up to the port the set is the same as another
-pub record GoesOn (last : ℕ) (before set : PortSet) (text : List ℕ) : Type 0 where
+pub record ListsMembersAbove (last : ℕ) (before set : PortSet) (text : List ℕ) : Type 0 where
   pub same : (n : ℕ) → 1 ≤ n → n ≤ last → is_member set n ≡ is_member before n
   pub size : set.0 < 2 ^ 16
   pub text_is : text ≡ join_with_byte comma (map decimal (members_above last set))

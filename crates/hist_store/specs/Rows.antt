@@ -22,13 +22,13 @@ pub record History : Type 0 where
 
 -- an entry of a frame or a command keeps its octets, so many as its `len` says, behind those that were kept before;
 -- every other entry keeps none
-abbrev pub IsPlaced : Act → ℕ → List ℕ → Type 0
-IsPlaced (Frame port stamp at len) before octets = (at ≡ before) × (len ≡ length octets)
-IsPlaced (Command stamp at len) before octets = (at ≡ before) × (len ≡ length octets)
-IsPlaced (Long port stamp len) before octets = octets ≡ []
-IsPlaced (Tick stamp) before octets = octets ≡ []
-IsPlaced (Drain port count) before octets = octets ≡ []
-IsPlaced (End who how) before octets = octets ≡ []
+abbrev pub KeepsOctets : Act → ℕ → List ℕ → Type 0
+KeepsOctets (Frame port stamp at len) before octets = (at ≡ before) × (len ≡ length octets)
+KeepsOctets (Command stamp at len) before octets = (at ≡ before) × (len ≡ length octets)
+KeepsOctets (Long port stamp len) before octets = octets ≡ []
+KeepsOctets (Tick stamp) before octets = octets ≡ []
+KeepsOctets (Drain port count) before octets = octets ≡ []
+KeepsOctets (End who how) before octets = octets ≡ []
 
 -- the history with one more row
 abbrev pub with_row : History → Entry → List ℕ → History

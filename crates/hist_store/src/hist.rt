@@ -1,6 +1,6 @@
 ghost use Rattle.std.specs.Prelude.{◌≡◌, ◌+◌, ◌<◌, ◌≤◌, [], ◌∷◌, ◌++◌, length, slice_get, IfOk, IsSomeAnd, vec_capacity, vec_len, All};
 ghost use Rattle.hex.specs.Hex.{IsBytes};
-ghost use Rattle.hist_store.specs.Rows.{held, IsPlaced, with_row};
+ghost use Rattle.hist_store.specs.Rows.{held, KeepsOctets, with_row};
 
 use savi_kinds::{Act, Entry};
 use std::alloc::{AllocError, Global};
@@ -49,7 +49,7 @@ impl Hist {
     pub fn append(&mut self, e: Entry, octets: &[u8])
         requires room { length self.old.rows < self.old.entry_room }
         requires bytes { held self.old.rows + length octets.now ≤ self.old.byte_room }
-        requires placed { IsPlaced e.act (held self.old.rows) octets.now }
+        requires placed { KeepsOctets e.act (held self.old.rows) octets.now }
         ensures { self.new ≡ with_row self.old e octets.now }
     {
         add_octets(&mut self.octets, octets);

@@ -4,7 +4,7 @@ ghost use Rattle.std.specs.List.{position_or_len};
 ghost use Rattle.savi_kinds.specs.PortSets.{is_member};
 ghost use Rattle.savi_kinds.specs.Characters.{space};
 ghost use Rattle.hist_store.specs.TextOfLines.{comma, spaced};
-ghost use Rattle.hist_store.specs.PortTexts.{members_text, GoesOn};
+ghost use Rattle.hist_store.specs.PortTexts.{members_text, ListsMembersAbove};
 
 use crate::read_fields::{behind, end_at, is_word, read_port, take_field};
 use savi_kinds::PortSet;
@@ -34,8 +34,8 @@ fn read_ports(field: &[u8]) -> Option<PortSet>
 // The set with these members too, all above `last`, as every other member of it is not.
 fn read_members(text: &[u8], set: PortSet, last: u8) -> Option<PortSet>
     requires { (n : ℕ) → last < n → n ≤ 16 → is_member set n ≡ false }
-    ensures read { IfSome result (λ whole. GoesOn last set whole text.now) }
-    ensures whole { (whole : PortSet) → GoesOn last set whole text.now → result ≡ Some whole }
+    ensures read { IfSome result (λ whole. ListsMembersAbove last set whole text.now) }
+    ensures whole { (whole : PortSet) → ListsMembersAbove last set whole text.now → result ≡ Some whole }
 {
     let (number, rest) = cut_member(text);
     let port = read_port(number)?;

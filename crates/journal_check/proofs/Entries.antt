@@ -21,8 +21,8 @@ use Rattle.journal_check.specs.Feeds.{HasNoFeed, BeginsWithNoLine}
 use Rattle.journal_check.specs.Headers.{IsPlan}
 use Rattle.savi_core.specs.Machines.{Machine}
 use Rattle.journal_check.specs.declared.turns.Turn.TheVariants as turns
-use Rattle.journal_check.specs.Turns.{SaysNext, SaysWrong, SaysNothing, Turned}
-use Rattle.journal_check.specs.Answers.{past_text, Judges, HasNoLine, Ends, IfRead, IsAnswerBehind, next_line}
+use Rattle.journal_check.specs.Turns.{SaysNext, SaysWrong, SaysNothing, MadeTurn}
+use Rattle.journal_check.specs.Answers.{past_text, IsAnswerTo, HasNoLine, Ends, IfRead, IsAnswerBehind, next_line}
 use Rattle.journal_check.proofs.LineFronts.{line_avoids}
 use Rattle.journal_check.proofs.SaidFields.{fields_said}
 use Rattle.journal_check.proofs.OneAnswer.{says_avoids}
@@ -72,7 +72,7 @@ pub record IsKept (old new : Machine) (whole after : Option (List ℕ)) : Type 0
   pub size : length new.past ≡ length old.past + 1
 
 pub kept_more : (old new : Machine) (line : List ℕ) (whole before after : Option (List ℕ)) → IsLegal old.plan empty old.past → AreOctets old.past
-    → whole ≡ in_front (past_text old.plan old.past) before → before ≡ in_front (line ++ 10 ∷ []) after → Turned old line new turns.Stands → IsKept old new whole after
+    → whole ≡ in_front (past_text old.plan old.past) before → before ≡ in_front (line ++ 10 ∷ []) after → MadeTurn old line new turns.Stands → IsKept old new whole after
 kept_more old new line whole before after legal bytes told taken turned =
     let row = turned.0 in
     let next = turned.1 in
@@ -88,20 +88,20 @@ kept_more old new line whole before after legal bytes told taken turned =
 
 -- an answer behind a past is one of the whole text
 pub answered : (plan : Plan) (past : List Row) (whole before : Option (List ℕ)) (a : Checked) → IsPlan plan → IsLegal plan empty past → AreOctets past
-    → whole ≡ in_front (past_text plan past) before → IfSome before (λ rest. Judges plan past rest a) → IfSome whole (λ octets. IsAnswerBehind octets a)
+    → whole ≡ in_front (past_text plan past) before → IfSome before (λ rest. IsAnswerTo plan past rest a) → IfSome whole (λ octets. IsAnswerBehind octets a)
 answered plan past whole None a is legal bytes told judges = rw told tt
 answered plan past whole (Some rest) a is legal bytes told judges =
     rw told (record { plan = plan; past = past; rest = rest; begins = record { plan_is = is; legal = legal; bytes = bytes; text = refl }; judges = judges })
 
 -- what is to come begins with a line
 begun : (plan : Plan) (past : List Row) (line : List ℕ) (before after : Option (List ℕ)) (a : Checked) → before ≡ in_front (line ++ 10 ∷ []) after
-    → ((rest : List ℕ) → after ≡ Some rest → Judges plan past (line ++ 10 ∷ rest) a) → IfSome before (λ rest. Judges plan past rest a)
+    → ((rest : List ℕ) → after ≡ Some rest → IsAnswerTo plan past (line ++ 10 ∷ rest) a) → IfSome before (λ rest. IsAnswerTo plan past rest a)
 begun plan past line before None a taken judges = rw taken tt
 begun plan past line before (Some rest) a taken judges =
-    rw taken (subst (λ (t : List ℕ). Judges plan past t a) (sym (fed_opened line rest)) (judges rest refl))
+    rw taken (subst (λ (t : List ℕ). IsAnswerTo plan past t a) (sym (fed_opened line rest)) (judges rest refl))
 
 pub judged_wrong : (plan : Plan) (past : List Row) (line : List ℕ) (before after : Option (List ℕ)) (entry : ℕ) (want have : List ℕ) → before ≡ in_front (line ++ 10 ∷ []) after
-    → entry ≡ length past → SaysWrong plan past line want have → IfSome before (λ rest. Judges plan past rest (Wrong entry want have))
+    → entry ≡ length past → SaysWrong plan past line want have → IfSome before (λ rest. IsAnswerTo plan past rest (Wrong entry want have))
 judged_wrong plan past line before after entry want have taken number wrong =
     begun plan past line before after (Wrong entry want have) taken
     (λ rest is. (number, record { line = line; row = wrong.row; more = rest; says = wrong.says; text = refl; differs = wrong.differs }))
@@ -117,7 +117,7 @@ no_line plan past line rest plain nothing = record {
 }
 
 pub judged_bad : (plan : Plan) (past : List Row) (line : List ℕ) (before after : Option (List ℕ)) → before ≡ in_front (line ++ 10 ∷ []) after → HasNoFeed line → SaysNothing plan past line
-    → IfSome before (λ rest. Judges plan past rest (BadLine (next_line plan past)))
+    → IfSome before (λ rest. IsAnswerTo plan past rest (BadLine (next_line plan past)))
 judged_bad plan past line before after taken plain nothing =
     begun plan past line before after (BadLine (next_line plan past)) taken (λ rest is. inl (refl, no_line plan past line rest plain nothing))
 
@@ -127,18 +127,18 @@ broken_at plan past rest few none = record {
   last = λ more finished e. none (joined (journal_end_line (length past))) more (plain_avoids (joined (journal_end_line (length past))) (end_avoids (length past))) (end_short (length past) few) (e ∙ end_opened (length past) more);
 }
 
-pub judged_broken : (plan : Plan) (past : List Row) (before : Option (List ℕ)) → length past < 2 ^ 64 → IfSome before BeginsWithNoLine → IfSome before (λ rest. Judges plan past rest (BadLine (next_line plan past)))
+pub judged_broken : (plan : Plan) (past : List Row) (before : Option (List ℕ)) → length past < 2 ^ 64 → IfSome before BeginsWithNoLine → IfSome before (λ rest. IsAnswerTo plan past rest (BadLine (next_line plan past)))
 judged_broken plan past None few none = tt
 judged_broken plan past (Some rest) few none = inl (refl, broken_at plan past rest few none)
 
 -- behind the last line
 
 last_good : (plan : Plan) (past : List Row) (line rest : List ℕ) (entries : ℕ) → entries ≡ length past → IsFinished plan empty past → line ≡ joined (journal_end_line (length past)) → rest ≡ []
-    → Judges plan past (line ++ 10 ∷ rest) (Good entries)
+    → IsAnswerTo plan past (line ++ 10 ∷ rest) (Good entries)
 last_good plan past line rest entries count finished is nothing = (count, finished, ap (λ (l : List ℕ). l ++ 10 ∷ rest) is ∙ ap (λ (t : List ℕ). joined (journal_end_line (length past)) ++ 10 ∷ t) nothing)
 
 last_more : (plan : Plan) (past : List Row) (line rest : List ℕ) (n : ℕ) → n ≡ next_line plan past + 1 → IsFinished plan empty past → line ≡ joined (journal_end_line (length past)) → rest ≢ []
-    → Judges plan past (line ++ 10 ∷ rest) (BadLine n)
+    → IsAnswerTo plan past (line ++ 10 ∷ rest) (BadLine n)
 last_more plan past line [] n number finished is some = absurd (some refl)
 last_more plan past line (octet ∷ more) n number finished is some =
     inr (number, record { finished = finished; octet = octet; more = more; text = ap (λ (l : List ℕ). l ++ 10 ∷ octet ∷ more) is ∙ sym (end_opened (length past) (octet ∷ more)) })
@@ -148,7 +148,7 @@ told_some P o rest is some = subst (λ (p : Option (List ℕ)). IfSome p P) is s
 
 -- the answer where the last line may stand
 pub judged_last : (plan : Plan) (past : List Row) (line : List ℕ) (before after : Option (List ℕ)) (a : Checked) → before ≡ in_front (line ++ 10 ∷ []) after → IsFinished plan empty past
-    → line ≡ joined (journal_end_line (length past)) → Ends plan past after a → IfRead a (IfSome before (λ rest. Judges plan past rest a))
+    → line ≡ joined (journal_end_line (length past)) → Ends plan past after a → IfRead a (IfSome before (λ rest. IsAnswerTo plan past rest a))
 judged_last plan past line before after (Good entries) taken finished is ends =
     begun plan past line before after (Good entries) taken
     (λ rest told. last_good plan past line rest entries ends.0 finished is (told_some (λ (r : List ℕ). r ≡ []) after rest told ends.1))
@@ -167,7 +167,7 @@ some_behind (octet ∷ held) (Some rest) some = λ none. cc
 
 -- under IfRead
 pub answered_if : (plan : Plan) (past : List Row) (whole before : Option (List ℕ)) (a : Checked) → IsPlan plan → IsLegal plan empty past → AreOctets past
-    → whole ≡ in_front (past_text plan past) before → IfRead a (IfSome before (λ rest. Judges plan past rest a)) → IfRead a (IfSome whole (λ octets. IsAnswerBehind octets a))
+    → whole ≡ in_front (past_text plan past) before → IfRead a (IfSome before (λ rest. IsAnswerTo plan past rest a)) → IfRead a (IfSome whole (λ octets. IsAnswerBehind octets a))
 answered_if plan past whole before (Good entries) is legal bytes told judges = answered plan past whole before (Good entries) is legal bytes told judges
 answered_if plan past whole before (Wrong entry want have) is legal bytes told judges = answered plan past whole before (Wrong entry want have) is legal bytes told judges
 answered_if plan past whole before (BadLine n) is legal bytes told judges = answered plan past whole before (BadLine n) is legal bytes told judges

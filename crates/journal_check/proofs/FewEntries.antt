@@ -15,14 +15,14 @@ use Rattle.savi_history.specs.Queues.{Item, queue}
 use Rattle.savi_history.specs.Events.{Event, Frame, Long, Command, Tick, Drain, End, row_of}
 use Rattle.savi_history.specs.Legal.{IsOpen, MayCome, Stands, IsLegal}
 use Rattle.savi_history.proofs.Depth.{queue_within, length_dropped, ended_fewer}
-use Rattle.savi_core.specs.Counts.{still_to_come, waiting_at, open_below}
+use Rattle.savi_core.specs.Counts.{still_to_come, count_waiting, open_below}
 use Rattle.savi_core.proofs.Places.{placed, pass_within, length-numbers}
 use Rattle.savi_core.proofs.Counting.{open_below-le, open_below-later, open_below-ended, waiting_at-le, waiting_at-later, waiting_at-taken}
 
 -- what waits and the passes that are open are few
 few_to_come : (plan : Plan) (past : List Row) → IsValidPlan plan → still_to_come plan empty past ≤ 4130
 few_to_come plan past valid =
-    let wait : waiting_at plan empty past (numbers_of plan.ports) ≤ 256 * length (numbers_of plan.ports) =
+    let wait : count_waiting plan empty past (numbers_of plan.ports) ≤ 256 * length (numbers_of plan.ports) =
     waiting_at-le plan empty past 256 (numbers_of plan.ports) (λ n within. omega (arith, queue_within plan empty (get_or (numbers_of plan.ports) n 0) past, valid.depth.1)) in
     omega (arith, wait, length-numbers plan.ports, open_below-le empty past (pass_count plan), valid.port_count.1)
 

@@ -8,7 +8,7 @@ use Rattle.hist_store.specs.LineTexts.{line_fields, line_text}
 use Rattle.hist_store.specs.JournalTexts.{address_text, entry_lines, journal_end_line, journal_end_text, journal_text}
 use Rattle.hist_store.proofs.LineLemmas.{lines_text-append}
 use Rattle.journal_check.specs.declared.answer.Checked.TheVariants.{Good, BadLine}
-use Rattle.journal_check.specs.Headers.{Line}
+use Rattle.journal_check.specs.Headers.{LineFields}
 use Rattle.journal_check.specs.Answers.{past_text, IsAnswerBehind}
 use Rattle.journal_check.specs.Laws.{IsFinishedJournal, GoodIsJournal, JournalIsGood}
 use Rattle.journal_check.proofs.OneHeader.{header}
@@ -17,7 +17,7 @@ lines_push : (n : ℕ) (rows : List Row) (row : Row) → entry_lines n (rows ++ 
 lines_push n [] row = ap (λ (k : ℕ). line_fields k row ∷ []) (omega arith)
 lines_push n (x ∷ rows) row =
     let number : n + 1 + length rows ≡ n + length (x ∷ rows) = omega arith in
-    ap (λ (lines : List Line). line_fields n x ∷ lines) (lines_push (n + 1) rows row ∙ ap (λ (k : ℕ). entry_lines (n + 1) rows ++ line_fields k row ∷ []) number)
+    ap (λ (lines : List LineFields). line_fields n x ∷ lines) (lines_push (n + 1) rows row ∙ ap (λ (k : ℕ). entry_lines (n + 1) rows ++ line_fields k row ∷ []) number)
 
 -- the newest row has the last line
 newest : (row : Row) (past : List Row) → entry_lines 0 (reverse (row ∷ past)) ≡ entry_lines 0 (reverse past) ++ line_fields (length past) row ∷ []
@@ -31,7 +31,7 @@ past_lines plan (row ∷ past) =
     let n = length past in
     let entries = entry_lines 0 (reverse past) in
     let lines : lines_text (header plan ++ entry_lines 0 (reverse (row ∷ past))) ≡ lines_text (header plan ++ entries) ++ lines_text (line_fields n row ∷ []) =
-    ap (λ (ls : List Line). lines_text (header plan ++ ls)) (newest row past) ∙ ap lines_text (sym (append_assoc (header plan) entries (line_fields n row ∷ []))) ∙ lines_text-append (header plan ++ entries) (line_fields n row ∷ []) in
+    ap (λ (ls : List LineFields). lines_text (header plan ++ ls)) (newest row past) ∙ ap lines_text (sym (append_assoc (header plan) entries (line_fields n row ∷ []))) ∙ lines_text-append (header plan ++ entries) (line_fields n row ∷ []) in
     append_assoc (past_text plan past) (line_text n row) (10 ∷ []) ∙ ap (λ (t : List ℕ). t ++ lines_text (line_fields n row ∷ [])) (past_lines plan past) ∙ sym lines
 
 -- the journal is the text of the past and the last line

@@ -22,17 +22,17 @@ use Rattle.savi_kinds.proofs.AddrWritten.{most_len}
 use Rattle.hist_store.specs.TextOfLines.{joined}
 use Rattle.hist_store.specs.PortTexts.{port_text}
 use Rattle.hist_store.specs.JournalTexts.{address_text, prefix_text_by, journal_port_fields, prefix_fields, setting, word_lines, limit_lines, time_lines, begin_line, header_lines}
-use Rattle.journal_check.specs.Headers.{Line, IsPlan, ComesNext}
+use Rattle.journal_check.specs.Headers.{LineFields, IsPlan, ComesNext}
 
-abbrev AreShort : List Line → Type 0
+abbrev AreShort : List LineFields → Type 0
 AreShort [] = Unit {0}
 AreShort (line ∷ lines) = (length (joined line) ≤ 3400) × AreShort lines
 
-short_append : (ls ms : List Line) → AreShort ls → AreShort ms → AreShort (ls ++ ms)
+short_append : (ls ms : List LineFields) → AreShort ls → AreShort ms → AreShort (ls ++ ms)
 short_append [] ms a b = b
 short_append (l ∷ ls) ms a b = (a.0, short_append ls ms a.1 b)
 
-short_behind : (ls ms : List Line) → AreShort (ls ++ ms) → AreShort ms
+short_behind : (ls ms : List LineFields) → AreShort (ls ++ ms) → AreShort ms
 short_behind [] ms a = a
 short_behind (l ∷ ls) ms a = short_behind ls ms a.1
 
@@ -162,7 +162,7 @@ header_short plan is =
     short_append (word_lines plan ++ limit_lines plan ++ time_lines plan ++ map journal_port_fields plan.ports ++ map (prefix_fields address_text) plan.prefixes) (begin_line ∷ []) five begin
 
 -- no line that comes next in a header is longer
-pub next_short : (lines : List Line) (next : Line) → ComesNext lines next → length (joined next) ≤ 3400
+pub next_short : (lines : List LineFields) (next : LineFields) → ComesNext lines next → length (joined next) ≤ 3400
 next_short lines next comes =
     let all = short_behind lines (next ∷ comes.more) (subst AreShort comes.header (header_short comes.plan comes.is_plan)) in
     all.0

@@ -23,7 +23,7 @@ use Rattle.journal_check.specs.declared.answer.Checked.{Checked}
 use Rattle.journal_check.specs.declared.answer.Checked.TheVariants.{Good, Wrong, BadLine, Failed, NoMemory}
 use Rattle.journal_check.specs.declared.settings.Settings.{Settings}
 use Rattle.journal_check.specs.Feeds.{HasNoFeed, BeginsWithNoLine}
-use Rattle.journal_check.specs.Headers.{Line, IsPlan, ComesNext, HasNoNext}
+use Rattle.journal_check.specs.Headers.{LineFields, IsPlan, ComesNext, HasNoNext}
 use Rattle.journal_check.specs.SettingLines.{setting_lines, AreSettings, IsRead, IsNotNext, before}
 use Rattle.journal_check.specs.ListLines.{list_lines, plan_by, port_by, AreLists, IsNotListed, IsListed}
 use Rattle.journal_check.specs.Answers.{IfRead, IsBadHeader}
@@ -33,7 +33,7 @@ use Rattle.journal_check.proofs.HeaderSizes.{next_short}
 use Rattle.journal_check.proofs.NextListed.{not_listed}
 
 -- one more line was taken
-one_line_more : (line : List ℕ) (lines : List Line) (next : Line) (whole mid after : Option (List ℕ)) → whole ≡ in_front (lines_text lines) mid → mid ≡ in_front (line ++ 10 ∷ []) after
+one_line_more : (line : List ℕ) (lines : List LineFields) (next : LineFields) (whole mid after : Option (List ℕ)) → whole ≡ in_front (lines_text lines) mid → mid ≡ in_front (line ++ 10 ∷ []) after
     → line ≡ joined next → whole ≡ in_front (lines_text (lines ++ next ∷ [])) after
 one_line_more line lines next whole mid after told taken text =
     let front = lines_text lines in
@@ -45,7 +45,7 @@ one_line_more line lines next whole mid after told taken text =
 pub read_more : (k : ℕ) (line : List ℕ) (old new : Settings) (whole mid after : Option (List ℕ)) → whole ≡ in_front (lines_text (before k old)) mid → mid ≡ in_front (line ++ 10 ∷ []) after
     → IsRead k line old new → whole ≡ in_front (lines_text (before (k + 1) new)) after
 read_more k line old new whole mid after told taken read =
-    one_line_more line (before k old) read.next whole mid after told taken read.text ∙ ap (λ (ls : List Line). in_front (lines_text ls) after) (sym read.one_more)
+    one_line_more line (before k old) read.next whole mid after told taken read.text ∙ ap (λ (ls : List LineFields). in_front (lines_text ls) after) (sym read.one_more)
 
 -- plans of settings and lists
 
@@ -94,27 +94,27 @@ settings_valid : (s : Settings) → AreSettings s → IsPlan (plan_by s (the_fir
 settings_valid s a = plan_is s (the_first ∷ []) [] a first_listed (lit< tt)
 
 -- the line of the first port, and `begin`
-abbrev last_lines : List Line
+abbrev last_lines : List LineFields
 last_lines = journal_port_fields the_first ∷ begin_line ∷ []
 
 settings_header : (s : Settings) → header_lines address_text (plan_by s (the_first ∷ []) []) ≡ setting_lines s ++ last_lines
 settings_header s = refl
 
 -- lines, cut in front of one
-record CutAt (lines : List Line) (k : ℕ) : Type 0 where
-  next : Line
-  more : List Line
+record CutAt (lines : List LineFields) (k : ℕ) : Type 0 where
+  next : LineFields
+  more : List LineFields
   is : lines ≡ take k lines ++ next ∷ more
 
-cut_at : (lines : List Line) (k : ℕ) → k < length lines → CutAt lines k
+cut_at : (lines : List LineFields) (k : ℕ) → k < length lines → CutAt lines k
 cut_at [] k low = absurd (omega (arith, low))
 cut_at (line ∷ lines) zero low = record { next = line; more = lines; is = refl }
 cut_at (line ∷ lines) (suc k) low =
     let cut = cut_at lines k (omega (arith, low)) in
-    record { next = cut.next; more = cut.more; is = ap (λ (l : List Line). line ∷ l) cut.is }
+    record { next = cut.next; more = cut.more; is = ap (λ (l : List LineFields). line ∷ l) cut.is }
 
 -- some line comes next behind the lines that were read
-comes_some : (k : ℕ) (s : Settings) → AreSettings s → k < 11 → (next : Line) × ComesNext (before k s) next
+comes_some : (k : ℕ) (s : Settings) → AreSettings s → k < 11 → (next : LineFields) × ComesNext (before k s) next
 comes_some k s a low =
     let cut = cut_at (setting_lines s) k low in (
       cut.next,
@@ -122,7 +122,7 @@ comes_some k s a low =
         plan = plan_by s (the_first ∷ []) [];
         is_plan = settings_valid s a;
         more = cut.more ++ last_lines;
-        header = settings_header s ∙ ap (λ (l : List Line). l ++ last_lines) cut.is ∙ append_assoc (before k s) (cut.next ∷ cut.more) last_lines;
+        header = settings_header s ∙ ap (λ (l : List LineFields). l ++ last_lines) cut.is ∙ append_assoc (before k s) (cut.next ∷ cut.more) last_lines;
       },
     )
 
@@ -135,17 +135,17 @@ bad_header k s whole (Some rest) a low told none =
     let size : length (before k s) ≡ k = length-take-le k (setting_lines s) (omega (arith, low)) in
     rw told (k + 1, record { lines = before k s; rest = rest; next = some.0; begins = some.1; text = refl; none = none; number = omega (arith, size) }, refl)
 
-behind_lines : (ls ms : List Line) → IsLines (ls ++ ms) → IsLines ms
+behind_lines : (ls ms : List LineFields) → IsLines (ls ++ ms) → IsLines ms
 behind_lines [] ms is = is
 behind_lines (l ∷ ls) ms is = behind_lines ls ms is.1
 
-next_line_is : (lines : List Line) (next : Line) → ComesNext lines next → IsLine next
+next_line_is : (lines : List LineFields) (next : LineFields) → ComesNext lines next → IsLine next
 next_line_is lines next comes =
     let all = behind_lines lines (next ∷ comes.more) (subst IsLines comes.header (lines_header address_text written-IsAddressText comes.plan)) in
     all.0
 
 -- the line that was taken is none that comes next
-taken_not : (lines : List Line) (line : List ℕ) (mid after : Option (List ℕ)) → HasNoFeed line → ((next : Line) → ComesNext lines next → line ≢ joined next) → mid ≡ in_front (line ++ 10 ∷ []) after
+taken_not : (lines : List LineFields) (line : List ℕ) (mid after : Option (List ℕ)) → HasNoFeed line → ((next : LineFields) → ComesNext lines next → line ≢ joined next) → mid ≡ in_front (line ++ 10 ∷ []) after
     → IfSome mid (λ rest. HasNoNext lines rest)
 taken_not lines line mid None plain not taken = rw taken tt
 taken_not lines line mid (Some rest) plain not taken =
@@ -157,7 +157,7 @@ pub none_next : (k : ℕ) (s : Settings) (line : List ℕ) (mid after : Option (
 none_next k s line mid after plain not taken = taken_not (before k s) line mid after plain not taken
 
 -- no line was taken
-pub broken_next : (lines : List Line) (mid : Option (List ℕ)) → IfSome mid BeginsWithNoLine → IfSome mid (λ rest. HasNoNext lines rest)
+pub broken_next : (lines : List LineFields) (mid : Option (List ℕ)) → IfSome mid BeginsWithNoLine → IfSome mid (λ rest. HasNoNext lines rest)
 broken_next lines None none = tt
 broken_next lines (Some rest) none = λ next more comes e.
     none (joined next) more (plain_avoids (joined next) (line_avoids next (next_line_is lines next comes))) (next_short lines next comes) e
@@ -165,11 +165,11 @@ broken_next lines (Some rest) none = λ next more comes e.
 -- the same behind lines of lists
 
 -- the lines of settings and of lists
-abbrev front : Settings → List PortPlan → List PrefixPlan → List Line
+abbrev front : Settings → List PortPlan → List PrefixPlan → List LineFields
 front s ports prefixes = setting_lines s ++ list_lines ports prefixes
 
 -- some line comes next behind them
-list_comes : (s : Settings) (ports : List PortPlan) (prefixes : List PrefixPlan) → AreSettings s → AreLists ports prefixes → (next : Line) × ComesNext (front s ports prefixes) next
+list_comes : (s : Settings) (ports : List PortPlan) (prefixes : List PrefixPlan) → AreSettings s → AreLists ports prefixes → (next : LineFields) × ComesNext (front s ports prefixes) next
 list_comes s [] [] a l = (
   journal_port_fields the_first,
   record { plan = plan_by s (the_first ∷ []) []; is_plan = settings_valid s a; more = begin_line ∷ []; header = refl },
@@ -223,7 +223,7 @@ pub list_more : (line : List ℕ) (ports : List PortPlan) (prefixes : List Prefi
     → whole ≡ in_front (lines_text (list_lines ports' prefixes')) after
 list_more line ports prefixes ports' prefixes' whole mid after told taken listed =
     one_line_more line (list_lines ports prefixes) listed.next whole mid after told taken listed.text
-    ∙ ap (λ (ls : List Line). in_front (lines_text ls) after) (sym listed.one_more)
+    ∙ ap (λ (ls : List LineFields). in_front (lines_text ls) after) (sym listed.one_more)
 
 -- the whole header was taken
 pub told_header : (s : Settings) (ports : List PortPlan) (prefixes : List PrefixPlan) (whole mid after : Option (List ℕ)) → whole ≡ in_front (lines_text (setting_lines s)) mid

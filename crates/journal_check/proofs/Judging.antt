@@ -18,7 +18,7 @@ use Rattle.journal_check.specs.declared.putting.Put.TheVariants.{Entered, Never,
 use Rattle.journal_check.specs.declared.turns.Turn.TheVariants as turns
 use Rattle.journal_check.specs.Differing.{event_by, first_apart, letter_of, IsSameComputed}
 use Rattle.journal_check.specs.Puts.{Puts}
-use Rattle.journal_check.specs.Turns.{SaysNothing, SaysWrong, Turned}
+use Rattle.journal_check.specs.Turns.{SaysNothing, SaysWrong, MadeTurn}
 use Rattle.journal_check.proofs.ShortFields.{the_row}
 use Rattle.journal_check.proofs.OneAnswer.{entry_not_last}
 
@@ -57,7 +57,7 @@ row_is m entry octets line says same =
     ap₂ the_row whole kept
 
 pub judged_stands : (m new : Machine) (line : List ℕ) (entry want : Entry) (octets : List ℕ) → SaysEntry line (length m.past) (the_row entry octets)
-    → Puts m (event_by entry.act octets) new (Entered want) → IsSameComputed want entry → Turned m line new turns.Stands
+    → Puts m (event_by entry.act octets) new (Entered want) → IsSameComputed want entry → MadeTurn m line new turns.Stands
 judged_stands m new line entry want octets says put same =
     let event = event_by entry.act octets in
     let row = row_of m.plan empty m.past event in

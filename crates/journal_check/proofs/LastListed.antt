@@ -6,7 +6,7 @@ use Rattle.savi_kinds.specs.declared.address.Prefix.{Prefix}
 use Rattle.savi_kinds.specs.Prefixes.{first_of, past_of}
 use Rattle.savi_kinds.specs.ValidPlan.{nets_of}
 use Rattle.hist_store.specs.HeaderLines.{IsNextPrefix}
-use Rattle.journal_check.specs.ListLines.{IsPast}
+use Rattle.journal_check.specs.ListLines.{IsBehindLast}
 
 nets_size : (prefixes : List PrefixPlan) → length (nets_of prefixes) ≡ length prefixes
 nets_size prefixes = length-map prefixes (λ (p : PrefixPlan). p.prefix)
@@ -19,7 +19,7 @@ abbrev pub IsLastPrefix : List PrefixPlan → Option Prefix → Type 0
 IsLastPrefix prefixes last =
     IfNone last (prefixes ≡ []) × IfSome last (λ p. (0 < length prefixes) × ((d : Prefix) → get_or (nets_of prefixes) (length prefixes - 1) d ≡ p))
 
-pub next_prefix_last : (prefixes : List PrefixPlan) (last : Option Prefix) (next : Prefix) → IsLastPrefix prefixes last → IsPast (nets_of prefixes) next → IsNextPrefix last next
+pub next_prefix_last : (prefixes : List PrefixPlan) (last : Option Prefix) (next : Prefix) → IsLastPrefix prefixes last → IsBehindLast (nets_of prefixes) next → IsNextPrefix last next
 next_prefix_last prefixes None next is past = tt
 next_prefix_last prefixes (Some p) next is past =
     let size = nets_size prefixes in

@@ -3,14 +3,14 @@ use Rattle.std.proofs.Common.{◌≡◌, ◌⊎◌, ℕ, List, [], ◌∷◌, �
 use Rattle.hist_store.specs.TextOfLines.{joined, lines_text}
 use Rattle.hist_store.proofs.Words.{Avoids, IsLine, IsLines, word_avoids, parted, joined_same}
 use Rattle.journal_check.specs.Feeds.{HasNoFeed}
-use Rattle.journal_check.specs.Headers.{Line}
+use Rattle.journal_check.specs.Headers.{LineFields}
 
 avoids_append : (c : ℕ) (s t : List ℕ) → Avoids c s → Avoids c t → Avoids c (s ++ t)
 avoids_append c [] t a b = b
 avoids_append c (x ∷ s) t a b = (a.0, avoids_append c s t a.1 b)
 
 -- no line has a line feed
-pub line_avoids : (ws : Line) → IsLine ws → Avoids 10 (joined ws)
+pub line_avoids : (ws : LineFields) → IsLine ws → Avoids 10 (joined ws)
 line_avoids [] is = absurd is
 line_avoids (w ∷ []) is = word_avoids 10 w (omega arith) is.0
 line_avoids (w ∷ v ∷ ws) is =
@@ -25,37 +25,37 @@ pub plain_avoids : (t : List ℕ) → Avoids 10 t → HasNoFeed t
 plain_avoids [] avoids = tt
 plain_avoids (x ∷ t) avoids = (avoids.0, plain_avoids t avoids.1)
 
-pub front_lines : (ls ms : List Line) → IsLines (ls ++ ms) → IsLines ls
+pub front_lines : (ls ms : List LineFields) → IsLines (ls ++ ms) → IsLines ls
 front_lines [] ms is = tt
 front_lines (l ∷ ls) ms is = (is.0, front_lines ls ms is.1)
 
-pub record AreSame (ls : List Line) (s : List ℕ) (ms : List Line) (t : List ℕ) : Type 0 where
+pub record AreSame (ls : List LineFields) (s : List ℕ) (ms : List LineFields) (t : List ℕ) : Type 0 where
   pub lines : ls ≡ ms
   pub rest : s ≡ t
 
 -- the second goes on where the first ends
-pub record GoesOn (ls : List Line) (s : List ℕ) (ms : List Line) (t : List ℕ) : Type 0 where
-  pub next : Line
-  pub more : List Line
+pub record GoesOn (ls : List LineFields) (s : List ℕ) (ms : List LineFields) (t : List ℕ) : Type 0 where
+  pub next : LineFields
+  pub more : List LineFields
   pub lines : ms ≡ ls ++ next ∷ more
   pub rest : s ≡ joined next ++ 10 ∷ (lines_text more ++ t)
 
-abbrev pub AreFronts : List Line → List ℕ → List Line → List ℕ → Type 0
+abbrev pub AreFronts : List LineFields → List ℕ → List LineFields → List ℕ → Type 0
 AreFronts ls s ms t = AreSame ls s ms t ⊎ GoesOn ls s ms t ⊎ GoesOn ms t ls s
 
 -- the same line in front of both
-longer : (l m : Line) (ls ms : List Line) (s t : List ℕ) → l ≡ m → AreFronts ls s ms t → AreFronts (l ∷ ls) s (m ∷ ms) t
-longer l m ls ms s t first (inl same) = inl (record { lines = ap₂ (λ (x : Line) (xs : List Line). x ∷ xs) first same.lines; rest = same.rest })
+longer : (l m : LineFields) (ls ms : List LineFields) (s t : List ℕ) → l ≡ m → AreFronts ls s ms t → AreFronts (l ∷ ls) s (m ∷ ms) t
+longer l m ls ms s t first (inl same) = inl (record { lines = ap₂ (λ (x : LineFields) (xs : List LineFields). x ∷ xs) first same.lines; rest = same.rest })
 longer l m ls ms s t first (inr (inl on)) =
-    inr (inl (record { next = on.next; more = on.more; lines = ap₂ (λ (x : Line) (xs : List Line). x ∷ xs) (sym first) on.lines; rest = on.rest }))
+    inr (inl (record { next = on.next; more = on.more; lines = ap₂ (λ (x : LineFields) (xs : List LineFields). x ∷ xs) (sym first) on.lines; rest = on.rest }))
 longer l m ls ms s t first (inr (inr on)) =
-    inr (inr (record { next = on.next; more = on.more; lines = ap₂ (λ (x : Line) (xs : List Line). x ∷ xs) first on.lines; rest = on.rest }))
+    inr (inr (record { next = on.next; more = on.more; lines = ap₂ (λ (x : LineFields) (xs : List LineFields). x ∷ xs) first on.lines; rest = on.rest }))
 
 -- the first line, with its line feed, in front of what is behind
-opened : (l : Line) (ls : List Line) (s : List ℕ) → lines_text (l ∷ ls) ++ s ≡ joined l ++ 10 ∷ (lines_text ls ++ s)
+opened : (l : LineFields) (ls : List LineFields) (s : List ℕ) → lines_text (l ∷ ls) ++ s ≡ joined l ++ 10 ∷ (lines_text ls ++ s)
 opened l ls s = append_assoc (joined l) (10 ∷ lines_text ls) s
 
-pub fronts : (ls ms : List Line) (s t : List ℕ) → IsLines ls → IsLines ms → lines_text ls ++ s ≡ lines_text ms ++ t → AreFronts ls s ms t
+pub fronts : (ls ms : List LineFields) (s t : List ℕ) → IsLines ls → IsLines ms → lines_text ls ++ s ≡ lines_text ms ++ t → AreFronts ls s ms t
 fronts [] [] s t p q e = inl (record { lines = refl; rest = e })
 fronts [] (m ∷ ms) s t p q e = inr (inl (record { next = m; more = ms; lines = refl; rest = e ∙ opened m ms t }))
 fronts (l ∷ ls) [] s t p q e = inr (inr (record { next = l; more = ls; lines = refl; rest = sym e ∙ opened l ls s }))

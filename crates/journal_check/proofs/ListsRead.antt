@@ -18,8 +18,8 @@ use Rattle.savi_kinds.specs.ValidPlan.{IsPlanPrefix, nets_of, numbers_of}
 use Rattle.hist_store.specs.TextOfLines.{joined}
 use Rattle.hist_store.specs.JournalTexts.{address_text, journal_port_fields, journal_port_line, prefix_fields, prefix_line}
 use Rattle.savi_history.specs.Journals.{IsAddress, without_port_names}
-use Rattle.journal_check.specs.Headers.{Line}
-use Rattle.journal_check.specs.ListLines.{list_lines, port_by, IsAbove, IsPast, AreLists, MayAddPort, MayAddPrefix, IsListed}
+use Rattle.journal_check.specs.Headers.{LineFields}
+use Rattle.journal_check.specs.ListLines.{list_lines, port_by, IsAbove, IsBehindLast, AreLists, MayAddPort, MayAddPrefix, IsListed}
 
 -- numbers that rise
 
@@ -60,7 +60,7 @@ rise_more ns n rise above = λ k within.
 abbrev Ends : Prefix → Prefix → Type 0
 Ends p q = past_of p ≤ first_of q
 
-pub past_at : (xs : List Prefix) (x : Prefix) (more : List Prefix) → AllPairs Ends (xs ++ x ∷ more) → IsPast xs x
+pub past_at : (xs : List Prefix) (x : Prefix) (more : List Prefix) → AllPairs Ends (xs ++ x ∷ more) → IsBehindLast xs x
 past_at xs x more pairs = λ d some.
     let last = length xs - 1 in
     let size = length-append xs (x ∷ more) in
@@ -73,7 +73,7 @@ through : (p q x : Prefix) → Ends p q → Ends q x → Ends p x
 through p q x first second = omega (arith, first, second)
 
 -- each of them ends before one that begins behind the last
-all_past : (xs : List Prefix) (x : Prefix) (i : ℕ) (d : Prefix) → AllPairs Ends xs → IsPast xs x → i < length xs → Ends (get_or xs i d) x
+all_past : (xs : List Prefix) (x : Prefix) (i : ℕ) (d : Prefix) → AllPairs Ends xs → IsBehindLast xs x → i < length xs → Ends (get_or xs i d) x
 all_past xs x i d pairs past within =
     let last = length xs - 1 in
     let end = past d (omega (arith, within)) in
@@ -82,7 +82,7 @@ all_past xs x i d pairs past within =
       | inr over ↦ let place : last ≡ i = omega (arith, over, within) in subst (λ (k : ℕ). Ends (get_or xs k d) x) place end
     ]
 
-pub pairs_more : (xs : List Prefix) (x : Prefix) → AllPairs Ends xs → IsPast xs x → AllPairs Ends (xs ++ x ∷ [])
+pub pairs_more : (xs : List Prefix) (x : Prefix) → AllPairs Ends xs → IsBehindLast xs x → AllPairs Ends (xs ++ x ∷ [])
 pairs_more xs x pairs past = λ i j d less within.
     let size = length-append xs (x ∷ []) in
     let first : i < length xs = omega (arith, size, less, within) in
@@ -156,7 +156,7 @@ module _ (ports : List PortPlan) (prefixes : List PrefixPlan) (port : Port) (rol
       ap (λ (xs : List PrefixPlan). map journal_port_fields more_ports ++ map (prefix_fields address_text) xs) none
       ∙ append-nil (map journal_port_fields more_ports)
       ∙ map-append journal_port_fields ports (port_by port role format ∷ [])
-      ∙ sym (ap (λ (ls : List Line). ls ++ line ∷ []) (ap (λ (xs : List PrefixPlan). map journal_port_fields ports ++ map (prefix_fields address_text) xs) none ∙ append-nil (map journal_port_fields ports)))
+      ∙ sym (ap (λ (ls : List LineFields). ls ++ line ∷ []) (ap (λ (xs : List PrefixPlan). map journal_port_fields ports ++ map (prefix_fields address_text) xs) none ∙ append-nil (map journal_port_fields ports)))
 
   pub port_listed : (line : List ℕ) → AreLists ports prefixes → MayAddPort ports prefixes port → line ≡ joined (journal_port_line port role format) → IsListed line ports prefixes more_ports prefixes
   port_listed line are may text =
@@ -204,7 +204,7 @@ module _ (ports : List PortPlan) (prefixes : List PrefixPlan) (prefix : Prefix) 
   prefix_line_more : list_lines ports more_prefixes ≡ list_lines ports prefixes ++ prefix_line address_text prefix method ∷ []
   prefix_line_more =
       let line = prefix_line address_text prefix method in
-      ap (λ (ls : List Line). map journal_port_fields ports ++ ls) (map-append (prefix_fields address_text) prefixes (one ∷ []))
+      ap (λ (ls : List LineFields). map journal_port_fields ports ++ ls) (map-append (prefix_fields address_text) prefixes (one ∷ []))
       ∙ sym (append_assoc (map journal_port_fields ports) (map (prefix_fields address_text) prefixes) (line ∷ []))
 
   pub prefix_listed : (line : List ℕ) → AreLists ports prefixes → MayAddPrefix ports prefixes prefix → line ≡ joined (prefix_line address_text prefix method) → IsListed line ports prefixes ports more_prefixes

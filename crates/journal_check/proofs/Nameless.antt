@@ -28,7 +28,7 @@ use Rattle.savi_history.specs.Queues.{Item}
 use Rattle.savi_history.specs.Legal.{IsOpen, IsFull, IsFinished, IsLegal, MayArrive, MayTick, MayEnd, MayCome}
 use Rattle.savi_history.specs.Journals.{without_names, without_port_names}
 use Rattle.savi_history.proofs.WithoutNames.{numbers_kept, count_kept, rules_kept, marks_kept, queue_kept, row_kept}
-use Rattle.journal_check.specs.Headers.{Line}
+use Rattle.journal_check.specs.Headers.{LineFields}
 use Rattle.journal_check.specs.Laws.{JournalsLackNames, WrittenIsGood}
 use Rattle.journal_check.proofs.GoodJournals.{journal_is_good}
 
@@ -153,14 +153,14 @@ valid_kept plan valid = record {
 
 port_lines_kept : (ports : List PortPlan) → map journal_port_fields (map without_port_names ports) ≡ map journal_port_fields ports
 port_lines_kept [] = refl
-port_lines_kept (p ∷ ports) = ap (λ (lines : List Line). journal_port_fields p ∷ lines) (port_lines_kept ports)
+port_lines_kept (p ∷ ports) = ap (λ (lines : List LineFields). journal_port_fields p ∷ lines) (port_lines_kept ports)
 
 header_kept : (plan : Plan) → header_lines address_text (without_names plan) ≡ header_lines address_text plan
 header_kept plan =
-    ap (λ (lines : List Line). word_lines plan ++ limit_lines plan ++ time_lines plan ++ lines ++ map (prefix_fields address_text) plan.prefixes ++ begin_line ∷ []) (port_lines_kept plan.ports)
+    ap (λ (lines : List LineFields). word_lines plan ++ limit_lines plan ++ time_lines plan ++ lines ++ map (prefix_fields address_text) plan.prefixes ++ begin_line ∷ []) (port_lines_kept plan.ports)
 
 journal_kept : (plan : Plan) (rows : List Row) → journal_text address_text (without_names plan) rows ≡ journal_text address_text plan rows
-journal_kept plan rows = ap (λ (lines : List Line). lines_text (lines ++ entry_lines 0 rows ++ journal_end_line (length rows) ∷ [])) (header_kept plan)
+journal_kept plan rows = ap (λ (lines : List LineFields). lines_text (lines ++ entry_lines 0 rows ++ journal_end_line (length rows) ∷ [])) (header_kept plan)
 
 nameless_twice : (ports : List PortPlan) → map without_port_names (map without_port_names ports) ≡ map without_port_names ports
 nameless_twice [] = refl

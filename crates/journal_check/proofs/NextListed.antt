@@ -20,25 +20,25 @@ use Rattle.hist_store.proofs.OnePort.{first_apart, port_by_text}
 use Rattle.savi_history.specs.Journals.{IsAddress}
 use Rattle.savi_history.proofs.OneValue.{method_by_text}
 use Rattle.journal_check.specs.declared.settings.Settings.{Settings}
-use Rattle.journal_check.specs.Headers.{Line, ComesNext}
+use Rattle.journal_check.specs.Headers.{LineFields, ComesNext}
 use Rattle.journal_check.specs.SettingLines.{setting_lines}
 use Rattle.journal_check.specs.ListLines.{list_lines, AreLists, MayAddPort, MayAddPrefix, IsNotListed}
 use Rattle.journal_check.proofs.ListsRead.{above_of, past_at}
 
 -- lines of which the first ones are the same in form
 
-four_same : {name a b c a' b' c' : List ℕ} {ls ms : List Line} → (name ∷ a ∷ b ∷ c ∷ []) ∷ ls ≡ (name ∷ a' ∷ b' ∷ c' ∷ []) ∷ ms → (a ≡ a') × (ls ≡ ms)
+four_same : {name a b c a' b' c' : List ℕ} {ls ms : List LineFields} → (name ∷ a ∷ b ∷ c ∷ []) ∷ ls ≡ (name ∷ a' ∷ b' ∷ c' ∷ []) ∷ ms → (a ≡ a') × (ls ≡ ms)
 four_same {name} {a} {b} {c} {a'} {b'} {c'} {ls} {ms} e = let field : a ≡ a' = cc in let rest : ls ≡ ms = cc in (field, rest)
 
-record AreSameTwo (a b a' b' : List ℕ) (ls ms : List Line) : Type 0 where
+record AreSameTwo (a b a' b' : List ℕ) (ls ms : List LineFields) : Type 0 where
   first : a ≡ a'
   second : b ≡ b'
   rest : ls ≡ ms
 
-three_same : {name a b a' b' : List ℕ} {ls ms : List Line} → (name ∷ a ∷ b ∷ []) ∷ ls ≡ (name ∷ a' ∷ b' ∷ []) ∷ ms → AreSameTwo a b a' b' ls ms
+three_same : {name a b a' b' : List ℕ} {ls ms : List LineFields} → (name ∷ a ∷ b ∷ []) ∷ ls ≡ (name ∷ a' ∷ b' ∷ []) ∷ ms → AreSameTwo a b a' b' ls ms
 three_same e = record { first = cc; second = cc; rest = cc }
 
-field_same : {s t : List ℕ} {l m : Line} {ls ms : List Line} → (s ∷ l) ∷ ls ≡ (t ∷ m) ∷ ms → s ≡ t
+field_same : {s t : List ℕ} {l m : LineFields} {ls ms : List LineFields} → (s ∷ l) ∷ ls ≡ (t ∷ m) ∷ ms → s ≡ t
 field_same e = cc
 
 second_apart : {z x y : ℕ} {s t : List ℕ} → z ∷ x ∷ s ≡ z ∷ y ∷ t → (x == y) ≡ false → ⊥
@@ -47,28 +47,28 @@ second_apart {z} {x} {y} {s} {t} e other = let tails : x ∷ s ≡ y ∷ t = cc 
 -- ports
 
 -- no line of a port comes first
-abbrev HasNoPort : List Line → Type 0
-HasNoPort rest = (p : PortPlan) (ls : List Line) → rest ≡ journal_port_fields p ∷ ls → ⊥
+abbrev HasNoPort : List LineFields → Type 0
+HasNoPort rest = (p : PortPlan) (ls : List LineFields) → rest ≡ journal_port_fields p ∷ ls → ⊥
 
 -- the ports of the plan are these
-record ArePorts (qs ps : List PortPlan) (rest mid : List Line) : Type 0 where
+record ArePorts (qs ps : List PortPlan) (rest mid : List LineFields) : Type 0 where
   numbers : numbers_of qs ≡ numbers_of ps
   rest_is : rest ≡ mid
 
 -- the plan has more ports than these
-record AreMorePorts (qs ps : List PortPlan) (rest mid : List Line) : Type 0 where
+record AreMorePorts (qs ps : List PortPlan) (rest mid : List LineFields) : Type 0 where
   next : PortPlan
   later : List PortPlan
   numbers : numbers_of qs ≡ numbers_of ps ++ number_of next.number ∷ numbers_of later
   mid_is : mid ≡ journal_port_fields next ∷ (map journal_port_fields later ++ rest)
 
-ports_more : (q p : PortPlan) (qs ps : List PortPlan) (rest mid : List Line) → number_of q.number ≡ number_of p.number
+ports_more : (q p : PortPlan) (qs ps : List PortPlan) (rest mid : List LineFields) → number_of q.number ≡ number_of p.number
     → ArePorts qs ps rest mid ⊎ AreMorePorts qs ps rest mid → ArePorts (q ∷ qs) (p ∷ ps) rest mid ⊎ AreMorePorts (q ∷ qs) (p ∷ ps) rest mid
 ports_more q p qs ps rest mid same (inl all) = inl (record { numbers = ap₂ (λ (n : ℕ) (ns : List ℕ). n ∷ ns) same all.numbers; rest_is = all.rest_is })
 ports_more q p qs ps rest mid same (inr more) =
     inr (record { next = more.next; later = more.later; numbers = ap₂ (λ (n : ℕ) (ns : List ℕ). n ∷ ns) same more.numbers; mid_is = more.mid_is })
 
-ports_behind : (qs ps : List PortPlan) (rest mid : List Line) → HasNoPort rest → map journal_port_fields qs ++ rest ≡ map journal_port_fields ps ++ mid → ArePorts qs ps rest mid ⊎ AreMorePorts qs ps rest mid
+ports_behind : (qs ps : List PortPlan) (rest mid : List LineFields) → HasNoPort rest → map journal_port_fields qs ++ rest ≡ map journal_port_fields ps ++ mid → ArePorts qs ps rest mid ⊎ AreMorePorts qs ps rest mid
 ports_behind [] [] rest mid none e = inl (record { numbers = refl; rest_is = e })
 ports_behind [] (p ∷ ps) rest mid none e = absurd (none p (map journal_port_fields ps ++ mid) e)
 ports_behind (q ∷ qs) [] rest mid none e = inr (record { next = q; later = qs; numbers = refl; mid_is = sym e })
@@ -102,26 +102,26 @@ first_same x y xs ys are are' text =
     let valid' = All-head IsPlanPrefix y.prefix (nets_of ys) are'.plan_prefixes in
     prefix_once x.prefix y.prefix (All-head within x.prefix (nets_of xs) are.addresses) valid.prefix (All-head within y.prefix (nets_of ys) are'.addresses) valid'.prefix text
 
-abbrev HasNoPrefix : List Line → Type 0
-HasNoPrefix rest = (x : PrefixPlan) (ls : List Line) → rest ≡ prefix_fields address_text x ∷ ls → ⊥
+abbrev HasNoPrefix : List LineFields → Type 0
+HasNoPrefix rest = (x : PrefixPlan) (ls : List LineFields) → rest ≡ prefix_fields address_text x ∷ ls → ⊥
 
-record ArePrefixes (ys xs : List PrefixPlan) (rest mid : List Line) : Type 0 where
+record ArePrefixes (ys xs : List PrefixPlan) (rest mid : List LineFields) : Type 0 where
   same : ys ≡ xs
   rest_is : rest ≡ mid
 
-record AreMorePrefixes (ys xs : List PrefixPlan) (rest mid : List Line) : Type 0 where
+record AreMorePrefixes (ys xs : List PrefixPlan) (rest mid : List LineFields) : Type 0 where
   next : PrefixPlan
   later : List PrefixPlan
   same : ys ≡ xs ++ next ∷ later
   mid_is : mid ≡ prefix_fields address_text next ∷ (map (prefix_fields address_text) later ++ rest)
 
-prefixes_more : (y x : PrefixPlan) (ys xs : List PrefixPlan) (rest mid : List Line) → y ≡ x
+prefixes_more : (y x : PrefixPlan) (ys xs : List PrefixPlan) (rest mid : List LineFields) → y ≡ x
     → ArePrefixes ys xs rest mid ⊎ AreMorePrefixes ys xs rest mid → ArePrefixes (y ∷ ys) (x ∷ xs) rest mid ⊎ AreMorePrefixes (y ∷ ys) (x ∷ xs) rest mid
 prefixes_more y x ys xs rest mid same (inl all) = inl (record { same = ap₂ (λ (p : PrefixPlan) (ps : List PrefixPlan). p ∷ ps) same all.same; rest_is = all.rest_is })
 prefixes_more y x ys xs rest mid same (inr more) =
     inr (record { next = more.next; later = more.later; same = ap₂ (λ (p : PrefixPlan) (ps : List PrefixPlan). p ∷ ps) same more.same; mid_is = more.mid_is })
 
-prefixes_behind : (ys xs : List PrefixPlan) (rest mid : List Line) → HasNoPrefix rest → AreWritten ys → AreWritten xs
+prefixes_behind : (ys xs : List PrefixPlan) (rest mid : List LineFields) → HasNoPrefix rest → AreWritten ys → AreWritten xs
     → map (prefix_fields address_text) ys ++ rest ≡ map (prefix_fields address_text) xs ++ mid → ArePrefixes ys xs rest mid ⊎ AreMorePrefixes ys xs rest mid
 prefixes_behind [] [] rest mid none are are' e = inl (record { same = refl; rest_is = e })
 prefixes_behind [] (x ∷ xs) rest mid none are are' e = absurd (none x (map (prefix_fields address_text) xs ++ mid) e)
@@ -140,11 +140,11 @@ prefixes_no_port : (ys : List PrefixPlan) → HasNoPort (map (prefix_fields addr
 prefixes_no_port [] p ls e = first_apart (field_same e) refl
 prefixes_no_port (y ∷ ys) p ls e = second_apart (field_same e) refl
 
-head_line : {l m : Line} {ls ms : List Line} → l ∷ ls ≡ m ∷ ms → l ≡ m
+head_line : {l m : LineFields} {ls ms : List LineFields} → l ∷ ls ≡ m ∷ ms → l ≡ m
 head_line e = cc
 
 -- a port comes next only where there is no prefix yet
-port_next : (xs : List PrefixPlan) (next : Line) (more later : List Line) (q : PortPlan) → map (prefix_fields address_text) xs ++ next ∷ more ≡ journal_port_fields q ∷ later → (xs ≡ []) × (next ≡ journal_port_fields q)
+port_next : (xs : List PrefixPlan) (next : LineFields) (more later : List LineFields) (q : PortPlan) → map (prefix_fields address_text) xs ++ next ∷ more ≡ journal_port_fields q ∷ later → (xs ≡ []) × (next ≡ journal_port_fields q)
 port_next [] next more later q e = (refl, head_line e)
 port_next (x ∷ xs) next more later q e = absurd (second_apart (field_same e) refl)
 
@@ -157,22 +157,22 @@ All-middle P xs x ys all =
     subst P (get_or_at xs x ys x (length xs) refl) (all (length xs) x (omega (arith, size)))
 
 -- the lines of the plan's lists
-abbrev plan_lists : Plan → List Line
+abbrev plan_lists : Plan → List LineFields
 plan_lists plan = map journal_port_fields plan.ports ++ (map (prefix_fields address_text) plan.prefixes ++ begin_line ∷ [])
 
-lists_behind : (s : Settings) (ports : List PortPlan) (prefixes : List PrefixPlan) (next : Line) (comes : ComesNext (setting_lines s ++ list_lines ports prefixes) next)
+lists_behind : (s : Settings) (ports : List PortPlan) (prefixes : List PrefixPlan) (next : LineFields) (comes : ComesNext (setting_lines s ++ list_lines ports prefixes) next)
     → plan_lists comes.plan ≡ map journal_port_fields ports ++ (map (prefix_fields address_text) prefixes ++ next ∷ comes.more)
 lists_behind s ports prefixes next comes =
     let plan = comes.plan in
     sym (append_assoc (map journal_port_fields plan.ports) (map (prefix_fields address_text) plan.prefixes) (begin_line ∷ []))
-    ∙ ap (λ (lines : List Line). drop 11 lines) comes.header
+    ∙ ap (λ (lines : List LineFields). drop 11 lines) comes.header
     ∙ append_assoc (map journal_port_fields ports) (map (prefix_fields address_text) prefixes) (next ∷ comes.more)
 
-module _ (s : Settings) (ports : List PortPlan) (prefixes : List PrefixPlan) (line : List ℕ) (next : Line) (comes : ComesNext (setting_lines s ++ list_lines ports prefixes) next) where
-  abbrev rest : List Line
+module _ (s : Settings) (ports : List PortPlan) (prefixes : List PrefixPlan) (line : List ℕ) (next : LineFields) (comes : ComesNext (setting_lines s ++ list_lines ports prefixes) next) where
+  abbrev rest : List LineFields
   rest = map (prefix_fields address_text) comes.plan.prefixes ++ begin_line ∷ []
 
-  abbrev mid : List Line
+  abbrev mid : List LineFields
   mid = map (prefix_fields address_text) prefixes ++ next ∷ comes.more
 
   not_port : IsNotListed ports prefixes line → AreMorePorts comes.plan.ports ports rest mid → line ≡ joined next → ⊥
@@ -230,7 +230,7 @@ module _ (s : Settings) (ports : List PortPlan) (prefixes : List PrefixPlan) (li
 
 -- a line that is none of those that may come next in the lists is none that comes next in a header
 pub not_listed : (s : Settings) (ports : List PortPlan) (prefixes : List PrefixPlan) (line : List ℕ) → AreLists ports prefixes → IsNotListed ports prefixes line
-    → (next : Line) → ComesNext (setting_lines s ++ list_lines ports prefixes) next → line ≢ joined next
+    → (next : LineFields) → ComesNext (setting_lines s ++ list_lines ports prefixes) next → line ≢ joined next
 not_listed s ports prefixes line are none next comes =
     not_behind s ports prefixes line next comes are none
     (ports_behind comes.plan.ports ports (map (prefix_fields address_text) comes.plan.prefixes ++ begin_line ∷ []) (map (prefix_fields address_text) prefixes ++ next ∷ comes.more)

@@ -15,7 +15,7 @@ use Rattle.savi_history.proofs.Fields.{lines_end}
 use Rattle.journal_check.specs.declared.answer.Checked.{Checked}
 use Rattle.journal_check.specs.declared.answer.Checked.TheVariants.{Good, Wrong, BadLine, Failed, NoMemory}
 use Rattle.journal_check.specs.Differing.{Differs}
-use Rattle.journal_check.specs.Answers.{HasMore, HasWrong, Judges}
+use Rattle.journal_check.specs.Answers.{HasMore, HasWrong, IsAnswerTo}
 use Rattle.journal_check.proofs.LineFronts.{line_avoids}
 use Rattle.journal_check.proofs.OneFault.{differs_same, stands_not}
 
@@ -61,7 +61,7 @@ wrong_once plan past rest want have want' have' a b =
     let rows = entry_once a.line b.line (length past) a.row b.row a.more b.more a.says b.says (sym a.text ∙ b.text) in
     differs_same plan past a.row want have want' have' a.differs (subst (λ (r : Row). Differs plan past r want' have') (sym rows.0) b.differs)
 
-pub judge_once : (plan : Plan) (past : List Row) (rest : List ℕ) (a b : Checked) → Judges plan past rest a → Judges plan past rest b → a ≡ b
+pub judge_once : (plan : Plan) (past : List Row) (rest : List ℕ) (a b : Checked) → IsAnswerTo plan past rest a → IsAnswerTo plan past rest b → a ≡ b
 judge_once plan past rest (Good m) (Good n) a b = ap Good (a.0 ∙ sym b.0)
 judge_once plan past rest (Good m) (Wrong n want have) a b =
     absurd (entry_not_last b.1.line (length past) (length past) b.1.row b.1.more [] b.1.says (sym b.1.text ∙ a.2 ∙ sym (append-nil (journal_end_text (length past)))))
@@ -95,7 +95,7 @@ judge_once plan past rest (BadLine m) NoMemory a b = absurd b
 
 -- where an entry stands, nothing is to be answered yet
 pub judge_stands : (plan : Plan) (past : List Row) (rest more : List ℕ) (row : Row) (a : Checked) → Stands plan empty past row → SaysEntry (line_text (length past) row) (length past) (row_said row)
-    → rest ≡ line_text (length past) row ++ 10 ∷ more → Judges plan past rest a → ⊥
+    → rest ≡ line_text (length past) row ++ 10 ∷ more → IsAnswerTo plan past rest a → ⊥
 judge_stands plan past rest more row (Good m) stands says text a =
     entry_not_last (line_text (length past) row) (length past) (length past) (row_said row) more [] says (sym text ∙ a.2 ∙ sym (append-nil (journal_end_text (length past))))
 judge_stands plan past rest more row (Wrong m want have) stands says text a =

@@ -14,12 +14,12 @@ use Rattle.hist_store.specs.EntryLines.{act_said, row_said}
 use Rattle.savi_history.specs.Bases.{Base, empty}
 use Rattle.savi_history.specs.Events.{Event, Frame, Long, Command, Tick, Drain, End, row_of}
 use Rattle.savi_history.specs.Legal.{MayCome, Stands}
-use Rattle.journal_check.specs.Differing.{event_by, event_of, WantsNumber, first_apart, Differs}
+use Rattle.journal_check.specs.Differing.{event_by, row_event, WantsNumber, first_apart, Differs}
 use Rattle.journal_check.proofs.SaidFields.{fields_said}
 
 -- events
 
-pub event_row : (plan : Plan) (base : Base) (past : List Row) (event : Event) → event_of (row_of plan base past event) ≡ event
+pub event_row : (plan : Plan) (base : Base) (past : List Row) (event : Event) → row_event (row_of plan base past event) ≡ event
 event_row plan base past (Frame port stamp octets) = refl
 event_row plan base past (Long port stamp len) = refl
 event_row plan base past (Command stamp line) = refl
@@ -35,12 +35,12 @@ event_said_by (acts.Command stamp at len) octets = refl
 event_said_by (acts.Drain port count) octets = refl
 event_said_by (acts.End who how) octets = refl
 
-pub event_said : (row : Row) → event_of (row_said row) ≡ event_of row
+pub event_said : (row : Row) → row_event (row_said row) ≡ row_event row
 event_said row = event_said_by row.entry.act row.octets
 
 -- the event of a row that stands is the one of which it is the row
-pub stood_event : (plan : Plan) (past : List Row) (row : Row) (stands : Stands plan empty past row) → event_of row ≡ stands.0
-stood_event plan past row stands = ap event_of stands.2 ∙ event_row plan empty past stands.0
+pub stood_event : (plan : Plan) (past : List Row) (row : Row) (stands : Stands plan empty past row) → row_event row ≡ stands.0
+stood_event plan past row stands = ap row_event stands.2 ∙ event_row plan empty past stands.0
 
 -- the number that is wanted
 
@@ -114,11 +114,11 @@ differs_same plan past row want have want' have' (inl a) (inr (inl b)) = absurd 
 differs_same plan past row want have want' have' (inl a) (inr (inr b)) = absurd (a.never b.may)
 differs_same plan past row want have want' have' (inr (inl a)) (inl b) = absurd (b.no_number a.wanted a.given a.wants)
 differs_same plan past row want have want' have' (inr (inl a)) (inr (inl b)) =
-    let numbers = wants_same plan past (event_of row) a.wanted a.given b.wanted b.given a.wants b.wants in
+    let numbers = wants_same plan past (row_event row) a.wanted a.given b.wanted b.given a.wants b.wants in
     (a.want_number ∙ ap decimal numbers.0 ∙ sym b.want_number, a.have_number ∙ ap decimal numbers.1 ∙ sym b.have_number)
-differs_same plan past row want have want' have' (inr (inl a)) (inr (inr b)) = absurd (wants_none plan past (event_of row) a.wanted a.given b.may a.wants)
+differs_same plan past row want have want' have' (inr (inl a)) (inr (inr b)) = absurd (wants_none plan past (row_event row) a.wanted a.given b.may a.wants)
 differs_same plan past row want have want' have' (inr (inr a)) (inl b) = absurd (b.never a.may)
-differs_same plan past row want have want' have' (inr (inr a)) (inr (inl b)) = absurd (wants_none plan past (event_of row) b.wanted b.given a.may b.wants)
+differs_same plan past row want have want' have' (inr (inr a)) (inr (inl b)) = absurd (wants_none plan past (row_event row) b.wanted b.given a.may b.wants)
 differs_same plan past row want have want' have' (inr (inr a)) (inr (inr b)) =
     let both = some_same _ (want, have) (want', have') a.apart b.apart in
     (ap (λ (p : Both). p.0) both, ap (λ (p : Both). p.1) both)
@@ -126,14 +126,14 @@ differs_same plan past row want have want' have' (inr (inr a)) (inr (inr b)) =
 -- a row as the line of one that stands says it
 pub stands_not : (plan : Plan) (past : List Row) (row other : Row) (want have : List ℕ) → Stands plan empty past row → other ≡ row_said row → Differs plan past other want have → ⊥
 stands_not plan past row other want have stands same (inl a) =
-    let event : event_of other ≡ stands.0 = ap event_of same ∙ event_said row ∙ stood_event plan past row stands in
+    let event : row_event other ≡ stands.0 = ap row_event same ∙ event_said row ∙ stood_event plan past row stands in
     a.never (subst (MayCome plan empty past) (sym event) stands.1)
 stands_not plan past row other want have stands same (inr (inl a)) =
-    let event : event_of other ≡ stands.0 = ap event_of same ∙ event_said row ∙ stood_event plan past row stands in
+    let event : row_event other ≡ stands.0 = ap row_event same ∙ event_said row ∙ stood_event plan past row stands in
     wants_none plan past stands.0 a.wanted a.given stands.1 (subst (λ (e : Event). WantsNumber plan past e a.wanted a.given) event a.wants)
 stands_not plan past row other want have stands same (inr (inr a)) =
     let n = length past in
-    let event : event_of other ≡ stands.0 = ap event_of same ∙ event_said row ∙ stood_event plan past row stands in
-    let is : row_of plan empty past (event_of other) ≡ row = ap (row_of plan empty past) event ∙ sym stands.2 in
-    let fields : line_fields n (row_of plan empty past (event_of other)) ≡ line_fields n other = ap (line_fields n) is ∙ fields_said n row ∙ ap (line_fields n) (sym same) in
+    let event : row_event other ≡ stands.0 = ap row_event same ∙ event_said row ∙ stood_event plan past row stands in
+    let is : row_of plan empty past (row_event other) ≡ row = ap (row_of plan empty past) event ∙ sym stands.2 in
+    let fields : line_fields n (row_of plan empty past (row_event other)) ≡ line_fields n other = ap (line_fields n) is ∙ fields_said n row ∙ ap (line_fields n) (sym same) in
     none_some _ (want, have) (ap (λ (fs : List (List ℕ)). first_apart fs (line_fields n other)) fields ∙ same_apart (line_fields n other)) a.apart

@@ -7,39 +7,39 @@ use Rattle.hist_store.proofs.Words.{IsLines}
 use Rattle.savi_history.proofs.AddressTexts.{written-IsAddressText}
 use Rattle.savi_history.proofs.Fields.{lines_header}
 use Rattle.savi_history.proofs.Headers.{header_by_lines}
-use Rattle.journal_check.specs.Headers.{Line, IsPlan, ComesNext, HasBadHeader}
+use Rattle.journal_check.specs.Headers.{LineFields, IsPlan, ComesNext, HasBadHeader}
 use Rattle.journal_check.proofs.LineFronts.{front_lines, AreFronts, fronts}
 
 -- the header of a plan
-abbrev pub header : Plan → List Line
+abbrev pub header : Plan → List LineFields
 header plan = header_lines address_text plan
 
 header_is : (plan : Plan) → IsLines (header plan)
 header_is plan = lines_header address_text written-IsAddressText plan
 
-before_is : (lines : List Line) (next : Line) → ComesNext lines next → IsLines lines
+before_is : (lines : List LineFields) (next : LineFields) → ComesNext lines next → IsLines lines
 before_is lines next comes = front_lines lines (next ∷ comes.more) (subst IsLines comes.header (header_is comes.plan))
 
-some_line : (l : Line) (more : List Line) → l ∷ more ≡ [] → ⊥
+some_line : (l : LineFields) (more : List LineFields) → l ∷ more ≡ [] → ⊥
 some_line l more e = cc
 
 -- a header doesn't go on behind a whole one
-not_longer : (plan plan' : Plan) (l : Line) (more : List Line) → IsPlan plan → IsPlan plan' → header plan' ≡ header plan ++ l ∷ more → ⊥
+not_longer : (plan plan' : Plan) (l : LineFields) (more : List LineFields) → IsPlan plan → IsPlan plan' → header plan' ≡ header plan ++ l ∷ more → ⊥
 not_longer plan plan' l more is is' e =
     let parts = header_by_lines address_text written-IsAddressText plan plan' (l ∷ more) [] is.valid is'.valid is.addresses is'.addresses (sym e ∙ sym (append-nil (header plan'))) in
     some_line l more parts.1
 
 -- what comes next behind a front
-comes_earlier : (ls ms : List Line) (l m : Line) (more : List Line) → ms ≡ ls ++ l ∷ more → ComesNext ms m → ComesNext ls l
+comes_earlier : (ls ms : List LineFields) (l m : LineFields) (more : List LineFields) → ms ≡ ls ++ l ∷ more → ComesNext ms m → ComesNext ls l
 comes_earlier ls ms l m more e comes = record {
   plan = comes.plan;
   is_plan = comes.is_plan;
   more = more ++ m ∷ comes.more;
-  header = comes.header ∙ ap (λ (xs : List Line). xs ++ m ∷ comes.more) e ∙ append_assoc ls (l ∷ more) (m ∷ comes.more);
+  header = comes.header ∙ ap (λ (xs : List LineFields). xs ++ m ∷ comes.more) e ∙ append_assoc ls (l ∷ more) (m ∷ comes.more);
 }
 
 bad_at : (octets : List ℕ) (m n : ℕ) (a : HasBadHeader octets m) (b : HasBadHeader octets n) → AreFronts a.lines a.rest b.lines b.rest → m ≡ n
-bad_at octets m n a b (inl same) = a.number ∙ ap (λ (xs : List Line). length xs + 1) same.lines ∙ sym b.number
+bad_at octets m n a b (inl same) = a.number ∙ ap (λ (xs : List LineFields). length xs + 1) same.lines ∙ sym b.number
 bad_at octets m n a b (inr (inl on)) =
     absurd (a.none on.next (lines_text on.more ++ b.rest) (comes_earlier a.lines b.lines on.next b.next on.more on.lines b.begins) on.rest)
 bad_at octets m n a b (inr (inr on)) =
@@ -51,7 +51,7 @@ bad_once octets m n a b =
 
 not_bad_at : (octets : List ℕ) (n : ℕ) (plan : Plan) (rest : List ℕ) (a : HasBadHeader octets n) → IsPlan plan → AreFronts a.lines a.rest (header plan) rest → ⊥
 not_bad_at octets n plan rest a is (inl same) =
-    not_longer plan a.begins.plan a.next a.begins.more is a.begins.is_plan (a.begins.header ∙ ap (λ (xs : List Line). xs ++ a.next ∷ a.begins.more) same.lines)
+    not_longer plan a.begins.plan a.next a.begins.more is a.begins.is_plan (a.begins.header ∙ ap (λ (xs : List LineFields). xs ++ a.next ∷ a.begins.more) same.lines)
 not_bad_at octets n plan rest a is (inr (inl on)) =
     a.none on.next (lines_text on.more ++ rest) (record { plan = plan; is_plan = is; more = on.more; header = on.lines }) on.rest
 not_bad_at octets n plan rest a is (inr (inr on)) =
@@ -65,7 +65,7 @@ not_bad octets n plan rest a is text =
 
 one_plan_at : (plan plan' : Plan) (rest rest' : List ℕ) → IsPlan plan → IsPlan plan' → AreFronts (header plan) rest (header plan') rest' → (plan ≡ plan') × (rest ≡ rest')
 one_plan_at plan plan' rest rest' is is' (inl same) =
-    let parts = header_by_lines address_text written-IsAddressText plan plan' [] [] is.valid is'.valid is.addresses is'.addresses (ap (λ (xs : List Line). xs ++ []) same.lines) in
+    let parts = header_by_lines address_text written-IsAddressText plan plan' [] [] is.valid is'.valid is.addresses is'.addresses (ap (λ (xs : List LineFields). xs ++ []) same.lines) in
     (sym is.nameless ∙ parts.0 ∙ is'.nameless, same.rest)
 one_plan_at plan plan' rest rest' is is' (inr (inl on)) = absurd (not_longer plan plan' on.next on.more is is' on.lines)
 one_plan_at plan plan' rest rest' is is' (inr (inr on)) = absurd (not_longer plan' plan on.next on.more is' is on.lines)

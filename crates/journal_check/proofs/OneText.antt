@@ -10,9 +10,9 @@ use Rattle.savi_history.specs.Events.{Event, row_of}
 use Rattle.savi_history.specs.Legal.{Stands, IsLegal}
 use Rattle.journal_check.specs.declared.answer.Checked.{Checked}
 use Rattle.journal_check.specs.declared.answer.Checked.TheVariants.{BadLine}
-use Rattle.journal_check.specs.Answers.{past_text, Judges, IsBadHeader, IsAnswerBehind}
+use Rattle.journal_check.specs.Answers.{past_text, IsAnswerTo, IsBadHeader, IsAnswerBehind}
 use Rattle.journal_check.specs.Laws.{AreSaid, HasOneAnswer}
-use Rattle.journal_check.specs.Differing.{event_of}
+use Rattle.journal_check.specs.Differing.{row_event}
 use Rattle.journal_check.proofs.LegalFields.{legal_said}
 use Rattle.journal_check.proofs.OneHeader.{header, bad_once, not_bad, one_plan}
 use Rattle.journal_check.proofs.OneFault.{event_said, stood_event}
@@ -64,13 +64,13 @@ text_turned plan (row ∷ past) rows rest =
 row_once : (plan : Plan) (past : List Row) (a b : Row) → IsNext plan past a → IsNext plan past b → row_said a ≡ row_said b → a ≡ b
 row_once plan past a b next next' same =
     let event : next.stands.0 ≡ next'.stands.0 =
-    sym (stood_event plan past a next.stands) ∙ sym (event_said a) ∙ ap event_of same ∙ event_said b ∙ stood_event plan past b next'.stands in
+    sym (stood_event plan past a next.stands) ∙ sym (event_said a) ∙ ap row_event same ∙ event_said b ∙ stood_event plan past b next'.stands in
     next.stands.2 ∙ ap (λ (e : Event). row_of plan empty past e) event ∙ sym next'.stands.2
 
 once_from : (plan : Plan) (past rows rows' : List Row) (rest rest' : List ℕ) (a b : Checked) → AreNext plan past rows → AreNext plan past rows' → text_from past rows rest ≡ text_from past rows' rest'
-    → Judges plan (after past rows) rest a → Judges plan (after past rows') rest' b → a ≡ b
+    → IsAnswerTo plan (after past rows) rest a → IsAnswerTo plan (after past rows') rest' b → a ≡ b
 once_from plan past [] [] rest rest' a b next next' text judges judges' =
-    judge_once plan past rest a b judges (subst (λ (t : List ℕ). Judges plan past t b) (sym text) judges')
+    judge_once plan past rest a b judges (subst (λ (t : List ℕ). IsAnswerTo plan past t b) (sym text) judges')
 once_from plan past [] (row ∷ rows) rest rest' a b next next' text judges judges' =
     absurd (judge_stands plan past rest (text_from (row ∷ past) rows rest') row a next'.0.stands next'.0.says text judges)
 once_from plan past (row ∷ rows) [] rest rest' a b next next' text judges judges' =
@@ -81,7 +81,7 @@ once_from plan past (row ∷ rows) (row' ∷ rows') rest rest' a b next next' te
     let same : row ≡ row' = row_once plan past row row' next.0 next'.0 parts.0 in
     let next'' = subst (λ (r : Row). AreNext plan (r ∷ past) rows') (sym same) next'.1 in
     let text' : text_from (row ∷ past) rows rest ≡ text_from (row ∷ past) rows' rest' = parts.1 ∙ ap (λ (r : Row). text_from (r ∷ past) rows' rest') (sym same) in
-    let judges'' = subst (λ (r : Row). Judges plan (after (r ∷ past) rows') rest' b) (sym same) judges' in
+    let judges'' = subst (λ (r : Row). IsAnswerTo plan (after (r ∷ past) rows') rest' b) (sym same) judges' in
     once_from plan (row ∷ past) rows rows' rest rest' a b next.1 next'' text' judges judges''
 
 -- whole texts
@@ -92,8 +92,8 @@ whole_text octets a x = x.begins.text ∙ text_turned x.plan x.past [] x.rest
 whole_next : (octets : List ℕ) (a : Checked) (x : IsAnswerBehind octets a) → AreNext x.plan [] (turned x.past [])
 whole_next octets a x = next_turned x.plan x.past [] x.begins.legal (legal_said x.plan x.begins.plan_is.valid x.past x.begins.legal x.begins.bytes) tt
 
-whole_judges : (octets : List ℕ) (a : Checked) (x : IsAnswerBehind octets a) → Judges x.plan (after [] (turned x.past [])) x.rest a
-whole_judges octets a x = subst (λ (past : List Row). Judges x.plan past x.rest a) (sym (after_turned x.past [])) x.judges
+whole_judges : (octets : List ℕ) (a : Checked) (x : IsAnswerBehind octets a) → IsAnswerTo x.plan (after [] (turned x.past [])) x.rest a
+whole_judges octets a x = subst (λ (past : List Row). IsAnswerTo x.plan past x.rest a) (sym (after_turned x.past [])) x.judges
 
 behind_once : (octets : List ℕ) (a b : Checked) → IsAnswerBehind octets a → IsAnswerBehind octets b → a ≡ b
 behind_once octets a b x y =
@@ -101,7 +101,7 @@ behind_once octets a b x y =
     let rows' = turned y.past [] in
     let parts = one_plan x.plan y.plan (text_from [] rows x.rest) (text_from [] rows' y.rest) x.begins.plan_is y.begins.plan_is (sym (whole_text octets a x) ∙ whole_text octets b y) in
     let next = subst (λ (p : Plan). AreNext p [] rows') (sym parts.0) (whole_next octets b y) in
-    let judges = subst (λ (p : Plan). Judges p (after [] rows') y.rest b) (sym parts.0) (whole_judges octets b y) in
+    let judges = subst (λ (p : Plan). IsAnswerTo p (after [] rows') y.rest b) (sym parts.0) (whole_judges octets b y) in
     once_from x.plan [] rows rows' x.rest y.rest a b (whole_next octets a x) next parts.1 (whole_judges octets a x) judges
 
 header_apart : (octets : List ℕ) (a b : Checked) → IsBadHeader octets a → IsAnswerBehind octets b → ⊥

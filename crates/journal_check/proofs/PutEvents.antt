@@ -17,7 +17,7 @@ use Rattle.savi_history.specs.Legal.{IsOpen, MayCome, MayEnd}
 use Rattle.savi_core.specs.declared.event.Stepped.{Stepped}
 use Rattle.savi_core.specs.declared.event.Stepped.TheVariants.{Done, Full, Nothing}
 use Rattle.savi_core.specs.Machines.{Machine, with_event}
-use Rattle.savi_core.specs.Steps.{Did, Drained, count_of, entry_of}
+use Rattle.savi_core.specs.Steps.{Did, Drained, taken_count, entry_of}
 use Rattle.journal_check.specs.declared.putting.Put.TheVariants.{Never, Other}
 use Rattle.journal_check.specs.Differing.{WantsNumber}
 use Rattle.journal_check.specs.Puts.{Puts, put_of}
@@ -91,7 +91,7 @@ drain_over m port count queued open_pass all some less =
 pub drain_drained : (m new : Machine) (port : Port) (count : ℕ) (batch : List Item) (stepped : Stepped) → 1 ≤ count → count ≤ waiting m port
     → IsOpen m.plan empty m.past (passes.Egress port) → Drained m port count new batch stepped → Puts m (Drain port count) new (put_of stepped)
 drain_drained m new port count batch (Done entry) some few open_pass did =
-    let all : count_of m port count ≡ count = omega (arith, few) in
+    let all : taken_count m port count ≡ count = omega (arith, few) in
     ((open_pass, some, few), did.2 ∙ ap (λ (n : ℕ). with_event m (Drain port n)) all, did.3 ∙ ap (λ (n : ℕ). entry_of m (Drain port n)) all)
 drain_drained m new port count batch (Full len) some few open_pass did = absurd did
 drain_drained m new port count batch Nothing some few open_pass did =

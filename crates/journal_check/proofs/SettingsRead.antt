@@ -9,18 +9,18 @@ use Rattle.savi_kinds.specs.ValidPlan.{IsValidPlan, IsWithin, IsSeconds}
 use Rattle.hist_store.specs.TextOfLines.{joined}
 use Rattle.hist_store.specs.JournalTexts.{address_text, header_lines, setting}
 use Rattle.journal_check.specs.declared.settings.Settings.{Settings}
-use Rattle.journal_check.specs.Headers.{Line, ComesNext}
+use Rattle.journal_check.specs.Headers.{LineFields, ComesNext}
 use Rattle.journal_check.specs.SettingLines.{setting_lines, AreSettings, before, IsNotNext}
 
 -- the line behind the first k lines
-nth_at : (ys : List Line) (next : Line) (more : List Line) (k : ℕ) → k ≤ length ys → get_or (take k ys ++ next ∷ more) k [] ≡ next
+nth_at : (ys : List LineFields) (next : LineFields) (more : List LineFields) (k : ℕ) → k ≤ length ys → get_or (take k ys ++ next ∷ more) k [] ≡ next
 nth_at ys next more zero low = refl
 nth_at [] next more (suc k) low = absurd (omega (arith, low))
 nth_at (y ∷ ys) next more (suc k) low = nth_at ys next more k (omega (arith, low))
 
 -- what comes next is the line of the plan with that number
-pub next_is : (settings : Settings) (k : ℕ) (next : Line) (comes : ComesNext (before k settings) next) → k ≤ 11 → get_or (header_lines address_text comes.plan) k [] ≡ next
-next_is settings k next comes low = ap (λ (lines : List Line). get_or lines k []) comes.header ∙ nth_at (setting_lines settings) next comes.more k low
+pub next_is : (settings : Settings) (k : ℕ) (next : LineFields) (comes : ComesNext (before k settings) next) → k ≤ 11 → get_or (header_lines address_text comes.plan) k [] ≡ next
+next_is settings k next comes low = ap (λ (lines : List LineFields). get_or lines k []) comes.header ∙ nth_at (setting_lines settings) next comes.more k low
 
 -- what was read can't be none
 pub no_value : (o : Option ℕ) (value : ℕ) → o ≡ None → o ≡ Some value → ⊥
@@ -30,13 +30,13 @@ value_same : {name a b : List ℕ} → name ∷ a ∷ [] ≡ name ∷ b ∷ [] �
 value_same e = cc
 
 -- a line that is none in the place of line k
-pub line_not : (settings : Settings) (k : ℕ) (line : List ℕ) → k ≤ 11 → ((next : Line) (comes : ComesNext (before k settings) next) → line ≡ joined (get_or (header_lines address_text comes.plan) k []) → ⊥) → IsNotNext k line settings
+pub line_not : (settings : Settings) (k : ℕ) (line : List ℕ) → k ≤ 11 → ((next : LineFields) (comes : ComesNext (before k settings) next) → line ≡ joined (get_or (header_lines address_text comes.plan) k []) → ⊥) → IsNotNext k line settings
 line_not settings k line low none = λ next comes e. none next comes (e ∙ ap joined (sym (next_is settings k next comes low)))
 
 -- the gap of a plan that begins with these settings
-gap_is : (settings : Settings) (next : Line) (comes : ComesNext (before 9 settings) next) → AreSettings settings → comes.plan.gap ≡ settings.gap
+gap_is : (settings : Settings) (next : LineFields) (comes : ComesNext (before 9 settings) next) → AreSettings settings → comes.plan.gap ≡ settings.gap
 gap_is settings next comes are =
-    let lines : setting (codes "gap") comes.plan.gap ≡ setting (codes "gap") settings.gap = ap (λ (lines : List Line). get_or lines 8 []) comes.header in
+    let lines : setting (codes "gap") comes.plan.gap ≡ setting (codes "gap") settings.gap = ap (λ (lines : List LineFields). get_or lines 8 []) comes.header in
     let text : decimal comes.plan.gap ≡ decimal settings.gap = value_same lines in
     let high = comes.is_plan.valid.gap.1 in
     let high' = are.gap.1 in

@@ -23,7 +23,7 @@ past_text plan [] = journal_header_text address_text plan
 past_text plan (row ∷ past) = past_text plan past ++ line_text (length past) row ++ line_feed ∷ []
 
 -- the text begins with the header of a plan and the lines of a history that a switch of it may have; the rest comes behind
-pub record Begins (plan : Plan) (past : List Row) (octets rest : List ℕ) : Type 0 where
+pub record BeginsJournal (plan : Plan) (past : List Row) (octets rest : List ℕ) : Type 0 where
   pub plan_is : IsPlan plan
   pub legal : IsLegal plan empty past
   pub bytes : All (λ row. IsBytes row.octets) past
@@ -55,21 +55,21 @@ pub record HasWrong (plan : Plan) (past : List Row) (rest : List ℕ) (want have
   pub differs : Differs plan past row want have
 
 -- what is to be answered of the rest
-abbrev pub Judges : Plan → List Row → List ℕ → Checked → Type 0
-Judges plan past rest (Good entries) = (entries ≡ length past) × IsFinished plan empty past × (rest ≡ journal_end_text (length past))
-Judges plan past rest (Wrong entry want have) = (entry ≡ length past) × HasWrong plan past rest want have
-Judges plan past rest (BadLine n) =
+abbrev pub IsAnswerTo : Plan → List Row → List ℕ → Checked → Type 0
+IsAnswerTo plan past rest (Good entries) = (entries ≡ length past) × IsFinished plan empty past × (rest ≡ journal_end_text (length past))
+IsAnswerTo plan past rest (Wrong entry want have) = (entry ≡ length past) × HasWrong plan past rest want have
+IsAnswerTo plan past rest (BadLine n) =
     ((n ≡ next_line plan past) × HasNoLine plan past rest) ⊎ ((n ≡ next_line plan past + 1) × HasMore plan past rest)
-Judges plan past rest Failed = ⊥
-Judges plan past rest NoMemory = ⊥
+IsAnswerTo plan past rest Failed = ⊥
+IsAnswerTo plan past rest NoMemory = ⊥
 
 -- the same of the whole octets
 pub record IsAnswerBehind (octets : List ℕ) (answer : Checked) : Type 0 where
   pub plan : Plan
   pub past : List Row
   pub rest : List ℕ
-  pub begins : Begins plan past octets rest
-  pub judges : Judges plan past rest answer
+  pub begins : BeginsJournal plan past octets rest
+  pub judges : IsAnswerTo plan past rest answer
 
 abbrev pub IsBadHeader : List ℕ → Checked → Type 0
 IsBadHeader octets answer = (n : ℕ) × HasBadHeader octets n × (answer ≡ BadLine n)

@@ -25,8 +25,8 @@ event_by (acts.Drain port count) octets = Drain port count
 event_by (acts.End who how) octets = End who how
 
 -- the event of a row: where its octets are kept is no part of it
-abbrev pub event_of : Row → Event
-event_of row = event_by row.entry.act row.octets
+abbrev pub row_event : Row → Event
+row_event row = event_by row.entry.act row.octets
 
 -- the letter of an act
 abbrev pub letter_of : Act → List ℕ
@@ -81,8 +81,8 @@ pub record IsField (field : List ℕ) : Type 0 where
 
 -- the event can't come, and no other number would mend it
 pub record CanNotCome (plan : Plan) (past : List Row) (row : Row) (want have : List ℕ) : Type 0 where
-  pub never : ¬ MayCome plan empty past (event_of row)
-  pub no_number : (m n : ℕ) → ¬ WantsNumber plan past (event_of row) m n
+  pub never : ¬ MayCome plan empty past (row_event row)
+  pub no_number : (m n : ℕ) → ¬ WantsNumber plan past (row_event row) m n
   pub want_none : want ≡ codes "none"
   pub have_letter : have ≡ letter_of row.entry.act
 
@@ -90,14 +90,14 @@ pub record CanNotCome (plan : Plan) (past : List Row) (row : Row) (want have : L
 pub record WantsOther (plan : Plan) (past : List Row) (row : Row) (want have : List ℕ) : Type 0 where
   pub wanted : ℕ
   pub given : ℕ
-  pub wants : WantsNumber plan past (event_of row) wanted given
+  pub wants : WantsNumber plan past (row_event row) wanted given
   pub want_number : want ≡ decimal wanted
   pub have_number : have ≡ decimal given
 
 -- the event may come, and a field that is computed of it is another
 pub record IsComputedOther (plan : Plan) (past : List Row) (row : Row) (want have : List ℕ) : Type 0 where
-  pub may : MayCome plan empty past (event_of row)
-  pub apart : first_apart (line_fields (length past) (row_of plan empty past (event_of row))) (line_fields (length past) row) ≡ Some (want, have)
+  pub may : MayCome plan empty past (row_event row)
+  pub apart : first_apart (line_fields (length past) (row_of plan empty past (row_event row))) (line_fields (length past) row) ≡ Some (want, have)
 
 abbrev pub Differs : Plan → List Row → Row → List ℕ → List ℕ → Type 0
 Differs plan past row want have =

@@ -10,8 +10,8 @@ use Rattle.hist_store.specs.JournalTexts.{address_text, header_lines}
 use Rattle.savi_history.specs.Journals.{IsAddress, without_names}
 
 -- the fields of a line
-abbrev pub Line : Type 0
-Line = List (List ℕ)
+abbrev pub LineFields : Type 0
+LineFields = List (List ℕ)
 
 -- A plan that a switch may have: it is within the limits, and its addresses have as many bits as the types of addresses
 -- keep. The names of inputs and outputs stand in no journal, so it has none.
@@ -22,22 +22,22 @@ pub record IsPlan (plan : Plan) : Type 0 where
   pub nameless : without_names plan ≡ plan
 
 -- a header begins with these lines, and this line comes next
-pub record ComesNext (lines : List Line) (next : Line) : Type 0 where
+pub record ComesNext (lines : List LineFields) (next : LineFields) : Type 0 where
   pub plan : Plan
   pub is_plan : IsPlan plan
-  pub more : List Line
+  pub more : List LineFields
   pub header : header_lines address_text plan ≡ lines ++ next ∷ more
 
 -- no line that comes next in a header begins the rest
-abbrev pub HasNoNext : List Line → List ℕ → Type 0
-HasNoNext lines rest = (next : Line) (more : List ℕ) → ComesNext lines next → rest ≢ joined next ++ line_feed ∷ more
+abbrev pub HasNoNext : List LineFields → List ℕ → Type 0
+HasNoNext lines rest = (next : LineFields) (more : List ℕ) → ComesNext lines next → rest ≢ joined next ++ line_feed ∷ more
 
 -- The octets begin with lines of a header that isn't whole, and no line that comes next there begins the rest: line n is the
 -- first bad one.
 pub record HasBadHeader (octets : List ℕ) (n : ℕ) : Type 0 where
-  pub lines : List Line
+  pub lines : List LineFields
   pub rest : List ℕ
-  pub next : Line
+  pub next : LineFields
   pub begins : ComesNext lines next
   pub text : octets ≡ lines_text lines ++ rest
   pub none : HasNoNext lines rest

@@ -21,10 +21,10 @@ use Rattle.journal_check.specs.declared.lists.Listed.{Listed}
 use Rattle.journal_check.specs.declared.lists.Listed.TheVariants as listed
 use Rattle.journal_check.specs.declared.lists.Added.{Added}
 use Rattle.journal_check.specs.declared.lists.Added.TheVariants as added
-use Rattle.journal_check.specs.Headers.{Line}
+use Rattle.journal_check.specs.Headers.{LineFields}
 
 -- the lines of ports and of prefixes
-abbrev pub list_lines : List PortPlan → List PrefixPlan → List Line
+abbrev pub list_lines : List PortPlan → List PrefixPlan → List LineFields
 list_lines ports prefixes = map journal_port_fields ports ++ map (prefix_fields address_text) prefixes
 
 -- a port without names
@@ -55,8 +55,8 @@ abbrev pub IsAbove : List ℕ → ℕ → Type 0
 IsAbove numbers n = 0 < length numbers → slice_index numbers (length numbers - 1) < n
 
 -- the prefix begins behind the end of the last one, if there is one
-abbrev pub IsPast : List Prefix → Prefix → Type 0
-IsPast nets next = (d : Prefix) → 0 < length nets → past_of (slice_index_or nets (length nets - 1) d) ≤ first_of next
+abbrev pub IsBehindLast : List Prefix → Prefix → Type 0
+IsBehindLast nets next = (d : Prefix) → 0 < length nets → past_of (slice_index_or nets (length nets - 1) d) ≤ first_of next
 
 -- ports and prefixes with which a plan may begin, without names
 pub record AreLists (ports : List PortPlan) (prefixes : List PrefixPlan) : Type 0 where
@@ -81,7 +81,7 @@ pub record MayAddPrefix (ports : List PortPlan) (prefixes : List PrefixPlan) (pr
   pub few : length prefixes < 32
   pub plan_prefix : IsPlanPrefix prefix
   pub address : IsAddress (first_of prefix)
-  pub past : IsPast (nets_of prefixes) prefix
+  pub past : IsBehindLast (nets_of prefixes) prefix
 
 -- the line is none that may come next
 pub record IsNotListed (ports : List PortPlan) (prefixes : List PrefixPlan) (line : List ℕ) : Type 0 where
@@ -100,7 +100,7 @@ SaysListed listed.Bad ports prefixes line = IsNotListed ports prefixes line
 -- the line was added behind those of the ports and prefixes before
 pub record IsListed (line : List ℕ) (ports : List PortPlan) (prefixes : List PrefixPlan) (ports' : List PortPlan) (prefixes' : List PrefixPlan) : Type 0 where
   pub lists : AreLists ports' prefixes'
-  pub next : Line
+  pub next : LineFields
   pub one_more : list_lines ports' prefixes' ≡ list_lines ports prefixes ++ next ∷ []
   pub count : length ports' + length prefixes' ≡ length ports + length prefixes + 1
   pub text : line ≡ joined next

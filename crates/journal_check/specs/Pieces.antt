@@ -10,24 +10,24 @@ use Rattle.journal_check.specs.declared.lines.Taken.TheVariants as takes
 use Rattle.journal_check.specs.Feeds.{HasNoFeed, BeginsWithNoLine}
 
 -- the octets that are held
-abbrev pub held : Lines → List ℕ
-held lines = drop lines.at (take lines.end lines.piece)
+abbrev pub held_octets : Lines → List ℕ
+held_octets lines = drop lines.at (take lines.end lines.piece)
 
 -- the octets that are held, in front of what the source has left
 abbrev pub to_come : Lines → Option (List ℕ) → Option (List ℕ)
-to_come lines left = in_front (held lines) left
+to_come lines left = in_front (held_octets lines) left
 
 -- Octets of the line moved behind those before: up to its line feed, or all that were held, of which there were some; or
 -- there is no room for them.
 abbrev pub Cuts : Cut → Lines → Lines → List ℕ → List ℕ → Type 0
 Cuts cuts.Whole old new before line =
-    (part : List ℕ) × HasNoFeed part × (line ≡ before ++ part) × (held old ≡ part ++ line_feed ∷ held new)
-Cuts cuts.Part old new before line = (0 < length (held old)) × HasNoFeed (held old) × (line ≡ before ++ held old) × (held new ≡ []) × (length line ≤ 3400)
+    (part : List ℕ) × HasNoFeed part × (line ≡ before ++ part) × (held_octets old ≡ part ++ line_feed ∷ held_octets new)
+Cuts cuts.Part old new before line = (0 < length (held_octets old)) × HasNoFeed (held_octets old) × (line ≡ before ++ held_octets old) × (held_octets new ≡ []) × (length line ≤ 3400)
 Cuts cuts.Long old new before line =
-    (part : List ℕ) × (rest : List ℕ) × HasNoFeed part × (held old ≡ part ++ rest) × (3400 < length before + length part)
+    (part : List ℕ) × (rest : List ℕ) × HasNoFeed part × (held_octets old ≡ part ++ rest) × (3400 < length before + length part)
 
 -- What came of taking a line of what was to come: it was taken with its line feed, or there was none.
-abbrev pub Takes : Taken → List ℕ → Option (List ℕ) → Option (List ℕ) → Type 0
-Takes takes.Line line before after = HasNoFeed line × (before ≡ in_front (line ++ line_feed ∷ []) after)
-Takes takes.Broken line before after = IfSome before BeginsWithNoLine
-Takes takes.Failed line before after = Unit {0}
+abbrev pub TookLine : Taken → List ℕ → Option (List ℕ) → Option (List ℕ) → Type 0
+TookLine takes.Line line before after = HasNoFeed line × (before ≡ in_front (line ++ line_feed ∷ []) after)
+TookLine takes.Broken line before after = IfSome before BeginsWithNoLine
+TookLine takes.Failed line before after = Unit {0}

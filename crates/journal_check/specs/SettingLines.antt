@@ -6,9 +6,9 @@ use Rattle.savi_kinds.specs.ValidPlan.{IsWithin, IsSeconds}
 use Rattle.hist_store.specs.TextOfLines.{joined}
 use Rattle.hist_store.specs.JournalTexts.{version_line, mac_line, savi_line, unknown_line, setting}
 use Rattle.journal_check.specs.declared.settings.Settings.{Settings}
-use Rattle.journal_check.specs.Headers.{Line, ComesNext}
+use Rattle.journal_check.specs.Headers.{LineFields, ComesNext}
 
-abbrev pub setting_lines : Settings → List Line
+abbrev pub setting_lines : Settings → List LineFields
 setting_lines settings =
     version_line
     ∷ mac_line settings.mac
@@ -37,17 +37,17 @@ pub record AreSettings (settings : Settings) : Type 0 where
   pub life : IsSeconds 1 86400 settings.life
 
 -- the lines of settings in front of the one with this number, counted from 0
-abbrev pub before : ℕ → Settings → List Line
+abbrev pub before : ℕ → Settings → List LineFields
 before number settings = take number (setting_lines settings)
 
 -- the line with this number was read: it comes behind the lines before it, which stay
 pub record IsRead (number : ℕ) (line : List ℕ) (old new : Settings) : Type 0 where
   pub settings : AreSettings new
   pub same : before number new ≡ before number old
-  pub next : Line
+  pub next : LineFields
   pub one_more : before (number + 1) new ≡ before number old ++ next ∷ []
   pub text : line ≡ joined next
 
 -- the line is none that may come behind the lines before it
 abbrev pub IsNotNext : ℕ → List ℕ → Settings → Type 0
-IsNotNext number line settings = (next : Line) → ComesNext (before number settings) next → line ≢ joined next
+IsNotNext number line settings = (next : LineFields) → ComesNext (before number settings) next → line ≢ joined next

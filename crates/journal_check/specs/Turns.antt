@@ -28,8 +28,8 @@ pub record SaysNothing (plan : Plan) (past : List Row) (line : List ℕ) : Type 
   pub entry : (row : Row) → ¬ SaysEntry line (length past) row
   pub last : IsFinished plan empty past → line ≢ joined (journal_end_line (length past))
 
-abbrev pub Turned : Machine → List ℕ → Machine → Turn → Type 0
-Turned old line new turns.Stands = (row : Row) × SaysNext old.plan old.past line row × (new ≡ record old { past = row ∷ old.past })
-Turned old line new (turns.Wrong apart) = SaysWrong old.plan old.past line apart.want apart.have
-Turned old line new turns.Last = IsFinished old.plan empty old.past × (line ≡ joined (journal_end_line (length old.past))) × (new ≡ old)
-Turned old line new turns.Bad = SaysNothing old.plan old.past line × (new ≡ old)
+abbrev pub MadeTurn : Machine → List ℕ → Machine → Turn → Type 0
+MadeTurn old line new turns.Stands = (row : Row) × SaysNext old.plan old.past line row × (new ≡ record old { past = row ∷ old.past })
+MadeTurn old line new (turns.Wrong apart) = SaysWrong old.plan old.past line apart.want apart.have
+MadeTurn old line new turns.Last = IsFinished old.plan empty old.past × (line ≡ joined (journal_end_line (length old.past))) × (new ≡ old)
+MadeTurn old line new turns.Bad = SaysNothing old.plan old.past line × (new ≡ old)

@@ -54,11 +54,11 @@ impl Lines {
     ghost use Rattle.std.specs.Prelude.{◌≡◌, ◌<◌, ◌≤◌, [], length};
     ghost use Rattle.savi_ends.specs.Octets.{NothingLeft};
     ghost use Rattle.savi_ends.specs.Faults.{Rose};
-    ghost use Rattle.journal_check.specs.Pieces.{Cuts, Takes, held, to_come};
+    ghost use Rattle.journal_check.specs.Pieces.{Cuts, TookLine, held_octets, to_come};
 
     /// A text of which nothing was read yet.
     pub fn new() -> Lines
-        ensures { held result ≡ [] }
+        ensures { held_octets result ≡ [] }
     {
         Lines {
             piece: [0; PIECE_OCTETS],
@@ -72,7 +72,7 @@ impl Lines {
     pub fn next<S: Source>(&mut self, source: &mut S, line: &mut JournalLine) -> Taken
         ensures later { S.faults source.old ≤ S.faults source.new }
         ensures cause { result ≡ Taken.Failed → Rose (S.faults source.old) (S.faults source.new) }
-        ensures taken { Takes result line.new.items (to_come self.old (S.left source.old)) (to_come self.new (S.left source.new)) }
+        ensures taken { TookLine result line.new.items (to_come self.old (S.left source.old)) (to_come self.new (S.left source.new)) }
     {
         line.clear();
         'pieces: loop {
@@ -95,7 +95,7 @@ impl Lines {
         ensures cause { result ≡ Behind.Failed → Rose (S.faults source.old) (S.faults source.new) }
         ensures same { to_come self.new (S.left source.new) ≡ to_come self.old (S.left source.old) }
         ensures more { result ≡ Behind.More → self.new.at < self.new.end }
-        ensures some { result ≡ Behind.More → 0 < length (held self.new) }
+        ensures some { result ≡ Behind.More → 0 < length (held_octets self.new) }
         ensures nothing { result ≡ Behind.Nothing → NothingLeft (to_come self.old (S.left source.old)) }
     {
         if self.at < self.end {

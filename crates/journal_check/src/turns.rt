@@ -7,7 +7,7 @@ ghost use Rattle.hist_store.specs.LineTexts.{FitsLine, line_fields};
 ghost use Rattle.hist_store.specs.EntryLines.{SaysEntry, act_said};
 ghost use Rattle.hist_store.specs.JournalTexts.{journal_end_line};
 ghost use Rattle.journal_check.specs.Differing.{first_apart, IsField, IsSameComputed, IsSameQueued};
-ghost use Rattle.journal_check.specs.Turns.{Turned};
+ghost use Rattle.journal_check.specs.Turns.{MadeTurn};
 
 use crate::apart::{Apart, first_apart, none_wanted, numbers_apart};
 use crate::coming::is_finished;
@@ -33,7 +33,7 @@ pub enum Turn {
 /// Judges a line, and enters the event of its entry where that may come. It costs what the switch takes for the event,
 /// beside O(n) in the octets of the line.
 pub fn take_turn(core: &mut Core, batch: &mut Batch, line: &[u8]) -> Turn
-    ensures { Turned core.old line.now core.new result }
+    ensures { MadeTurn core.old line.now core.new result }
 {
     let mut octets = ArrayVec::new();
     match read_line(line, &mut octets) {
@@ -52,7 +52,7 @@ fn judge_numbered(
     line: &[u8],
 ) -> Turn
     requires { SaysEntry line.now n (record { entry = entry.now; octets = octets.now }) }
-    ensures { Turned core.old line.now core.new result }
+    ensures { MadeTurn core.old line.now core.new result }
 {
     if n == core.len() {
         judge(core, batch, entry, octets, line)
@@ -64,7 +64,7 @@ fn judge_numbered(
 // Judges a line that isn't that of an entry.
 fn last(core: &Core, line: &[u8]) -> Turn
     requires { (row : Row) → ¬ SaysEntry line.now (length core.now.past) row }
-    ensures { Turned core.now line.now core.now result }
+    ensures { MadeTurn core.now line.now core.now result }
 {
     if !is_last_line(line, core.len()) {
         return Turn::Bad;
@@ -89,7 +89,7 @@ fn is_last_line(line: &[u8], count: u64) -> bool
 // Judges the line of the next entry, with these octets.
 fn judge(core: &mut Core, batch: &mut Batch, entry: &Entry, octets: &[u8], line: &[u8]) -> Turn
     requires { SaysEntry line.now (length core.old.past) (record { entry = entry.now; octets = octets.now }) }
-    ensures { Turned core.old line.now core.new result }
+    ensures { MadeTurn core.old line.now core.new result }
 {
     let n = core.len();
     match put_event(core, batch, entry, octets) {

@@ -1,7 +1,7 @@
 //! Histories of entries that lines say.
 
 ghost use Rattle.std.specs.Prelude.{◌≡◌, ◌+◌, ◌<◌, ◌≤◌, ℕ, List, length};
-ghost use Rattle.hist_store.specs.Rows.{held, IsPlaced};
+ghost use Rattle.hist_store.specs.Rows.{held, KeepsOctets};
 ghost use Rattle.hist_store.specs.LineTexts.{FitsLine};
 
 use anyhow::bail;
@@ -59,7 +59,7 @@ fn keep(rt: &impl Print, hist: &mut Hist, entry: &Entry, octets: &[u8]) -> anyho
 // The entry with its octets, if it has any, at this place.
 fn placed(entry: &Entry, at: u64) -> Entry
     ensures { (octets : List ℕ) → FitsLine (record { entry = entry.now; octets = octets })
-        → FitsLine (record { entry = result; octets = octets }) × IsPlaced result.act at octets }
+        → FitsLine (record { entry = result; octets = octets }) × KeepsOctets result.act at octets }
 {
     let act = match entry.act {
         Act::Frame {

@@ -24,7 +24,7 @@ use Rattle.savi_history.specs.PortInputs.{arrived, input_end}
 use Rattle.live_session.specs.LiveInputs.{AreStamped, FitsInput}
 use Rattle.live_session.specs.LiveRows.{IngressRow}
 use Rattle.live_input.specs.Entered.{EndsInput, Enters}
-use Rattle.live_input.specs.Progress.{GoesOn, HasRead, HasStamped, GoesOnOrEnds, form_of}
+use Rattle.live_input.specs.Progress.{GoesOn, HasRead, HasStamped, GoesOnOrEnds, reader_form}
 use Rattle.live_input.proofs.Telling.{IsOne, fits_end, fits_failed, fits_full, fits_malformed, new_form, new_unbroken, one_form, one_frame, one_long, one_unbroken, read_more, read_none}
 
 -- stamps
@@ -46,19 +46,19 @@ stamped_more (readers.Pcap old) (readers.Stream new) gave x read mid now arrival
 stamped_more (readers.Stream old) (readers.Pcap new) gave x read mid now arrivals one stamped same = absurd one
 
 -- the stamp of an arrival that wasn't entered was read too
-stamped_full : (len : ℕ) (old : InputReader) (x : Arrival) (read mid now : Option (List ℕ)) (arrivals : List Arrival) → HasStamped old read mid arrivals → HasStampedOne old mid now (stamp_of x) → AreStamped (form_of old) read now arrivals (Some (hows.Full len))
+stamped_full : (len : ℕ) (old : InputReader) (x : Arrival) (read mid now : Option (List ℕ)) (arrivals : List Arrival) → HasStamped old read mid arrivals → HasStampedOne old mid now (stamp_of x) → AreStamped (reader_form old) read now arrivals (Some (hows.Full len))
 stamped_full len (readers.Pcap old) x read mid now arrivals stamped same = same ∙ stamped
 stamped_full len (readers.Stream old) x read mid now arrivals stamped adds = (stamp_of x, adds_more read mid now (stamps_in arrivals) (stamp_of x) stamped adds)
 
-stamped_end : (old : InputReader) (read mid : Option (List ℕ)) (arrivals : List Arrival) → HasStamped old read mid arrivals → AreStamped (form_of old) read mid arrivals (Some hows.End)
+stamped_end : (old : InputReader) (read mid : Option (List ℕ)) (arrivals : List Arrival) → HasStamped old read mid arrivals → AreStamped (reader_form old) read mid arrivals (Some hows.End)
 stamped_end (readers.Pcap old) read mid arrivals stamped = stamped
 stamped_end (readers.Stream old) read mid arrivals stamped = stamped
 
-stamped_malformed : (at : ℕ) (old : InputReader) (read mid : Option (List ℕ)) (arrivals : List Arrival) → HasStamped old read mid arrivals → AreStamped (form_of old) read mid arrivals (Some (hows.Malformed at))
+stamped_malformed : (at : ℕ) (old : InputReader) (read mid : Option (List ℕ)) (arrivals : List Arrival) → HasStamped old read mid arrivals → AreStamped (reader_form old) read mid arrivals (Some (hows.Malformed at))
 stamped_malformed at (readers.Pcap old) read mid arrivals stamped = stamped
 stamped_malformed at (readers.Stream old) read mid arrivals stamped = stamped
 
-stamped_failed : (old : InputReader) (read mid : Option (List ℕ)) (arrivals : List Arrival) → HasStamped old read mid arrivals → AreStamped (form_of old) read mid arrivals (Some hows.Failed)
+stamped_failed : (old : InputReader) (read mid : Option (List ℕ)) (arrivals : List Arrival) → HasStamped old read mid arrivals → AreStamped (reader_form old) read mid arrivals (Some hows.Failed)
 stamped_failed (readers.Pcap old) read mid arrivals stamped = stamped
 stamped_failed (readers.Stream old) read mid arrivals stamped = stamped
 
@@ -126,8 +126,8 @@ module _ {S C : Type 0} (left : S → Option (List ℕ)) (faults : S → ℕ) (r
 
     -- the row of an input that has ended so
     ended_at : (how : How) (gave : List ℕ) → Takes (left old.source) (left new.source) gave → faults old.source ≤ faults new.source
-        → EndsInput port how before after → FitsInput (form_of old.reader) (left source) (left new.source) (arrived port before) (Some how)
-        → AreStamped (form_of old.reader) (readings clock) (readings new.clock) (arrived port before) (Some how)
+        → EndsInput port how before after → FitsInput (reader_form old.reader) (left source) (left new.source) (arrived port before) (Some how)
+        → AreStamped (reader_form old.reader) (readings clock) (readings new.clock) (arrived port before) (Some how)
         → (how ≡ hows.Failed → Rose (faults old.source) (faults new.source))
         → IngressRow left faults readings format port after source new.source clock new.clock
     ended_at how gave takes later ends fits stamped cause = record {
@@ -171,7 +171,7 @@ module _ {S C : Type 0} (left : S → Option (List ℕ)) (faults : S → ℕ) (r
     left_end reads ends =
         ended_at hows.End reads.octets.0 reads.octets.1 reads.later ends
         (fits_end (left source) (left old.source) (left new.source) goes.gave reads.octets.0 new.buf (arrived port before) goes.takes reads.octets.1 old.reader new.reader goes.read reads.octets.2)
-        (subst (λ (o : Option (List ℕ)). AreStamped (form_of old.reader) (readings clock) o (arrived port before) (Some hows.End)) (sym (unread_end readings old.clock new.clock old.reader reads.stamps))
+        (subst (λ (o : Option (List ℕ)). AreStamped (reader_form old.reader) (readings clock) o (arrived port before) (Some hows.End)) (sym (unread_end readings old.clock new.clock old.reader reads.stamps))
         (stamped_end old.reader (readings clock) (readings old.clock) (arrived port before) goes.stamped))
         (λ e. cc)
 
@@ -179,7 +179,7 @@ module _ {S C : Type 0} (left : S → Option (List ℕ)) (faults : S → ℕ) (r
     left_malformed at reads ends =
         ended_at (hows.Malformed at) reads.octets.0 reads.octets.1 reads.later ends
         (fits_malformed (left source) (left old.source) (left new.source) goes.gave reads.octets.0 new.buf (arrived port before) goes.takes reads.octets.1 at old.reader new.reader goes.read reads.octets.2)
-        (subst (λ (o : Option (List ℕ)). AreStamped (form_of old.reader) (readings clock) o (arrived port before) (Some (hows.Malformed at))) (sym (unread_malformed readings old.clock new.clock at old.reader reads.stamps))
+        (subst (λ (o : Option (List ℕ)). AreStamped (reader_form old.reader) (readings clock) o (arrived port before) (Some (hows.Malformed at))) (sym (unread_malformed readings old.clock new.clock at old.reader reads.stamps))
         (stamped_malformed at old.reader (readings clock) (readings old.clock) (arrived port before) goes.stamped))
         (λ e. cc)
 
@@ -187,6 +187,6 @@ module _ {S C : Type 0} (left : S → Option (List ℕ)) (faults : S → ℕ) (r
     left_failed reads ends =
         ended_at hows.Failed reads.octets.0 reads.octets.1 reads.later ends
         (fits_failed (left source) (left old.source) (left new.source) goes.gave reads.octets.0 new.buf (arrived port before) goes.takes reads.octets.1 old.reader new.reader goes.read reads.octets.2)
-        (subst (λ (o : Option (List ℕ)). AreStamped (form_of old.reader) (readings clock) o (arrived port before) (Some hows.Failed)) (sym (unread_failed readings old.clock new.clock old.reader reads.stamps))
+        (subst (λ (o : Option (List ℕ)). AreStamped (reader_form old.reader) (readings clock) o (arrived port before) (Some hows.Failed)) (sym (unread_failed readings old.clock new.clock old.reader reads.stamps))
         (stamped_failed old.reader (readings clock) (readings old.clock) (arrived port before) goes.stamped))
         (λ e. reads.cause refl goes.unbroken)

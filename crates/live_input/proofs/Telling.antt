@@ -20,7 +20,7 @@ use Rattle.input_read.specs.Readers.{Answers, HasFailed, IsNew}
 use Rattle.input_read.specs.declared.reader.InputReader.{InputReader}
 use Rattle.input_read.specs.declared.reader.InputReader.TheVariants as readers
 use Rattle.live_session.specs.LiveInputs.{AreCapture, AreStream, FitsInput, IsBrokenStream, IsCutStream}
-use Rattle.live_input.specs.Progress.{HasRead, form_of}
+use Rattle.live_input.specs.Progress.{HasRead, reader_form}
 
 -- one arrival was read
 abbrev pub IsOne : InputReader → InputReader → List ℕ → Arrival → Type 0
@@ -55,7 +55,7 @@ long_size (readers.Pcap old) (readers.Stream new) gave buf left stamp len answer
 long_size (readers.Stream old) (readers.Pcap new) gave buf left stamp len answers = absurd answers
 
 -- a reader keeps its form where it reads an arrival, and no read has failed
-pub one_form : (old new : InputReader) (gave : List ℕ) (arrival : Arrival) → IsOne old new gave arrival → form_of new ≡ form_of old
+pub one_form : (old new : InputReader) (gave : List ℕ) (arrival : Arrival) → IsOne old new gave arrival → reader_form new ≡ reader_form old
 one_form (readers.Pcap old) (readers.Pcap new) gave arrival one = refl
 one_form (readers.Stream old) (readers.Stream new) gave arrival one = refl
 one_form (readers.Pcap old) (readers.Stream new) gave arrival one = absurd one
@@ -74,7 +74,7 @@ read_none forms.Pcap (readers.Stream state) new = absurd new
 read_none forms.Stream (readers.Pcap state) new = absurd new
 read_none forms.Stream (readers.Stream state) new = subst (λ (s : streams.State). streams.HasRead (streams.Running 0 []) s [] []) (sym new) (λ seen rest later ending comes. comes)
 
-pub new_form : (format : Format) (reader : InputReader) → IsNew format reader → form_of reader ≡ format
+pub new_form : (format : Format) (reader : InputReader) → IsNew format reader → reader_form reader ≡ format
 new_form forms.Pcap (readers.Pcap state) new = refl
 new_form forms.Pcap (readers.Stream state) new = absurd new
 new_form forms.Stream (readers.Pcap state) new = absurd new
@@ -143,7 +143,7 @@ stream_cut before now state arrivals x gave takes read =
 
 module _ (before mid now : Option (List ℕ)) (gave more buf : List ℕ) (arrivals : List Arrival) (took : Takes before mid gave) (takes : Takes mid now more) where
   -- the input ended behind a whole record
-  pub fits_end : (old new : InputReader) → HasRead old gave arrivals → Answers old new more buf now next.End → FitsInput (form_of old) before now arrivals (Some hows.End)
+  pub fits_end : (old new : InputReader) → HasRead old gave arrivals → Answers old new more buf now next.End → FitsInput (reader_form old) before now arrivals (Some hows.End)
   fits_end (readers.Pcap old) (readers.Pcap new) read answers =
       joined.whole_input (captures.Fresh classic_kinds) old new gave more arrivals before now hows.End read answers (takes_more gave more _ _ _ took takes)
   fits_end (readers.Stream old) (readers.Stream new) read answers = stream_whole before mid now old new arrivals gave more hows.End took read takes answers
@@ -151,7 +151,7 @@ module _ (before mid now : Option (List ℕ)) (gave more buf : List ℕ) (arriva
   fits_end (readers.Stream old) (readers.Pcap new) read answers = absurd answers
 
   -- or it is malformed behind its arrivals
-  pub fits_malformed : (at : ℕ) (old new : InputReader) → HasRead old gave arrivals → Answers old new more buf now (next.Malformed at) → FitsInput (form_of old) before now arrivals (Some (hows.Malformed at))
+  pub fits_malformed : (at : ℕ) (old new : InputReader) → HasRead old gave arrivals → Answers old new more buf now (next.Malformed at) → FitsInput (reader_form old) before now arrivals (Some (hows.Malformed at))
   fits_malformed at (readers.Pcap old) (readers.Pcap new) read answers =
       joined.whole_input (captures.Fresh classic_kinds) old new gave more arrivals before now (hows.Malformed at) read answers (takes_more gave more _ _ _ took takes)
   fits_malformed at (readers.Stream old) (readers.Stream new) read answers = stream_whole before mid now old new arrivals gave more (hows.Malformed at) took read takes answers
@@ -159,7 +159,7 @@ module _ (before mid now : Option (List ℕ)) (gave more buf : List ℕ) (arriva
   fits_malformed at (readers.Stream old) (readers.Pcap new) read answers = absurd answers
 
   -- or a read failed behind them
-  pub fits_failed : (old new : InputReader) → HasRead old gave arrivals → Answers old new more buf now next.Failed → FitsInput (form_of old) before now arrivals (Some hows.Failed)
+  pub fits_failed : (old new : InputReader) → HasRead old gave arrivals → Answers old new more buf now next.Failed → FitsInput (reader_form old) before now arrivals (Some hows.Failed)
   fits_failed (readers.Pcap old) (readers.Pcap new) read answers =
       let failed = joined.failed_input (captures.Fresh classic_kinds) old new gave more arrivals read answers in
       record { gave = gave ++ more; takes = takes_more gave more _ _ _ took takes; ending = failed.0; read = failed.1 }
@@ -168,7 +168,7 @@ module _ (before mid now : Option (List ℕ)) (gave more buf : List ℕ) (arriva
   fits_failed (readers.Stream old) (readers.Pcap new) read answers = absurd answers
 
   -- or there was no room for the arrival that was read then
-  pub fits_full : (len : ℕ) (x : Arrival) (old new : InputReader) → HasRead old gave arrivals → IsOne old new more x → FitsInput (form_of old) before now arrivals (Some (hows.Full len))
+  pub fits_full : (len : ℕ) (x : Arrival) (old new : InputReader) → HasRead old gave arrivals → IsOne old new more x → FitsInput (reader_form old) before now arrivals (Some (hows.Full len))
   fits_full len x (readers.Pcap old) (readers.Pcap new) read one =
       let both = joined.has_read_more (captures.Fresh classic_kinds) old new gave more arrivals (x ∷ []) read one.read in
       let rest : captures.Comes new [] (record { arrivals = []; ending = hows.End }) =

@@ -17,9 +17,9 @@ use Rattle.savi_history.specs.PortInputs.{arrived}
 use Rattle.live_session.specs.LiveRows.{IngressRow}
 
 -- the form that a reader reads
-abbrev pub form_of : InputReader → Format
-form_of (readers.Pcap state) = forms.Pcap
-form_of (readers.Stream state) = forms.Stream
+abbrev pub reader_form : InputReader → Format
+reader_form (readers.Pcap state) = forms.Pcap
+reader_form (readers.Stream state) = forms.Stream
 
 -- a reader that was new has taken these octets, and they gave these arrivals
 abbrev pub HasRead : InputReader → List ℕ → List Arrival → Type 0
@@ -34,7 +34,7 @@ HasStamped (readers.Stream state) read read_more arrivals = AddsReadings read re
 module _ {S C : Type 0} (left : S → Option (List ℕ)) (faults : S → ℕ) (readings : C → Option (List ℕ)) where
   -- what was read of an input of this form, from its first source and clock on, is what the history holds of it
   pub record GoesOn (format : Format) (port : ℕ) (source : S) (clock : C) (input : PortInput S C) (past : List Row) : Type 0 where
-    pub form : form_of input.reader ≡ format
+    pub form : reader_form input.reader ≡ format
     pub gave : List ℕ
     pub takes : Takes (left source) (left input.source) gave
     pub read : HasRead input.reader gave (arrived port past)

@@ -4,7 +4,7 @@ use Rattle.savi_kinds.specs.declared.plan.Plan.{Plan}
 use Rattle.savi_kinds.specs.declared.entry.Who.{Who}
 use Rattle.table_lock.specs.declared.lock.TableLock.{TableLock}
 use Rattle.table_lock.specs.declared.pass.Pass.{Pass}
-use Rattle.table_lock.specs.Entries.{History, StartsWith, mine}
+use Rattle.table_lock.specs.Entries.{EntryList, StartsWith, mine}
 use Rattle.table_lock.specs.Passes.{IsPassOf, lock_first, pass_number, pass_own, pass_seen}
 use Rattle.table_lock.specs.Turns.{IsOrGrowsBy}
 use Rattle.hist_store.specs.Rows.{Row}
@@ -37,7 +37,7 @@ left_of lock here left after same_lock same of =
     subst (λ (l : TableLock KeptCore). IsPassOf kept_fixed l after) same_lock (subst (λ (p : Pass). IsPassOf kept_fixed here p) (sym same) of)
 
 module _ (lock : TableLock KeptCore) (who : Who) (before : Pass) (running : IsRunning lock who before) where
-  pub finds : (pass : Pass) (kept : KeptCore) (seen : History) → pass ≡ before
+  pub finds : (pass : Pass) (kept : KeptCore) (seen : EntryList) → pass ≡ before
       → coded kept.core.value.past ≡ seen → StartsWith seen (pass_seen pass) → mine (pass_number pass) seen ≡ pass_own pass
       → kept_fixed kept ≡ kept_fixed (lock_first lock) → Finds lock who before kept
   finds pass kept seen same at extends own fixed =
@@ -66,7 +66,7 @@ module _ (lock : TableLock KeptCore) (who : Who) (before : Pass) (running : IsRu
   by_maker plan past (End who how) = refl
 
   -- the pass may leave: it made one entry of its own at most
-  pub may_leave : (pass : Pass) (number : ℕ) (kept new : KeptCore) (seen : History) → pass ≡ before → number ≡ pass_number pass
+  pub may_leave : (pass : Pass) (number : ℕ) (kept new : KeptCore) (seen : EntryList) → pass ≡ before → number ≡ pass_number pass
       → Finds lock who before kept → coded kept.core.value.past ≡ seen
       → MakesOne kept.core.value.plan kept.core.value.past new.core.value.past who
       → IsOrGrowsBy number seen (coded new.core.value.past)
@@ -78,7 +78,7 @@ module _ (lock : TableLock KeptCore) (who : Who) (before : Pass) (running : IsRu
       ∙ ap (pass_of kept.core.value.plan) made.1
       ∙ ap (λ (p : Plan). pass_of p who) found.plan_is
       ∙ sym (numbered ∙ ap pass_number same ∙ running.number_is) in
-      inr (row_code row, by, ap coded made.2 ∙ ap (λ (h : History). h ++ row_code row ∷ []) at)
+      inr (row_code row, by, ap coded made.2 ∙ ap (λ (h : EntryList). h ++ row_code row ∷ []) at)
 
   module _ (kept new : KeptCore) (after : Pass) (found : Finds lock who before kept) (seen : pass_seen after ≡ coded new.core.value.past) where
     now_is : past_seen after ≡ new.core.value.past

@@ -3,29 +3,29 @@ use Rattle.std.proofs.Common.{◌≡◌, ℕ, ◌+◌, ◌*◌, ◌/◌, ◌%◌
 use Rattle.std.specs.List.{range_with_len}
 use Rattle.std.proofs.lemmas.List.{append_assoc}
 use Rattle.std.proofs.lemmas.List.FromFn.{map-range_with_len_more}
-use Rattle.load_gen.specs.Draws.{next_state, state_after, draw}
-use Rattle.load_gen.specs.Frames.{mac_of, address_of, data_of}
+use Rattle.load_gen.specs.Draws.{next_draw, state_after, draw}
+use Rattle.load_gen.specs.Frames.{mac_of, host_address, data_of}
 use Rattle.load_gen.specs.Sendings.{Sending, claim, packet, drawn_packet, sendings}
 
 pub no_step : (seed : ℕ) → seed ≡ state_after seed 0
 unfolding state_after
 no_step seed = refl
 
-one_step : (seed n : ℕ) → state_after seed (n + 1) ≡ next_state (state_after seed n)
+one_step : (seed n : ℕ) → state_after seed (n + 1) ≡ next_draw (state_after seed n)
 unfolding state_after
 one_step seed n = rw add-one refl
 
 -- the states behind both draws of packet k
-pub first_drawn : (seed k state first : ℕ) → state ≡ state_after seed (2 * k) → first ≡ next_state state → first ≡ state_after seed (2 * k + 1)
-first_drawn seed k state first at step = step ∙ ap next_state at ∙ sym (one_step seed (2 * k))
+pub first_drawn : (seed k state first : ℕ) → state ≡ state_after seed (2 * k) → first ≡ next_draw state → first ≡ state_after seed (2 * k + 1)
+first_drawn seed k state first at step = step ∙ ap next_draw at ∙ sym (one_step seed (2 * k))
 
-pub second_drawn : (seed k first second : ℕ) → first ≡ state_after seed (2 * k + 1) → second ≡ next_state first → second ≡ state_after seed (2 * (k + 1))
+pub second_drawn : (seed k first second : ℕ) → first ≡ state_after seed (2 * k + 1) → second ≡ next_draw first → second ≡ state_after seed (2 * (k + 1))
 second_drawn seed k first second at step =
     let count : 2 * k + 1 + 1 ≡ 2 * (k + 1) = omega arith in
-    step ∙ ap next_state at ∙ sym (one_step seed (2 * k + 1)) ∙ ap (state_after seed) count
+    step ∙ ap next_draw at ∙ sym (one_step seed (2 * k + 1)) ∙ ap (state_after seed) count
 
 pub packet_is : (seed k first second host source moment : ℕ) (frame : List ℕ) → first ≡ state_after seed (2 * k + 1) → second ≡ state_after seed (2 * (k + 1))
-    → host ≡ 1 + first / 65536 % 3 → source ≡ 1 + second / 65536 % 3 → moment ≡ 1000 + 10 * k → frame ≡ data_of (mac_of host) (address_of source)
+    → host ≡ 1 + first / 65536 % 3 → source ≡ 1 + second / 65536 % 3 → moment ≡ 1000 + 10 * k → frame ≡ data_of (mac_of host) (host_address source)
     → (record { port = host; sent = record { moment = moment; frame = frame } }) ≡ drawn_packet seed k
 packet_is seed k first second host source moment frame one two from_one from_two at made =
     let count : 2 * (k + 1) ≡ 2 * k + 1 + 1 = omega arith in

@@ -15,10 +15,10 @@ use Rattle.pcap_io.specs.Kinds.{classic_kinds}
 use Rattle.pcap_io.specs.Runs.{Arrive}
 use Rattle.pcap_io.proofs.Written.{written_arrives}
 use Rattle.load_gen.specs.Draws.{draw}
-use Rattle.load_gen.specs.Frames.{mac_of, address_of, data_of, ethernet_to_router, header_to_router}
+use Rattle.load_gen.specs.Frames.{mac_of, host_address, data_of, ethernet_to_router, header_to_router}
 use Rattle.load_gen.specs.Sendings.{Sending, claim, drawn_packet, sendings}
 use Rattle.load_gen.specs.Captures.{sent_at, captures_of}
-use Rattle.load_gen.specs.Inputs.{arrived, IsWhole, LoadsArrive}
+use Rattle.load_gen.specs.Inputs.{arrival_with, IsWhole, LoadsArrive}
 
 pub length-data : (mac : Mac) (source : Addr) → length (data_of mac source) ≡ length mac.0 + 48
 unfolding data_of
@@ -31,13 +31,13 @@ pub record IsFit (item : Sent) : Type 0 where
   pub moment : item.moment < 1000 * 2 ^ 32
 
 claim_fits : (host : ℕ) → IsFit (claim host).sent
-claim_fits host = record { frame = omega (arith, length-probe (mac_of host) (address_of host)); moment = lit< tt }
+claim_fits host = record { frame = omega (arith, length-probe (mac_of host) (host_address host)); moment = lit< tt }
 
 packet_fits : (seed k : ℕ) → k < 2 ^ 32 → IsFit (drawn_packet seed k).sent
 packet_fits seed k below =
     let host = 1 + draw seed (2 * k) % 3 in
     let source = 1 + draw seed (2 * k + 1) % 3 in
-    record { frame = omega (arith, length-data (mac_of host) (address_of source)); moment = omega (arith, below) }
+    record { frame = omega (arith, length-data (mac_of host) (host_address source)); moment = omega (arith, below) }
 
 sendings_fit : (seed frames : ℕ) → frames ≤ 2 ^ 32 → All (λ (s : Sending). IsFit s.sent) (sendings seed frames)
 sendings_fit seed frames within =
@@ -66,13 +66,13 @@ records_short (item ∷ items) fit =
     let rest : length (records_text items) ≤ 94 * length items = records_short items (All-tail IsFit item items fit) in
     omega (arith, one.frame, rest, length-append (record_text item.moment item.frame) (records_text items))
 
-arrive_as_sent : (items : List Sent) → All IsFit items → map arrival_of items ≡ map arrived items
+arrive_as_sent : (items : List Sent) → All IsFit items → map arrival_of items ≡ map arrival_with items
 arrive_as_sent [] fit = refl
 arrive_as_sent (item ∷ items) fit =
     let one : IsFit item = All-head IsFit item items fit in
     let same : item.moment % (1000 * 2 ^ 32) ≡ item.moment = omega (arith, one.moment) in
     ap (λ (moment : ℕ). Frame moment item.frame ∷ map arrival_of items) same
-    ∙ ap (λ (rest : List Arrival). arrived item ∷ rest) (arrive_as_sent items (All-tail IsFit item items fit))
+    ∙ ap (λ (rest : List Arrival). arrival_with item ∷ rest) (arrive_as_sent items (All-tail IsFit item items fit))
 
 -- the capture of any port
 pub loads_are_inputs : LoadsArrive
@@ -92,4 +92,4 @@ unfolding captures_of
 all_whole seed frames within =
     let all : List Sending = sendings seed frames in
     All-map IsWhole (λ (port : ℕ). capture_text (sent_at port all)) (1 ∷ 2 ∷ 3 ∷ 4 ∷ 5 ∷ [])
-    (λ k d below. (map arrived (sent_at (get_or (1 ∷ 2 ∷ 3 ∷ 4 ∷ 5 ∷ []) k d) all), loads_are_inputs seed frames (get_or (1 ∷ 2 ∷ 3 ∷ 4 ∷ 5 ∷ []) k d) within))
+    (λ k d below. (map arrival_with (sent_at (get_or (1 ∷ 2 ∷ 3 ∷ 4 ∷ 5 ∷ []) k d) all), loads_are_inputs seed frames (get_or (1 ∷ 2 ∷ 3 ∷ 4 ∷ 5 ∷ []) k d) within))

@@ -9,8 +9,8 @@ abbrev pub mac_of : ℕ → Mac
 mac_of host = record { 0 = 0x02 ∷ 0 ∷ 0 ∷ 0 ∷ 0 ∷ 0x11 * host ∷ [] }
 
 -- fe80::11, fe80::22 and fe80::33
-abbrev pub address_of : ℕ → Addr
-address_of host = record { 0 = 0xfe80 * 2 ^ 112 + 0x11 * host }
+abbrev pub host_address : ℕ → Addr
+host_address host = record { 0 = 0xfe80 * 2 ^ 112 + 0x11 * host }
 
 -- 02:00:00:00:00:fe and fe80::fe
 abbrev pub router_mac : Mac

@@ -9,8 +9,8 @@ use Rattle.load_gen.specs.Sendings.{sendings}
 use Rattle.load_gen.specs.Captures.{sent_at}
 
 -- the frame arrives with the moment as its stamp
-abbrev pub arrived : Sent → Arrival
-arrived item = Frame item.moment item.frame
+abbrev pub arrival_with : Sent → Arrival
+arrival_with item = Frame item.moment item.frame
 
 -- these octets are a whole input, which ends by its end
 abbrev pub IsWhole : List ℕ → Type 0
@@ -21,4 +21,4 @@ abbrev pub LoadsArrive : Type 0
 LoadsArrive =
     (seed frames port : ℕ) → frames ≤ 2 ^ 32
     → Arrive classic_kinds (capture_text (sent_at port (sendings seed frames)))
-    (record { arrivals = map arrived (sent_at port (sendings seed frames)); ending = how.End })
+    (record { arrivals = map arrival_with (sent_at port (sendings seed frames)); ending = how.End })

@@ -1,7 +1,7 @@
 //! A linear congruential generator.
 
 ghost use Rattle.std.specs.Prelude.{◌≡◌, ◌/◌, ◌<◌};
-ghost use Rattle.load_gen.specs.Draws.{next_state};
+ghost use Rattle.load_gen.specs.Draws.{next_draw};
 
 const MULTIPLIER: u64 = 1_103_515_245;
 
@@ -20,7 +20,7 @@ pub(crate) struct Generator {
 impl Generator {
     // Takes a step and gives the new state without its low bits.
     pub(crate) fn draw(&mut self) -> u32
-        ensures state { self.new.state ≡ next_state self.old.state }
+        ensures state { self.new.state ≡ next_draw self.old.state }
         ensures value { result ≡ self.new.state / 65536 }
     {
         self.state = ((MULTIPLIER * u64::from(self.state) + INCREMENT) % MODULUS) as u32;

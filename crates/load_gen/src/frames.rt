@@ -2,7 +2,7 @@
 
 ghost use Rattle.std.specs.Prelude.{◌≡◌, ◌+◌, ◌≤◌, ◌++◌, length};
 ghost use Rattle.arrayvec.specs.ArrayVec.{array_vec_len};
-ghost use Rattle.load_gen.specs.Frames.{mac_of, address_of, data_of};
+ghost use Rattle.load_gen.specs.Frames.{mac_of, host_address, data_of};
 
 use arrayvec::ArrayVec;
 use savi_kinds::{Addr, Mac, Prefix};
@@ -35,7 +35,7 @@ pub(crate) fn mac_of(host: u8) -> Mac
 // The address of a host, fe80::11 for host 1.
 pub(crate) fn address_of(host: u8) -> Addr
     requires { host ≤ 3 }
-    ensures { result ≡ address_of host }
+    ensures { result ≡ host_address host }
 {
     Addr(Prefix::LINK_LOCAL.net.0 + u128::from(0x11 * host))
 }

@@ -2,7 +2,7 @@
 
 ghost use Rattle.std.specs.Prelude.{◌≡◌, ◌+◌, ◌*◌, ◌/◌, ◌%◌, ◌≤◌, ◌<◌, ◌++◌, ℕ, List, [], ◌∷◌, length, map, All, IfOk, OnOk};
 ghost use Rattle.savi_kinds.specs.ValidPlan.{IsValidPlan};
-ghost use Rattle.load_gen.specs.Draws.{next_state};
+ghost use Rattle.load_gen.specs.Draws.{next_draw};
 ghost use Rattle.load_gen.specs.LoadPlan.{IsLoadPlan};
 ghost use Rattle.load_gen.specs.Sendings.{Sending, claim, sendings};
 ghost use Rattle.load_gen.specs.Captures.{captures_of};
@@ -64,7 +64,7 @@ fn written(alloc: Global, seed: u32, frames: u32) -> Result<Vec<Capture>, AllocE
 
 // A host, by the next draw.
 fn drawn_host(generator: &mut Generator) -> u8
-    ensures state { generator.new.state ≡ next_state generator.old.state }
+    ensures state { generator.new.state ≡ next_draw generator.old.state }
     ensures value { result ≡ 1 + generator.new.state / 65536 % 3 }
 {
     1 + (generator.draw() % u32::from(HOSTS)) as u8

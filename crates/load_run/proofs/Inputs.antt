@@ -29,7 +29,7 @@ use Rattle.savi_history.specs.PortInputs.{input_end}
 use Rattle.savi_history.specs.Replay.{replayed}
 use Rattle.savi_history.proofs.FailedWrites.{failed_write_at_output, IsOfOutput}
 use Rattle.savi_history.proofs.WithoutControl.{without_control}
-use Rattle.savi_core.specs.Machines.{number_at}
+use Rattle.savi_core.specs.Machines.{port_number_at}
 use Rattle.port_worker.specs.declared.control_ends.ControlEnds.{ControlEnds}
 use Rattle.port_worker.specs.ControlServed.{ServesControl}
 use Rattle.port_worker.specs.Served.{IsInputOf, IsServed, ServesEnds}
@@ -104,7 +104,7 @@ module _ (plan : Plan) (seed frames : ℕ) (past : List Row) (control_new : Opti
 
   -- what each port's ends were to the history
   abbrev Was : ℕ → Input → Type 0
-  Was k i = IsServed {S = SureSource} {K = CountSink} {C = MemClock} (λ s. Some (sure_left s)) (λ k. None) (λ s. 0) (λ k. 0) (Comes (get_or old k some_ends).reader) plan empty past (number_at plan k) (get_or served.inputs k i) (served.stops.ports (number_at plan k)) (get_or old k some_ends).ends (get_or new k some_ends).ends
+  Was k i = IsServed {S = SureSource} {K = CountSink} {C = MemClock} (λ s. Some (sure_left s)) (λ k. None) (λ s. 0) (λ k. 0) (Comes (get_or old k some_ends).reader) plan empty past (port_number_at plan k) (get_or served.inputs k i) (served.stops.ports (port_number_at plan k)) (get_or old k some_ends).ends (get_or new k some_ends).ends
 
   was : (k : ℕ) (i : Input) → k < 5 → Was k i
   was k i inside = served.each k i (omega (arith, inside, five_ports)) some_ends
@@ -116,7 +116,7 @@ module _ (plan : Plan) (seed frames : ℕ) (past : List Row) (control_new : Opti
       let anew : p.reader ≡ Fresh classic_kinds = (fresh k some_ends (omega (arith, inside, five_ends))).anew in
       let one : Was k i = was k i inside in
       let got : Input = get_or served.inputs k i in
-      let ended_so : Option How = input_end (number_at plan k) past in
+      let ended_so : Option How = input_end (port_number_at plan k) past in
       let after : Option (List ℕ) = Some (sure_left (get_or new k some_ends).ends.source) in
       let gave : IsInputOf (Arrive classic_kinds) (Some (octets_at p)) after ended_so got.arrivals got.ending =
       subst (λ (r : State). IsInputOf (Comes r) (Some (octets_at p)) after ended_so got.arrivals got.ending) anew one.gave in

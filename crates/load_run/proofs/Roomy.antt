@@ -20,8 +20,8 @@ use Rattle.pcap_io.specs.Captures.{Sent}
 use Rattle.hist_store.specs.Rows.{Row, held}
 use Rattle.load_gen.specs.Captures.{sent_at}
 use Rattle.load_gen.specs.Draws.{draw}
-use Rattle.load_gen.specs.Frames.{mac_of, address_of}
-use Rattle.load_gen.specs.Inputs.{arrived}
+use Rattle.load_gen.specs.Frames.{mac_of, host_address}
+use Rattle.load_gen.specs.Inputs.{arrival_with}
 use Rattle.load_gen.specs.Sendings.{Sending, claim, drawn_packet, sendings}
 use Rattle.load_gen.proofs.Wholes.{length-data}
 use Rattle.savi_history.specs.Bases.{empty}
@@ -105,14 +105,14 @@ light_append [] ys are_x are_y = are_y
 light_append (x ∷ xs) ys are_x are_y = (are_x.0, light_append xs ys are_x.1 are_y)
 
 light_claim : (host : ℕ) → length (claim host).sent.frame ≤ 100
-light_claim host = omega (arith, length-probe (mac_of host) (address_of host))
+light_claim host = omega (arith, length-probe (mac_of host) (host_address host))
 
 light_packets : (seed a n : ℕ) → AreLight (map (drawn_packet seed) (range_with_len a n))
 light_packets seed a zero = tt
 light_packets seed a (suc n) =
     let host = 1 + draw seed (2 * a) % 3 in
     let source = 1 + draw seed (2 * a + 1) % 3 in
-    (omega (arith, length-data (mac_of host) (address_of source)), light_packets seed (a + 1) n)
+    (omega (arith, length-data (mac_of host) (host_address source)), light_packets seed (a + 1) n)
 
 light_sendings : (seed frames : ℕ) → AreLight (sendings seed frames)
 light_sendings seed frames =
@@ -131,8 +131,8 @@ abbrev ending : Port → List Turn
 ending port = Ends (passes.Ingress port) hows.End ∷ []
 
 module _ (port : Port) (n : ℕ) where
-  small_one : (b : Bool) (s : Sending) (rest : List Sending) → length s.sent.frame ≤ 100 → AreSmall (map (λ a. Arrives port a) (map arrived (map (λ s. s.sent) rest)) ++ ending port)
-      → AreSmall (map (λ a. Arrives port a) (map arrived (map (λ s. s.sent) (if b then s ∷ rest else rest))) ++ ending port)
+  small_one : (b : Bool) (s : Sending) (rest : List Sending) → length s.sent.frame ≤ 100 → AreSmall (map (λ a. Arrives port a) (map arrival_with (map (λ s. s.sent) rest)) ++ ending port)
+      → AreSmall (map (λ a. Arrives port a) (map arrival_with (map (λ s. s.sent) (if b then s ∷ rest else rest))) ++ ending port)
   small_one true s rest light are = (light, are)
   small_one false s rest light are = are
 
@@ -143,7 +143,7 @@ module _ (port : Port) (n : ℕ) where
 length_turns : (port : Port) (n : ℕ) (all : List Sending) → length (turns port (input_at n all)) ≡ length (at_port n all) + 1
 length_turns port n all =
     let items : List Sent = sent_at n all in
-    omega (arith, length-append (map (λ a. Arrives port a) (map arrived items)) (ending port), length-map (map arrived items) (λ a. Arrives port a), length-map items arrived, length-map (at_port n all) (λ s. s.sent))
+    omega (arith, length-append (map (λ a. Arrives port a) (map arrival_with items)) (ending port), length-map (map arrival_with items) (λ a. Arrives port a), length-map items arrival_with, length-map (at_port n all) (λ s. s.sent))
 
 -- no frame comes in at two ports
 

@@ -7,14 +7,14 @@ use Rattle.savi_kinds.specs.declared.plan.Plan.{Plan}
 use Rattle.savi_kinds.specs.Arrivals.{Input}
 use Rattle.hist_store.specs.Rows.{Row}
 use Rattle.load_gen.specs.Captures.{sent_at}
-use Rattle.load_gen.specs.Inputs.{arrived}
+use Rattle.load_gen.specs.Inputs.{arrival_with}
 use Rattle.load_gen.specs.Sendings.{Sending, sendings}
 use Rattle.savi_history.specs.Bases.{empty}
 use Rattle.savi_history.specs.Replay.{Stops, replayed}
 
 -- what comes in at a port: the frames that are sent there, each with its moment as its stamp, and then the end
 abbrev pub input_at : ℕ → List Sending → Input
-input_at port all = record { arrivals = map arrived (sent_at port all); ending = how.End }
+input_at port all = record { arrivals = map arrival_with (sent_at port all); ending = how.End }
 
 -- the inputs of ports 1 to 5, in order
 unfoldable pub load_inputs : ℕ → ℕ → List Input

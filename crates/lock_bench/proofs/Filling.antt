@@ -10,26 +10,26 @@ use Rattle.table_lock.specs.declared.lock.TableLock.{TableLock}
 use Rattle.table_lock.specs.declared.pass.Pass.{Pass}
 use Rattle.table_lock.specs.Passes.{AreNumbered, lock_first, lock_seats, pass_number, pass_own, pass_seen}
 use Rattle.lock_bench.specs.Made.{HasMade, HaveFilled, room_of}
-use Rattle.table_lock.specs.Entries.{Entry, History, mine, StartsWith}
+use Rattle.table_lock.specs.Entries.{Entry, EntryList, mine, StartsWith}
 use Rattle.table_lock.specs.Tallies.{Tallied, tally_fixed, tally_history}
 
-starts_le : (whole front : History) → StartsWith whole front → length front ≤ length whole
+starts_le : (whole front : EntryList) → StartsWith whole front → length front ≤ length whole
 starts_le whole front s = let e = ap length s.1 ∙ length-append front s.0 in omega arith
 
 -- the entries of the passes with the numbers below n
-abbrev below : ℕ → History → ℕ
+abbrev below : ℕ → EntryList → ℕ
 below zero H = 0
 below (suc n) H = below n H + length (mine n H)
 
 -- an entry of a pass with another number isn't counted, and one with such a number once
-below_no : (n : ℕ) (e : Entry) (H : History) → n ≤ e.0 → below n (e ∷ H) ≡ below n H
+below_no : (n : ℕ) (e : Entry) (H : EntryList) → n ≤ e.0 → below n (e ∷ H) ≡ below n H
 below_no zero e H past = refl
 below_no (suc n) e H past =
     let k = below_no n e H (omega arith) in
     let l : length (mine n (e ∷ H)) ≡ length (mine n H) = ap (λ b. length (cond b (e ∷ mine n H) (mine n H))) (ne_eqb e.0 n (λ z. omega arith)) in
     omega arith
 
-below_one : (n : ℕ) (e : Entry) (H : History) → below n (e ∷ H) ≤ below n H + 1
+below_one : (n : ℕ) (e : Entry) (H : EntryList) → below n (e ∷ H) ≤ below n H + 1
 below_one zero e H = omega arith
 below_one (suc n) e H = dite (ℕ_discrete e.0 n)
     (λ here.
@@ -45,11 +45,11 @@ below_none : (n : ℕ) → below n [] ≡ 0
 below_none zero = refl
 below_none (suc n) = let k = below_none n in omega arith
 
-below_all : (n : ℕ) (H : History) → below n H ≤ length H
+below_all : (n : ℕ) (H : EntryList) → below n H ≤ length H
 below_all n [] = let k = below_none n in omega arith
 below_all n (e ∷ H) = let k = below_one n e H in let l = below_all n H in omega arith
 
-below_shares : (n turns : ℕ) (H : History) → ((i : ℕ) → i < n → turns ≤ length (mine i H)) → n * turns ≤ below n H
+below_shares : (n turns : ℕ) (H : EntryList) → ((i : ℕ) → i < n → turns ≤ length (mine i H)) → n * turns ≤ below n H
 below_shares zero turns H each = omega arith
 below_shares (suc n) turns H each =
     let k = below_shares n turns H (λ i l. each i (omega arith)) in
@@ -58,7 +58,7 @@ below_shares (suc n) turns H each =
     omega arith
 
 -- passes with as many entries each as their share of the room have filled it
-pub shares : (n turns : ℕ) (H : History) → ((i : ℕ) → i < n → turns ≤ length (mine i H)) → n * turns ≤ length H
+pub shares : (n turns : ℕ) (H : EntryList) → ((i : ℕ) → i < n → turns ≤ length (mine i H)) → n * turns ≤ length H
 shares n turns H each = let k = below_shares n turns H each in let l = below_all n H in omega arith
 
 -- what holds of all passes holds of the one at a place

@@ -14,10 +14,10 @@ use Rattle.fcfs_states.specs.Aged.{AgedState, aged, rested}
 use Rattle.fcfs_states.proofs.AgeingLemmas.{Ages-aged, Ages-rest, untouched as fcfs_untouched, rested_none}
 use Rattle.fcfs_states.proofs.AgesLemmas.{Ages-sound, Ages-fits, aged-joins}
 use Rattle.dhcp_states.specs.declared.bound.Bound.{Bound}
-use Rattle.dhcp_states.specs.Bindings.{has_ended}
+use Rattle.dhcp_states.specs.Bindings.{is_over}
 use Rattle.mix_rules.specs.declared.state.AddrState.{AddrState}
 use Rattle.mix_rules.specs.States.{IsAlone, IsOf, IsBeside, IsOfMethod, IsSoundFor}
-use Rattle.mix_rules.specs.Ageing.{AgedAddr, aged_state, bound_at, end_of, IsStill, untouched, joined}
+use Rattle.mix_rules.specs.Ageing.{AgedAddr, aged_state, bound_at, bound_end, IsStill, untouched, joined_ageing}
 use Rattle.mix_rules.specs.Premises.{IsLow, AllMomentsFit}
 
 -- without a state of first come nothing is due
@@ -45,7 +45,7 @@ module _ (k : Times) (times : AreTimes k) (t : ℕ) where
 
   beside : (fcfs : Fcfs) (dhcp : Option Bound) → IsBeside dhcp fcfs → IsBeside (bound_at t dhcp) (aged k t fcfs).state
   beside fcfs None is = tt
-  beside fcfs (Some bound) is = by_test (has_ended t bound.until)
+  beside fcfs (Some bound) is = by_test (is_over t bound.until)
     where
       by_test : (ended : Bool) → IsBeside (if ended then None else Some bound) (aged k t fcfs).state
       by_test true = tt
@@ -65,11 +65,11 @@ module _ (k : Times) (times : AreTimes k) (t : ℕ) where
         rival = Ages-sound k t (Ages-aged k times t s.fcfs) sound.rival;
       }
 
-  low : (dhcp : Option Bound) → IsLow (end_of dhcp) → IsLow (end_of (bound_at t dhcp))
+  low : (dhcp : Option Bound) → IsLow (bound_end dhcp) → IsLow (bound_end (bound_at t dhcp))
   low None is = tt
-  low (Some bound) is = by_test (has_ended t bound.until)
+  low (Some bound) is = by_test (is_over t bound.until)
     where
-      by_test : (ended : Bool) → IsLow (end_of (if ended then None else Some bound))
+      by_test : (ended : Bool) → IsLow (bound_end (if ended then None else Some bound))
       by_test true = tt
       by_test false = is
 
@@ -79,7 +79,7 @@ module _ (k : Times) (times : AreTimes k) (t : ℕ) where
   -- what stands of a binding stands
   pub bound_at-still : (dhcp : Option Bound) → bound_at t (bound_at t dhcp) ≡ bound_at t dhcp
   bound_at-still None = refl
-  bound_at-still (Some bound) = elim (cases_Bool (has_ended t bound.until)) [ inl is ↦ rw is refl | inr is ↦ rw (is, is) refl ]
+  bound_at-still (Some bound) = elim (cases_Bool (is_over t bound.until)) [ inl is ↦ rw is refl | inr is ↦ rw (is, is) refl ]
 
   pub aged-still : (s : AddrState) → IsStill k t (aged_state k t s).state
   aged-still s = record { rested = Ages-rest k times t (Ages-aged k times t s.fcfs); stands = bound_at-still s.dhcp }
@@ -102,5 +102,5 @@ module _ (k : Times) (times : AreTimes k) (t : ℕ) where
       by_end p None = refl
       by_end p (Some end) = grind arith
 
-  pub aged-joins-all : (u : ℕ) → t ≤ u → (s : AddrState) → aged_state k u s ≡ joined (aged_state k t s) (aged_state k u (aged_state k t s).state)
+  pub aged-joins-all : (u : ℕ) → t ≤ u → (s : AddrState) → aged_state k u s ≡ joined_ageing (aged_state k t s) (aged_state k u (aged_state k t s).state)
   aged-joins-all u after s = rw (aged-joins k times t u s.fcfs after, bound_at-joins u after s.dhcp) refl

@@ -9,17 +9,17 @@ use Rattle.fcfs_states.specs.declared.state.Fcfs.TheVariants.{NoBind, Tentative,
 use Rattle.fcfs_states.specs.declared.times.Times.{Times}
 use Rattle.fcfs_states.specs.Premises.{AreTimes}
 use Rattle.fcfs_states.specs.States.{IsSound}
-use Rattle.fcfs_states.specs.Ageing.{IsRested, rests, goes_on, behind}
+use Rattle.fcfs_states.specs.Ageing.{IsRested, rests, goes_on, probes_behind}
 use Rattle.fcfs_states.specs.Aged.{AgedState, aged, due_of, probe_sent}
 use Rattle.fcfs_states.specs.FirstCome.{IsTestOf}
 use Rattle.fcfs_states.proofs.AgeingLemmas.{Ages-aged, aged-is, first_row, earliest, untouched as fcfs_untouched, touched as fcfs_touched, rested_none, rested_late}
 use Rattle.fcfs_states.proofs.AgesLemmas.{AgeRow-rests}
 use Rattle.fcfs_states.proofs.RunLemmas.{Stands, will_be, may_be_lost, has_rival, Ends, Ages-ends, Ages-test, stands_to_come, stands_now}
 use Rattle.dhcp_states.specs.declared.bound.Bound.{Bound}
-use Rattle.dhcp_states.specs.Bindings.{has_ended, binding_at}
+use Rattle.dhcp_states.specs.Bindings.{is_over, binding_at}
 use Rattle.mix_rules.specs.declared.state.AddrState.{AddrState}
 use Rattle.mix_rules.specs.States.{IsSoundFor, IsLiveAt, IsLiveBy, owner_of}
-use Rattle.mix_rules.specs.Ageing.{aged_state, bound_at, end_of, sooner_moment, due_next, IsStill, IsTouched}
+use Rattle.mix_rules.specs.Ageing.{aged_state, bound_at, bound_end, sooner_moment, due_next, IsStill, IsTouched}
 use Rattle.mix_rules.specs.Ends.{IsTested, EndsByTest, EndsByTime}
 use Rattle.mix_rules.proofs.AgeingLemmas.{still-untouched, untouched-still}
 
@@ -40,7 +40,7 @@ soonest (Some n) (Some m) due is = by_test (nat_le n m) refl
 
 module _ (k : Times) (times : AreTimes k) where
   -- a binding stands until it ends
-  binding_stands : (t : ℕ) (dhcp : Option Bound) → ((n : ℕ) → end_of dhcp ≡ Some n → t < n) → bound_at t dhcp ≡ dhcp
+  binding_stands : (t : ℕ) (dhcp : Option Bound) → ((n : ℕ) → bound_end dhcp ≡ Some n → t < n) → bound_at t dhcp ≡ dhcp
   binding_stands t None late = refl
   binding_stands t (Some bound) late = by_end bound.until refl
     where
@@ -48,7 +48,7 @@ module _ (k : Times) (times : AreTimes k) where
       by_end None is = rw is refl
       by_end (Some end) is = let below : t < end = late end is in rw (is, lt-leb end t below) refl
 
-  binding_ends : (t : ℕ) (dhcp : Option Bound) (due : ℕ) → end_of dhcp ≡ Some due → due ≤ t → bound_at t dhcp ≢ dhcp
+  binding_ends : (t : ℕ) (dhcp : Option Bound) (due : ℕ) → bound_end dhcp ≡ Some due → due ≤ t → bound_at t dhcp ≢ dhcp
   binding_ends t None due is by same = cc
   binding_ends t (Some bound) due is by same = let over : binding_at t bound ≡ None = rw (is, le-leb due t by) refl in cc
 
@@ -63,8 +63,8 @@ module _ (k : Times) (times : AreTimes k) where
     idle-still : due_next k s ≡ None → IsStill k t s
     idle-still is =
         record {
-          rested = fcfs_rests t s.fcfs (λ n e. absurd (none_first (due_of k s.fcfs) (end_of s.dhcp) n is e));
-          stands = binding_stands t s.dhcp (λ n e. absurd (none_last (due_of k s.fcfs) (end_of s.dhcp) n is e));
+          rested = fcfs_rests t s.fcfs (λ n e. absurd (none_first (due_of k s.fcfs) (bound_end s.dhcp) n is e));
+          stands = binding_stands t s.dhcp (λ n e. absurd (none_last (due_of k s.fcfs) (bound_end s.dhcp) n is e));
         }
       where
         none_first : (first last : Option ℕ) (n : ℕ) → sooner_moment first last ≡ None → first ≡ Some n → ⊥
@@ -80,7 +80,7 @@ module _ (k : Times) (times : AreTimes k) where
     module _ (due : ℕ) (is : due_next k s ≡ Some due) where
       before-still : t < due → IsStill k t s
       before-still below =
-          elim (soonest (due_of k s.fcfs) (end_of s.dhcp) due is) [
+          elim (soonest (due_of k s.fcfs) (bound_end s.dhcp) due is) [
             | the_first e after ↦ record {
               rested = rested_late k times t s.fcfs due e below;
               stands = binding_stands t s.dhcp (λ n j. let le : due ≤ n = after n j in omega arith);
@@ -94,7 +94,7 @@ module _ (k : Times) (times : AreTimes k) where
       after-touched : due ≤ t → IsTouched k t s
       after-touched by same =
           let still : IsStill k t s = untouched-still k times t s same in
-          elim (soonest (due_of k s.fcfs) (end_of s.dhcp) due is) [
+          elim (soonest (due_of k s.fcfs) (bound_end s.dhcp) due is) [
             | the_first e after ↦ fcfs_touched k times t s.fcfs due e by (fcfs_untouched k times t s.fcfs still.rested)
             | the_last e after ↦ binding_ends t s.dhcp due e by still.stands
           ]
@@ -129,17 +129,17 @@ module _ (k : Times) (times : AreTimes k) where
 
 -- to age to the moment at which something is due first sends one probe, or none
 module _ (k : Times) (times : AreTimes k) where
-  first_probe : (fcfs : Fcfs) (due : ℕ) → due_of k fcfs ≡ Some due → (aged k due fcfs).probes ≡ behind due (probe_sent fcfs) []
+  first_probe : (fcfs : Fcfs) (due : ℕ) → due_of k fcfs ≡ Some due → (aged k due fcfs).probes ≡ probes_behind due (probe_sent fcfs) []
   first_probe fcfs due is = ap (λ (a : AgedState). a.probes) (aged-is k times due (goes_on (first_row k fcfs due is) (let le : due ≤ due = omega arith in le) (earliest k times fcfs due is) (rests (AgeRow-rests k times (first_row k fcfs due is)))))
 
-  pub due-probe : (s : AddrState) (due : ℕ) → due_next k s ≡ Some due → (probe : Option Probe) × ((aged_state k due s).probes ≡ behind due probe [])
+  pub due-probe : (s : AddrState) (due : ℕ) → due_next k s ≡ Some due → (probe : Option Probe) × ((aged_state k due s).probes ≡ probes_behind due probe [])
   due-probe s due is =
-      elim (soonest (due_of k s.fcfs) (end_of s.dhcp) due is) [
+      elim (soonest (due_of k s.fcfs) (bound_end s.dhcp) due is) [
         | the_first e after ↦ (probe_sent s.fcfs, first_probe s.fcfs due e)
         | the_last e after ↦ by_due (due_of k s.fcfs) refl after
       ]
     where
-      by_due : (first : Option ℕ) → due_of k s.fcfs ≡ first → ((n : ℕ) → first ≡ Some n → due ≤ n) → (probe : Option Probe) × ((aged_state k due s).probes ≡ behind due probe [])
+      by_due : (first : Option ℕ) → due_of k s.fcfs ≡ first → ((n : ℕ) → first ≡ Some n → due ≤ n) → (probe : Option Probe) × ((aged_state k due s).probes ≡ probes_behind due probe [])
       by_due None none after = (None, ap (λ (a : AgedState). a.probes) (fcfs_untouched k times due s.fcfs (rested_none k due s.fcfs none)))
       by_due (Some n) first after =
           elim (cases_lt due n) [
@@ -172,7 +172,7 @@ module _ (k : Times) (times : AreTimes k) (port : Port) where
     ends_by : (fixed : Option Port) (fcfs : Fcfs) (dhcp : Option Bound) → IsSound fcfs → let s : AddrState = record { fixed = fixed; fcfs = fcfs; dhcp = dhcp } in IsLiveAt s port → ¬ IsLiveAt (aged_state k t s).state port → EndsByTime port t s ⊎ EndsByTest k port t s
     ends_by (Some f) fcfs dhcp sound live over = absurd (over live)
     ends_by None fcfs (Some bound) sound live over =
-        elim (cases_Bool (has_ended t bound.until)) [
+        elim (cases_Bool (is_over t bound.until)) [
           | inl is ↦ inl (record { was = live; over = rw is refl })
           | inr is ↦ absurd (over (subst (λ (dhcp : Option Bound). IsLiveBy (owner_of None dhcp) (aged k t fcfs).state port) (let stands : Some bound ≡ binding_at t bound = rw is refl in stands) live))
         ]

@@ -20,7 +20,7 @@ use Rattle.fcfs_states.proofs.AgeingLemmas.{rested_none}
 use Rattle.dhcp_states.specs.declared.bound.Bound.{Bound}
 use Rattle.mix_rules.specs.declared.state.AddrState.{AddrState}
 use Rattle.mix_rules.specs.States.{IsSoundFor, IsLiveAt}
-use Rattle.mix_rules.specs.Ageing.{bound_at, end_of, IsStill}
+use Rattle.mix_rules.specs.Ageing.{bound_at, bound_end, IsStill}
 use Rattle.mix_rules.specs.Premises.{IsLow, AllMomentsFit, IsLeaseInRange}
 use Rattle.mix_rules.specs.FirstCome.{IsOwnedAt}
 use Rattle.mix_rules.specs.Next.{next_state, fcfs_by, is_dhcp, is_taken_beside, IsPassing}
@@ -102,7 +102,7 @@ next-still m k t room s event times still =
       stands = next-stands m k t room s event still.stands;
     }
 
-next-low : (m : Method) (k : Times) (t : ℕ) (room : Bool) (s : AddrState) (event : Ev) → t ≤ 2 ^ 62 → IsLeaseInRange event → IsLow (end_of s.dhcp) → IsLow (end_of (next_state m k t room s event).1.dhcp)
+next-low : (m : Method) (k : Times) (t : ℕ) (room : Bool) (s : AddrState) (event : Ev) → t ≤ 2 ^ 62 → IsLeaseInRange event → IsLow (bound_end s.dhcp) → IsLow (bound_end (next_state m k t room s event).1.dhcp)
 next-low m k t room s event early short low = search rules
 
 pub next-fits : (m : Method) (k : Times) (t : ℕ) (room : Bool) (s : AddrState) (event : Ev) → AreTimes k → t ≤ 2 ^ 62 → IsLeaseInRange event → AllMomentsFit s → AllMomentsFit (next_state m k t room s event).1

@@ -20,7 +20,7 @@ use Rattle.dhcp_states.specs.declared.bound.Bound.{Bound}
 use Rattle.mix_rules.specs.declared.state.AddrState.{AddrState}
 use Rattle.mix_rules.specs.States.{IsOf, IsBeside, IsSoundFor}
 use Rattle.mix_rules.specs.Table.{Row, lease_to, Takes, none_begins, moves_on, fixed_at, free_with, fixed_sent, fixed_na, fixed_dad, fixed_sent_elsewhere, fixed_dad_elsewhere, fixed_na_elsewhere, fixed_trusted_dad, fixed_trusted_na, fixed_lease, fixed_release, bound_sent, bound_na, bound_dad, bound_sent_elsewhere, bound_dad_elsewhere, bound_na_elsewhere, bound_trusted_dad, bound_trusted_na, unassigned_sent, unassigned_dad, unassigned_na, unassigned_trusted_dad, unassigned_trusted_na, by_first_come, lease_in_fcfs_prefix, lease_of_0, lease_of_0_elsewhere, lease_of_0_unbound, lease_renews, lease_moves, lease_elsewhere_full, lease_elsewhere_claimed, lease_makes, lease_makes_beside, lease_unbound_full, lease_unbound_claimed, release_ends, release_elsewhere, release_unbound, fix, clear}
-use Rattle.mix_rules.specs.Next.{Outcome, next_state, by_parts, is_dhcp, is_fcfs, is_taken_beside, is_free, is_only_at, is_granted, ended_at, leased, bound_by}
+use Rattle.mix_rules.specs.Next.{Outcome, next_state, by_parts, is_dhcp, is_fcfs, is_taken_beside, may_claim, is_only_at, is_granted, ended_at, leased, bound_by}
 
 -- beside a binding at p the state that stands takes its own row, in which room decides nothing
 next_room : (k : Times) (t : ℕ) (room : Bool) (p : Port) (fcfs : Fcfs) (event : Ev) → IsOf p fcfs → fcfs ≢ NoBind → is_taken_beside p event ≡ true → next k t false fcfs event ≡ next k t room fcfs event
@@ -147,14 +147,14 @@ module _ (m : Method) (k : Times) (t : ℕ) (room : Bool) where
     lease_of_0_row fcfs (Some bound) = elim (cases bound.p r) [ one same is ↦ rw is (lease_of_0 assigns same) | two_ports differ is ↦ rw is (lease_of_0_elsewhere assigns differ) ]
 
     module _ (valid : ℕ) (some : valid ≢ 0) where
-      elsewhere_row : (bound : Bound) → ¬ Same bound.p r → (fcfs : Fcfs) → Row m k t room (free_with fcfs (Some bound)) (Lease r valid) silence (free_with fcfs (if is_free room fcfs then lease_to m k t room r valid else Some bound))
+      elsewhere_row : (bound : Bound) → ¬ Same bound.p r → (fcfs : Fcfs) → Row m k t room (free_with fcfs (Some bound)) (Lease r valid) silence (free_with fcfs (if may_claim room fcfs then lease_to m k t room r valid else Some bound))
       elsewhere_row bound differ NoBind = elim (cases_Bool room) [ inl is ↦ rw is (lease_moves assigns some differ refl) | inr is ↦ rw is (lease_elsewhere_full assigns some differ refl) ]
       elsewhere_row bound differ (Tentative p since two) = lease_elsewhere_claimed assigns some differ (λ e. cc)
       elsewhere_row bound differ (Valid p until) = lease_elsewhere_claimed assigns some differ (λ e. cc)
       elsewhere_row bound differ (TestLt p since two) = lease_elsewhere_claimed assigns some differ (λ e. cc)
       elsewhere_row bound differ (TestVp p q since two) = lease_elsewhere_claimed assigns some differ (λ e. cc)
 
-      unbound_row : (fcfs : Fcfs) → Row m k t room (free_with fcfs None) (Lease r valid) silence (free_with fcfs (if is_free room fcfs || is_only_at r fcfs then lease_to m k t room r valid else None))
+      unbound_row : (fcfs : Fcfs) → Row m k t room (free_with fcfs None) (Lease r valid) silence (free_with fcfs (if may_claim room fcfs || is_only_at r fcfs then lease_to m k t room r valid else None))
       unbound_row NoBind = elim (cases_Bool room) [ inl is ↦ rw is (lease_makes assigns some refl) | inr is ↦ rw is (lease_unbound_full assigns some refl) ]
       unbound_row (Tentative p since two) = elim (cases p r) [ one same is ↦ rw is (lease_makes_beside assigns some (tentative_some p since two) same) | two_ports differ is ↦ rw is (lease_unbound_claimed assigns some differ) ]
       unbound_row (Valid p until) = elim (cases p r) [ one same is ↦ rw is (lease_makes_beside assigns some (valid_some p until) same) | two_ports differ is ↦ rw is (lease_unbound_claimed assigns some differ) ]
@@ -237,7 +237,7 @@ not_fcfs ByFcfs other = absurd (other refl)
 not_fcfs ByDhcp other = refl
 not_fcfs ByBoth other = refl
 
-not_free : (room : Bool) (fcfs : Fcfs) → fcfs ≢ NoBind → is_free room fcfs ≡ false
+not_free : (room : Bool) (fcfs : Fcfs) → fcfs ≢ NoBind → may_claim room fcfs ≡ false
 not_free room NoBind some = absurd (some refl)
 not_free room (Tentative p since two) some = refl
 not_free room (Valid p until) some = refl

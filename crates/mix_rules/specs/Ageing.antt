@@ -31,9 +31,9 @@ pub record IsStill (k : Times) (t : ℕ) (s : AddrState) : Type 0 where
   pub stands : bound_at t s.dhcp ≡ s.dhcp
 
 -- the moment at which a binding by DHCP ends
-abbrev pub end_of : Option Bound → Option ℕ
-end_of None = None
-end_of (Some bound) = bound.until
+abbrev pub bound_end : Option Bound → Option ℕ
+bound_end None = None
+bound_end (Some bound) = bound.until
 
 -- the sooner of two moments, where there are any
 abbrev pub sooner_moment : Option ℕ → Option ℕ → Option ℕ
@@ -43,7 +43,7 @@ sooner_moment (Some first) (Some late) = Some (if nat_le first late then first e
 
 -- the moment at which something is due first
 abbrev pub due_next : Times → AddrState → Option ℕ
-due_next k s = sooner_moment (due_of k s.fcfs) (end_of s.dhcp)
+due_next k s = sooner_moment (due_of k s.fcfs) (bound_end s.dhcp)
 
 -- ageing to t changes nothing and sends no probe
 abbrev pub untouched : AddrState → AgedAddr
@@ -54,5 +54,5 @@ abbrev pub IsTouched : Times → ℕ → AddrState → Type 0
 IsTouched k t s = aged_state k t s ≢ untouched s
 
 -- one ageing and a later one, as one
-abbrev pub joined : AgedAddr → AgedAddr → AgedAddr
-joined early late = record { state = late.state; probes = early.probes ++ late.probes }
+abbrev pub joined_ageing : AgedAddr → AgedAddr → AgedAddr
+joined_ageing early late = record { state = late.state; probes = early.probes ++ late.probes }

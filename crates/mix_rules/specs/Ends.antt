@@ -25,21 +25,21 @@ IsByOperator (Release p) = ⊥
 
 -- an event that may end a binding by DHCP at the port: its client's release, a lease of lifetime 0 to its client, or a
 -- lease to a client at another port
-abbrev pub IsEnding : Port → Ev → Type 0
-IsEnding port (Release p) = Same p port
-IsEnding port (Lease p valid) = (Same p port × (valid ≡ 0)) ⊎ (¬ Same p port × (valid ≢ 0))
-IsEnding port (Sent r) = ⊥
-IsEnding port (Dad r) = ⊥
-IsEnding port (Na r) = ⊥
-IsEnding port TpDad = ⊥
-IsEnding port TpNa = ⊥
-IsEnding port (Fix f) = ⊥
-IsEnding port Clear = ⊥
+abbrev pub EndsHolding : Port → Ev → Type 0
+EndsHolding port (Release p) = Same p port
+EndsHolding port (Lease p valid) = (Same p port × (valid ≡ 0)) ⊎ (¬ Same p port × (valid ≢ 0))
+EndsHolding port (Sent r) = ⊥
+EndsHolding port (Dad r) = ⊥
+EndsHolding port (Na r) = ⊥
+EndsHolding port TpDad = ⊥
+EndsHolding port TpNa = ⊥
+EndsHolding port (Fix f) = ⊥
+EndsHolding port Clear = ⊥
 
 -- the event ended a binding by DHCP at the port
 pub record EndsByEvent (port : Port) (event : Ev) (before after : AddrState) : Type 0 where
   pub was : IsBoundAt before.dhcp port
-  pub how : IsEnding port event
+  pub how : EndsHolding port event
   pub over : ¬ IsBoundAt after.dhcp port
 
 -- a binding by DHCP at the port ended by its time, at t at the latest

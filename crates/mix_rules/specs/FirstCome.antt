@@ -67,7 +67,7 @@ BindingEnds m k base port t marks = OnTheWay m k base (λ t s. EndsByTime port t
 
 -- The port has had the address since t0, after the events of `early`; those of `late` came by t. It keeps it, but for one
 -- of the three causes.
-pub data IsKept (m : Method) (k : Times) (base : AddrState) (early : List TimedEvent) (t0 : ℕ) (late : List TimedEvent) (t : ℕ) (port : Port) : Type 0 where
-  but_for_silence : IsSilenced k port t0 t (state_at m k base early t0) (late ++ early) → IsKept m k base early t0 late t port
-  but_for_operator : HasOperator late → IsKept m k base early t0 late t port
-  but_for_dhcp : BindingEnds m k (state_at m k base early t0) port t late → IsKept m k base early t0 late t port
+pub data KeepsAddress (m : Method) (k : Times) (base : AddrState) (early : List TimedEvent) (t0 : ℕ) (late : List TimedEvent) (t : ℕ) (port : Port) : Type 0 where
+  but_for_silence : IsSilenced k port t0 t (state_at m k base early t0) (late ++ early) → KeepsAddress m k base early t0 late t port
+  but_for_operator : HasOperator late → KeepsAddress m k base early t0 late t port
+  but_for_dhcp : BindingEnds m k (state_at m k base early t0) port t late → KeepsAddress m k base early t0 late t port

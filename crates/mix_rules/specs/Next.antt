@@ -73,12 +73,12 @@ fcfs_by m k t room None fcfs (Some bound) event = if is_taken_beside bound.p eve
 fcfs_by m k t room None fcfs None event = if is_dhcp m then fcfs else (next k t room fcfs event).1
 
 -- first come has no state, and the port has room
-abbrev pub is_free : Bool → Fcfs → Bool
-is_free room NoBind = room
-is_free room (Tentative p since two) = false
-is_free room (Valid p until) = false
-is_free room (TestLt p since two) = false
-is_free room (TestVp p q since two) = false
+abbrev pub may_claim : Bool → Fcfs → Bool
+may_claim room NoBind = room
+may_claim room (Tentative p since two) = false
+may_claim room (Valid p until) = false
+may_claim room (TestLt p since two) = false
+may_claim room (TestVp p q since two) = false
 
 -- first come has a state of the port alone
 abbrev pub is_only_at : Port → Fcfs → Bool
@@ -90,8 +90,8 @@ is_only_at port (TestVp p q since two) = false
 
 -- whether a lease binds the address to p
 abbrev pub is_granted : Bool → Port → Fcfs → Option Bound → Bool
-is_granted room p fcfs (Some bound) = is_same bound.p p || is_free room fcfs
-is_granted room p fcfs None = is_free room fcfs || is_only_at p fcfs
+is_granted room p fcfs (Some bound) = is_same bound.p p || may_claim room fcfs
+is_granted room p fcfs None = may_claim room fcfs || is_only_at p fcfs
 
 -- what stands of a binding once the client at p gave the address up
 abbrev pub ended_at : Port → Option Bound → Option Bound

@@ -4,7 +4,7 @@ use Rattle.fcfs_states.specs.declared.event.Ev.{Ev}
 use Rattle.fcfs_states.specs.declared.event.Ev.TheVariants.{Sent, Dad, Na, TpDad, TpNa, Lease, Release, Fix, Clear}
 use Rattle.fcfs_states.specs.Premises.{MomentsFit}
 use Rattle.mix_rules.specs.declared.state.AddrState.{AddrState}
-use Rattle.mix_rules.specs.Ageing.{end_of}
+use Rattle.mix_rules.specs.Ageing.{bound_end}
 
 -- the moment, where there is one, is below 2^63
 abbrev pub IsLow : Option ℕ → Type 0
@@ -14,7 +14,7 @@ IsLow (Some moment) = moment < 2 ^ 63
 -- each moment in the state is below 2^63
 pub record AllMomentsFit (s : AddrState) : Type 0 where
   pub fcfs : MomentsFit s.fcfs
-  pub dhcp : IsLow (end_of s.dhcp)
+  pub dhcp : IsLow (bound_end s.dhcp)
 
 -- a lease is of a lifetime of 32 bits, as a lease in a message is (RFC 8415 section 21.6)
 abbrev pub IsLeaseInRange : Ev → Type 0

@@ -9,7 +9,7 @@ ghost use Rattle.fcfs_states.specs.declared.event.Ev.TheVariants.{Sent, Na};
 ghost use Rattle.fcfs_states.specs.declared.times.Times.{Times};
 ghost use Rattle.fcfs_states.specs.Premises.{AreTimes};
 ghost use Rattle.fcfs_states.specs.States.{Same};
-ghost use Rattle.fcfs_states.specs.Ageing.{IsRested, behind};
+ghost use Rattle.fcfs_states.specs.Ageing.{IsRested, probes_behind};
 ghost use Rattle.fcfs_states.specs.FirstCome.{TimedEvent, IsTestOf, IsHeardAt, IsSilentAfter};
 ghost use Rattle.mix_rules.specs.declared.state.AddrState.{AddrState};
 ghost use Rattle.mix_rules.specs.States.{nobody, has_state, IsSoundFor, IsLiveAt, IsHeldAt};
@@ -17,10 +17,10 @@ ghost use Rattle.mix_rules.specs.Holders.{MakesHolder};
 ghost use Rattle.mix_rules.specs.Holders.{MakesHolder};
 ghost use Rattle.mix_rules.specs.Next.{next_state, IsPassing};
 ghost use Rattle.mix_rules.specs.TableLaws.{IsOnlyRow};
-ghost use Rattle.mix_rules.specs.Ageing.{aged_state, due_next, joined, IsStill, IsTouched};
+ghost use Rattle.mix_rules.specs.Ageing.{aged_state, due_next, joined_ageing, IsStill, IsTouched};
 ghost use Rattle.mix_rules.specs.Premises.{AllMomentsFit, IsLeaseInRange};
 ghost use Rattle.mix_rules.specs.Ends.{IsByOperator, EndsByEvent, EndsByTime, EndsByTest};
-ghost use Rattle.mix_rules.specs.FirstCome.{state_of, state_at, answer_at, IsTimelineFrom, IsKept};
+ghost use Rattle.mix_rules.specs.FirstCome.{state_of, state_at, answer_at, IsTimelineFrom, KeepsAddress};
 
 /// An address has no state exactly where its state is that of an address that no port has.
 pub fn nobody_alone_has_no_state()
@@ -54,7 +54,7 @@ pub fn states_stay_valid()
 /// late, a state is aged.
 pub fn ageing_composes()
     ensures { (k : Times) (t u : ℕ) (s : AddrState) → AreTimes k → t ≤ u
-        → aged_state k u s ≡ joined (aged_state k t s) (aged_state k u (aged_state k t s).state) }
+        → aged_state k u s ≡ joined_ageing (aged_state k t s) (aged_state k u (aged_state k t s).state) }
 {}
 
 /// Where nothing is due at t, and only there, ageing to t changes nothing and sends no probe.
@@ -69,7 +69,7 @@ pub fn what_is_due_first_is_the_earliest()
         → AreTimes k → due_next k s ≡ Some due → (IsTouched k t s ↔ (due ≤ t)) }
     ensures never { (k : Times) (t : ℕ) (s : AddrState) → AreTimes k → due_next k s ≡ None → ¬ IsTouched k t s }
     ensures one_probe { (k : Times) (due : ℕ) (s : AddrState) → AreTimes k → due_next k s ≡ Some due
-        → (probe : Option Probe) × ((aged_state k due s).probes ≡ behind due probe []) }
+        → (probe : Option Probe) × ((aged_state k due s).probes ≡ probes_behind due probe []) }
 {}
 
 /// An address is live at one port at most.
@@ -147,7 +147,7 @@ pub fn who_has_an_address_keeps_it()
         → AreTimes k → IsSoundFor m base → IsTimelineFrom from t0 early → IsTimelineFrom t0 t late
         → IsLiveAt (state_at m k base early t0) port
         → ¬ IsLiveAt (state_at m k base (late ++ early) t) port
-        → IsKept m k base early t0 late t port }
+        → KeepsAddress m k base early t0 late t port }
 {}
 
 /// So a packet from it that passes at another port of a host says that one of the three causes was there.
@@ -157,5 +157,5 @@ pub fn first_come_is_first_served()
         → mark.event ≡ Sent q → ¬ Same q p
         → IsLiveAt (state_at m k base early t0) p
         → IsPassing (answer_at m k base (late ++ early) mark)
-        → IsKept m k base early t0 late mark.moment p }
+        → KeepsAddress m k base early t0 late mark.moment p }
 {}

@@ -16,7 +16,7 @@ impl AddrState {
     ghost use Rattle.mix_rules.specs.States.{IsSoundFor};
     ghost use Rattle.mix_rules.specs.Table.{Row};
     ghost use Rattle.mix_rules.specs.Next.{next_state, by_parts, is_granted, ended_at, leased};
-    ghost use Rattle.mix_rules.specs.Ageing.{IsStill, end_of};
+    ghost use Rattle.mix_rules.specs.Ageing.{IsStill, bound_end};
     ghost use Rattle.mix_rules.specs.Premises.{AllMomentsFit, IsLow};
 
     /// One row of the table: what an event at moment `t` (ms) comes to, for an address of a prefix of method `m`. The
@@ -44,7 +44,7 @@ impl AddrState {
         requires fits { AllMomentsFit self.old }
         requires still { IsStill k.now t self.old }
         ensures value { next_state m k.now t room self.old ev ≡ (result, self.new) }
-        ensures low { IsLow (end_of self.new.dhcp) }
+        ensures low { IsLow (bound_end self.new.dhcp) }
     {
         match ev {
             Ev::Fix(p) => {
@@ -104,7 +104,7 @@ impl AddrState {
     fn leased(&self, p: Port, valid: u32, t: u64, room: bool) -> Option<Bound>
         requires { t ≤ 2 ^ 62 }
         ensures value { result ≡ leased t room p valid self.now.fcfs self.now.dhcp }
-        ensures low { IsLow (end_of self.now.dhcp) → IsLow (end_of result) }
+        ensures low { IsLow (bound_end self.now.dhcp) → IsLow (bound_end result) }
     {
         if valid == 0 {
             self.released(p)

@@ -7,7 +7,7 @@ use Rattle.std.proofs.lemmas.Bool.Decides.{Decides-eqb, Decides-or, Decides-like
 use Rattle.std.proofs.lemmas.List.{length-drop}
 use Rattle.std.proofs.lemmas.List.Elements.{All-nil}
 use Rattle.nd_read.specs.Options.{NdOption, IsWhole, AreOptions, HasKind}
-use Rattle.nd_read.specs.OptionRow.{front_option, in_front, options_within, option_row}
+use Rattle.nd_read.specs.OptionRow.{front_option, with_nd_option, options_within, option_row}
 use Rattle.nd_read.proofs.OptionLists.{kind-head, kind-tail, kind-cons, kind-nil, begins, joins, alone}
 
 -- the options that are found are the row, and none where there is none
@@ -15,7 +15,7 @@ abbrev pub IsRow : List ℕ → Option (List NdOption) → Type 0
 IsRow octets (Some options) = AreOptions octets options
 IsRow octets None = (options : List NdOption) → AreOptions octets options → ⊥
 
-front_row : (kind units : ℕ) (tail : List ℕ) (found : Option (List NdOption)) → 1 ≤ units → 8 * units ≤ 2 + length tail → IsRow (drop (8 * units) (kind ∷ units ∷ tail)) found → IsRow (kind ∷ units ∷ tail) (in_front (front_option kind units tail) found)
+front_row : (kind units : ℕ) (tail : List ℕ) (found : Option (List NdOption)) → 1 ≤ units → 8 * units ≤ 2 + length tail → IsRow (drop (8 * units) (kind ∷ units ∷ tail)) found → IsRow (kind ∷ units ∷ tail) (with_nd_option (front_option kind units tail) found)
 front_row kind units tail (Some others) some within row = joins kind units tail others some within row
 front_row kind units tail None some within none = λ options are. let first = begins kind units tail options are in none first.others first.are
 
@@ -25,7 +25,7 @@ row_is zero (kind ∷ rest) few = absurd (omega (arith, few))
 row_is (suc most) (kind ∷ []) few = alone kind
 row_is (suc most) (kind ∷ units ∷ tail) few =
     let rest : List ℕ = drop (8 * units) (kind ∷ units ∷ tail) in
-    cond_both (nat_le 1 units && nat_le (8 * units) (2 + length tail)) (in_front (front_option kind units tail) (options_within most rest)) None (IsRow (kind ∷ units ∷ tail))
+    cond_both (nat_le 1 units && nat_le (8 * units) (2 + length tail)) (with_nd_option (front_option kind units tail) (options_within most rest)) None (IsRow (kind ∷ units ∷ tail))
     (λ fits.
     let parts : (nat_le 1 units ≡ true) × (nat_le (8 * units) (2 + length tail) ≡ true) = and_parts (nat_le 1 units) (nat_le (8 * units) (2 + length tail)) fits in
     let some : 1 ≤ units = leb-true 1 units parts.0 in

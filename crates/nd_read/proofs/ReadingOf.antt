@@ -11,7 +11,7 @@ use Rattle.nd_read.specs.declared.message.NdFault.{NdFault}
 use Rattle.nd_read.specs.declared.message.NdFault.TheVariants.{HopLimit, Code, Short, Checksum, Target, Options, Unspecified, Solicited}
 use Rattle.nd_read.specs.Messages.{kind_of, code_of, flags_of, target_of, fixed_len, behind_fixed, named}
 use Rattle.nd_read.specs.Options.{NdOption}
-use Rattle.nd_read.specs.Tests.{HasOptions, NamesSource, Passes, PassesBefore, test_number, IsFirstFailed, IsTested, Reads, solicited_node}
+use Rattle.nd_read.specs.Tests.{HasOptions, NamesSource, Passes, PassesBefore, test_number, IsFirstFailed, HasTests, Reads, solicited_node}
 use Rattle.nd_read.specs.OptionRow.{has_kind}
 use Rattle.nd_read.specs.NdOf.{implies, options_of, is_rs, is_ns, is_na, is_tested, passes, tests, first_fault, unless_failed, nd_of}
 use Rattle.nd_read.proofs.InPrefix.{Decides-leb, Decides-lies_in}
@@ -55,7 +55,7 @@ passes_decided Solicited ip message =
     Decides-implies _ _ (Decides-eqb (kind_of message) 136)
     (Decides-implies _ _ (Decides-lies_in ip.dst.0 multicast) (Decides-eqb (bit_and (flags_of message) 0x40) 0))
 
-pub tested_decided : (message : List ℕ) → Decides (is_tested message) (IsTested message)
+pub tested_decided : (message : List ℕ) → Decides (is_tested message) (HasTests message)
 tested_decided message =
     Decides-or (is_rs message) _ (Decides-eqb (kind_of message) 133)
     (Decides-or (is_ns message) _ (Decides-eqb (kind_of message) 135) (Decides-eqb (kind_of message) 136))
@@ -85,7 +85,7 @@ fault_is ip message (test ∷ later) place from known =
     let more : PassesBefore (test_number test + 1) ip message = before_more ip message test before (decided.0 (not-false _ holds)) in
     fault_is ip message later (place + 1) from.1 (subst P (ap (λ (n : ℕ). n + 1) from.0) more))
 
-reads_by : (ip : Ip) (message : List ℕ) (fault : Option NdFault) → IsTested message → IsFault ip message fault → Reads ip message (unless_failed (named ip message) fault)
+reads_by : (ip : Ip) (message : List ℕ) (fault : Option NdFault) → HasTests message → IsFault ip message fault → Reads ip message (unless_failed (named ip message) fault)
 reads_by ip message (Some fault) tested first = (tested, first)
 reads_by ip message None tested all = (refl, λ h. before_all ip message all)
 
@@ -93,7 +93,7 @@ reads_by ip message None tested all = (refl, λ h. before_all ip message all)
 pub nd_is : (ip : Ip) (message : List ℕ) → Reads ip message (nd_of ip message)
 unfolding nd_of
 nd_is ip message =
-    let decided : Decides (is_tested message) (IsTested message) = tested_decided message in
+    let decided : Decides (is_tested message) (HasTests message) = tested_decided message in
     cond_both (is_tested message) (unless_failed (named ip message) (first_fault ip message)) (Ok (named ip message)) (Reads ip message)
     (λ holds. reads_by ip message (first_fault ip message) (decided.0 holds) (fault_is ip message tests 1 tests_are (before_none ip message)))
     (λ not_one. (refl, λ tested. absurd (not_from_Decides (is_tested message) decided not_one tested)))

@@ -9,7 +9,7 @@ use Rattle.nd_read.specs.declared.message.NdFault.{NdFault}
 use Rattle.nd_read.specs.declared.message.NdFault.TheVariants.{Target, Options, Unspecified, Solicited}
 use Rattle.nd_read.specs.Messages.{IsRs, IsNs, IsNa, kind_of, flags_of, target_of, behind_fixed, named}
 use Rattle.nd_read.specs.Options.{NdOption, AreOptions, HasKind}
-use Rattle.nd_read.specs.Tests.{HasOptions, NamesSource, Passes, PassesBefore, IsTested, Reads, solicited_node}
+use Rattle.nd_read.specs.Tests.{HasOptions, NamesSource, Passes, PassesBefore, HasTests, Reads, solicited_node}
 use Rattle.nd_read.proofs.OptionLists.{kind_same}
 use Rattle.nd_read.proofs.TestOrder.{before_more, before_all, first_failed}
 
@@ -81,7 +81,7 @@ pub target_failed : (ip : Ip) (message : List ℕ) → IsNs message ⊎ IsNa mes
 unfolding Passes
 target_failed ip message kind known group = (inr kind, first_failed ip message Target known (λ p. p kind group))
 
-pub options_failed : (ip : Ip) (message : List ℕ) → IsTested message → PassesBefore 6 ip message → (HasOptions message → ⊥) → Reads ip message (Err Options)
+pub options_failed : (ip : Ip) (message : List ℕ) → HasTests message → PassesBefore 6 ip message → (HasOptions message → ⊥) → Reads ip message (Err Options)
 unfolding Passes
 options_failed ip message tested known none = (tested, first_failed ip message Options known none)
 
@@ -89,7 +89,7 @@ pub options_passed : (ip : Ip) (message : List ℕ) → PassesBefore 6 ip messag
 unfolding Passes
 options_passed ip message known has = before_more ip message Options known has
 
-pub unspecified_failed : (ip : Ip) (message : List ℕ) → IsTested message → PassesBefore 7 ip message → ip.src.0 ≡ unspecified → ((IsRs message ⊎ IsNs message) × NamesSource message) ⊎ (IsNs message × (LiesIn ip.dst.0 solicited_node → ⊥)) → Reads ip message (Err Unspecified)
+pub unspecified_failed : (ip : Ip) (message : List ℕ) → HasTests message → PassesBefore 7 ip message → ip.src.0 ≡ unspecified → ((IsRs message ⊎ IsNs message) × NamesSource message) ⊎ (IsNs message × (LiesIn ip.dst.0 solicited_node → ⊥)) → Reads ip message (Err Unspecified)
 unfolding Passes
 unspecified_failed ip message tested known here bad = (
   tested,

@@ -8,9 +8,9 @@ abbrev pub front_option : ℕ → ℕ → List ℕ → NdOption
 front_option kind units rest = record { kind = kind; units = units; content = take (8 * units - 2) rest }
 
 -- this option in front of those, if they are a row
-abbrev pub in_front : NdOption → Option (List NdOption) → Option (List NdOption)
-in_front option None = None
-in_front option (Some others) = Some (option ∷ others)
+abbrev pub with_nd_option : NdOption → Option (List NdOption) → Option (List NdOption)
+with_nd_option option None = None
+with_nd_option option (Some others) = Some (option ∷ others)
 
 -- the row of whole options that these octets are, if they are one, with at most so many
 abbrev pub options_within : ℕ → List ℕ → Option (List NdOption)
@@ -18,7 +18,7 @@ options_within most [] = Some []
 options_within zero (kind ∷ rest) = None
 options_within (suc most) (kind ∷ []) = None
 options_within (suc most) (kind ∷ units ∷ rest) =
-    if nat_le 1 units && nat_le (8 * units) (2 + length rest) then in_front (front_option kind units rest) (options_within most (drop (8 * units) (kind ∷ units ∷ rest))) else None
+    if nat_le 1 units && nat_le (8 * units) (2 + length rest) then with_nd_option (front_option kind units rest) (options_within most (drop (8 * units) (kind ∷ units ∷ rest))) else None
 
 -- the row, if the octets are one: it has no more options than octets
 abbrev pub option_row : List ℕ → Option (List NdOption)

@@ -55,10 +55,10 @@ pub record IsFirstFailed (ip : Ip) (message : List ℕ) (fault : NdFault) : Type
   pub before : PassesBefore (test_number fault) ip message
 
 -- the messages that are tested; the others are named by their type alone
-abbrev pub IsTested : List ℕ → Type 0
-IsTested message = IsRs message ⊎ (IsNs message ⊎ IsNa message)
+abbrev pub HasTests : List ℕ → Type 0
+HasTests message = IsRs message ⊎ (IsNs message ⊎ IsNa message)
 
 -- what reading the message gives
 abbrev pub Reads : Ip → List ℕ → Result Nd NdFault → Type 0
-Reads ip message (Ok nd) = (nd ≡ named ip message) × (IsTested message → (test : NdFault) → Passes test ip message)
-Reads ip message (Err fault) = IsTested message × IsFirstFailed ip message fault
+Reads ip message (Ok nd) = (nd ≡ named ip message) × (HasTests message → (test : NdFault) → Passes test ip message)
+Reads ip message (Err fault) = HasTests message × IsFirstFailed ip message fault

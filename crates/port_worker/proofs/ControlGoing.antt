@@ -27,7 +27,7 @@ use Rattle.savi_history.proofs.Waiting.{ended_now}
 use Rattle.port_worker.specs.declared.port_ends.PortEnds.{PortEnds}
 use Rattle.port_worker.specs.ControlOutputs.{AreReplies, RepliesRunOn, AllFollow, AllOutputsGoOn}
 use Rattle.port_worker.specs.LineSteps.{IsAnswered, behind_reply, with_command}
-use Rattle.port_worker.specs.Outputs.{AreOutputs, Allows, ArePortsAllowed, Follows, OutputsGoOn}
+use Rattle.port_worker.specs.Outputs.{AreOutputs, Allows, ArePortsAllowed, MovesOn, OutputsGoOn}
 use Rattle.port_worker.proofs.Allowed.{allowed_itself}
 use Rattle.port_worker.proofs.KeptOutputs.{KeepsOutput, keeps_same, keeps_then, keeps_control, keeps_pieces, output_kept}
 use Rattle.port_worker.proofs.Pieces.{took_then, took_until}
@@ -143,7 +143,7 @@ module _ {S K C : Type 0} (written : K → Option (List ℕ)) (faults : K → �
   entry_count = length-append (replies plan empty past) (shown plan empty entry ∷ [])
 
   module _ (first : List (PortEnds S K C)) (start : K) (known : Stops) (outputs : AreOutputs written faults plan known past first old) (keeps : (n : ℕ) → KeepsOutput plan n past mid) where
-    ports_go : (later : Stops) × AreOutputs written faults plan later now first new × Follows plan known later mid now (λ stops. drained plan empty stops.ports plan.ports mid)
+    ports_go : (later : Stops) × AreOutputs written faults plan later now first new × MovesOn plan known later mid now (λ stops. drained plan empty stops.ports plan.ports mid)
     ports_go = goes first known (outputs_behind written faults plan known past mid first old keeps outputs)
 
     now_drained : now ≡ drained plan empty ports_go.0.ports plan.ports mid

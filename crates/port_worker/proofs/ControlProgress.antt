@@ -11,7 +11,7 @@ use Rattle.cli_lang.specs.Arrivals.{Line, Input}
 use Rattle.cli_lang.specs.Readers.{State, Comes}
 use Rattle.hist_store.specs.Rows.{Row}
 use Rattle.savi_history.specs.ControlFits.{AreBeforeRefusal}
-use Rattle.savi_history.specs.Readable.{IsLine, IsControlEnding, IsControlInput}
+use Rattle.savi_history.specs.Readable.{IsLineInRange, IsControlEnding, IsControlInput}
 use Rattle.savi_history.specs.ControlInputs.{entered_lines, control_end}
 use Rattle.savi_history.specs.Passes.{control_pass}
 use Rattle.savi_history.specs.Turns.{Turn, Commands, Ends, control_turns}
@@ -69,7 +69,7 @@ pub record HeardSoFar {S K C : Type 0} (left : S → Option (List ℕ)) (past : 
   pub taken_is : taken ≡ map (λ line. Commands line) before
   pub entered : entered_lines past ≡ before
   pub running : control_end past ≡ None
-  pub lines : All IsLine before
+  pub lines : All IsLineInRange before
   pub gave : List ℕ
   pub takes : Takes (left first.ends.source) (left now.ends.source) gave
   pub heard : HeardAhead (left first.ends.source) (left now.ends.source) now.reader gave now.buf before now.ahead

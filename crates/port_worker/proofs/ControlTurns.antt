@@ -21,7 +21,7 @@ use Rattle.port_worker.specs.declared.control_ends.LineAhead.TheVariants as ahea
 use Rattle.port_worker.specs.declared.port_ends.PortEnds.{PortEnds}
 use Rattle.port_worker.specs.Pairs.{EachPair}
 use Rattle.port_worker.specs.ControlOutputs.{AheadGoesOn, AllFollow, AllOutputsGoOn, AreAllowed, AreReplies, ControlGoesOn, IsControlAdvanced, IsControlTurn}
-use Rattle.port_worker.specs.Inputs.{IsKnown, IsSound, moment_of}
+use Rattle.port_worker.specs.Inputs.{IsReadAhead, IsSoundAhead, turn_moment}
 use Rattle.port_worker.specs.LineInputs.{IsControlKnown, IsLineKnown, IsLineSound, control_moment, control_turn_of, line_turn_ahead}
 use Rattle.port_worker.specs.LineSteps.{IsControlStepped, line_ahead_after}
 use Rattle.port_worker.specs.Outputs.{AreOutputs}
@@ -50,7 +50,7 @@ weight_one buf ahead.Failed turn is = refl
 weight_one buf ahead.Done turn is = cc
 
 module _ {S K C : Type 0} (left : S → Option (List ℕ)) (written : K → Option (List ℕ)) (source_faults : S → ℕ) (sink_faults : K → ℕ) (plan : Plan) (first ports new : List (PortEnds S K C)) (past now : List Row)
-    (planned : ports_held first ≡ ports_planned plan) (known : All (λ p. IsKnown p.ahead) ports) (sinks : EachPair (OnlySink written sink_faults) ports new) where
+    (planned : ports_held first ≡ ports_planned plan) (known : All (λ p. IsReadAhead p.ahead) ports) (sinks : EachPair (OnlySink written sink_faults) ports new) where
   same_at : (k : ℕ) (d : PortEnds S K C) → k < length ports → get_or new k d ≡ record (get_or ports k d) { ends = record (get_or ports k d).ends { sink = (get_or new k d).ends.sink } }
   same_at k d within = (sinks.each k d within).same
 
@@ -70,7 +70,7 @@ module _ {S K C : Type 0} (left : S → Option (List ℕ)) (written : K → Opti
   undone_new : undone new ≡ undone ports
   undone_new = undone_same ports new sinks.size (λ k d within. ap (λ (p : PortEnds S K C). weight p.ahead) (same_at k d within))
 
-  module _ (start old c : ControlEnds S K C) (r : Running left written source_faults sink_faults plan (Some start) (Some old) first ports past) (heard : IsLineKnown old.ahead) (least : IsLeast (control_moment (Some old) ∷ map moment_of ports) 0)
+  module _ (start old c : ControlEnds S K C) (r : Running left written source_faults sink_faults plan (Some start) (Some old) first ports past) (heard : IsLineKnown old.ahead) (least : IsLeast (control_moment (Some old) ∷ map turn_moment ports) 0)
       (stepped : IsControlStepped written sink_faults old c) (ahead_goes : AheadGoesOn written sink_faults plan past now (Some c) ports)
       (goes : IfSome (control_turn_of old) (λ turn. AllOutputsGoOn written sink_faults plan past now old.ends.sink c.ends.sink ports new (λ stops. entered plan empty stops turn past))) where
     control_was : ControlRuns left written source_faults sink_faults plan past r.known.control start old r.control_taken
@@ -141,7 +141,7 @@ module _ {S K C : Type 0} (left : S → Option (List ℕ)) (written : K → Opti
         let size_first = r.later.size in
         record {
           later = stepped_later left written source_faults sink_faults first ports new r.later (sinks_stepped left written source_faults sink_faults ports new sinks);
-          sound = λ k d within. subst (λ (p : PortEnds S K C). IsSound p.reader p.ahead) (sym (same_at k d (omega arith))) (r.sound k d within);
+          sound = λ k d within. subst (λ (p : PortEnds S K C). IsSoundAhead p.reader p.ahead) (sym (same_at k d (omega arith))) (r.sound k d within);
           taken = r.taken;
           taken_size = r.taken_size;
           control_taken = r.control_taken ++ turn ∷ [];
@@ -186,7 +186,7 @@ module _ {S K C : Type 0} (left : S → Option (List ℕ)) (written : K → Opti
     pub fits : EachPair (FitsSoFar left source_faults past) first ports → EachPair (FitsSoFar left source_faults now) first new
     pub smaller : (plan.entries - length now) + (undone new + control_weight c) < (plan.entries - length past) + (undone ports + weight_was)
 
-  pub control_turn : (ends_first old c : Option (ControlEnds S K C)) → Running left written source_faults sink_faults plan ends_first old first ports past → IsControlKnown old → IsLeast (control_moment old ∷ map moment_of ports) 0
+  pub control_turn : (ends_first old c : Option (ControlEnds S K C)) → Running left written source_faults sink_faults plan ends_first old first ports past → IsControlKnown old → IsLeast (control_moment old ∷ map turn_moment ports) 0
       → IsControlAdvanced written sink_faults old c → AheadGoesOn written sink_faults plan past now c ports → ControlGoesOn written sink_faults plan past now old c ports new → Turned ends_first c (control_weight old)
   control_turn ends_first None None r heard least stepped ahead_goes goes = let e = least.there in cc
   control_turn ends_first None (Some c) r heard least stepped ahead_goes goes = absurd stepped

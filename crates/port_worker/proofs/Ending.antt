@@ -31,7 +31,7 @@ use Rattle.port_worker.specs.declared.control_ends.ControlEnds.{ControlEnds}
 use Rattle.port_worker.specs.declared.port_ends.Ahead.{Ahead}
 use Rattle.port_worker.specs.declared.port_ends.Ahead.TheVariants as ahead
 use Rattle.port_worker.specs.declared.port_ends.PortEnds.{PortEnds}
-use Rattle.port_worker.specs.Inputs.{IsKnown, moment_of}
+use Rattle.port_worker.specs.Inputs.{IsReadAhead, turn_moment}
 use Rattle.port_worker.specs.LineInputs.{IsControlKnown, control_moment}
 use Rattle.port_worker.specs.Pairs.{EachPair}
 use Rattle.port_worker.specs.Outputs.{IsOutput, IsOutputEnded}
@@ -91,11 +91,11 @@ input_later left past now old new input same is =
     subst (λ (e : Option How). IsInputOf (Comes old.reader) (left old.ends.source) (left new.ends.source) e input.arrivals input.ending) (sym same) is
 
 module _ {S K C : Type 0} (left : S → Option (List ℕ)) (written : K → Option (List ℕ)) (source_faults : S → ℕ) (sink_faults : K → ℕ) (plan : Plan) (ends_first ends : Option (ControlEnds S K C)) (first ports : List (PortEnds S K C)) (past : List Row)
-    (planned : ports_held first ≡ ports_planned plan) (r : Running left written source_faults sink_faults plan ends_first ends first ports past) (heard : IsControlKnown ends) (known : All (λ p. IsKnown p.ahead) ports) (none : All (λ n. n ≡ None) (control_moment ends ∷ map moment_of ports)) where
+    (planned : ports_held first ≡ ports_planned plan) (r : Running left written source_faults sink_faults plan ends_first ends first ports past) (heard : IsControlKnown ends) (known : All (λ p. IsReadAhead p.ahead) ports) (none : All (λ n. n ≡ None) (control_moment ends ∷ map turn_moment ports)) where
   pub done_at : (k : ℕ) (d : PortEnds S K C) → k < length ports → (get_or ports k d).ahead ≡ ahead.Done
   done_at k d inside =
-      let sizes = length-map ports moment_of in
-      done_at_none (get_or ports k d).ahead (known k d inside) (sym (get_or-map moment_of ports k d None inside) ∙ none (suc k) None (omega arith))
+      let sizes = length-map ports turn_moment in
+      done_at_none (get_or ports k d).ahead (known k d inside) (sym (get_or-map turn_moment ports k d None inside) ∙ none (suc k) None (omega arith))
 
   control_none : control_moment ends ≡ None
   control_none = none 0 None (omega arith)

@@ -26,7 +26,7 @@ use Rattle.savi_history.proofs.PortInputs.{HoldsSame, IsTurnOf, more_entered, fu
 use Rattle.port_worker.specs.declared.port_ends.Ahead.{Ahead}
 use Rattle.port_worker.specs.declared.port_ends.Ahead.TheVariants as ahead
 use Rattle.port_worker.specs.declared.port_ends.PortEnds.{PortEnds}
-use Rattle.port_worker.specs.Inputs.{IsKnown, IsLooked, IsReadAs, turn_ahead, turn_of}
+use Rattle.port_worker.specs.Inputs.{IsReadAhead, IsLooked, IsReadAs, turn_ahead, turn_of}
 use Rattle.port_worker.specs.SentFrames.{OnlySink}
 use Rattle.port_worker.specs.Steps.{IsStepped, ends_input, ahead_after}
 use Rattle.port_worker.specs.Replays.{IsUnread}
@@ -89,8 +89,8 @@ read_more left past first old new one two ahead.Failed a_is take_one take_two no
 )
 read_more left past first old new one two ahead.Done a_is take_one take_two none read is = absurd is
 
-known_same : {S K C : Type 0} (left : S → Option (List ℕ)) (source_faults : S → ℕ) (past : List Row) (first old new : PortEnds S K C) (a : Ahead) → old.ahead ≡ a → IsKnown a → (IsKnown old.ahead → new ≡ old) → FitsSoFar left source_faults past first old → FitsSoFar left source_faults past first new
-known_same {S} {K} {C} left source_faults past first old new a is known same so_far = subst (λ (p : PortEnds S K C). FitsSoFar left source_faults past first p) (sym (same (subst IsKnown (sym is) known))) so_far
+known_same : {S K C : Type 0} (left : S → Option (List ℕ)) (source_faults : S → ℕ) (past : List Row) (first old new : PortEnds S K C) (a : Ahead) → old.ahead ≡ a → IsReadAhead a → (IsReadAhead old.ahead → new ≡ old) → FitsSoFar left source_faults past first old → FitsSoFar left source_faults past first new
+known_same {S} {K} {C} left source_faults past first old new a is known same so_far = subst (λ (p : PortEnds S K C). FitsSoFar left source_faults past first p) (sym (same (subst IsReadAhead (sym is) known))) so_far
 
 look_one : {S K C : Type 0} (left : S → Option (List ℕ)) (source_faults : S → ℕ) (past : List Row) (first old new : PortEnds S K C) (a : Ahead) → old.ahead ≡ a → IsLooked left source_faults old new → FitsSoFar left source_faults past first old → FitsSoFar left source_faults past first new
 look_one left source_faults past first old new ahead.Unread is looked so_far =

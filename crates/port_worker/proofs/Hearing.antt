@@ -12,7 +12,7 @@ use Rattle.cli_lang.specs.Arrivals.{Line, Input, Says, IsRun, EndsAs}
 use Rattle.cli_lang.specs.Readers.{State, Running, Ended, Comes, HasRead, HasReadOne, HasEnded, ended}
 use Rattle.cli_lang.proofs.Existence.{some_later}
 use Rattle.savi_history.specs.Readable.{IsControlEnding}
-use Rattle.savi_history.specs.Readable.{IsLine as IsReadableLine}
+use Rattle.savi_history.specs.Readable.{IsLineInRange as IsReadableLine}
 
 abbrev pub start : State
 start = Running 0 []

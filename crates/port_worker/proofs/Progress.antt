@@ -24,7 +24,7 @@ use Rattle.savi_history.proofs.Reaching as reaching
 use Rattle.port_worker.specs.declared.port_ends.Ahead.{Ahead}
 use Rattle.port_worker.specs.declared.port_ends.Ahead.TheVariants as ahead
 use Rattle.port_worker.specs.declared.port_ends.PortEnds.{PortEnds}
-use Rattle.port_worker.specs.Inputs.{turn_ahead, moment_ahead, with_first, Gives, WillCome, IsKnown, IsReadAs}
+use Rattle.port_worker.specs.Inputs.{turn_ahead, moment_ahead, with_arrival, WillGive, WillCome, IsReadAhead, IsReadAs}
 use Rattle.port_worker.specs.Served.{IsInputOf}
 use Rattle.port_worker.proofs.Joining.{IsRunning, read_twice, read_behind}
 
@@ -64,7 +64,7 @@ turn_at_moment port buf ahead.Failed n is = (_, refl, refl)
 turn_at_moment port buf ahead.Done n is = cc
 
 -- where none is, the input is done
-pub done_at_none : (a : Ahead) → IsKnown a → moment_ahead a ≡ None → a ≡ ahead.Done
+pub done_at_none : (a : Ahead) → IsReadAhead a → moment_ahead a ≡ None → a ≡ ahead.Done
 done_at_none ahead.Unread known is = absurd known
 done_at_none (ahead.Frame stamp len) known is = cc
 done_at_none (ahead.Long stamp len) known is = cc
@@ -73,7 +73,7 @@ done_at_none (ahead.Malformed at) known is = cc
 done_at_none ahead.Failed known is = cc
 done_at_none ahead.Done known is = refl
 
-pub read_known : (port : Port) (buf : List ℕ) (a : Ahead) → IsKnown a → reaching.IsRead (head_ahead port buf a)
+pub read_known : (port : Port) (buf : List ℕ) (a : Ahead) → IsReadAhead a → reaching.IsRead (head_ahead port buf a)
 read_known port buf ahead.Unread known = absurd known
 read_known port buf (ahead.Frame stamp len) known = tt
 read_known port buf (ahead.Long stamp len) known = tt
@@ -108,14 +108,14 @@ pub record AtArrival (left : Option (List ℕ)) (port : Port) (state : State) (b
   pub arrival : Arrival
   pub is_turn : t ≡ Arrives port arrival
   pub read : (first : State) (gave : List ℕ) (before : List Arrival) → HasReadAhead first state gave buf before a → HasRead first state gave (before ++ arrival ∷ []) × IsRunning state
-  pub gives : (later : Input) → IfSome left (λ octets. Comes state octets later) → IfSome left (λ octets. Gives state buf a octets (with_first arrival later))
+  pub gives : (later : Input) → IfSome left (λ octets. Comes state octets later) → IfSome left (λ octets. WillGive state buf a octets (with_arrival arrival later))
 
 -- the turn is the ending of a whole capture
 pub record AtEnding (left : Option (List ℕ)) (port : Port) (state : State) (buf : List ℕ) (a : Ahead) (t : Turn) : Type 0 where
   pub ending : How
   pub is_turn : t ≡ Ends (Ingress port) ending
   pub whole : IsWholeEnd ending
-  pub gives : IfSome left (λ octets. Gives state buf a octets (ended ending))
+  pub gives : IfSome left (λ octets. WillGive state buf a octets (ended ending))
 
 -- the turn is the ending at a read that failed
 pub record AtFailure (port : Port) (a : Ahead) (t : Turn) : Type 0 where
@@ -144,7 +144,7 @@ at_turn left port state buf (ahead.Frame stamp len) t is =
       arrival = arrival;
       is_turn = same_turn (Arrives port arrival) t is;
       read = λ first gave before read. read;
-      gives = λ later. if_more left (λ octets. Comes state octets later) (λ octets. Gives state buf (ahead.Frame stamp len) octets (with_first arrival later)) (λ octets comes. (later, refl, comes));
+      gives = λ later. if_more left (λ octets. Comes state octets later) (λ octets. WillGive state buf (ahead.Frame stamp len) octets (with_arrival arrival later)) (λ octets comes. (later, refl, comes));
     })
 at_turn left port state buf (ahead.Long stamp len) t is =
     let arrival = arrivals.Long stamp len in
@@ -152,21 +152,21 @@ at_turn left port state buf (ahead.Long stamp len) t is =
       arrival = arrival;
       is_turn = same_turn (Arrives port arrival) t is;
       read = λ first gave before read. read;
-      gives = λ later. if_more left (λ octets. Comes state octets later) (λ octets. Gives state buf (ahead.Long stamp len) octets (with_first arrival later)) (λ octets comes. (later, refl, comes));
+      gives = λ later. if_more left (λ octets. Comes state octets later) (λ octets. WillGive state buf (ahead.Long stamp len) octets (with_arrival arrival later)) (λ octets comes. (later, refl, comes));
     })
 at_turn left port state buf ahead.End t is =
     inr (inl (record {
       ending = hows.End;
       is_turn = same_turn (Ends (Ingress port) hows.End) t is;
       whole = tt;
-      gives = if_all left (λ octets. Gives state buf ahead.End octets (ended hows.End)) (λ octets. refl);
+      gives = if_all left (λ octets. WillGive state buf ahead.End octets (ended hows.End)) (λ octets. refl);
     }))
 at_turn left port state buf (ahead.Malformed at) t is =
     inr (inl (record {
       ending = hows.Malformed at;
       is_turn = same_turn (Ends (Ingress port) (hows.Malformed at)) t is;
       whole = tt;
-      gives = if_all left (λ octets. Gives state buf (ahead.Malformed at) octets (ended (hows.Malformed at))) (λ octets. refl);
+      gives = if_all left (λ octets. WillGive state buf (ahead.Malformed at) octets (ended (hows.Malformed at))) (λ octets. refl);
     }))
 at_turn left port state buf ahead.Failed t is = inr (inr (record { is_turn = same_turn (Ends (Ingress port) hows.Failed) t is; failed = refl }))
 at_turn left port state buf ahead.Done t is = cc
@@ -318,7 +318,7 @@ module _ {S K C : Type 0} (left : S → Option (List ℕ)) (plan : Plan) (k : �
   takes_new : Takes (left old.ends.source) (left new.ends.source) goes.gave
   takes_new = subst (λ (s : S). Takes (left old.ends.source) (left s) goes.gave) (sym source) goes.takes
 
-  front_again : (arrival : Arrival) (later : Input) → with_front goes.before (with_first arrival later) ≡ with_front (goes.before ++ arrival ∷ []) later
+  front_again : (arrival : Arrival) (later : Input) → with_front goes.before (with_arrival arrival later) ≡ with_front (goes.before ++ arrival ∷ []) later
   front_again arrival later = ap (λ (l : List Arrival). record { arrivals = l; ending = later.ending }) (sym (append_assoc goes.before (arrival ∷ []) later.arrivals))
 
   -- an arrival that was entered
@@ -336,7 +336,7 @@ module _ {S K C : Type 0} (left : S → Option (List ℕ)) (plan : Plan) (k : �
             let at_new : IfSome (left new.ends.source) (λ octets. Comes new.reader octets later) = will in
             let at_now : IfSome (left now.ends.source) (λ octets. Comes now.reader octets later) =
             subst (λ (s : S). IfSome (left s) (λ octets. Comes now.reader octets later)) source (subst (λ (r : State). IfSome (left new.ends.source) (λ octets. Comes r octets later)) reader at_new) in
-            subst (λ (i : Input). CameFirst left old i) (front_again at.arrival later) (goes.comes (with_first at.arrival later) (at.gives later at_now));
+            subst (λ (i : Input). CameFirst left old i) (front_again at.arrival later) (goes.comes (with_arrival at.arrival later) (at.gives later at_now));
       })
 
   -- an arrival for which there was no room: what is left is passed over
@@ -350,7 +350,7 @@ module _ {S K C : Type 0} (left : S → Option (List ℕ)) (plan : Plan) (k : �
         of = of_turns plan old.port k some.0 pass;
         split = ap (λ (l : List Turn). l ++ turns old.port some.0) (taken_more at.arrival at.is_turn) ∙ turns_front old.port before some.0;
         came = whole_as (Comes old.reader) (left old.ends.source) (left new.ends.source) (input_end (number_of old.port) past) (before ++ some.0.arrivals) some.0.ending some.2
-            (subst (λ (i : Input). CameFirst left old i) (front_again at.arrival some.0) (goes.comes (with_first at.arrival some.0) (at.gives some.0 some.1)));
+            (subst (λ (i : Input). CameFirst left old i) (front_again at.arrival some.0) (goes.comes (with_arrival at.arrival some.0) (at.gives some.0 some.1)));
       })
 
   pub ends_at : new.ahead ≡ ahead.Done → AtEnding (left now.ends.source) now.port now.reader now.buf now.ahead t → Progress left plan k past old new (taken ++ t ∷ [])

@@ -21,7 +21,7 @@ use Rattle.port_worker.specs.declared.port_ends.Ahead.{Ahead}
 use Rattle.port_worker.specs.declared.port_ends.Ahead.TheVariants as ahead
 use Rattle.port_worker.specs.declared.port_ends.PortEnds.{PortEnds}
 use Rattle.port_worker.specs.Pairs.{EachPair}
-use Rattle.port_worker.specs.Inputs.{IsSound, IsKnown, IsLooked, moment_of}
+use Rattle.port_worker.specs.Inputs.{IsSoundAhead, IsReadAhead, IsLooked, turn_moment}
 use Rattle.port_worker.specs.ControlOutputs.{AreAllowed}
 use Rattle.port_worker.specs.LineInputs.{IsControlHeard}
 use Rattle.port_worker.specs.Outputs.{IsOutput, AreOutputs}
@@ -35,7 +35,7 @@ use Rattle.port_worker.proofs.Progress.{head_of, head_ahead, moment_same, read_k
 
 pub record Running {S K C : Type 0} (left : S → Option (List ℕ)) (written : K → Option (List ℕ)) (source_faults : S → ℕ) (sink_faults : K → ℕ) (plan : Plan) (ends_first ends : Option (ControlEnds S K C)) (first ports : List (PortEnds S K C)) (past : List Row) : Type 0 where
   pub later : EachPair (IsLater left written source_faults sink_faults) first ports
-  pub sound : (k : ℕ) (d : PortEnds S K C) → k < length first → IsSound (get_or ports k d).reader (get_or ports k d).ahead
+  pub sound : (k : ℕ) (d : PortEnds S K C) → k < length first → IsSoundAhead (get_or ports k d).reader (get_or ports k d).ahead
   pub taken : List (List Turn)
   pub taken_size : length taken ≡ length first
   pub control_taken : List Turn
@@ -56,11 +56,11 @@ pub element : {X : Type 0} (xs : List X) (k : ℕ) → k < length xs → X
 element [] k inside = absurd (omega arith)
 element (x ∷ xs) k inside = x
 
-pub moments_same : {S K C : Type 0} (ports : List (PortEnds S K C)) → map reaching.moment_of (map head_of ports) ≡ map moment_of ports
+pub moments_same : {S K C : Type 0} (ports : List (PortEnds S K C)) → map reaching.moment_of (map head_of ports) ≡ map turn_moment ports
 moments_same [] = refl
-moments_same (p ∷ ports) = ap (λ (o : Option ℕ). o ∷ map reaching.moment_of (map head_of ports)) (moment_same p.port p.buf p.ahead) ∙ ap (λ (l : List (Option ℕ)). moment_of p ∷ l) (moments_same ports)
+moments_same (p ∷ ports) = ap (λ (o : Option ℕ). o ∷ map reaching.moment_of (map head_of ports)) (moment_same p.port p.buf p.ahead) ∙ ap (λ (l : List (Option ℕ)). turn_moment p ∷ l) (moments_same ports)
 
-pub all_read : {S K C : Type 0} (ports : List (PortEnds S K C)) → All (λ p. IsKnown p.ahead) ports → AllRead (map head_of ports)
+pub all_read : {S K C : Type 0} (ports : List (PortEnds S K C)) → All (λ p. IsReadAhead p.ahead) ports → AllRead (map head_of ports)
 all_read ports known k inside =
     let size = length-map ports head_of in
     let within : k < length ports = omega arith in
@@ -95,13 +95,13 @@ agrees_same past now k (Known turn) same is = same ∙ is
 agrees_same past now k Done same is = same ∙ is
 
 -- the turns that may be left where more is known may be left where less is
-left_less : {S K C : Type 0} (p q : PortEnds S K C) (a : Ahead) (turns : List Turn) → p.ahead ≡ a → (IsKnown p.ahead → q ≡ p) → IsLeft (head_of q) turns → IsLeft (head_ahead p.port p.buf a) turns
+left_less : {S K C : Type 0} (p q : PortEnds S K C) (a : Ahead) (turns : List Turn) → p.ahead ≡ a → (IsReadAhead p.ahead → q ≡ p) → IsLeft (head_of q) turns → IsLeft (head_ahead p.port p.buf a) turns
 left_less p q ahead.Unread turns is same there = tt
-left_less {S} {K} {C} p q (ahead.Frame stamp len) turns is same there = subst (λ (b : Ahead). IsLeft (head_ahead p.port p.buf b) turns) is (subst (λ (r : PortEnds S K C). IsLeft (head_of r) turns) (same (subst IsKnown (sym is) tt)) there)
-left_less {S} {K} {C} p q (ahead.Long stamp len) turns is same there = subst (λ (b : Ahead). IsLeft (head_ahead p.port p.buf b) turns) is (subst (λ (r : PortEnds S K C). IsLeft (head_of r) turns) (same (subst IsKnown (sym is) tt)) there)
-left_less {S} {K} {C} p q ahead.End turns is same there = subst (λ (b : Ahead). IsLeft (head_ahead p.port p.buf b) turns) is (subst (λ (r : PortEnds S K C). IsLeft (head_of r) turns) (same (subst IsKnown (sym is) tt)) there)
-left_less {S} {K} {C} p q (ahead.Malformed at) turns is same there = subst (λ (b : Ahead). IsLeft (head_ahead p.port p.buf b) turns) is (subst (λ (r : PortEnds S K C). IsLeft (head_of r) turns) (same (subst IsKnown (sym is) tt)) there)
-left_less {S} {K} {C} p q ahead.Failed turns is same there = subst (λ (b : Ahead). IsLeft (head_ahead p.port p.buf b) turns) is (subst (λ (r : PortEnds S K C). IsLeft (head_of r) turns) (same (subst IsKnown (sym is) tt)) there)
+left_less {S} {K} {C} p q (ahead.Frame stamp len) turns is same there = subst (λ (b : Ahead). IsLeft (head_ahead p.port p.buf b) turns) is (subst (λ (r : PortEnds S K C). IsLeft (head_of r) turns) (same (subst IsReadAhead (sym is) tt)) there)
+left_less {S} {K} {C} p q (ahead.Long stamp len) turns is same there = subst (λ (b : Ahead). IsLeft (head_ahead p.port p.buf b) turns) is (subst (λ (r : PortEnds S K C). IsLeft (head_of r) turns) (same (subst IsReadAhead (sym is) tt)) there)
+left_less {S} {K} {C} p q ahead.End turns is same there = subst (λ (b : Ahead). IsLeft (head_ahead p.port p.buf b) turns) is (subst (λ (r : PortEnds S K C). IsLeft (head_of r) turns) (same (subst IsReadAhead (sym is) tt)) there)
+left_less {S} {K} {C} p q (ahead.Malformed at) turns is same there = subst (λ (b : Ahead). IsLeft (head_ahead p.port p.buf b) turns) is (subst (λ (r : PortEnds S K C). IsLeft (head_of r) turns) (same (subst IsReadAhead (sym is) tt)) there)
+left_less {S} {K} {C} p q ahead.Failed turns is same there = subst (λ (b : Ahead). IsLeft (head_ahead p.port p.buf b) turns) is (subst (λ (r : PortEnds S K C). IsLeft (head_of r) turns) (same (subst IsReadAhead (sym is) tt)) there)
 left_less p q ahead.Done turns is same there = tt
 
 goes_by : {S K C : Type 0} (left : S → Option (List ℕ)) (plan : Plan) (k : ℕ) (past : List Row) (old new : PortEnds S K C) (taken : List Turn) (a : Ahead) → (a ≡ ahead.Done → ⊥) → Goes left old new taken → ProgressBy left plan k past old new taken a
@@ -113,8 +113,8 @@ goes_by left plan k past old new taken (ahead.Malformed at) other goes = goes
 goes_by left plan k past old new taken ahead.Failed other goes = goes
 goes_by left plan k past old new taken ahead.Done other goes = absurd (other refl)
 
-progress_known : {S K C : Type 0} (left : S → Option (List ℕ)) (plan : Plan) (k : ℕ) (past : List Row) (old p q : PortEnds S K C) (taken : List Turn) (a : Ahead) → p.ahead ≡ a → IsKnown a → (IsKnown p.ahead → q ≡ p) → Progress left plan k past old p taken → Progress left plan k past old q taken
-progress_known {S} {K} {C} left plan k past old p q taken a is known same progress = subst (λ (r : PortEnds S K C). Progress left plan k past old r taken) (sym (same (subst IsKnown (sym is) known))) progress
+progress_known : {S K C : Type 0} (left : S → Option (List ℕ)) (plan : Plan) (k : ℕ) (past : List Row) (old p q : PortEnds S K C) (taken : List Turn) (a : Ahead) → p.ahead ≡ a → IsReadAhead a → (IsReadAhead p.ahead → q ≡ p) → Progress left plan k past old p taken → Progress left plan k past old q taken
+progress_known {S} {K} {C} left plan k past old p q taken a is known same progress = subst (λ (r : PortEnds S K C). Progress left plan k past old r taken) (sym (same (subst IsReadAhead (sym is) known))) progress
 
 progress_look : {S K C : Type 0} (left : S → Option (List ℕ)) (source_faults : S → ℕ) (plan : Plan) (k : ℕ) (past : List Row) (old p q : PortEnds S K C) (taken : List Turn) (a : Ahead) → p.ahead ≡ a → IsLooked left source_faults p q → Progress left plan k past old p taken → Progress left plan k past old q taken
 progress_look left source_faults plan k past old p q taken ahead.Unread is looked progress =
@@ -138,7 +138,7 @@ progress_look left source_faults plan k past old p q taken ahead.Failed is looke
 progress_look left source_faults plan k past old p q taken ahead.Done is looked progress = progress_known left plan k past old p q taken ahead.Done is tt looked.same progress
 
 done_both : {S K C : Type 0} (left : S → Option (List ℕ)) (source_faults : S → ℕ) (p q : PortEnds S K C) → IsLooked left source_faults p q → p.ahead ≡ ahead.Done → q.ahead ≡ ahead.Done
-done_both {S} {K} {C} left source_faults p q looked is = ap (λ (r : PortEnds S K C). r.ahead) (looked.same (subst IsKnown (sym is) tt)) ∙ is
+done_both {S} {K} {C} left source_faults p q looked is = ap (λ (r : PortEnds S K C). r.ahead) (looked.same (subst IsReadAhead (sym is) tt)) ∙ is
 
 -- to read ahead changes no output
 outputs_looked : {S K C : Type 0} (written : K → Option (List ℕ)) (sink_faults : K → ℕ) (left : S → Option (List ℕ)) (source_faults : S → ℕ) (plan : Plan) (known : Stops) (past : List Row) (first ports new : List (PortEnds S K C)) → AreOutputs written sink_faults plan known past first ports → EachPair (IsLooked left source_faults) ports new
@@ -223,8 +223,8 @@ module _ {S K C : Type 0} (left : S → Option (List ℕ)) (written : K → Opti
     weight_open ahead.Failed other = refl
     weight_open ahead.Done other = absurd (other refl)
 
-    weight_kept : (k : ℕ) (d : PortEnds S K C) → k < length ports → (p : Ahead) → (get_or ports k d).ahead ≡ p → IsKnown p → weight (get_or new k d).ahead ≡ weight p
-    weight_kept k d inside p is known_p = ap (λ (q : PortEnds S K C). weight q.ahead) ((looked.each k d inside).same (subst IsKnown (sym is) known_p)) ∙ ap weight is
+    weight_kept : (k : ℕ) (d : PortEnds S K C) → k < length ports → (p : Ahead) → (get_or ports k d).ahead ≡ p → IsReadAhead p → weight (get_or new k d).ahead ≡ weight p
+    weight_kept k d inside p is known_p = ap (λ (q : PortEnds S K C). weight q.ahead) ((looked.each k d inside).same (subst IsReadAhead (sym is) known_p)) ∙ ap weight is
 
     weight_look : (k : ℕ) (d : PortEnds S K C) → k < length ports → (p : Ahead) → (get_or ports k d).ahead ≡ p → weight (get_or new k d).ahead ≡ weight p
     weight_look k d inside ahead.Unread is = weight_open (get_or new k d).ahead (λ done. let e = (looked.each k d inside).done done in cc)

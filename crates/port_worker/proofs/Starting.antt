@@ -18,7 +18,7 @@ use Rattle.savi_history.specs.Legal.{IsOpen}
 use Rattle.savi_history.specs.Events.{End}
 use Rattle.savi_history.specs.ControlInputs.{control_end}
 use Rattle.savi_history.specs.PortOutputs.{TookPieces}
-use Rattle.savi_history.specs.Readable.{IsLine}
+use Rattle.savi_history.specs.Readable.{IsLineInRange}
 use Rattle.savi_history.specs.Turns.{Turn, control_turns}
 use Rattle.savi_history.specs.Replay.{PortStops, Stops, begun, with_event}
 use Rattle.savi_history.proofs.ControlSame.{ControlSame, control_begun}
@@ -34,7 +34,7 @@ use Rattle.port_worker.specs.declared.port_ends.Ahead.{Ahead}
 use Rattle.port_worker.specs.declared.port_ends.Ahead.TheVariants as ahead
 use Rattle.port_worker.specs.declared.port_ends.PortEnds.{PortEnds}
 use Rattle.port_worker.specs.Pairs.{EachPair}
-use Rattle.port_worker.specs.Inputs.{IsSound, IsReadable, Gives, WillCome}
+use Rattle.port_worker.specs.Inputs.{IsSoundAhead, IsReadable, WillGive, WillCome}
 use Rattle.port_worker.specs.ControlOutputs.{unheard}
 use Rattle.port_worker.specs.LineInputs.{IsControlUnheard, IsHearing, IsLineSound, IsUnheard}
 use Rattle.port_worker.specs.SentFrames.{OnlySink}
@@ -137,7 +137,7 @@ control_starts left written source_faults sink_faults plan before c stops begins
         taken_is = refl;
         entered = same.lines_same;
         running = same.end_same;
-        lines = All-nil IsLine;
+        lines = All-nil IsLineInRange;
         gave = [];
         takes = sym (front_none (left c.ends.source));
         heard = subst (λ (a : LineAhead). HeardAhead (left c.ends.source) (left c.ends.source) c.reader [] c.buf [] a) (sym none.0)
@@ -204,7 +204,7 @@ module _ {S K C : Type 0} (left : S → Option (List ℕ)) (written : K → Opti
       takes = ap left (source_is k d inside) ∙ sym (front_none (left (get_or ports k d).ends.source));
       read = rw (ahead_is k d inside, sym (reader_is k d inside)) (λ rest later ending comes. comes);
       comes = λ input will.
-          subst (λ (a : Ahead). IfSome (left (get_or first k d).ends.source) (λ octets. Gives (get_or first k d).reader (get_or first k d).buf a octets input)) (unread k d inside).0
+          subst (λ (a : Ahead). IfSome (left (get_or first k d).ends.source) (λ octets. WillGive (get_or first k d).reader (get_or first k d).buf a octets input)) (unread k d inside).0
           (subst (λ (p : PortEnds S K C). WillCome left p input) (only.each k d inside).same will);
     }
 
@@ -277,7 +277,7 @@ module _ {S K C : Type 0} (left : S → Option (List ℕ)) (written : K → Opti
     known_now : (k : ℕ) (d : PortEnds S K C) → k < length ports → has_port plan (number_of (get_or ports k d).port) ≡ true
     known_now k d inside = let count = count_is ports plan planned_now in ap (has_port plan) (number_now k d inside) ∙ known_at plan k (omega arith)
 
-    pub sound_now : All (λ p. IsSound p.reader p.ahead) ports
+    pub sound_now : All (λ p. IsSoundAhead p.reader p.ahead) ports
     sound_now k d inside = let size = r.later.size in r.sound k d (omega arith)
 
     pub quiet_now : All (λ p. queue plan empty (number_of p.port) past ≡ []) ports

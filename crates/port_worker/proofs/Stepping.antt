@@ -32,10 +32,10 @@ use Rattle.port_worker.specs.declared.port_ends.Ahead.{Ahead}
 use Rattle.port_worker.specs.declared.port_ends.Ahead.TheVariants as ahead
 use Rattle.port_worker.specs.declared.port_ends.PortEnds.{PortEnds}
 use Rattle.port_worker.specs.Pairs.{EachPair}
-use Rattle.port_worker.specs.Inputs.{IsSound, IsReadable, IsKnown, turn_of, turn_ahead, moment_of}
+use Rattle.port_worker.specs.Inputs.{IsSoundAhead, IsReadable, IsReadAhead, turn_of, turn_ahead, turn_moment}
 use Rattle.port_worker.specs.ControlOutputs.{AreAllowed}
 use Rattle.port_worker.specs.LineInputs.{IsControlKnown, control_moment}
-use Rattle.port_worker.specs.Outputs.{AreOutputs, Allows, Follows, OutputsGoOn}
+use Rattle.port_worker.specs.Outputs.{AreOutputs, Allows, MovesOn, OutputsGoOn}
 use Rattle.port_worker.specs.Steps.{IsStepped, ends_input, ahead_after}
 use Rattle.port_worker.specs.Replays.{ports_held, ports_planned}
 use Rattle.port_worker.proofs.Allowed.{allowed_itself}
@@ -57,7 +57,7 @@ some_same u t is = cc
 no_end : (plan : Plan) (past : List Row) (u t : Turn) → Some u ≡ Some t → ends_input plan past u ≡ true → ends_input plan past t ≡ false → ⊥
 no_end plan past u t is ends goes = let e : ends_input plan past u ≡ ends_input plan past t = ap (ends_input plan past) (some_same u t is) in cc
 
-readable_of : (plan : Plan) (past : List Row) (port : Port) (state : State) (buf : List ℕ) (a : Ahead) (t : Turn) → turn_ahead port buf a ≡ Some t → ends_input plan past t ≡ false → IsSound state a → IsReadable state
+readable_of : (plan : Plan) (past : List Row) (port : Port) (state : State) (buf : List ℕ) (a : Ahead) (t : Turn) → turn_ahead port buf a ≡ Some t → ends_input plan past t ≡ false → IsSoundAhead state a → IsReadable state
 readable_of plan past port state buf ahead.Unread t is goes sound = cc
 readable_of plan past port state buf (ahead.Frame stamp len) t is goes sound = sound.1
 readable_of plan past port state buf (ahead.Long stamp len) t is goes sound = sound.1
@@ -71,9 +71,9 @@ known_open p t h is known = sym is ∙ known
 
 module _ {S K C : Type 0} (left : S → Option (List ℕ)) (written : K → Option (List ℕ)) (source_faults : S → ℕ) (sink_faults : K → ℕ) (plan : Plan) (ends_first ends : Option (ControlEnds S K C)) (first ports new : List (PortEnds S K C)) (past now : List Row) (j : ℕ)
     (planned : ports_held first ≡ ports_planned plan) (rising : IsStrictlyIncreasing (numbers_of plan.ports))
-    (r : Running left written source_faults sink_faults plan ends_first ends first ports past) (heard : IsControlKnown ends) (known : All (λ p. IsKnown p.ahead) ports) (least : IsLeast (control_moment ends ∷ map moment_of ports) (suc j)) where
+    (r : Running left written source_faults sink_faults plan ends_first ends first ports past) (heard : IsControlKnown ends) (known : All (λ p. IsReadAhead p.ahead) ports) (least : IsLeast (control_moment ends ∷ map turn_moment ports) (suc j)) where
   pub inside : j < length ports
-  inside = let within = least.inside in let size = length-map ports moment_of in omega arith
+  inside = let within = least.inside in let size = length-map ports turn_moment in omega arith
 
   pub d_here : PortEnds S K C
   d_here = element ports j inside
@@ -82,7 +82,7 @@ module _ {S K C : Type 0} (left : S → Option (List ℕ)) (written : K → Opti
   here = get_or ports j d_here
 
   pub turn_here : (t : Turn) × (turn_of here ≡ Some t) × (head_of here ≡ Known t)
-  turn_here = turn_at_moment here.port here.buf here.ahead least.least (sym (get_or-map moment_of ports j d_here None inside) ∙ least.there)
+  turn_here = turn_at_moment here.port here.buf here.ahead least.least (sym (get_or-map turn_moment ports j d_here None inside) ∙ least.there)
 
   abbrev pub turn : Turn
   turn = turn_here.0
@@ -132,7 +132,7 @@ module _ {S K C : Type 0} (left : S → Option (List ℕ)) (written : K → Opti
     goes_now = subst (λ (o : Option Turn). IfSome o (λ t. OutputsGoOn written sink_faults plan past now ports new (λ stops. entered plan empty stops t past))) turn_here.1 (goes d_here)
 
     -- what is known of the outputs behind the turn
-    pub gone : (later : Stops) × AreOutputs written sink_faults plan later now first new × Follows plan r.known later past now (λ stops. entered plan empty stops turn past)
+    pub gone : (later : Stops) × AreOutputs written sink_faults plan later now first new × MovesOn plan r.known later past now (λ stops. entered plan empty stops turn past)
     gone = goes_now first r.known r.outputs
 
     -- control has written nothing
@@ -301,19 +301,19 @@ module _ {S K C : Type 0} (left : S → Option (List ℕ)) (written : K → Opti
         (subst (λ (p : PortEnds S K C). Progress left plan k now (get_or first k d) p (get_or r.taken k [])) (sym (same_other k d other (omega arith)))
         (progress_kept left plan k past now (get_or first k d) (get_or ports k d) (get_or new k d).ends.sink (get_or r.taken k []) (get_or ports k d).ahead (end_kept k d other within) (r.progress k d within)))
 
-    sound_there : (b : Bool) → ends_input plan past turn ≡ b → there.ahead ≡ ahead_after b → IsSound there.reader there.ahead
+    sound_there : (b : Bool) → ends_input plan past turn ≡ b → there.ahead ≡ ahead_after b → IsSoundAhead there.reader there.ahead
     sound_there true ends is = rw is tt
     sound_there false ends is =
         rw (is, reader_there) (readable_of plan past here.port here.reader here.buf here.ahead turn turn_here.1 ends (r.sound j d_here inside_first))
 
-    sound_at : (k : ℕ) (d : PortEnds S K C) → k < length first → (k ≡ j) ⊎ (k ≢ j) → IsSound (get_or new k d).reader (get_or new k d).ahead
+    sound_at : (k : ℕ) (d : PortEnds S K C) → k < length first → (k ≡ j) ⊎ (k ≢ j) → IsSoundAhead (get_or new k d).reader (get_or new k d).ahead
     sound_at k d within (inl same) =
         let size_n = size_new in
         let size_p = r.later.size in
         rw (same, get_or_default new j d d_here (omega arith)) (sound_there (ends_input plan past turn) refl there_ahead)
     sound_at k d within (inr other) =
         let size_p = r.later.size in
-        subst (λ (p : PortEnds S K C). IsSound p.reader p.ahead) (sym (same_other k d other (omega arith))) (r.sound k d within)
+        subst (λ (p : PortEnds S K C). IsSoundAhead p.reader p.ahead) (sym (same_other k d other (omega arith))) (r.sound k d within)
 
     pub turn_step : Running left written source_faults sink_faults plan ends_first ends first new now
     turn_step =

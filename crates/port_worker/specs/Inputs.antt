@@ -38,51 +38,51 @@ moment_ahead ahead.Failed = Some 0
 moment_ahead ahead.Done = None
 
 -- when that turn comes: an ending at once, and an arrival by its stamp
-abbrev pub moment_of : {S K C : Type 0} → PortEnds S K C → Option ℕ
-moment_of p = moment_ahead p.ahead
+abbrev pub turn_moment : {S K C : Type 0} → PortEnds S K C → Option ℕ
+turn_moment p = moment_ahead p.ahead
 
 -- an input with one more arrival in front
-abbrev pub with_first : Arrival → Input → Input
-with_first a input = record { arrivals = a ∷ input.arrivals; ending = input.ending }
+abbrev pub with_arrival : Arrival → Input → Input
+with_arrival a input = record { arrivals = a ∷ input.arrivals; ending = input.ending }
 
 -- the reader goes on only where no read has failed
 abbrev pub IsReadable : State → Type 0
 IsReadable state = state ≢ Ended hows.Failed
 
 -- a frame has at most 1,518 octets, and a longer one more; a place is a number of 64 bits
-abbrev pub IsSound : State → Ahead → Type 0
-IsSound state ahead.Unread = IsReadable state
-IsSound state (ahead.Frame stamp len) = (len ≤ 1518) × IsReadable state
-IsSound state (ahead.Long stamp len) = (1518 < len) × IsReadable state
-IsSound state ahead.End = Unit {0}
-IsSound state (ahead.Malformed at) = at < 2 ^ 64
-IsSound state ahead.Failed = Unit {0}
-IsSound state ahead.Done = Unit {0}
+abbrev pub IsSoundAhead : State → Ahead → Type 0
+IsSoundAhead state ahead.Unread = IsReadable state
+IsSoundAhead state (ahead.Frame stamp len) = (len ≤ 1518) × IsReadable state
+IsSoundAhead state (ahead.Long stamp len) = (1518 < len) × IsReadable state
+IsSoundAhead state ahead.End = Unit {0}
+IsSoundAhead state (ahead.Malformed at) = at < 2 ^ 64
+IsSoundAhead state ahead.Failed = Unit {0}
+IsSoundAhead state ahead.Done = Unit {0}
 
 -- The next input was read, or the input has ended.
-abbrev pub IsKnown : Ahead → Type 0
-IsKnown ahead.Unread = ⊥
-IsKnown (ahead.Frame stamp len) = Unit {0}
-IsKnown (ahead.Long stamp len) = Unit {0}
-IsKnown ahead.End = Unit {0}
-IsKnown (ahead.Malformed at) = Unit {0}
-IsKnown ahead.Failed = Unit {0}
-IsKnown ahead.Done = Unit {0}
+abbrev pub IsReadAhead : Ahead → Type 0
+IsReadAhead ahead.Unread = ⊥
+IsReadAhead (ahead.Frame stamp len) = Unit {0}
+IsReadAhead (ahead.Long stamp len) = Unit {0}
+IsReadAhead ahead.End = Unit {0}
+IsReadAhead (ahead.Malformed at) = Unit {0}
+IsReadAhead ahead.Failed = Unit {0}
+IsReadAhead ahead.Done = Unit {0}
 
 -- With these octets left in the source this input comes, what was read of it in front. Behind a read that failed none
 -- comes, whatever is left.
-abbrev pub Gives : State → List ℕ → Ahead → List ℕ → Input → Type 0
-Gives state buf ahead.Unread octets input = Comes state octets input
-Gives state buf (ahead.Frame stamp len) octets input = (later : Input) × (input ≡ with_first (arrivals.Frame stamp (take len buf)) later) × Comes state octets later
-Gives state buf (ahead.Long stamp len) octets input = (later : Input) × (input ≡ with_first (arrivals.Long stamp len) later) × Comes state octets later
-Gives state buf ahead.End octets input = input ≡ ended hows.End
-Gives state buf (ahead.Malformed at) octets input = input ≡ ended (hows.Malformed at)
-Gives state buf ahead.Failed octets input = ⊥
-Gives state buf ahead.Done octets input = Unit {0}
+abbrev pub WillGive : State → List ℕ → Ahead → List ℕ → Input → Type 0
+WillGive state buf ahead.Unread octets input = Comes state octets input
+WillGive state buf (ahead.Frame stamp len) octets input = (later : Input) × (input ≡ with_arrival (arrivals.Frame stamp (take len buf)) later) × Comes state octets later
+WillGive state buf (ahead.Long stamp len) octets input = (later : Input) × (input ≡ with_arrival (arrivals.Long stamp len) later) × Comes state octets later
+WillGive state buf ahead.End octets input = input ≡ ended hows.End
+WillGive state buf (ahead.Malformed at) octets input = input ≡ ended (hows.Malformed at)
+WillGive state buf ahead.Failed octets input = ⊥
+WillGive state buf ahead.Done octets input = Unit {0}
 
 -- This input is still to come at the port, where its source tells what is left.
 abbrev pub WillCome : {S K C : Type 0} → (S → Option (List ℕ)) → PortEnds S K C → Input → Type 0
-WillCome left p input = IfSome (left p.ends.source) (λ octets. Gives p.reader p.buf p.ahead octets input)
+WillCome left p input = IfSome (left p.ends.source) (λ octets. WillGive p.reader p.buf p.ahead octets input)
 
 -- The octets that were taken from the source for what is known next are that arrival, or the input ends with them, or a
 -- read failed behind them.
@@ -105,12 +105,12 @@ pub record IsLooked {S K C : Type 0} (left : S → Option (List ℕ)) (faults : 
   pub port : new.port ≡ old.port
   pub sink : new.ends.sink ≡ old.ends.sink
   pub clock : new.ends.clock ≡ old.ends.clock
-  pub known : IsKnown new.ahead
-  pub sound : IsSound new.reader new.ahead
+  pub known : IsReadAhead new.ahead
+  pub sound : IsSoundAhead new.reader new.ahead
   pub later : faults old.ends.source ≤ faults new.ends.source
   pub gave : (octets : List ℕ) × Takes (left old.ends.source) (left new.ends.source) octets
   pub comes : (input : Input) → WillCome left new input → WillCome left old input
-  pub same : IsKnown old.ahead → new ≡ old
+  pub same : IsReadAhead old.ahead → new ≡ old
   pub done : new.ahead ≡ ahead.Done → old.ahead ≡ ahead.Done
   pub read : old.ahead ≡ ahead.Unread → ReadsAhead left old new
   pub failed : old.ahead ≡ ahead.Unread → new.ahead ≡ ahead.Failed → Rose (faults old.ends.source) (faults new.ends.source)

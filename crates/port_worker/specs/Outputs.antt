@@ -54,7 +54,7 @@ abbrev pub ArePortsAllowed : Plan → Stops → Stops → List Row → Type 0
 ArePortsAllowed plan known stops past = All (λ q. Allows (known.ports q) (stops.ports q) (pieces_by plan empty q past)) (numbers_of plan.ports)
 
 -- More is known behind a step, and the step has made what that allows.
-pub record Follows (plan : Plan) (known later : Stops) (past now : List Row) (made : Stops → List Row) : Type 0 where
+pub record MovesOn (plan : Plan) (known later : Stops) (past now : List Row) (made : Stops → List Row) : Type 0 where
   pub before : (stops : Stops) → ArePortsAllowed plan later stops now → ArePortsAllowed plan known stops past
   pub made_so : (stops : Stops) → ArePortsAllowed plan later stops now → now ≡ made stops
 
@@ -62,7 +62,7 @@ pub record Follows (plan : Plan) (known later : Stops) (past now : List Row) (ma
 abbrev pub OutputsGoOn : {S K C : Type 0} → (K → Option (List ℕ)) → (K → ℕ) → Plan → List Row → List Row → List (PortEnds S K C) → List (PortEnds S K C) → (Stops → List Row) → Type 0
 OutputsGoOn {S} {K} {C} written faults plan past now old new made =
     (first : List (PortEnds S K C)) (known : Stops) → AreOutputs written faults plan known past first old
-    → (later : Stops) × AreOutputs written faults plan later now first new × Follows plan known later past now made
+    → (later : Stops) × AreOutputs written faults plan later now first new × MovesOn plan known later past now made
 
 -- What the end of a replay leaves of an output: the same was sent, and it ended, or it had failed and stays so.
 pub record IsOutputEnded (plan : Plan) (past now : List Row) (port : ℕ) : Type 0 where

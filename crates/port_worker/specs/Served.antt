@@ -17,7 +17,7 @@ use Rattle.savi_history.specs.PortInputs.{arrived, input_end}
 use Rattle.savi_history.specs.PortOutputs.{output_end, pieces, TookPieces, FitsOutputAt}
 use Rattle.savi_history.specs.Queues.{sent}
 use Rattle.savi_history.specs.Replay.{Stops, replayed}
-use Rattle.savi_core.specs.Machines.{number_at}
+use Rattle.savi_core.specs.Machines.{port_number_at}
 use Rattle.port_worker.specs.declared.control_ends.ControlEnds.{ControlEnds}
 use Rattle.port_worker.specs.declared.port_ends.PortEnds.{PortEnds}
 use Rattle.port_worker.specs.ControlServed.{ServesControl}
@@ -66,7 +66,7 @@ pub record ServesPorts (plan : Plan) (base : Base) (past : List Row) (HoldsContr
   pub replay : past ≡ replayed plan base lines inputs stops
   pub finished : IsFinished plan base past
   pub control : HoldsControl lines stops.control
-  pub each : (place : ℕ) (i : Input) → place < length plan.ports → Holds place (number_at plan place) (slice_index_or inputs place i) (stops.ports (number_at plan place))
+  pub each : (place : ℕ) (i : Input) → place < length plan.ports → Holds place (port_number_at plan place) (slice_index_or inputs place i) (stops.ports (port_number_at plan place))
 
 -- the same of the ends of control, where there are any, and of ends that are held in the order of the plan, each read on
 -- from where its reader stands

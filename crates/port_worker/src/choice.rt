@@ -2,7 +2,7 @@
 
 ghost use Rattle.std.specs.Prelude.{◌≡◌, ◌+◌, ◌<◌, ◌≤◌, ◌∷◌, ℕ, List, map, get_or, length, Option, None};
 ghost use Rattle.savi_history.specs.Picks.{IsPick};
-ghost use Rattle.port_worker.specs.Inputs.{moment_of};
+ghost use Rattle.port_worker.specs.Inputs.{turn_moment};
 ghost use Rattle.port_worker.specs.LineInputs.{control_moment};
 ghost use Rattle.port_worker.specs.Choices.{IsFirstOf};
 
@@ -15,7 +15,7 @@ pub(crate) fn next_of<S, K, C>(
     control: &Option<ControlEnds<S, K, C>>,
     ports: &[PortEnds<S, K, C>],
 ) -> Option<usize>
-    ensures { IsPick (control_moment control.now ∷ map moment_of ports.now) result }
+    ensures { IsPick (control_moment control.now ∷ map turn_moment ports.now) result }
 {
     let control_moment = match control {
         Some(control) => control.moment(),

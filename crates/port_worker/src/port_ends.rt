@@ -38,7 +38,7 @@ enum Ahead {
 }
 
 impl<S, K, C> PortEnds<S, K, C> {
-    ghost use Rattle.port_worker.specs.Inputs.{moment_of, IsReadable};
+    ghost use Rattle.port_worker.specs.Inputs.{turn_moment, IsReadable};
     ghost use Rattle.port_worker.specs.Replays.{IsUnread};
 
     /// The ends of a port, of which nothing was read yet, and the reader of its input.
@@ -75,7 +75,7 @@ impl<S, K, C> PortEnds<S, K, C> {
 
     // When the turn that was read comes: an ending at once, an arrival by its stamp.
     pub(crate) fn moment(&self) -> Option<u128>
-        ensures { result ≡ moment_of self.now }
+        ensures { result ≡ turn_moment self.now }
     {
         match self.ahead {
             Ahead::Unread | Ahead::Done => None,
@@ -88,11 +88,11 @@ impl<S, K, C> PortEnds<S, K, C> {
 }
 
 impl<S: Source, K, C: Clock> PortEnds<S, K, C> {
-    ghost use Rattle.port_worker.specs.Inputs.{IsSound, IsLooked};
+    ghost use Rattle.port_worker.specs.Inputs.{IsSoundAhead, IsLooked};
 
     // Reads what comes next, where that isn't known.
     pub(crate) fn look(&mut self)
-        requires { IsSound self.old.reader self.old.ahead }
+        requires { IsSoundAhead self.old.reader self.old.ahead }
         ensures { IsLooked S.left S.faults self.old self.new }
     {
         let Ahead::Unread = self.ahead else {
@@ -118,7 +118,7 @@ impl<S, K, C> PortEnds<S, K, C> {
     ghost use Rattle.savi_history.specs.Legal.{IsOpen, MayEnd};
     ghost use Rattle.savi_history.specs.Events.{End};
     ghost use Rattle.savi_core.specs.Machines.{with_event};
-    ghost use Rattle.port_worker.specs.Inputs.{IsSound, turn_of};
+    ghost use Rattle.port_worker.specs.Inputs.{IsSoundAhead, turn_of};
     ghost use Rattle.port_worker.specs.Steps.{Enters, IsFullAt, IfFull, IfDone};
     ghost use Rattle.port_worker.specs.declared.port_ends.Ahead.TheVariants as ahead;
 
@@ -126,7 +126,7 @@ impl<S, K, C> PortEnds<S, K, C> {
     // ended, and its end was entered.
     pub(crate) fn enter(&mut self, core: &mut Core) -> bool
         requires known { IsSome (turn_of self.old) }
-        requires sound { IsSound self.old.reader self.old.ahead }
+        requires sound { IsSoundAhead self.old.reader self.old.ahead }
         requires open { IsOpen core.old.plan empty core.old.past (Ingress self.old.port) }
         ensures plan { core.new.plan ≡ core.old.plan }
         ensures entered { IfSome (turn_of self.old) (λ turn. Enters core.old.plan self.old.port turn core.old.past result core.new.past) }

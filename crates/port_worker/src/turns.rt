@@ -14,7 +14,7 @@ ghost use Rattle.savi_history.specs.Events.{End};
 ghost use Rattle.savi_history.specs.Replay.{entered, with_end, egress_ended, with_event};
 ghost use Rattle.port_worker.specs.declared.port_ends.PortEnds.{PortEnds};
 ghost use Rattle.port_worker.specs.Pairs.{EachPair};
-ghost use Rattle.port_worker.specs.Inputs.{IsSound, turn_of};
+ghost use Rattle.port_worker.specs.Inputs.{IsSoundAhead, turn_of};
 ghost use Rattle.port_worker.specs.LineInputs.{IsControlUnheard};
 ghost use Rattle.port_worker.specs.SentFrames.{OnlySink};
 ghost use Rattle.port_worker.specs.Steps.{IsStepped, ends_input, ahead_after};
@@ -136,7 +136,7 @@ fn advance<S, K: Sink, C>(
     requires planned { ports_held ports.old ≡ ports_planned core.old.plan }
     requires rising { IsStrictlyIncreasing (numbers_of core.old.plan.ports) }
     requires depth { core.old.plan.depth ≤ 256 }
-    requires sound { All (λ p. IsSound p.reader p.ahead) ports.old }
+    requires sound { All (λ p. IsSoundAhead p.reader p.ahead) ports.old }
     requires known { (d : PortEnds S K C) → IsSome (turn_of (slice_index_or ports.old place d)) }
     requires open { (d : PortEnds S K C) → IsOpen core.old.plan empty core.old.past (Ingress (slice_index_or ports.old place d).port) }
     requires quiet { All (λ p. queue core.old.plan empty (number_of p.port) core.old.past ≡ []) ports.old }

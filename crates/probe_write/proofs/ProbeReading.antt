@@ -18,7 +18,7 @@ use Rattle.nd_read.specs.declared.message.NdFault.TheVariants.{HopLimit, Code, S
 use Rattle.nd_read.specs.Messages.{named, target_of, IsNs, behind_fixed}
 use Rattle.nd_read.specs.Options.{NdOption, AreOptions, IsWhole, HasKind, octets_of}
 use Rattle.nd_read.specs.Tests.{Passes, Reads, solicited_node}
-use Rattle.probe_write.specs.ProbeFrame.{no_address, solicited_node_of, group_mac_of, solicitation_with, solicitation_of, ethernet_of, header_octets, probe_of}
+use Rattle.probe_write.specs.ProbeFrame.{no_address, solicited_node_of, group_mac_of, solicitation_with, solicitation_of, ethernet_octets, header_octets, probe_of}
 use Rattle.probe_write.specs.ProbeReading.{ip_of, AsksFor}
 use Rattle.probe_write.proofs.ProbeOctets.{length-solicitation, field_is}
 use Rattle.v6_sum.proofs.Checksums.{checksum-filled}
@@ -29,7 +29,7 @@ use Rattle.v6_sum.specs.InternetChecksum.{with_word_at}
 pub packet_is : (mac : Mac) (target : Addr) → length mac.0 ≡ 6 → drop 14 (probe_of mac target) ≡ header_octets target ++ solicitation_of target
 unfolding probe_of
 packet_is mac target six =
-    let ethernet = ethernet_of mac target in
+    let ethernet = ethernet_octets mac target in
     let len : length ethernet ≡ 14 = omega (arith, six, length-append (group_mac_of (solicited_node_of target) ++ mac.0) (134 ∷ 221 ∷ []), length-append (group_mac_of (solicited_node_of target)) mac.0) in
     ap (drop 14) (append_assoc ethernet (header_octets target) (solicitation_of target)) ∙ drop_at ethernet (header_octets target ++ solicitation_of target) 14 len
 
@@ -103,7 +103,7 @@ solicitation_reads target sum fits single right = (named-back target sum fits, �
 pub length-probe : (mac : Mac) (target : Addr) → length (probe_of mac target) ≡ length mac.0 + 72
 unfolding probe_of
 length-probe mac target =
-    let ethernet = ethernet_of mac target in
+    let ethernet = ethernet_octets mac target in
     let sol = length-solicitation target (checksum no_address (solicited_node_of target) 58 (solicitation_with target 0)) in
     omega (arith, sol, length-append (ethernet ++ header_octets target) (solicitation_of target), length-append ethernet (header_octets target), length-append (group_mac_of (solicited_node_of target) ++ mac.0) (134 ∷ 221 ∷ []), length-append (group_mac_of (solicited_node_of target)) mac.0)
 

@@ -29,8 +29,8 @@ solicitation_of target =
     solicitation_with target (checksum no_address (solicited_node_of target) 58 (solicitation_with target 0))
 
 -- the Ethernet header: destination, source, the type of IPv6
-abbrev pub ethernet_of : Mac → Addr → List ℕ
-ethernet_of mac target = group_mac_of (solicited_node_of target) ++ mac.0 ++ to_be_bytes w16 0x86dd
+abbrev pub ethernet_octets : Mac → Addr → List ℕ
+ethernet_octets mac target = group_mac_of (solicited_node_of target) ++ mac.0 ++ to_be_bytes w16 0x86dd
 
 -- the IPv6 header: version 6, class and flow 0; payload length 24; ICMPv6; hop limit 255; from :: to the group
 abbrev pub header_octets : Addr → List ℕ
@@ -38,4 +38,4 @@ header_octets target =
     0x60 ∷ 0 ∷ 0 ∷ 0 ∷ to_be_bytes w16 24 ++ 58 ∷ 255 ∷ to_be_bytes w128 unspecified ++ to_be_bytes w128 (solicited_node_of target).0
 
 unfoldable pub probe_of : Mac → Addr → List ℕ
-probe_of mac target = ethernet_of mac target ++ header_octets target ++ solicitation_of target
+probe_of mac target = ethernet_octets mac target ++ header_octets target ++ solicitation_of target

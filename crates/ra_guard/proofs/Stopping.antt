@@ -23,7 +23,7 @@ use Rattle.frame_class.specs.declared.classes.Read.TheVariants.{Hidden, Icmp, Ud
 use Rattle.frame_class.specs.Reading.{ipv6_type, IsMessageRead, IsReadBy, IsReadOf, IsClassOf}
 use Rattle.frame_class.proofs.OneClass.{refused_not_packet, tag_not_ipv6}
 use Rattle.ra_guard.specs.Guard.{Applies, IsFirst, link_local_unicast}
-use Rattle.ra_guard.specs.Refused.{IsStopped, IsAdvertFrame, IsHiddenFrame}
+use Rattle.ra_guard.specs.Refused.{GuardStops, IsAdvertFrame, IsHiddenFrame}
 
 -- a frame that carries a packet has the class of one
 pub record IsPacketOf (frame : List ℕ) (ip : Ip) (class : Class) : Type 0 where
@@ -70,13 +70,13 @@ advert_read role drop_unknown eth ip (Udp to first behind dhcp) message fragment
 advert_read role drop_unknown eth ip Plain message fragmented validating is advert source hop = absurd (is.0 refl)
 advert_read role drop_unknown eth ip _ message fragmented validating is advert source hop = absurd is
 
-pub hidden_frames : IsStopped IsHiddenFrame 7
+pub hidden_frames : GuardStops IsHiddenFrame 7
 hidden_frames frame class role drop_unknown rule has is validating first =
     let packet : IsPacketOf frame has.ip class = packet_class frame class has.ip has.ipv6 has.packet is in
     let hidden : packet.read ≡ Hidden = read_by has.ip (payload_of frame) chains.Hidden packet.read has.hidden packet.reads in
     given_up_to (Applies role drop_unknown class) HiddenUpper rule (hidden_applies role drop_unknown class packet.eth has.ip packet.read validating packet.is hidden) first
 
-pub advert_frames : IsStopped IsAdvertFrame 9
+pub advert_frames : GuardStops IsAdvertFrame 9
 advert_frames frame class role drop_unknown rule has is validating first =
     let payload : List ℕ = payload_of frame in
     let packet : IsPacketOf frame has.ip class = packet_class frame class has.ip has.ipv6 has.packet is in

@@ -34,8 +34,8 @@ pub record IsHiddenFrame (frame : List ℕ) : Type 0 where
   pub hidden : HidesUpper ip (payload_of frame)
 
 -- the guard stops each frame with this property, at a port whose sources are validated, by a rule up to this number
-abbrev pub IsStopped : (List ℕ → Type 0) → ℕ → Type 0
-IsStopped Has most =
+abbrev pub GuardStops : (List ℕ → Type 0) → ℕ → Type 0
+GuardStops Has most =
     (frame : List ℕ) (class : Class) (role : Role) (drop_unknown : Bool) (rule : Option Rule)
     → Has frame → IsClassOf frame class → role ≢ Trusted → IsFirst (Applies role drop_unknown class) rule
     → IsSomeAnd rule (λ given. rule_number given ≤ most)

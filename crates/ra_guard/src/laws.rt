@@ -6,18 +6,18 @@ ghost use Rattle.savi_kinds.specs.declared.verdict.Rule.{Rule};
 ghost use Rattle.frame_class.specs.declared.classes.Class.{Class};
 ghost use Rattle.ra_guard.specs.Guard.{Applies, IsFirst};
 ghost use Rattle.ra_guard.specs.GuardOf.{guard_of};
-ghost use Rattle.ra_guard.specs.Refused.{IsStopped, IsAdvertFrame, IsHiddenFrame};
+ghost use Rattle.ra_guard.specs.Refused.{GuardStops, IsAdvertFrame, IsHiddenFrame};
 
 /// A frame whose header chain shows an ICMPv6 message of type 134, with a source in fe80::/10 and hop limit 255, passes no
 /// port of a host or a server: a rule up to `RouterAdvert` stops it (RFC 6105, RFC 7113).
 pub fn adverts_are_refused()
-    ensures { IsStopped IsAdvertFrame 9 }
+    ensures { GuardStops IsAdvertFrame 9 }
 {}
 
 /// A first fragment whose header chain is cut passes no port of a host or a server: a rule up to `HiddenUpper` stops it
 /// (RFC 7112 section 5).
 pub fn hidden_fragments_are_refused()
-    ensures { IsStopped IsHiddenFrame 7 }
+    ensures { GuardStops IsHiddenFrame 7 }
 {}
 
 /// A frame of each class has one rule or none that stops it at a port of each role, and `guard_of` computes it.

@@ -29,8 +29,8 @@ pub record IsRefused {S : Type 0} (replay : Bool) (left : S → Option (List ℕ
   pub cause : fault ≢ NoMemory
 
 -- the end that is kept in a place has a fault; it had none when it was handed out
-abbrev pub HasFault : {X : Type 0} → (X → ℕ) → Place X → Type 0
-HasFault faults place = IsSomeAnd place.stands (λ x. 0 < faults x)
+abbrev pub EndHasFault : {X : Type 0} → (X → ℕ) → Place X → Type 0
+EndHasFault faults place = IsSomeAnd place.stands (λ x. 0 < faults x)
 
 -- what was read of a text: the whole of it, or a front that is longer than a configuration may be
 abbrev pub IsWholeOrLong : List ℕ → List ℕ → Type 0

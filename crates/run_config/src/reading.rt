@@ -6,7 +6,7 @@ ghost use Rattle.savi_ends.specs.Faults.{Rose};
 ghost use Rattle.savi_ends.specs.Places.{IsReady, OthersStay};
 ghost use Rattle.savi_conf.specs.declared.fault.ConfFault.{ConfFault};
 ghost use Rattle.run_config.specs.declared.refusal.Refusal.{Refusal};
-ghost use Rattle.run_config.specs.Configs.{HasFault, IsBuilt, IsConfigured, IsReadFrom, IsRefused, IsWholeOrLong, TakesFew};
+ghost use Rattle.run_config.specs.Configs.{EndHasFault, IsBuilt, IsConfigured, IsReadFrom, IsRefused, IsWholeOrLong, TakesFew};
 
 use crate::refusal::Refusal;
 use savi_conf::{ConfFault, OCTETS_MOST, read_plan};
@@ -39,7 +39,7 @@ pub fn configure<W: World>(
     ensures configured { IfOk result (IsConfigured replay W.S.left ((W.book world.old).inputs file.now)) }
     ensures refused { (fault : ConfFault) → result ≡ Err (Refusal.Refused fault) → IsRefused replay W.S.left ((W.book world.old).inputs file.now) fault }
     ensures unopened { result ≡ Err Refusal.CannotOpen → Rose (W.book world.old).faults (W.book world.new).faults }
-    ensures unread { result ≡ Err Refusal.ReadFailed → HasFault W.S.faults ((W.book world.new).inputs file.now) }
+    ensures unread { result ≡ Err Refusal.ReadFailed → EndHasFault W.S.faults ((W.book world.new).inputs file.now) }
 
     ensures as_it_was { result ≡ Err Refusal.CannotOpen → (W.book world.new).inputs file.now ≡ (W.book world.old).inputs file.now }
     ensures kept { result ≢ Err Refusal.CannotOpen → result ≢ Err Refusal.NoMemory → IsReadFrom W.S.left ((W.book world.old).inputs file.now) ((W.book world.new).inputs file.now) }

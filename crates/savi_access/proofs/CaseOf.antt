@@ -33,8 +33,8 @@ use Rattle.addr_history.specs.States.{outcome_by, state_of}
 use Rattle.savi_access.specs.Rules.{AccessRules, AccessBase}
 use Rattle.savi_access.specs.Marks.{Mark, Met, told, open_requests}
 use Rattle.savi_access.specs.Frames.{dad_target, advertised, is_router_solicitation, is_listener_message, dhcp_to, is_asking, gives_up}
-use Rattle.savi_access.specs.Judged.{Judged, judged, judged_by, judged_for, validated, trusted, heard_or, unspecified, unspecified_by, sourced, followed, message, message_by, dhcp_or_other, to_server, to_server_by, to_client_or_other, to_client, replied, replied_by, asked_by, answered, answered_or, named_for, with_event, with_events, is_on_link, is_passed, comes_to, passes, drops}
-use Rattle.savi_access.specs.Cases.{HasRow, Is, AreTold, none, on_link, off_link, IsReply, met, unasked, nameless, no_reply, SaysMore, advertises, advertises_off_link, asks_in_vain, asks, asks_nameless, lets_go, to_client as to_clients, nothing, IsValidated, IsHeard, IsCase, guarded, off, other, heard, validated as by_source, AsksFor, LetsGo, ShowsNd, ShowsDhcp, ShowsListener, IsOtherFrame}
+use Rattle.savi_access.specs.Judged.{Judged, judged, judged_by, judged_for, validated, trusted, heard_or, from_unspecified, unspecified_by, sourced, followed, message, message_by, dhcp_or_other, to_server, to_server_by, to_client_or_other, to_client, replied, replied_by, asked_by, answered, answered_or, named_for, with_event, with_events, is_on_link, is_passed, comes_to, passes, drops}
+use Rattle.savi_access.specs.Cases.{HasRow, Is, AreTold, none, on_link, off_link, IsReply, met, unasked, nameless, no_reply, SaysMore, advertises, advertises_off_link, asks_in_vain, asks, asks_nameless, lets_go, to_client as to_clients, nothing, IsValidated, IsHeard, IsCase, guarded, off, other, heard, validated as by_source, AsksForAddresses, LetsGo, ShowsNd, ShowsDhcp, ShowsListener, IsOtherFrame}
 use Rattle.savi_access.specs.Cases as cases
 use Rattle.savi_access.proofs.States.{true_not_false, none_some}
 
@@ -90,10 +90,10 @@ dhcp-shown port read dhcp is = search rules
 dhcp-unshown : (port : ℕ) (read : Read) → dhcp_to port read ≡ None → (dhcp : Dhcp) → ¬ ShowsDhcp port dhcp read
 dhcp-unshown port read is dhcp shows = search rules
 
-asking : (dhcp : Dhcp) → is_asking dhcp ≡ true → AsksFor dhcp
+asking : (dhcp : Dhcp) → is_asking dhcp ≡ true → AsksForAddresses dhcp
 asking dhcp is = search rules
 
-not_asking : (dhcp : Dhcp) → is_asking dhcp ≡ false → ¬ AsksFor dhcp
+not_asking : (dhcp : Dhcp) → is_asking dhcp ≡ false → ¬ AsksForAddresses dhcp
 not_asking dhcp is asks_so = search rules
 
 giving : (dhcp : Dhcp) → gives_up dhcp ≡ true → LetsGo dhcp
@@ -173,18 +173,18 @@ module _ (r : AccessRules) (base : AccessBase) (vlan : ℕ) (port : Port) (t : �
         neither dhcp (inl shows) = dhcp-unshown 547 read server dhcp shows
         neither dhcp (inr shows) = dhcp-unshown 546 read is dhcp shows
 
-    asked_is : (dhcp : Dhcp) (duid : ArrayVec ℕ) (o : Option Rule) → ShowsDhcp 547 dhcp read → AsksFor dhcp → dhcp.duid ≡ Some duid → refusal (number_of port) dhcp.tid duid.items (open_requests base vlan past t) ≡ o
+    asked_is : (dhcp : Dhcp) (duid : ArrayVec ℕ) (o : Option Rule) → ShowsDhcp 547 dhcp read → AsksForAddresses dhcp → dhcp.duid ≡ Some duid → refusal (number_of port) dhcp.tid duid.items (open_requests base vlan past t) ≡ o
         → SaysMore r base vlan port t past read (asked_by r base vlan port t past dhcp.tid duid.items o)
     asked_is dhcp duid (Some rule) shows asks_so named refused = asks_in_vain dhcp duid rule shows asks_so named refused (refl, refl, refl)
     asked_is dhcp duid None shows asks_so named free = asks dhcp duid shows asks_so named free (refl, refl, refl)
 
-    asking_is : (dhcp : Dhcp) (d : Option (ArrayVec ℕ)) → ShowsDhcp 547 dhcp read → AsksFor dhcp → ¬ LetsGo dhcp → gives_up dhcp ≡ false → dhcp.duid ≡ d → SaysMore r base vlan port t past read (to_server_by r base vlan port t past dhcp d)
+    asking_is : (dhcp : Dhcp) (d : Option (ArrayVec ℕ)) → ShowsDhcp 547 dhcp read → AsksForAddresses dhcp → ¬ LetsGo dhcp → gives_up dhcp ≡ false → dhcp.duid ≡ d → SaysMore r base vlan port t past read (to_server_by r base vlan port t past dhcp d)
     asking_is dhcp (Some duid) shows asks_so not_go not named = asked_is dhcp duid (refusal (number_of port) dhcp.tid duid.items (open_requests base vlan past t)) shows asks_so named refl
     asking_is dhcp None shows asks_so not_go not named =
         subst (λ b. SaysMore r base vlan port t past read (passes (if b then with_events r base vlan port t (λ lease. Release port) dhcp.leases.items past else past))) (sym not)
         (asks_nameless dhcp shows asks_so named (refl, refl, refl))
 
-    quiet_is : (dhcp : Dhcp) → ShowsDhcp 547 dhcp read → ¬ AsksFor dhcp → SaysMore r base vlan port t past read (to_server_by r base vlan port t past dhcp None)
+    quiet_is : (dhcp : Dhcp) → ShowsDhcp 547 dhcp read → ¬ AsksForAddresses dhcp → SaysMore r base vlan port t past read (to_server_by r base vlan port t past dhcp None)
     quiet_is dhcp shows not_asks =
         elim (cases_Bool (gives_up dhcp)) [
           | inl gives ↦ subst (λ b. SaysMore r base vlan port t past read (passes (if b then with_events r base vlan port t (λ lease. Release port) dhcp.leases.items past else past))) (sym gives)
@@ -255,12 +255,12 @@ module _ (r : AccessRules) (base : AccessBase) (vlan : ℕ) (port : Port) (t : �
         (λ row. followed_is source (answered r base vlan port t past ip.src.0 (Sent port)) row)
         (λ gone. cases.off_link source gone (refl, refl, refl))
 
-    packet_is : IsValidated r base vlan port t past ip read (if ip.src.0 == 0 then unspecified r base vlan port t past ip read else sourced r base vlan port t past ip read)
+    packet_is : IsValidated r base vlan port t past ip read (if ip.src.0 == 0 then from_unspecified r base vlan port t past ip read else sourced r base vlan port t past ip read)
     packet_is =
         elim (cases_Bool (ip.src.0 == 0)) [
-          | inl zero ↦ subst (λ b. IsValidated r base vlan port t past ip read (if b then unspecified r base vlan port t past ip read else sourced r base vlan port t past ip read)) (sym zero)
+          | inl zero ↦ subst (λ b. IsValidated r base vlan port t past ip read (if b then from_unspecified r base vlan port t past ip read else sourced r base vlan port t past ip read)) (sym zero)
               (unspecified_is (eqb-true ip.src.0 0 zero) (dad_target read) refl)
-          | inr not ↦ subst (λ b. IsValidated r base vlan port t past ip read (if b then unspecified r base vlan port t past ip read else sourced r base vlan port t past ip read)) (sym not)
+          | inr not ↦ subst (λ b. IsValidated r base vlan port t past ip read (if b then from_unspecified r base vlan port t past ip read else sourced r base vlan port t past ip read)) (sym not)
               (sourced_is (λ zero. true_not_false (ip.src.0 == 0) (eq-eqb ip.src.0 0 zero) not))
         ]
 

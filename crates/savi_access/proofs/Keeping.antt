@@ -34,7 +34,7 @@ use Rattle.savi_access.specs.Rules.{AccessRules, AccessBase, IsRequestOf, IsAcce
 use Rattle.savi_access.specs.Marks.{Mark, Told, Asked, Met, told, moment_of, newest_moment, requests_after, open_requests}
 use Rattle.savi_access.specs.Legal.{Follows, AreMarks, HasFront}
 use Rattle.savi_access.specs.Frames.{HasLifetimes, ShowsLifetimes, AreLifetimes, dad_target, advertised, dhcp_to, is_router_solicitation, is_listener_message, asking_duid, answered_duid, gives_up}
-use Rattle.savi_access.specs.Judged.{Judged, judged, judged_by, judged_for, validated, trusted, heard_or, unspecified, unspecified_by, sourced, message, message_by, dhcp_or_other, to_server_by, to_client_or_other, replied, replied_by, asked, asked_by, answered, answered_or, named_for, with_event, with_events, is_on_link, is_passed, comes_to, passes, drops}
+use Rattle.savi_access.specs.Judged.{Judged, judged, judged_by, judged_for, validated, trusted, heard_or, from_unspecified, unspecified_by, sourced, message, message_by, dhcp_or_other, to_server_by, to_client_or_other, replied, replied_by, asked, asked_by, answered, answered_or, named_for, with_event, with_events, is_on_link, is_passed, comes_to, passes, drops}
 use Rattle.savi_access.proofs.States.{none_some, true_not_false, told_before}
 
 module _ (r : AccessRules) (base : AccessBase) (is : IsAccessBase r base) (vlan : ℕ) (port : Port) (t : ℕ) (early : t ≤ 2 ^ 62) where
@@ -241,7 +241,7 @@ module _ (r : AccessRules) (base : AccessBase) (is : IsAccessBase r base) (vlan 
     unspecified_right past right ip read (Some target) = answered_right past right OffLink target (Dad port) (record { lease = tt; of_vlan = own; fix = λ rows a. tt })
     unspecified_right past right ip read None = excepted_right (is_router_solicitation read || is_listener_message ip read) past right
 
-    packet_right : (b : Bool) (past : List Mark) → Right past → (ip : Ip) (read : Read) → ShowsLifetimes read → Right (if b then unspecified r base vlan port t past ip read else sourced r base vlan port t past ip read).marks
+    packet_right : (b : Bool) (past : List Mark) → Right past → (ip : Ip) (read : Read) → ShowsLifetimes read → Right (if b then from_unspecified r base vlan port t past ip read else sourced r base vlan port t past ip read).marks
     packet_right true past right ip read short = unspecified_right past right ip read (dad_target read)
     packet_right false past right ip read short =
         let sent : Judged = answered_or r base vlan port t OffLink past ip.src.0 (Sent port) in

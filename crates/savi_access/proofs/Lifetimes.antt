@@ -19,7 +19,7 @@ use Rattle.dhcp6_read.specs.declared.message.Lease.{Lease}
 use Rattle.dhcp6_read.specs.Options.{DhcpOption, OptionsRead, option_code}
 use Rattle.dhcp6_read.specs.Levels.{Said, row_says, status_says, in_address, lease_of, address_says, in_ia, ia_says, duid_says, in_message}
 use Rattle.dhcp6_read.specs.Message.{read_whole, unless_fault, reading, is_relayed, kind_of as dhcp_kind}
-use Rattle.dhcp6_read.specs.DhcpOf.{begins_whole, front_option, behind_front, in_front, no_option, row_within, option_row, dhcp_of}
+use Rattle.dhcp6_read.specs.DhcpOf.{begins_whole, front_option, behind_front, with_option, no_option, row_within, option_row, dhcp_of}
 use Rattle.frame_class.specs.declared.classes.Class.{Class}
 use Rattle.frame_class.specs.declared.classes.Read.{Read}
 use Rattle.frame_class.specs.declared.classes.Read.TheVariants.{Udp}
@@ -49,7 +49,7 @@ abbrev HaveBytes : List DhcpOption → Type 0
 HaveBytes [] = Unit {0}
 HaveBytes (option ∷ options) = IsBytes option.content × HaveBytes options
 
-row_at : (b : Bool) (octets : List ℕ) (row : OptionsRead) → IsBytes octets → HaveBytes row.options → HaveBytes (if b then in_front (front_option octets) row else no_option octets).options
+row_at : (b : Bool) (octets : List ℕ) (row : OptionsRead) → IsBytes octets → HaveBytes row.options → HaveBytes (if b then with_option (front_option octets) row else no_option octets).options
 row_at true octets row bytes rest = (bytes_take (big_number 2 (drop 2 octets)) (drop 4 octets) (bytes_drop 4 octets bytes), rest)
 row_at false octets row bytes rest = tt
 

@@ -29,7 +29,7 @@ use Rattle.savi_access.specs.Rules.{AccessRules, AccessBase, IsAccessBase}
 use Rattle.savi_access.specs.Marks.{Mark, newest_moment, open_requests}
 use Rattle.savi_access.specs.Legal.{AreMarks}
 use Rattle.savi_access.specs.Frames.{dad_target, advertised, is_router_solicitation, is_listener_message, dhcp_to, asking_duid}
-use Rattle.savi_access.specs.Judged.{Judged, judged, judged_by, judged_for, validated, unspecified, unspecified_by, sourced, followed, message, message_by, dhcp_or_other, to_server_by, to_client_or_other, passes, asked_by, answered, answered_or, with_event, answer_to, is_passed, comes_to, drops}
+use Rattle.savi_access.specs.Judged.{Judged, judged, judged_by, judged_for, validated, from_unspecified, unspecified_by, sourced, followed, message, message_by, dhcp_or_other, to_server_by, to_client_or_other, passes, asked_by, answered, answered_or, with_event, answer_to, is_passed, comes_to, drops}
 use Rattle.savi_access.specs.Access.{IsIpv6, IsLiveHere, AdvertisesOther, IsRefusedRequest, IsPermitted, HasAccess}
 use Rattle.savi_access.proofs.Keeping.{told_follows}
 use Rattle.savi_access.proofs.States.{true_not_false, none_some, state_now, alive_or_not, off_link, sent_passes, na_passes, dad_passes, same_target}
@@ -276,9 +276,9 @@ module _ (r : AccessRules) (base : AccessBase) (is : IsAccessBase r base) (vlan 
   validated_is : (eth : Eth) (ip : Ip) (read : Read) → r.addresses.method_of vlan 0 ≡ None → (Passes (validated r base vlan port t past (Ip6 eth ip read)) ↔ ((¬ (IsSome {T = Rule} None ⊎ Wrong read)) × (IsLiveHere r base vlan port t past ip.src.0 ⊎ IsPermitted r base vlan port t past ip read)))
   validated_is eth ip read off =
       elim (cases_Bool (ip.src.0 == 0)) [
-        | inl zero ↦ subst (λ b. Passes (if b then unspecified r base vlan port t past ip read else sourced r base vlan port t past ip read) ↔ ((¬ (IsSome {T = Rule} None ⊎ Wrong read)) × (IsLiveHere r base vlan port t past ip.src.0 ⊎ IsPermitted r base vlan port t past ip read))) (sym zero)
+        | inl zero ↦ subst (λ b. Passes (if b then from_unspecified r base vlan port t past ip read else sourced r base vlan port t past ip read) ↔ ((¬ (IsSome {T = Rule} None ⊎ Wrong read)) × (IsLiveHere r base vlan port t past ip.src.0 ⊎ IsPermitted r base vlan port t past ip read))) (sym zero)
             (unspecified_is ip read (eqb-true ip.src.0 0 zero) off (dad_target read) refl)
-        | inr other ↦ subst (λ b. Passes (if b then unspecified r base vlan port t past ip read else sourced r base vlan port t past ip read) ↔ ((¬ (IsSome {T = Rule} None ⊎ Wrong read)) × (IsLiveHere r base vlan port t past ip.src.0 ⊎ IsPermitted r base vlan port t past ip read))) (sym other)
+        | inr other ↦ subst (λ b. Passes (if b then from_unspecified r base vlan port t past ip read else sourced r base vlan port t past ip read) ↔ ((¬ (IsSome {T = Rule} None ⊎ Wrong read)) × (IsLiveHere r base vlan port t past ip.src.0 ⊎ IsPermitted r base vlan port t past ip read))) (sym other)
             (followed_is ip read (λ zero. true_not_false (ip.src.0 == 0) (eq-eqb ip.src.0 0 zero) other))
       ]
 

@@ -35,8 +35,8 @@ use Rattle.savi_access.specs.Judged.{Judged}
 
 -- the types of DHCPv6 messages (RFC 8415 section 7.3) by which a client asks for addresses that a Reply may give: Request,
 -- Renew, Rebind, and a Solicit with rapid commit
-abbrev pub AsksFor : Dhcp → Type 0
-AsksFor dhcp = (dhcp.kind ≡ 3) ⊎ ((dhcp.kind ≡ 5) ⊎ ((dhcp.kind ≡ 6) ⊎ ((dhcp.kind ≡ 1) × (dhcp.rapid ≡ true))))
+abbrev pub AsksForAddresses : Dhcp → Type 0
+AsksForAddresses dhcp = (dhcp.kind ≡ 3) ⊎ ((dhcp.kind ≡ 5) ⊎ ((dhcp.kind ≡ 6) ⊎ ((dhcp.kind ≡ 1) × (dhcp.rapid ≡ true))))
 
 -- by which it doesn't keep them: Release and Decline
 abbrev pub LetsGo : Dhcp → Type 0
@@ -101,13 +101,13 @@ module _ (r : AccessRules) (base : AccessBase) (vlan : ℕ) (port : Port) (t : �
     advertises : (target : ℕ) (flags : ℕ) → ShowsNd (messages.Na (record { 0 = target }) flags) read → HasRow past target (Na port) judged → SaysMore past read judged
     advertises_off_link : (target flags : ℕ) → ShowsNd (messages.Na (record { 0 = target }) flags) read → r.addresses.method_of vlan target ≡ None → Is judged (Drop NaTarget) past → SaysMore past read judged
     -- RFC 7513 section 6
-    asks_in_vain : (dhcp : Dhcp) (duid : ArrayVec ℕ) (rule : Rule) → ShowsDhcp 547 dhcp read → AsksFor dhcp → dhcp.duid ≡ Some duid
+    asks_in_vain : (dhcp : Dhcp) (duid : ArrayVec ℕ) (rule : Rule) → ShowsDhcp 547 dhcp read → AsksForAddresses dhcp → dhcp.duid ≡ Some duid
         → refusal (number_of port) dhcp.tid duid.items (open_requests base vlan past t) ≡ Some rule → Is judged (Drop rule) past → SaysMore past read judged
-    asks : (dhcp : Dhcp) (duid : ArrayVec ℕ) → ShowsDhcp 547 dhcp read → AsksFor dhcp → dhcp.duid ≡ Some duid
+    asks : (dhcp : Dhcp) (duid : ArrayVec ℕ) → ShowsDhcp 547 dhcp read → AsksForAddresses dhcp → dhcp.duid ≡ Some duid
         → refusal (number_of port) dhcp.tid duid.items (open_requests base vlan past t) ≡ None → Is judged (Pass All) (Asked vlan (request_of port dhcp.tid duid.items t) ∷ past) → SaysMore past read judged
-    asks_nameless : (dhcp : Dhcp) → ShowsDhcp 547 dhcp read → AsksFor dhcp → dhcp.duid ≡ None → Is judged (Pass All) past → SaysMore past read judged
+    asks_nameless : (dhcp : Dhcp) → ShowsDhcp 547 dhcp read → AsksForAddresses dhcp → dhcp.duid ≡ None → Is judged (Pass All) past → SaysMore past read judged
     lets_go : (dhcp : Dhcp) (marks : List Mark) → ShowsDhcp 547 dhcp read → LetsGo dhcp → AreTold (λ lease. Release port) dhcp.leases.items past marks → Is judged (Pass All) marks → SaysMore past read judged
-    to_server : (dhcp : Dhcp) → ShowsDhcp 547 dhcp read → ¬ AsksFor dhcp → ¬ LetsGo dhcp → Is judged (Pass All) past → SaysMore past read judged
+    to_server : (dhcp : Dhcp) → ShowsDhcp 547 dhcp read → ¬ AsksForAddresses dhcp → ¬ LetsGo dhcp → Is judged (Pass All) past → SaysMore past read judged
     to_client : (dhcp : Dhcp) → ShowsDhcp 546 dhcp read → IsReply past dhcp judged → SaysMore past read judged
     nothing : ((target : ℕ) (flags : ℕ) → ¬ ShowsNd (messages.Na (record { 0 = target }) flags) read) → ((dhcp : Dhcp) → ¬ (ShowsDhcp 547 dhcp read ⊎ ShowsDhcp 546 dhcp read)) → Is judged (Pass All) past → SaysMore past read judged
 

@@ -102,8 +102,8 @@ module _ (r : AccessRules) (base : AccessBase) (vlan : ℕ) (port : Port) (t : �
   unspecified_by past ip read None =
       if is_router_solicitation read || is_listener_message ip read then comes_to (Pass TrustedOnly) past else drops UnspecifiedSource past
 
-  abbrev pub unspecified : List Mark → Ip → Read → Judged
-  unspecified past ip read = unspecified_by past ip read (dad_target read)
+  abbrev pub from_unspecified : List Mark → Ip → Read → Judged
+  from_unspecified past ip read = unspecified_by past ip read (dad_target read)
 
   -- a client asks for addresses: refused, or a request is opened or renewed
   abbrev pub asked_by : List Mark → ℕ → List ℕ → Option Rule → Judged
@@ -159,7 +159,7 @@ module _ (r : AccessRules) (base : AccessBase) (vlan : ℕ) (port : Port) (t : �
 
   -- a frame at a port whose sources are validated
   abbrev pub validated : List Mark → Class → Judged
-  validated past (Ip6 eth ip read) = if ip.src.0 == 0 then unspecified past ip read else sourced past ip read
+  validated past (Ip6 eth ip read) = if ip.src.0 == 0 then from_unspecified past ip read else sourced past ip read
   validated past _ = passes past
 
   -- what a packet at a trusted port tells of an on-link address

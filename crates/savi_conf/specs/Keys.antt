@@ -36,12 +36,12 @@ prefix_keys = record {
 }
 
 -- all keys that the table may have
-abbrev pub known : Keys → List (List ℕ)
-known keys = keys.texts ++ keys.integers ++ keys.arrays
+abbrev pub known_keys : Keys → List (List ℕ)
+known_keys keys = keys.texts ++ keys.integers ++ keys.arrays
 
 -- the table may have the key
 pub record IsKnown (keys : Keys) (key : List ℕ) : Type 0 where
-  pub among : Contains (known keys) key
+  pub among : Contains (known_keys keys) key
 
 -- each key of the table is one that it may have
 pub record HasOnly (keys : Keys) (t : Members) : Type 0 where

@@ -36,7 +36,7 @@ use Rattle.savi_history.specs.Vlans.{the_vlan}
 use Rattle.savi_history.specs.Passes.{has_port, place_of}
 use Rattle.savi_history.specs.Moments.{last_moment}
 use Rattle.savi_history.specs.Marks.{marks}
-use Rattle.savi_history.specs.Commands.{rows_after, refusal_of}
+use Rattle.savi_history.specs.Commands.{rows_told, refusal_of}
 use Rattle.savi_history.specs.Stations.{stations}
 use Rattle.savi_history.specs.Shown.{port_row, reply_to, reply_unless, shown, counts_of}
 use Rattle.savi_core.specs.Knows.{Knows}
@@ -78,7 +78,7 @@ newest_is rows n octets last is =
     ]
 
 refusal_by : (plan : Plan) (base : Base) (past : List Row) (r : Row) (act : Act) (refused : Option Refusal) → IsCommand act → IsRefusalBy plan base past r act refused
-    → refused ≡ refusal_of plan (rows_after plan (access_of base) (marks plan base past) r.entry.moment) (command_of r.octets)
+    → refused ≡ refusal_of plan (rows_told plan (access_of base) (marks plan base past) r.entry.moment) (command_of r.octets)
 refusal_by plan base past r (acts.Command stamp at len) refused is by = by
 refusal_by plan base past r (acts.Frame port stamp at len) refused is by = absurd is
 refusal_by plan base past r (acts.Long port stamp len) refused is by = absurd is

@@ -6,7 +6,7 @@ use Rattle.hist_store.specs.Rows.{Row}
 use Rattle.savi_history.specs.Bases.{Base}
 use Rattle.savi_history.specs.Passes.{has_ended, AllEnded}
 use Rattle.savi_history.specs.Queues.{queue}
-use Rattle.savi_core.specs.Counts.{open_below, waiting_at}
+use Rattle.savi_core.specs.Counts.{open_below, count_waiting}
 
 one_open : (b : Bool) → cond b 0 1 ≤ 1
 one_open true = omega arith
@@ -41,23 +41,23 @@ module _ (base : Base) (old new : List Row) (stays : (pass : ℕ) → has_ended 
       ]
 
 module _ (plan : Plan) (base : Base) (old new : List Row) (fewer : (number : ℕ) → length (queue plan base number new) ≤ length (queue plan base number old)) where
-  pub waiting_at-later : (ns : List ℕ) → waiting_at plan base new ns ≤ waiting_at plan base old ns
+  pub waiting_at-later : (ns : List ℕ) → count_waiting plan base new ns ≤ count_waiting plan base old ns
   waiting_at-later [] = omega arith
   waiting_at-later (n ∷ ns) = omega (arith, waiting_at-later ns, fewer n)
 
   -- at one port at least one item less waits
-  pub waiting_at-taken : (ns : List ℕ) (k : ℕ) → k < length ns → length (queue plan base (get_or ns k 0) new) < length (queue plan base (get_or ns k 0) old) → waiting_at plan base new ns + 1 ≤ waiting_at plan base old ns
+  pub waiting_at-taken : (ns : List ℕ) (k : ℕ) → k < length ns → length (queue plan base (get_or ns k 0) new) < length (queue plan base (get_or ns k 0) old) → count_waiting plan base new ns + 1 ≤ count_waiting plan base old ns
   waiting_at-taken [] k within less = absurd (omega arith)
   waiting_at-taken (n ∷ ns) zero within less = omega (arith, waiting_at-later ns, less)
   waiting_at-taken (n ∷ ns) (suc k) within less =
-      let rest : waiting_at plan base new ns + 1 ≤ waiting_at plan base old ns = waiting_at-taken ns k (omega (arith, within)) less in
+      let rest : count_waiting plan base new ns + 1 ≤ count_waiting plan base old ns = waiting_at-taken ns k (omega (arith, within)) less in
       omega (arith, rest, fewer n)
 
-pub waiting_at-le : (plan : Plan) (base : Base) (past : List Row) (most : ℕ) (ns : List ℕ) → ((k : ℕ) → k < length ns → length (queue plan base (get_or ns k 0) past) ≤ most) → waiting_at plan base past ns ≤ most * length ns
+pub waiting_at-le : (plan : Plan) (base : Base) (past : List Row) (most : ℕ) (ns : List ℕ) → ((k : ℕ) → k < length ns → length (queue plan base (get_or ns k 0) past) ≤ most) → count_waiting plan base past ns ≤ most * length ns
 waiting_at-le plan base past most [] each = omega arith
 waiting_at-le plan base past most (n ∷ ns) each =
     let here : length (queue plan base n past) ≤ most = each 0 (omega arith) in
-    let rest : waiting_at plan base past ns ≤ most * length ns = waiting_at-le plan base past most ns (λ k within. each (suc k) (omega (arith, within))) in
+    let rest : count_waiting plan base past ns ≤ most * length ns = waiting_at-le plan base past most ns (λ k within. each (suc k) (omega (arith, within))) in
     omega (arith, here, rest)
 
 -- one pass is open
@@ -85,11 +85,11 @@ ended_more base past pass left ended was =
     rw (add-one pass) (omega (arith, was, none_here))
 
 -- something waits at a port
-pub waiting_at-some : (plan : Plan) (base : Base) (past : List Row) (ns : List ℕ) (k : ℕ) → k < length ns → 0 < length (queue plan base (get_or ns k 0) past) → 0 < waiting_at plan base past ns
+pub waiting_at-some : (plan : Plan) (base : Base) (past : List Row) (ns : List ℕ) (k : ℕ) → k < length ns → 0 < length (queue plan base (get_or ns k 0) past) → 0 < count_waiting plan base past ns
 waiting_at-some plan base past [] k within some = absurd (omega arith)
 waiting_at-some plan base past (n ∷ ns) zero within some = omega (arith, some)
 waiting_at-some plan base past (n ∷ ns) (suc k) within some =
-    let rest : 0 < waiting_at plan base past ns = waiting_at-some plan base past ns k (omega (arith, within)) some in
+    let rest : 0 < count_waiting plan base past ns = waiting_at-some plan base past ns k (omega (arith, within)) some in
     omega (arith, rest)
 
 -- where none of the passes below a number is open, each has ended

@@ -19,7 +19,7 @@ use Rattle.frame_class.specs.declared.classes.Class.{Class}
 use Rattle.frame_class.specs.Reading.{IsClassOf}
 use Rattle.frame_class.specs.Classes.{eth_of}
 use Rattle.bridge_fdb.specs.declared.station.Station.{Station}
-use Rattle.bridge_fdb.specs.Stations.{live_at, is_live, end_of}
+use Rattle.bridge_fdb.specs.Stations.{live_at, is_live, station_end}
 use Rattle.hist_store.specs.Rows.{Row}
 use Rattle.savi_history.specs.Bases.{Base}
 use Rattle.savi_history.specs.Vlans.{the_vlan}
@@ -49,7 +49,7 @@ only_is set alone port numbers members low is =
 -- what is live later
 
 earlier : (t u : ℕ) → t ≤ u → (s : Station) → is_live u s ≡ true → is_live t s ≡ true
-earlier t u later s is = lt-ltb t (end_of s) (omega (arith, later, ltb-true u (end_of s) is))
+earlier t u later s is = lt-ltb t (station_end s) (omega (arith, later, ltb-true u (station_end s) is))
 
 pub live_later : (kept : List Station) (moment later : ℕ) (base : Base) (past : List Row) → moment ≤ later → Knows kept moment base past → live_at later kept ≡ live_at later (stations the_vlan base past)
 live_later kept moment later base past order knows =

@@ -14,7 +14,7 @@ use Rattle.savi_kinds.specs.Ports.{number_of}
 use Rattle.savi_kinds.specs.ValidPlan.{numbers_of, IsValidPlan}
 use Rattle.savi_history.specs.Passes.{has_port, has_pass, pass_of, place_among, place_of, egress_pass, pass_count}
 pub use Rattle.savi_history.proofs.PortPlaces.{IsPlace, placed_among, placed, length-numbers, place_within}
-use Rattle.savi_core.specs.Machines.{number_at}
+use Rattle.savi_core.specs.Machines.{port_number_at}
 
 -- from a place on the list is its element and what follows
 pub at_item : {X Y : Type 0} (F : List X → Y) (xs : List X) (i : ℕ) (x : X) → i < length xs → x ≡ get_or xs i x → F (drop i xs) ≡ F (x ∷ drop (i + 1) xs)
@@ -40,7 +40,7 @@ place_at ns k rising within =
     ]
 
 -- the pass of an egress by its place
-pub egress_at : (plan : Plan) (k : ℕ) → IsValidPlan plan → k < length plan.ports → egress_pass plan (number_at plan k) ≡ length plan.ports + 2 + k
+pub egress_at : (plan : Plan) (k : ℕ) → IsValidPlan plan → k < length plan.ports → egress_pass plan (port_number_at plan k) ≡ length plan.ports + 2 + k
 egress_at plan k valid within =
     let in_numbers : k < length (numbers_of plan.ports) = omega (arith, length-numbers plan.ports) in
     ap (λ n. length plan.ports + 2 + n) (place_at (numbers_of plan.ports) k valid.ports in_numbers)

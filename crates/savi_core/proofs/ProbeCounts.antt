@@ -17,7 +17,7 @@ use Rattle.savi_history.proofs.Joining.{joined_more, joined_few, joined_within, 
 use Rattle.savi_history.proofs.Depth.{queue_within}
 use Rattle.savi_core.specs.Lanes.{Lane, goes_to, takes_one, with_probe, takes, leaves_out, lane_of}
 use Rattle.savi_core.specs.Waits.{queued_item, shown_lane, Show}
-use Rattle.savi_core.specs.Rings.{Rings, shut_in, counted, ring_item, after_probe}
+use Rattle.savi_core.specs.Rings.{Rings, shut_in, counted, ring_item, rings_after_probe}
 use Rattle.savi_core.proofs.Places.{length-numbers}
 use Rattle.savi_core.proofs.Lanes.{probed_lane}
 use Rattle.savi_core.proofs.Probing.{sent_to, probe_shown, shut_by, offered_is, show_probed}
@@ -72,34 +72,34 @@ nothing shut [] = refl
 nothing shut (lane ∷ lanes) = omega (arith, nothing shut lanes)
 
 -- no fewer wait, and no more than are offered join
-grows : (sents : List SentProbe) (rings : Rings) → waiting rings.lanes ≤ waiting (fold after_probe rings sents).lanes
+grows : (sents : List SentProbe) (rings : Rings) → waiting rings.lanes ≤ waiting (fold rings_after_probe rings sents).lanes
 grows [] rings = omega arith
-grows (sent ∷ sents) rings = omega (arith, grows sents (after_probe rings sent), taken (shut_in rings.shut) (ring_item sent) sent rings.lanes)
+grows (sent ∷ sents) rings = omega (arith, grows sents (rings_after_probe rings sent), taken (shut_in rings.shut) (ring_item sent) sent rings.lanes)
 
-few : (sents : List SentProbe) (rings : Rings) → waiting (fold after_probe rings sents).lanes ≤ waiting rings.lanes + offered (shut_in rings.shut) sents rings.lanes
+few : (sents : List SentProbe) (rings : Rings) → waiting (fold rings_after_probe rings sents).lanes ≤ waiting rings.lanes + offered (shut_in rings.shut) sents rings.lanes
 few [] rings = omega arith
-few (sent ∷ sents) rings = omega (arith, few sents (after_probe rings sent), left (shut_in rings.shut) (ring_item sent) sent sents rings.lanes)
+few (sent ∷ sents) rings = omega (arith, few sents (rings_after_probe rings sent), left (shut_in rings.shut) (ring_item sent) sent sents rings.lanes)
 
 -- what is counted is by how much the lanes grew, and how much of what was offered they did not
 
-queued_by : (sents : List SentProbe) (rings : Rings) → rings.queued ≤ 4294967295 → (fold after_probe rings sents).queued ≡ counted rings.queued (waiting (fold after_probe rings sents).lanes - waiting rings.lanes)
+queued_by : (sents : List SentProbe) (rings : Rings) → rings.queued ≤ 4294967295 → (fold rings_after_probe rings sents).queued ≡ counted rings.queued (waiting (fold rings_after_probe rings sents).lanes - waiting rings.lanes)
 queued_by [] rings fits = omega arith
 queued_by (sent ∷ sents) rings fits =
     omega (
       arith,
-      queued_by sents (after_probe rings sent) (omega arith),
-      grows sents (after_probe rings sent),
+      queued_by sents (rings_after_probe rings sent) (omega arith),
+      grows sents (rings_after_probe rings sent),
       taken (shut_in rings.shut) (ring_item sent) sent rings.lanes,
     )
 
-lost_by : (sents : List SentProbe) (rings : Rings) → rings.lost ≤ 4294967295 → (fold after_probe rings sents).lost ≡ counted rings.lost (waiting rings.lanes + offered (shut_in rings.shut) sents rings.lanes - waiting (fold after_probe rings sents).lanes)
+lost_by : (sents : List SentProbe) (rings : Rings) → rings.lost ≤ 4294967295 → (fold rings_after_probe rings sents).lost ≡ counted rings.lost (waiting rings.lanes + offered (shut_in rings.shut) sents rings.lanes - waiting (fold rings_after_probe rings sents).lanes)
 lost_by [] rings fits =
     omega (arith, nothing (shut_in rings.shut) rings.lanes)
 lost_by (sent ∷ sents) rings fits =
     omega (
       arith,
-      lost_by sents (after_probe rings sent) (omega arith),
-      few sents (after_probe rings sent),
+      lost_by sents (rings_after_probe rings sent) (omega arith),
+      few sents (rings_after_probe rings sent),
       left (shut_in rings.shut) (ring_item sent) sent sents rings.lanes,
     )
 
@@ -186,26 +186,26 @@ module _ (plan : Plan) (base : Base) (past : List Row) (act : Act) (octets : Lis
     before_is : waiting rings.lanes ≡ over_ports (numbers_of plan.ports) before
     before_is = waiting_in plan rows rings.lanes (lane_of plan base past) was
 
-    joining_is : waiting (fold after_probe rings sents).lanes ≡ over_ports (numbers_of plan.ports) joining
-    joining_is = waiting_in plan rows (fold after_probe rings sents).lanes (probed_lane plan base past act octets) (show_probed plan base past rows act octets sents rings shut_is came was)
+    joining_is : waiting (fold rings_after_probe rings sents).lanes ≡ over_ports (numbers_of plan.ports) joining
+    joining_is = waiting_in plan rows (fold rings_after_probe rings sents).lanes (probed_lane plan base past act octets) (show_probed plan base past rows act octets sents rings shut_is came was)
 
     -- The probes that joined are those that the history counts, as far as there is a number for them.
-    pub queued_is : rings.queued ≡ 0 → (fold after_probe rings sents).queued ≡ min (probes plan base past act octets) 4294967295
+    pub queued_is : rings.queued ≡ 0 → (fold rings_after_probe rings sents).queued ≡ min (probes plan base past act octets) 4294967295
     unfolding probes
     queued_is none = omega (arith, none, queued_by sents rings (omega (arith, none)), before_is, joining_is, queued_sum (numbers_of plan.ports))
 
     -- So are those that were left out.
-    pub lost_is : rings.lost ≡ 0 → (fold after_probe rings sents).lost ≡ min (lost plan base past act octets) 4294967295
+    pub lost_is : rings.lost ≡ 0 → (fold rings_after_probe rings sents).lost ≡ min (lost plan base past act octets) 4294967295
     unfolding lost
     lost_is none = omega (arith, none, lost_by sents rings (omega (arith, none)), before_is, joining_is, coming_is, lost_sum (numbers_of plan.ports))
 
     -- There always is one for those that joined.
-    pub queued_exact : IsValidPlan plan → rings.queued ≡ 0 → (fold after_probe rings sents).queued ≡ probes plan base past act octets
+    pub queued_exact : IsValidPlan plan → rings.queued ≡ 0 → (fold rings_after_probe rings sents).queued ≡ probes plan base past act octets
     unfolding probes
     queued_exact valid none = omega (arith, queued_is none, few_queued valid.depth.1 (numbers_of plan.ports), length-numbers plan.ports, valid.port_count.1)
 
     -- There is one for those that were left out where fewer than 2 ^ 28 were offered.
-    pub lost_exact : IsValidPlan plan → length sents < 268435456 → rings.lost ≡ 0 → (fold after_probe rings sents).lost ≡ lost plan base past act octets
+    pub lost_exact : IsValidPlan plan → length sents < 268435456 → rings.lost ≡ 0 → (fold rings_after_probe rings sents).lost ≡ lost plan base past act octets
     unfolding lost
     lost_exact valid short none =
         let few_offers : length (offers plan base past act octets) < 268435456 = omega (arith, short, ap (λ (all : List Offer). length all) came, length-map sents offer_of) in

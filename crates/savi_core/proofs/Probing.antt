@@ -18,10 +18,10 @@ use Rattle.savi_history.specs.Bases.{Base}
 use Rattle.savi_history.specs.ShutPorts.{is_shut}
 use Rattle.savi_history.specs.Offers.{Offer, offer_of, offers}
 use Rattle.savi_history.specs.Passes.{role_of, is_trusted}
-use Rattle.savi_history.specs.Queues.{Item, probe_item, is_probed, room_at, queue, joined, all_joined, offered_at}
+use Rattle.savi_history.specs.Queues.{Item, probe_item, is_probed, room_at, queue, joined_queue, all_joined, offered_at}
 use Rattle.savi_core.specs.Lanes.{Lane, goes_to, takes_one, with_probe, lane_of}
 use Rattle.savi_core.specs.Waits.{queued_item, shown_lane, IsThere, AreThere, Show}
-use Rattle.savi_core.specs.Rings.{Rings, shut_in, ring_item, after_probe}
+use Rattle.savi_core.specs.Rings.{Rings, shut_in, ring_item, rings_after_probe}
 use Rattle.savi_core.proofs.Lanes.{laned, map_twice, probed_lane}
 
 pub map_across : {A B : Type 0} (show : A → B) (change : A → A) (change_shown : B → B) → ((x : A) → show (change x) ≡ change_shown (show x)) → (xs : List A) → map show (map change xs) ≡ map change_shown (map show xs)
@@ -53,7 +53,7 @@ module _ (shut : ℕ → Bool) (mac : Mac) (sent : SentProbe) where
     joined_at true false = refl
     joined_at false c = refl
 
-    front_at : (b : Bool) (rest : List SentProbe) → all_joined lane.room (if b then joined lane.room lane.items (probe_shown mac sent) else lane.items) (map (probe_shown mac) rest) ≡ all_joined lane.room lane.items (map (probe_shown mac) (if b then sent ∷ rest else rest))
+    front_at : (b : Bool) (rest : List SentProbe) → all_joined lane.room (if b then joined_queue lane.room lane.items (probe_shown mac sent) else lane.items) (map (probe_shown mac) rest) ≡ all_joined lane.room lane.items (map (probe_shown mac) (if b then sent ∷ rest else rest))
     front_at true rest = refl
     front_at false rest = refl
 
@@ -82,10 +82,10 @@ there_at rows sent lane there true true = All-push (IsThere rows) lane.items (ri
 there_at rows sent lane there true false = there
 there_at rows sent lane there false c = there
 
-pub there_probed : (rows : List Row) (sents : List SentProbe) (rings : Rings) → All (AreThere rows) rings.lanes → All (AreThere rows) (fold after_probe rings sents).lanes
+pub there_probed : (rows : List Row) (sents : List SentProbe) (rings : Rings) → All (AreThere rows) rings.lanes → All (AreThere rows) (fold rings_after_probe rings sents).lanes
 there_probed rows [] rings there = there
 there_probed rows (sent ∷ sents) rings there =
-    there_probed rows sents (after_probe rings sent)
+    there_probed rows sents (rings_after_probe rings sent)
     (All-map (AreThere rows) (with_probe (shut_in rings.shut) (ring_item sent) sent.probe) rings.lanes
     (All-weaker (AreThere rows) (λ (lane : Lane Queued). AreThere rows (with_probe (shut_in rings.shut) (ring_item sent) sent.probe lane)) (λ lane is. there_at rows sent lane is (goes_to (shut_in rings.shut) sent.probe lane) (takes_one lane)) rings.lanes there))
 
@@ -102,10 +102,10 @@ numbers_probed shut item probe (lane ∷ lanes) =
     ∙ ap (λ ns. lane.number ∷ ns) (numbers_probed shut item probe lanes)
 
 -- offered one after another, each to all lanes, they are offered to each lane one after another
-pub by_lanes : (mac : Mac) (rows : List Row) (sents : List SentProbe) (rings : Rings) → map (shown_lane mac rows) (fold after_probe rings sents).lanes ≡ map (with_probes (shut_in rings.shut) mac sents) (map (shown_lane mac rows) rings.lanes)
+pub by_lanes : (mac : Mac) (rows : List Row) (sents : List SentProbe) (rings : Rings) → map (shown_lane mac rows) (fold rings_after_probe rings sents).lanes ≡ map (with_probes (shut_in rings.shut) mac sents) (map (shown_lane mac rows) rings.lanes)
 by_lanes mac rows [] rings = map_unchanged (with_probes (shut_in rings.shut) mac []) (λ lane. refl) (map (shown_lane mac rows) rings.lanes)
 by_lanes mac rows (sent ∷ sents) rings =
-    by_lanes mac rows sents (after_probe rings sent)
+    by_lanes mac rows sents (rings_after_probe rings sent)
     ∙ ap (map (with_probes (shut_in rings.shut) mac sents)) (map_across (shown_lane mac rows) (with_probe (shut_in rings.shut) (ring_item sent) sent.probe) (with_probe (shut_in rings.shut) (probe_shown mac sent) sent.probe) (shown_probe (shut_in rings.shut) mac sent rows) rings.lanes)
     ∙ map_twice (with_probe (shut_in rings.shut) (probe_shown mac sent) sent.probe) (with_probes (shut_in rings.shut) mac sents) (with_probes (shut_in rings.shut) mac (sent ∷ sents)) (one_more (shut_in rings.shut) mac sent sents) (map (shown_lane mac rows) rings.lanes)
 
@@ -140,7 +140,7 @@ module _ (plan : Plan) (base : Base) (past : List Row) (q : ℕ) where
 
 -- The lanes that show the history's show, once all probes of an entry were offered, what waits then.
 pub show_probed : (plan : Plan) (base : Base) (past rows : List Row) (act : Act) (octets : List ℕ) (sents : List SentProbe) (rings : Rings) → shut_in rings.shut ≡ shut_by base past → map offer_of sents ≡ offers plan base past act octets
-    → Show plan rows rings.lanes (lane_of plan base past) → Show plan rows (fold after_probe rings sents).lanes (probed_lane plan base past act octets)
+    → Show plan rows rings.lanes (lane_of plan base past) → Show plan rows (fold rings_after_probe rings sents).lanes (probed_lane plan base past act octets)
 show_probed plan base past rows act octets sents rings shut_is came was = record {
   there = there_probed rows sents rings was.there;
   same =

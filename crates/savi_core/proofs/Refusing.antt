@@ -8,7 +8,7 @@ use Rattle.control_replies.specs.declared.refusal.Refusal.{Refusal}
 use Rattle.hist_store.specs.Rows.{held}
 use Rattle.savi_history.specs.Bases.{access_of}
 use Rattle.savi_history.specs.Moments.{moment_at}
-use Rattle.savi_history.specs.Commands.{rows_after, refusal_of}
+use Rattle.savi_history.specs.Commands.{rows_told, refusal_of}
 use Rattle.savi_history.specs.Marks.{marks}
 use Rattle.savi_history.specs.Events as events
 use Rattle.savi_history.specs.Events.{Event, row_of}
@@ -43,7 +43,7 @@ module _ {k : CoreState} (was : Remembers k) where
 
   -- of a command's what was answered
   pub is_refusal : (stamp : ℕ) (line : List ℕ) (e : Entry) (refused : Option Refusal) → e ≡ (row_of k.plan k.base (reverse k.rows) (events.Command stamp line)).entry
-      → refused ≡ refusal_of k.plan (rows_after k.plan (access_of k.base) (marks k.plan k.base (reverse k.rows)) (moment_at k.base (reverse k.rows) stamp)) (command_of line)
+      → refused ≡ refusal_of k.plan (rows_told k.plan (access_of k.base) (marks k.plan k.base (reverse k.rows)) (moment_at k.base (reverse k.rows) stamp)) (command_of line)
       → IsRefusal k.plan k.base (reverse (k.rows ++ row e line ∷ [])) refused
   is_refusal stamp line e refused e_is is =
       rw (reverse_push k.rows (row e line))

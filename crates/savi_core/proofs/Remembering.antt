@@ -31,7 +31,7 @@ use Rattle.savi_kinds.specs.declared.port.PortSet.{PortSet}
 use Rattle.savi_kinds.specs.PortSets.{no_ports}
 use Rattle.savi_core.specs.Rings.{shut_in}
 use Rattle.savi_kinds.specs.declared.entry.Act.{Act}
-use Rattle.savi_core.specs.Counts.{still_to_come, waiting_at, open_below}
+use Rattle.savi_core.specs.Counts.{still_to_come, count_waiting, open_below}
 use Rattle.savi_core.specs.PassMarks.{open_among}
 use Rattle.savi_core.proofs.Ending.{none_ended}
 use Rattle.savi_core.specs.Remembers.{CoreState, Remembers}
@@ -148,7 +148,7 @@ module _ {k : CoreState} (was : Remembers k) where
 
   pub few_to_come : still_to_come k.plan k.base (reverse k.rows) ≤ 4130
   few_to_come =
-      let wait : waiting_at k.plan k.base (reverse k.rows) (numbers_of k.plan.ports) ≤ 256 * length (numbers_of k.plan.ports) =
+      let wait : count_waiting k.plan k.base (reverse k.rows) (numbers_of k.plan.ports) ≤ 256 * length (numbers_of k.plan.ports) =
       waiting_at-le k.plan k.base (reverse k.rows) 256 (numbers_of k.plan.ports) (λ n within. omega (arith, queue_within k.plan k.base (get_or (numbers_of k.plan.ports) n 0) (reverse k.rows), was.valid.depth.1)) in
       omega (arith, wait, length-numbers k.plan.ports, open_below-le k.base (reverse k.rows) (pass_count k.plan), was.valid.port_count.1)
 

@@ -18,7 +18,7 @@ use Rattle.savi_history.specs.Bases.{Base}
 use Rattle.savi_history.specs.Passes.{has_port, place_of}
 use Rattle.savi_history.specs.Queues.{Item, item_of, cuts}
 use Rattle.savi_history.proofs.PassNumbers.{known_at}
-use Rattle.savi_core.specs.Machines.{number_at}
+use Rattle.savi_core.specs.Machines.{port_number_at}
 use Rattle.savi_core.specs.Lanes.{Lane, with_frame, is_cut, cut_at, lane_of}
 use Rattle.savi_core.specs.Waits.{shown_lane, AreThere, Show}
 use Rattle.savi_core.proofs.Places.{placed, place_within, length-numbers, apart}
@@ -49,7 +49,7 @@ module _ {plan : Plan} {rows : List Row} {lanes : List (Lane Queued)} {by : ℕ 
       sym (numbers_shown plan rows lanes) ∙ ap (map (λ (lane : Lane Item). lane.number)) shows.same ∙ numbers_by by named (numbers_of plan.ports)
 
   -- the lane at a place shows that of its port
-  pub lane_is : (p : ℕ) (d : Lane Queued) → p < length plan.ports → shown_lane plan.mac rows (get_or lanes p d) ≡ by (number_at plan p)
+  pub lane_is : (p : ℕ) (d : Lane Queued) → p < length plan.ports → shown_lane plan.mac rows (get_or lanes p d) ≡ by (port_number_at plan p)
   lane_is p d within =
       let count = lane_count in
       let size = length-numbers plan.ports in
@@ -62,7 +62,7 @@ module _ {plan : Plan} {rows : List Row} {lanes : List (Lane Queued)} {by : ℕ 
   pub lane_at : (number p : ℕ) (d : Lane Queued) → has_port plan number ≡ true → p ≡ place_of plan number → shown_lane plan.mac rows (get_or lanes p d) ≡ by number
   lane_at number p d known place_is =
       let place = placed plan number known in
-      lane_is p d (omega (arith, place_is, place_within plan number known)) ∙ ap by (ap (number_at plan) place_is ∙ place.number_is)
+      lane_is p d (omega (arith, place_is, place_within plan number known)) ∙ ap by (ap (port_number_at plan) place_is ∙ place.number_is)
 
   pub lane_in : (number p : ℕ) → has_port plan number ≡ true → p ≡ place_of plan number → p < length lanes
   lane_in number p known place_is = omega (arith, place_is, place_within plan number known, lane_count)

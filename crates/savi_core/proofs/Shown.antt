@@ -25,7 +25,7 @@ use Rattle.control_replies.specs.Replies.{end_text}
 use Rattle.control_replies.specs.Shows.{port_fields, ports_text, station_fields, station_line, stations_text}
 use Rattle.savi_history.specs.Passes.{has_port}
 use Rattle.savi_history.proofs.PassNumbers.{known_at}
-use Rattle.savi_core.specs.Machines.{number_at}
+use Rattle.savi_core.specs.Machines.{port_number_at}
 
 -- the lines of addresses
 
@@ -75,7 +75,7 @@ map_both f g (x ∷ xs) = ap (λ ys. g (f x) ∷ ys) (map_both f g xs)
 pub item_known : (plan : Plan) (i : ℕ) (port : PortPlan) → i < length plan.ports → port ≡ get_or plan.ports i port → has_port plan (number_of port.number) ≡ true
 item_known plan i port within is =
     let number : PortPlan → ℕ = λ p. number_of p.number in
-    let at : number_at plan i ≡ number_of port.number = get_or-map number plan.ports i port 0 within ∙ ap number (sym is) in
+    let at : port_number_at plan i ≡ number_of port.number = get_or-map number plan.ports i port 0 within ∙ ap number (sym is) in
     ap (has_port plan) (sym at) ∙ known_at plan i within
 
 -- the lines of all ports, and the last line

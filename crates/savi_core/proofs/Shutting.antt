@@ -15,7 +15,7 @@ use Rattle.savi_history.specs.Passes.{has_port}
 use Rattle.savi_history.specs.ShutPorts.{is_shut}
 use Rattle.savi_history.specs.Outs.{without_shut}
 use Rattle.savi_history.proofs.Directing.{member_filter, all_numbers, known_member, and-false}
-use Rattle.savi_core.specs.Rings.{Rings, uncounted, shut_in, with_shut, after_probe}
+use Rattle.savi_core.specs.Rings.{Rings, uncounted, shut_in, with_shut, rings_after_probe}
 use Rattle.savi_kinds.specs.declared.verdict.Verdict.{Verdict}
 use Rattle.frame_class.specs.declared.classes.Class.{Class}
 use Rattle.addr_history.specs.Probes.{probes_between}
@@ -30,9 +30,9 @@ use Rattle.savi_core.specs.Remembers.{CoreState, Remembers}
 use Rattle.savi_core.proofs.Members.{same_members}
 
 -- probes leave the ports as they are
-pub shut_probed : (sents : List SentProbe) (rings : Rings) → (fold after_probe rings sents).shut ≡ rings.shut
+pub shut_probed : (sents : List SentProbe) (rings : Rings) → (fold rings_after_probe rings sents).shut ≡ rings.shut
 shut_probed [] rings = refl
-shut_probed (sent ∷ sents) rings = shut_probed sents (after_probe rings sent)
+shut_probed (sent ∷ sents) rings = shut_probed sents (rings_after_probe rings sent)
 
 -- so do ageing and judging
 pub shut_aged : (r : AccessRules) (from t : ℕ) (kept : Table) (old new : Rings) (base : AccessBase) (past : List Mark) → Ages r from t kept old new base past → new.shut ≡ old.shut

@@ -34,7 +34,7 @@ use Rattle.savi_kinds.specs.declared.port.PortSet.{PortSet}
 use Rattle.std.proofs.Math.Path.{fun_ext}
 use Rattle.cli_lang.specs.CommandOf.{command_of}
 use Rattle.savi_history.specs.ShutPorts.{shut_by as shut_by_command, shut_after, is_shut}
-use Rattle.savi_core.specs.Rings.{Rings, shut_in, after_probe}
+use Rattle.savi_core.specs.Rings.{Rings, shut_in, rings_after_probe}
 use Rattle.savi_core.specs.Remembers.{CoreState, Remembers}
 use Rattle.savi_core.proofs.Places.{placed, pass_within}
 use Rattle.savi_core.proofs.Lanes.{probed_lane, there_drained, shown_drained, there_ended, shown_ended, lane_long, lane_ticked, lane_commanded, lane_drained, lane_elsewhere, IsNoEgress, lane_behind_input, lane_ended, lane_apart}
@@ -72,14 +72,14 @@ stepped_view plan rows e octets event m view is_row =
 module _ {k : CoreState} (was : Remembers k) where
   -- the lanes once the probes of an entry were offered, whatever they are
   pub probed_now : (act : Act) (octets : List ℕ) (sents : List SentProbe) (rings : Rings) → shut_in rings.shut ≡ shut_by k.base (reverse k.rows) → map offer_of sents ≡ offers k.plan k.base (reverse k.rows) act octets → rings.lanes ≡ k.lanes
-      → Show k.plan k.rows (fold after_probe rings sents).lanes (probed_lane k.plan k.base (reverse k.rows) act octets)
+      → Show k.plan k.rows (fold rings_after_probe rings sents).lanes (probed_lane k.plan k.base (reverse k.rows) act octets)
   probed_now act octets sents rings shut_is came are =
       show_probed k.plan k.base (reverse k.rows) k.rows act octets sents rings shut_is came
       (subst (λ (lanes : List (Lane Queued)). Show k.plan k.rows lanes (lane_of k.plan k.base (reverse k.rows))) (sym are) was.queues)
 
   -- how many of them joined, and how many were left out, since the counts were reset
   pub probes_now : (act : Act) (octets : List ℕ) (sents : List SentProbe) (rings : Rings) → map offer_of sents ≡ offers k.plan k.base (reverse k.rows) act octets → rings ≡ record { lanes = k.lanes; shut = k.shut; queued = 0; lost = 0 }
-      → length sents < 268435456 → ((fold after_probe rings sents).queued ≡ probes k.plan k.base (reverse k.rows) act octets) × ((fold after_probe rings sents).lost ≡ lost k.plan k.base (reverse k.rows) act octets)
+      → length sents < 268435456 → ((fold rings_after_probe rings sents).queued ≡ probes k.plan k.base (reverse k.rows) act octets) × ((fold rings_after_probe rings sents).lost ≡ lost k.plan k.base (reverse k.rows) act octets)
   probes_now act octets sents rings came are short =
       let start : Rings = record { lanes = k.lanes; shut = k.shut; queued = 0; lost = 0 } in
       rw are (

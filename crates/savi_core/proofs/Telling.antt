@@ -21,7 +21,7 @@ use Rattle.addr_history.proofs.RowCounts.{few_rows}
 use Rattle.savi_access.specs.Marks.{told}
 use Rattle.savi_access.specs.Plans.{rules_of}
 use Rattle.savi_access.proofs.States.{told_past, told_before}
-use Rattle.access_table.specs.Kept.{Kept as Table, Represents, IsReady}
+use Rattle.access_table.specs.Kept.{Kept as Table, Represents, IsAgedTo}
 use Rattle.hist_store.specs.Rows.{Row}
 use Rattle.savi_history.specs.Bases.{Base, access_of}
 use Rattle.savi_history.specs.Vlans.{the_vlan}
@@ -72,8 +72,8 @@ module _ {k : CoreState} (was : Remembers k) (table : Table) (tells : Tells k.pl
   pub states_now : Represents (rules_of k.plan) (access_of k.base) (marks k.plan k.base (reverse k.rows)) (last_moment k.base (reverse k.rows)) table
   states_now = subst (λ (t : ℕ). Represents (rules_of k.plan) (access_of k.base) (marks k.plan k.base (reverse k.rows)) t table) was.last tells.states
 
-  ready_now : IsReady (rules_of k.plan) (last_moment k.base (reverse k.rows)) table
-  ready_now = subst (λ (t : ℕ). IsReady (rules_of k.plan) t table) was.last tells.ready
+  ready_now : IsAgedTo (rules_of k.plan) (last_moment k.base (reverse k.rows)) table
+  ready_now = subst (λ (t : ℕ). IsAgedTo (rules_of k.plan) t table) was.last tells.ready
 
   pub few_due : (moment : ℕ) → last_moment k.base (reverse k.rows) ≤ moment → length (due_by k.plan k.base (reverse k.rows) moment) ≤ 48 * k.plan.per_port
   few_due moment later =
@@ -113,21 +113,21 @@ module _ {k : CoreState} (was : Remembers k) (table : Table) (tells : Tells k.pl
   tells_end who how e e_is = behind [] table (events.End who how) e e_is (record { states = states_now; ready = ready_now })
 
   pub tells_long : (port : Port) (stamp len : ℕ) (e : Entry) (table' : Table) → e ≡ (row_of k.plan k.base (reverse k.rows) (events.Long port stamp len)).entry
-      → Represents (rules_of k.plan) (access_of k.base) (marks k.plan k.base (reverse k.rows)) (moment_at k.base (reverse k.rows) stamp) table' → IsReady (rules_of k.plan) (moment_at k.base (reverse k.rows) stamp) table'
+      → Represents (rules_of k.plan) (access_of k.base) (marks k.plan k.base (reverse k.rows)) (moment_at k.base (reverse k.rows) stamp) table' → IsAgedTo (rules_of k.plan) (moment_at k.base (reverse k.rows) stamp) table'
       → Tells k.plan k.base (reverse (k.rows ++ row e [] ∷ [])) e.moment table'
   tells_long port stamp len e table' e_is states ready = behind [] table' (events.Long port stamp len) e e_is (record { states = states; ready = ready })
 
   pub tells_command : (stamp : ℕ) (line : List ℕ) (e : Entry) (table' : Table) → e ≡ (row_of k.plan k.base (reverse k.rows) (events.Command stamp line)).entry
-      → Represents (rules_of k.plan) (access_of k.base) (commanded k.plan (access_of k.base) (moment_at k.base (reverse k.rows) stamp) (command_of line) (marks k.plan k.base (reverse k.rows))) (moment_at k.base (reverse k.rows) stamp) table' → IsReady (rules_of k.plan) (moment_at k.base (reverse k.rows) stamp) table'
+      → Represents (rules_of k.plan) (access_of k.base) (commanded k.plan (access_of k.base) (moment_at k.base (reverse k.rows) stamp) (command_of line) (marks k.plan k.base (reverse k.rows))) (moment_at k.base (reverse k.rows) stamp) table' → IsAgedTo (rules_of k.plan) (moment_at k.base (reverse k.rows) stamp) table'
       → Tells k.plan k.base (reverse (k.rows ++ row e line ∷ [])) e.moment table'
   tells_command stamp line e table' e_is states ready = behind line table' (events.Command stamp line) e e_is (record { states = states; ready = ready })
 
   pub tells_tick : (stamp : ℕ) (e : Entry) (table' : Table) → e ≡ (row_of k.plan k.base (reverse k.rows) (events.Tick stamp)).entry
-      → Represents (rules_of k.plan) (access_of k.base) (marks k.plan k.base (reverse k.rows)) (moment_at k.base (reverse k.rows) stamp) table' → IsReady (rules_of k.plan) (moment_at k.base (reverse k.rows) stamp) table'
+      → Represents (rules_of k.plan) (access_of k.base) (marks k.plan k.base (reverse k.rows)) (moment_at k.base (reverse k.rows) stamp) table' → IsAgedTo (rules_of k.plan) (moment_at k.base (reverse k.rows) stamp) table'
       → Tells k.plan k.base (reverse (k.rows ++ row e [] ∷ [])) e.moment table'
   tells_tick stamp e table' e_is states ready = behind [] table' (events.Tick stamp) e e_is (record { states = states; ready = ready })
 
   pub tells_frame : (port : Port) (stamp : ℕ) (octets : List ℕ) (e : Entry) (table' : Table) → e ≡ (row_of k.plan k.base (reverse k.rows) (events.Frame port stamp octets)).entry
-      → Represents (rules_of k.plan) (access_of k.base) (judged_of k.plan k.base (reverse k.rows) port stamp octets).marks (moment_at k.base (reverse k.rows) stamp) table' → IsReady (rules_of k.plan) (moment_at k.base (reverse k.rows) stamp) table'
+      → Represents (rules_of k.plan) (access_of k.base) (judged_of k.plan k.base (reverse k.rows) port stamp octets).marks (moment_at k.base (reverse k.rows) stamp) table' → IsAgedTo (rules_of k.plan) (moment_at k.base (reverse k.rows) stamp) table'
       → Tells k.plan k.base (reverse (k.rows ++ row e octets ∷ [])) e.moment table'
   tells_frame port stamp octets e table' e_is states ready = behind octets table' (events.Frame port stamp octets) e e_is (record { states = states; ready = ready })

@@ -13,9 +13,9 @@ open_below base past zero = 0
 open_below base past (suc n) = open_below base past n + (if has_ended base n past then 0 else 1)
 
 -- how many items wait at these ports
-abbrev pub waiting_at : Plan → Base → List Row → List ℕ → ℕ
-waiting_at plan base past [] = 0
-waiting_at plan base past (n ∷ ns) = length (queue plan base n past) + waiting_at plan base past ns
+abbrev pub count_waiting : Plan → Base → List Row → List ℕ → ℕ
+count_waiting plan base past [] = 0
+count_waiting plan base past (n ∷ ns) = length (queue plan base n past) + count_waiting plan base past ns
 
 abbrev pub still_to_come : Plan → Base → List Row → ℕ
-still_to_come plan base past = waiting_at plan base past (numbers_of plan.ports) + open_below base past (pass_count plan)
+still_to_come plan base past = count_waiting plan base past (numbers_of plan.ports) + open_below base past (pass_count plan)

@@ -39,5 +39,5 @@ abbrev pub HasShortQueues : Machine → Type 0
 HasShortQueues m = (port : Port) → has_port m.plan (number_of port) ≡ true → length (queue_at m port) ≤ m.plan.depth
 
 -- the number of the port at a place of the plan
-abbrev pub number_at : Plan → ℕ → ℕ
-number_at plan place = slice_index (numbers_of plan.ports) place
+abbrev pub port_number_at : Plan → ℕ → ℕ
+port_number_at plan place = slice_index (numbers_of plan.ports) place

@@ -16,7 +16,7 @@ pub record Table : Type 0 where
   pub all : PortSet
   pub trusted : PortSet
 
-pub record IsTable (t : Table) : Type 0 where
+pub record IsPortTable (t : Table) : Type 0 where
   pub valid : IsValidPlan t.plan
   pub places : (number : ℕ) → number ≤ 16 → slice_index_or t.places number 0 ≡ place_of t.plan number
   pub all : t.all ≡ set_of (numbers_of (filter (is_in_scope All) t.plan.ports))

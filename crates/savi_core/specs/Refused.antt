@@ -7,12 +7,12 @@ use Rattle.cli_lang.specs.CommandOf.{command_of}
 use Rattle.control_replies.specs.declared.refusal.Refusal.{Refusal}
 use Rattle.hist_store.specs.Rows.{Row}
 use Rattle.savi_history.specs.Bases.{Base, access_of}
-use Rattle.savi_history.specs.Commands.{rows_after, refusal_of}
+use Rattle.savi_history.specs.Commands.{rows_told, refusal_of}
 use Rattle.savi_history.specs.Marks.{marks}
 
 abbrev pub IsRefusalBy : Plan → Base → List Row → Row → Act → Option Refusal → Type 0
 IsRefusalBy plan base past r (Command stamp at len) refused =
-    refused ≡ refusal_of plan (rows_after plan (access_of base) (marks plan base past) r.entry.moment) (command_of r.octets)
+    refused ≡ refusal_of plan (rows_told plan (access_of base) (marks plan base past) r.entry.moment) (command_of r.octets)
 IsRefusalBy plan base past r (Frame port stamp at len) refused = Unit {0}
 IsRefusalBy plan base past r (Long port stamp len) refused = Unit {0}
 IsRefusalBy plan base past r (Tick stamp) refused = Unit {0}

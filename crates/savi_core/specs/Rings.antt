@@ -38,8 +38,8 @@ abbrev pub ring_item : SentProbe → Queued
 ring_item sent = entries.Probe sent.due sent.address
 
 -- the queues once a probe was offered to each port to which it goes
-abbrev pub after_probe : Rings → SentProbe → Rings
-after_probe rings sent = record {
+abbrev pub rings_after_probe : Rings → SentProbe → Rings
+rings_after_probe rings sent = record {
   lanes = map (with_probe (shut_in rings.shut) (ring_item sent) sent.probe) rings.lanes;
   shut = rings.shut;
   queued = counted rings.queued (count_by (takes (shut_in rings.shut) sent.probe) rings.lanes);

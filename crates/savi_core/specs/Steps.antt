@@ -96,15 +96,15 @@ Did old event new (Full len) = HasNoRoomFor old event × (new ≡ old) × (len �
 Did old event new Nothing = HasRoomFor old event × IsIdle old event × (new ≡ old)
 
 -- how many items are taken of a queue
-abbrev pub count_of : Machine → Port → ℕ → ℕ
-count_of m port most = min most (length (queue_at m port))
+abbrev pub taken_count : Machine → Port → ℕ → ℕ
+taken_count m port most = min most (length (queue_at m port))
 
 -- So many items of the queue's front were taken, or nothing waits and nothing has changed.
 abbrev pub Drained : Machine → Port → ℕ → Machine → List Item → Stepped → Type 0
 Drained old port most new batch (Done entry) =
     (queue_at old port ≢ [])
-    × (batch ≡ take (count_of old port most) (queue_at old port))
-    × (new ≡ with_event old (events.Drain port (count_of old port most)))
-    × (entry ≡ entry_of old (events.Drain port (count_of old port most)))
+    × (batch ≡ take (taken_count old port most) (queue_at old port))
+    × (new ≡ with_event old (events.Drain port (taken_count old port most)))
+    × (entry ≡ entry_of old (events.Drain port (taken_count old port most)))
 Drained old port most new batch (Full len) = ⊥
 Drained old port most new batch Nothing = (queue_at old port ≡ []) × (batch ≡ []) × (new ≡ old)

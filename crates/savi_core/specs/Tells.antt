@@ -3,11 +3,11 @@ use Rattle.std.specs.Prelude.{ℕ, List}
 use Rattle.savi_kinds.specs.declared.plan.Plan.{Plan}
 use Rattle.hist_store.specs.Rows.{Row}
 use Rattle.savi_access.specs.Plans.{rules_of}
-use Rattle.access_table.specs.Kept.{Kept, Represents, IsReady}
+use Rattle.access_table.specs.Kept.{Kept, Represents, IsAgedTo}
 use Rattle.savi_history.specs.Bases.{Base, access_of}
 use Rattle.savi_history.specs.Marks.{marks}
 
 -- they are those that all that was told in the history leaves at this moment
 pub record Tells (plan : Plan) (base : Base) (past : List Row) (moment : ℕ) (kept : Kept) : Type 0 where
   pub states : Represents (rules_of plan) (access_of base) (marks plan base past) moment kept
-  pub ready : IsReady (rules_of plan) moment kept
+  pub ready : IsAgedTo (rules_of plan) moment kept

@@ -6,7 +6,7 @@ ghost use Rattle.cli_lang.specs.CommandOf.{command_of};
 ghost use Rattle.savi_access.specs.Rules.{AccessBase};
 ghost use Rattle.savi_access.specs.Marks.{Mark};
 ghost use Rattle.savi_access.specs.Plans.{rules_of};
-ghost use Rattle.access_table.specs.Kept.{Represents, IsReady};
+ghost use Rattle.access_table.specs.Kept.{Represents, IsAgedTo};
 ghost use Rattle.access_table.specs.Steps.{Moves};
 ghost use Rattle.savi_history.specs.ShutPorts.{shut_by};
 ghost use Rattle.savi_history.specs.Commands.{refusal_of, static_refusal, clear_refusal, port_refusal, fault_refusal, commanded, ordered};
@@ -30,9 +30,9 @@ pub(crate) fn obey(
     t: Moment,
 ) -> Option<Refusal>
     requires moment { t ≤ 2 ^ 62 }
-    requires ready { IsReady (rules_of ports.now) t access.old }
+    requires ready { IsAgedTo (rules_of ports.now) t access.old }
     requires per_port { access.old.addresses.per_port ≡ ports.now.per_port }
-    ensures ready { IsReady (rules_of ports.now) t access.new }
+    ensures ready { IsAgedTo (rules_of ports.now) t access.new }
     ensures obeyed { (base : AccessBase) (past : List Mark) → Represents (rules_of ports.now) base past t access.old
         → Obeys ports.now t (command_of line.now) access.new queues.old queues.new result base past }
 {
@@ -51,9 +51,9 @@ fn obey_order(
     t: Moment,
 ) -> Option<Refusal>
     requires moment { t ≤ 2 ^ 62 }
-    requires ready { IsReady (rules_of ports.now) t access.old }
+    requires ready { IsAgedTo (rules_of ports.now) t access.old }
     requires per_port { access.old.addresses.per_port ≡ ports.now.per_port }
-    ensures ready { IsReady (rules_of ports.now) t access.new }
+    ensures ready { IsAgedTo (rules_of ports.now) t access.new }
     ensures obeyed { (base : AccessBase) (past : List Mark) → Represents (rules_of ports.now) base past t access.old
         → Obeys ports.now t (Ok order) access.new queues.old queues.new result base past }
 {
@@ -138,10 +138,10 @@ pub(crate) fn fault_refusal(fault: CmdFault) -> Refusal
 // What a command that isn't refused makes of an address.
 fn carry_out(access: &mut AccessTable, ports: &Ports, order: Command, t: Moment)
     requires moment { t ≤ 2 ^ 62 }
-    requires ready { IsReady (rules_of ports.now) t access.old }
+    requires ready { IsAgedTo (rules_of ports.now) t access.old }
     requires per_port { access.old.addresses.per_port ≡ ports.now.per_port }
     requires granted { refusal_of ports.now access.old.addresses.rows (Ok order) ≡ None }
-    ensures ready { IsReady (rules_of ports.now) t access.new }
+    ensures ready { IsAgedTo (rules_of ports.now) t access.new }
     ensures told { Moves (rules_of ports.now) t access.old access.new (λ base past. ordered ports.now base t (Ok order) past) }
 {
     match order {

@@ -6,7 +6,7 @@ ghost use Rattle.savi_kinds.specs.ValidPlan.{IsValidPlan};
 ghost use Rattle.savi_access.specs.Rules.{AccessBase};
 ghost use Rattle.savi_access.specs.Marks.{Mark};
 ghost use Rattle.savi_access.specs.Plans.{rules_of, has_port};
-ghost use Rattle.access_table.specs.Kept.{Represents, IsReady};
+ghost use Rattle.access_table.specs.Kept.{Represents, IsAgedTo};
 ghost use Rattle.savi_history.specs.Judged.{long_by};
 ghost use Rattle.savi_core.specs.Judges.{Judges, Ages};
 ghost use Rattle.savi_core.specs.Rings.{shut_in};
@@ -27,8 +27,8 @@ pub(crate) fn age(
     t: Moment,
 )
     requires moment { t ≤ 2 ^ 62 }
-    requires ready { IsReady (rules_of plan.now) from access.old }
-    ensures ready { IsReady (rules_of plan.now) t access.new }
+    requires ready { IsAgedTo (rules_of plan.now) from access.old }
+    ensures ready { IsAgedTo (rules_of plan.now) t access.new }
     ensures aged { (base : AccessBase) (past : List Mark) → Represents (rules_of plan.now) base past from access.old → from ≤ t
         → Ages (rules_of plan.now) from t access.new queues.old queues.new base past }
 {
@@ -62,8 +62,8 @@ pub(crate) fn judge(
     requires plan { IsValidPlan plan.now }
     requires port { has_port plan.now (number_of port) ≡ true }
     requires moment { t ≤ 2 ^ 62 }
-    requires ready { IsReady (rules_of plan.now) from access.old }
-    ensures ready { IsReady (rules_of plan.now) t access.new }
+    requires ready { IsAgedTo (rules_of plan.now) from access.old }
+    ensures ready { IsAgedTo (rules_of plan.now) t access.new }
     ensures judged { (base : AccessBase) (past : List Mark) → Represents (rules_of plan.now) base past from access.old → from ≤ t
         → Judges (rules_of plan.now) from t (shut_in queues.old.shut (number_of port)) port class.now access.new queues.old queues.new result base past }
 {

@@ -9,7 +9,7 @@ ghost use Rattle.savi_history.specs.Moments.{last_moment};
 ghost use Rattle.savi_history.specs.Shown.{counts_of, reply_to, shown};
 ghost use Rattle.savi_history.specs.Events as events;
 ghost use Rattle.savi_history.specs.Legal.{IsLegal};
-ghost use Rattle.savi_core.specs.Machines.{HasShortQueues, base_of, started, row_at, queue_at, number_at, with_event};
+ghost use Rattle.savi_core.specs.Machines.{HasShortQueues, base_of, started, row_at, queue_at, port_number_at, with_event};
 ghost use Rattle.savi_core.specs.Counts.{open_below};
 ghost use Rattle.savi_core.specs.Refused.{EndsWithCommand};
 ghost use Rattle.frame_class.specs.Reading.{IsClassOf};

@@ -25,13 +25,13 @@ pub struct Ports {
 
 impl Model for Ports {
     ghost use Rattle.savi_kinds.specs.declared.plan.Plan.{Plan};
-    ghost use Rattle.savi_core.specs.PortTables.{IsTable};
+    ghost use Rattle.savi_core.specs.PortTables.{IsPortTable};
 
     ghost Value = { Plan };
 
     ghost view = { λ p. p.plan };
 
-    ghost invariant = { λ p. IsTable (record { plan = p.plan; places = p.places; all = p.all; trusted = p.trusted }) };
+    ghost invariant = { λ p. IsPortTable (record { plan = p.plan; places = p.places; all = p.all; trusted = p.trusted }) };
 }
 
 impl Ports {

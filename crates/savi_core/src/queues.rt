@@ -7,7 +7,7 @@ ghost use Rattle.savi_kinds.specs.Ports.{number_of};
 ghost use Rattle.savi_kinds.specs.PortSets.{is_member, no_ports};
 ghost use Rattle.savi_kinds.specs.ValidPlan.{IsValidPlan, numbers_of};
 ghost use Rattle.savi_history.specs.Passes.{has_port, has_pass};
-ghost use Rattle.savi_core.specs.Rings.{Rings, uncounted, after_probe, shut_in, with_shut};
+ghost use Rattle.savi_core.specs.Rings.{Rings, uncounted, rings_after_probe, shut_in, with_shut};
 ghost use Rattle.savi_core.specs.Waits.{AreThere, queued_item};
 
 use crate::batch::Batch;
@@ -39,7 +39,7 @@ impl Model for Queues {
 }
 
 impl ProbeSink for Queues {
-    ghost after = { after_probe };
+    ghost after = { rings_after_probe };
 
     /// Offers a probe to the queue of each port to which it goes, in their order; none goes to a shut port. O(n) in the
     /// ports of the plan, at most 16.

@@ -15,7 +15,7 @@ use Rattle.savi_kinds.specs.ValidPlan.{numbers_of}
 use Rattle.hist_store.specs.Rows.{Row}
 use Rattle.savi_history.specs.Bases.{empty}
 use Rattle.savi_history.specs.Passes.{has_ended, has_port, pass_of, place_of, egress_pass}
-use Rattle.savi_history.specs.Queues.{Item, item_of, room_at, joined, all_joined, offered_at, probed, framed, waiting_after, queue}
+use Rattle.savi_history.specs.Queues.{Item, item_of, room_at, joined_queue, all_joined, offered_at, probed, framed, waiting_after, queue}
 use Rattle.savi_history.specs.Events as events
 use Rattle.savi_history.specs.Events.{row_of}
 use Rattle.savi_history.specs.Legal.{MayCome, MayEnd, IsLegal}
@@ -81,7 +81,7 @@ probes_none plan past q act octets waiting is_ended =
     let items = offered_at plan empty past act octets q in
     ap (λ (room : ℕ). all_joined room waiting items) (room_ended plan empty past q is_ended) ∙ joined_closed waiting items
 
-frame_at : (b : Bool) (r : Row) (waiting : List Item) → (if b then joined 0 waiting (item_of r) else waiting) ≡ waiting
+frame_at : (b : Bool) (r : Row) (waiting : List Item) → (if b then joined_queue 0 waiting (item_of r) else waiting) ≡ waiting
 frame_at true r waiting = joined_closed waiting (item_of r ∷ [])
 frame_at false r waiting = refl
 

@@ -36,7 +36,7 @@ use Rattle.savi_history.specs.Bases.{Base, access_of}
 use Rattle.savi_history.specs.Limits.{IsWithinLimits}
 use Rattle.savi_history.specs.Vlans.{the_vlan}
 use Rattle.savi_history.specs.Passes.{is_trusted}
-use Rattle.savi_history.specs.Commands.{rows_after, may_hold, static_refusal, clear_refusal, refusal_of, with_mark, ordered_unless, commanded}
+use Rattle.savi_history.specs.Commands.{rows_told, may_hold, static_refusal, clear_refusal, refusal_of, with_mark, ordered_unless, commanded}
 
 -- what holds where a static address isn't refused
 pub record IsGranted (plan : Plan) (rows : List Row) (a : ℕ) (port : Port) : Type 0 where
@@ -102,7 +102,7 @@ module _ (plan : Plan) (valid : IsValidPlan plan) (base : Base) (within : IsWith
   unchanged : IsOrdered marks
   unchanged = record { legal = right; last = after; front = record { new = []; is = refl; moments = All-nil (λ (m : Mark). moment_of m ≡ t) } }
 
-  marked : (a : ℕ) (event : Ev) → IsSome (method_in plan a) → IsLeaseInRange event → IsOfVlan (rules_of plan).addresses the_vlan (port_of event) → IsFixable plan.per_port (rows_after plan (access_of base) marks t) a event
+  marked : (a : ℕ) (event : Ev) → IsSome (method_in plan a) → IsLeaseInRange event → IsOfVlan (rules_of plan).addresses the_vlan (port_of event) → IsFixable plan.per_port (rows_told plan (access_of base) marks t) a event
       → (port : Port) → IsOrdered (with_mark plan (access_of base) t a event marks)
   marked a event on lease of_vlan fix port = record {
     legal = (told_follows (rules_of plan) (access_of base) within.access the_vlan port t early marks right after a event on lease of_vlan fix, right);
@@ -110,23 +110,23 @@ module _ (plan : Plan) (valid : IsValidPlan plan) (base : Base) (within : IsWith
     front = record { new = Told (record { vlan = the_vlan; address = a; moment = t; event = event; room = _ }) ∷ []; is = refl; moments = All-cons (λ (m : Mark). moment_of m ≡ t) _ [] refl (All-nil (λ (m : Mark). moment_of m ≡ t)) };
   }
 
-  state_there : (a : ℕ) → IsSoundBy (method_in plan a) (state_in (rows_after plan (access_of base) marks t) a)
+  state_there : (a : ℕ) → IsSoundBy (method_in plan a) (state_in (rows_told plan (access_of base) marks t) a)
   state_there a =
       let base_is = within.access.addresses in
       let rules = (rules_of plan).addresses in
       subst (λ (s : AddrState). IsSoundBy (method_in plan a) s) (sym (states_at rules (access_of base).addresses (base_tables rules (access_of base).addresses base_is) (base_times rules (access_of base).addresses base_is) (told marks) t the_vlan a))
       (states_kept rules (access_of base).addresses base_is (told marks) t the_vlan a (told_past (rules_of plan) (access_of base) marks right) (told_before (rules_of plan) (access_of base) marks t right after) early).sound
 
-  ordered_right : (order : Result Command CmdFault) (refusal : Option Refusal) → refusal_of plan (rows_after plan (access_of base) marks t) order ≡ refusal → IsOrdered (ordered_unless plan (access_of base) t order refusal marks)
+  ordered_right : (order : Result Command CmdFault) (refusal : Option Refusal) → refusal_of plan (rows_told plan (access_of base) marks t) order ≡ refusal → IsOrdered (ordered_unless plan (access_of base) t order refusal marks)
   ordered_right order (Some refusal) is = unchanged
   ordered_right (Err fault) None is = unchanged
   ordered_right (Ok (orders.Static address port)) None is =
-      let given = granted plan (rows_after plan (access_of base) marks t) address.0 port is in
+      let given = granted plan (rows_told plan (access_of base) marks t) address.0 port is in
       marked address.0 (Fix port) (some_method (method_in plan address.0) given.on_link) tt
       (own_ports plan (number_of port) given.known (not_trusted (role_of plan (number_of port)) given.host))
-      (fixable plan (rows_after plan (access_of base) marks t) address.0 port given.fits) port
+      (fixable plan (rows_told plan (access_of base) marks t) address.0 port given.fits) port
   ordered_right (Ok (orders.Clear address)) None is =
-      marked address.0 Clear (on_link_by (method_in plan address.0) (state_in (rows_after plan (access_of base) marks t) address.0) (state_there address.0) (cleared (rows_after plan (access_of base) marks t) address.0 is)) tt tt tt some_port
+      marked address.0 Clear (on_link_by (method_in plan address.0) (state_in (rows_told plan (access_of base) marks t) address.0) (state_there address.0) (cleared (rows_told plan (access_of base) marks t) address.0 is)) tt tt tt some_port
   ordered_right (Ok (orders.Shut port)) None is = unchanged
   ordered_right (Ok (orders.Reopen port)) None is = unchanged
   ordered_right (Ok orders.ShowBindings) None is = unchanged
@@ -136,4 +136,4 @@ module _ (plan : Plan) (valid : IsValidPlan plan) (base : Base) (within : IsWith
   ordered_right (Ok orders.Quit) None is = unchanged
 
   pub commanded_right : (order : Result Command CmdFault) → IsOrdered (commanded plan (access_of base) t order marks)
-  commanded_right order = ordered_right order (refusal_of plan (rows_after plan (access_of base) marks t) order) refl
+  commanded_right order = ordered_right order (refusal_of plan (rows_told plan (access_of base) marks t) order) refl

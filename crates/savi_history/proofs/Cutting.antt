@@ -12,7 +12,7 @@ use Rattle.hist_store.specs.Rows.{Row}
 use Rattle.savi_history.specs.Bases.{Base}
 use Rattle.savi_history.specs.Passes.{has_port, place_of}
 use Rattle.savi_history.specs.Queues.{Item, item_of, room_at, all_joined, offered_at, queue, is_closed, cuts}
-use Rattle.savi_history.specs.QueueLaws.{frame_to, IsCut, AreCut}
+use Rattle.savi_history.specs.QueueLaws.{frame_to, IsLeftOut, AreCut}
 use Rattle.savi_history.specs.Events.{Event, Frame, Long, Command, Tick, Drain, End, row_of, frame_act, outs_of}
 use Rattle.savi_history.specs.Legal.{IsLegal}
 use Rattle.savi_history.proofs.Joining.{length-all_joined}
@@ -56,7 +56,7 @@ module _ (plan : Plan) (base : Base) (past : List Row) (port : Port) (stamp : �
   there : (q : ℕ) → is_member out q ≡ true → first q ++ frame_to q (row_of plan base past (Frame port stamp octets)) ≡ first q ++ frame ∷ []
   there q goes = ap (λ (l : List Item). first q ++ l) (frame_there q (row_of plan base past (Frame port stamp octets)) goes)
 
-  pub frame_cut : IsCut plan base past (row_of plan base past (Frame port stamp octets)) (frame_act past port stamp octets)
+  pub frame_cut : IsLeftOut plan base past (row_of plan base past (Frame port stamp octets)) (frame_act past port stamp octets)
   frame_cut q has =
       let is = cut_member plan base past (frame_act past port stamp octets) octets out q has in (
         λ cut.
@@ -66,7 +66,7 @@ module _ (plan : Plan) (base : Base) (past : List Row) (port : Port) (stamp : �
             is ∙ and_from _ _ goes_left.0 (left_closed (room_at plan base past q) (queue plan base q past) (first q) frame (subst (left q) (there q goes_left.0) goes_left.1)),
       )
 
-row_cut : (plan : Plan) (base : Base) (past : List Row) (event : Event) → IsCut plan base past (row_of plan base past event) (row_of plan base past event).entry.act
+row_cut : (plan : Plan) (base : Base) (past : List Row) (event : Event) → IsLeftOut plan base past (row_of plan base past event) (row_of plan base past event).entry.act
 row_cut plan base past (Frame port stamp octets) = frame_cut plan base past port stamp octets
 row_cut plan base past (Long port stamp len) = refl
 row_cut plan base past (Command stamp line) = refl
@@ -77,4 +77,4 @@ row_cut plan base past (End who how) = refl
 pub all_cut : (plan : Plan) (base : Base) (past : List Row) → IsLegal plan base past → AreCut plan base past
 all_cut plan base [] legal = tt
 all_cut plan base (r ∷ past) legal =
-    (subst (λ (x : Row). IsCut plan base past x x.entry.act) (sym legal.0.2) (row_cut plan base past legal.0.0), all_cut plan base past legal.1)
+    (subst (λ (x : Row). IsLeftOut plan base past x x.entry.act) (sym legal.0.2) (row_cut plan base past legal.0.0), all_cut plan base past legal.1)

@@ -11,7 +11,7 @@ use Rattle.savi_kinds.specs.Ports.{number_of}
 use Rattle.savi_kinds.specs.PortSets.{is_member}
 use Rattle.hist_store.specs.Rows.{Row}
 use Rattle.savi_history.specs.Bases.{Base}
-use Rattle.savi_history.specs.Queues.{Item, item_of, room_at, joined, offered_at, probed, waiting_after, queue}
+use Rattle.savi_history.specs.Queues.{Item, item_of, room_at, joined_queue, offered_at, probed, waiting_after, queue}
 use Rattle.savi_history.proofs.Joining.{joined_within, room_low}
 
 pub length_dropped : (b : Bool) (count : ℕ) (items : List Item) → length (if b then drop count items else items) ≤ length items
@@ -35,7 +35,7 @@ ended_fewer plan base past q r (passes.Ingress p) how items = omega arith
 ended_fewer plan base past q r passes.Control how items = omega arith
 ended_fewer plan base past q r passes.Ticker how items = omega arith
 
-framed_within : (b : Bool) (room most : ℕ) (r : Row) (waiting : List Item) → room ≤ most → length waiting ≤ most → length (if b then joined room waiting (item_of r) else waiting) ≤ most
+framed_within : (b : Bool) (room most : ℕ) (r : Row) (waiting : List Item) → room ≤ most → length waiting ≤ most → length (if b then joined_queue room waiting (item_of r) else waiting) ≤ most
 framed_within true room most r waiting low before = joined_within room most waiting (item_of r ∷ []) low before
 framed_within false room most r waiting low before = before
 

@@ -15,7 +15,7 @@ use Rattle.frame_class.specs.declared.classes.Class.{Class}
 use Rattle.frame_class.specs.ClassOf.{class_of}
 use Rattle.frame_class.proofs.ClassIs.{class_is}
 use Rattle.ra_guard.specs.GuardOf.{guard_of}
-use Rattle.ra_guard.specs.Refused.{IsAdvertFrame, IsHiddenFrame, IsStopped as IsStoppedByClass}
+use Rattle.ra_guard.specs.Refused.{IsAdvertFrame, IsHiddenFrame, GuardStops as IsStoppedByClass}
 use Rattle.ra_guard.proofs.RuleOf.{guard_is}
 use Rattle.ra_guard.proofs.Stopping.{advert_frames, hidden_frames}
 use Rattle.hist_store.specs.Rows.{Row}

@@ -25,7 +25,7 @@ use Rattle.savi_history.specs.Passes.{pass_of, has_ended, has_port, place_of, pl
 use Rattle.savi_history.specs.Queues.{queue}
 use Rattle.savi_history.specs.Events.{Event, Command, Drain, End}
 use Rattle.savi_history.specs.Legal.{IsLegal, IsOpen, MayCome}
-use Rattle.savi_history.specs.Readable.{IsArrival, IsEnding, IsInput, IsLine, IsControlEnding, IsControl}
+use Rattle.savi_history.specs.Readable.{IsArrival, IsEnding, IsInput, IsLineInRange, IsControlEnding, IsControl}
 use Rattle.savi_history.specs.Merges.{enter, merge, merged}
 use Rattle.savi_history.specs.Turns.{Turn, Arrives, Commands, Ends, who_of, turn_at, turns, port_turns, control_turns, all_turns}
 use Rattle.savi_history.specs.Replay.{Stops, is_stopped, pieces_by, event_of, with_event, with_failure, begun, with_drain, drained, with_reply, entered, after, after_all, with_end, egress_ended, replayed}
@@ -39,7 +39,7 @@ use Rattle.savi_history.proofs.Closed.{waits_open}
 -- a turn that a reader of a port of the plan may give, or one of control
 abbrev pub IsTurn : Plan → Turn → Type 0
 IsTurn plan (Arrives port arrival) = (has_port plan (number_of port) ≡ true) × IsArrival arrival
-IsTurn plan (Commands line) = IsLine line
+IsTurn plan (Commands line) = IsLineInRange line
 IsTurn plan (Ends (passes.Ingress port) how) = (has_port plan (number_of port) ≡ true) × IsEnding how
 IsTurn plan (Ends passes.Control how) = IsControlEnding how
 IsTurn plan (Ends passes.Ticker how) = ⊥
@@ -174,7 +174,7 @@ module _ (plan : Plan) (stops : Stops) where
       (ended_other plan empty past passes.Control hows.Unwritten (ticker_pass plan) (λ same. absurd (omega arith)) ∙ ticking)
       (ended_other plan empty past passes.Control hows.Quit (ticker_pass plan) (λ same. absurd (omega arith)) ∙ ticking) stops.control
 
-  good_line : (past : List Row) (line : Line) (b : Bool) → has_room plan past ≡ b → IsGood plan past → IsLine line → has_ended empty (control_pass plan) past ≡ false
+  good_line : (past : List Row) (line : Line) (b : Bool) → has_room plan past ≡ b → IsGood plan past → IsLineInRange line → has_ended empty (control_pass plan) past ≡ false
       → IsGood plan (if b
       then drained plan empty stops.ports plan.ports (with_reply plan empty stops.control line (with_event plan empty past (Command line.stamp line.command)))
       else with_event plan empty past (End passes.Control (hows.Full (length past))))
@@ -243,7 +243,7 @@ module _ (plan : Plan) (stops : Stops) where
       turns_merge (turns p.number i) (merged turn_at (port_turns ports inputs)) (turns_from p.number i.arrivals i.ending known.0 first.arrivals first.ending)
       (turns_ports ports inputs known.1 (λ k d inside. are (suc k) d (omega arith)))
 
-  turns_lines : (lines : List Line) (how : How) → All IsLine lines → IsControlEnding how → AreTurns plan (map (λ line. Commands line) lines ++ Ends passes.Control how ∷ [])
+  turns_lines : (lines : List Line) (how : How) → All IsLineInRange lines → IsControlEnding how → AreTurns plan (map (λ line. Commands line) lines ++ Ends passes.Control how ∷ [])
   turns_lines [] how fits ends = (ends, tt)
   turns_lines (line ∷ lines) how fits ends = (fits 0 line (omega arith), turns_lines lines how (λ k d inside. fits (suc k) d (omega arith)) ends)
 

@@ -13,7 +13,7 @@ use Rattle.savi_kinds.specs.PortSets.{is_member}
 use Rattle.savi_kinds.specs.ValidPlan.{numbers_of}
 use Rattle.hist_store.specs.Rows.{Row}
 use Rattle.savi_history.specs.Bases.{Base}
-use Rattle.savi_history.specs.Queues.{Item, item_of, room_at, joined, all_joined, offered_at, waiting_after, taken_by, queue, sent, queued_at, lost_at, over_ports, probes, lost}
+use Rattle.savi_history.specs.Queues.{Item, item_of, room_at, joined_queue, all_joined, offered_at, waiting_after, taken_by, queue, sent, queued_at, lost_at, over_ports, probes, lost}
 use Rattle.savi_history.specs.QueueLaws.{frame_to, all_offered, room_left, added, came, is_failure_at, NeverFailed, probes_taken, probes_left, IsCounted, AreCounted}
 use Rattle.savi_history.specs.Events.{Event, Frame, Long, Command, Tick, Drain, End, row_of, command_act, frame_act}
 use Rattle.savi_history.specs.Legal.{IsLegal}
@@ -22,9 +22,9 @@ use Rattle.savi_history.proofs.Joining.{no_items, take_none, all_joined-is, leng
 -- items one after the other are items joined to the first ones
 pub joined_behind : (room : ℕ) (waiting first second : List Item) → all_joined room waiting (first ++ second) ≡ all_joined room (all_joined room waiting first) second
 joined_behind room waiting [] second = refl
-joined_behind room waiting (item ∷ first) second = joined_behind room (joined room waiting item) first second
+joined_behind room waiting (item ∷ first) second = joined_behind room (joined_queue room waiting item) first second
 
-frame_joins : (b : Bool) (room : ℕ) (r : Row) (waiting : List Item) → (if b then joined room waiting (item_of r) else waiting) ≡ all_joined room waiting (if b then item_of r ∷ [] else [])
+frame_joins : (b : Bool) (room : ℕ) (r : Row) (waiting : List Item) → (if b then joined_queue room waiting (item_of r) else waiting) ≡ all_joined room waiting (if b then item_of r ∷ [] else [])
 frame_joins true room r waiting = refl
 frame_joins false room r waiting = refl
 

@@ -8,7 +8,7 @@ use Rattle.savi_kinds.specs.declared.entry.Act.{Act}
 use Rattle.savi_kinds.specs.declared.entry.Act.TheVariants as acts
 use Rattle.eth_frame.specs.declared.header.Eth.{Eth}
 use Rattle.bridge_fdb.specs.declared.station.Station.{Station}
-use Rattle.bridge_fdb.specs.Stations.{mac_number, station_of, end_of, is_live, is_below, is_above, live_at}
+use Rattle.bridge_fdb.specs.Stations.{mac_number, station_of, station_end, is_live, is_below, is_above, live_at}
 use Rattle.bridge_fdb.specs.Learning.{is_known, is_full, with_station, learned}
 use Rattle.bridge_fdb.proofs.Within.{IsWithinLimits-filter, IsWithinLimits-learned}
 use Rattle.hist_store.specs.Rows.{Row}
@@ -54,8 +54,8 @@ pub later_stations : (moment later : ℕ) (xs : List Station) → moment ≤ lat
 later_stations moment later xs order was =
     let seen : All (λ s. s.last ≤ later) (live_at later xs) =
     All-filter (is_live later) (λ s. s.last ≤ later) xs (All-weaker (IsKnownAt moment) (λ s. s.last ≤ later) (λ s known. omega (arith, known.0, order)) xs was.known) in
-    let live : All (λ s. later < end_of s) (live_at later xs) =
-    All-weaker (λ s. is_live later s ≡ true) (λ s. later < end_of s) (λ s is. ltb-true later (end_of s) is) (live_at later xs) (filter_passes (is_live later) xs) in
+    let live : All (λ s. later < station_end s) (live_at later xs) =
+    All-weaker (λ s. is_live later s ≡ true) (λ s. later < station_end s) (λ s is. ltb-true later (station_end s) is) (live_at later xs) (filter_passes (is_live later) xs) in
     record {
       limits = IsWithinLimits-filter (is_live later) xs was.limits;
       known = λ k d within. (seen k d within, live k d within);

@@ -8,7 +8,7 @@ use Rattle.savi_kinds.specs.Ports.{number_of}
 use Rattle.savi_kinds.proofs.Filters.{filter-wider}
 use Rattle.frame_class.specs.ClassOf.{class_of}
 use Rattle.bridge_fdb.specs.declared.station.Station.{Station}
-use Rattle.bridge_fdb.specs.Stations.{is_live, live_at, end_of}
+use Rattle.bridge_fdb.specs.Stations.{is_live, live_at, station_end}
 use Rattle.hist_store.specs.Rows.{Row}
 use Rattle.savi_history.specs.Bases.{Base}
 use Rattle.savi_history.specs.Moments.{moment_at}
@@ -23,7 +23,7 @@ use Rattle.savi_history.specs.Ticks.{TickLeaves}
 
 -- what is live at a moment was live at an earlier one
 live_before : (t u : ℕ) → t ≤ u → (s : Station) → is_live u s ≡ true → is_live t s ≡ true
-live_before t u later s is = lt-ltb t (end_of s) (omega (arith, later, ltb-true u (end_of s) is))
+live_before t u later s is = lt-ltb t (station_end s) (omega (arith, later, ltb-true u (station_end s) is))
 
 module _ (plan : Plan) (base : Base) (past : List Row) (stamp : ℕ) where
   abbrev ticked : List Row

@@ -41,7 +41,7 @@ use Rattle.cli_lang.specs.declared.kinds.CmdFault.{CmdFault}
 use Rattle.cli_lang.specs.CommandOf.{command_of}
 use Rattle.control_replies.specs.declared.refusal.Refusal.{Refusal}
 use Rattle.savi_history.specs.ShutPorts.{is_shut}
-use Rattle.savi_history.specs.Commands.{rows_after as table_after, refusal_of, ordered_unless}
+use Rattle.savi_history.specs.Commands.{rows_told as table_after, refusal_of, ordered_unless}
 use Rattle.savi_history.specs.Marks.{judged_after, marked, marks, IsOfOperator}
 use Rattle.savi_history.specs.Judged.{judged_of}
 use Rattle.savi_history.specs.Offers.{offer_of, due_by, in_answer, probes_of, offers}

@@ -50,7 +50,7 @@ use Rattle.cli_lang.specs.CommandOf.{command_of}
 use Rattle.control_replies.specs.declared.refusal.Refusal.{Refusal}
 use Rattle.control_replies.specs.declared.refusal.Refusal.TheVariants as refusals
 use Rattle.savi_history.specs.ShutPorts.{is_shut}
-use Rattle.savi_history.specs.Commands.{rows_after, may_hold, refusal_of, with_mark, ordered_unless, commanded}
+use Rattle.savi_history.specs.Commands.{rows_told, may_hold, refusal_of, with_mark, ordered_unless, commanded}
 use Rattle.savi_history.specs.Marks.{judged_after, marked, marks}
 use Rattle.savi_history.specs.Judged.{judged_of, verdict_of}
 use Rattle.savi_history.specs.Stations.{known_port}
@@ -116,7 +116,7 @@ module _ (plan : Plan) (base : Base) where
   after_is true past port moment class = refl
   after_is false past port moment class = ap (λ (r : AccessRules). judged r (access_of base) the_vlan port moment past class) (rules_kept plan)
 
-  table_kept : (past : List Mark) (moment : ℕ) → rows_after (without_names plan) (access_of base) past moment ≡ rows_after plan (access_of base) past moment
+  table_kept : (past : List Mark) (moment : ℕ) → rows_told (without_names plan) (access_of base) past moment ≡ rows_told plan (access_of base) past moment
   table_kept past moment = ap (λ (r : AccessRules). rows_at r.addresses (access_of base).addresses (told past) moment the_vlan) (rules_kept plan)
 
   -- why an address isn't fixed to a port of this role, if there is one
@@ -164,9 +164,9 @@ module _ (plan : Plan) (base : Base) where
 
   commanded_kept : (moment : ℕ) (order : Result Order CmdFault) (past : List Mark) → commanded (without_names plan) (access_of base) moment order past ≡ commanded plan (access_of base) moment order past
   commanded_kept moment order past =
-      unless_kept moment order (refusal_of (without_names plan) (rows_after (without_names plan) (access_of base) past moment) order) past
+      unless_kept moment order (refusal_of (without_names plan) (rows_told (without_names plan) (access_of base) past moment) order) past
       ∙ ap (λ (refusal : Option Refusal). ordered_unless plan (access_of base) moment order refusal past)
-      (refusal_kept (rows_after (without_names plan) (access_of base) past moment) order ∙ ap (λ (rows : List State). refusal_of plan rows order) (table_kept past moment))
+      (refusal_kept (rows_told (without_names plan) (access_of base) past moment) order ∙ ap (λ (rows : List State). refusal_of plan rows order) (table_kept past moment))
 
   marked_kept : (rows : List Row) (r : Row) (act : Act) (past : List Mark) → marked (without_names plan) base rows r act past ≡ marked plan base rows r act past
   marked_kept rows r (acts.Frame port stamp at len) past = ap (λ (j : Judged). j.marks) (after_is (is_shut base (number_of port) rows) past port r.entry.moment (class_of r.octets))

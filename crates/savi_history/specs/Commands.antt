@@ -23,8 +23,8 @@ use Rattle.savi_history.specs.Vlans.{the_vlan}
 use Rattle.savi_history.specs.Passes.{is_trusted}
 
 -- the addresses that have a state at this moment after these marks
-abbrev pub rows_after : Plan → AccessBase → List Mark → ℕ → List Row
-rows_after plan base marks moment = rows_at (rules_of plan).addresses base.addresses (told marks) moment the_vlan
+abbrev pub rows_told : Plan → AccessBase → List Mark → ℕ → List Row
+rows_told plan base marks moment = rows_at (rules_of plan).addresses base.addresses (told marks) moment the_vlan
 
 -- the port has room for the address, or holds it already
 abbrev pub may_hold : Plan → List Row → Port → ℕ → Bool
@@ -73,7 +73,7 @@ with_mark plan base moment a event marks = Told (record {
   address = a;
   moment = moment;
   event = event;
-  room = room_for plan.per_port (rows_after plan base marks moment) event;
+  room = room_for plan.per_port (rows_told plan base marks moment) event;
 }) ∷ marks
 
 -- the marks behind a command that isn't refused: `static` fixes its address to its port, and `clear` leaves no state
@@ -96,4 +96,4 @@ ordered_unless plan base moment order None marks = ordered plan base moment orde
 
 -- the marks behind a line at this moment, by those before it
 abbrev pub commanded : Plan → AccessBase → ℕ → Result Command CmdFault → List Mark → List Mark
-commanded plan base moment order marks = ordered_unless plan base moment order (refusal_of plan (rows_after plan base marks moment) order) marks
+commanded plan base moment order marks = ordered_unless plan base moment order (refusal_of plan (rows_told plan base marks moment) order) marks

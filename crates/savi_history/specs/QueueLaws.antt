@@ -74,14 +74,14 @@ AreCounted plan base (r ∷ past) = IsCounted plan base past r r.entry.act × Ar
 
 -- A frame is cut exactly at the ports to which it goes and which don't take all that its entry offers there: the frame comes
 -- behind its entry's probes.
-abbrev pub IsCut : Plan → Base → List Row → Row → Act → Type 0
-IsCut plan base past r (Frame port stamp at len) =
+abbrev pub IsLeftOut : Plan → Base → List Row → Row → Act → Type 0
+IsLeftOut plan base past r (Frame port stamp at len) =
     (q : ℕ) → has_port plan q ≡ true
     → ((is_member r.entry.cuts q ≡ true)
     ↔ (is_member r.entry.outs q ≡ true)
     × (length (added plan base past r q) < length (all_offered plan base past r (Frame port stamp at len) q)))
-IsCut plan base past r act = r.entry.cuts ≡ no_ports
+IsLeftOut plan base past r act = r.entry.cuts ≡ no_ports
 
 abbrev pub AreCut : Plan → Base → List Row → Type 0
 AreCut plan base [] = Unit {0}
-AreCut plan base (r ∷ past) = IsCut plan base past r r.entry.act × AreCut plan base past
+AreCut plan base (r ∷ past) = IsLeftOut plan base past r r.entry.act × AreCut plan base past

@@ -53,13 +53,13 @@ abbrev pub room_at : Plan → Base → List Row → ℕ → ℕ
 room_at plan base past q = if has_ended base (egress_pass plan q) past then 0 else plan.depth
 
 -- what waits once an item was offered: it joins where there is room
-abbrev pub joined : ℕ → List Item → Item → List Item
-joined room waiting item = if nat_lt (length waiting) room then waiting ++ item ∷ [] else waiting
+abbrev pub joined_queue : ℕ → List Item → Item → List Item
+joined_queue room waiting item = if nat_lt (length waiting) room then waiting ++ item ∷ [] else waiting
 
 -- the same of one item after the other
 abbrev pub all_joined : ℕ → List Item → List Item → List Item
 all_joined room waiting [] = waiting
-all_joined room waiting (item ∷ items) = all_joined room (joined room waiting item) items
+all_joined room waiting (item ∷ items) = all_joined room (joined_queue room waiting item) items
 
 -- what waits at q once the probes of an entry were offered, by what waited before
 abbrev pub probed : Plan → Base → List Row → Act → List ℕ → ℕ → List Item → List Item
@@ -67,7 +67,7 @@ probed plan base past act octets q waiting = all_joined (room_at plan base past 
 
 -- what waits once the frame of an entry was offered, where it goes to q
 abbrev pub framed : ℕ → ℕ → Row → List Item → List Item
-framed room q r waiting = if is_member r.entry.outs q then joined room waiting (item_of r) else waiting
+framed room q r waiting = if is_member r.entry.outs q then joined_queue room waiting (item_of r) else waiting
 
 -- what waits at q after an entry, by what waited before
 abbrev pub waiting_after : Plan → Base → List Row → ℕ → Row → Act → List Item → List Item

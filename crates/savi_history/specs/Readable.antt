@@ -27,8 +27,8 @@ pub record IsInput (input : Input) : Type 0 where
   pub ending : IsEnding input.ending
 
 -- a command of at most 120 octets; a stamp of 64 bits
-abbrev pub IsLine : Line → Type 0
-IsLine line = IsU64 line.stamp × (length line.command ≤ 120)
+abbrev pub IsLineInRange : Line → Type 0
+IsLineInRange line = IsU64 line.stamp × (length line.command ≤ 120)
 
 -- the end, a place at fault, a place of a line that is too long, or a failed read
 abbrev pub IsControlEnding : How → Type 0
@@ -41,7 +41,7 @@ IsControlEnding hows.Unwritten = ⊥
 IsControlEnding (hows.Full len) = ⊥
 
 pub record IsControlInput (input : control.Input) : Type 0 where
-  pub arrivals : All IsLine input.arrivals
+  pub arrivals : All IsLineInRange input.arrivals
   pub ending : IsControlEnding input.ending
 
 -- where control has an input, a reader of lines may give it

@@ -28,7 +28,7 @@ use Rattle.savi_access.specs.Plans.{times_of}
 use Rattle.savi_history.specs.Bases.{Base, access_of}
 use Rattle.savi_history.specs.Vlans.{the_vlan}
 use Rattle.savi_history.specs.ShutPorts.{is_shut}
-use Rattle.savi_history.specs.Commands.{rows_after, fault_refusal, refusal_of}
+use Rattle.savi_history.specs.Commands.{rows_told, fault_refusal, refusal_of}
 use Rattle.savi_history.specs.Marks.{marks}
 use Rattle.savi_history.specs.Queues.{queue}
 use Rattle.savi_history.specs.Stations.{stations}
@@ -57,7 +57,7 @@ port_row plan base past moment port = record {
   number = port.number;
   role = port.role;
   is_shut = is_shut base (number_of port.number) past;
-  held = count_at (number_of port.number) (rows_after plan (access_of base) (marks plan base past) moment);
+  held = count_at (number_of port.number) (rows_told plan (access_of base) (marks plan base past) moment);
   pending = requests_at_port (number_of port.number) (open_requests (access_of base) the_vlan (marks plan base past) moment);
   queued = length (queue plan base (number_of port.number) past);
 }
@@ -65,7 +65,7 @@ port_row plan base past moment port = record {
 -- what a command is answered that isn't refused, by the history with its entry, at the entry's moment
 abbrev pub reply_to : Plan → Base → List Row → ℕ → Result Command CmdFault → List ℕ
 reply_to plan base past moment (Err fault) = refusal_text (fault_refusal fault)
-reply_to plan base past moment (Ok ShowBindings) = bindings_text (times_of plan) (rows_after plan (access_of base) (marks plan base past) moment)
+reply_to plan base past moment (Ok ShowBindings) = bindings_text (times_of plan) (rows_told plan (access_of base) (marks plan base past) moment)
 reply_to plan base past moment (Ok ShowPorts) = ports_text (map (port_row plan base past moment) plan.ports)
 reply_to plan base past moment (Ok ShowCounters) = counters_text (counts_of past)
 reply_to plan base past moment (Ok ShowStations) = stations_text (map station_told (live_at moment (stations the_vlan base past)))
@@ -85,4 +85,4 @@ abbrev pub shown : Plan → Base → List Row → List ℕ
 shown plan base [] = []
 shown plan base (r ∷ past) =
     reply_unless plan base (r ∷ past) r.entry.moment (command_of r.octets)
-    (refusal_of plan (rows_after plan (access_of base) (marks plan base past) r.entry.moment) (command_of r.octets))
+    (refusal_of plan (rows_told plan (access_of base) (marks plan base past) r.entry.moment) (command_of r.octets))

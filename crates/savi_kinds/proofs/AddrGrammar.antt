@@ -15,7 +15,7 @@ use Rattle.std.specs.declared.net.ipv6_addr.Ipv6Addr.{Ipv6Addr}
 use Rattle.std.proofs.NetLemmas.Arrays.{eight_items}
 use Rattle.std.proofs.NetLemmas.Theorems.{IsIpv6Text_unique}
 use Rattle.savi_kinds.specs.declared.address.Addr.{Addr}
-use Rattle.savi_kinds.specs.AddrText.{IsGroup, group_numbers, joined, number_of_groups, IsWhole, IsCompressed, IsAddrText}
+use Rattle.savi_kinds.specs.AddrText.{IsGroup, group_numbers, joined_groups, number_of_groups, IsEightGroups, IsCompressed, IsAddrText}
 use Rattle.savi_kinds.proofs.Colons.{behind, joined-behind}
 
 -- how often a character stands in a text
@@ -73,7 +73,7 @@ marks-behind b mark [] h = refl
 marks-behind b mark (g ∷ gs) h =
     rw (ne_eqb 58 b mark.1) (omega (arith, marks-append b g (behind gs), marks-digits b mark g (All-head IsGroup g gs h).0.1, marks-behind b mark gs (All-tail IsGroup g gs h)))
 
-marks-joined : (b : ℕ) → IsMark b → (gs : List (List ℕ)) → All IsGroup gs → marks b (joined gs) ≡ 0
+marks-joined : (b : ℕ) → IsMark b → (gs : List (List ℕ)) → All IsGroup gs → marks b (joined_groups gs) ≡ 0
 marks-joined b mark [] h = refl
 marks-joined b mark (g ∷ gs) h =
     rw joined-behind (omega (arith, marks-append b g (behind gs), marks-digits b mark g (All-head IsGroup g gs h).0.1, marks-behind b mark gs (All-tail IsGroup g gs h)))
@@ -85,7 +85,7 @@ more_groups ipv4 (g ∷ gs) h =
     inl (g, behind gs, refl, ((first.0, refl), first.1), more_groups ipv4 gs (All-tail IsGroup g gs h))
 
 -- a row of groups is one of the grammar
-groups_in_grammar : (ipv4 : Bool) (gs : List (List ℕ)) → All IsGroup gs → IsGroups ipv4 (joined gs) (group_numbers gs)
+groups_in_grammar : (ipv4 : Bool) (gs : List (List ℕ)) → All IsGroup gs → IsGroups ipv4 (joined_groups gs) (group_numbers gs)
 groups_in_grammar ipv4 [] h = refl
 groups_in_grammar ipv4 (g ∷ gs) h =
     let first = All-head IsGroup g gs h in
@@ -117,7 +117,7 @@ row_behind ipv4 (n ∷ numbers) text none (inl h) =
       value = ap₂ ◌∷◌ (sym is_group.0.1) later.value;
     }
 
-row_of : (ipv4 : Bool) (numbers text : List ℕ) → dots text ≡ 0 → IsGroups ipv4 text numbers → Row joined text numbers
+row_of : (ipv4 : Bool) (numbers text : List ℕ) → dots text ≡ 0 → IsGroups ipv4 text numbers → Row joined_groups text numbers
 row_of ipv4 [] text none h = record { groups = []; hex = All-nil IsGroup; spelled = h; value = refl }
 row_of ipv4 (n ∷ numbers) text none (inr h) = absurd (dotted_tail [] h.0 h.1 text none h.3 h.4)
 row_of ipv4 (n ∷ numbers) text none (inl h) =
@@ -136,7 +136,7 @@ pub record InGrammar (text : List ℕ) (a : Addr) : Type 0 where
   pub colon_hex : IsColonHex text numbers
   pub value : a.0 ≡ number_of_groups numbers
 
-whole_in_grammar : (text : List ℕ) (a : Addr) → IsWhole text a → InGrammar text a
+whole_in_grammar : (text : List ℕ) (a : Addr) → IsEightGroups text a → InGrammar text a
 whole_in_grammar text a h = record {
   numbers = group_numbers h.groups;
   colon_hex = inl (rw h.spelled (groups_in_grammar true h.groups h.hex_digits), length-map h.groups (digits_value 16) ∙ h.eight);
@@ -151,8 +151,8 @@ compressed_in_grammar text a h =
     record {
       numbers = group_numbers h.front ++ replicate h.zeros 0 ++ group_numbers h.back;
       colon_hex = inr (record {
-        head_text = joined h.front;
-        tail_text = joined h.back;
+        head_text = joined_groups h.front;
+        tail_text = joined_groups h.back;
         head = group_numbers h.front;
         tail = group_numbers h.back;
         spelled = h.spelled;
@@ -173,7 +173,7 @@ pub no_mark : (b : ℕ) → IsMark b → (text : List ℕ) (a : Addr) → IsAddr
 no_mark b mark text a (inl h) = ap (marks b) h.spelled ∙ marks-joined b mark h.groups h.hex_digits
 no_mark b mark text a (inr h) =
     let colons : marks b (58 ∷ 58 ∷ []) ≡ 0 = rw (ne_eqb 58 b mark.1) in
-    omega (arith, ap (marks b) h.spelled, marks-append b (joined h.front ++ (58 ∷ 58 ∷ [])) (joined h.back), marks-append b (joined h.front) (58 ∷ 58 ∷ []), marks-joined b mark h.front h.hex_front, marks-joined b mark h.back h.hex_back)
+    omega (arith, ap (marks b) h.spelled, marks-append b (joined_groups h.front ++ (58 ∷ 58 ∷ [])) (joined_groups h.back), marks-append b (joined_groups h.front) (58 ∷ 58 ∷ []), marks-joined b mark h.front h.hex_front, marks-joined b mark h.back h.hex_back)
 
 pub no_dot : (text : List ℕ) (a : Addr) → IsAddrText text a → dots text ≡ 0
 no_dot = no_mark 46 (lit≤ tt, λ e. omega arith)

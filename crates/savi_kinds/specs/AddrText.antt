@@ -17,19 +17,19 @@ abbrev pub group_numbers : List (List ℕ) → List ℕ
 group_numbers groups = map (digits_value 16) groups
 
 -- groups with a colon between each two
-abbrev pub joined : List (List ℕ) → List ℕ
-joined groups = join_with_byte colon groups
+abbrev pub joined_groups : List (List ℕ) → List ℕ
+joined_groups groups = join_with_byte colon groups
 
 -- numbers of 16 bits as one number, the first of them the highest
 abbrev pub number_of_groups : List ℕ → ℕ
 number_of_groups numbers = number_from_digits (2 ^ 16) numbers
 
 -- form 1: eight groups
-pub record IsWhole (text : List ℕ) (a : Addr) : Type 0 where
+pub record IsEightGroups (text : List ℕ) (a : Addr) : Type 0 where
   pub groups : List (List ℕ)
   pub hex_digits : All IsGroup groups
   pub eight : length groups ≡ 8
-  pub spelled : text ≡ joined groups
+  pub spelled : text ≡ joined_groups groups
   pub value : a.0 ≡ number_of_groups (group_numbers groups)
 
 -- form 2: groups on each side of one '::', which stands for one group of zeros or more
@@ -41,12 +41,12 @@ pub record IsCompressed (text : List ℕ) (a : Addr) : Type 0 where
   pub hex_back : All IsGroup back
   pub some : 1 ≤ zeros
   pub eight : length front + zeros + length back ≡ 8
-  pub spelled : text ≡ joined front ++ codes "::" ++ joined back
+  pub spelled : text ≡ joined_groups front ++ codes "::" ++ joined_groups back
   pub value : a.0 ≡ number_of_groups (group_numbers front ++ replicate zeros 0 ++ group_numbers back)
 
 -- the text writes this address
 abbrev pub IsAddrText : List ℕ → Addr → Type 0
-IsAddrText text a = IsWhole text a ⊎ IsCompressed text a
+IsAddrText text a = IsEightGroups text a ⊎ IsCompressed text a
 
 -- the eight numbers of 16 bits that an address is, the highest first
 unfoldable pub groups_of : Addr → List ℕ
@@ -56,7 +56,7 @@ groups_of a =
 
 -- each group in lower case and without leading zeros (RFC 5952 sections 4.1 and 4.3), with colons between
 abbrev pub groups_text : List ℕ → List ℕ
-groups_text groups = joined (map hex groups)
+groups_text groups = joined_groups (map hex groups)
 
 -- The spelling of RFC 5952 section 4: '::' in place of the longest run of zero groups, and of two as long in place of
 -- the first; a single zero group is written as it is.

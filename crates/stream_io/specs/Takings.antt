@@ -11,10 +11,10 @@ use Rattle.stream_io.specs.Records.{IsRecord}
 use Rattle.stream_io.specs.Streams.{IsAtFault, IsCut}
 
 -- so many octets are held, at least one; or nothing is held, since nothing is left or a read failed
-abbrev pub Holds : Got → List ℕ → Option (List ℕ) → Type 0
-Holds (got.Bytes n) held left = (1 ≤ n) × (n ≡ length held)
-Holds got.End held left = (held ≡ []) × NothingLeft left
-Holds got.Failed held left = held ≡ []
+abbrev pub HoldsAhead : Got → List ℕ → Option (List ℕ) → Type 0
+HoldsAhead (got.Bytes n) held left = (1 ≤ n) × (n ≡ length held)
+HoldsAhead got.End held left = (held ≡ []) × NothingLeft left
+HoldsAhead got.Failed held left = held ≡ []
 
 -- The buffer was filled with the first of these octets and the others are held; or they are its front and the last ones of
 -- the source; or the read of what was still missing failed.

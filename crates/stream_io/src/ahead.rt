@@ -1,7 +1,7 @@
 ghost use Rattle.std.specs.Prelude.{◌≡◌, ◌≢◌, ◌≤◌, ℕ, List, [], ◌++◌, length, take, drop, min};
 ghost use Rattle.savi_ends.specs.Octets.{Takes};
 ghost use Rattle.savi_ends.specs.Faults.{Rose};
-ghost use Rattle.stream_io.specs.Takings.{Holds, FillsFrom, PassesOver};
+ghost use Rattle.stream_io.specs.Takings.{HoldsAhead, FillsFrom, PassesOver};
 
 use savi_ends::{Filled, Got, Source};
 use std::marker::Model;
@@ -83,7 +83,7 @@ impl Ahead {
         ensures later { S.faults source.old ≤ S.faults source.new }
         ensures cause { result ≡ Got.Failed → Rose (S.faults source.old) (S.faults source.new) }
         ensures octets { (gave : List ℕ) × Takes (S.left source.old) (S.left source.new) gave × (self.new ≡ self.old ++ gave) }
-        ensures holds { Holds result self.new (S.left source.new) }
+        ensures holds { HoldsAhead result self.new (S.left source.new) }
         ensures unread { self.old ≢ [] → (source.new ≡ source.old) × (self.new ≡ self.old) }
     {
         if self.at < self.end {

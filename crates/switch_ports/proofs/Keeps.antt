@@ -7,7 +7,7 @@ use Rattle.savi_kinds.specs.Ports.{number_of}
 use Rattle.savi_ends.specs.declared.world.Ends.{Ends}
 use Rattle.savi_ends.specs.Places.{Book, Place, OthersStay}
 use Rattle.port_worker.specs.declared.port_ends.PortEnds.{PortEnds}
-use Rattle.switch_ports.specs.Openings.{IsOff, AreApart}
+use Rattle.switch_ports.specs.Openings.{IsOff, HaveOwnNumbers}
 use Rattle.switch_ports.proofs.Rising.{All-both, All-middle}
 
 -- of all that were held, these are kept and those are still held
@@ -26,22 +26,22 @@ keeps_none {S} {K} {C} all book = record {
 }
 
 -- the next port that is kept is none of those that are
-pub off_kept : {S K C : Type 0} (gone still all : List (PortEnds S K C)) (p : PortEnds S K C) → AreApart all → all ≡ (still ++ p ∷ []) ++ gone → IsOff gone (number_of p.port)
+pub off_kept : {S K C : Type 0} (gone still all : List (PortEnds S K C)) (p : PortEnds S K C) → HaveOwnNumbers all → all ≡ (still ++ p ∷ []) ++ gone → IsOff gone (number_of p.port)
 off_kept {S} {K} {C} gone still all p apart split = λ k d inside same.
     let whole : all ≡ still ++ p ∷ gone = split ∙ append_assoc still (p ∷ []) gone in
     let there : get_or (still ++ p ∷ gone) (length still) d ≡ p = get_or_at still p gone d (length still) refl in
     let later : get_or (still ++ p ∷ gone) (length still + suc k) d ≡ get_or gone k d = get_or-append-add still (p ∷ gone) (suc k) d in
-    let differ : number_of (get_or (still ++ p ∷ gone) (length still) d).port ≢ number_of (get_or (still ++ p ∷ gone) (length still + suc k) d).port = subst (λ (l : List (PortEnds S K C)). AreApart l) whole apart (length still) (length still + suc k) d (omega arith) (omega (arith, length-append still (p ∷ gone))) in
+    let differ : number_of (get_or (still ++ p ∷ gone) (length still) d).port ≢ number_of (get_or (still ++ p ∷ gone) (length still + suc k) d).port = subst (λ (l : List (PortEnds S K C)). HaveOwnNumbers l) whole apart (length still) (length still + suc k) d (omega arith) (omega (arith, length-append still (p ∷ gone))) in
     differ (ap (λ (q : PortEnds S K C). number_of q.port) there ∙ sym same ∙ ap (λ (q : PortEnds S K C). number_of q.port) (sym later))
 
-pub next_out : {S K C : Type 0} (gone still all : List (PortEnds S K C)) (p : PortEnds S K C) (old mid : Book S K C) → AreApart all → All (λ q. (old.ports (number_of q.port)).is_out ≡ true) all → KeepsSoFar gone (still ++ p ∷ []) all old mid → (mid.ports (number_of p.port)).is_out ≡ true
+pub next_out : {S K C : Type 0} (gone still all : List (PortEnds S K C)) (p : PortEnds S K C) (old mid : Book S K C) → HaveOwnNumbers all → All (λ q. (old.ports (number_of q.port)).is_out ≡ true) all → KeepsSoFar gone (still ++ p ∷ []) all old mid → (mid.ports (number_of p.port)).is_out ≡ true
 next_out {S} {K} {C} gone still all p old mid apart out so_far =
     let IsOut : PortEnds S K C → Type 0 = λ q. (old.ports (number_of q.port)).is_out ≡ true in
     let off = off_kept gone still all p apart so_far.split in
     let was = All-middle IsOut still p gone (subst (λ (l : List (PortEnds S K C)). All IsOut l) (so_far.split ∙ append_assoc still (p ∷ []) gone) out) in
     ap (λ (x : Place (Ends S K C)). x.is_out) (so_far.others (number_of p.port) off) ∙ was
 
-pub keep_step : {S K C : Type 0} (gone still all : List (PortEnds S K C)) (p : PortEnds S K C) (old mid new : Book S K C) → AreApart all → KeepsSoFar gone (still ++ p ∷ []) all old mid
+pub keep_step : {S K C : Type 0} (gone still all : List (PortEnds S K C)) (p : PortEnds S K C) (old mid new : Book S K C) → HaveOwnNumbers all → KeepsSoFar gone (still ++ p ∷ []) all old mid
     → (new.ports (number_of p.port)).stands ≡ Some p.ends → OthersStay mid.ports new.ports (number_of p.port) → new ≡ record mid { ports = new.ports }
     → KeepsSoFar (p ∷ gone) still all old new
 keep_step {S} {K} {C} gone still all p old mid new apart so_far stands stay rest =

@@ -10,7 +10,7 @@ use Rattle.savi_kinds.specs.Ports.{number_of}
 use Rattle.savi_kinds.specs.ValidPlan.{numbers_of}
 use Rattle.port_worker.specs.declared.port_ends.PortEnds.{PortEnds}
 use Rattle.port_worker.specs.Replays.{ports_held}
-use Rattle.switch_ports.specs.Openings.{ports_of, IsOff, AreApart}
+use Rattle.switch_ports.specs.Openings.{ports_of, IsOff, HaveOwnNumbers}
 
 pub All-both : {X : Type 0} (P Q R : X → Type 0) (xs : List X) → All P xs → All Q xs → ((x : X) → P x → Q x → R x) → All R xs
 All-both P Q R xs ps qs both = λ k d inside. both (get_or xs k d) (ps k d inside) (qs k d inside)
@@ -57,7 +57,7 @@ off_next held plans i plan rising inside is ports k d within same =
     let there = ap (λ (p : PortPlan). number_of p.number) is in
     omega (arith, below, here, there, same)
 
-pub apart_from : {S K C : Type 0} (held : List (PortEnds S K C)) (plans : List PortPlan) (i : ℕ) → IsStrictlyIncreasing (numbers_of plans) → i ≤ length plans → ports_held held ≡ take i (ports_of plans) → AreApart held
+pub apart_from : {S K C : Type 0} (held : List (PortEnds S K C)) (plans : List PortPlan) (i : ℕ) → IsStrictlyIncreasing (numbers_of plans) → i ≤ length plans → ports_held held ≡ take i (ports_of plans) → HaveOwnNumbers held
 apart_from {S} {K} {C} held plans i rising within ports a b d below inside same =
     let size = length_held held plans i within ports in
     let e = element plans b (omega arith) in

@@ -19,8 +19,8 @@ abbrev pub IsOff : {S K C : Type 0} → List (PortEnds S K C) → ℕ → Type 0
 IsOff held n = All (λ p. number_of p.port ≢ n) held
 
 -- no two of these ports have one number
-abbrev pub AreApart : {S K C : Type 0} → List (PortEnds S K C) → Type 0
-AreApart held = AllPairs (λ p q. number_of p.port ≢ number_of q.port) held
+abbrev pub HaveOwnNumbers : {S K C : Type 0} → List (PortEnds S K C) → Type 0
+HaveOwnNumbers held = AllPairs (λ p q. number_of p.port ≢ number_of q.port) held
 
 -- the input of this port is read from its header on, of any classic kind
 abbrev pub IsReadAnew : {S K C : Type 0} → PortEnds S K C → Type 0

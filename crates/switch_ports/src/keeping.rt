@@ -2,14 +2,14 @@
 
 ghost use Rattle.std.specs.Prelude.{◌≡◌, ℕ, All, Some, true};
 ghost use Rattle.savi_kinds.specs.Ports.{number_of};
-ghost use Rattle.switch_ports.specs.Openings.{AreApart, IsOff};
+ghost use Rattle.switch_ports.specs.Openings.{HaveOwnNumbers, IsOff};
 
 use port_worker::PortEnds;
 use savi_ends::World;
 
 /// Keeps the ends of each of these ports at its own place. O(ports).
 pub fn keep_all<W: World>(mut held: Vec<PortEnds<W::S, W::K, W::C>>, world: &mut W)
-    requires apart { AreApart held.items }
+    requires apart { HaveOwnNumbers held.items }
     requires out { All (λ p. ((W.book world.old).ports (number_of p.port)).is_out ≡ true) held.items }
     ensures kept { All (λ p. ((W.book world.new).ports (number_of p.port)).stands ≡ Some p.ends) held.items }
     ensures others { (n : ℕ) → IsOff held.items n → (W.book world.new).ports n ≡ (W.book world.old).ports n }

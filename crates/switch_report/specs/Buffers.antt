@@ -9,6 +9,6 @@ pub record Holds (old new : Option (List ℕ)) (waits text : List ℕ) : Type 0 
   pub all : took ++ waits ≡ text
 
 -- the octets that wait, and for how many there is room
-pub record Waiting : Type 0 where
+pub record Buffered : Type 0 where
   pub octets : List ℕ
   pub room : ℕ

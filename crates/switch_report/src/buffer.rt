@@ -13,9 +13,9 @@ pub struct Buffer {
 
 impl Model for Buffer {
     ghost use Rattle.std.specs.Prelude.{◌≤◌, vec_len, vec_capacity};
-    ghost use Rattle.switch_report.specs.Buffers.{Waiting};
+    ghost use Rattle.switch_report.specs.Buffers.{Buffered};
 
-    ghost Value = { Waiting };
+    ghost Value = { Buffered };
 
     ghost view = { λ b. record { octets = b.octets.items; room = b.room } };
 
@@ -27,7 +27,7 @@ impl Buffer {
     ghost use Rattle.savi_ends.specs.declared.sink.Put.{Put};
     ghost use Rattle.savi_ends.specs.Faults.{Rose};
     ghost use Rattle.savi_ends.specs.Writes.{Extends};
-    ghost use Rattle.switch_report.specs.Buffers.{Waiting, Holds};
+    ghost use Rattle.switch_report.specs.Buffers.{Buffered, Holds};
 
     /// A buffer with room for so many octets, in which nothing waits. `Err` is want of memory.
     pub fn make(alloc: Global, room: usize) -> Result<Buffer, AllocError>

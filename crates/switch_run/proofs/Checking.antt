@@ -3,7 +3,7 @@ use Rattle.std.proofs.Common.{◌≡◌, ◌≤◌, ℕ, ◌⊎◌, inl, inr, Li
 use Rattle.savi_ends.specs.declared.world.Std.TheVariants.{Out}
 use Rattle.savi_ends.specs.Faults.{Rose}
 use Rattle.savi_ends.specs.Places.{Place, Book}
-use Rattle.run_config.specs.Configs.{HasFault, OfText}
+use Rattle.run_config.specs.Configs.{EndHasFault, OfText}
 use Rattle.journal_check.specs.declared.answer.Checked.{Checked}
 use Rattle.journal_check.specs.declared.answer.Checked.TheVariants.{Good, Wrong, BadLine, Failed, NoMemory}
 use Rattle.journal_check.specs.Answers.{IfRead, IsAnswer}
@@ -11,7 +11,7 @@ use Rattle.journal_check.specs.Laws.{IsFinishedJournal}
 use Rattle.switch_report.specs.RunLines.{cannot_open_line, memory_line, read_failed_line}
 use Rattle.switch_run.specs.Causes.{IsOneOf, IsUnserved, Keeps, TookOrPart, quiet_statuses, statuses}
 use Rattle.switch_run.specs.Checks.{IsAnswered, IsCheckRun, IsCheckedUnopened, IsJudged, IsKept, IsTextRead, check_line, check_status}
-use Rattle.switch_run.specs.Session.{Told, ToldBy}
+use Rattle.switch_run.specs.Session.{WasTold, ToldBy}
 use Rattle.run_config.proofs.Configured.{of_told}
 use Rattle.switch_run.proofs.Loading.{told_nothing}
 use Rattle.switch_run.proofs.Running.{Ran, inputs_first, inputs_last, ran_told, ran_quiet, ran_open, out≢err}
@@ -98,7 +98,7 @@ module _ {S K C : Type 0} (left : S → Option (List ℕ)) (written : K → Opti
   of_first : (Holds : List ℕ → Type 0) → OfText left (b1.inputs file) Holds → OfText left (b0.inputs file) Holds
   of_first Holds is = subst (λ (p : Place S). OfText left p Holds) first is
 
-  moved_judged : IsJudged left written source_faults sink_faults file (ToldBy sink_faults written e e') b1 b2 status → IsJudged left written source_faults sink_faults file (Told sink_faults written b0 b3) b0 b3 status
+  moved_judged : IsJudged left written source_faults sink_faults file (ToldBy sink_faults written e e') b1 b2 status → IsJudged left written source_faults sink_faults file (WasTold sink_faults written b0 b3) b0 b3 status
   moved_judged (inl unjudged) = inl (record {
     status_is = unjudged.status_is;
     errors = ran_told sink_faults written b0 b1 b2 b3 e e' memory_line ran unjudged.errors;
@@ -106,7 +106,7 @@ module _ {S K C : Type 0} (left : S → Option (List ℕ)) (written : K → Opti
   })
   moved_judged (inr (inl unread)) = inr (inl (record {
     status_is = unread.status_is;
-    fault = subst (λ (p : Place S). HasFault source_faults p) (sym last) unread.fault;
+    fault = subst (λ (p : Place S). EndHasFault source_faults p) (sym last) unread.fault;
     errors = ran_told sink_faults written b0 b1 b2 b3 e e' (read_failed_line file) ran unread.errors;
     out = ran_quiet b0 b1 b2 b3 e e' ran unread.out;
   }))
@@ -129,7 +129,7 @@ module _ {S K C : Type 0} (left : S → Option (List ℕ)) (written : K → Opti
       (subst (λ (p : Place S). Keeps (λ told back. source_faults told ≤ source_faults back) (b1.inputs file) p) (sym last) kept)
 
   moved_check : IsCheckedUnopened file (ToldBy sink_faults written e e') b1 b2 status ⊎ (IsKept source_faults file b1 b2 × IsJudged left written source_faults sink_faults file (ToldBy sink_faults written e e') b1 b2 status)
-      → IsCheckedUnopened file (Told sink_faults written b0 b3) b0 b3 status ⊎ (IsKept source_faults file b0 b3 × IsJudged left written source_faults sink_faults file (Told sink_faults written b0 b3) b0 b3 status)
+      → IsCheckedUnopened file (WasTold sink_faults written b0 b3) b0 b3 status ⊎ (IsKept source_faults file b0 b3 × IsJudged left written source_faults sink_faults file (WasTold sink_faults written b0 b3) b0 b3 status)
   moved_check (inl unopened) = inl (record {
     status_is = unopened.status_is;
     fault = ran_open b0 b1 b2 b3 e e' ran unopened.fault;
@@ -139,7 +139,7 @@ module _ {S K C : Type 0} (left : S → Option (List ℕ)) (written : K → Opti
   })
   moved_check (inr (kept, judged)) = inr (moved_kept kept, moved_judged judged)
 
-  pub ran_check : IsCheckRun left written source_faults sink_faults file (ToldBy sink_faults written e e') b1 b2 status → IsCheckRun left written source_faults sink_faults file (Told sink_faults written b0 b3) b0 b3 status
+  pub ran_check : IsCheckRun left written source_faults sink_faults file (ToldBy sink_faults written e e') b1 b2 status → IsCheckRun left written source_faults sink_faults file (WasTold sink_faults written b0 b3) b0 b3 status
   ran_check run = record {
     did = moved_check run.did;
     inputs = λ other apart. ap (λ (b : Book S K C). b.inputs other) ran.rest3 ∙ run.inputs other apart ∙ ap (λ (b : Book S K C). b.inputs other) ran.rest1;

@@ -9,9 +9,9 @@ use Rattle.switch_report.specs.RunLines.{memory_line, usage_line}
 use Rattle.switch_run.specs.Causes.{HasSomeReadFault, HasSomeWriteFault, IsElsewhereSame, IsOneOf, IsUntouched, IsUnused, quiet_statuses, session_statuses, statuses, unused_statuses}
 use Rattle.switch_run.specs.Checks.{IsCheckRun}
 use Rattle.switch_run.specs.Loads.{IsLoadRun}
-use Rattle.switch_run.specs.Runs.{IsRun, IsServeRun}
+use Rattle.switch_run.specs.Runs.{IsGenRun, IsServeRun}
 use Rattle.switch_run.specs.Live.{IsServeSession}
-use Rattle.switch_run.specs.Session.{IsFileUnread, IsNoPlan, IsSession, IsUnopened, IsUnplayed, Told, ToldBy}
+use Rattle.switch_run.specs.Session.{IsFileUnread, IsNoPlan, IsSession, IsUnopened, IsUnplayed, WasTold, ToldBy}
 use Rattle.switch_run.proofs.Checking.{check_is, check_memory, check_opening, check_out, check_unserved, never_two, ran_check}
 use Rattle.switch_run.proofs.Faulting.{live_read_fault, live_write_fault, read_fault_of, write_fault_of}
 use Rattle.switch_run.proofs.Forms.{same_file, same_journal, same_load, same_served, not_both, not_checked, not_judged, not_live, not_loaded, not_served}
@@ -23,27 +23,27 @@ use Rattle.switch_run.proofs.Running.{Ran, ran_told, ran_open, ran_quiet, ran_ru
 pub record Clauses {S K C : Type 0} (left : S → Option (List ℕ)) (written : K → Option (List ℕ)) (source_faults : S → ℕ) (sink_faults : K → ℕ) (readings : C → Option (List ℕ)) (words : List (List ℕ)) (old new : Book S K C) (status : ℕ) : Type 0 where
   pub one_of : IsOneOf statuses status
   pub usage : (status ≡ 2) ↔ (IsForm words → ⊥)
-  pub untouched : status ≡ 2 → IsUntouched old new × Told sink_faults written old new usage_line
-  pub memory : status ≡ 1 → Told sink_faults written old new memory_line
+  pub untouched : status ≡ 2 → IsUntouched old new × WasTold sink_faults written old new usage_line
+  pub memory : status ≡ 1 → WasTold sink_faults written old new memory_line
   pub unplayed : (file : List ℕ) → IsReplay file words → status ≡ 1 → IsUnplayed true left written file old new
-  pub config : (file : List ℕ) → IsReplay file words → status ≡ 3 → IsNoPlan true left file (Told sink_faults written old new) old new
+  pub config : (file : List ℕ) → IsReplay file words → status ≡ 3 → IsNoPlan true left file (WasTold sink_faults written old new) old new
   pub opening : status ≡ 7 → Rose old.faults new.faults
-  pub unopened : (file : List ℕ) → IsReplay file words → status ≡ 7 → IsUnopened true left file (Told sink_faults written old new) old new
+  pub unopened : (file : List ℕ) → IsReplay file words → status ≡ 7 → IsUnopened true left file (WasTold sink_faults written old new) old new
   pub session : (file : List ℕ) → IsReplay file words → IsOneOf session_statuses status
-      → IsFileUnread left source_faults file (Told sink_faults written old new) old new status ⊎ IsSession left written source_faults sink_faults file (Told sink_faults written old new) old new status
+      → IsFileUnread left source_faults file (WasTold sink_faults written old new) old new status ⊎ IsSession left written source_faults sink_faults file (WasTold sink_faults written old new) old new status
   pub read : (file : List ℕ) → IsReplay file words → status ≡ 5 → HasSomeReadFault source_faults file new
   pub write : (file : List ℕ) → IsReplay file words → status ≡ 6 → HasSomeWriteFault sink_faults new
   pub quiet : IsOneOf quiet_statuses status → new.std Out ≡ old.std Out
   pub unused : IsOneOf unused_statuses status → IsUnused old new
   pub elsewhere : (file : List ℕ) → IsReplay file words → IsElsewhereSame file old new
-  pub serve : (file : List ℕ) → IsServe file words → IsServeRun left written source_faults sink_faults readings file (Told sink_faults written old new) old new status
+  pub serve : (file : List ℕ) → IsServe file words → IsServeRun left written source_faults sink_faults readings file (WasTold sink_faults written old new) old new status
   pub served_read : (file : List ℕ) → IsServe file words → status ≡ 5 → HasSomeReadFault source_faults file new
   pub served_write : (file : List ℕ) → IsServe file words → status ≡ 6 → HasSomeWriteFault sink_faults new
-  pub check : (file : List ℕ) → IsCheck file words → IsCheckRun left written source_faults sink_faults file (Told sink_faults written old new) old new status
-  pub load : (seed frames : ℕ) → IsGen seed frames words → IsLoadRun written sink_faults seed frames (Told sink_faults written old new) old new status
+  pub check : (file : List ℕ) → IsCheck file words → IsCheckRun left written source_faults sink_faults file (WasTold sink_faults written old new) old new status
+  pub load : (seed frames : ℕ) → IsGen seed frames words → IsLoadRun written sink_faults seed frames (WasTold sink_faults written old new) old new status
 
 pub clauses_of : {S K C : Type 0} (left : S → Option (List ℕ)) (written : K → Option (List ℕ)) (source_faults : S → ℕ) (sink_faults : K → ℕ) (readings : C → Option (List ℕ)) (words : List (List ℕ)) (b0 b1 b2 b3 : Book S K C) (e e' : K) (status : ℕ) → Ran b0 b1 b2 b3 e e'
-    → IsRun left written source_faults sink_faults readings words (ToldBy sink_faults written e e') b1 b2 status → Clauses left written source_faults sink_faults readings words b0 b3 status
+    → IsGenRun left written source_faults sink_faults readings words (ToldBy sink_faults written e e') b1 b2 status → Clauses left written source_faults sink_faults readings words b0 b3 status
 clauses_of {S} {K} {C} left written source_faults sink_faults readings words b0 b1 b2 b3 e e' status ran (inl (two, none, told, same)) =
     let untouched = ran_untouched b0 b1 b2 b3 e e' ran same in
     record {
@@ -68,9 +68,9 @@ clauses_of {S} {K} {C} left written source_faults sink_faults readings words b0 
       load = λ seed frames form. absurd (none (inr (inr (inr (seed, frames, form)))));
     }
 clauses_of {S} {K} {C} left written source_faults sink_faults readings words b0 b1 b2 b3 e e' status ran (inr (inl (file, form, r))) =
-    let says : (lines : List ℕ) → ToldBy sink_faults written e e' lines → Told sink_faults written b0 b3 lines = λ lines told. ran_told sink_faults written b0 b1 b2 b3 e e' lines ran told in
-    let Session : Type 0 = IsSession left written source_faults sink_faults file (Told sink_faults written b0 b3) b0 b3 status in
-    let did = ran_run true left written source_faults _ (Told sink_faults written b0 b3) _ Session b0 b1 b2 b3 e e' file status ran says (ran_session left written source_faults sink_faults _ _ b0 b1 b2 b3 e e' file status ran says) r.run in
+    let says : (lines : List ℕ) → ToldBy sink_faults written e e' lines → WasTold sink_faults written b0 b3 lines = λ lines told. ran_told sink_faults written b0 b1 b2 b3 e e' lines ran told in
+    let Session : Type 0 = IsSession left written source_faults sink_faults file (WasTold sink_faults written b0 b3) b0 b3 status in
+    let did = ran_run true left written source_faults _ (WasTold sink_faults written b0 b3) _ Session b0 b1 b2 b3 e e' file status ran says (ran_session left written source_faults sink_faults _ _ b0 b1 b2 b3 e e' file status ran says) r.run in
     let serves : (f : List ℕ) → IsServe f words → ⊥ = λ f is. not_served words file f form is in
     record {
       one_of = did.one_of;
@@ -94,9 +94,9 @@ clauses_of {S} {K} {C} left written source_faults sink_faults readings words b0 
       load = λ seed frames is. absurd (not_both words file seed frames form is);
     }
 clauses_of {S} {K} {C} left written source_faults sink_faults readings words b0 b1 b2 b3 e e' status ran (inr (inr (inl (file, form, r)))) =
-    let says : (lines : List ℕ) → ToldBy sink_faults written e e' lines → Told sink_faults written b0 b3 lines = λ lines told. ran_told sink_faults written b0 b1 b2 b3 e e' lines ran told in
-    let Session : Type 0 = IsServeSession left written source_faults sink_faults readings file (Told sink_faults written b0 b3) b0 b3 status in
-    let did = ran_run false left written source_faults _ (Told sink_faults written b0 b3) _ Session b0 b1 b2 b3 e e' file status ran says (ran_served left written source_faults sink_faults readings _ _ b0 b1 b2 b3 e e' file status ran says) r in
+    let says : (lines : List ℕ) → ToldBy sink_faults written e e' lines → WasTold sink_faults written b0 b3 lines = λ lines told. ran_told sink_faults written b0 b1 b2 b3 e e' lines ran told in
+    let Session : Type 0 = IsServeSession left written source_faults sink_faults readings file (WasTold sink_faults written b0 b3) b0 b3 status in
+    let did = ran_run false left written source_faults _ (WasTold sink_faults written b0 b3) _ Session b0 b1 b2 b3 e e' file status ran says (ran_served left written source_faults sink_faults readings _ _ b0 b1 b2 b3 e e' file status ran says) r in
     let replays : (f : List ℕ) → IsReplay f words → ⊥ = λ f is. not_served words f file is form in
     record {
       one_of = did.one_of;

@@ -22,7 +22,7 @@ use Rattle.savi_history.proofs.Failing.{IsOfInput, failed_at_input}
 use Rattle.savi_history.proofs.FailedWrites.{IsOfOutput, failed_write_at_output}
 use Rattle.savi_history.proofs.WithoutControl.{without_control}
 use Rattle.live_session.specs.LiveRows.{ControlRow}
-use Rattle.run_config.specs.Configs.{HasFault}
+use Rattle.run_config.specs.Configs.{EndHasFault}
 use Rattle.port_worker.specs.ControlServed.{IsControlServed}
 use Rattle.switch_run.specs.Causes.{HasReadFault, HasSomeReadFault, HasSomeWriteFault, Keeps, TookOrPart}
 use Rattle.switch_run.specs.Live.{IsServeOf, IsServeSession, ServesControlAt}
@@ -50,7 +50,7 @@ which_unwritten false true is = cc
 which_unwritten false false is = inr refl
 
 -- what is kept in a place has a fault
-fault_kept : {X : Type 0} (faults : X → ℕ) (place : Place X) (x : X) → place.stands ≡ Some x → 0 < faults x → HasFault faults place
+fault_kept : {X : Type 0} (faults : X → ℕ) (place : Place X) (x : X) → place.stands ≡ Some x → 0 < faults x → EndHasFault faults place
 fault_kept faults place x kept fault = rw kept fault
 
 -- control ended so only where it has an input, and then its ends stand in its place
@@ -79,7 +79,7 @@ module _ {S K C : Type 0} (left : S → Option (List ℕ)) (written : K → Opti
   control_ends : (r.serves.lines ≡ None → ⊥) → HasEnds left written source_faults sink_faults plan r.past old.control new.control
   control_ends some = has_ends left written source_faults sink_faults plan r.past plan.control r.serves.lines r.serves.stops.control old.control new.control r.serves.control some
 
-  read_at : IsOfInput plan r.past → ((port : ℕ) × HasReadFault source_faults new port) ⊎ HasFault (λ e. source_faults e.source) new.control
+  read_at : IsOfInput plan r.past → ((port : ℕ) × HasReadFault source_faults new port) ⊎ EndHasFault (λ e. source_faults e.source) new.control
   read_at (inl found) =
       let port = get_or (numbers_of plan.ports) found.0 0 in
       let at = r.serves.each found.0 no_input found.1 in
@@ -101,7 +101,7 @@ module _ {S K C : Type 0} (left : S → Option (List ℕ)) (written : K → Opti
       let rose = at.holds.unwritten is in
       inr (inl (fault_kept (λ (e : Ends S K C). sink_faults e.sink) new.control at.back at.kept (omega (arith, rose))))
 
-  replay_read : status ≡ 5 → ((port : ℕ) × HasReadFault source_faults new port) ⊎ HasFault (λ e. source_faults e.source) new.control
+  replay_read : status ≡ 5 → ((port : ℕ) × HasReadFault source_faults new port) ⊎ EndHasFault (λ e. source_faults e.source) new.control
   replay_read five =
       let failed : has_failed r.past ≡ true = failed_by status (has_failed r.past) (has_failed_write r.past || not (r.reported.journal_written && r.reported.summed.summary_written)) (has_malformed r.past) (has_full r.past) r.reported.summed.cause five in
       read_at (subst (λ (l : List Row). IsOfInput plan l) (sym r.serves.replay) (failed_at_input plan empty r.serves.lines r.serves.inputs r.serves.stops (ap has_failed (sym r.serves.replay) ∙ failed)))
@@ -114,17 +114,17 @@ read_fault_of left written source_faults sink_faults Says old new file status fi
     inr (replay_read left written source_faults sink_faults session.plan Says old new status session.configured.built.valid.ports session.session.did five)
 
 -- a write of octets that weren't all taken failed
-unwritten_fault : {K : Type 0} (faults : K → ℕ) (written : K → Option (List ℕ)) (done : Bool) (octets : List ℕ) (old new : Place K) → done ≡ false → Keeps (TookOrPart faults written done octets) old new → HasFault faults new
+unwritten_fault : {K : Type 0} (faults : K → ℕ) (written : K → Option (List ℕ)) (done : Bool) (octets : List ℕ) (old new : Place K) → done ≡ false → Keeps (TookOrPart faults written done octets) old new → EndHasFault faults new
 unwritten_fault faults written true octets old new none keeps = cc
 unwritten_fault faults written false octets old new none keeps = fault_kept faults new keeps.back keeps.kept keeps.holds.0
 
 -- of two writes that weren't both done one failed
-one_unwritten : {K : Type 0} (faults : K → ℕ) (written : K → Option (List ℕ)) (first second : Bool) (a a' b b' : Place K) (text line : List ℕ) → (first && second) ≡ false → Keeps (TookOrPart faults written first text) a a' → Keeps (TookOrPart faults written second line) b b' → HasFault faults a' ⊎ HasFault faults b'
+one_unwritten : {K : Type 0} (faults : K → ℕ) (written : K → Option (List ℕ)) (first second : Bool) (a a' b b' : Place K) (text line : List ℕ) → (first && second) ≡ false → Keeps (TookOrPart faults written first text) a a' → Keeps (TookOrPart faults written second line) b b' → EndHasFault faults a' ⊎ EndHasFault faults b'
 one_unwritten faults written true true a a' b b' text line is one other = cc
 one_unwritten faults written true false a a' b b' text line is one other = inr (unwritten_fault faults written false line b b' refl other)
 one_unwritten faults written false second a a' b b' text line is one other = inl (unwritten_fault faults written false text a a' refl one)
 
-named : {S K C : Type 0} (sink_faults : K → ℕ) (name : List ℕ) (new : Book S K C) → HasFault sink_faults (new.outputs name) ⊎ HasFault sink_faults (new.std Out) → HasSomeWriteFault sink_faults new
+named : {S K C : Type 0} (sink_faults : K → ℕ) (name : List ℕ) (new : Book S K C) → EndHasFault sink_faults (new.outputs name) ⊎ EndHasFault sink_faults (new.std Out) → HasSomeWriteFault sink_faults new
 named sink_faults name new (inl journal) = inr (inr (inl (name, journal)))
 named sink_faults name new (inr out) = inr (inr (inr out))
 
@@ -164,7 +164,7 @@ module _ {S K C : Type 0} (left : S → Option (List ℕ)) (written : K → Opti
   has_live (Some names) how old new serves is other = serves
 
 module _ {S K C : Type 0} (left : S → Option (List ℕ)) (written : K → Option (List ℕ)) (source_faults : S → ℕ) (sink_faults : K → ℕ) (readings : C → Option (List ℕ)) (plan : Plan) (Says : List ℕ → Type 0) (old new : Book S K C) (status : ℕ) (r : IsServeOf left written source_faults sink_faults readings plan Says old new status) where
-  live_read_at : IsOfInput plan r.past → ((port : ℕ) × HasReadFault source_faults new port) ⊎ HasFault (λ e. source_faults e.source) new.control
+  live_read_at : IsOfInput plan r.past → ((port : ℕ) × HasReadFault source_faults new port) ⊎ EndHasFault (λ e. source_faults e.source) new.control
   live_read_at (inl (k, inside, is)) =
       let d = plan_element plan.ports k inside in
       let p = get_or plan.ports k d in
@@ -188,7 +188,7 @@ module _ {S K C : Type 0} (left : S → Option (List ℕ)) (written : K → Opti
       let rose = at.holds.unwritten is in
       inr (inl (fault_kept (λ (e : Ends S K C). sink_faults e.sink) new.control at.back at.kept (omega (arith, rose))))
 
-  live_read : status ≡ 5 → ((port : ℕ) × HasReadFault source_faults new port) ⊎ HasFault (λ e. source_faults e.source) new.control
+  live_read : status ≡ 5 → ((port : ℕ) × HasReadFault source_faults new port) ⊎ EndHasFault (λ e. source_faults e.source) new.control
   live_read five =
       let w = has_failed_write r.past || not (r.reported.journal_written && r.reported.summed.summary_written) in
       live_read_at (legal_failed plan empty r.past r.legal (failed_by status (has_failed r.past) w (has_malformed r.past) (has_full r.past) r.reported.summed.cause five))

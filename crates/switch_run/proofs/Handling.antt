@@ -13,7 +13,7 @@ use Rattle.port_worker.specs.declared.control_ends.ControlEnds.{ControlEnds}
 use Rattle.port_worker.specs.declared.port_ends.PortEnds.{PortEnds}
 use Rattle.port_worker.specs.Pairs.{EachPair}
 use Rattle.port_worker.specs.Replays.{ports_held}
-use Rattle.switch_ports.specs.Openings.{ports_of, AreApart, IsControlOpened, IsNextBehind, IsOff, IsOpened}
+use Rattle.switch_ports.specs.Openings.{ports_of, HaveOwnNumbers, IsControlOpened, IsNextBehind, IsOff, IsOpened}
 use Rattle.switch_ports.proofs.Rising.{apart_from}
 use Rattle.port_worker.specs.Served.{IsSamePort}
 use Rattle.switch_run.proofs.Through.{Handled, HandledControl, HandledOne}
@@ -25,12 +25,12 @@ pub same_ports : {S K C : Type 0} (held : List (PortEnds S K C)) → EachPair Is
 same_ports held = record { size = refl; each = λ k d inside. refl }
 
 -- ports that were opened, all or the first of them, are apart
-pub apart_all : {S K C : Type 0} (held : List (PortEnds S K C)) (plans : List PortPlan) → IsStrictlyIncreasing (numbers_of plans) → ports_held held ≡ ports_of plans → AreApart held
+pub apart_all : {S K C : Type 0} (held : List (PortEnds S K C)) (plans : List PortPlan) → IsStrictlyIncreasing (numbers_of plans) → ports_held held ≡ ports_of plans → HaveOwnNumbers held
 apart_all held plans rising ports =
     let sizes = length-map plans (λ (p : PortPlan). p.number) in
     apart_from held plans (length plans) rising (omega arith) (ports ∙ sym (take_all (length plans) (ports_of plans) (omega (arith, sizes))))
 
-pub apart_first : {S K C : Type 0} (held : List (PortEnds S K C)) (plans : List PortPlan) (port : Port) → IsStrictlyIncreasing (numbers_of plans) → IsNextBehind port (ports_held held) (ports_of plans) → AreApart held
+pub apart_first : {S K C : Type 0} (held : List (PortEnds S K C)) (plans : List PortPlan) (port : Port) → IsStrictlyIncreasing (numbers_of plans) → IsNextBehind port (ports_held held) (ports_of plans) → HaveOwnNumbers held
 apart_first {S} {K} {C} held plans port rising (later, all) =
     let first = length-map held (λ (p : PortEnds S K C). p.port) in
     let second = length-map plans (λ (p : PortPlan). p.number) in
@@ -40,7 +40,7 @@ apart_first {S} {K} {C} held plans port rising (later, all) =
     ap (λ (l : List Port). take (length held) l) all ∙ take-append-le (length held) (ports_held held) (port ∷ later) (omega (arith, first)) ∙ take_all (length held) (ports_held held) (omega (arith, first)) in
     apart_from held plans (length held) rising (omega (arith, first, second, sizes, more)) (sym front)
 
-pub apart_back : {S K C : Type 0} (held back : List (PortEnds S K C)) → EachPair IsSamePort held back → AreApart held → AreApart back
+pub apart_back : {S K C : Type 0} (held back : List (PortEnds S K C)) → EachPair IsSamePort held back → HaveOwnNumbers held → HaveOwnNumbers back
 apart_back held back pairs apart = λ i j d below inside same.
     let size = pairs.size in
     apart i j d below (omega (arith, size, inside)) (sym (same_number held back i d pairs (omega (arith, size, below, inside))) ∙ same ∙ same_number held back j d pairs (omega (arith, size, inside)))

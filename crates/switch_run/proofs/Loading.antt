@@ -13,7 +13,7 @@ use Rattle.load_run.specs.LoadHistory.{AreOrdinary, load_history}
 use Rattle.switch_report.specs.RunLines.{memory_line}
 use Rattle.switch_run.specs.Causes.{IsOneOf, IsUnserved, Keeps, TookOrPart, quiet_statuses, statuses}
 use Rattle.switch_run.specs.Loads.{IsLoadRun, IsLoadSummed, IsLoadUnplayed}
-use Rattle.switch_run.specs.Session.{Told, ToldBy}
+use Rattle.switch_run.specs.Session.{WasTold, ToldBy}
 use Rattle.switch_run.proofs.Running.{Ran, ran_told, ran_quiet, out≢err}
 
 by_written : (P : ℕ → Type 0) (status : ℕ) (written : Bool) → P 0 → P 6 → status ≡ (if written then 0 else 6) → P status
@@ -64,7 +64,7 @@ module _ {S K C : Type 0} (written : K → Option (List ℕ)) (sink_faults : K �
 
 module _ {S K C : Type 0} (written : K → Option (List ℕ)) (sink_faults : K → ℕ) (seed frames : ℕ) (b0 b1 b2 b3 : Book S K C) (e e' : K) (status : ℕ) (ran : Ran b0 b1 b2 b3 e e') where
   moved : IsLoadUnplayed (ToldBy sink_faults written e e') (b1.std Out) (b2.std Out) status ⊎ IsLoadSummed written sink_faults seed frames (ToldBy sink_faults written e e') (b1.std Out) (b2.std Out) status
-      → IsLoadUnplayed (Told sink_faults written b0 b3) (b0.std Out) (b3.std Out) status ⊎ IsLoadSummed written sink_faults seed frames (Told sink_faults written b0 b3) (b0.std Out) (b3.std Out) status
+      → IsLoadUnplayed (WasTold sink_faults written b0 b3) (b0.std Out) (b3.std Out) status ⊎ IsLoadSummed written sink_faults seed frames (WasTold sink_faults written b0 b3) (b0.std Out) (b3.std Out) status
   moved (inl unplayed) = inl (record {
     one = unplayed.one;
     errors = ran_told sink_faults written b0 b1 b2 b3 e e' memory_line ran unplayed.errors;
@@ -82,7 +82,7 @@ module _ {S K C : Type 0} (written : K → Option (List ℕ)) (sink_faults : K �
     cause = summed.cause;
   })
 
-  pub ran_load : IsLoadRun written sink_faults seed frames (ToldBy sink_faults written e e') b1 b2 status → IsLoadRun written sink_faults seed frames (Told sink_faults written b0 b3) b0 b3 status
+  pub ran_load : IsLoadRun written sink_faults seed frames (ToldBy sink_faults written e e') b1 b2 status → IsLoadRun written sink_faults seed frames (WasTold sink_faults written b0 b3) b0 b3 status
   ran_load run = record {
     did = moved run.did;
     rest = ran.rest3 ∙ ap (λ (b : Book S K C). record b { std = b3.std }) run.rest ∙ ap (λ (b : Book S K C). record b { std = b3.std }) ran.rest1;

@@ -10,7 +10,7 @@ use Rattle.savi_ends.specs.Writes.{Extends}
 use Rattle.savi_ends.specs.Places.{Place, Book}
 use Rattle.hist_store.specs.Rows.{Row}
 use Rattle.switch_run.specs.Live.{IsServeOf}
-use Rattle.switch_run.specs.Session.{IsReplayOf, IsReported, IsSessionOf, IsSummed, Told, ToldBy}
+use Rattle.switch_run.specs.Session.{IsReplayOf, IsReported, IsSessionOf, IsSummed, WasTold, ToldBy}
 
 -- a line was told, or its write failed
 pub told_by : {K : Type 0} (faults : K → ℕ) (written : K → Option (List ℕ)) (put : Put) (old new : K) (line : List ℕ) → Extends put (written old) (written new) line → (put ≡ Failed → Rose (faults old) (faults new)) → ToldBy faults written old new line
@@ -18,7 +18,7 @@ told_by faults written Done old new line extends cause = inl extends
 told_by faults written Failed old new line extends cause = let rose = cause refl in inr (omega (arith, rose))
 
 -- what a sink was told is what its place was told
-pub told_at : {S K C : Type 0} (faults : K → ℕ) (written : K → Option (List ℕ)) (old new : Book S K C) (sink sink' : K) (lines : List ℕ) → IfSome (old.std Err).stands (λ t. sink ≡ t) → (new.std Err).stands ≡ Some sink' → ToldBy faults written sink sink' lines → Told faults written old new lines
+pub told_at : {S K C : Type 0} (faults : K → ℕ) (written : K → Option (List ℕ)) (old new : Book S K C) (sink sink' : K) (lines : List ℕ) → IfSome (old.std Err).stands (λ t. sink ≡ t) → (new.std Err).stands ≡ Some sink' → ToldBy faults written sink sink' lines → WasTold faults written old new lines
 told_at faults written old new sink sink' lines told kept says = record { handed = sink; back = sink'; told = told; kept = kept; holds = says }
 
 moved_summed : {K : Type 0} (written : K → Option (List ℕ)) (faults : K → ℕ) (Says Says' : List ℕ → Type 0) (past : List Row) (journal_written : Bool) (old new old' new' : Place K) (status : ℕ) → old' ≡ old → new' ≡ new → ((lines : List ℕ) → Says lines → Says' lines)

@@ -7,7 +7,7 @@ use Rattle.savi_ends.specs.Faults.{Rose}
 use Rattle.savi_ends.specs.Places.{Place, Book, OthersStay}
 use Rattle.run_config.specs.declared.refusal.Refusal.{Refusal}
 use Rattle.run_config.specs.declared.refusal.Refusal.TheVariants as refusal
-use Rattle.run_config.specs.Configs.{HasFault, IsReadFrom, IsRefused}
+use Rattle.run_config.specs.Configs.{EndHasFault, IsReadFrom, IsRefused}
 use Rattle.switch_run.specs.Causes.{IsBack, IsOneOf, IsUnserved, IsUnused, session_statuses}
 use Rattle.switch_run.specs.Runs.{IsRunOf}
 use Rattle.switch_run.specs.Concluded.{refusal_line, refusal_status}
@@ -28,7 +28,7 @@ not_session : (status n : ℕ) → status ≡ n → (IsOneOf session_statuses n 
 not_session status n e never one_of = never (subst (λ (m : ℕ). IsOneOf session_statuses m) e one_of)
 
 pub refuses : {S K C : Type 0} (replay : Bool) (left : S → Option (List ℕ)) (written : K → Option (List ℕ)) (source_faults : S → ℕ) (file : List ℕ) (Says : List ℕ → Type 0) (Session : Type 0) (r : Refusal) (old new : Book S K C) (status : ℕ)
-    → status ≡ refusal_status r → Says (refusal_line file r) → ((fault : ConfFault) → r ≡ refusal.Refused fault → IsRefused replay left (old.inputs file) fault) → (r ≡ refusal.CannotOpen → Rose old.faults new.faults) → (r ≡ refusal.ReadFailed → HasFault source_faults (new.inputs file))
+    → status ≡ refusal_status r → Says (refusal_line file r) → ((fault : ConfFault) → r ≡ refusal.Refused fault → IsRefused replay left (old.inputs file) fault) → (r ≡ refusal.CannotOpen → Rose old.faults new.faults) → (r ≡ refusal.ReadFailed → EndHasFault source_faults (new.inputs file))
     → (r ≡ refusal.CannotOpen → new.inputs file ≡ old.inputs file) → (r ≢ refusal.CannotOpen → r ≢ refusal.NoMemory → IsReadFrom left (old.inputs file) (new.inputs file)) → (r ≡ refusal.NoMemory → (new.inputs file ≡ old.inputs file) ⊎ IsReadFrom left (old.inputs file) (new.inputs file)) → IsUnserved old new
     → new.std Out ≡ old.std Out → OthersStay old.inputs new.inputs file → IsRunOf replay left written source_faults file Says Session old new status
 refuses replay left written source_faults file Says Session refusal.NoMemory old new status is told refused unopened unread place kept memory unserved quiet inputs = record {

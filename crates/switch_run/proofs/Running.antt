@@ -7,11 +7,11 @@ use Rattle.savi_ends.specs.declared.world.Std.TheVariants.{Out, Err}
 use Rattle.savi_ends.specs.declared.world.Ends.{Ends}
 use Rattle.savi_ends.specs.Faults.{Rose}
 use Rattle.savi_ends.specs.Places.{Place, Book, OthersStay}
-use Rattle.run_config.specs.Configs.{HasFault, IsConfigured, IsReadFrom, IsRefused}
+use Rattle.run_config.specs.Configs.{EndHasFault, IsConfigured, IsReadFrom, IsRefused}
 use Rattle.switch_run.specs.Causes.{IsBack, IsOffPlanSame, IsUnserved, IsUnused, IsUntouched, Keeps, KeepsAll, KeepsControl}
 use Rattle.switch_run.specs.Runs.{IsRunOf}
 use Rattle.switch_run.specs.Live.{IsServeOf, IsServeSession}
-use Rattle.switch_run.specs.Session.{IsNoPlan, IsPartUnopened, IsSession, IsSessionOf, IsUnopened, IsUnplayed, IsFileUnread, Told, ToldBy}
+use Rattle.switch_run.specs.Session.{IsNoPlan, IsPartUnopened, IsSession, IsSessionOf, IsUnopened, IsUnplayed, IsFileUnread, WasTold, ToldBy}
 use Rattle.port_worker.specs.SentFrames.{TookMore}
 use Rattle.port_worker.specs.Used.{IsUsed}
 use Rattle.switch_run.proofs.Recast.{moved_serve, moved_session, told_at}
@@ -32,7 +32,7 @@ pub record Ran {S K C : Type 0} (b0 b1 b2 b3 : Book S K C) (e e' : K) : Type 0 w
   pub others3 : OthersStay b2.std b3.std Err
   pub rest3 : b3 ≡ record b2 { std = b3.std }
 
-pub ran_told : {S K C : Type 0} (faults : K → ℕ) (written : K → Option (List ℕ)) (b0 b1 b2 b3 : Book S K C) (e e' : K) (lines : List ℕ) → Ran b0 b1 b2 b3 e e' → ToldBy faults written e e' lines → Told faults written b0 b3 lines
+pub ran_told : {S K C : Type 0} (faults : K → ℕ) (written : K → Option (List ℕ)) (b0 b1 b2 b3 : Book S K C) (e e' : K) (lines : List ℕ) → Ran b0 b1 b2 b3 e e' → ToldBy faults written e e' lines → WasTold faults written b0 b3 lines
 ran_told faults written b0 b1 b2 b3 e e' lines ran says = told_at faults written b0 b3 e e' lines ran.told ran.kept says
 
 pub ran_open : {S K C : Type 0} (b0 b1 b2 b3 : Book S K C) (e e' : K) → Ran b0 b1 b2 b3 e e' → Rose b1.faults b2.faults → Rose b0.faults b3.faults
@@ -203,7 +203,7 @@ pub ran_unread : {S K C : Type 0} (left : S → Option (List ℕ)) (source_fault
     → IsFileUnread left source_faults file Says b1 b2 status → IsFileUnread left source_faults file Says' b0 b3 status
 ran_unread {S} {K} {C} left source_faults Says Says' b0 b1 b2 b3 e e' file status ran says unread = record {
   status_is = unread.status_is;
-  fault = subst (λ (p : Place S). HasFault source_faults p) (sym (ap (λ (b : Book S K C). b.inputs file) ran.rest3)) unread.fault;
+  fault = subst (λ (p : Place S). EndHasFault source_faults p) (sym (ap (λ (b : Book S K C). b.inputs file) ran.rest3)) unread.fault;
   input = ran_input left b0 b1 b2 b3 e e' file ran unread.input;
   errors = says _ unread.errors;
   out = ran_quiet b0 b1 b2 b3 e e' ran unread.out;

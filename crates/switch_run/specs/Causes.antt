@@ -7,27 +7,27 @@ use Rattle.savi_ends.specs.declared.world.Std.TheVariants.{Out}
 use Rattle.savi_ends.specs.declared.world.Ends.{Ends}
 use Rattle.savi_ends.specs.Octets.{behind, IsFront}
 use Rattle.savi_ends.specs.Places.{Place, Book, OthersStay}
-use Rattle.run_config.specs.Configs.{HasFault}
+use Rattle.run_config.specs.Configs.{EndHasFault}
 use Rattle.port_worker.specs.SentFrames.{TookMore}
 use Rattle.port_worker.specs.Used.{IsUsed}
 
 -- a read of the source of this port has failed
 abbrev pub HasReadFault : {S K C : Type 0} → (S → ℕ) → Book S K C → ℕ → Type 0
-HasReadFault faults book port = HasFault (λ ends. faults ends.source) (book.ports port)
+HasReadFault faults book port = EndHasFault (λ ends. faults ends.source) (book.ports port)
 
 -- a write of the sink of this port has failed
 abbrev pub HasWriteFault : {S K C : Type 0} → (K → ℕ) → Book S K C → ℕ → Type 0
-HasWriteFault faults book port = HasFault (λ ends. faults ends.sink) (book.ports port)
+HasWriteFault faults book port = EndHasFault (λ ends. faults ends.sink) (book.ports port)
 
 -- a read has failed: of the configuration, of the source of a port, or of that of control
 abbrev pub HasSomeReadFault : {S K C : Type 0} → (S → ℕ) → List ℕ → Book S K C → Type 0
 HasSomeReadFault faults file book =
-    HasFault faults (book.inputs file) ⊎ (((port : ℕ) × HasReadFault faults book port) ⊎ HasFault (λ ends. faults ends.source) book.control)
+    EndHasFault faults (book.inputs file) ⊎ (((port : ℕ) × HasReadFault faults book port) ⊎ EndHasFault (λ ends. faults ends.source) book.control)
 
 -- a write has failed: of the sink of a port or of that of control, of an output by name, or of standard output
 abbrev pub HasSomeWriteFault : {S K C : Type 0} → (K → ℕ) → Book S K C → Type 0
 HasSomeWriteFault faults book =
-    ((port : ℕ) × HasWriteFault faults book port) ⊎ (HasFault (λ ends. faults ends.sink) book.control ⊎ (((name : List ℕ) × HasFault faults (book.outputs name)) ⊎ HasFault faults (book.std Out)))
+    ((port : ℕ) × HasWriteFault faults book port) ⊎ (EndHasFault (λ ends. faults ends.sink) book.control ⊎ (((name : List ℕ) × EndHasFault faults (book.outputs name)) ⊎ EndHasFault faults (book.std Out)))
 
 -- the number is one of these
 abbrev pub IsOneOf : List ℕ → ℕ → Type 0

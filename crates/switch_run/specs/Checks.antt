@@ -4,7 +4,7 @@ use Rattle.std.specs.Prelude.{◌≡◌, ◌≤◌, ◌⊎◌, ℕ, Bool, if◌t
 use Rattle.savi_ends.specs.declared.world.Std.TheVariants.{Out}
 use Rattle.savi_ends.specs.Faults.{Rose}
 use Rattle.savi_ends.specs.Places.{Book, OthersStay}
-use Rattle.run_config.specs.Configs.{HasFault, OfText}
+use Rattle.run_config.specs.Configs.{EndHasFault, OfText}
 use Rattle.journal_check.specs.declared.answer.Checked.{Checked}
 use Rattle.journal_check.specs.declared.answer.Checked.TheVariants.{Good, Wrong, BadLine, Failed, NoMemory}
 use Rattle.journal_check.specs.Answers.{IsAnswer}
@@ -54,7 +54,7 @@ pub record IsUnjudged {S K C : Type 0} (Says : List ℕ → Type 0) (old new : B
 -- A read of the file failed, as standard error was told.
 pub record IsJournalUnread {S K C : Type 0} (source_faults : S → ℕ) (file : List ℕ) (Says : List ℕ → Type 0) (old new : Book S K C) (status : ℕ) : Type 0 where
   pub status_is : status ≡ 5
-  pub fault : HasFault source_faults (new.inputs file)
+  pub fault : EndHasFault source_faults (new.inputs file)
   pub errors : Says (read_failed_line file)
   pub out : new.std Out ≡ old.std Out
 

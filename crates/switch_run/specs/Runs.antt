@@ -37,8 +37,8 @@ IsServeRun left written source_faults sink_faults readings file Says old new sta
 
 -- the words were no form of the command line, and nothing was touched; or what they name was replayed, served or checked, or
 -- the load that they ask for was replayed
-abbrev pub IsRun : {S K C : Type 0} → (S → Option (List ℕ)) → (K → Option (List ℕ)) → (S → ℕ) → (K → ℕ) → (C → Option (List ℕ)) → List (List ℕ) → (List ℕ → Type 0) → Book S K C → Book S K C → ℕ → Type 0
-IsRun left written source_faults sink_faults readings words Says old new status =
+abbrev pub IsGenRun : {S K C : Type 0} → (S → Option (List ℕ)) → (K → Option (List ℕ)) → (S → ℕ) → (K → ℕ) → (C → Option (List ℕ)) → List (List ℕ) → (List ℕ → Type 0) → Book S K C → Book S K C → ℕ → Type 0
+IsGenRun left written source_faults sink_faults readings words Says old new status =
     ((status ≡ 2) × (IsForm words → ⊥) × Says usage_line × (new ≡ old))
     ⊎ (((file : List ℕ) × IsReplay file words × IsReplayRun left written source_faults sink_faults file Says old new status)
     ⊎ (((file : List ℕ) × IsServe file words × IsServeRun left written source_faults sink_faults readings file Says old new status)

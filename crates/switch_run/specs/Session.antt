@@ -20,7 +20,7 @@ use Rattle.savi_history.specs.Accesses.{AllPassedRightly}
 use Rattle.savi_history.specs.Journals.{IsJournalOf, IsSame}
 use Rattle.savi_history.specs.Summary.{summary_of, summary_text}
 use Rattle.savi_conf.specs.declared.fault.ConfFault.{ConfFault}
-use Rattle.run_config.specs.Configs.{HasFault, IsConfigured, IsReadFrom, IsRefused}
+use Rattle.run_config.specs.Configs.{EndHasFault, IsConfigured, IsReadFrom, IsRefused}
 use Rattle.switch_report.specs.RunLines.{cannot_open_line, config_line, write_failed_line, read_failed_line, port_name, control_word, journal_word}
 use Rattle.port_worker.specs.ControlServed.{IsControlServed}
 use Rattle.port_worker.specs.Served.{IsServed, ServesPorts}
@@ -37,8 +37,8 @@ abbrev pub ToldBy : {K : Type 0} → (K → ℕ) → (K → Option (List ℕ)) �
 ToldBy faults written old new lines = (written new ≡ behind (written old) lines) ⊎ (0 < faults new)
 
 -- the same of standard error
-abbrev pub Told : {S K C : Type 0} → (K → ℕ) → (K → Option (List ℕ)) → Book S K C → Book S K C → List ℕ → Type 0
-Told faults written old new lines = Keeps (λ told kept. ToldBy faults written told kept lines) (old.std Err) (new.std Err)
+abbrev pub WasTold : {S K C : Type 0} → (K → ℕ) → (K → Option (List ℕ)) → Book S K C → Book S K C → List ℕ → Type 0
+WasTold faults written old new lines = Keeps (λ told kept. ToldBy faults written told kept lines) (old.std Err) (new.std Err)
 
 -- the line of a journal that couldn't be written
 abbrev pub journal_lines : Bool → List ℕ
@@ -105,7 +105,7 @@ pub record IsSession {S K C : Type 0} (left : S → Option (List ℕ)) (written 
 -- A read of the configuration failed, before anything else was opened.
 pub record IsFileUnread {S K C : Type 0} (left : S → Option (List ℕ)) (source_faults : S → ℕ) (file : List ℕ) (Says : List ℕ → Type 0) (old new : Book S K C) (status : ℕ) : Type 0 where
   pub status_is : status ≡ 5
-  pub fault : HasFault source_faults (new.inputs file)
+  pub fault : EndHasFault source_faults (new.inputs file)
   pub input : IsReadFrom left (old.inputs file) (new.inputs file)
   pub errors : Says (read_failed_line file)
   pub out : new.std Out ≡ old.std Out

@@ -11,8 +11,8 @@ ghost use Rattle.run_config.specs.Words.{IsCheck, IsForm, IsGen, IsReplay, IsSer
 ghost use Rattle.switch_run.specs.Causes.{HasSomeReadFault, HasSomeWriteFault, IsElsewhereSame, IsOffPlanSame, IsOneOf, IsUnserved, IsUnused, IsUntouched, KeepsAll, quiet_statuses, session_statuses, statuses, unused_statuses};
 ghost use Rattle.switch_run.specs.Checks.{IsCheckRun};
 ghost use Rattle.switch_run.specs.Loads.{IsLoadRun};
-ghost use Rattle.switch_run.specs.Runs.{IsReplayRun, IsRun, IsServeRun};
-ghost use Rattle.switch_run.specs.Session.{IsNoPlan, IsPartUnopened, IsSession, IsSessionOf, IsUnopened, IsUnplayed, IsFileUnread, Told, ToldBy};
+ghost use Rattle.switch_run.specs.Runs.{IsReplayRun, IsGenRun, IsServeRun};
+ghost use Rattle.switch_run.specs.Session.{IsNoPlan, IsPartUnopened, IsSession, IsSessionOf, IsUnopened, IsUnplayed, IsFileUnread, WasTold, ToldBy};
 
 use crate::checks::check_file;
 use crate::ends_told::refuse;
@@ -73,23 +73,23 @@ where
 
     ensures status { IsOneOf statuses result }
     ensures usage { (result ≡ 2) ↔ (IsForm (map string_bytes words.now) → ⊥) }
-    ensures untouched { result ≡ 2 → IsUntouched (W.book world.old) (W.book world.new) × Told W.K.faults W.K.written (W.book world.old) (W.book world.new) usage_line }
-    ensures memory { result ≡ 1 → Told W.K.faults W.K.written (W.book world.old) (W.book world.new) memory_line }
+    ensures untouched { result ≡ 2 → IsUntouched (W.book world.old) (W.book world.new) × WasTold W.K.faults W.K.written (W.book world.old) (W.book world.new) usage_line }
+    ensures memory { result ≡ 1 → WasTold W.K.faults W.K.written (W.book world.old) (W.book world.new) memory_line }
     ensures unplayed { (file : List ℕ) → IsReplay file (map string_bytes words.now) → result ≡ 1 → IsUnplayed true W.S.left W.K.written file (W.book world.old) (W.book world.new) }
-    ensures config { (file : List ℕ) → IsReplay file (map string_bytes words.now) → result ≡ 3 → IsNoPlan true W.S.left file (Told W.K.faults W.K.written (W.book world.old) (W.book world.new)) (W.book world.old) (W.book world.new) }
+    ensures config { (file : List ℕ) → IsReplay file (map string_bytes words.now) → result ≡ 3 → IsNoPlan true W.S.left file (WasTold W.K.faults W.K.written (W.book world.old) (W.book world.new)) (W.book world.old) (W.book world.new) }
     ensures open { result ≡ 7 → Rose (W.book world.old).faults (W.book world.new).faults }
-    ensures unopened { (file : List ℕ) → IsReplay file (map string_bytes words.now) → result ≡ 7 → IsUnopened true W.S.left file (Told W.K.faults W.K.written (W.book world.old) (W.book world.new)) (W.book world.old) (W.book world.new) }
-    ensures session { (file : List ℕ) → IsReplay file (map string_bytes words.now) → IsOneOf session_statuses result → IsFileUnread W.S.left W.S.faults file (Told W.K.faults W.K.written (W.book world.old) (W.book world.new)) (W.book world.old) (W.book world.new) result ⊎ IsSession W.S.left W.K.written W.S.faults W.K.faults file (Told W.K.faults W.K.written (W.book world.old) (W.book world.new)) (W.book world.old) (W.book world.new) result }
+    ensures unopened { (file : List ℕ) → IsReplay file (map string_bytes words.now) → result ≡ 7 → IsUnopened true W.S.left file (WasTold W.K.faults W.K.written (W.book world.old) (W.book world.new)) (W.book world.old) (W.book world.new) }
+    ensures session { (file : List ℕ) → IsReplay file (map string_bytes words.now) → IsOneOf session_statuses result → IsFileUnread W.S.left W.S.faults file (WasTold W.K.faults W.K.written (W.book world.old) (W.book world.new)) (W.book world.old) (W.book world.new) result ⊎ IsSession W.S.left W.K.written W.S.faults W.K.faults file (WasTold W.K.faults W.K.written (W.book world.old) (W.book world.new)) (W.book world.old) (W.book world.new) result }
     ensures read { (file : List ℕ) → IsReplay file (map string_bytes words.now) → result ≡ 5 → HasSomeReadFault W.S.faults file (W.book world.new) }
     ensures write { (file : List ℕ) → IsReplay file (map string_bytes words.now) → result ≡ 6 → HasSomeWriteFault W.K.faults (W.book world.new) }
     ensures quiet { IsOneOf quiet_statuses result → (W.book world.new).std Std.Out ≡ (W.book world.old).std Std.Out }
     ensures unused { IsOneOf unused_statuses result → IsUnused (W.book world.old) (W.book world.new) }
     ensures elsewhere { (file : List ℕ) → IsReplay file (map string_bytes words.now) → IsElsewhereSame file (W.book world.old) (W.book world.new) }
-    ensures serve { (file : List ℕ) → IsServe file (map string_bytes words.now) → IsServeRun W.S.left W.K.written W.S.faults W.K.faults W.C.readings file (Told W.K.faults W.K.written (W.book world.old) (W.book world.new)) (W.book world.old) (W.book world.new) result }
+    ensures serve { (file : List ℕ) → IsServe file (map string_bytes words.now) → IsServeRun W.S.left W.K.written W.S.faults W.K.faults W.C.readings file (WasTold W.K.faults W.K.written (W.book world.old) (W.book world.new)) (W.book world.old) (W.book world.new) result }
     ensures served_read { (file : List ℕ) → IsServe file (map string_bytes words.now) → result ≡ 5 → HasSomeReadFault W.S.faults file (W.book world.new) }
     ensures served_write { (file : List ℕ) → IsServe file (map string_bytes words.now) → result ≡ 6 → HasSomeWriteFault W.K.faults (W.book world.new) }
-    ensures check { (file : List ℕ) → IsCheck file (map string_bytes words.now) → IsCheckRun W.S.left W.K.written W.S.faults W.K.faults file (Told W.K.faults W.K.written (W.book world.old) (W.book world.new)) (W.book world.old) (W.book world.new) result }
-    ensures load { (seed frames : ℕ) → IsGen seed frames (map string_bytes words.now) → IsLoadRun W.K.written W.K.faults seed frames (Told W.K.faults W.K.written (W.book world.old) (W.book world.new)) (W.book world.old) (W.book world.new) result }
+    ensures check { (file : List ℕ) → IsCheck file (map string_bytes words.now) → IsCheckRun W.S.left W.K.written W.S.faults W.K.faults file (WasTold W.K.faults W.K.written (W.book world.old) (W.book world.new)) (W.book world.old) (W.book world.new) result }
+    ensures load { (seed frames : ℕ) → IsGen seed frames (map string_bytes words.now) → IsLoadRun W.K.written W.K.faults seed frames (WasTold W.K.faults W.K.written (W.book world.old) (W.book world.new)) (W.book world.old) (W.book world.new) result }
 {
     let mut errors = world.std(Std::Err);
     let status = perform(rt, alloc, words, world, &mut errors, gate);
@@ -116,7 +116,7 @@ where
     requires control { IsReady (BothFresh W.S.faults W.K.faults) (W.book world.old).control }
     requires ticker { (W.book world.old).ticker.is_out ≡ false }
     requires out { IsReady (λ k. W.K.faults k ≡ 0) ((W.book world.old).std Std.Out) }
-    ensures ran { IsRun W.S.left W.K.written W.S.faults W.K.faults W.C.readings (map string_bytes words.now) (ToldBy W.K.faults W.K.written errors.old errors.new) (W.book world.old) (W.book world.new) result }
+    ensures ran { IsGenRun W.S.left W.K.written W.S.faults W.K.faults W.C.readings (map string_bytes words.now) (ToldBy W.K.faults W.K.written errors.old errors.new) (W.book world.old) (W.book world.new) result }
     ensures others { OthersStay (W.book world.old).std (W.book world.new).std Std.Out }
 {
     match asked_by(words) {

@@ -10,7 +10,7 @@ use Rattle.atomic_table.proofs.Lists.{at_longer}
 use Rattle.table_lock.specs.declared.board.Stage.TheVariants.{Idle}
 use Rattle.table_lock.specs.declared.board.View.{View}
 use Rattle.table_lock.specs.declared.pass.Pass.{Pass}
-use Rattle.table_lock.specs.Entries.{History, mine, StartsWith}
+use Rattle.table_lock.specs.Entries.{EntryList, mine, StartsWith}
 use Rattle.table_lock.specs.Rule.{Map, Has}
 use Rattle.table_lock.specs.Plays.{both, newcomer}
 use Rattle.table_lock.specs.Views.{at_turn, view_of}
@@ -74,7 +74,7 @@ pass_view p v e =
     (sym same ∙ (ap view_of p.seated ∙ ap (at_turn (pass_number p) Idle) same), ap (λ (u : View). u.seen) same, ap (λ (u : View). u.fixed) same)
 
 -- a view knows what a pass had seen
-abbrev pub Knows : View → History → Type 0
+abbrev pub Knows : View → EntryList → Type 0
 Knows v xs = (v.seen ≡ xs) ⊎ ((j : ℕ) × (get_elem? v.told j ≡ some xs))
 
 -- the passes that came in, the last of all first, and what the taker has of them
@@ -84,11 +84,11 @@ pub record Gathered (all passes : List Pass) (v : View) : Type 0 where
   pub idle : v.stage ≡ Idle
   pub size : length v.mine ≡ length came
   pub has : (k : ℕ) (p : Pass) → get_elem? came k ≡ some p → Has v.mine (pass_number p) (pass_own p)
-  pub back : (i : ℕ) (es : History) → Has v.mine i es → (k : ℕ) × (p : Pass) × (get_elem? came k ≡ some p) × (pass_number p ≡ i)
+  pub back : (i : ℕ) (es : EntryList) → Has v.mine i es → (k : ℕ) × (p : Pass) × (get_elem? came k ≡ some p) × (pass_number p ≡ i)
   pub knows : (k : ℕ) (p : Pass) → get_elem? came k ≡ some p → Knows v (pass_seen p)
 
 own_map : (p : Pass) (v : View) → p.badge.views ≡ v ∷ [] → v.mine ≡ (pass_number p, pass_own p) ∷ []
-own_map p v e = let t = pass_view p v e in ap (λ (u : View). u.mine) t.0 ∙ ap (λ (h : History). (pass_number p, mine (pass_number p) h) ∷ []) (sym t.1)
+own_map p v e = let t = pass_view p v e in ap (λ (u : View). u.mine) t.0 ∙ ap (λ (h : EntryList). (pass_number p, mine (pass_number p) h) ∷ []) (sym t.1)
 
 pub gathered_first : (all passes : List Pass) (p : Pass) (v : View) → all ≡ passes ++ p ∷ [] → p.badge.views ≡ v ∷ [] → Gathered all passes v
 gathered_first all passes p v split e = let t = pass_view p v e in let m = own_map p v e in record {
@@ -127,34 +127,34 @@ gathered_more all passes before p v w is e g = record {
     has_more (suc k) q h = has_left v.mine w.mine (pass_number q) (pass_own q) (g.has k q h)
 
     knows_more : (k : ℕ) (q : Pass) → get_elem? (p ∷ g.came) k ≡ some q → Knows (both v w) (pass_seen q)
-    knows_more zero q h = inr (1, ap (λ (x : History). some x) (sym (pass_view p w e).1 ∙ ap pass_seen (some-injective p q h)))
+    knows_more zero q h = inr (1, ap (λ (x : EntryList). some x) (sym (pass_view p w e).1 ∙ ap pass_seen (some-injective p q h)))
     knows_more (suc k) q h = go (g.knows k q h)
       where
         go : Knows v (pass_seen q) → Knows (both v w) (pass_seen q)
-        go (inl a) = inr (0, ap (λ (x : History). some x) a)
+        go (inl a) = inr (0, ap (λ (x : EntryList). some x) a)
         go (inr b) = inr (suc (suc b.0), at_longer v.told w.told b.0 (pass_seen q) b.1)
 
 -- what a history that begins with all that the taker was told says of each pass
-pub knows_starts : (H : History) (v : View) (xs : History) → StartsWith H v.seen → ((k : ℕ) (h : History) → get_elem? v.told k ≡ some h → StartsWith H h) → Knows v xs → StartsWith H xs
-knows_starts H v xs seen told (inl a) = subst (λ (x : History). StartsWith H x) a seen
+pub knows_starts : (H : EntryList) (v : View) (xs : EntryList) → StartsWith H v.seen → ((k : ℕ) (h : EntryList) → get_elem? v.told k ≡ some h → StartsWith H h) → Knows v xs → StartsWith H xs
+knows_starts H v xs seen told (inl a) = subst (λ (x : EntryList). StartsWith H x) a seen
 knows_starts H v xs seen told (inr b) = told b.0 xs b.1
 
 -- what the value that comes back says of all passes
-pub record Closes {V : Type 0} (history : V → History) (fixed : V → List ℕ) (F : List ℕ) (N : ℕ) (all : List Pass) (y : V) : Type 0 where
+pub record Closes {V : Type 0} (history : V → EntryList) (fixed : V → List ℕ) (F : List ℕ) (N : ℕ) (all : List Pass) (y : V) : Type 0 where
   pub entries : All (λ p. mine (pass_number p) (history y) ≡ pass_own p) all
   pub begins : All (λ p. StartsWith (history y) (pass_seen p)) all
   pub numbers : AreNumbered N all
   pub others : (i : ℕ) → N ≤ i → mine i (history y) ≡ []
   pub fixed_is : fixed y ≡ F
 
-pub closes : {V : Type 0} (history : V → History) (fixed : V → List ℕ) (F : List ℕ) (N : ℕ) (all rest : List Pass) (v : View) (xs : List (Option V)) (y : V)
+pub closes : {V : Type 0} (history : V → EntryList) (fixed : V → List ℕ) (F : List ℕ) (N : ℕ) (all rest : List Pass) (v : View) (xs : List (Option V)) (y : V)
     → Gathered all rest v → length rest ≡ 0 → (e : Ended history fixed F N v xs) → e.value ≡ y → Closes history fixed F N all y
 closes history fixed F N all rest v xs y g none_left e is =
     let same = only_came all rest g.came g.split none_left in
     let H = ap history is in
     record {
       entries = λ k d h. let there = at_came k d h in sym (e.entries (pass_number (get_or all k d)) (pass_own (get_or all k d)) (g.has k (get_or all k d) there) ∙ ap (mine (pass_number (get_or all k d))) H);
-      begins = λ k d h. subst (λ (x : History). StartsWith x (pass_seen (get_or all k d))) H (knows_starts (history e.value) v (pass_seen (get_or all k d)) e.begins e.told (g.knows k (get_or all k d) (at_came k d h)));
+      begins = λ k d h. subst (λ (x : EntryList). StartsWith x (pass_seen (get_or all k d))) H (knows_starts (history e.value) v (pass_seen (get_or all k d)) e.begins e.told (g.knows k (get_or all k d) (at_came k d h)));
       numbers = λ i h. let n = e.numbers i h in let t = g.back i n.0 n.1 in (t.0, t.1, slice_get_at all t.0 t.1 (ap (λ (l : List Pass). get_elem? l t.0) same ∙ t.2), t.3);
       others = λ i h. sym (ap (mine i) H) ∙ e.others i h;
       fixed_is = sym (ap fixed is) ∙ e.fixed_is;

@@ -6,7 +6,7 @@ use Rattle.std.specs.List.{sum_by}
 use mathlib.Core.Option.{some, some-injective, some-ne-none}
 use lib.ListN.{get_elem?}
 use Rattle.atomic_table.proofs.Lists.{at_set}
-use Rattle.table_lock.specs.Entries.{History, StartsWith}
+use Rattle.table_lock.specs.Entries.{EntryList, StartsWith}
 use Rattle.table_lock.specs.Plays.{longer}
 
 module _ {A : Type 0} where
@@ -91,14 +91,14 @@ module _ {A : Type 0} where
     two_le_total (x ∷ xs) (suc i) zero v w apart e h = let same : f x ≡ f w = ap f (some-injective x w h) in let le = one_le_total xs i v e in let c = sum_by-cons f x xs in omega arith
     two_le_total (x ∷ xs) (suc i) (suc j) v w apart e h = let le = two_le_total xs i j v w (λ z. apart (ap suc z)) e h in let c = sum_by-cons f x xs in omega arith
 
-pub starts_whole : (H : History) → StartsWith H H
+pub starts_whole : (H : EntryList) → StartsWith H H
 starts_whole H = ([], sym (append-nil H))
 
-pub starts_longer : (H more xs : History) → StartsWith H xs → StartsWith (H ++ more) xs
-starts_longer H more xs s = (s.0 ++ more, ap (λ (l : History). l ++ more) s.1 ∙ append_assoc xs s.0 more)
+pub starts_longer : (H more xs : EntryList) → StartsWith H xs → StartsWith (H ++ more) xs
+starts_longer H more xs s = (s.0 ++ more, ap (λ (l : EntryList). l ++ more) s.1 ∙ append_assoc xs s.0 more)
 
-pub starts_same : (H a b : History) → a ≡ b → StartsWith H a → StartsWith H b
-starts_same H a b e s = subst (λ (x : History). StartsWith H x) e s
+pub starts_same : (H a b : EntryList) → a ≡ b → StartsWith H a → StartsWith H b
+starts_same H a b e s = subst (λ (x : EntryList). StartsWith H x) e s
 
-pub starts_either : (H a b : History) → StartsWith H a → StartsWith H b → StartsWith H (longer a b)
+pub starts_either : (H a b : EntryList) → StartsWith H a → StartsWith H b → StartsWith H (longer a b)
 starts_either H a b sa sb = elim (nat_lt (length a) (length b)) as (λ c. StartsWith H (cond c b a)) [ true ↦ sb | false ↦ sa ]

@@ -12,8 +12,8 @@ use Rattle.atomic_table.proofs.Lists.{set_here, set_else, at_longer, at_last}
 use Rattle.table_lock.specs.declared.board.Stage.{Stage}
 use Rattle.table_lock.specs.declared.board.Stage.TheVariants.{Spent, Idle, Waiting, Out}
 use Rattle.table_lock.specs.declared.board.View.{View}
-use Rattle.table_lock.specs.Entries.{History, mine, StartsWith}
-use Rattle.table_lock.specs.Rule.{Has, InRange, IsTicket, tickets, keys_of, Fits, IsPlaced, Keeps, opening_view}
+use Rattle.table_lock.specs.Entries.{EntryList, mine, StartsWith}
+use Rattle.table_lock.specs.Rule.{Has, InRange, IsTicket, tickets, key_count, FitsView, HasValueInPlace, Keeps, opening_view}
 use Rattle.table_lock.specs.Plays.{one_more, newcomer, both, spent}
 use Rattle.table_lock.proofs.Lists.{all_set, all_snoc, at_below, at_either, at_only, total_set, one_le_total, two_le_total, starts_either}
 use Rattle.table_lock.proofs.Maps.{has_left, has_right, has_either, has_some, has_only}
@@ -58,9 +58,9 @@ Old views views' = (j : ℕ) (u : View) → get_elem? views' j ≡ some u → (g
 abbrev OutStay : List View → List View → Type 0
 OutStay views views' = (j : ℕ) (u : View) (t : ℕ) → get_elem? views j ≡ some u → u.stage ≡ Out t → get_elem? views' j ≡ some u
 
-module _ (F : List ℕ) (H : History) (n : ℕ) (owner : ℕ → ℕ) where
+module _ (F : List ℕ) (H : EntryList) (n : ℕ) (owner : ℕ → ℕ) where
   -- a view that a split leaves alone
-  fits_beside : (j : ℕ) (v : View) → j ≢ owner 0 → Fits F H n owner j v → Fits F H (n + 1) (put owner n n) j v
+  fits_beside : (j : ℕ) (v : View) → j ≢ owner 0 → FitsView F H n owner j v → FitsView F H (n + 1) (put owner n n) j v
   fits_beside j v other f = record {
     seen = f.seen;
     fixed = f.fixed;
@@ -71,7 +71,7 @@ module _ (F : List ℕ) (H : History) (n : ℕ) (owner : ℕ → ℕ) where
     spent = f.spent;
   }
 
-  fits_one_more : (j : ℕ) (v : View) → v.stage ≢ Spent → v.seats ≢ 0 → Fits F H n owner j v → Fits F H (n + 1) (put owner n n) j (one_more v)
+  fits_one_more : (j : ℕ) (v : View) → v.stage ≢ Spent → v.seats ≢ 0 → FitsView F H n owner j v → FitsView F H (n + 1) (put owner n n) j (one_more v)
   fits_one_more j v alive counts f = record {
     seen = f.seen;
     fixed = f.fixed;
@@ -82,7 +82,7 @@ module _ (F : List ℕ) (H : History) (n : ℕ) (owner : ℕ → ℕ) where
     spent = λ z. absurd (alive z);
   }
 
-  fits_newcomer : (j : ℕ) (v : View) → j ≡ n → v.seats ≡ n → v.fixed ≡ F → mine n H ≡ [] → Fits F H (n + 1) (put owner n n) j (newcomer v)
+  fits_newcomer : (j : ℕ) (v : View) → j ≡ n → v.seats ≡ n → v.fixed ≡ F → mine n H ≡ [] → FitsView F H (n + 1) (put owner n n) j (newcomer v)
   fits_newcomer j v last seats fixed_is fresh = record {
     seen = (H, refl);
     fixed = λ _. fixed_is;
@@ -94,7 +94,7 @@ module _ (F : List ℕ) (H : History) (n : ℕ) (owner : ℕ → ℕ) where
     spent = λ z. let k : Idle ≡ Spent = z in cc;
   }
 
-  fits_spent : (owner' : ℕ → ℕ) (j : ℕ) → Fits F H n owner' j spent
+  fits_spent : (owner' : ℕ → ℕ) (j : ℕ) → FitsView F H n owner' j spent
   fits_spent owner' j = record {
     seen = (H, refl);
     fixed = λ z. absurd (z refl);
@@ -106,7 +106,7 @@ module _ (F : List ℕ) (H : History) (n : ℕ) (owner : ℕ → ℕ) where
   }
 
   -- a view that a join of `other` into `id` leaves alone
-  fits_apart : (id other j : ℕ) (v : View) → j ≢ other → Fits F H n owner j v → Fits F H n (λ i. moved other id (owner i)) j v
+  fits_apart : (id other j : ℕ) (v : View) → j ≢ other → FitsView F H n owner j v → FitsView F H n (λ i. moved other id (owner i)) j v
   fits_apart id other j v apart f = record {
     seen = f.seen;
     fixed = f.fixed;
@@ -117,8 +117,8 @@ module _ (F : List ℕ) (H : History) (n : ℕ) (owner : ℕ → ℕ) where
     spent = f.spent;
   }
 
-  fits_both : (id other : ℕ) (v w : View) → (other ≡ id → ⊥) → v.stage ≢ Spent → w.stage ≢ Spent → Fits F H n owner id v → Fits F H n owner other w
-      → Fits F H n (λ i. moved other id (owner i)) id (both v w)
+  fits_both : (id other : ℕ) (v w : View) → (other ≡ id → ⊥) → v.stage ≢ Spent → w.stage ≢ Spent → FitsView F H n owner id v → FitsView F H n owner other w
+      → FitsView F H n (λ i. moved other id (owner i)) id (both v w)
   fits_both id other v w apart va wa f g = record {
     seen = starts_either H v.seen w.seen f.seen g.seen;
     fixed = λ _. f.fixed va;
@@ -139,12 +139,12 @@ module _ (F : List ℕ) (H : History) (n : ℕ) (owner : ℕ → ℕ) where
           let none_there : w.seats ≡ 0 = dite (ℕ_discrete w.seats 0) (λ y. y) (λ y. absurd (apart ((g.count y).1 ∙ sym c.1))) in
           (omega arith, c.1 ∙ sym (put_else (λ x. x) other id (owner 0) (λ y. apart (sym y ∙ sym c.1))))
 
-      tells : (k : ℕ) (xs : History) → get_elem? (v.seen ∷ w.seen ∷ (v.told ++ w.told)) k ≡ some xs → StartsWith H xs
-      tells zero xs e = subst (λ (x : History). StartsWith H x) (some-injective v.seen xs e) f.seen
-      tells (suc zero) xs e = subst (λ (x : History). StartsWith H x) (some-injective w.seen xs e) g.seen
+      tells : (k : ℕ) (xs : EntryList) → get_elem? (v.seen ∷ w.seen ∷ (v.told ++ w.told)) k ≡ some xs → StartsWith H xs
+      tells zero xs e = subst (λ (x : EntryList). StartsWith H x) (some-injective v.seen xs e) f.seen
+      tells (suc zero) xs e = subst (λ (x : EntryList). StartsWith H x) (some-injective w.seen xs e) g.seen
       tells (suc (suc k)) xs e = ⊎_elim (λ (a : get_elem? v.told k ≡ some xs). f.told k xs a) (λ (b : (j : ℕ) × (get_elem? w.told j ≡ some xs)). g.told b.0 xs b.1) (at_either v.told w.told k xs e)
 
-module _ {V : Type 0} (history : V → History) (fixed : V → List ℕ) (F : List ℕ) (N : ℕ) where
+module _ {V : Type 0} (history : V → EntryList) (fixed : V → List ℕ) (F : List ℕ) (N : ℕ) where
   abbrev St : Type 0
   St = State (Option V) View
 
@@ -154,8 +154,8 @@ module _ {V : Type 0} (history : V → History) (fixed : V → List ℕ) (F : Li
   abbrev K : St → Type 0
   K = Keeps history fixed F N
 
-  abbrev Placed : History → Homes → List View → Type 0
-  Placed = IsPlaced history fixed F N
+  abbrev Placed : EntryList → Homes → List View → Type 0
+  Placed = HasValueInPlace history fixed F N
 
   module _ (s : St) (r : K s) (views' : List View) (old : Old s.views views') where
     ranges_old : (j : ℕ) (u : View) → get_elem? views' j ≡ some u → InRange r.serving r.ticket u.stage
@@ -205,8 +205,8 @@ module _ {V : Type 0} (history : V → History) (fixed : V → List ℕ) (F : Li
         omega arith;
     ranges = ranges_old s r (rest ++ newcomer v ∷ []) old;
     apart = apart_old s r (rest ++ newcomer v ∷ []) old;
-    each = all_snoc (λ j u. Fits F r.H (r.n + 1) (put r.owner r.n r.n) j u) rest (newcomer v)
-        (all_set (λ j u. Fits F r.H (r.n + 1) (put r.owner r.n r.n) j u) s.views id (one_more v)
+    each = all_snoc (λ j u. FitsView F r.H (r.n + 1) (put r.owner r.n r.n) j u) rest (newcomer v)
+        (all_set (λ j u. FitsView F r.H (r.n + 1) (put r.owner r.n r.n) j u) s.views id (one_more v)
         (fits_one_more F r.H r.n r.owner id v alive counts f)
         (λ j u other atj. fits_beside F r.H r.n r.owner j u (λ e. other (e ∙ sym known.1)) (r.each j u atj)))
         (fits_newcomer F r.H r.n r.owner (length rest) v (length-set s.views id (one_more v) ∙ r.all) known.0 (f.fixed alive) (r.others r.n (omega arith)));
@@ -219,7 +219,7 @@ module _ {V : Type 0} (history : V → History) (fixed : V → List ℕ) (F : Li
       rest : List View
       rest = set s.views id (one_more v)
 
-      f : Fits F r.H r.n r.owner id v
+      f : FitsView F r.H r.n r.owner id v
       f = r.each id v at
 
       alive : v.stage ≢ Spent
@@ -233,7 +233,7 @@ module _ {V : Type 0} (history : V → History) (fixed : V → List ℕ) (F : Li
           (all_set (λ j u. (get_elem? s.views j ≡ some u) ⊎ (tickets u.stage ≡ 0)) s.views id (one_more v) (inr (ap tickets is)) (λ j u _ atj. inl atj)) (inr refl)
 
       keyed_after : (i : ℕ) → i < r.n + 1 → Dec (i ≡ r.n)
-          → (u : View) × (es : History) × (get_elem? (rest ++ newcomer v ∷ []) (put r.owner r.n r.n i) ≡ some u) × Has u.mine i es
+          → (u : View) × (es : EntryList) × (get_elem? (rest ++ newcomer v ∷ []) (put r.owner r.n r.n i) ≡ some u) × Has u.mine i es
       keyed_after i l (yes e) = (
         newcomer v,
         [],
@@ -242,8 +242,8 @@ module _ {V : Type 0} (history : V → History) (fixed : V → List ℕ) (F : Li
       )
       keyed_after i l (no ne) = go (r.keyed i (omega arith))
         where
-          go : (u : View) × (es : History) × (get_elem? s.views (r.owner i) ≡ some u) × Has u.mine i es
-              → (u : View) × (es : History) × (get_elem? (rest ++ newcomer v ∷ []) (put r.owner r.n r.n i) ≡ some u) × Has u.mine i es
+          go : (u : View) × (es : EntryList) × (get_elem? s.views (r.owner i) ≡ some u) × Has u.mine i es
+              → (u : View) × (es : EntryList) × (get_elem? (rest ++ newcomer v ∷ []) (put r.owner r.n r.n i) ≡ some u) × Has u.mine i es
           go k = dite (ℕ_discrete (r.owner i) id)
               (λ same.
               let is_v : k.0 ≡ v = some-injective k.0 v (sym k.2 ∙ (ap (λ (x : ℕ). get_elem? s.views x) same ∙ at)) in (
@@ -284,9 +284,9 @@ module _ {V : Type 0} (history : V → History) (fixed : V → List ℕ) (F : Li
         omega arith;
     ranges = ranges_old s r (set first other spent) old;
     apart = apart_old s r (set first other spent) old;
-    each = all_set (λ j u. Fits F r.H r.n (λ i. moved other id (r.owner i)) j u) first other spent
+    each = all_set (λ j u. FitsView F r.H r.n (λ i. moved other id (r.owner i)) j u) first other spent
         (fits_spent F r.H r.n r.owner (λ i. moved other id (r.owner i)) other)
-        (λ j u others at_first. all_set (λ x y. x ≢ other → Fits F r.H r.n (λ i. moved other id (r.owner i)) x y) s.views id (both v w)
+        (λ j u others at_first. all_set (λ x y. x ≢ other → FitsView F r.H r.n (λ i. moved other id (r.owner i)) x y) s.views id (both v w)
         (λ _. fits_both F r.H r.n r.owner id other v w apart (idle_alive v is) (idle_alive w js) (r.each id v at) (r.each other w there_before))
         (λ x y _ atx o. fits_apart F r.H r.n r.owner id other x y o (r.each x y atx)) j u at_first others);
     keyed = λ i l. keyed_after i (r.keyed i l);
@@ -334,8 +334,8 @@ module _ {V : Type 0} (history : V → History) (fixed : V → List ℕ) (F : Li
             k.2,
           )))
 
-      keyed_after : (i : ℕ) → (u : View) × (es : History) × (get_elem? s.views (r.owner i) ≡ some u) × Has u.mine i es
-          → (u : View) × (es : History) × (get_elem? (set first other spent) (moved other id (r.owner i)) ≡ some u) × Has u.mine i es
+      keyed_after : (i : ℕ) → (u : View) × (es : EntryList) × (get_elem? s.views (r.owner i) ≡ some u) × Has u.mine i es
+          → (u : View) × (es : EntryList) × (get_elem? (set first other spent) (moved other id (r.owner i)) ≡ some u) × Has u.mine i es
       keyed_after i k = dite (ℕ_discrete (r.owner i) other)
           (λ same.
           let is_w : k.0 ≡ w = some-injective k.0 w (sym k.2 ∙ (ap (λ (x : ℕ). get_elem? s.views x) same ∙ there_before)) in (
@@ -365,11 +365,11 @@ module _ {V : Type 0} (history : V → History) (fixed : V → List ℕ) (F : Li
     pub value : V
     pub slot : get_elem? xs 0 ≡ some (Some value)
     pub fixed_is : fixed value ≡ F
-    pub entries : (i : ℕ) (es : History) → Has v.mine i es → es ≡ mine i (history value)
+    pub entries : (i : ℕ) (es : EntryList) → Has v.mine i es → es ≡ mine i (history value)
     pub others : (i : ℕ) → N ≤ i → mine i (history value) ≡ []
     pub begins : StartsWith (history value) v.seen
-    pub told : (k : ℕ) (h : History) → get_elem? v.told k ≡ some h → StartsWith (history value) h
-    pub numbers : (i : ℕ) → i < N → (es : History) × Has v.mine i es
+    pub told : (k : ℕ) (h : EntryList) → get_elem? v.told k ≡ some h → StartsWith (history value) h
+    pub numbers : (i : ℕ) → i < N → (es : EntryList) × Has v.mine i es
 
   -- where a pass between two turns has as many keys as there are numbers, it has each, and the value is in the slot
   pub ends : (id : ℕ) (v : View) → v.stage ≡ Idle → length v.mine ≡ N → (ws : List ℕ) (xs : List (Option V)) → Final (Seen K id v) ws xs → Ended v xs
@@ -384,19 +384,19 @@ module _ {V : Type 0} (history : V → History) (fixed : V → List ℕ) (F : Li
       at : get_elem? s.views id ≡ some v
       at = fin.1.1
 
-      sizes : length v.mine ≤ keys_of s.views
+      sizes : length v.mine ≤ key_count s.views
       sizes = one_le_total (λ (u : View). length u.mine) s.views id v at
 
       full : r.n ≡ N
       full = let a = r.shared in let b = r.few in let c = sizes in omega arith
 
       -- no other view has a key
-      only_here : (j : ℕ) (u : View) (i : ℕ) (es : History) → get_elem? s.views j ≡ some u → Has u.mine i es → (j ≡ id) × (u ≡ v)
+      only_here : (j : ℕ) (u : View) (i : ℕ) (es : EntryList) → get_elem? s.views j ≡ some u → Has u.mine i es → (j ≡ id) × (u ≡ v)
       only_here j u i es atj h = dite (ℕ_discrete j id)
           (λ e. (e, some-injective u v (sym atj ∙ (ap (λ (x : ℕ). get_elem? s.views x) e ∙ at))))
           (λ ne. let a = two_le_total (λ (y : View). length y.mine) s.views j id u v ne atj at in let b = has_some u.mine i es h in let c = r.shared in let d = r.few in absurd (omega arith))
 
-      f : Fits F r.H r.n r.owner id v
+      f : FitsView F r.H r.n r.owner id v
       f = r.each id v at
 
       go : Placed r.H s.homes s.views → Ended v xs
@@ -434,7 +434,7 @@ module _ {V : Type 0} (history : V → History) (fixed : V → List ℕ) (F : Li
     shared = refl;
     ranges = λ j u e. subst (λ (y : View). InRange 0 0 y.stage) (at_only (opening_view F) j u e).1 tt;
     apart = λ j u e k w h t a b. (at_only (opening_view F) j u e).0 ∙ sym (at_only (opening_view F) k w h).0;
-    each = λ j u e. let o = at_only (opening_view F) j u e in subst (λ (y : ℕ × View). Fits F [] 1 (λ _. 0) y.0 y.1) (λ i. (sym o.0 i, o.1 i)) record {
+    each = λ j u e. let o = at_only (opening_view F) j u e in subst (λ (y : ℕ × View). FitsView F [] 1 (λ _. 0) y.0 y.1) (λ i. (sym o.0 i, o.1 i)) record {
       seen = ([], refl);
       fixed = λ _. refl;
       keys = λ i es h. let k = has_only 0 [] i es h in let n = k.0 in (omega arith, refl, sym k.1);

@@ -11,8 +11,8 @@ use Rattle.atomic_table.proofs.Lists.{set_here, set_else, set_again}
 use Rattle.table_lock.specs.declared.board.Stage.{Stage}
 use Rattle.table_lock.specs.declared.board.Stage.TheVariants.{Spent, Idle, Waiting, Out}
 use Rattle.table_lock.specs.declared.board.View.{View}
-use Rattle.table_lock.specs.Entries.{Entry, History, mine}
-use Rattle.table_lock.specs.Rule.{Has, InRange, IsTicket, tickets, waiting, Fits, IsPlaced, Keeps}
+use Rattle.table_lock.specs.Entries.{Entry, EntryList, mine}
+use Rattle.table_lock.specs.Rule.{Has, InRange, IsTicket, tickets, waiting, FitsView, HasValueInPlace, Keeps}
 use Rattle.table_lock.specs.Plays.{ticket_of, at_stage, noted, drawn, looked, made, passed}
 use Rattle.table_lock.proofs.Lists.{all_set, at_below, total_set, total_le, starts_whole, starts_longer, starts_same}
 use Rattle.table_lock.proofs.Maps.{mine_more, mine_same, has_added, added_has, length-added}
@@ -49,9 +49,9 @@ stage_range serving ticket st st' e h = subst (InRange serving ticket) e h
 pub stage_ticket : (st st' : Stage) (t : ℕ) → st ≡ st' → IsTicket st' t → IsTicket st t
 stage_ticket st st' t e h = subst (λ (x : Stage). IsTicket x t) (sym e) h
 
-module _ (F : List ℕ) (H : History) (n : ℕ) (owner : ℕ → ℕ) where
+module _ (F : List ℕ) (H : EntryList) (n : ℕ) (owner : ℕ → ℕ) where
   -- another stage, between steps
-  pub refits : (j : ℕ) (v : View) (st : Stage) → v.stage ≢ Spent → st ≢ Spent → Fits F H n owner j v → Fits F H n owner j (at_stage v st)
+  pub refits : (j : ℕ) (v : View) (st : Stage) → v.stage ≢ Spent → st ≢ Spent → FitsView F H n owner j v → FitsView F H n owner j (at_stage v st)
   refits j v st from to f = record {
     seen = f.seen;
     fixed = λ _. f.fixed from;
@@ -63,7 +63,7 @@ module _ (F : List ℕ) (H : History) (n : ℕ) (owner : ℕ → ℕ) where
   }
 
   -- an entry of another pass
-  fits_more : (j : ℕ) (v : View) (e : Entry) → ((i : ℕ) (es : History) → Has v.mine i es → e.0 ≢ i) → Fits F H n owner j v → Fits F (H ++ e ∷ []) n owner j v
+  fits_more : (j : ℕ) (v : View) (e : Entry) → ((i : ℕ) (es : EntryList) → Has v.mine i es → e.0 ≢ i) → FitsView F H n owner j v → FitsView F (H ++ e ∷ []) n owner j v
   fits_more j v e other f = record {
     seen = starts_longer H (e ∷ []) v.seen f.seen;
     fixed = f.fixed;
@@ -75,14 +75,14 @@ module _ (F : List ℕ) (H : History) (n : ℕ) (owner : ℕ → ℕ) where
   }
 
   -- an entry of the pass itself, which had seen all
-  added_is : (i : ℕ) (e : Entry) (old es : History) → old ≡ mine i H → es ≡ cond (eqb i e.0) (old ++ e ∷ []) old → es ≡ mine i (H ++ e ∷ [])
+  added_is : (i : ℕ) (e : Entry) (old es : EntryList) → old ≡ mine i H → es ≡ cond (eqb i e.0) (old ++ e ∷ []) old → es ≡ mine i (H ++ e ∷ [])
   added_is i e old es was is = dite (ℕ_discrete i e.0)
-      (λ here. is ∙ (ap (λ b. cond b (old ++ e ∷ []) old) (eq-eqb i e.0 here) ∙ (ap (λ (x : History). x ++ e ∷ []) was ∙ sym (mine_more i H e (sym here)))))
+      (λ here. is ∙ (ap (λ b. cond b (old ++ e ∷ []) old) (eq-eqb i e.0 here) ∙ (ap (λ (x : EntryList). x ++ e ∷ []) was ∙ sym (mine_more i H e (sym here)))))
       (λ other. is ∙ (ap (λ b. cond b (old ++ e ∷ []) old) (ne_eqb i e.0 other) ∙ (was ∙ sym (mine_same i H e (λ z. other (sym z))))))
 
-  fits_noted : (j : ℕ) (v : View) (e : Entry) → v.stage ≢ Spent → v.seen ≡ H → Fits F H n owner j v → Fits F (H ++ e ∷ []) n owner j (noted v e)
+  fits_noted : (j : ℕ) (v : View) (e : Entry) → v.stage ≢ Spent → v.seen ≡ H → FitsView F H n owner j v → FitsView F (H ++ e ∷ []) n owner j (noted v e)
   fits_noted j v e alive all f = record {
-    seen = starts_same (H ++ e ∷ []) (H ++ e ∷ []) (v.seen ++ e ∷ []) (ap (λ (x : History). x ++ e ∷ []) (sym all)) (starts_whole (H ++ e ∷ []));
+    seen = starts_same (H ++ e ∷ []) (H ++ e ∷ []) (v.seen ++ e ∷ []) (ap (λ (x : EntryList). x ++ e ∷ []) (sym all)) (starts_whole (H ++ e ∷ []));
     fixed = f.fixed;
     keys = λ i es h. let t = added_has e v.mine i es h in let k = f.keys i t.0 t.1 in (k.0, k.1, added_is i e t.0 es k.2 t.2);
     own = λ z. let o = f.own z in (o.0, cond (eqb o.0 e.0) (o.1 ++ e ∷ []) o.1, o.2, has_added e v.mine o.0 o.1 o.3);
@@ -91,7 +91,7 @@ module _ (F : List ℕ) (H : History) (n : ℕ) (owner : ℕ → ℕ) where
     spent = λ z. absurd (alive z);
   }
 
-module _ {V : Type 0} (history : V → History) (fixed : V → List ℕ) (F : List ℕ) (N : ℕ) where
+module _ {V : Type 0} (history : V → EntryList) (fixed : V → List ℕ) (F : List ℕ) (N : ℕ) where
   abbrev St : Type 0
   St = State (Option V) View
 
@@ -101,14 +101,14 @@ module _ {V : Type 0} (history : V → History) (fixed : V → List ℕ) (F : Li
   abbrev K : St → Type 0
   K = Keeps history fixed F N
 
-  abbrev Placed : History → Homes → List View → Type 0
-  Placed = IsPlaced history fixed F N
+  abbrev Placed : EntryList → Homes → List View → Type 0
+  Placed = HasValueInPlace history fixed F N
 
   abbrev pub blank : Step (Option V)
   blank = step 0 0 0 0 none
 
   -- one view changes, and what the step owes of it and of the others
-  changes : (s : St) (r : K s) (id : ℕ) (v w : View) (words' : List ℕ) (homes' : Homes) (H' : History) (ticket' serving' : ℕ)
+  changes : (s : St) (r : K s) (id : ℕ) (v w : View) (words' : List ℕ) (homes' : Homes) (H' : EntryList) (ticket' serving' : ℕ)
       → get_elem? s.views id ≡ some v
       → words' ≡ ticket' ∷ serving' ∷ length H' ∷ []
       → serving' ≤ 2 ^ 63
@@ -118,9 +118,9 @@ module _ {V : Type 0} (history : V → History) (fixed : V → List ℕ) (F : Li
       → InRange serving' ticket' w.stage
       → ((j : ℕ) (u : View) → j ≢ id → get_elem? s.views j ≡ some u → InRange serving' ticket' u.stage)
       → ((k : ℕ) (u : View) → k ≢ id → get_elem? s.views k ≡ some u → (t : ℕ) → IsTicket w.stage t → IsTicket u.stage t → ⊥)
-      → Fits F H' r.n r.owner id w
-      → ((j : ℕ) (u : View) → j ≢ id → get_elem? s.views j ≡ some u → Fits F H' r.n r.owner j u)
-      → ((i : ℕ) (es : History) → Has v.mine i es → (es' : History) × Has w.mine i es')
+      → FitsView F H' r.n r.owner id w
+      → ((j : ℕ) (u : View) → j ≢ id → get_elem? s.views j ≡ some u → FitsView F H' r.n r.owner j u)
+      → ((i : ℕ) (es : EntryList) → Has v.mine i es → (es' : EntryList) × Has w.mine i es')
       → ((i : ℕ) → r.n ≤ i → mine i H' ≡ [])
       → Placed H' homes' (set s.views id w)
       → K record { words = words'; homes = homes'; views = set s.views id w }
@@ -142,7 +142,7 @@ module _ {V : Type 0} (history : V → History) (fixed : V → List ℕ) (F : Li
     apart = all_set (λ j u. (k : ℕ) (x : View) → get_elem? (set s.views id w) k ≡ some x → (t : ℕ) → IsTicket u.stage t → IsTicket x.stage t → j ≡ k) s.views id w
         (all_set (λ k x. (t : ℕ) → IsTicket w.stage t → IsTicket x.stage t → id ≡ k) s.views id w (λ t a b. refl) (λ k x other atk t a b. absurd (fresh k x other atk t a b)))
         (λ j u other atj. all_set (λ k x. (t : ℕ) → IsTicket u.stage t → IsTicket x.stage t → j ≡ k) s.views id w (λ t a b. absurd (fresh j u other atj t b a)) (λ k x _ atk. r.apart j u atj k x atk));
-    each = all_set (λ j u. Fits F H' r.n r.owner j u) s.views id w fits each;
+    each = all_set (λ j u. FitsView F H' r.n r.owner j u) s.views id w fits each;
     keyed = λ i l. keyed_after i (r.keyed i l);
     others = none_else;
     placed = placed;
@@ -155,8 +155,8 @@ module _ {V : Type 0} (history : V → History) (fixed : V → List ℕ) (F : Li
           (w, ap (λ (x : ℕ). get_elem? (set s.views id w) x) same ∙ set_here s.views id w (at_below s.views id v at), seats ∙ (sym (ap (λ (x : View). x.seats) is) ∙ k.2)))
           (λ other. (k.0, set_else s.views id (r.owner 0) w other ∙ k.1, k.2))
 
-      keyed_after : (i : ℕ) → (u : View) × (es : History) × (get_elem? s.views (r.owner i) ≡ some u) × Has u.mine i es
-          → (u : View) × (es : History) × (get_elem? (set s.views id w) (r.owner i) ≡ some u) × Has u.mine i es
+      keyed_after : (i : ℕ) → (u : View) × (es : EntryList) × (get_elem? s.views (r.owner i) ≡ some u) × Has u.mine i es
+          → (u : View) × (es : EntryList) × (get_elem? (set s.views id w) (r.owner i) ≡ some u) × Has u.mine i es
       keyed_after i k = dite (ℕ_discrete (r.owner i) id)
           (λ same.
           let here : get_elem? s.views (r.owner i) ≡ some v = ap (λ (x : ℕ). get_elem? s.views x) same ∙ at in
@@ -166,7 +166,7 @@ module _ {V : Type 0} (history : V → History) (fixed : V → List ℕ) (F : Li
           (λ other. (k.0, k.1, set_else s.views id (r.owner i) w other ∙ k.2, k.3))
 
   -- the value stays where it is, where a pass that isn't out changes to another such stage
-  stays : (s : St) (H : History) (id : ℕ) (v w : View) → ((t : ℕ) → v.stage ≢ Out t) → ((t : ℕ) → w.stage ≢ Out t) → get_elem? s.views id ≡ some v
+  stays : (s : St) (H : EntryList) (id : ℕ) (v w : View) → ((t : ℕ) → v.stage ≢ Out t) → ((t : ℕ) → w.stage ≢ Out t) → get_elem? s.views id ≡ some v
       → Placed H s.homes s.views → Placed H s.homes (set s.views id w)
   stays s H id v w from to at (inl p) = inl (p.0, p.1, p.2, p.3, all_set (λ j u. (t : ℕ) → u.stage ≢ Out t) s.views id w to (λ j u _ atj. p.4 j u atj))
   stays s H id v w from to at (inr p) =
@@ -317,7 +317,7 @@ module _ {V : Type 0} (history : V → History) (fixed : V → List ℕ) (F : Li
       let f = r.each id v at in
       let alive = out_alive v t is in
       let found : get_or s.words 2 0 ≡ length r.H = ap (λ (ws : List ℕ). get_or ws 2 0) r.words in
-      let long : length (history x) ≡ length r.H + 1 = ap length (grows ∙ ap (λ (l : History). l ++ e ∷ []) g.1) ∙ length-append r.H (e ∷ []) in
+      let long : length (history x) ≡ length r.H + 1 = ap length (grows ∙ ap (λ (l : EntryList). l ++ e ∷ []) g.1) ∙ length-append r.H (e ∷ []) in
       let next : length (r.H ++ e ∷ []) ≡ length r.H + 1 = length-append r.H (e ∷ []) in
       let fresh : (get_or s.words 2 0 + 1) % 2 ^ 64 ≡ length (r.H ++ e ∷ []) = mod-eq_of_lt (omega arith) ∙ (ap (λ (z : ℕ). z + 1) found ∙ sym next) in
       let own = f.own alive in
@@ -340,7 +340,7 @@ module _ {V : Type 0} (history : V → History) (fixed : V → List ℕ) (F : Li
             (λ i es h z. other (sym (fu.keys i es h).1 ∙ (ap r.owner (sym z ∙ number) ∙ key.1))) fu)
             (λ i es h. (cond (eqb i e.0) (es ++ e ∷ []) es, has_added e v.mine i es h))
             (λ i le. mine_same i r.H e (λ z. let b = key.0 in let same : own.0 ≡ i = sym number ∙ z in omega arith) ∙ r.others i le)
-            (inr (g.0, (id, noted v e, t, set_here s.views id (noted v e) (at_below s.views id v at), is, ap (λ (l : History). l ++ e ∷ []) g.1))),
+            (inr (g.0, (id, noted v e, t, set_here s.views id (noted v e) (at_below s.views id v at), is, ap (λ (l : EntryList). l ++ e ∷ []) g.1))),
         (x, e, refl, grows, by, refl),
       )
 

@@ -6,13 +6,13 @@ use Rattle.std.specs.List.{filter}
 abbrev pub Entry : Type 0
 Entry = ℕ × List ℕ
 
-abbrev pub History : Type 0
-History = List Entry
+abbrev pub EntryList : Type 0
+EntryList = List Entry
 
 -- the entries of one pass, in their order
-abbrev pub mine : ℕ → History → History
+abbrev pub mine : ℕ → EntryList → EntryList
 mine number H = filter (λ e. e.0 == number) H
 
 -- the history begins with another one
-abbrev pub StartsWith : History → History → Type 0
-StartsWith whole front = (rest : History) × (whole ≡ front ++ rest)
+abbrev pub StartsWith : EntryList → EntryList → Type 0
+StartsWith whole front = (rest : EntryList) × (whole ≡ front ++ rest)

@@ -2,7 +2,7 @@
 use Rattle.std.specs.Prelude.{◌≡◌, ℕ, ◌<◌, List, [], length, slice_get, slice_index_or, Some}
 use Rattle.std.specs.List.{All}
 use Rattle.atomic_table.specs.Seated.{TableId}
-use Rattle.table_lock.specs.Entries.{History, mine}
+use Rattle.table_lock.specs.Entries.{EntryList, mine}
 use Rattle.table_lock.specs.Views.{view_of}
 use Rattle.table_lock.specs.declared.pass.Pass.{Pass}
 use Rattle.table_lock.specs.declared.lock.TableLock.{TableLock}
@@ -14,11 +14,11 @@ abbrev pub pass_table : Pass → TableId
 pass_table p = p.badge.table_id
 
 -- the history as the pass last saw it, in its last turn
-abbrev pub pass_seen : Pass → History
+abbrev pub pass_seen : Pass → EntryList
 pass_seen p = (view_of p.badge.views).seen
 
 -- the entries that the pass made
-abbrev pub pass_own : Pass → History
+abbrev pub pass_own : Pass → EntryList
 pass_own p = mine p.number (pass_seen p)
 
 -- the fixed part of the value that its lock was made with

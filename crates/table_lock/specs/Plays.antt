@@ -3,7 +3,7 @@
 -- that a pass knows.
 use Rattle.std.specs.Prelude.{◌≡◌, ◌≢◌, ℕ, ◌+◌, ◌==◌, ◌^◌, ◌<◌, ◌≤◌, List, [], ◌∷◌, ◌++◌, map, length, nat_lt, Option, Some, None, if◌then◌else◌}
 use Rattle.atomic_table.specs.Table.{Me, Step}
-use Rattle.table_lock.specs.Entries.{Entry, History, mine, StartsWith}
+use Rattle.table_lock.specs.Entries.{Entry, EntryList, mine, StartsWith}
 use Rattle.table_lock.specs.Rule.{Map, Has}
 use Rattle.table_lock.specs.declared.board.Stage.{Stage}
 use Rattle.table_lock.specs.declared.board.Stage.TheVariants.{Spent, Idle, Waiting, Out}
@@ -23,14 +23,14 @@ abbrev pub at_stage : View → Stage → View
 at_stage v stage = record v { stage = stage }
 
 -- the map after one more entry, which joins the list at its number
-abbrev pub added : Entry → Map → Map
-added e m = map (λ (x : ℕ × History). (x.0, (if x.0 == e.0 then x.1 ++ e ∷ [] else x.1))) m
+abbrev pub entry_added : Entry → Map → Map
+entry_added e m = map (λ (x : ℕ × EntryList). (x.0, (if x.0 == e.0 then x.1 ++ e ∷ [] else x.1))) m
 
 -- the view after one more entry of its pass
 abbrev pub noted : View → Entry → View
-noted v e = record v { seen = v.seen ++ e ∷ []; mine = added e v.mine }
+noted v e = record v { seen = v.seen ++ e ∷ []; mine = entry_added e v.mine }
 
-module _ {V : Type 0} (history : V → History) (fixed : V → List ℕ) where
+module _ {V : Type 0} (history : V → EntryList) (fixed : V → List ℕ) where
   -- where the turn has come, the value is the pass's and the pass sees its whole history
   pub record Called (v : View) (m' : Sat V) : Type 0 where
     pub value : V
@@ -38,13 +38,13 @@ module _ {V : Type 0} (history : V → History) (fixed : V → List ℕ) where
     pub slot : m'.1 ≡ (0, Some value) ∷ []
     pub fixed_is : fixed value ≡ v.fixed
     pub longer : StartsWith (history value) v.seen
-    pub own : (i : ℕ) (es : History) → Has v.mine i es → es ≡ mine i (history value)
+    pub own : (i : ℕ) (es : EntryList) → Has v.mine i es → es ≡ mine i (history value)
 
   -- look: the turn has come where the word is the pass's ticket and below 2^63
   abbrev pub looked : Step (Option V) → Sat V → ℕ → Sat V → Type 0
   looked st m r m' = (r ≡ ticket_of m.0.stage → r < 2 ^ 63 → Called m.0 m') × (r ≢ ticket_of m.0.stage → m' ≡ m) × (2 ^ 63 ≤ r → m' ≡ m)
 
-module _ {V : Type 0} (history : V → History) where
+module _ {V : Type 0} (history : V → EntryList) where
   -- made: the last entry of the value in the slot joins what the pass has seen and made
   abbrev pub made : Step (Option V) → Sat V → ℕ → Sat V → Type 0
   made st m r m' = (x : V) × (e : Entry) × (m.1 ≡ (0, Some x) ∷ []) × (history x ≡ m.0.seen ++ e ∷ []) × (m.0.number ≡ Some e.0) × (m' ≡ (noted m.0 e, m.1))
@@ -67,7 +67,7 @@ abbrev pub newcomer : View → View
 newcomer v = record { number = Some v.seats; stage = Idle; seats = 0; seen = []; mine = (v.seats, []) ∷ []; fixed = v.fixed; told = [] }
 
 -- join: the taker has the longer history, the keys of both and the count of either, and remembers what both had seen
-abbrev pub longer : History → History → History
+abbrev pub longer : EntryList → EntryList → EntryList
 longer a b = if nat_lt (length a) (length b) then b else a
 
 abbrev pub both : View → View → View

@@ -29,16 +29,16 @@ use mathlib.Core.Option.{none, some}
 use mathlib.Core.Option as maybe
 use lib.ListN.{get_elem?}
 use Rattle.atomic_table.specs.Table.{State}
-use Rattle.table_lock.specs.Entries.{History, mine, StartsWith}
+use Rattle.table_lock.specs.Entries.{EntryList, mine, StartsWith}
 use Rattle.table_lock.specs.declared.board.Stage.{Stage}
 use Rattle.table_lock.specs.declared.board.Stage.TheVariants.{Spent, Idle, Waiting, Out}
 use Rattle.table_lock.specs.declared.board.View.{View}
 
 -- a finite map from numbers of passes to their entries
 abbrev pub Map : Type 0
-Map = List (ℕ × History)
+Map = List (ℕ × EntryList)
 
-abbrev pub Has : Map → ℕ → History → Type 0
+abbrev pub Has : Map → ℕ → EntryList → Type 0
 Has m i es = (k : ℕ) × (get_elem? m k ≡ some (i, es))
 
 -- a ticket lies from the one that is served to below the next one, and one that is out is served
@@ -66,28 +66,28 @@ abbrev pub waiting : List View → ℕ
 waiting views = sum_by (λ v. tickets v.stage) views
 
 -- how many keys all passes have
-abbrev pub keys_of : List View → ℕ
-keys_of views = sum_by (λ v. length v.mine) views
+abbrev pub key_count : List View → ℕ
+key_count views = sum_by (λ v. length v.mine) views
 
 -- what the view of a seat has to do with the history H, where n numbers were given out, and i is a key of the seat `owner i`
-pub record Fits (F : List ℕ) (H : History) (n : ℕ) (owner : ℕ → ℕ) (seat : ℕ) (v : View) : Type 0 where
+pub record FitsView (F : List ℕ) (H : EntryList) (n : ℕ) (owner : ℕ → ℕ) (seat : ℕ) (v : View) : Type 0 where
   pub seen : StartsWith H v.seen
   pub fixed : v.stage ≢ Spent → v.fixed ≡ F
-  pub keys : (i : ℕ) (es : History) → Has v.mine i es → (i < n) × (owner i ≡ seat) × (es ≡ mine i H)
-  pub own : v.stage ≢ Spent → (i : ℕ) × (es : History) × (v.number ≡ Some i) × Has v.mine i es
+  pub keys : (i : ℕ) (es : EntryList) → Has v.mine i es → (i < n) × (owner i ≡ seat) × (es ≡ mine i H)
+  pub own : v.stage ≢ Spent → (i : ℕ) × (es : EntryList) × (v.number ≡ Some i) × Has v.mine i es
   pub count : v.seats ≢ 0 → (v.seats ≡ n) × (seat ≡ owner 0)
-  pub told : (k : ℕ) (xs : History) → get_elem? v.told k ≡ some xs → StartsWith H xs
+  pub told : (k : ℕ) (xs : EntryList) → get_elem? v.told k ≡ some xs → StartsWith H xs
   pub spent : v.stage ≡ Spent → (v.number ≡ None) × (v.seen ≡ []) × (v.mine ≡ []) × (v.seats ≡ 0)
 
-module _ {V : Type 0} (history : V → History) (fixed : V → List ℕ) (F : List ℕ) (N : ℕ) where
+module _ {V : Type 0} (history : V → EntryList) (fixed : V → List ℕ) (F : List ℕ) (N : ℕ) where
   -- the value is in the slot with the history H and no pass is out, or it is away with a pass that has seen H
-  abbrev pub IsPlaced : History → List (maybe.Option (Option V)) → List View → Type 0
-  IsPlaced H homes views =
+  abbrev pub HasValueInPlace : EntryList → List (maybe.Option (Option V)) → List View → Type 0
+  HasValueInPlace H homes views =
       ((x : V) × (homes ≡ some (Some x) ∷ []) × (history x ≡ H) × (fixed x ≡ F) × ((j : ℕ) (v : View) → get_elem? views j ≡ some v → (t : ℕ) → v.stage ≢ Out t))
       ⊎ ((homes ≡ none ∷ []) × ((j : ℕ) × (v : View) × (t : ℕ) × (get_elem? views j ≡ some v) × (v.stage ≡ Out t) × (v.seen ≡ H)))
 
   pub record Keeps (s : State (Option V) View) : Type 0 where
-    pub H : History
+    pub H : EntryList
     pub n : ℕ
     pub owner : ℕ → ℕ
     pub ticket : ℕ
@@ -99,13 +99,13 @@ module _ {V : Type 0} (history : V → History) (fixed : V → List ℕ) (F : Li
     pub all : length s.views ≡ n
     pub has_count : (v : View) × (get_elem? s.views (owner 0) ≡ some v) × (v.seats ≡ n)
     pub counted : waiting s.views + serving ≡ ticket
-    pub shared : keys_of s.views ≡ n
+    pub shared : key_count s.views ≡ n
     pub ranges : (j : ℕ) (v : View) → get_elem? s.views j ≡ some v → InRange serving ticket v.stage
     pub apart : (j : ℕ) (v : View) → get_elem? s.views j ≡ some v → (k : ℕ) (w : View) → get_elem? s.views k ≡ some w → (t : ℕ) → IsTicket v.stage t → IsTicket w.stage t → j ≡ k
-    pub each : (j : ℕ) (v : View) → get_elem? s.views j ≡ some v → Fits F H n owner j v
-    pub keyed : (i : ℕ) → i < n → (v : View) × (es : History) × (get_elem? s.views (owner i) ≡ some v) × Has v.mine i es
+    pub each : (j : ℕ) (v : View) → get_elem? s.views j ≡ some v → FitsView F H n owner j v
+    pub keyed : (i : ℕ) → i < n → (v : View) × (es : EntryList) × (get_elem? s.views (owner i) ≡ some v) × Has v.mine i es
     pub others : (i : ℕ) → n ≤ i → mine i H ≡ []
-    pub placed : IsPlaced H s.homes s.views
+    pub placed : HasValueInPlace H s.homes s.views
 
 -- what the first pass knows as the lock is made: its number is 0
 abbrev pub opening_view : List ℕ → View

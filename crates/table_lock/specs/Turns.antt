@@ -1,6 +1,6 @@
 -- What clauses see of a turn: the lock, the pass's number, the value, and the history as it was entered.
 use Rattle.std.specs.Prelude.{◌≡◌, ℕ, ◌^◌, ◌<◌, List, [], ◌∷◌, ◌++◌, ◌⊎◌, length, None, Bool, true, false}
-use Rattle.table_lock.specs.Entries.{Entry, History}
+use Rattle.table_lock.specs.Entries.{Entry, EntryList}
 use Rattle.table_lock.specs.Passes.{lock_table, lock_first}
 use Rattle.table_lock.specs.Views.{at_turn}
 use Rattle.table_lock.specs.declared.board.Stage.TheVariants.{Out}
@@ -18,7 +18,7 @@ module _ {V : Type 0} where
   held_value h = h.value
 
   -- the history as the turn began
-  abbrev pub held_seen : Held V → History
+  abbrev pub held_seen : Held V → EntryList
   held_seen h = h.place.me.0.seen
 
   -- the turn is as `enter` gave it, but for the value
@@ -31,10 +31,10 @@ module _ {V : Type 0} where
     pub fixed_is : h.place.me.0.fixed ≡ fixed (lock_first h.lock.now)
 
 -- the history is as entered, or longer by one entry with this number
-abbrev pub IsOrGrowsBy : ℕ → History → History → Type 0
+abbrev pub IsOrGrowsBy : ℕ → EntryList → EntryList → Type 0
 IsOrGrowsBy number before now = (now ≡ before) ⊎ ((e : Entry) × (e.0 ≡ number) × (now ≡ before ++ e ∷ []))
 
 -- the same, where it is known which of the two
-abbrev pub IsGrown : ℕ → History → History → Bool → Type 0
+abbrev pub IsGrown : ℕ → EntryList → EntryList → Bool → Type 0
 IsGrown number before now false = now ≡ before
 IsGrown number before now true = (e : Entry) × (e.0 ≡ number) × (now ≡ before ++ e ∷ []) × (length now < 2 ^ 63)

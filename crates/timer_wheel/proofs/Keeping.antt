@@ -8,7 +8,7 @@ use Rattle.slab.specs.Slab.{Slab, slab_len, Updates}
 use Rattle.addr_index.specs.Indexes.{Index, key_in}
 use Rattle.timer_wheel.specs.declared.armed.Armed.{Armed}
 use Rattle.timer_wheel.specs.Arms.{Wheel, is_below, is_above, due_in, with_due}
-use Rattle.timer_wheel.specs.Rows.{arms_in, row_at}
+use Rattle.timer_wheel.specs.Rows.{arms_in, armed_at}
 use Rattle.timer_wheel.specs.Rings.{is_node, slice_of}
 use Rattle.timer_wheel.specs.Kept.{HasRow, IsWired, IsIndexed, IsEarly, IsKept}
 use Rattle.timer_wheel.specs.Searches.{GoesBehind}
@@ -37,7 +37,7 @@ one_each rows index is j k x y at_j at_k same =
     some-same j k (sym (is.indexed j x at_j) ∙ ap (key_in index) same ∙ is.indexed k y at_k)
 
 -- where nothing is due for an address no row has it
-pub no_row : (slots : List (Option Armed)) (a : ℕ) → IsOneEach slots → due_in (arms_in slots) a ≡ None → (key : ℕ) (x : Armed) → row_at slots key ≡ Some x → x.address.0 ≢ a
+pub no_row : (slots : List (Option Armed)) (a : ℕ) → IsOneEach slots → due_in (arms_in slots) a ≡ None → (key : ℕ) (x : Armed) → armed_at slots key ≡ Some x → x.address.0 ≢ a
 no_row slots a each none key x there same = none-some (due_in (arms_in slots) a) x.due none (ap (due_in (arms_in slots)) (sym same) ∙ due_at slots key x each there)
 
 -- nothing is due where the index has no key
@@ -64,12 +64,12 @@ node_in rows later earlier node wired is =
       behind = omega (arith, behind, wired.earlier_nodes);
     }
 
-pub row_in : (rows : Slab Armed) (later earlier : List ℕ) (key : ℕ) (armed : Armed) → IsWired rows later earlier → row_at rows.slots key ≡ Some armed → IsNodeIn later earlier (1024 + key)
+pub row_in : (rows : Slab Armed) (later earlier : List ℕ) (key : ℕ) (armed : Armed) → IsWired rows later earlier → armed_at rows.slots key ≡ Some armed → IsNodeIn later earlier (1024 + key)
 row_in rows later earlier key armed wired there = node_in rows later earlier (1024 + key) wired (node-row rows.slots (1024 + key) armed (row_of-key rows.slots key ∙ there))
 
 -- what a slab became when a row was taken out
 pub record IsDropped (rows rows' : Slab Armed) (key : ℕ) (armed : Armed) : Type 0 where
-  pub there : row_at rows.slots key ≡ Some armed
+  pub there : armed_at rows.slots key ≡ Some armed
   pub updates : Updates rows rows' key None
   pub len : slab_len rows' + 1 ≡ slab_len rows
   pub capacity : rows'.capacity ≡ rows.capacity
@@ -93,16 +93,16 @@ wired_dropped rows rows' later earlier key armed is wired = record {
     node : IsNodeIn later earlier (1024 + key)
     node = row_in rows later earlier key armed wired is.there
 
-    was : (k : ℕ) (x : Armed) → row_at rows'.slots k ≡ Some x → row_at rows.slots k ≡ Some x
+    was : (k : ℕ) (x : Armed) → armed_at rows'.slots k ≡ Some x → armed_at rows.slots k ≡ Some x
     was k x there = (left_row rows.slots rows'.slots key armed drops k x there).1
 
 -- what a slab became when a row was put in
 pub record IsAdded (rows rows' : Slab Armed) (key : ℕ) (armed : Armed) : Type 0 where
-  pub empty : row_at rows.slots key ≡ None
+  pub empty : armed_at rows.slots key ≡ None
   pub updates : Updates rows rows' key (Some armed)
   pub len : slab_len rows' ≡ slab_len rows + 1
   pub capacity : rows'.capacity ≡ rows.capacity
-  pub absent : (k : ℕ) (x : Armed) → row_at rows.slots k ≡ Some x → x.address.0 ≢ armed.address.0
+  pub absent : (k : ℕ) (x : Armed) → armed_at rows.slots k ≡ Some x → x.address.0 ≢ armed.address.0
 
 pub adds_row : (rows rows' : Slab Armed) (key : ℕ) (armed : Armed) → IsAdded rows rows' key armed → AddsRow rows.slots rows'.slots key armed
 adds_row rows rows' key armed is = record { added = is.updates.changed; others = is.updates.others; empty = is.empty; absent = is.absent }
@@ -124,14 +124,14 @@ wired_added rows rows' later earlier key p armed is low small goes wired = recor
     node : IsNodeIn later earlier p
     node = node_in rows later earlier p wired goes.there
 
-    is_new : (k : ℕ) (x : Armed) → row_at rows'.slots k ≡ Some x → ((k ≡ key) × (x ≡ armed)) ⊎ ((k ≢ key) × (row_at rows.slots k ≡ Some x))
+    is_new : (k : ℕ) (x : Armed) → armed_at rows'.slots k ≡ Some x → ((k ≡ key) × (x ≡ armed)) ⊎ ((k ≢ key) × (armed_at rows.slots k ≡ Some x))
     is_new k x there = new_row rows.slots rows'.slots key armed adds k x there
 
-    within : (k : ℕ) (x : Armed) → ((k ≡ key) × (x ≡ armed)) ⊎ ((k ≢ key) × (row_at rows.slots k ≡ Some x)) → k < rows'.capacity
+    within : (k : ℕ) (x : Armed) → ((k ≡ key) × (x ≡ armed)) ⊎ ((k ≢ key) × (armed_at rows.slots k ≡ Some x)) → k < rows'.capacity
     within k x (inl mine) = omega (arith, mine.0, low)
     within k x (inr old) = omega (arith, wired.within k x old.1, is.capacity)
 
-    fits : (k : ℕ) (x : Armed) → ((k ≡ key) × (x ≡ armed)) ⊎ ((k ≢ key) × (row_at rows.slots k ≡ Some x)) → x.address.0 < 2 ^ 128
+    fits : (k : ℕ) (x : Armed) → ((k ≡ key) × (x ≡ armed)) ⊎ ((k ≢ key) × (armed_at rows.slots k ≡ Some x)) → x.address.0 < 2 ^ 128
     fits k x (inl mine) = subst (λ (y : Armed). y.address.0 < 2 ^ 128) (sym mine.1) small
     fits k x (inr old) = wired.fits k x old.1
 
@@ -146,17 +146,17 @@ indexed_dropped rows rows' index index' key armed is keys entries indexed = reco
     drops : DropsRow rows.slots rows'.slots key armed
     drops = drops_row rows rows' key armed is
 
-    was : (k : ℕ) (x : Armed) → row_at rows'.slots k ≡ Some x → (k ≢ key) × (row_at rows.slots k ≡ Some x)
+    was : (k : ℕ) (x : Armed) → armed_at rows'.slots k ≡ Some x → (k ≢ key) × (armed_at rows.slots k ≡ Some x)
     was k x there = left_row rows.slots rows'.slots key armed drops k x there
 
-    other : (k : ℕ) (x : Armed) → row_at rows'.slots k ≡ Some x → x.address.0 ≢ armed.address.0
+    other : (k : ℕ) (x : Armed) → armed_at rows'.slots k ≡ Some x → x.address.0 ≢ armed.address.0
     other k x there same = (was k x there).0 (one_each rows index indexed k key x armed (was k x there).1 is.there same)
 
     told : (a k : ℕ) → key_in index' a ≡ Some k → (a ≡ armed.address.0) ⊎ (a ≢ armed.address.0) → HasRow rows'.slots k a
     told a k found (inl same) = absurd (none-some (key_in index' a) k (ap (key_in index') same ∙ changed_same index index' armed.address.0 None keys) found)
     told a k found (inr differs) =
         let has : HasRow rows.slots k a = indexed.told a k (sym (changed_other index index' armed.address.0 a None keys differs) ∙ found) in
-        let far : k ≢ key = λ same. differs (sym has.address ∙ ap (λ x. x.address.0) (some-same has.armed armed (sym has.there ∙ ap (row_at rows.slots) same ∙ is.there))) in
+        let far : k ≢ key = λ same. differs (sym has.address ∙ ap (λ x. x.address.0) (some-same has.armed armed (sym has.there ∙ ap (armed_at rows.slots) same ∙ is.there))) in
         record { armed = has.armed; there = drops.others k far ∙ has.there; address = has.address }
 
 -- the key of a row that was put in is put into the index
@@ -170,14 +170,14 @@ indexed_added rows rows' index index' key armed is keys entries indexed = record
     adds : AddsRow rows.slots rows'.slots key armed
     adds = adds_row rows rows' key armed is
 
-    found_key : (k : ℕ) (x : Armed) → ((k ≡ key) × (x ≡ armed)) ⊎ ((k ≢ key) × (row_at rows.slots k ≡ Some x)) → key_in index' x.address.0 ≡ Some k
+    found_key : (k : ℕ) (x : Armed) → ((k ≡ key) × (x ≡ armed)) ⊎ ((k ≢ key) × (armed_at rows.slots k ≡ Some x)) → key_in index' x.address.0 ≡ Some k
     found_key k x (inl mine) = ap (λ y. key_in index' y.address.0) mine.1 ∙ changed_same index index' armed.address.0 (Some key) keys ∙ ap Some (sym mine.0)
     found_key k x (inr old) = changed_other index index' armed.address.0 x.address.0 (Some key) keys (is.absent k x old.1) ∙ indexed.indexed k x old.1
 
     told : (a k : ℕ) → key_in index' a ≡ Some k → (a ≡ armed.address.0) ⊎ (a ≢ armed.address.0) → HasRow rows'.slots k a
     told a k found (inl same) =
         let here : key ≡ k = some-same key k (sym (changed_same index index' armed.address.0 (Some key) keys) ∙ ap (key_in index') (sym same) ∙ found) in
-        record { armed = armed; there = ap (row_at rows'.slots) (sym here) ∙ adds.added; address = sym same }
+        record { armed = armed; there = ap (armed_at rows'.slots) (sym here) ∙ adds.added; address = sym same }
     told a k found (inr differs) =
         let has : HasRow rows.slots k a = indexed.told a k (sym (changed_other index index' armed.address.0 a (Some key) keys differs) ∙ found) in
         record { armed = has.armed; there = (kept_row rows.slots rows'.slots key armed adds k has.armed has.there).1; address = has.address }
@@ -196,21 +196,21 @@ indexed_renewed rows left rows' index key old armed drop add same indexed = reco
     adds : AddsRow left.slots rows'.slots key armed
     adds = adds_row left rows' key armed add
 
-    found_key : (k : ℕ) (x : Armed) → ((k ≡ key) × (x ≡ armed)) ⊎ ((k ≢ key) × (row_at left.slots k ≡ Some x)) → key_in index x.address.0 ≡ Some k
+    found_key : (k : ℕ) (x : Armed) → ((k ≡ key) × (x ≡ armed)) ⊎ ((k ≢ key) × (armed_at left.slots k ≡ Some x)) → key_in index x.address.0 ≡ Some k
     found_key k x (inl mine) = ap (λ y. key_in index y.address.0) mine.1 ∙ ap (key_in index) (sym same) ∙ indexed.indexed key old drop.there ∙ ap Some (sym mine.0)
     found_key k x (inr rest) = indexed.indexed k x (left_row rows.slots left.slots key old drops k x rest.1).1
 
     told : (a k : ℕ) → HasRow rows.slots k a → (k ≡ key) ⊎ (k ≢ key) → HasRow rows'.slots k a
     told a k has (inl here) =
-        let mine : has.armed ≡ old = some-same has.armed old (sym has.there ∙ ap (row_at rows.slots) here ∙ drop.there) in
-        record { armed = armed; there = ap (row_at rows'.slots) here ∙ adds.added; address = sym same ∙ ap (λ x. x.address.0) (sym mine) ∙ has.address }
+        let mine : has.armed ≡ old = some-same has.armed old (sym has.there ∙ ap (armed_at rows.slots) here ∙ drop.there) in
+        record { armed = armed; there = ap (armed_at rows'.slots) here ∙ adds.added; address = sym same ∙ ap (λ x. x.address.0) (sym mine) ∙ has.address }
     told a k has (inr far) = record { armed = has.armed; there = adds.others k far ∙ drops.others k far ∙ has.there; address = has.address }
 
 -- the cursor once a row was put in
 pub early_added : (old new : List (Option Armed)) (key cursor : ℕ) (armed : Armed) → AddsRow old new key armed → IsEarly old cursor → IsEarly new (min cursor (slice_of armed))
 early_added old new key cursor armed adds early k x there = go (new_row old new key armed adds k x there)
   where
-    go : ((k ≡ key) × (x ≡ armed)) ⊎ ((k ≢ key) × (row_at old k ≡ Some x)) → min cursor (slice_of armed) ≤ slice_of x
+    go : ((k ≡ key) × (x ≡ armed)) ⊎ ((k ≢ key) × (armed_at old k ≡ Some x)) → min cursor (slice_of armed) ≤ slice_of x
     go (inl mine) = subst (λ (y : Armed). min cursor (slice_of armed) ≤ slice_of y) (sym mine.1) (omega arith)
     go (inr rest) = let le : cursor ≤ slice_of x = early k x rest.1 in omega (arith, le)
 
@@ -311,9 +311,9 @@ row_there None some = absurd (false≢true some)
 row_there (Some x) some = (x, refl)
 
 -- no row that is left has the address of the one that was taken out
-pub absent_left : (rows left : Slab Armed) (index : Index) (key : ℕ) (old : Armed) → IsDropped rows left key old → IsIndexed rows index → (k : ℕ) (x : Armed) → row_at left.slots k ≡ Some x → x.address.0 ≢ old.address.0
+pub absent_left : (rows left : Slab Armed) (index : Index) (key : ℕ) (old : Armed) → IsDropped rows left key old → IsIndexed rows index → (k : ℕ) (x : Armed) → armed_at left.slots k ≡ Some x → x.address.0 ≢ old.address.0
 absent_left rows left index key old drop indexed k x there same =
-    let was : (k ≢ key) × (row_at rows.slots k ≡ Some x) = left_row rows.slots left.slots key old (drops_row rows left key old drop) k x there in
+    let was : (k ≢ key) × (armed_at rows.slots k ≡ Some x) = left_row rows.slots left.slots key old (drops_row rows left key old drop) k x there in
     was.0 (one_each rows index indexed k key x old was.1 drop.there same)
 
 -- the pairs once a row was taken out, another one of its address put in, and what is kept then

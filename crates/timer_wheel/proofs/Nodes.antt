@@ -5,7 +5,7 @@ use Rattle.std.proofs.lemmas.Bool.{cases_lt, false≢true, lt-ltb, le-ltb}
 use Rattle.std.proofs.lemmas.List.{get_or-set_same, get_or-set_other, length-set}
 use Rattle.slab.specs.Slab.{Slab}
 use Rattle.timer_wheel.specs.declared.armed.Armed.{Armed}
-use Rattle.timer_wheel.specs.Rows.{row_at}
+use Rattle.timer_wheel.specs.Rows.{armed_at}
 use Rattle.timer_wheel.specs.Rings.{bucket_of, node_row, is_node, bucket_in, bucket_at, rank_of, rank_in, rank_at, IsRinged}
 use Rattle.timer_wheel.specs.Kept.{IsWired}
 use Rattle.timer_wheel.specs.Searches.{GoesBehind, LeastOf}
@@ -14,17 +14,17 @@ use Rattle.timer_wheel.proofs.Slots.{AddsRow, DropsRow}
 use Rattle.timer_wheel.proofs.Links.{IsFirst, first_least, put_in, take_out}
 
 -- the node of a key
-pub row_of-key : (slots : List (Option Armed)) (key : ℕ) → node_row slots (1024 + key) ≡ row_at slots key
+pub row_of-key : (slots : List (Option Armed)) (key : ℕ) → node_row slots (1024 + key) ≡ armed_at slots key
 row_of-key slots key =
     let same : 1024 + key - 1024 ≡ key = omega arith in
-    rw (le-ltb (1024 + key) 1024 (omega arith)) (ap (row_at slots) same)
+    rw (le-ltb (1024 + key) 1024 (omega arith)) (ap (armed_at slots) same)
 
 -- an end has no row
 pub row_of-end : (slots : List (Option Armed)) (node : ℕ) → node < 1024 → node_row slots node ≡ None
 row_of-end slots node end = rw (lt-ltb node 1024 end) refl
 
 -- a node with a row is that of its key
-pub row_key : (slots : List (Option Armed)) (node : ℕ) (armed : Armed) → node_row slots node ≡ Some armed → (1024 ≤ node) × (row_at slots (node - 1024) ≡ Some armed)
+pub row_key : (slots : List (Option Armed)) (node : ℕ) (armed : Armed) → node_row slots node ≡ Some armed → (1024 ≤ node) × (armed_at slots (node - 1024) ≡ Some armed)
 row_key slots node armed found =
     elim (cases_lt node 1024) [
       | inl end ↦ absurd (none-some (node_row slots node) armed (row_of-end slots node end) found)
@@ -69,18 +69,18 @@ node_within rows later earlier node wired is =
     elim (node_cases rows.slots node is) [
       | inl end ↦ omega (arith, end.low)
       | inr row ↦
-          let key : (1024 ≤ node) × (row_at rows.slots (node - 1024) ≡ Some row.0) = row_key rows.slots node row.0 row.1 in
+          let key : (1024 ≤ node) × (armed_at rows.slots (node - 1024) ≡ Some row.0) = row_key rows.slots node row.0 row.1 in
           let within : node - 1024 < rows.capacity = wired.within (node - 1024) row.0 key.1 in
           omega (arith, key.0, within)
     ]
 
 -- the other nodes when the row of a key changes
-pub row_of-other : (old new : List (Option Armed)) (key node : ℕ) → ((k : ℕ) → k ≢ key → row_at new k ≡ row_at old k) → node ≢ 1024 + key → node_row new node ≡ node_row old node
+pub row_of-other : (old new : List (Option Armed)) (key node : ℕ) → ((k : ℕ) → k ≢ key → armed_at new k ≡ armed_at old k) → node ≢ 1024 + key → node_row new node ≡ node_row old node
 row_of-other old new key node others differs =
     elim (cases_lt node 1024) [
       | inl end ↦ row_of-end new node end ∙ sym (row_of-end old node end)
       | inr high ↦
-          let same : row_at new (node - 1024) ≡ row_at old (node - 1024) = others (node - 1024) (λ e. differs (omega (arith, e, high))) in
+          let same : armed_at new (node - 1024) ≡ armed_at old (node - 1024) = others (node - 1024) (λ e. differs (omega (arith, e, high))) in
           rw (le-ltb node 1024 high) same
     ]
 
@@ -93,14 +93,14 @@ pub record KeepsOthers (old new : List (Option Armed)) (node : ℕ) : Type 0 whe
   pub buckets : (y : ℕ) → y ≢ node → bucket_at new y ≡ bucket_at old y
   pub ranks : (y : ℕ) → y ≢ node → rank_at new y ≡ rank_at old y
 
-pub keeps_others : (old new : List (Option Armed)) (key : ℕ) → ((k : ℕ) → k ≢ key → row_at new k ≡ row_at old k) → KeepsOthers old new (1024 + key)
+pub keeps_others : (old new : List (Option Armed)) (key : ℕ) → ((k : ℕ) → k ≢ key → armed_at new k ≡ armed_at old k) → KeepsOthers old new (1024 + key)
 keeps_others old new key others = record {
   nodes = λ y differs. ap (λ o. nat_lt y 1024 || is_some o) (row_of-other old new key y others differs);
   buckets = λ y differs. ap (bucket_in y) (row_of-other old new key y others differs);
   ranks = λ y differs. ap rank_in (row_of-other old new key y others differs);
 }
 
-not_node : (slots : List (Option Armed)) (key : ℕ) → row_at slots key ≡ None → is_node slots (1024 + key) ≡ false
+not_node : (slots : List (Option Armed)) (key : ℕ) → armed_at slots key ≡ None → is_node slots (1024 + key) ≡ false
 not_node slots key empty =
     let none : node_row slots (1024 + key) ≡ None = row_of-key slots key ∙ empty in
     ap (λ o. nat_lt (1024 + key) 1024 || is_some o) none ∙ ap (λ b. b || false) (le-ltb (1024 + key) 1024 (omega arith))
@@ -186,7 +186,7 @@ pub bucket_least : (slots : List (Option Armed)) (later earlier : List ℕ) (buc
 bucket_least slots later earlier bucket ring low = go (node_row slots (get_or later bucket 0)) refl
   where
     -- the first node is no later than a row of the bucket
-    first : (key : ℕ) (armed : Armed) → row_at slots key ≡ Some armed → bucket_of armed ≡ bucket → (rank_at slots (get_or later bucket 0) ≢ 0) × (rank_at slots (get_or later bucket 0) ≤ rank_of armed)
+    first : (key : ℕ) (armed : Armed) → armed_at slots key ≡ Some armed → bucket_of armed ≡ bucket → (rank_at slots (get_or later bucket 0) ≢ 0) × (rank_at slots (get_or later bucket 0) ≤ rank_of armed)
     first key armed there such =
         let mine : node_row slots (1024 + key) ≡ Some armed = row_of-key slots key ∙ there in
         let rank : rank_at slots (1024 + key) ≡ rank_of armed = ap rank_in mine in

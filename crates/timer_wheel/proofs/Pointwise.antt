@@ -4,8 +4,8 @@ use Rattle.std.proofs.lemmas.Bool.{cases_Bool, cases_eq, cases_lt, lt-ltb, le-lt
 use Rattle.std.proofs.lemmas.List.Elements.{All-head, All-tail, All-cons, All-weaker}
 use Rattle.savi_kinds.specs.declared.address.Addr.{Addr}
 use Rattle.timer_wheel.specs.declared.armed.Armed.{Armed}
-use Rattle.timer_wheel.specs.Arms.{is_of, is_below, is_above, IsRising, due_in, with_due, pair_for, sooner, first_armed, due_by}
-use Rattle.timer_wheel.specs.Laws.{IsLeast}
+use Rattle.timer_wheel.specs.Arms.{is_of, is_below, is_above, IsRising, due_in, with_due, pair_for, sooner, first_armed, due_within}
+use Rattle.timer_wheel.specs.Laws.{IsNoLater}
 use Rattle.timer_wheel.proofs.Rising.{behind, rest_rising, is_of-other, due_in-none}
 
 -- the first of two that is there
@@ -170,23 +170,23 @@ first_above t (x ∷ xs) f late found = go (λ g is. first_above t xs g (All-tai
         ]
 
 -- nothing is due by t where each pair is due later
-pub first_late : (t : ℕ) (xs : List Armed) → All (λ y. t < y.due) xs → due_by t (first_armed xs) ≡ None
+pub first_late : (t : ℕ) (xs : List Armed) → All (λ y. t < y.due) xs → due_within t (first_armed xs) ≡ None
 first_late t xs late = go (first_armed xs) refl
   where
-    go : (o : Option (ℕ × Addr)) → first_armed xs ≡ o → due_by t o ≡ None
+    go : (o : Option (ℕ × Addr)) → first_armed xs ≡ o → due_within t o ≡ None
     go None is = refl
     go (Some f) is = let above : t + 1 ≤ f.0 = first_above (t + 1) xs f (All-weaker (λ y. t < y.due) (λ y. t + 1 ≤ y.due) (λ y h. omega (arith, h)) xs late) is in rw (lt-leb f.0 t (omega (arith, above))) refl
 
 -- the least pair is the first
-pub first_is : (a d : ℕ) (xs : List Armed) → IsRising xs → due_in xs a ≡ Some d → All (λ y. IsLeast d a y.due y.address.0) xs → first_armed xs ≡ Some (d, record { 0 = a })
+pub first_is : (a d : ℕ) (xs : List Armed) → IsRising xs → due_in xs a ≡ Some d → All (λ y. IsNoLater d a y.due y.address.0) xs → first_armed xs ≡ Some (d, record { 0 = a })
 first_is a d [] rising found least = absurd (none-some (due_in [] a) d refl found)
 first_is a d (x ∷ xs) rising found least =
-    go (λ there. first_is a d xs (rest_rising x xs rising) there (All-tail (λ y. IsLeast d a y.due y.address.0) x xs least)) (cases_Bool (is_of a x))
+    go (λ there. first_is a d xs (rest_rising x xs rising) there (All-tail (λ y. IsNoLater d a y.due y.address.0) x xs least)) (cases_Bool (is_of a x))
   where
     no_sooner : All (λ y. d ≤ y.due) xs
     no_sooner =
-        All-weaker (λ y. IsLeast d a y.due y.address.0) (λ y. d ≤ y.due) (λ y h. elim h [ inl sooner_one ↦ omega (arith, sooner_one) | inr same ↦ omega (arith, same.0) ]) xs
-        (All-tail (λ y. IsLeast d a y.due y.address.0) x xs least)
+        All-weaker (λ y. IsNoLater d a y.due y.address.0) (λ y. d ≤ y.due) (λ y h. elim h [ inl sooner_one ↦ omega (arith, sooner_one) | inr same ↦ omega (arith, same.0) ]) xs
+        (All-tail (λ y. IsNoLater d a y.due y.address.0) x xs least)
 
     mine : x.due ≡ d → x.address.0 ≡ a → (o : Option (ℕ × Addr)) → first_armed xs ≡ o → sooner x o ≡ Some (d, record { 0 = a })
     mine due here None is = ap (λ n. Some (n, x.address)) due ∙ ap (λ n. Some (d, record { 0 = n })) here
@@ -194,7 +194,7 @@ first_is a d (x ∷ xs) rising found least =
         rw (le-leb x.due g.0 (omega (arith, due, first_above d xs g no_sooner is)))
         (ap (λ n. Some (n, x.address)) due ∙ ap (λ n. Some (d, record { 0 = n })) here)
 
-    later : due_in xs a ≡ Some d → IsLeast d a x.due x.address.0 → d < x.due
+    later : due_in xs a ≡ Some d → IsNoLater d a x.due x.address.0 → d < x.due
     later there (inl less) = less
     later there (inr same) = let lower : x.address.0 < a = behind_head x xs a d rising there in absurd (omega (arith, lower, same.1))
 
@@ -202,4 +202,4 @@ first_is a d (x ∷ xs) rising found least =
     go step (inl here) = mine (some-same x.due d (rw here at found)) (eqb-true x.address.0 a here) (first_armed xs) refl
     go step (inr other) =
         let there : due_in xs a ≡ Some d = rw other at found in
-        rw (step there, lt-leb x.due d (later there (All-head (λ y. IsLeast d a y.due y.address.0) x xs least))) refl
+        rw (step there, lt-leb x.due d (later there (All-head (λ y. IsNoLater d a y.due y.address.0) x xs least))) refl

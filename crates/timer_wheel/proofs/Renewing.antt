@@ -6,7 +6,7 @@ use Rattle.std.proofs.lemmas.List.Sums.{sum_by-set}
 use Rattle.slab.specs.Slab.{Slab, slab_len, Updates}
 use Rattle.timer_wheel.specs.declared.armed.Armed.{Armed}
 use Rattle.timer_wheel.specs.Arms.{is_of}
-use Rattle.timer_wheel.specs.Rows.{row_at, other_than, others_than}
+use Rattle.timer_wheel.specs.Rows.{armed_at, other_than, others_than}
 use Rattle.timer_wheel.specs.Rings.{is_node, node_row}
 use Rattle.timer_wheel.specs.Kept.{HasRow, IsWired}
 use Rattle.timer_wheel.specs.Searches.{GoesBehind}
@@ -16,7 +16,7 @@ use Rattle.timer_wheel.proofs.Nodes.{node_cases, row_of-end, row_key}
 use Rattle.timer_wheel.proofs.Keeping.{IsDropped, IsAdded, wired_dropped, wired_added}
 
 -- a row of another address is a row
-pub row_others : (a : ℕ) (slots : List (Option Armed)) (key : ℕ) (x : Armed) → row_at (map (other_than a) slots) key ≡ Some x → row_at slots key ≡ Some x
+pub row_others : (a : ℕ) (slots : List (Option Armed)) (key : ℕ) (x : Armed) → armed_at (map (other_than a) slots) key ≡ Some x → armed_at slots key ≡ Some x
 row_others a [] key x found = found
 row_others a (None ∷ slots) zero x found = found
 row_others a (Some y ∷ slots) zero x found =
@@ -27,8 +27,8 @@ row_others a (Some y ∷ slots) zero x found =
 row_others a (o ∷ slots) (suc key) x found = row_others a slots key x found
 
 -- and isn't of the address
-pub address_others : (a : ℕ) (slots : List (Option Armed)) (key : ℕ) (x : Armed) → row_at (map (other_than a) slots) key ≡ Some x → x.address.0 ≢ a
-address_others a [] key x found same = none-some (row_at [] key) x refl found
+pub address_others : (a : ℕ) (slots : List (Option Armed)) (key : ℕ) (x : Armed) → armed_at (map (other_than a) slots) key ≡ Some x → x.address.0 ≢ a
+address_others a [] key x found same = none-some (armed_at [] key) x refl found
 address_others a (None ∷ slots) zero x found same = none-some None x refl found
 address_others a (Some y ∷ slots) zero x found same =
     let is : y ≡ x = some-same y x (row_others a (Some y ∷ slots) zero x found) in
@@ -42,12 +42,12 @@ shown a slots node is =
     elim (node_cases (map (other_than a) slots) node is) [
       | inl end ↦ row_of-end slots node end.low ∙ sym end.none
       | inr row ↦
-          let key : (1024 ≤ node) × (row_at (map (other_than a) slots) (node - 1024) ≡ Some row.0) = row_key (map (other_than a) slots) node row.0 row.1 in
+          let key : (1024 ≤ node) × (armed_at (map (other_than a) slots) (node - 1024) ≡ Some row.0) = row_key (map (other_than a) slots) node row.0 row.1 in
           rw (le-ltb node 1024 key.0) (row_others a slots (node - 1024) row.0 key.1 ∙ sym key.1)
     ]
 
 -- where no row has the address, all are others
-pub others_all : (a : ℕ) (slots : List (Option Armed)) → ((k : ℕ) (x : Armed) → row_at slots k ≡ Some x → x.address.0 ≢ a) → map (other_than a) slots ≡ slots
+pub others_all : (a : ℕ) (slots : List (Option Armed)) → ((k : ℕ) (x : Armed) → armed_at slots k ≡ Some x → x.address.0 ≢ a) → map (other_than a) slots ≡ slots
 others_all a [] none = refl
 others_all a (None ∷ slots) none = ap (λ xs. None ∷ xs) (others_all a slots (λ k x there. none (suc k) x there))
 others_all a (Some y ∷ slots) none =
@@ -55,8 +55,8 @@ others_all a (Some y ∷ slots) none =
     rw (is_of-other a y (none 0 y refl), rest) refl
 
 -- where one has it, the others are those under the other keys
-pub others_left : (a : ℕ) (slots : List (Option Armed)) (key : ℕ) (old : Armed) → row_at slots key ≡ Some old → old.address.0 ≡ a → ((k : ℕ) (x : Armed) → row_at slots k ≡ Some x → x.address.0 ≡ a → k ≡ key) → map (other_than a) slots ≡ set slots key None
-others_left a [] key old there same alone = absurd (none-some (row_at [] key) old refl there)
+pub others_left : (a : ℕ) (slots : List (Option Armed)) (key : ℕ) (old : Armed) → armed_at slots key ≡ Some old → old.address.0 ≡ a → ((k : ℕ) (x : Armed) → armed_at slots k ≡ Some x → x.address.0 ≡ a → k ≡ key) → map (other_than a) slots ≡ set slots key None
+others_left a [] key old there same alone = absurd (none-some (armed_at [] key) old refl there)
 others_left a (None ∷ slots) zero old there same alone = absurd (none-some None old refl there)
 others_left a (Some y ∷ slots) zero old there same alone =
     let here : is_of a y ≡ true = eq-eqb y.address.0 a (ap (λ z. z.address.0) (some-same y old there) ∙ same) in
@@ -72,12 +72,12 @@ others_left a (Some y ∷ slots) (suc key) old there same alone =
 abbrev pub left_by : Slab Armed → ℕ → Slab Armed
 left_by rows key = record { slots = set rows.slots key None; vacant_key = rows.vacant_key; capacity = rows.capacity }
 
-row_within : (slots : List (Option Armed)) (key : ℕ) (x : Armed) → row_at slots key ≡ Some x → key < length slots
-row_within [] key x there = absurd (none-some (row_at [] key) x refl there)
+row_within : (slots : List (Option Armed)) (key : ℕ) (x : Armed) → armed_at slots key ≡ Some x → key < length slots
+row_within [] key x there = absurd (none-some (armed_at [] key) x refl there)
 row_within (o ∷ slots) zero x there = omega arith
 row_within (o ∷ slots) (suc key) x there = omega (arith, row_within slots key x there)
 
-pub dropped_left : (rows : Slab Armed) (key : ℕ) (old : Armed) → row_at rows.slots key ≡ Some old → IsDropped rows (left_by rows key) key old
+pub dropped_left : (rows : Slab Armed) (key : ℕ) (old : Armed) → armed_at rows.slots key ≡ Some old → IsDropped rows (left_by rows key) key old
 dropped_left rows key old there = record {
   there = there;
   updates = record {
@@ -97,7 +97,7 @@ dropped_left rows key old there = record {
     one : ◌≡◌ {A = ℕ} (cond (is_some (get_or rows.slots key None)) 1 0) 1
     one = rw there refl
 
-pub added_left : (rows rows' : Slab Armed) (key : ℕ) (old armed : Armed) → row_at rows.slots key ≡ Some old → Updates rows rows' key (Some armed) → slab_len rows' ≡ slab_len rows → rows'.capacity ≡ rows.capacity → ((k : ℕ) (x : Armed) → row_at rows.slots k ≡ Some x → x.address.0 ≡ armed.address.0 → k ≡ key) → IsAdded (left_by rows key) rows' key armed
+pub added_left : (rows rows' : Slab Armed) (key : ℕ) (old armed : Armed) → armed_at rows.slots key ≡ Some old → Updates rows rows' key (Some armed) → slab_len rows' ≡ slab_len rows → rows'.capacity ≡ rows.capacity → ((k : ℕ) (x : Armed) → armed_at rows.slots k ≡ Some x → x.address.0 ≡ armed.address.0 → k ≡ key) → IsAdded (left_by rows key) rows' key armed
 added_left rows rows' key old armed there updates len capacity alone = record {
   empty = drop.updates.changed;
   updates = record { changed = updates.changed; others = λ k other. updates.others k other ∙ sym (drop.updates.others k other) };
@@ -109,18 +109,18 @@ added_left rows rows' key old armed there updates len capacity alone = record {
     drop : IsDropped rows (left_by rows key) key old
     drop = dropped_left rows key old there
 
-    absent : (k : ℕ) (x : Armed) → row_at (set rows.slots key None) k ≡ Some x → x.address.0 ≡ armed.address.0 → (k ≡ key) ⊎ (k ≢ key) → ⊥
-    absent k x found same (inl here) = none-some (row_at (set rows.slots key None) key) x drop.updates.changed (ap (row_at (set rows.slots key None)) (sym here) ∙ found)
+    absent : (k : ℕ) (x : Armed) → armed_at (set rows.slots key None) k ≡ Some x → x.address.0 ≡ armed.address.0 → (k ≡ key) ⊎ (k ≢ key) → ⊥
+    absent k x found same (inl here) = none-some (armed_at (set rows.slots key None) key) x drop.updates.changed (ap (armed_at (set rows.slots key None)) (sym here) ∙ found)
     absent k x found same (inr other) = other (alone k x (sym (drop.updates.others k other) ∙ found) same)
 
 -- where no row has the address, the rows of others are all
-pub rows_all : (a : ℕ) (rows : Slab Armed) → ((k : ℕ) (x : Armed) → row_at rows.slots k ≡ Some x → x.address.0 ≢ a) → others_than a rows ≡ rows
+pub rows_all : (a : ℕ) (rows : Slab Armed) → ((k : ℕ) (x : Armed) → armed_at rows.slots k ≡ Some x → x.address.0 ≢ a) → others_than a rows ≡ rows
 rows_all a rows none = ap (λ slots. record { slots = slots; vacant_key = rows.vacant_key; capacity = rows.capacity }) (others_all a rows.slots none)
 
 -- the row of an address, which no other one has
 pub record IsRowOf (rows : Slab Armed) (key a : ℕ) : Type 0 where
   pub row : HasRow rows.slots key a
-  pub alone : (k : ℕ) (x : Armed) → row_at rows.slots k ≡ Some x → x.address.0 ≡ a → k ≡ key
+  pub alone : (k : ℕ) (x : Armed) → armed_at rows.slots k ≡ Some x → x.address.0 ≡ a → k ≡ key
 
 rows_left : (rows : Slab Armed) (key a : ℕ) → IsRowOf rows key a → others_than a rows ≡ left_by rows key
 rows_left rows key a is = ap (λ slots. record { slots = slots; vacant_key = rows.vacant_key; capacity = rows.capacity }) (others_left a rows.slots key is.row.armed is.row.there is.row.address is.alone)

@@ -2,7 +2,7 @@
 use Rattle.std.proofs.Common.{◌≡◌, ◌≢◌, ◌⊎◌, ℕ, ◌+◌, ◌-◌, ◌%◌, ◌^◌, ◌≤◌, ◌<◌, true, false, List, Option, None, Some, sym, ap, ◌∙◌, arith, inl, inr}
 use Rattle.std.proofs.lemmas.Bool.{cases_eq, cases_lt, cases_Bool, false≢true, eq-eqb, eqb-true}
 use Rattle.timer_wheel.specs.declared.armed.Armed.{Armed}
-use Rattle.timer_wheel.specs.Rows.{row_at}
+use Rattle.timer_wheel.specs.Rows.{armed_at}
 use Rattle.timer_wheel.specs.Rings.{slice_of, bucket_of, rank_of, is_sooner, sooner_of, is_in}
 use Rattle.timer_wheel.specs.Kept.{IsEarly}
 use Rattle.timer_wheel.specs.Searches.{LeastOf}
@@ -10,10 +10,10 @@ use Rattle.timer_wheel.proofs.Walks.{sooner_rank, later_rank}
 
 -- each row's address is one
 abbrev pub Fit : List (Option Armed) → Type 0
-Fit slots = (key : ℕ) (armed : Armed) → row_at slots key ≡ Some armed → armed.address.0 < 2 ^ 128
+Fit slots = (key : ℕ) (armed : Armed) → armed_at slots key ≡ Some armed → armed.address.0 < 2 ^ 128
 
 -- the least of more is that of fewer
-pub least_weaker : (slots : List (Option Armed)) (P Q : Armed → Type 0) (o : Option Armed) → ((key : ℕ) (armed : Armed) → row_at slots key ≡ Some armed → Q armed → P armed) → LeastOf slots P o → LeastOf slots Q o
+pub least_weaker : (slots : List (Option Armed)) (P Q : Armed → Type 0) (o : Option Armed) → ((key : ℕ) (armed : Armed) → armed_at slots key ≡ Some armed → Q armed → P armed) → LeastOf slots P o → LeastOf slots Q o
 least_weaker slots P Q None weaker least = λ key armed there such. least key armed there (weaker key armed there such)
 least_weaker slots P Q (Some x) weaker least = record { row = least.row; lowest = λ key armed there such. least.lowest key armed there (weaker key armed there such) }
 
@@ -95,7 +95,7 @@ sought_next slots from step last least first fit sought one not_here within fits
   fits = omega (arith, within, fits);
 }
   where
-    early : (key : ℕ) (armed : Armed) → row_at slots key ≡ Some armed → (o : Option Armed) → LeastOf slots (λ x. bucket_of x ≡ (from + step) % 1024) o → is_in (from + step) o ≡ false → (slice_of armed ≡ from + step) ⊎ (slice_of armed ≢ from + step) → from + (step + 1) ≤ slice_of armed
+    early : (key : ℕ) (armed : Armed) → armed_at slots key ≡ Some armed → (o : Option Armed) → LeastOf slots (λ x. bucket_of x ≡ (from + step) % 1024) o → is_in (from + step) o ≡ false → (slice_of armed ≡ from + step) ⊎ (slice_of armed ≢ from + step) → from + (step + 1) ≤ slice_of armed
     early key armed there o head out (inr other) = let from_on : from + step ≤ slice_of armed = sought.early key armed there in omega (arith, from_on, other)
     early key armed there None head out (inl same) = absurd (head key armed there (ap (λ n. n % 1024) same))
     early key armed there (Some x) head out (inl same) =

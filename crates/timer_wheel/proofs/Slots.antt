@@ -3,19 +3,19 @@ use Rattle.std.proofs.Common.{◌≡◌, ◌≢◌, ◌⊎◌, ℕ, zero, suc, L
 use Rattle.std.proofs.lemmas.Bool.{cases_eq}
 use Rattle.timer_wheel.specs.declared.armed.Armed.{Armed}
 use Rattle.timer_wheel.specs.Arms.{IsRising, due_in, with_due}
-use Rattle.timer_wheel.specs.Rows.{arms_in, row_at}
+use Rattle.timer_wheel.specs.Rows.{arms_in, armed_at}
 use Rattle.timer_wheel.proofs.Rising.{IsRising-with_due}
 use Rattle.timer_wheel.proofs.Pointwise.{none-some, some-same, due_in-with_same, due_in-with_other, one_list}
 
 -- no two rows have one address
 abbrev pub IsOneEach : List (Option Armed) → Type 0
-IsOneEach slots = (j k : ℕ) (x y : Armed) → row_at slots j ≡ Some x → row_at slots k ≡ Some y → x.address.0 ≡ y.address.0 → j ≡ k
+IsOneEach slots = (j k : ℕ) (x y : Armed) → armed_at slots j ≡ Some x → armed_at slots k ≡ Some y → x.address.0 ≡ y.address.0 → j ≡ k
 
 -- a row with this address and moment
 pub record Has (slots : List (Option Armed)) (a d : ℕ) : Type 0 where
   pub key : ℕ
   pub armed : Armed
-  pub there : row_at slots key ≡ Some armed
+  pub there : armed_at slots key ≡ Some armed
   pub address : armed.address.0 ≡ a
   pub due : armed.due ≡ d
 
@@ -40,7 +40,7 @@ has_row (Some x ∷ slots) a d found =
     ]
 
 -- nothing is due for an address that no row has
-pub none_at : (slots : List (Option Armed)) (a : ℕ) → ((k : ℕ) (x : Armed) → row_at slots k ≡ Some x → x.address.0 ≢ a) → due_in (arms_in slots) a ≡ None
+pub none_at : (slots : List (Option Armed)) (a : ℕ) → ((k : ℕ) (x : Armed) → armed_at slots k ≡ Some x → x.address.0 ≢ a) → due_in (arms_in slots) a ≡ None
 none_at slots a none = go (due_in (arms_in slots) a) refl
   where
     go : (o : Option ℕ) → due_in (arms_in slots) a ≡ o → o ≡ None
@@ -51,8 +51,8 @@ pub rest_each : (x : Option Armed) (slots : List (Option Armed)) → IsOneEach (
 rest_each x slots each j k y z at_j at_k same = let e : suc j ≡ suc k = each (suc j) (suc k) y z at_j at_k same in omega (arith, e)
 
 -- what a row holds is due
-pub due_at : (slots : List (Option Armed)) (k : ℕ) (x : Armed) → IsOneEach slots → row_at slots k ≡ Some x → due_in (arms_in slots) x.address.0 ≡ Some x.due
-due_at [] k x each found = absurd (none-some (row_at [] k) x refl found)
+pub due_at : (slots : List (Option Armed)) (k : ℕ) (x : Armed) → IsOneEach slots → armed_at slots k ≡ Some x → due_in (arms_in slots) x.address.0 ≡ Some x.due
+due_at [] k x each found = absurd (none-some (armed_at [] k) x refl found)
 due_at (None ∷ slots) zero x each found = absurd (none-some None x refl found)
 due_at (None ∷ slots) (suc k) x each found = due_at slots k x (rest_each None slots each) found
 due_at (Some y ∷ slots) zero x each found =
@@ -66,35 +66,35 @@ due_at (Some y ∷ slots) (suc k) x each found =
 
 -- how the rows change when something is armed for an address that none has
 pub record AddsRow (old new : List (Option Armed)) (key : ℕ) (armed : Armed) : Type 0 where
-  pub added : row_at new key ≡ Some armed
-  pub others : (k : ℕ) → k ≢ key → row_at new k ≡ row_at old k
-  pub empty : row_at old key ≡ None
-  pub absent : (k : ℕ) (x : Armed) → row_at old k ≡ Some x → x.address.0 ≢ armed.address.0
+  pub added : armed_at new key ≡ Some armed
+  pub others : (k : ℕ) → k ≢ key → armed_at new k ≡ armed_at old k
+  pub empty : armed_at old key ≡ None
+  pub absent : (k : ℕ) (x : Armed) → armed_at old k ≡ Some x → x.address.0 ≢ armed.address.0
 
 -- a row of the new slots is the added one or an old one
-pub new_row : (old new : List (Option Armed)) (key : ℕ) (armed : Armed) → AddsRow old new key armed → (k : ℕ) (x : Armed) → row_at new k ≡ Some x → ((k ≡ key) × (x ≡ armed)) ⊎ ((k ≢ key) × (row_at old k ≡ Some x))
+pub new_row : (old new : List (Option Armed)) (key : ℕ) (armed : Armed) → AddsRow old new key armed → (k : ℕ) (x : Armed) → armed_at new k ≡ Some x → ((k ≡ key) × (x ≡ armed)) ⊎ ((k ≢ key) × (armed_at old k ≡ Some x))
 new_row old new key armed adds k x found =
     elim (cases_eq k key) [
-      | inl here ↦ inl (here, some-same x armed (sym found ∙ ap (row_at new) here ∙ adds.added))
+      | inl here ↦ inl (here, some-same x armed (sym found ∙ ap (armed_at new) here ∙ adds.added))
       | inr other ↦ inr (other, sym (adds.others k other) ∙ found)
     ]
 
-pub kept_row : (old new : List (Option Armed)) (key : ℕ) (armed : Armed) → AddsRow old new key armed → (k : ℕ) (x : Armed) → row_at old k ≡ Some x → (k ≢ key) × (row_at new k ≡ Some x)
+pub kept_row : (old new : List (Option Armed)) (key : ℕ) (armed : Armed) → AddsRow old new key armed → (k : ℕ) (x : Armed) → armed_at old k ≡ Some x → (k ≢ key) × (armed_at new k ≡ Some x)
 kept_row old new key armed adds k x found =
-    let other : k ≢ key = λ here. none-some (row_at old key) x adds.empty (ap (row_at old) (sym here) ∙ found) in
+    let other : k ≢ key = λ here. none-some (armed_at old key) x adds.empty (ap (armed_at old) (sym here) ∙ found) in
     (other, adds.others k other ∙ found)
 
 pub each_added : (old new : List (Option Armed)) (key : ℕ) (armed : Armed) → AddsRow old new key armed → IsOneEach old → IsOneEach new
 each_added old new key armed adds each j k x y at_j at_k same = go (new_row old new key armed adds j x at_j) (new_row old new key armed adds k y at_k)
   where
-    go : ((j ≡ key) × (x ≡ armed)) ⊎ ((j ≢ key) × (row_at old j ≡ Some x)) → ((k ≡ key) × (y ≡ armed)) ⊎ ((k ≢ key) × (row_at old k ≡ Some y)) → j ≡ k
+    go : ((j ≡ key) × (x ≡ armed)) ⊎ ((j ≢ key) × (armed_at old j ≡ Some x)) → ((k ≡ key) × (y ≡ armed)) ⊎ ((k ≢ key) × (armed_at old k ≡ Some y)) → j ≡ k
     go (inl here) (inl also) = here.0 ∙ sym also.0
     go (inl here) (inr old_one) = absurd (adds.absent k y old_one.1 (sym same ∙ ap (λ z. z.address.0) here.1))
     go (inr old_one) (inl here) = absurd (adds.absent j x old_one.1 (same ∙ ap (λ z. z.address.0) here.1))
     go (inr a) (inr b) = each j k x y a.1 b.1 same
 
 -- what is due for an address whose row is in both
-same_due : (old new : List (Option Armed)) (a : ℕ) → IsOneEach old → IsOneEach new → ((k : ℕ) (x : Armed) → x.address.0 ≡ a → row_at old k ≡ Some x → row_at new k ≡ Some x) → ((k : ℕ) (x : Armed) → x.address.0 ≡ a → row_at new k ≡ Some x → row_at old k ≡ Some x) → due_in (arms_in new) a ≡ due_in (arms_in old) a
+same_due : (old new : List (Option Armed)) (a : ℕ) → IsOneEach old → IsOneEach new → ((k : ℕ) (x : Armed) → x.address.0 ≡ a → armed_at old k ≡ Some x → armed_at new k ≡ Some x) → ((k : ℕ) (x : Armed) → x.address.0 ≡ a → armed_at new k ≡ Some x → armed_at old k ≡ Some x) → due_in (arms_in new) a ≡ due_in (arms_in old) a
 same_due old new a each_old each_new there back = go (due_in (arms_in old) a) refl
   where
     go : (o : Option ℕ) → due_in (arms_in old) a ≡ o → due_in (arms_in new) a ≡ o
@@ -130,13 +130,13 @@ arms_added old new key armed adds each =
 
 -- how they change when a row is taken out
 pub record DropsRow (old new : List (Option Armed)) (key : ℕ) (armed : Armed) : Type 0 where
-  pub there : row_at old key ≡ Some armed
-  pub gone : row_at new key ≡ None
-  pub others : (k : ℕ) → k ≢ key → row_at new k ≡ row_at old k
+  pub there : armed_at old key ≡ Some armed
+  pub gone : armed_at new key ≡ None
+  pub others : (k : ℕ) → k ≢ key → armed_at new k ≡ armed_at old k
 
-pub left_row : (old new : List (Option Armed)) (key : ℕ) (armed : Armed) → DropsRow old new key armed → (k : ℕ) (x : Armed) → row_at new k ≡ Some x → (k ≢ key) × (row_at old k ≡ Some x)
+pub left_row : (old new : List (Option Armed)) (key : ℕ) (armed : Armed) → DropsRow old new key armed → (k : ℕ) (x : Armed) → armed_at new k ≡ Some x → (k ≢ key) × (armed_at old k ≡ Some x)
 left_row old new key armed drops k x found =
-    let other : k ≢ key = λ here. none-some (row_at new key) x drops.gone (ap (row_at new) (sym here) ∙ found) in
+    let other : k ≢ key = λ here. none-some (armed_at new key) x drops.gone (ap (armed_at new) (sym here) ∙ found) in
     (other, sym (drops.others k other) ∙ found)
 
 pub each_dropped : (old new : List (Option Armed)) (key : ℕ) (armed : Armed) → DropsRow old new key armed → IsOneEach old → IsOneEach new
@@ -155,12 +155,12 @@ arms_dropped old new key armed drops each =
           | inl here ↦
               none_at new a
               (λ k x found is.
-              let left : (k ≢ key) × (row_at old k ≡ Some x) = left_row old new key armed drops k x found in
+              let left : (k ≢ key) × (armed_at old k ≡ Some x) = left_row old new key armed drops k x found in
               left.0 (each k key x armed left.1 drops.there (is ∙ here)))
               ∙ sym (ap (due_in (with_due armed.address.0 None (arms_in old))) here ∙ due_in-with_same armed.address.0 None (arms_in old))
           | inr other ↦
               same_due old new a each each_new
-              (λ k x is found. drops.others k (λ at. other (sym is ∙ ap (λ z. z.address.0) (some-same x armed (sym found ∙ ap (row_at old) at ∙ drops.there)))) ∙ found)
+              (λ k x is found. drops.others k (λ at. other (sym is ∙ ap (λ z. z.address.0) (some-same x armed (sym found ∙ ap (armed_at old) at ∙ drops.there)))) ∙ found)
               (λ k x is found. (left_row old new key armed drops k x found).1)
               ∙ sym (due_in-with_other armed.address.0 a None (arms_in old) other)
         ]

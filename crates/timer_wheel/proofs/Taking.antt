@@ -2,27 +2,27 @@
 use Rattle.std.proofs.Common.{◌≡◌, ℕ, ◌/◌, ◌≤◌, ◌<◌, List, Option, None, Some, refl, ap, ◌∙◌, subst, arith, inl, inr}
 use Rattle.std.proofs.lemmas.Bool.{cases_lt, le-leb}
 use Rattle.timer_wheel.specs.declared.armed.Armed.{Armed}
-use Rattle.timer_wheel.specs.Arms.{due_in, first_armed, due_by}
-use Rattle.timer_wheel.specs.Rows.{arms_in, row_at}
+use Rattle.timer_wheel.specs.Arms.{due_in, first_armed, due_within}
+use Rattle.timer_wheel.specs.Rows.{arms_in, armed_at}
 use Rattle.timer_wheel.specs.Rings.{slice_of, rank_of}
-use Rattle.timer_wheel.specs.Searches.{IsLeastOf, LeastOf}
-use Rattle.timer_wheel.specs.Laws.{IsLeast}
+use Rattle.timer_wheel.specs.Searches.{IsSoonestOf, LeastOf}
+use Rattle.timer_wheel.specs.Laws.{IsNoLater}
 use Rattle.timer_wheel.proofs.Pointwise.{all_pairs, first_is, first_late}
 use Rattle.timer_wheel.proofs.Slots.{IsOneEach, Has, has_row, due_at, arms_in-rising}
 use Rattle.timer_wheel.proofs.Seeking.{Fit}
 
 -- what holds of each row holds of each pair
-each_row : (P : ℕ → ℕ → Type 0) (slots : List (Option Armed)) → ((key : ℕ) (x : Armed) → row_at slots key ≡ Some x → P x.address.0 x.due) → (a d : ℕ) → due_in (arms_in slots) a ≡ Some d → P a d
+each_row : (P : ℕ → ℕ → Type 0) (slots : List (Option Armed)) → ((key : ℕ) (x : Armed) → armed_at slots key ≡ Some x → P x.address.0 x.due) → (a d : ℕ) → due_in (arms_in slots) a ≡ Some d → P a d
 each_row P slots each a d found =
     let has : Has slots a d = has_row slots a d found in
     subst (λ n. P a n) has.due (subst (λ n. P n has.armed.due) has.address (each has.key has.armed has.there))
 
 -- nothing is due by t where each row is due later
-none_by : (t : ℕ) (slots : List (Option Armed)) → ((key : ℕ) (x : Armed) → row_at slots key ≡ Some x → t < x.due) → due_by t (first_armed (arms_in slots)) ≡ None
+none_by : (t : ℕ) (slots : List (Option Armed)) → ((key : ℕ) (x : Armed) → armed_at slots key ≡ Some x → t < x.due) → due_within t (first_armed (arms_in slots)) ≡ None
 none_by t slots later = first_late t (arms_in slots) (all_pairs (λ a d. t < d) (arms_in slots) (arms_in-rising slots) (each_row (λ a d. t < d) slots later))
 
 -- no row is due in a slice up to that of t
-pub nothing_due : (t : ℕ) (slots : List (Option Armed)) → LeastOf slots (λ armed. slice_of armed ≤ t / 64) None → due_by t (first_armed (arms_in slots)) ≡ None
+pub nothing_due : (t : ℕ) (slots : List (Option Armed)) → LeastOf slots (λ armed. slice_of armed ≤ t / 64) None → due_within t (first_armed (arms_in slots)) ≡ None
 nothing_due t slots none =
     none_by t slots
     (λ key x there.
@@ -32,7 +32,7 @@ nothing_due t slots none =
     ])
 
 -- the least of these rows is due later
-pub least_late : (t : ℕ) (slots : List (Option Armed)) (least : Armed) → Fit slots → IsLeastOf slots (λ armed. slice_of armed ≤ t / 64) least → t < least.due → due_by t (first_armed (arms_in slots)) ≡ None
+pub least_late : (t : ℕ) (slots : List (Option Armed)) (least : Armed) → Fit slots → IsSoonestOf slots (λ armed. slice_of armed ≤ t / 64) least → t < least.due → due_within t (first_armed (arms_in slots)) ≡ None
 least_late t slots least fit is late =
     none_by t slots
     (λ key x there.
@@ -45,14 +45,14 @@ least_late t slots least fit is late =
     ])
 
 -- the least of these rows is the first, and it is due
-pub least_due : (t : ℕ) (slots : List (Option Armed)) (least : Armed) → IsOneEach slots → Fit slots → IsLeastOf slots (λ armed. slice_of armed ≤ t / 64) least → least.due ≤ t → due_by t (first_armed (arms_in slots)) ≡ Some (least.due, least.address)
+pub least_due : (t : ℕ) (slots : List (Option Armed)) (least : Armed) → IsOneEach slots → Fit slots → IsSoonestOf slots (λ armed. slice_of armed ≤ t / 64) least → least.due ≤ t → due_within t (first_armed (arms_in slots)) ≡ Some (least.due, least.address)
 least_due t slots least each fit is due =
-    ap (due_by t)
+    ap (due_within t)
     (first_is least.address.0 least.due (arms_in slots) (arms_in-rising slots) (due_at slots is.row.key least each is.row.there)
-    (all_pairs (λ a d. IsLeast least.due least.address.0 d a) (arms_in slots) (arms_in-rising slots) (each_row (λ a d. IsLeast least.due least.address.0 d a) slots first)))
+    (all_pairs (λ a d. IsNoLater least.due least.address.0 d a) (arms_in slots) (arms_in-rising slots) (each_row (λ a d. IsNoLater least.due least.address.0 d a) slots first)))
     ∙ rw (le-leb least.due t due) refl
   where
-    first : (key : ℕ) (x : Armed) → row_at slots key ≡ Some x → IsLeast least.due least.address.0 x.due x.address.0
+    first : (key : ℕ) (x : Armed) → armed_at slots key ≡ Some x → IsNoLater least.due least.address.0 x.due x.address.0
     first key x there =
         elim (cases_lt least.due x.due) [
           | inl sooner ↦ inl sooner

@@ -50,11 +50,11 @@ first_armed [] = None
 first_armed (armed ∷ arms) = sooner armed (first_armed arms)
 
 -- it, where its moment isn't after t
-abbrev pub due_by : ℕ → Option (ℕ × Addr) → Option (ℕ × Addr)
-due_by t None = None
-due_by t (Some first) = if nat_le first.0 t then Some first else None
+abbrev pub due_within : ℕ → Option (ℕ × Addr) → Option (ℕ × Addr)
+due_within t None = None
+due_within t (Some first) = if nat_le first.0 t then Some first else None
 
 -- the pairs without the one that was taken, if any was
-abbrev pub without : Option (ℕ × Addr) → List Armed → List Armed
-without None arms = arms
-without (Some taken) arms = with_due taken.1.0 None arms
+abbrev pub without_taken : Option (ℕ × Addr) → List Armed → List Armed
+without_taken None arms = arms
+without_taken (Some taken) arms = with_due taken.1.0 None arms

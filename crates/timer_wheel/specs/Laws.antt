@@ -4,12 +4,12 @@ use Rattle.timer_wheel.specs.declared.armed.Armed.{Armed}
 use Rattle.timer_wheel.specs.Arms.{IsRising, due_in, with_due, first_armed}
 
 -- one pair is due sooner than another one, or at the same moment and of no higher address
-abbrev pub IsLeast : ℕ → ℕ → ℕ → ℕ → Type 0
-IsLeast due a other_due other_a = (due < other_due) ⊎ ((due ≡ other_due) × (a ≤ other_a))
+abbrev pub IsNoLater : ℕ → ℕ → ℕ → ℕ → Type 0
+IsNoLater due a other_due other_a = (due < other_due) ⊎ ((due ≡ other_due) × (a ≤ other_a))
 
 -- What is due first is the least pair, by moment and then by address.
 abbrev pub FirstIsLeast : Type 0
-FirstIsLeast = (arms : List Armed) (a due : ℕ) → IsRising arms → due_in arms a ≡ Some due → ((b other : ℕ) → due_in arms b ≡ Some other → IsLeast due a other b) → first_armed arms ≡ Some (due, record { 0 = a })
+FirstIsLeast = (arms : List Armed) (a due : ℕ) → IsRising arms → due_in arms a ≡ Some due → ((b other : ℕ) → due_in arms b ≡ Some other → IsNoLater due a other b) → first_armed arms ≡ Some (due, record { 0 = a })
 
 -- Arming and canceling change what is due for the one address, and the pairs stay in rising order of address.
 pub record ChangesOneAddress : Type 0 where

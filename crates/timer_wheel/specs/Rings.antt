@@ -2,7 +2,7 @@
 -- bucket's ring, and node 1,024 + key is the row under this key.
 use Rattle.std.specs.Prelude.{ℕ, ◌≡◌, ◌≢◌, ◌<◌, ◌+◌, ◌-◌, ◌*◌, ◌/◌, ◌%◌, ◌^◌, ◌==◌, nat_lt, Bool, true, false, ◌||◌, ◌&&◌, if◌then◌else◌, is_some, Option, None, Some, List, slice_index}
 use Rattle.timer_wheel.specs.declared.armed.Armed.{Armed}
-use Rattle.timer_wheel.specs.Rows.{row_at}
+use Rattle.timer_wheel.specs.Rows.{armed_at}
 
 -- the slice of time in which a pair is due, each of 64 ms
 abbrev pub slice_of : Armed → ℕ
@@ -29,7 +29,7 @@ is_in slice (Some armed) = slice_of armed == slice
 
 -- the row of a node, or none at an end
 abbrev pub node_row : List (Option Armed) → ℕ → Option Armed
-node_row slots node = if nat_lt node 1024 then None else row_at slots (node - 1024)
+node_row slots node = if nat_lt node 1024 then None else armed_at slots (node - 1024)
 
 -- whether a number is that of an end, or of a row that is there
 abbrev pub is_node : List (Option Armed) → ℕ → Bool

@@ -15,8 +15,8 @@ abbrev pub armed_of : ℕ → ℕ → ℕ → Armed
 armed_of high low due = record { address = record { 0 = high * 2 ^ 64 + low }; due = due }
 
 -- the row under a key
-abbrev pub row_at : List (Option Armed) → ℕ → Option Armed
-row_at slots key = get_or slots key None
+abbrev pub armed_at : List (Option Armed) → ℕ → Option Armed
+armed_at slots key = get_or slots key None
 
 -- a row, if it isn't that of an address
 abbrev pub other_than : ℕ → Option Armed → Option Armed

@@ -1,7 +1,7 @@
 -- What is found in the rings of a wheel.
 use Rattle.std.specs.Prelude.{ℕ, ◌≡◌, ◌≢◌, ◌≤◌, ◌<◌, true, Option, None, Some, List, slice_index}
 use Rattle.timer_wheel.specs.declared.armed.Armed.{Armed}
-use Rattle.timer_wheel.specs.Rows.{row_at}
+use Rattle.timer_wheel.specs.Rows.{armed_at}
 use Rattle.timer_wheel.specs.Rings.{is_node, bucket_at, bucket_of, rank_at, rank_of}
 
 -- a pair belongs right behind this node: it is of the pair's bucket and of lower rank, and what is behind it is higher or
@@ -13,16 +13,16 @@ pub record GoesBehind (slots : List (Option Armed)) (later : List ℕ) (armed : 
   pub below : rank_at slots (slice_index later node) ≢ 0 → rank_of armed < rank_at slots (slice_index later node)
 
 -- a pair is in a row
-pub record IsRow (slots : List (Option Armed)) (armed : Armed) : Type 0 where
+pub record IsInRow (slots : List (Option Armed)) (armed : Armed) : Type 0 where
   pub key : ℕ
-  pub there : row_at slots key ≡ Some armed
+  pub there : armed_at slots key ≡ Some armed
 
 -- it is the least of those rows that are such
-pub record IsLeastOf (slots : List (Option Armed)) (IsSuch : Armed → Type 0) (least : Armed) : Type 0 where
-  pub row : IsRow slots least
-  pub lowest : (key : ℕ) (armed : Armed) → row_at slots key ≡ Some armed → IsSuch armed → rank_of least ≤ rank_of armed
+pub record IsSoonestOf (slots : List (Option Armed)) (IsSuch : Armed → Type 0) (least : Armed) : Type 0 where
+  pub row : IsInRow slots least
+  pub lowest : (key : ℕ) (armed : Armed) → armed_at slots key ≡ Some armed → IsSuch armed → rank_of least ≤ rank_of armed
 
 -- the least of the rows that are such, or None where none is
 abbrev pub LeastOf : List (Option Armed) → (Armed → Type 0) → Option Armed → Type 0
-LeastOf slots IsSuch None = (key : ℕ) (armed : Armed) → row_at slots key ≡ Some armed → IsSuch armed → ⊥
-LeastOf slots IsSuch (Some least) = IsLeastOf slots IsSuch least
+LeastOf slots IsSuch None = (key : ℕ) (armed : Armed) → armed_at slots key ≡ Some armed → IsSuch armed → ⊥
+LeastOf slots IsSuch (Some least) = IsSoonestOf slots IsSuch least

@@ -2,7 +2,7 @@
 
 ghost use Rattle.std.specs.Prelude.{◌≡◌, ◌≢◌, ◌≤◌, ◌<◌, ◌+◌, ◌^◌, ℕ, None, Some, IsSome, slice_index};
 ghost use Rattle.slab.specs.Slab.{Updates, HasRoomFor, slab_len};
-ghost use Rattle.timer_wheel.specs.Rows.{row_at, others_than};
+ghost use Rattle.timer_wheel.specs.Rows.{armed_at, others_than};
 ghost use Rattle.timer_wheel.specs.Rings.{node_row as row_of_node, slice_of, bucket_of, sooner_of, is_in as is_in_slice};
 ghost use Rattle.timer_wheel.specs.Kept.{IsWired, HasRow, IsEarly};
 ghost use Rattle.timer_wheel.specs.Searches.{GoesBehind, LeastOf};
@@ -133,11 +133,11 @@ pub(crate) fn seek(rows: &Slab<Timer>, rings: &Rings, from: u64, last: u64) -> F
 pub(crate) fn put_in(rows: &mut Slab<Timer>, rings: &mut Rings, armed: Armed) -> u32
     requires wired { IsWired rows.old rings.old.later.items rings.old.earlier.items }
     requires fits { armed.address.0 < 2 ^ 128 }
-    requires absent { (key : ℕ) (row : Armed) → row_at rows.old.slots key ≡ Some row → row.address.0 ≢ armed.address.0 }
+    requires absent { (key : ℕ) (row : Armed) → armed_at rows.old.slots key ≡ Some row → row.address.0 ≢ armed.address.0 }
     requires room { HasRoomFor rows.old 1 }
     ensures wired { IsWired rows.new rings.new.later.items rings.new.earlier.items }
     ensures key { result ≡ rows.old.vacant_key }
-    ensures vacant { row_at rows.old.slots result ≡ None }
+    ensures vacant { armed_at rows.old.slots result ≡ None }
     ensures updates { Updates rows.old rows.new result (Some armed) }
     ensures len { slab_len rows.new ≡ slab_len rows.old + 1 }
     ensures capacity { rows.new.capacity ≡ rows.old.capacity }
@@ -151,7 +151,7 @@ pub(crate) fn put_in(rows: &mut Slab<Timer>, rings: &mut Rings, armed: Armed) ->
 // Takes the row under a key out. The key is the next one.
 pub(crate) fn take_out(rows: &mut Slab<Timer>, rings: &mut Rings, key: u32)
     requires wired { IsWired rows.old rings.old.later.items rings.old.earlier.items }
-    requires there { IsSome (row_at rows.old.slots key) }
+    requires there { IsSome (armed_at rows.old.slots key) }
     ensures wired { IsWired rows.new rings.new.later.items rings.new.earlier.items }
     ensures next { rows.new.vacant_key ≡ key }
     ensures updates { Updates rows.old rows.new key None }
@@ -169,7 +169,7 @@ pub(crate) fn renew(rows: &mut Slab<Timer>, rings: &mut Rings, key: u32, armed: 
     requires wired { IsWired rows.old rings.old.later.items rings.old.earlier.items }
     requires fits { armed.address.0 < 2 ^ 128 }
     requires there { HasRow rows.old.slots key armed.address.0 }
-    requires alone { (other : ℕ) (row : Armed) → row_at rows.old.slots other ≡ Some row → row.address.0 ≡ armed.address.0 → other ≡ key }
+    requires alone { (other : ℕ) (row : Armed) → armed_at rows.old.slots other ≡ Some row → row.address.0 ≡ armed.address.0 → other ≡ key }
     ensures wired { IsWired rows.new rings.new.later.items rings.new.earlier.items }
     ensures updates { Updates rows.old rows.new key (Some armed) }
     ensures len { slab_len rows.new ≡ slab_len rows.old }

@@ -1,7 +1,7 @@
 //! The pairs that are armed.
 
 ghost use Rattle.std.specs.Prelude.{◌≡◌, ◌^◌, ◌≤◌, ◌<◌, ◌⊎◌, [], None, Some, IfOk, IsSome, is_some, length};
-ghost use Rattle.timer_wheel.specs.Arms.{IsRising, due_in, with_due, first_armed, due_by, without};
+ghost use Rattle.timer_wheel.specs.Arms.{IsRising, due_in, with_due, first_armed, due_within, without_taken};
 
 use crate::armed::{Armed, SLICE_MS};
 use crate::buckets::{BUCKETS, put_in, renew, seek, take_out};
@@ -95,8 +95,8 @@ impl TimerWheel {
     /// armed since.
     pub fn next_due(&mut self, t: Moment) -> Option<(Moment, Addr)>
         ensures rising { IsRising self.old.arms }
-        ensures value { result ≡ due_by t (first_armed self.old.arms) }
-        ensures arms { self.new ≡ record self.old { arms = without result self.old.arms } }
+        ensures value { result ≡ due_within t (first_armed self.old.arms) }
+        ensures arms { self.new ≡ record self.old { arms = without_taken result self.old.arms } }
     {
         let (due, address) = self.first_due(t)?;
         self.cancel(address);
@@ -107,7 +107,7 @@ impl TimerWheel {
     /// same buckets again: the cursor is moved on, and nothing else is changed.
     pub fn is_due(&mut self, t: Moment) -> bool
         ensures rising { IsRising self.old.arms }
-        ensures value { result ≡ is_some (due_by t (first_armed self.old.arms)) }
+        ensures value { result ≡ is_some (due_within t (first_armed self.old.arms)) }
         ensures same { self.new ≡ self.old }
     {
         self.first_due(t).is_some()
@@ -116,7 +116,7 @@ impl TimerWheel {
     // What is due first, if its moment isn't after t.
     fn first_due(&mut self, t: Moment) -> Option<(Moment, Addr)>
         ensures rising { IsRising self.old.arms }
-        ensures value { result ≡ due_by t (first_armed self.old.arms) }
+        ensures value { result ≡ due_within t (first_armed self.old.arms) }
         ensures same { self.new ≡ self.old }
     {
         let found = seek(&self.rows, &self.rings, self.cursor, t / SLICE_MS);

@@ -7,7 +7,7 @@ use Rattle.v6_chain.specs.declared.outcome.Chain.TheVariants.{Bad, Hidden, Unkno
 use Rattle.v6_chain.specs.Kinds.{kind_of}
 use Rattle.v6_chain.specs.Packet.{body_of}
 use Rattle.v6_chain.specs.Headers.{Header, has_fragment, octets_of, value_behind, AreChained}
-use Rattle.v6_chain.specs.Outcome.{IsWholeUpper, IsOutcome, IsWithin, HidesUpper, Shows, message_of}
+use Rattle.v6_chain.specs.Outcome.{IsWholeUpper, IsOutcome, IsWithinBody, HidesUpper, Shows, message_of}
 use Rattle.v6_chain.proofs.Unique.{one_outcome}
 
 -- the body has as many octets as the payload length says
@@ -15,7 +15,7 @@ pub length-body_of : (ip : Ip) (payload : List ℕ) → 40 + ip.len ≤ length p
 length-body_of ip payload whole = length-take-le ip.len (drop 40 payload) (omega (arith, length-drop 40 payload, whole))
 
 -- an upper header begins within the body
-pub within_body : (ip : Ip) (payload : List ℕ) (outcome : Chain) → 40 + ip.len ≤ length payload → IsOutcome ip payload outcome → IsWithin ip payload outcome
+pub within_body : (ip : Ip) (payload : List ℕ) (outcome : Chain) → 40 + ip.len ≤ length payload → IsOutcome ip payload outcome → IsWithinBody ip payload outcome
 within_body ip payload (Upper proto at fragmented) whole outcome =
     let joined : length (body_of ip payload) ≡ length (octets_of outcome.headers) + length outcome.rest = ap length outcome.tiled ∙ length-append (octets_of outcome.headers) outcome.rest in
     let at_is : at ≡ length (octets_of outcome.headers) = outcome.ends.2 in

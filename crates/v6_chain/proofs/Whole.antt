@@ -12,7 +12,7 @@ use Rattle.v6_chain.specs.Packet.{body_of}
 use Rattle.v6_chain.specs.Kinds.{kind_of}
 use Rattle.v6_chain.specs.Headers.{Header, next_of, size_at, offset_of, has_fragment, is_extension, MayStand, IsPassed, value_behind, AreChained, octets_of}
 use Rattle.v6_chain.specs.Outcome.{IsCut, EndsIn, IsOutcome}
-use Rattle.v6_chain.specs.ChainOf.{cut_outcome, end_of, front_header, behind_header, chain_from, chain_of}
+use Rattle.v6_chain.specs.ChainOf.{cut_outcome, chain_end, front_header, behind_header, chain_from, chain_of}
 use Rattle.v6_chain.proofs.Sizes.{size_least, size_at-append, offset_of-append}
 use Rattle.v6_chain.proofs.Unique.{one_outcome}
 
@@ -34,12 +34,12 @@ cut_by false before value rest e cut = (cut, e)
 -- the chain ends here in this way
 record EndsHere (kind : Kind) (before : List Header) (value : ℕ) (rest : List ℕ) : Type 0 where
   outcome : Chain
-  is : end_of kind before value rest ≡ Some outcome
+  is : chain_end kind before value rest ≡ Some outcome
   ends : EndsIn before value rest outcome
 
 -- the chain goes on here
 record GoesOn (kind : Kind) (before : List Header) (value : ℕ) (rest : List ℕ) : Type 0 where
-  is : end_of kind before value rest ≡ None
+  is : chain_end kind before value rest ≡ None
   extension : IsTrue (is_extension kind)
   may : MayStand before kind
   fits : size_at kind rest ≤ length rest

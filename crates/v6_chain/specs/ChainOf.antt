@@ -20,16 +20,16 @@ abbrev pub unless_cut : Kind → List Header → List ℕ → Option Chain → O
 unless_cut kind before rest end = if nat_lt (length rest) (size_at kind rest) then Some (cut_outcome (has_fragment before)) else end
 
 -- how the chain ends behind these headers, or None where it goes on
-abbrev pub end_of : Kind → List Header → ℕ → List ℕ → Option Chain
-end_of kinds.HopByHop [] value rest = unless_cut kinds.HopByHop [] rest None
-end_of kinds.HopByHop (last ∷ before) value rest = Some (Bad HopByHop)
-end_of kinds.Extension before value rest = unless_cut kinds.Extension before rest None
-end_of kinds.Authentication before value rest = unless_cut kinds.Authentication before rest None
-end_of kinds.Fragment before value rest =
+abbrev pub chain_end : Kind → List Header → ℕ → List ℕ → Option Chain
+chain_end kinds.HopByHop [] value rest = unless_cut kinds.HopByHop [] rest None
+chain_end kinds.HopByHop (last ∷ before) value rest = Some (Bad HopByHop)
+chain_end kinds.Extension before value rest = unless_cut kinds.Extension before rest None
+chain_end kinds.Authentication before value rest = unless_cut kinds.Authentication before rest None
+chain_end kinds.Fragment before value rest =
     if has_fragment before then Some (Bad Twice) else unless_cut kinds.Fragment before rest (if offset_of rest == 0 then None else Some Later)
-end_of (kinds.Upper least) before value rest =
+chain_end (kinds.Upper least) before value rest =
     unless_cut (kinds.Upper least) before rest (Some (Upper value (length (octets_of before)) (has_fragment before)))
-end_of kinds.Unknown before value rest = Some (Unknown value)
+chain_end kinds.Unknown before value rest = Some (Unknown value)
 
 -- the header of this value at the front of these octets
 abbrev pub front_header : ℕ → List ℕ → Header
@@ -43,7 +43,7 @@ behind_header value rest = drop (size_at (kind_of value) rest) rest
 abbrev pub chain_from : ℕ → List Header → ℕ → List ℕ → Chain
 chain_from zero before value rest = cut_outcome (has_fragment before)
 chain_from (suc more) before value rest =
-    unwrap_or (end_of (kind_of value) before value rest)
+    unwrap_or (chain_end (kind_of value) before value rest)
     (chain_from more (front_header value rest ∷ before) (next_of (front_header value rest)) (behind_header value rest))
 
 -- a body has fewer headers than octets, or none

@@ -6,8 +6,8 @@ use Rattle.v6_chain.specs.declared.kind.Kind.TheVariants.{HopByHop, Extension, A
 
 -- the values that are known (IANA's registry "Assigned Internet Protocol Numbers"), an upper header with the least octets
 -- of it that have to be there
-abbrev pub known : List (ℕ × Kind)
-known =
+abbrev pub known_headers : List (ℕ × Kind)
+known_headers =
     (0, HopByHop)  -- hop-by-hop options, RFC 8200 section 4.3
     ∷ (43, Extension)  -- routing, RFC 8200 section 4.4
     ∷ (44, Fragment)  -- RFC 8200 section 4.5
@@ -34,4 +34,4 @@ known =
     ∷ []
 
 unfoldable pub kind_of : ℕ → Kind
-kind_of value = unwrap_or (lookup (λ listed. listed == value) known) Unknown
+kind_of value = unwrap_or (lookup (λ listed. listed == value) known_headers) Unknown

@@ -47,12 +47,12 @@ abbrev pub message_of : Ip → List ℕ → ℕ → List ℕ
 message_of ip payload at = drop at (body_of ip payload)
 
 -- an upper header begins within the body, and has at least its least octets
-abbrev pub IsWithin : Ip → List ℕ → Chain → Type 0
-IsWithin ip payload (Upper proto at fragmented) = (at ≤ ip.len) × IsWholeUpper (kind_of proto) (message_of ip payload at)
-IsWithin ip payload (Bad fault) = Unit {0}
-IsWithin ip payload Hidden = Unit {0}
-IsWithin ip payload Later = Unit {0}
-IsWithin ip payload (Unknown unknown) = Unit {0}
+abbrev pub IsWithinBody : Ip → List ℕ → Chain → Type 0
+IsWithinBody ip payload (Upper proto at fragmented) = (at ≤ ip.len) × IsWholeUpper (kind_of proto) (message_of ip payload at)
+IsWithinBody ip payload (Bad fault) = Unit {0}
+IsWithinBody ip payload Hidden = Unit {0}
+IsWithinBody ip payload Later = Unit {0}
+IsWithinBody ip payload (Unknown unknown) = Unit {0}
 
 -- the packet shows this message of this protocol, fragmented where a fragment header stands before it
 abbrev pub Shows : Ip → List ℕ → ℕ → List ℕ → Bool → Type 0

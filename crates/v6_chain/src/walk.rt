@@ -2,7 +2,7 @@
 
 ghost use Rattle.std.specs.Prelude.{◌≡◌};
 ghost use Rattle.v6_chain.specs.Packet.{IsPacket};
-ghost use Rattle.v6_chain.specs.Outcome.{IsOutcome, IsWithin};
+ghost use Rattle.v6_chain.specs.Outcome.{IsOutcome, IsWithinBody};
 
 use crate::header::HEADER_LEN;
 use crate::outcome::Chain;
@@ -14,7 +14,7 @@ pub fn chain(ip: &Ip, payload: &[u8]) -> Chain
     requires { IsPacket payload.now ip.now }
     ensures outcome { IsOutcome ip.now payload.now result }
     ensures only { (other : Chain) → IsOutcome ip.now payload.now other → other ≡ result }
-    ensures within { IsWithin ip.now payload.now result }
+    ensures within { IsWithinBody ip.now payload.now result }
 {
     let body = &payload[HEADER_LEN..HEADER_LEN + usize::from(ip.len)];
     let mut place = Place {

@@ -1,10 +1,10 @@
 use Rattle.std.proofs.Common.{ℕ, ◌<◌, ◌+◌, length}
 use Rattle.addr_index.specs.Places.{in_place, IsOther}
-use Rattle.addr_index.specs.Ways.{IsPassed, IsRound}
+use Rattle.addr_index.specs.Ways.{IsPassedPlace, IsRound}
 use Rattle.addr_index.proofs.places.search.Given as goal
 
 abbrev pub invariant-loop : goal.invariant-loop
 invariant-loop l = record {
-  others : (passed : ℕ) → passed < length l.places → IsPassed (length l.places) l.from l.counter passed → IsOther l.address (in_place l.places passed);
+  others : (passed : ℕ) → passed < length l.places → IsPassedPlace (length l.places) l.from l.counter passed → IsOther l.address (in_place l.places passed);
   round : IsRound (length l.places) (l.from + l.counter) l.at;
 }

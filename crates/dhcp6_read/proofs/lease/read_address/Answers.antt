@@ -6,7 +6,7 @@ use Rattle.byteorder.specs.Endian.{big_number}
 use Rattle.dhcp6_read.specs.declared.message.Lease.{Lease}
 use Rattle.dhcp6_read.specs.declared.message.DhcpFault.TheVariants.{Address}
 use Rattle.dhcp6_read.specs.Levels.{row_says, in_address, faulty, lease_of}
-use Rattle.dhcp6_read.specs.Steps.{Tells}
+use Rattle.dhcp6_read.specs.Steps.{TellsLeases}
 use Rattle.dhcp6_read.proofs.Holders.{holder_fault, holder_stands}
 use Rattle.dhcp6_read.proofs.lease.read_address.Goals as goal
 
@@ -16,7 +16,7 @@ returns-in_err-read_address_options-clause-tells c = λ row_of gives.
     let leases = c.args.leases.now.items in
     let fault = c.in_err-read_address_options.field-0.0 in
     let p = err_from_is_err_and c.from_residual.result c.from_residual.ensures.1 in
-    let P : List ℕ → Type 0 = λ l. Tells (row_says (in_address c.args.kind) (row_of l)) (Err fault) [] [] in
+    let P : List ℕ → Type 0 = λ l. TellsLeases (row_says (in_address c.args.kind) (row_of l)) (Err fault) [] [] in
     let told = subst P (take_rest content 24) (c.in_err-read_address_options.ensures row_of gives) in
     rw (p.1, p.2) (holder_fault (nat_lt (length content) 24) (faulty Address) (row_says (in_address c.args.kind) (row_of (drop 24 content))) (lease_of content ∷ []) fault [] [] leases leases (le-ltb (length content) 24 c.if-content-lt-ADDRESS_FIXED_LEN.false) told)
 
@@ -30,7 +30,7 @@ pub returns-then-not-branch-clause-tells : goal.returns-then-not-branch-clause-t
 returns-then-not-branch-clause-tells c = λ row_of gives.
     let content = c.args.content.now in
     let before = c.args.leases.now.items in
-    let P : List ℕ → Type 0 = λ l. Tells (row_says (in_address c.args.kind) (row_of l)) (Ok c.in_ok-read_address_options.field-0) [] [] in
+    let P : List ℕ → Type 0 = λ l. TellsLeases (row_says (in_address c.args.kind) (row_of l)) (Ok c.in_ok-read_address_options.field-0) [] [] in
     let told = subst P (take_rest content 24) (c.in_ok-read_address_options.ensures row_of gives) in
     let stands = c.if-not-branch.true in
     let lease = read_as content c.read_u128.result c.read_u32.result c.read_u128.ensures (c.read_u32.ensures ∙ ap (big_number 4) (take_rest content 20)) in

@@ -2,7 +2,7 @@ use Rattle.std.proofs.Common.{◌∙◌, ℕ, Ok, Err, sym, subst, arith}
 use Rattle.std.proofs.lemmas.Bool.{eqb-true, eqb-false}
 use Rattle.std.proofs.lemmas.Result.{err_from_is_err_and}
 use Rattle.dhcp6_read.specs.Levels.{in_message}
-use Rattle.dhcp6_read.specs.Steps.{Tells}
+use Rattle.dhcp6_read.specs.Steps.{TellsLeases}
 use Rattle.dhcp6_read.proofs.Heads.{keeps_on, duid_end, rapid_end}
 use Rattle.dhcp6_read.proofs.Rows.{begins_room}
 use Rattle.dhcp6_read.proofs.Tellings.{goes_on, stops_at, overruns, ends}
@@ -24,7 +24,7 @@ returns-in_err-voids-clause-tells c =
     let leases = c.option.dhcp.leases.items in
     let after = c.read_option.new.dhcp.leases.items in
     rw (p.1, p.2) (stops_at (λ row_of. in_message row_of c.args.dhcp.now.kind) c.args.options.now c.option.rest.now front.behind.now front.content.now front.code c.option.void fault c.args.dhcp.now.leases.items leases after after c.option.invariant.goes c.in_ok-front.ensures (λ row_of gives.
-    let P : ℕ → Type 0 = λ kind. Tells (in_message row_of kind front.code front.content.now) (Err fault) leases after in
+    let P : ℕ → Type 0 = λ kind. TellsLeases (in_message row_of kind front.code front.content.now) (Err fault) leases after in
     subst P c.option.invariant.kind (c.in_err-voids.ensures.tells row_of gives)))
 
 pub option-preserved : goal.option-preserved
@@ -41,7 +41,7 @@ option-preserved c =
       kind = told.kind ∙ known.kind;
       tid = told.tid ∙ known.tid;
       goes = goes_on (λ row_of. in_message row_of c.args.dhcp.now.kind) c.args.options.now c.option.rest.now front.behind.now front.content.now front.code c.option.void c.in_ok-voids.voids c.args.dhcp.now.leases.items leases after known.goes c.in_ok-front.ensures (λ row_of gives.
-          let P : ℕ → Type 0 = λ kind. Tells (in_message row_of kind front.code front.content.now) (Ok c.in_ok-voids.voids) leases after in
+          let P : ℕ → Type 0 = λ kind. TellsLeases (in_message row_of kind front.code front.content.now) (Ok c.in_ok-voids.voids) leases after in
           subst P known.kind (told.tells row_of gives));
       keeps = keeps_on c.args.options.now c.option.rest.now front.behind.now front.content.now front.code c.args.dhcp.now.duid c.option.dhcp.duid c.read_option.new.dhcp.duid c.args.dhcp.now.rapid c.option.dhcp.rapid c.read_option.new.dhcp.rapid known.keeps c.in_ok-front.ensures told.duid told.rapid;
     }

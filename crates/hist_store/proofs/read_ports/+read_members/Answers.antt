@@ -4,7 +4,7 @@ use Rattle.std.proofs.lemmas.List.{nil_from_length}
 use Rattle.std.proofs.lemmas.Option.{none-some}
 use Rattle.savi_kinds.specs.declared.port.Port.{Port}
 use Rattle.savi_kinds.specs.Ports.{number_of}
-use Rattle.hist_store.specs.PortTexts.{GoesOn}
+use Rattle.hist_store.specs.PortTexts.{ListsMembersAbove}
 use Rattle.hist_store.proofs.OnePort.{the_port}
 use Rattle.hist_store.proofs.EndRead.{none_left}
 use Rattle.hist_store.proofs.PortsRead.{comma_place, cut_of, IsGrown, ends, goes_on, ended, went_on, tail_cases, if_some, grown_above}
@@ -99,7 +99,7 @@ returns-clause-read t c =
     } in
     if_some c.read_members.result _ _ (λ whole goes. goes_on c.args.set c.with-grown.result c.args.last port.number grown whole c.args.text.now c.cut_member.result.1.now c.in_ok-more.more.now c.in_ok-more.ensures.read
     (whole_text c.args.text.now _ _ (decimal port.number) _ c.cut_member.ensures.front c.cut_member.ensures.rest c.in_ok-port.ensures.read)
-    (subst (λ (n : ℕ). GoesOn n c.with-grown.result whole c.in_ok-more.more.now) c.get-2.ensures.value goes)) c.read_members.ensures.read
+    (subst (λ (n : ℕ). ListsMembersAbove n c.with-grown.result whole c.in_ok-more.more.now) c.get-2.ensures.value goes)) c.read_members.ensures.read
 
 pub returns-clause-whole : goal.returns-clause-whole
 returns-clause-whole t c = λ whole goes.
@@ -115,5 +115,5 @@ returns-clause-whole t c = λ whole goes.
     let low = one.low in
     let wanted = the_port one.port (omega arith) one.high in
     let port_is : one.port ≡ port.number = port_of port wanted (c.in_ok-port.ensures.whole wanted (c.cut_member.ensures.front ∙ one.front)) in
-    c.read_members.ensures.whole whole (subst (λ (n : ℕ). GoesOn n c.with-grown.result whole c.in_ok-more.more.now) (sym c.get-2.ensures.value)
+    c.read_members.ensures.whole whole (subst (λ (n : ℕ). ListsMembersAbove n c.with-grown.result whole c.in_ok-more.more.now) (sym c.get-2.ensures.value)
     (went_on c.args.set c.with-grown.result c.args.last port.number grown whole c.args.text.now c.in_ok-more.more.now goes one port_is (sym c.cut_member.ensures.rest ∙ c.in_ok-more.ensures.read)))

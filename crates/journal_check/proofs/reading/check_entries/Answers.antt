@@ -12,7 +12,7 @@ use Rattle.journal_check.specs.Headers.{IsPlan}
 use Rattle.journal_check.specs.Pieces.{to_come}
 use Rattle.journal_check.specs.Answers.{past_text, Ends, IfRead, IsAnswerBehind, next_line}
 use Rattle.journal_check.specs.declared.turns.Turn.TheVariants.{Stands}
-use Rattle.journal_check.specs.Turns.{SaysWrong, SaysNothing, Turned}
+use Rattle.journal_check.specs.Turns.{SaysWrong, SaysNothing, MadeTurn}
 use Rattle.journal_check.specs.declared.answer.Checked.{Checked}
 use Rattle.journal_check.specs.declared.answer.Checked.TheVariants.{Wrong, BadLine}
 use Rattle.journal_check.proofs.Entries.{kept_more, answered_if, judged_wrong, judged_bad, judged_broken, judged_last}
@@ -36,7 +36,7 @@ entries-preserved g c =
     let before = to_come c.entries.lines (g.S.Source.left c.entries.source) in
     let after = to_come c.next.new.self (g.S.Source.left c.next.new.source) in
     let kept = kept_more c.entries.core c.take_turn.new.core c.next.new.line.items _ before after was.legal was.bytes was.told c.in-Line.ensures.taken.1
-    (subst (λ (line : List ℕ). Turned c.entries.core line c.take_turn.new.core Stands) c.as_slice.ensures.value c.in-Stands.ensures) in
+    (subst (λ (line : List ℕ). MadeTurn c.entries.core line c.take_turn.new.core Stands) c.as_slice.ensures.value c.in-Stands.ensures) in
     record {
       later = omega (arith, was.later, c.next.ensures.later);
       plan = kept.plan ∙ was.plan;

@@ -3,7 +3,7 @@ use Rattle.std.proofs.lemmas.List.{length-reverse}
 use Rattle.savi_kinds.specs.declared.plan.Plan.{Plan}
 use Rattle.hist_store.specs.JournalTexts.{address_text, header_lines}
 use Rattle.journal_check.specs.Headers.{IsPlan}
-use Rattle.journal_check.specs.Pieces.{held}
+use Rattle.journal_check.specs.Pieces.{held_octets}
 use Rattle.journal_check.proofs.Entries.{some_behind}
 use Rattle.journal_check.proofs.reading.finish.Goals as goal
 
@@ -22,5 +22,5 @@ returns-in-More-clause-ends g c =
     let entries = c.len-entries.ensures.len ∙ sym (length-reverse c.history.result.now.rows) ∙ ap length c.history.ensures.rows in
     let new = c.fill.new.self in (
       omega (arith, lines, entries),
-      subst (λ (o : Option (List ℕ)). IfSome o (λ octets. octets ≢ [])) c.in-More.ensures.same (some_behind (held new) (g.S.Source.left c.fill.new.source) (c.in-More.ensures.some refl)),
+      subst (λ (o : Option (List ℕ)). IfSome o (λ octets. octets ≢ [])) c.in-More.ensures.same (some_behind (held_octets new) (g.S.Source.left c.fill.new.source) (c.in-More.ensures.some refl)),
     )

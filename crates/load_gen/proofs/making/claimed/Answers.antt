@@ -5,7 +5,7 @@ use Rattle.std.proofs.lemmas.List.FromFn.{map-range_with_len_more}
 use Rattle.savi_kinds.specs.declared.address.Addr.{Addr}
 use Rattle.savi_kinds.specs.declared.address.Mac.{Mac}
 use Rattle.probe_write.specs.ProbeFrame.{probe_of}
-use Rattle.load_gen.specs.Frames.{mac_of, address_of}
+use Rattle.load_gen.specs.Frames.{mac_of, host_address}
 use Rattle.load_gen.specs.Sendings.{claim, Sending}
 use Rattle.load_gen.specs.Captures.{captures_of}
 use Rattle.load_gen.specs.Writing.{octets_of}
@@ -23,7 +23,7 @@ loop-place-preserved c =
     let place = c.loop-place.place in
     let host = place + 1 in
     let kept : length c.send.new.captures ≡ c.loop-place.captures.len = omega arith in
-    let frame : c.probe-frame.result ≡ probe_of (mac_of host) (address_of host) =
+    let frame : c.probe-frame.result ≡ probe_of (mac_of host) (host_address host) =
     c.probe-frame.ensures.octets ∙ ap (λ (m : Mac). probe_of m c.address_of.result) c.mac_of.ensures ∙ ap (λ (a : Addr). probe_of (mac_of host) a) c.address_of.ensures in
     let sent : List ℕ → Sending = λ f. record { port = host; sent = record { moment = 0; frame = f } } in
     ap (map octets_of) (with_items_is c.loop-place.captures c.send.new.captures kept)

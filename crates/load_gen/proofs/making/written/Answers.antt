@@ -3,7 +3,7 @@ use Rattle.std.proofs.lemmas.List.{with_items_is}
 use Rattle.savi_kinds.specs.declared.address.Addr.{Addr}
 use Rattle.savi_kinds.specs.declared.address.Mac.{Mac}
 use Rattle.load_gen.specs.Draws.{state_after}
-use Rattle.load_gen.specs.Frames.{mac_of, address_of, data_of}
+use Rattle.load_gen.specs.Frames.{mac_of, host_address, data_of}
 use Rattle.load_gen.specs.Sendings.{Sending, drawn_packet, sendings}
 use Rattle.load_gen.specs.Captures.{captures_of}
 use Rattle.load_gen.specs.Writing.{octets_of}
@@ -29,7 +29,7 @@ loop-k-preserved c =
     let two : second ≡ state_after seed (2 * (k + 1)) = second_drawn seed k first second one c.drawn_host-source.ensures.state in
     let kept : length c.send.new.captures ≡ c.loop-k.captures.len = omega arith in
     let moment : 1000 + 10 * c.from.result ≡ 1000 + 10 * k = ap (λ (n : ℕ). 1000 + 10 * n) c.from.ensures in
-    let frame : c.data-frame.result ≡ data_of (mac_of host) (address_of source) =
+    let frame : c.data-frame.result ≡ data_of (mac_of host) (host_address source) =
     c.data-frame.ensures ∙ ap (λ (m : Mac). data_of m c.address_of.result) c.mac_of.ensures ∙ ap (λ (a : Addr). data_of (mac_of host) a) c.address_of.ensures in
     let sent : Sending = record { port = host; sent = record { moment = 1000 + 10 * c.from.result; frame = c.data-frame.result } } in
     let is : sent ≡ drawn_packet seed k =

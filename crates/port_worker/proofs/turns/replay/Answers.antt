@@ -17,7 +17,7 @@ use Rattle.savi_history.proofs.PortInputs.{same_finished}
 use Rattle.savi_core.specs.Machines.{Machine}
 use Rattle.port_worker.specs.declared.port_ends.PortEnds.{PortEnds}
 use Rattle.port_worker.specs.ControlOutputs.{AheadGoesOn, ControlGoesOn}
-use Rattle.port_worker.specs.Inputs.{turn_of, moment_of}
+use Rattle.port_worker.specs.Inputs.{turn_of, turn_moment}
 use Rattle.port_worker.specs.LineInputs.{control_moment}
 use Rattle.port_worker.specs.Steps.{ends_input, ahead_after}
 use Rattle.port_worker.specs.Pairs.{EachPair}
@@ -99,7 +99,7 @@ finish-requires-clause-inputs g c =
     let known = c.look_all.ensures.known in
     let heard = c.look_control.ensures.known in
     let runs = look_step g.S.Source.left g.K.Sink.written g.S.Source.faults g.K.Sink.faults plan ends_first first c.turns.control ends c.turns.ports ports past c.turns.invariant.runs c.look_control.ensures.looked c.look_all.ensures.looked in
-    let none : IsPick (control_moment ends ∷ map moment_of ports) None = subst (λ (o : Option ℕ). IsPick (control_moment ends ∷ map moment_of ports) o) (nothing c.next_of.result c.in_default.not-Some) c.next_of.ensures in
+    let none : IsPick (control_moment ends ∷ map turn_moment ports) None = subst (λ (o : Option ℕ). IsPick (control_moment ends ∷ map turn_moment ports) o) (nothing c.next_of.result c.in_default.not-Some) c.next_of.ensures in
     subst (λ (p : Plan). AllEnded empty (control_pass p + 1) past) (sym c.turns.invariant.same_plan)
     (inputs_ended g.S.Source.left g.K.Sink.written g.S.Source.faults g.K.Sink.faults plan ends_first ends first ports past c.requires.planned runs heard known none)
 
@@ -138,7 +138,7 @@ returns-in_default-clause-serves g c =
     let heard = c.look_control.ensures.known in
     let runs = look_step g.S.Source.left g.K.Sink.written g.S.Source.faults g.K.Sink.faults plan ends_first first c.turns.control ends c.turns.ports ports past c.turns.invariant.runs c.look_control.ensures.looked c.look_all.ensures.looked in
     let now = c.finish.new.core.past in
-    let none : IsPick (control_moment ends ∷ map moment_of ports) None = subst (λ (o : Option ℕ). IsPick (control_moment ends ∷ map moment_of ports) o) (nothing c.next_of.result c.in_default.not-Some) c.next_of.ensures in
+    let none : IsPick (control_moment ends ∷ map turn_moment ports) None = subst (λ (o : Option ℕ). IsPick (control_moment ends ∷ map turn_moment ports) o) (nothing c.next_of.result c.in_default.not-Some) c.next_of.ensures in
     let finished : now ≡ egress_ended plan empty plan.ports (with_event plan empty past (End Ticker hows.End)) =
     subst (λ (p : Plan). now ≡ egress_ended p empty p.ports (with_event p empty past (End Ticker hows.End))) c.turns.invariant.same_plan c.finish.ensures.past in
     let outputs = subst (λ (p : Plan). All (λ q. IsOutputEnded p past now (number_of q.port)) ports) c.turns.invariant.same_plan c.finish.ensures.outputs in
@@ -176,7 +176,7 @@ advance_control-requires-clause-turn g c =
     let known = c.look_all.ensures.known in
     let heard = c.look_control.ensures.known in
     let runs = look_step g.S.Source.left g.K.Sink.written g.S.Source.faults g.K.Sink.faults plan ends_first first c.turns.control ends c.turns.ports ports past c.turns.invariant.runs c.look_control.ensures.looked c.look_all.ensures.looked in
-    let least = at_control (control_moment ends ∷ map moment_of ports) c.in-Some.place (c.if-place-eq0.true) c.in-Some.ensures in
+    let least = at_control (control_moment ends ∷ map turn_moment ports) c.in-Some.place (c.if-place-eq0.true) c.in-Some.ensures in
     control_turns_now g.S.Source.left g.K.Sink.written g.S.Source.faults g.K.Sink.faults plan ends_first ends first ports past runs heard (least.least) (least.there)
 
 pub advance_control-requires-clause-open : goal.advance_control-requires-clause-open
@@ -190,7 +190,7 @@ advance_control-requires-clause-open g c =
     let known = c.look_all.ensures.known in
     let heard = c.look_control.ensures.known in
     let runs = look_step g.S.Source.left g.K.Sink.written g.S.Source.faults g.K.Sink.faults plan ends_first first c.turns.control ends c.turns.ports ports past c.turns.invariant.runs c.look_control.ensures.looked c.look_all.ensures.looked in
-    let least = at_control (control_moment ends ∷ map moment_of ports) c.in-Some.place (c.if-place-eq0.true) c.in-Some.ensures in
+    let least = at_control (control_moment ends ∷ map turn_moment ports) c.in-Some.place (c.if-place-eq0.true) c.in-Some.ensures in
     subst (λ (p : Plan). IsOpen p empty past Control) (sym c.turns.invariant.same_plan)
     (record { known = refl; running = control_running g.S.Source.left g.K.Sink.written g.S.Source.faults g.K.Sink.faults plan ends_first ends first ports past runs least.least least.there })
 
@@ -219,7 +219,7 @@ turns-smaller-then-place-eq0 g c =
     let known = c.look_all.ensures.known in
     let heard = c.look_control.ensures.known in
     let runs = look_step g.S.Source.left g.K.Sink.written g.S.Source.faults g.K.Sink.faults plan ends_first first c.turns.control ends c.turns.ports ports past c.turns.invariant.runs c.look_control.ensures.looked c.look_all.ensures.looked in
-    let least = at_control (control_moment ends ∷ map moment_of ports) c.in-Some.place (c.if-place-eq0.true) c.in-Some.ensures in
+    let least = at_control (control_moment ends ∷ map turn_moment ports) c.in-Some.place (c.if-place-eq0.true) c.in-Some.ensures in
     let c_new = c.advance_control.new.control in
     let new = c.advance_control.new.ports in
     let now = c.advance_control.new.core.past in
@@ -243,7 +243,7 @@ turns-preserved-then-place-eq0 g c =
     let known = c.look_all.ensures.known in
     let heard = c.look_control.ensures.known in
     let runs = look_step g.S.Source.left g.K.Sink.written g.S.Source.faults g.K.Sink.faults plan ends_first first c.turns.control ends c.turns.ports ports past c.turns.invariant.runs c.look_control.ensures.looked c.look_all.ensures.looked in
-    let least = at_control (control_moment ends ∷ map moment_of ports) c.in-Some.place (c.if-place-eq0.true) c.in-Some.ensures in
+    let least = at_control (control_moment ends ∷ map turn_moment ports) c.in-Some.place (c.if-place-eq0.true) c.in-Some.ensures in
     let c_new = c.advance_control.new.control in
     let new = c.advance_control.new.ports in
     let now = c.advance_control.new.core.past in
@@ -294,7 +294,7 @@ advance-requires-clause-known g c =
     let known = c.look_all.ensures.known in
     let heard = c.look_control.ensures.known in
     let runs = look_step g.S.Source.left g.K.Sink.written g.S.Source.faults g.K.Sink.faults plan ends_first first c.turns.control ends c.turns.ports ports past c.turns.invariant.runs c.look_control.ensures.looked c.look_all.ensures.looked in
-    let least = behind_control (control_moment ends ∷ map moment_of ports) c.in-Some.place (c.if-place-eq0.false) c.in-Some.ensures in
+    let least = behind_control (control_moment ends ∷ map turn_moment ports) c.in-Some.place (c.if-place-eq0.false) c.in-Some.ensures in
     let j = c.in-Some.place - 1 in
     turn_known g.S.Source.left g.K.Sink.written g.S.Source.faults g.K.Sink.faults plan ends_first ends first ports ports past past j c.requires.planned c.requires.valid.ports runs heard known least
 
@@ -309,7 +309,7 @@ advance-requires-clause-open g c d =
     let known = c.look_all.ensures.known in
     let heard = c.look_control.ensures.known in
     let runs = look_step g.S.Source.left g.K.Sink.written g.S.Source.faults g.K.Sink.faults plan ends_first first c.turns.control ends c.turns.ports ports past c.turns.invariant.runs c.look_control.ensures.looked c.look_all.ensures.looked in
-    let least = behind_control (control_moment ends ∷ map moment_of ports) c.in-Some.place (c.if-place-eq0.false) c.in-Some.ensures in
+    let least = behind_control (control_moment ends ∷ map turn_moment ports) c.in-Some.place (c.if-place-eq0.false) c.in-Some.ensures in
     let j = c.in-Some.place - 1 in
     subst (λ (p : Plan). IsOpen p empty past (Ingress (get_or ports j d).port)) (sym c.turns.invariant.same_plan)
     (input_open g.S.Source.left g.K.Sink.written g.S.Source.faults g.K.Sink.faults plan ends first ports c.requires.planned c.requires.valid.ports ends_first past runs j d
@@ -341,7 +341,7 @@ turns-smaller g c =
     let known = c.look_all.ensures.known in
     let heard = c.look_control.ensures.known in
     let runs = look_step g.S.Source.left g.K.Sink.written g.S.Source.faults g.K.Sink.faults plan ends_first first c.turns.control ends c.turns.ports ports past c.turns.invariant.runs c.look_control.ensures.looked c.look_all.ensures.looked in
-    let least = behind_control (control_moment ends ∷ map moment_of ports) c.in-Some.place (c.if-place-eq0.false) c.in-Some.ensures in
+    let least = behind_control (control_moment ends ∷ map turn_moment ports) c.in-Some.place (c.if-place-eq0.false) c.in-Some.ensures in
     let j = c.in-Some.place - 1 in
     let P = PortEnds g.row.S.Denot g.row.K.Denot g.row.C.Denot in
     let new = c.advance.new.ports in
@@ -367,7 +367,7 @@ turns-preserved g c =
     let known = c.look_all.ensures.known in
     let heard = c.look_control.ensures.known in
     let runs = look_step g.S.Source.left g.K.Sink.written g.S.Source.faults g.K.Sink.faults plan ends_first first c.turns.control ends c.turns.ports ports past c.turns.invariant.runs c.look_control.ensures.looked c.look_all.ensures.looked in
-    let least = behind_control (control_moment ends ∷ map moment_of ports) c.in-Some.place (c.if-place-eq0.false) c.in-Some.ensures in
+    let least = behind_control (control_moment ends ∷ map turn_moment ports) c.in-Some.place (c.if-place-eq0.false) c.in-Some.ensures in
     let j = c.in-Some.place - 1 in
     let P = PortEnds g.row.S.Denot g.row.K.Denot g.row.C.Denot in
     let new = c.advance.new.ports in

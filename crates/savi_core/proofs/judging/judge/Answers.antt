@@ -12,18 +12,18 @@ use Rattle.savi_access.specs.Plans.{rules_of}
 use Rattle.savi_history.specs.Vlans.{the_vlan}
 use Rattle.savi_history.specs.Offers.{in_answer}
 use Rattle.savi_core.specs.Judges.{Judges}
-use Rattle.savi_core.specs.Rings.{Rings, shut_in, uncounted, after_probe}
+use Rattle.savi_core.specs.Rings.{Rings, shut_in, uncounted, rings_after_probe}
 use Rattle.savi_core.proofs.Shutting.{shut_aged}
 use Rattle.savi_core.proofs.judging.judge.Goals as goal
 
 -- no probe behind the others, or one
-none_more : (rings : Rings) (sents : List SentProbe) (o : Option SentProbe) → o ≡ None → fold after_probe rings sents ≡ fold after_probe rings (sents ++ in_answer o)
+none_more : (rings : Rings) (sents : List SentProbe) (o : Option SentProbe) → o ≡ None → fold rings_after_probe rings sents ≡ fold rings_after_probe rings (sents ++ in_answer o)
 none_more rings sents o is =
-    ap (λ (all : List SentProbe). fold after_probe rings all) (sym (append-nil sents)) ∙ ap (λ (answer : Option SentProbe). fold after_probe rings (sents ++ in_answer answer)) (sym is)
+    ap (λ (all : List SentProbe). fold rings_after_probe rings all) (sym (append-nil sents)) ∙ ap (λ (answer : Option SentProbe). fold rings_after_probe rings (sents ++ in_answer answer)) (sym is)
 
-one_more : (rings : Rings) (sents : List SentProbe) (o : Option SentProbe) (sent : SentProbe) → o ≡ Some sent → after_probe (fold after_probe rings sents) sent ≡ fold after_probe rings (sents ++ in_answer o)
+one_more : (rings : Rings) (sents : List SentProbe) (o : Option SentProbe) (sent : SentProbe) → o ≡ Some sent → rings_after_probe (fold rings_after_probe rings sents) sent ≡ fold rings_after_probe rings (sents ++ in_answer o)
 one_more rings sents o sent is =
-    sym (fold-append after_probe rings sents (sent ∷ [])) ∙ ap (λ (answer : Option SentProbe). fold after_probe rings (sents ++ in_answer answer)) (sym is)
+    sym (fold-append rings_after_probe rings sents (sent ∷ [])) ∙ ap (λ (answer : Option SentProbe). fold rings_after_probe rings (sents ++ in_answer answer)) (sym is)
 
 pub returns-then-is_shut-clause-judged : goal.returns-then-is_shut-clause-judged
 returns-then-is_shut-clause-judged c = λ base past states order.
@@ -50,7 +50,7 @@ returns-in-Some-clause-judged c = λ base past states order.
       states = comes.kept;
       probes =
           c.take.ensures
-          ∙ ap (λ (rings : Rings). after_probe rings c.in-Some.sent) aged.probes
+          ∙ ap (λ (rings : Rings). rings_after_probe rings c.in-Some.sent) aged.probes
           ∙ one_more (uncounted c.args.queues.now) sents _ c.in-Some.sent (sym comes.probe ∙ c.in-Some.is);
     })
 

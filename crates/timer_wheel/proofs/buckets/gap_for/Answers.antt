@@ -1,6 +1,6 @@
 use Rattle.std.proofs.Common.{◌≡◌, ◌≢◌, ◌+◌, ◌-◌, ◌%◌, ◌^◌, ◌<◌, ◌≤◌, ap, sym, ◌∙◌, subst, length, get_or, Some, arith}
 use Rattle.std.proofs.lemmas.List.{get_or_default}
-use Rattle.timer_wheel.specs.Rows.{row_at, others_than}
+use Rattle.timer_wheel.specs.Rows.{armed_at, others_than}
 use Rattle.timer_wheel.specs.Rings.{node_row, bucket_of, rank_of, rank_in, rank_at}
 use Rattle.timer_wheel.proofs.Nodes.{node-end, node_within, row_key}
 use Rattle.timer_wheel.proofs.Walks.{IsBelow, starts, goes_back, ranks_fall, sooner_rank, later_rank, same_rank}
@@ -42,7 +42,7 @@ index-before-requires-in-Some c =
 pub returns-then-is_before : goal.returns-then-is_before
 returns-then-is_before c =
     let found : node_row (others_than c.args.armed.address.0 c.args.rows.now).slots c.loop-row.before ≡ Some c.in-Some.row = sym (shown c.args.armed.address.0 c.args.rows.now.slots c.loop-row.before c.loop-row.invariant.below.there) ∙ sym c.in-Some.ensures in
-    let there : row_at (others_than c.args.armed.address.0 c.args.rows.now).slots (c.loop-row.before - 1024) ≡ Some c.in-Some.row = (row_key (others_than c.args.armed.address.0 c.args.rows.now).slots c.loop-row.before c.in-Some.row found).1 in
+    let there : armed_at (others_than c.args.armed.address.0 c.args.rows.now).slots (c.loop-row.before - 1024) ≡ Some c.in-Some.row = (row_key (others_than c.args.armed.address.0 c.args.rows.now).slots c.loop-row.before c.in-Some.row found).1 in
     let row_fits : c.in-Some.row.address.0 < 2 ^ 128 = c.requires.wired.fits (c.loop-row.before - 1024) c.in-Some.row there in
     let lower : rank_of c.in-Some.row < rank_of c.args.armed = sooner_rank c.in-Some.row c.args.armed row_fits (sym c.if-is_before.ensures) in
     record {
@@ -57,7 +57,7 @@ loop-row-smaller c =
 
 pub loop-row-preserved : goal.loop-row-preserved
 loop-row-preserved c =
-    let there : row_at (others_than c.args.armed.address.0 c.args.rows.now).slots (c.loop-row.before - 1024) ≡ Some c.in-Some.row = (row_key (others_than c.args.armed.address.0 c.args.rows.now).slots c.loop-row.before c.in-Some.row (found c)).1 in
+    let there : armed_at (others_than c.args.armed.address.0 c.args.rows.now).slots (c.loop-row.before - 1024) ≡ Some c.in-Some.row = (row_key (others_than c.args.armed.address.0 c.args.rows.now).slots c.loop-row.before c.in-Some.row (found c)).1 in
     let row_fits : c.in-Some.row.address.0 < 2 ^ 128 = c.requires.wired.fits (c.loop-row.before - 1024) c.in-Some.row there in
     let le : rank_of c.args.armed ≤ rank_of c.in-Some.row = later_rank c.in-Some.row c.args.armed c.requires.fits (sym c.if-is_before.ensures) in
     let ne : rank_of c.args.armed ≢ rank_of c.in-Some.row = λ same. address_others c.args.armed.address.0 c.args.rows.now.slots (c.loop-row.before - 1024) c.in-Some.row there (sym (same_rank c.args.armed c.in-Some.row c.requires.fits row_fits same)) in

@@ -2,7 +2,7 @@ use Rattle.std.proofs.Common.{◌≡◌, Some, is_some, refl, ap, sym, ◌∙◌
 use Rattle.addr_table.specs.Rooms.{IsFixable}
 use Rattle.savi_access.specs.Rules.{AccessRules}
 use Rattle.savi_access.specs.Plans.{rules_of, method_in}
-use Rattle.access_table.specs.Kept.{Kept, IsReady}
+use Rattle.access_table.specs.Kept.{Kept, IsAgedTo}
 use Rattle.access_table.specs.Steps.{Hears}
 use Rattle.access_table.proofs.Standing.{event_answer, event_stands, event_ready}
 use Rattle.access_table.proofs.table.AccessTable.tell.Goals as goal
@@ -12,7 +12,7 @@ returns-clause-ready c =
     let r : AccessRules = rules_of c.args.plan.now in
     let old : Kept = record { addresses = c.self.inside.addresses; requests = c.self.inside.requests } in
     let new : Kept = record { addresses = c.event.new.self; requests = c.self.inside.requests } in
-    event_ready r c.args.t old new c.args.a.0 c.in_ok-method.method _ (subst (IsReady r c.args.t) (sym c.self.view_is) c.requires.ready) (sym c.method_of.ensures ∙ c.in_ok-method.was) c.event.ensures.rows c.event.ensures.still c.event.ensures.sound
+    event_ready r c.args.t old new c.args.a.0 c.in_ok-method.method _ (subst (IsAgedTo r c.args.t) (sym c.self.view_is) c.requires.ready) (sym c.method_of.ensures ∙ c.in_ok-method.was) c.event.ensures.rows c.event.ensures.still c.event.ensures.sound
 
 pub returns-clause-heard : goal.returns-clause-heard
 returns-clause-heard c =

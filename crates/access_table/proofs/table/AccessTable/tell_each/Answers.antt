@@ -4,7 +4,7 @@ use Rattle.dhcp6_read.specs.declared.message.Lease.{Lease as Offered}
 use Rattle.savi_access.specs.Rules.{AccessRules}
 use Rattle.savi_access.specs.Judged.{with_events}
 use Rattle.savi_access.specs.Plans.{rules_of}
-use Rattle.access_table.specs.Events.{event_of}
+use Rattle.access_table.specs.Events.{change_event}
 use Rattle.access_table.specs.Steps.{Moves}
 use Rattle.access_table.proofs.Stepping.{one_more, taken_all}
 use Rattle.access_table.proofs.table.AccessTable.tell_each.Goals as goal
@@ -19,11 +19,11 @@ loop-lease-preserved c =
     record {
       ready = c.tell.ensures.ready;
       told = λ port own.
-          subst (λ (leases : List Offered). Moves r c.args.t c.args.self.now c.tell.new.self (λ base past. with_events r base 1 port c.args.t (event_of c.args.change) leases past)) (sym more)
+          subst (λ (leases : List Offered). Moves r c.args.t c.args.self.now c.tell.new.self (λ base past. with_events r base 1 port c.args.t (change_event c.args.change) leases past)) (sym more)
           (one_more r c.args.t port c.args.change c.args.self.now c.loop-lease.self c.tell.new.self (take i c.args.leases.now) lease c.event.result c.tell.result c.event.ensures own (c.loop-lease.invariant.told port own) c.tell.ensures.heard);
     }
 
 pub returns-clause-told : goal.returns-clause-told
 returns-clause-told c = λ port own.
-    subst (λ (leases : List Offered). Moves (rules_of c.args.plan.now) c.args.t c.args.self.now c.loop-lease.self (λ base past. with_events (rules_of c.args.plan.now) base 1 port c.args.t (event_of c.args.change) leases past)) (taken_all c.args.leases.now c.loop-lease.lease-index c.loop-lease-test.false)
+    subst (λ (leases : List Offered). Moves (rules_of c.args.plan.now) c.args.t c.args.self.now c.loop-lease.self (λ base past. with_events (rules_of c.args.plan.now) base 1 port c.args.t (change_event c.args.change) leases past)) (taken_all c.args.leases.now c.loop-lease.lease-index c.loop-lease-test.false)
     (c.loop-lease.invariant.told port own)

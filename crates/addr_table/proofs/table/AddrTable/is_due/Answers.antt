@@ -1,5 +1,5 @@
 use Rattle.std.proofs.Common.{◌≡◌, ◌≢◌, ◌↔◌, true, false, is_some, subst, ap, ◌∙◌}
-use Rattle.timer_wheel.specs.Arms.{due_by, first_armed}
+use Rattle.timer_wheel.specs.Arms.{due_within, first_armed}
 use Rattle.addr_table.specs.Addresses.{Addresses}
 use Rattle.addr_table.specs.Ages.{aged_rows, first_due}
 use Rattle.addr_table.specs.OneTurn.{IsQuiet}
@@ -7,8 +7,8 @@ use Rattle.addr_table.proofs.Quiet.{quiet_by, changes_by}
 use Rattle.addr_table.proofs.table.AddrTable.is_due.Goals as goal
 
 -- the wheel's answer is that of the rows
-answer : (c : goal.After-is_due) → c.is_due.result ≡ is_some (due_by c.args.t (first_due c.self.inside.times c.self.inside.table.rows))
-answer c = c.is_due.ensures.value ∙ ap (λ arms. is_some (due_by c.args.t (first_armed arms))) c.self.invariant.1.arms
+answer : (c : goal.After-is_due) → c.is_due.result ≡ is_some (due_within c.args.t (first_due c.self.inside.times c.self.inside.table.rows))
+answer c = c.is_due.ensures.value ∙ ap (λ arms. is_some (due_within c.args.t (first_armed arms))) c.self.invariant.1.arms
 
 is_quiet : (c : goal.After-is_due) → c.is_due.result ≡ false → IsQuiet c.args.t c.args.self.now
 is_quiet c not_so = subst (IsQuiet c.args.t) c.self.view_is (quiet_by c.self.inside.times c.self.invariant.0.times c.args.t c.self.inside.table.rows c.self.inside.per_port c.self.invariant.0.table c.is_due.result (answer c) not_so)

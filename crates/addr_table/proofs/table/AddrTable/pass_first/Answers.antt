@@ -1,5 +1,5 @@
 use Rattle.std.proofs.Common.{◌≡◌, [], ap, sym, ◌∙◌, subst}
-use Rattle.fcfs_states.specs.Ageing.{behind}
+use Rattle.fcfs_states.specs.Ageing.{probes_behind}
 use Rattle.mix_rules.specs.Ageing.{due_next, aged_state}
 use Rattle.bind_table.specs.Rows.{state_in}
 use Rattle.bind_table.specs.Bindings.{Bindings}
@@ -37,7 +37,7 @@ invariant_of-self-2 c =
 pub returns-clause-turn : goal.returns-clause-turn
 returns-clause-turn c =
     let aged : c.pass-probe.new.state ≡ (aged_state c.self.inside.times c.in_ok-due.due (state_in c.self.inside.table.rows c.in_ok-due.address.0)).state = c.pass-probe.ensures.state ∙ ap (λ s. (aged_state c.self.inside.times c.in_ok-due.due s).state) c.get-state.ensures in
-    let probes : (aged_state c.self.inside.times c.in_ok-due.due (state_in c.self.inside.table.rows c.in_ok-due.address.0)).probes ≡ behind c.in_ok-due.due c.pass-probe.result [] = ap (λ s. (aged_state c.self.inside.times c.in_ok-due.due s).probes) (sym c.get-state.ensures) ∙ c.pass-probe.ensures.probe in
+    let probes : (aged_state c.self.inside.times c.in_ok-due.due (state_in c.self.inside.table.rows c.in_ok-due.address.0)).probes ≡ probes_behind c.in_ok-due.due c.pass-probe.result [] = ap (λ s. (aged_state c.self.inside.times c.in_ok-due.due s).probes) (sym c.get-state.ensures) ∙ c.pass-probe.ensures.probe in
     subst (λ (old : Addresses). TurnsOnce c.args.t old (view_of c.set.new.table.rows c.self.inside.times c.self.inside.per_port) (record { due = c.in_ok-due.due; address = c.in_ok-due.address; probe = c.pass-probe.result })) c.self.view_is
     (turn c.self.inside.times c.self.inside.per_port c.args.t c.self.inside.table c.self.inside.wheel c.in_ok-due.due c.in_ok-due.address c.self.invariant.0 c.self.invariant.1 c.in_ok-due.ensures.value c.pass-probe.new.state aged c.pass-probe.ensures.fits c.pass-probe.result probes c.set.new.table.rows (ap (λ (table : Bindings). table.rows) c.set.ensures.rows))
 

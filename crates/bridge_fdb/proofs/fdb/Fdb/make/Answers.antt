@@ -2,7 +2,7 @@ use Rattle.std.proofs.Common.{◌≤◌, ◌^◌, [], sym, subst, arith}
 use Rattle.std.proofs.lemmas.List.Elements.{All-nil}
 use Rattle.bridge_fdb.specs.declared.station.Station.{Station}
 use Rattle.bridge_fdb.specs.Limits.{IsWithinLimits}
-use Rattle.bridge_fdb.specs.Full.{Tells}
+use Rattle.bridge_fdb.specs.Full.{TellsFull}
 use Rattle.bridge_fdb.proofs.fdb.Fdb.make.Goals as goal
 
 no_station : IsWithinLimits []
@@ -15,4 +15,4 @@ no_station = record {
 pub invariant_of-result : goal.invariant_of-result
 invariant_of-result c =
     let made = c.in_ok-make.ensures in
-    (made.0, subst IsWithinLimits (sym made.1) no_station, subst (Tells c.nowhere.result) (sym made.1) c.nowhere.ensures)
+    (made.0, subst IsWithinLimits (sym made.1) no_station, subst (TellsFull c.nowhere.result) (sym made.1) c.nowhere.ensures)

@@ -1,7 +1,7 @@
 use Rattle.std.proofs.Common.{◌≡◌, ◌≢◌, ◌⊎◌, ◌≤◌, ◌<◌, ◌+◌, ℕ, Some, length, sym, ◌∙◌, inl, inr, arith}
 use Rattle.bridge_fdb.specs.Kept.{LivesUntil, in_slot}
 use Rattle.std.proofs.lemmas.Bool.{cases_eq, ltb-true}
-use Rattle.bridge_fdb.specs.Stations.{end_of}
+use Rattle.bridge_fdb.specs.Stations.{station_end}
 use Rattle.bridge_fdb.proofs.Counting.{LivesUntil-earlier}
 use Rattle.bridge_fdb.proofs.Slots.{slot_read}
 use Rattle.bridge_fdb.proofs.kept.Kept.find_free_within.Goals as goal
@@ -18,7 +18,7 @@ end-requires c =
 
 pub loop-slot-preserved : goal.loop-slot-preserved
 loop-slot-preserved c =
-    let live : c.args.t < end_of c.in-Some.station = ltb-true c.args.t (end_of c.in-Some.station) (sym c.is_live.ensures ∙ c.if-not-is_live.false) in
+    let live : c.args.t < station_end c.in-Some.station = ltb-true c.args.t (station_end c.in-Some.station) (sym c.is_live.ensures ∙ c.if-not-is_live.false) in
     (omega (arith, c.loop-slot.invariant.0, live, c.min-end.ensures, c.end.ensures), λ k from to. go k from to (cases_eq k c.loop-slot.slot))
   where
     go : (k : ℕ) → c.args.from ≤ k → k < c.loop-slot.slot + 1 → (k ≡ c.loop-slot.slot) ⊎ (k ≢ c.loop-slot.slot) → LivesUntil c.min-end.result (in_slot c.args.self.now.stations.items k)

@@ -1,7 +1,7 @@
 use Rattle.std.proofs.Common.{ℕ, List, length, length-append, refl, ap, sym, ◌∙◌, subst, arith}
 use Rattle.savi_ends.specs.Octets.{in_front}
 use Rattle.journal_check.specs.Feeds.{HasNoFeed}
-use Rattle.journal_check.specs.Pieces.{held, to_come}
+use Rattle.journal_check.specs.Pieces.{held_octets, to_come}
 use Rattle.journal_check.proofs.FeedPlaces.{plain_append, in_front_none, none_at_end, none_if_long, told_part, told_whole}
 use Rattle.journal_check.proofs.lines.Lines.next.Goals as goal
 
@@ -19,8 +19,8 @@ pieces-preserved g c =
     let left = g.S.Source.left c.fill.new.source in
     record {
       later = omega (arith, was.later, c.fill.ensures.later);
-      plain = subst HasNoFeed (sym cut.2) (plain_append c.pieces.line.items (held c.fill.new.self) was.plain cut.1);
-      told = told_part c.pieces.line.items (held c.fill.new.self) (held c.cut.new.self) c.cut.new.line.items (to_come c.args.self.now (g.S.Source.left c.args.source.now)) (to_come c.pieces.self (g.S.Source.left c.pieces.source)) left was.told c.fill.ensures.same cut.2 cut.3;
+      plain = subst HasNoFeed (sym cut.2) (plain_append c.pieces.line.items (held_octets c.fill.new.self) was.plain cut.1);
+      told = told_part c.pieces.line.items (held_octets c.fill.new.self) (held_octets c.cut.new.self) c.cut.new.line.items (to_come c.args.self.now (g.S.Source.left c.args.source.now)) (to_come c.pieces.self (g.S.Source.left c.pieces.source)) left was.told c.fill.ensures.same cut.2 cut.3;
     }
 
 pub returns-in-Whole-clause-taken : goal.returns-in-Whole-clause-taken
@@ -28,7 +28,7 @@ returns-in-Whole-clause-taken g c =
     let was = c.pieces.invariant in
     let cut = c.in-Whole.ensures in (
       subst HasNoFeed (sym cut.2) (plain_append c.pieces.line.items cut.0 was.plain cut.1),
-      told_whole c.pieces.line.items cut.0 (held c.fill.new.self) (held c.cut.new.self) c.cut.new.line.items (to_come c.args.self.now (g.S.Source.left c.args.source.now)) (to_come c.pieces.self (g.S.Source.left c.pieces.source)) (g.S.Source.left c.fill.new.source)
+      told_whole c.pieces.line.items cut.0 (held_octets c.fill.new.self) (held_octets c.cut.new.self) c.cut.new.line.items (to_come c.args.self.now (g.S.Source.left c.args.source.now)) (to_come c.pieces.self (g.S.Source.left c.pieces.source)) (g.S.Source.left c.fill.new.source)
           was.told c.fill.ensures.same cut.2 cut.3,
     )
 
@@ -49,7 +49,7 @@ pub pieces-smaller : goal.pieces-smaller
 pieces-smaller g c =
     let cut = c.in-Part.ensures in
     let size = ap length cut.2 in
-    let parts = length-append c.pieces.line.items (held c.fill.new.self) in
+    let parts = length-append c.pieces.line.items (held_octets c.fill.new.self) in
     let some = cut.0 in
     let fits = cut.4 in
     omega (arith, size, parts, some, fits)

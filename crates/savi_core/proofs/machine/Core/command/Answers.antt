@@ -5,7 +5,7 @@ use Rattle.savi_kinds.specs.declared.entry.Entry.{Entry}
 use Rattle.savi_kinds.specs.declared.entry.Act.{Act}
 use Rattle.cli_lang.specs.CommandOf.{command_of}
 use Rattle.savi_access.specs.Plans.{rules_of}
-use Rattle.access_table.specs.Kept.{Represents, IsReady}
+use Rattle.access_table.specs.Kept.{Represents, IsAgedTo}
 use Rattle.hist_store.specs.Rows.{held}
 use Rattle.savi_history.specs.Bases.{empty, access_of}
 use Rattle.savi_history.specs.Limits.{has_room}
@@ -16,7 +16,7 @@ use Rattle.savi_history.specs.Legal.{MayCome}
 use Rattle.std.proofs.Math.Path.{fun_ext}
 use Rattle.egress_ring.specs.declared.item.Item.{Item as Queued}
 use Rattle.savi_history.specs.ShutPorts.{shut_by}
-use Rattle.savi_history.specs.Commands.{rows_after, refusal_of, commanded}
+use Rattle.savi_history.specs.Commands.{rows_told, refusal_of, commanded}
 use Rattle.savi_core.specs.Rings.{Rings, shut_in}
 use Rattle.savi_core.specs.Lanes.{Lane}
 use Rattle.savi_core.specs.Waits.{Show}
@@ -44,7 +44,7 @@ pub age-requires-clause-moment : goal.age-requires-clause-moment
 age-requires-clause-moment c = early_now c.self.invariant.0 c.args.stamp c.moment_at-moment.result (c.moment_at-moment.ensures ∙ ap (λ n. max n (min c.args.stamp (2 ^ 62))) c.self.invariant.0.last)
 
 pub age-requires-clause-ready : goal.age-requires-clause-ready
-age-requires-clause-ready c = subst (λ (p : Plan). IsReady (rules_of p) c.self.inside.moment c.self.inside.access) (sym c.plan.ensures.plan) c.self.invariant.5.ready
+age-requires-clause-ready c = subst (λ (p : Plan). IsAgedTo (rules_of p) c.self.inside.moment c.self.inside.access) (sym c.plan.ensures.plan) c.self.invariant.5.ready
 
 pub obey-self-inside-requires-clause-moment : goal.obey-self-inside-requires-clause-moment
 obey-self-inside-requires-clause-moment c = early_now c.self.invariant.0 c.args.stamp c.moment_at-moment.result (c.moment_at-moment.ensures ∙ ap (λ n. max n (min c.args.stamp (2 ^ 62))) c.self.invariant.0.last)
@@ -91,13 +91,13 @@ states : (c : After-append) → Represents (rules_of c.self.inside.ports) (acces
 states c =
     subst (λ (t : ℕ). Represents (rules_of c.self.inside.ports) (access_of empty) (commanded c.self.inside.ports (access_of empty) t (command_of c.args.line.now) (marks c.self.inside.ports empty (reverse c.self.inside.hist.rows))) t c.obey-self-inside.new.access) (moment_is c) (obeyed c).states
 
-ready : (c : After-append) → IsReady (rules_of c.self.inside.ports) (moment_at empty (reverse c.self.inside.hist.rows) c.args.stamp) c.obey-self-inside.new.access
-ready c = subst (λ (t : ℕ). IsReady (rules_of c.self.inside.ports) t c.obey-self-inside.new.access) (moment_is c) c.obey-self-inside.ensures.ready
+ready : (c : After-append) → IsAgedTo (rules_of c.self.inside.ports) (moment_at empty (reverse c.self.inside.hist.rows) c.args.stamp) c.obey-self-inside.new.access
+ready c = subst (λ (t : ℕ). IsAgedTo (rules_of c.self.inside.ports) t c.obey-self-inside.new.access) (moment_is c) c.obey-self-inside.ensures.ready
 
-refusal_is : (c : After-append) → c.obey-self-inside.result ≡ refusal_of c.self.inside.ports (rows_after c.self.inside.ports (access_of empty) (marks c.self.inside.ports empty (reverse c.self.inside.hist.rows)) (moment_at empty (reverse c.self.inside.hist.rows) c.args.stamp)) (command_of c.args.line.now)
+refusal_is : (c : After-append) → c.obey-self-inside.result ≡ refusal_of c.self.inside.ports (rows_told c.self.inside.ports (access_of empty) (marks c.self.inside.ports empty (reverse c.self.inside.hist.rows)) (moment_at empty (reverse c.self.inside.hist.rows) c.args.stamp)) (command_of c.args.line.now)
 refusal_is c =
     (obeyed c).refusal
-    ∙ ap (λ (t : ℕ). refusal_of c.self.inside.ports (rows_after c.self.inside.ports (access_of empty) (marks c.self.inside.ports empty (reverse c.self.inside.hist.rows)) t) (command_of c.args.line.now)) (moment_is c)
+    ∙ ap (λ (t : ℕ). refusal_of c.self.inside.ports (rows_told c.self.inside.ports (access_of empty) (marks c.self.inside.ports empty (reverse c.self.inside.hist.rows)) t) (command_of c.args.line.now)) (moment_is c)
 
 still_shut : (c : After-append) → c.age.new.queues.shut ≡ c.self.inside.queues.shut
 still_shut c = shut_aged _ _ _ _ c.self.inside.queues c.age.new.queues _ _ (ages c)

@@ -11,7 +11,7 @@ use Rattle.savi_history.specs.Events as events
 use Rattle.savi_history.specs.Legal.{IsOpen}
 use Rattle.savi_history.proofs.Closed.{waits_open}
 use Rattle.savi_core.specs.Machines.{Machine, queue_at, with_event}
-use Rattle.savi_core.specs.Steps.{entry_of, count_of}
+use Rattle.savi_core.specs.Steps.{entry_of, taken_count}
 use Rattle.savi_core.specs.Lanes.{Lane, no_lane}
 use Rattle.savi_core.specs.Rings.{Rings}
 use Rattle.savi_core.specs.Waits.{queued_item}
@@ -111,7 +111,7 @@ returns c =
     let size = waits_at c.self.invariant.0 number c.place_of-place.result no_lane known c.place_of-place.ensures.place in
     let items_are = ap (λ (lane : Lane Item). lane.items) (lane_at c.self.invariant.0.queues number c.place_of-place.result no_lane known c.place_of-place.ensures.place) in
     let waits : c.len.result ≡ length (queue_at m port) = omega (arith, c.len.ensures, size, ap length queue_is) in
-    let count_is : count ≡ count_of m port c.args.most = c.min-count.ensures ∙ ap (min c.args.most) waits in
+    let count_is : count ≡ taken_count m port c.args.most = c.min-count.ensures ∙ ap (min c.args.most) waits in
     let e_is = subst (λ (x : Machine). e ≡ entry_of x (events.Drain port count)) (sym c.self.view_is) c.drain_entry-entry.ensures in (
       (λ none. c.if-count-eq0.false (omega (arith, count_is, ap length none))),
       c.drain.ensures.taken ∙ ap (λ (p : Plan). take count (map (queued_item p.mac rows) (get_or inside.queues.lanes c.place_of-place.result no_lane).items)) c.plan.ensures.plan

@@ -6,9 +6,9 @@ use Rattle.savi_kinds.specs.declared.entry.Entry.{Entry}
 use Rattle.savi_kinds.specs.declared.entry.Act.{Act}
 use Rattle.savi_kinds.specs.declared.entry.Act.TheVariants as acts
 use Rattle.egress_ring.specs.declared.item.Item.TheVariants as queued
-use Rattle.hist_store.specs.Rows.{held, IsPlaced}
+use Rattle.hist_store.specs.Rows.{held, KeepsOctets}
 use Rattle.savi_access.specs.Plans.{rules_of}
-use Rattle.access_table.specs.Kept.{IsReady}
+use Rattle.access_table.specs.Kept.{IsAgedTo}
 use Rattle.savi_history.specs.Bases.{empty, access_of}
 use Rattle.savi_history.specs.Vlans.{the_vlan}
 use Rattle.savi_history.specs.Passes.{has_port}
@@ -58,7 +58,7 @@ pub judge-verdict-requires-clause-moment : goal.judge-verdict-requires-clause-mo
 judge-verdict-requires-clause-moment c = early_now c.self.invariant.0 c.args.stamp c.moment_at-moment.result (c.moment_at-moment.ensures ∙ ap (λ n. max n (min c.args.stamp (2 ^ 62))) c.self.invariant.0.last)
 
 pub judge-verdict-requires-clause-ready : goal.judge-verdict-requires-clause-ready
-judge-verdict-requires-clause-ready c = subst (λ (p : Plan). IsReady (rules_of p) c.self.inside.moment c.self.inside.access) (sym c.plan.ensures.plan) c.self.invariant.5.ready
+judge-verdict-requires-clause-ready c = subst (λ (p : Plan). IsAgedTo (rules_of p) c.self.inside.moment c.self.inside.access) (sym c.plan.ensures.plan) c.self.invariant.5.ready
 
 -- what the judgement leaves
 judges : (c : goal.After-append) → Judges (rules_of c.self.inside.ports) c.self.inside.moment c.moment_at-moment.result (shut_in c.self.inside.queues.shut (number_of c.args.port)) c.args.port c.args.class.now c.judge-verdict.new.access c.self.inside.queues c.judge-verdict.new.queues c.judge-verdict.result (access_of empty) (marks c.self.inside.ports empty (reverse c.self.inside.hist.rows))
@@ -66,10 +66,10 @@ judges c =
     let inside = c.self.inside in
     judged_here c.self.invariant.0 inside.access c.self.invariant.5 c.plan.result.now c.plan.ensures.plan c.moment_at-moment.result (omega (arith, c.moment_at-moment.ensures)) (shut_in c.self.inside.queues.shut (number_of c.args.port)) c.args.port c.args.class.now c.judge-verdict.new.access inside.queues c.judge-verdict.new.queues c.judge-verdict.result c.judge-verdict.ensures.judged
 
-ready : (c : goal.After-append) → IsReady (rules_of c.self.inside.ports) (moment_at empty (reverse c.self.inside.hist.rows) c.args.stamp) c.judge-verdict.new.access
+ready : (c : goal.After-append) → IsAgedTo (rules_of c.self.inside.ports) (moment_at empty (reverse c.self.inside.hist.rows) c.args.stamp) c.judge-verdict.new.access
 ready c =
-    subst (λ (t : ℕ). IsReady (rules_of c.self.inside.ports) t c.judge-verdict.new.access) (moment_is c)
-    (subst (λ (p : Plan). IsReady (rules_of p) c.moment_at-moment.result c.judge-verdict.new.access) c.plan.ensures.plan c.judge-verdict.ensures.ready)
+    subst (λ (t : ℕ). IsAgedTo (rules_of c.self.inside.ports) t c.judge-verdict.new.access) (moment_is c)
+    (subst (λ (p : Plan). IsAgedTo (rules_of p) c.moment_at-moment.result c.judge-verdict.new.access) c.plan.ensures.plan c.judge-verdict.ensures.ready)
 
 -- the lanes before the frame is offered
 before : (c : goal.After-append) → Show c.self.inside.ports c.self.inside.hist.rows c.judge-verdict.new.queues.lanes (probed_lane c.self.inside.ports empty (reverse c.self.inside.hist.rows) (events.frame_act (reverse c.self.inside.hist.rows) c.args.port c.args.stamp c.args.octets.now) c.args.octets.now)
@@ -153,7 +153,7 @@ append-requires-clause-placed c =
     let placed : c.frame_act-act.result ≡ acts.Frame c.args.port c.args.stamp (held c.self.inside.hist.rows) (length c.args.octets.now) =
     c.frame_act-act.ensures ∙ sym (ap (λ (m : Machine). events.frame_act m.past c.args.port c.args.stamp c.args.octets.now) c.self.view_is)
     ∙ ap (λ (n : ℕ). acts.Frame c.args.port c.args.stamp n (length c.args.octets.now)) (held-reverse c.self.inside.hist.rows) in
-    subst (λ (act : Act). IsPlaced act (held c.self.inside.hist.rows) c.args.octets.now) (sym placed) (refl, refl)
+    subst (λ (act : Act). KeepsOctets act (held c.self.inside.hist.rows) c.args.octets.now) (sym placed) (refl, refl)
 
 pub add-requires : goal.add-requires
 add-requires c =

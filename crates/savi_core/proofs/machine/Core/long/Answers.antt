@@ -5,7 +5,7 @@ use Rattle.savi_kinds.specs.declared.entry.Act.TheVariants as acts
 use Rattle.savi_kinds.specs.declared.port.PortSet.{PortSet}
 use Rattle.savi_kinds.specs.Ports.{number_of}
 use Rattle.savi_access.specs.Plans.{rules_of}
-use Rattle.access_table.specs.Kept.{IsReady}
+use Rattle.access_table.specs.Kept.{IsAgedTo}
 use Rattle.savi_history.specs.Bases.{empty, access_of}
 use Rattle.savi_history.specs.Limits.{has_room}
 use Rattle.savi_history.specs.Moments.{moment_at}
@@ -34,17 +34,17 @@ pub age-requires-clause-moment : goal.age-requires-clause-moment
 age-requires-clause-moment c = early_now c.self.invariant.0 c.args.stamp c.moment_at-moment.result (c.moment_at-moment.ensures ∙ ap (λ n. max n (min c.args.stamp (2 ^ 62))) c.self.invariant.0.last)
 
 pub age-requires-clause-ready : goal.age-requires-clause-ready
-age-requires-clause-ready c = subst (λ (p : Plan). IsReady (rules_of p) c.self.inside.moment c.self.inside.access) (sym c.plan.ensures.plan) c.self.invariant.5.ready
+age-requires-clause-ready c = subst (λ (p : Plan). IsAgedTo (rules_of p) c.self.inside.moment c.self.inside.access) (sym c.plan.ensures.plan) c.self.invariant.5.ready
 
 ages : (c : goal.After-append) → Ages (rules_of c.self.inside.ports) c.self.inside.moment c.moment_at-moment.result c.age.new.access c.self.inside.queues c.age.new.queues (access_of empty) (marks c.self.inside.ports empty (reverse c.self.inside.hist.rows))
 ages c =
     let inside = c.self.inside in
     aged_here c.self.invariant.0 inside.access c.self.invariant.5 c.plan.result.now c.plan.ensures.plan c.moment_at-moment.result (omega (arith, c.moment_at-moment.ensures)) c.age.new.access inside.queues c.age.new.queues c.age.ensures.aged
 
-ready : (c : goal.After-append) → IsReady (rules_of c.self.inside.ports) (moment_at empty (reverse c.self.inside.hist.rows) c.args.stamp) c.age.new.access
+ready : (c : goal.After-append) → IsAgedTo (rules_of c.self.inside.ports) (moment_at empty (reverse c.self.inside.hist.rows) c.args.stamp) c.age.new.access
 ready c =
-    subst (λ (t : ℕ). IsReady (rules_of c.self.inside.ports) t c.age.new.access) (moment_is c)
-    (subst (λ (p : Plan). IsReady (rules_of p) c.moment_at-moment.result c.age.new.access) c.plan.ensures.plan c.age.ensures.ready)
+    subst (λ (t : ℕ). IsAgedTo (rules_of c.self.inside.ports) t c.age.new.access) (moment_is c)
+    (subst (λ (p : Plan). IsAgedTo (rules_of p) c.moment_at-moment.result c.age.new.access) c.plan.ensures.plan c.age.ensures.ready)
 
 abbrev inner : (c : goal.After-append) → Machine
 inner c = record { plan = c.self.inside.ports; past = reverse c.self.inside.hist.rows }

@@ -4,7 +4,7 @@ use Rattle.savi_kinds.specs.declared.plan.Plan.{Plan}
 use Rattle.savi_kinds.specs.declared.entry.Entry.{Entry}
 use Rattle.savi_kinds.specs.declared.entry.Act.TheVariants as acts
 use Rattle.savi_access.specs.Plans.{rules_of}
-use Rattle.access_table.specs.Kept.{Kept as Table, IsReady}
+use Rattle.access_table.specs.Kept.{Kept as Table, IsAgedTo}
 use Rattle.savi_history.specs.Bases.{empty, access_of}
 use Rattle.savi_history.specs.Limits.{has_room}
 use Rattle.savi_history.specs.Moments.{last_moment, moment_at}
@@ -58,8 +58,8 @@ age-requires-clause-moment c = early_now c.self.invariant.0 c.args.stamp c.momen
 
 pub age-requires-clause-ready : goal.age-requires-clause-ready
 age-requires-clause-ready c =
-    subst (λ (a : Table). IsReady (rules_of c.plan.result.now) c.self.inside.moment a) (sym c.is_due.ensures.same)
-    (subst (λ (p : Plan). IsReady (rules_of p) c.self.inside.moment c.self.inside.access) (sym c.plan.ensures.plan) c.self.invariant.5.ready)
+    subst (λ (a : Table). IsAgedTo (rules_of c.plan.result.now) c.self.inside.moment a) (sym c.is_due.ensures.same)
+    (subst (λ (p : Plan). IsAgedTo (rules_of p) c.self.inside.moment c.self.inside.access) (sym c.plan.ensures.plan) c.self.invariant.5.ready)
 
 changed : (c : goal.After-append) → HasChangedBy c.self.inside.ports empty (reverse c.self.inside.hist.rows) (moment_at empty (reverse c.self.inside.hist.rows) c.args.stamp)
 changed c =
@@ -77,10 +77,10 @@ ages c =
     let inside = c.self.inside in
     aged_here c.self.invariant.0 c.is_due.new.self (told_still c) c.plan.result.now c.plan.ensures.plan c.moment_at-moment.result (omega (arith, c.moment_at-moment.ensures)) c.age.new.access inside.queues c.age.new.queues c.age.ensures.aged
 
-ready : (c : goal.After-append) → IsReady (rules_of c.self.inside.ports) (moment_at empty (reverse c.self.inside.hist.rows) c.args.stamp) c.age.new.access
+ready : (c : goal.After-append) → IsAgedTo (rules_of c.self.inside.ports) (moment_at empty (reverse c.self.inside.hist.rows) c.args.stamp) c.age.new.access
 ready c =
-    subst (λ (t : ℕ). IsReady (rules_of c.self.inside.ports) t c.age.new.access) (moment_is c)
-    (subst (λ (p : Plan). IsReady (rules_of p) c.moment_at-moment.result c.age.new.access) c.plan.ensures.plan c.age.ensures.ready)
+    subst (λ (t : ℕ). IsAgedTo (rules_of c.self.inside.ports) t c.age.new.access) (moment_is c)
+    (subst (λ (p : Plan). IsAgedTo (rules_of p) c.moment_at-moment.result c.age.new.access) c.plan.ensures.plan c.age.ensures.ready)
 
 abbrev inner : (c : goal.After-append) → Machine
 inner c = record { plan = c.self.inside.ports; past = reverse c.self.inside.hist.rows }

@@ -1,5 +1,5 @@
 use Rattle.std.proofs.Common.{◌≤◌, ◌/◌, sym, subst, ap, ◌∙◌}
-use Rattle.timer_wheel.specs.Arms.{Wheel, IsRising, first_armed, due_by}
+use Rattle.timer_wheel.specs.Arms.{Wheel, IsRising, first_armed, due_within}
 use Rattle.timer_wheel.proofs.Slots.{arms_in-rising}
 use Rattle.timer_wheel.specs.Rings.{slice_of}
 use Rattle.timer_wheel.specs.Searches.{LeastOf}
@@ -11,20 +11,20 @@ pub returns-in_err-armed-clause-value : goal.returns-in_err-armed-clause-value
 returns-in_err-armed-clause-value c =
     c.from_residual.ensures
     ∙ sym
-    (ap (λ (w : Wheel). due_by c.args.t (first_armed w.arms)) (sym c.self.view_is)
+    (ap (λ (w : Wheel). due_within c.args.t (first_armed w.arms)) (sym c.self.view_is)
     ∙ nothing_due c.args.t c.self.inside.rows.slots (subst (LeastOf c.self.inside.rows.slots (λ armed. slice_of armed ≤ c.args.t / 64)) c.in_err-armed.was c.seek-found.ensures.least))
 
 pub returns-then-armed-t-clause-value : goal.returns-then-armed-t-clause-value
 returns-then-armed-t-clause-value c =
     sym
-    (ap (λ (w : Wheel). due_by c.args.t (first_armed w.arms)) (sym c.self.view_is)
+    (ap (λ (w : Wheel). due_within c.args.t (first_armed w.arms)) (sym c.self.view_is)
     ∙ least_late c.args.t c.self.inside.rows.slots c.in_ok-armed.armed c.self.invariant.wired.fits
     (subst (LeastOf c.self.inside.rows.slots (λ armed. slice_of armed ≤ c.args.t / 64)) c.in_ok-armed.was c.seek-found.ensures.least) c.if-armed-t.true)
 
 pub returns-clause-value : goal.returns-clause-value
 returns-clause-value c =
     sym
-    (ap (λ (w : Wheel). due_by c.args.t (first_armed w.arms)) (sym c.self.view_is)
+    (ap (λ (w : Wheel). due_within c.args.t (first_armed w.arms)) (sym c.self.view_is)
     ∙ least_due c.args.t c.self.inside.rows.slots c.in_ok-armed.armed (one_each c.self.inside.rows c.self.inside.index c.self.invariant.indexed) c.self.invariant.wired.fits
     (subst (LeastOf c.self.inside.rows.slots (λ armed. slice_of armed ≤ c.args.t / 64)) c.in_ok-armed.was c.seek-found.ensures.least) c.if-armed-t.false)
 
