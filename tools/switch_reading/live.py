@@ -110,11 +110,9 @@ class Live(Replay):
         """The turns of an input."""
         while source.head() is not None and not source.is_over:
             yield TURN
-            if self.switch.is_full():
-                self.end_input(source, f"full {len(self.switch.entries)}")
+            arrival = self.taken(source)
+            if arrival is None:
                 return
-            arrival = source.head()
-            source.at += 1
             if number == CONTROL:
                 yield from self.answer(source, arrival)
             else:

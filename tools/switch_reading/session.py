@@ -80,11 +80,9 @@ class Replay:
         """Takes the arrival with the least stamp, of control first and then of the lower port; and drains the queues."""
         number = min((n for n in self.inputs if not self.inputs[n].is_over), key=lambda n: (self.inputs[n].head().stamp, n))
         source = self.inputs[number]
-        if self.switch.is_full():
-            self.end_input(source, f"full {len(self.switch.entries)}")
+        arrival = self.taken(source)
+        if arrival is None:
             return
-        arrival = source.head()
-        source.at += 1
         if number == CONTROL:
             self.command(source, arrival)
         else:
@@ -92,6 +90,15 @@ class Replay:
         for n, items in self.switch.queues.items():
             if items:
                 self.drain(n)
+
+    def taken(self, source):
+        """What comes next of an input; or None where there is no room for it, and the input ends."""
+        if self.switch.is_full():
+            self.end_input(source, f"full {len(self.switch.entries)}")
+            return None
+        arrival = source.head()
+        source.at += 1
+        return arrival
 
     def enter(self, port, arrival):
         """Enters what came in at a port."""
