@@ -7,8 +7,9 @@ ghost use Rattle.savi_access.specs.Plans.{rules_of, has_port};
 ghost use Rattle.access_table.specs.Kept.{IsAgedTo};
 
 use access_table::AccessTable;
-use addr_table::{ProbeSink, SentProbe};
+use addr_table::ProbeSink;
 use frame_class::class;
+use savi_access::SentProbe;
 use savi_kinds::{FRAME_OCTETS_MOST, Moment, Plan, Port, Verdict};
 use std::alloc::{AllocError, Global};
 

@@ -6,9 +6,9 @@ use Rattle.fcfs_states.specs.declared.answer.Answer.{Answer}
 use Rattle.fcfs_states.specs.declared.event.Ev.{Ev}
 use Rattle.mix_rules.specs.declared.state.AddrState.{AddrState}
 use Rattle.mix_rules.specs.States.{has_state}
-use Rattle.addr_table.specs.Keeps.{IsSoundBy}
-use Rattle.addr_table.specs.Rooms.{port_of}
-use Rattle.addr_history.specs.Legal.{IsOfVlan}
+use Rattle.savi_access.specs.Keeps.{IsSoundBy}
+use Rattle.savi_access.specs.Rooms.{port_of}
+use Rattle.savi_access.specs.Limits.{IsOfVlan}
 use Rattle.savi_access.specs.Rules.{AccessRules}
 use Rattle.savi_access.specs.Judged.{with_event}
 use Rattle.savi_access.proofs.States.{none_some}

@@ -14,25 +14,25 @@ use Rattle.dhcp_states.specs.Requests.{request_of, open_at, has_pair, refusal, w
 use Rattle.dhcp_states.proofs.Counts.{open_at-later}
 use Rattle.mix_rules.specs.Next.{Outcome, next_state}
 use Rattle.mix_rules.specs.Premises.{IsLeaseInRange}
-use Rattle.bind_table.specs.declared.row.Row.{Row}
-use Rattle.bind_table.specs.Rows.{state_in, with_state}
+use Rattle.savi_access.specs.declared.row.Row.{Row}
+use Rattle.savi_access.specs.Rows.{state_in, with_state}
 use Rattle.addr_table.specs.Addresses.{Addresses}
-use Rattle.addr_table.specs.Ages.{aged_rows, AllStill}
-use Rattle.addr_table.specs.Keeps.{AreSound}
-use Rattle.addr_table.specs.Sends.{sends}
-use Rattle.addr_table.specs.Rooms.{port_of, IsFixable}
+use Rattle.savi_access.specs.Ages.{aged_rows, AllStill}
+use Rattle.savi_access.specs.Keeps.{AreSound}
+use Rattle.savi_access.specs.Sends.{sends}
+use Rattle.savi_access.specs.Rooms.{port_of, IsFixable}
 use Rattle.addr_table.specs.Outcomes.{outcome_in}
-use Rattle.addr_history.specs.Bases.{AreTables}
-use Rattle.addr_history.specs.Marks.{Named}
-use Rattle.addr_history.specs.Tables.{rows_after, rows_at}
-use Rattle.addr_history.specs.Probes.{probes_between}
-use Rattle.addr_history.specs.Legal.{IsOfVlan}
-use Rattle.addr_history.proofs.TablesOf.{rows-later, at_mark, answer_by_rows}
-use Rattle.addr_history.proofs.AllSends.{sends-late}
-use Rattle.addr_history.proofs.StatesKept.{base_times, base_tables}
+use Rattle.savi_access.specs.Bases.{AreTables}
+use Rattle.savi_access.specs.NamedMarks.{Named}
+use Rattle.savi_access.specs.Tables.{rows_after, rows_at}
+use Rattle.savi_access.specs.Probes.{probes_between}
+use Rattle.savi_access.specs.Limits.{IsOfVlan}
+use Rattle.savi_access.proofs.TablesOf.{rows-later, at_mark, answer_by_rows}
+use Rattle.savi_access.proofs.AllSends.{sends-late}
+use Rattle.savi_access.proofs.StatesKept.{base_times, base_tables}
 use Rattle.savi_access.specs.Rules.{AccessRules, AccessBase}
-use Rattle.savi_access.specs.Marks.{Mark, Asked, Met, told, requests_after}
-use Rattle.savi_access.specs.Judged.{named_for, answer_to, with_event, with_events, is_on_link}
+use Rattle.savi_access.specs.Marks.{Mark, Asked, Met, told, requests_after, named_for}
+use Rattle.savi_access.specs.Judged.{answer_to, with_event, with_events, is_on_link}
 use Rattle.savi_access.proofs.States.{none_some}
 use Rattle.savi_access.proofs.Requests.{open_with, open_without}
 use Rattle.savi_access.proofs.Keeping.{told_follows}
@@ -97,7 +97,7 @@ module _ (r : AccessRules) (base : AccessBase) (past : List Mark) where
 
     module _ (a : ℕ) (event : Ev) (m : Method) (port : Port) (found : r.addresses.method_of 1 a ≡ Some m) where
       abbrev named : Named
-      named = named_for r base 1 port t past a event
+      named = named_for r base 1 t past a event
 
       abbrev by_marks : Outcome
       by_marks = next_state m r.addresses.times t named.room (state_in (rows_at r.addresses base.addresses (told past) t 1) a) event
@@ -182,6 +182,10 @@ pub event_ready : (r : AccessRules) (t : ℕ) (old new : Kept) (a : ℕ) (m : Me
     → ((method_of : ℕ → Option Method) → method_of a ≡ Some m → AreSound method_of old.addresses.rows → AreSound method_of new.addresses.rows)
     → IsAgedTo r t new
 event_ready r t old new a m rows ready found addresses still sound = record {
+  made = record {
+    times = ap (λ (x : Addresses). x.times) addresses ∙ ready.made.times;
+    per_port = ap (λ (x : Addresses). x.per_port) addresses ∙ ready.made.per_port;
+  };
   still = subst (λ (k : Times). AllStill k t new.addresses.rows) (sym (ap (λ (x : Addresses). x.times) addresses)) still;
   sound = sound (r.addresses.method_of 1) found ready.sound;
 }

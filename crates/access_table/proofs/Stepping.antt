@@ -4,9 +4,10 @@ use Rattle.std.specs.Option.{option_map}
 use Rattle.arrayvec.specs.ArrayVec.{ArrayVec}
 use Rattle.savi_kinds.specs.declared.port.Port.{Port}
 use Rattle.savi_kinds.specs.declared.verdict.Rule.{Rule}
+use Rattle.savi_kinds.specs.declared.verdict.Rule.TheVariants.{Unverified}
 use Rattle.savi_kinds.specs.declared.verdict.Scope.TheVariants.{All}
 use Rattle.savi_kinds.specs.declared.verdict.Verdict.{Verdict}
-use Rattle.savi_kinds.specs.declared.verdict.Verdict.TheVariants.{Pass}
+use Rattle.savi_kinds.specs.declared.verdict.Verdict.TheVariants.{Pass, Drop}
 use Rattle.savi_kinds.specs.Ports.{number_of}
 use Rattle.dhcp6_read.specs.declared.message.Dhcp.{Dhcp}
 use Rattle.dhcp6_read.specs.declared.message.Lease.{Lease as Offered}
@@ -15,8 +16,8 @@ use Rattle.fcfs_states.specs.declared.event.Ev.{Ev}
 use Rattle.fcfs_states.specs.declared.event.Ev.TheVariants.{Release}
 use Rattle.savi_access.specs.Frames.{gives_up}
 use Rattle.dhcp_states.specs.Requests.{open_at, refusal, asker}
-use Rattle.addr_table.specs.Rooms.{port_of as event_port}
-use Rattle.addr_history.specs.Legal.{IsOfVlan}
+use Rattle.savi_access.specs.Rooms.{port_of as event_port}
+use Rattle.savi_access.specs.Limits.{IsOfVlan}
 use Rattle.savi_access.specs.Rules.{AccessRules, AccessBase}
 use Rattle.savi_access.specs.Marks.{Mark, Met, open_requests}
 use Rattle.savi_access.specs.Judged.{Judged, with_event, with_events, is_on_link, answered, comes_to, asked_by, replied, replied_by, to_server_by}
@@ -32,13 +33,13 @@ use Rattle.access_table.proofs.Standing.{events_more}
 module _ (r : AccessRules) (t : ℕ) where
   pub answers_follow : (base : AccessBase) (past : List Mark) (port : Port) (old new : Kept) (a : ℕ) (event : Ev) (off_link : Verdict) (answer : Answer) (result : Judgement)
       → IsSome (r.addresses.method_of 1 a) → AnswersEvent r t old new a event base past port answer
-      → result.verdict ≡ unwrap_or answer.verdict (Pass All)
+      → result.verdict ≡ unwrap_or answer.verdict (Drop Unverified)
       → result.probe ≡ option_map (λ probe. record { due = t; address = record { 0 = a }; probe = probe }) answer.probe
       → ComesTo r base t new result (if is_on_link r base 1 port t a then answered r base 1 port t past a event else comes_to off_link past)
   answers_follow base past port old new a event off_link answer result on is verdict probe =
       subst (λ b. ComesTo r base t new result (if b then answered r base 1 port t past a event else comes_to off_link past)) (sym on)
       (record {
-        verdict = verdict ∙ ap (λ (x : Answer). unwrap_or x.verdict (Pass All)) is.answer;
+        verdict = verdict ∙ ap (λ (x : Answer). unwrap_or x.verdict (Drop Unverified)) is.answer;
         probe = probe ∙ ap (λ (x : Answer). option_map (λ probe. record { due = t; address = record { 0 = a }; probe = probe }) x.probe) is.answer;
         kept = is.kept;
       })

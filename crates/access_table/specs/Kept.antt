@@ -3,9 +3,9 @@ use Rattle.std.specs.Prelude.{◌≡◌, ℕ, ◌≤◌, List}
 use Rattle.dhcp_states.specs.declared.request.Request.{Request}
 use Rattle.dhcp_states.specs.Requests.{open_at}
 use Rattle.addr_table.specs.Addresses.{Addresses}
-use Rattle.addr_table.specs.Ages.{AllStill}
-use Rattle.addr_table.specs.Keeps.{AreSound}
-use Rattle.addr_history.specs.Tables.{rows_at}
+use Rattle.savi_access.specs.Ages.{AllStill}
+use Rattle.savi_access.specs.Keeps.{AreSound}
+use Rattle.savi_access.specs.Tables.{rows_at}
 use Rattle.savi_access.specs.Rules.{AccessRules, AccessBase, IsAccessBase}
 use Rattle.savi_access.specs.Marks.{Mark, told, newest_moment, open_requests}
 use Rattle.savi_access.specs.Legal.{AreMarks}
@@ -27,7 +27,13 @@ pub record Represents (r : AccessRules) (base : AccessBase) (past : List Mark) (
   pub times : kept.addresses.times ≡ r.addresses.times
   pub per_port : kept.addresses.per_port ≡ r.addresses.per_port
 
--- all states are aged to t, and each is sound for the method of its address
+-- it was made with these rules: states age by their times, and a port may hold as many addresses as they say
+pub record IsMadeWith (r : AccessRules) (kept : Kept) : Type 0 where
+  pub times : kept.addresses.times ≡ r.addresses.times
+  pub per_port : kept.addresses.per_port ≡ r.addresses.per_port
+
+-- it was made with these rules, all states are aged to t, and each is sound for the method of its address
 pub record IsAgedTo (r : AccessRules) (t : ℕ) (kept : Kept) : Type 0 where
+  pub made : IsMadeWith r kept
   pub still : AllStill kept.addresses.times t kept.addresses.rows
   pub sound : AreSound (r.addresses.method_of 1) kept.addresses.rows

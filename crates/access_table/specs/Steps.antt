@@ -4,8 +4,8 @@ use Rattle.std.specs.Prelude.{◌≡◌, ℕ, Option, Some, None, IsSome, List}
 use Rattle.savi_kinds.specs.declared.port.Port.{Port}
 use Rattle.fcfs_states.specs.declared.answer.Answer.{Answer}
 use Rattle.fcfs_states.specs.declared.event.Ev.{Ev}
-use Rattle.addr_table.specs.Rooms.{port_of}
-use Rattle.addr_history.specs.Legal.{IsOfVlan}
+use Rattle.savi_access.specs.Rooms.{port_of}
+use Rattle.savi_access.specs.Limits.{IsOfVlan}
 use Rattle.savi_access.specs.Rules.{AccessRules, AccessBase}
 use Rattle.savi_access.specs.Marks.{Mark}
 use Rattle.savi_access.specs.Judged.{Judged, answer_to, with_event}

@@ -2,11 +2,12 @@
 
 ghost use Rattle.std.specs.Prelude.{◌≡◌, None, unwrap_or};
 ghost use Rattle.std.specs.Option.{option_map};
+ghost use Rattle.savi_kinds.specs.declared.verdict.Rule.TheVariants.{Unverified};
 ghost use Rattle.savi_kinds.specs.declared.verdict.Verdict.TheVariants.{Pass};
 ghost use Rattle.savi_kinds.specs.declared.verdict.Scope.TheVariants.{All};
 
-use addr_table::SentProbe;
 use fcfs_states::Answer;
+use savi_access::SentProbe;
 use savi_kinds::{Addr, Moment, Rule, Scope, Verdict};
 
 /// What becomes of a frame.
@@ -43,13 +44,14 @@ impl Judgement {
         Judgement::of(Verdict::Drop(rule))
     }
 
-    /// The answer to an event on an address at moment `t` (ms). Where no frame waits for one, this one goes to all ports.
+    /// The answer to an event on an address at moment `t` (ms). Each event of a frame is answered with a verdict; without
+    /// one the frame would be dropped.
     pub(crate) fn answered(answer: Answer, a: Addr, t: Moment) -> Judgement
-        ensures verdict { result.verdict ≡ unwrap_or answer.verdict (Pass All) }
+        ensures verdict { result.verdict ≡ unwrap_or answer.verdict (Verdict.Drop Unverified) }
         ensures probe { result.probe ≡ option_map (λ probe. record { due = t; address = a; probe = probe }) answer.probe }
     {
         Judgement {
-            verdict: answer.verdict.unwrap_or(Verdict::Pass(Scope::All)),
+            verdict: answer.verdict.unwrap_or(Verdict::Drop(Rule::Unverified)),
             probe: answer.probe.map(|probe| SentProbe {
                 due: t,
                 address: a,

@@ -4,13 +4,13 @@ ghost use Rattle.std.specs.Prelude.{◌≡◌, ◌≢◌, ◌^◌, ◌≤◌, tr
 ghost use Rattle.savi_kinds.specs.Ports.{number_of};
 ghost use Rattle.savi_kinds.specs.ValidPlan.{IsValidPlan};
 ghost use Rattle.savi_kinds.specs.declared.port.Port.{Port};
-ghost use Rattle.addr_table.specs.Rooms.{port_of as event_port};
-ghost use Rattle.addr_history.specs.Legal.{IsOfVlan};
+ghost use Rattle.savi_access.specs.Rooms.{port_of as event_port};
+ghost use Rattle.savi_access.specs.Limits.{IsOfVlan};
 ghost use Rattle.savi_access.specs.Judged.{judged, judged_for, validated, trusted, from_unspecified, sourced, message, to_server, to_client_or_other, replied, asked, answered, with_events, is_on_link, comes_to};
 ghost use Rattle.savi_access.specs.Frames.{answered_duid, dhcp_to, gives_up};
 ghost use Rattle.fcfs_states.specs.declared.event.Ev.TheVariants.{Release};
 ghost use Rattle.savi_access.specs.Plans.{rules_of, has_port, role_of, vlan_among};
-ghost use Rattle.access_table.specs.Kept.{Represents, IsAgedTo};
+ghost use Rattle.access_table.specs.Kept.{IsMadeWith, IsAgedTo};
 ghost use Rattle.access_table.specs.Events.{IsOfFrame, change_port, change_event};
 ghost use Rattle.access_table.specs.Steps.{Moves, FollowsStep};
 
@@ -30,12 +30,13 @@ use savi_kinds::{Addr, Moment, Plan, Port, Rule, Scope, Verdict};
 use v6_chain::Ip;
 
 impl AccessTable {
-    /// What becomes of a frame of this class at a port of the plan, at moment `t` (ms), to which all states are aged. The
-    /// rules on messages come first (RFC 6105, RFC 7113), then the states of addresses (RFC 6620 section 3.2, RFC 7513
-    /// section 6, RFC 8074). It takes no memory, and costs O(ports + prefixes) and an event for each address that the frame
-    /// names, beside what the requests cost.
+    /// What becomes of a frame of this class at a port of the plan, at moment `t` (ms), to which all states are aged. The plan
+    /// is the one that the table was made with. The rules on messages come first (RFC 6105, RFC 7113), then the states of
+    /// addresses (RFC 6620 section 3.2, RFC 7513 section 6, RFC 8074). It takes no memory, and costs O(ports + prefixes) and an
+    /// event for each address that the frame names, beside what the requests cost.
     pub fn judge(&mut self, plan: &Plan, port: Port, class: &Class, t: Moment) -> Judgement
         requires plan { IsValidPlan plan.now }
+        requires made { IsMadeWith (rules_of plan.now) self.old }
         requires port { has_port plan.now (number_of port) ≡ true }
         requires moment { t ≤ 2 ^ 62 }
         requires ready { IsAgedTo (rules_of plan.now) t self.old }

@@ -6,11 +6,11 @@ ghost use Rattle.savi_kinds.specs.ValidPlan.{IsValidPlan};
 ghost use Rattle.savi_kinds.specs.declared.port.Port.{Port};
 ghost use Rattle.fcfs_states.specs.declared.event.Ev.TheVariants.{Fix, Clear};
 ghost use Rattle.mix_rules.specs.States.{has_state, is_held_at};
-ghost use Rattle.bind_table.specs.Rows.{state_in};
-ghost use Rattle.addr_table.specs.Rooms.{may_hold_more, IsFixable};
+ghost use Rattle.savi_access.specs.Rows.{state_in};
+ghost use Rattle.savi_access.specs.Rooms.{may_hold_more, IsFixable};
 ghost use Rattle.savi_access.specs.Judged.{with_event};
 ghost use Rattle.savi_access.specs.Plans.{rules_of, vlan_among};
-ghost use Rattle.access_table.specs.Kept.{IsAgedTo};
+ghost use Rattle.access_table.specs.Kept.{IsMadeWith, IsAgedTo};
 ghost use Rattle.access_table.specs.Steps.{Moves};
 
 use crate::plans::method_of;
@@ -44,9 +44,10 @@ impl AccessTable {
     }
 
     /// Binds an on-link address to a port of a host or a server for good, at moment `t` (ms), to which all states are aged.
-    /// It costs what `AddrTable::event` does, and O(prefixes).
+    /// The plan is the one that the table was made with. It costs what `AddrTable::event` does, and O(prefixes).
     pub fn fix(&mut self, plan: &Plan, a: Addr, port: Port, t: Moment)
         requires plan { IsValidPlan plan.now }
+        requires made { IsMadeWith (rules_of plan.now) self.old }
         requires vlan { vlan_among plan.now.ports (number_of port) ≡ Some 1 }
         requires moment { t ≤ 2 ^ 62 }
         requires ready { IsAgedTo (rules_of plan.now) t self.old }
@@ -58,10 +59,11 @@ impl AccessTable {
         self.tell(plan, a, Ev::Fix(port), t);
     }
 
-    /// Forgets the state of an address that has one, at moment `t` (ms), to which all states are aged. It costs what
-    /// `AddrTable::event` does, and O(prefixes).
+    /// Forgets the state of an address that has one, at moment `t` (ms), to which all states are aged. The plan
+    /// is the one that the table was made with. It costs what `AddrTable::event` does, and O(prefixes).
     pub fn clear(&mut self, plan: &Plan, a: Addr, t: Moment)
         requires plan { IsValidPlan plan.now }
+        requires made { IsMadeWith (rules_of plan.now) self.old }
         requires moment { t ≤ 2 ^ 62 }
         requires ready { IsAgedTo (rules_of plan.now) t self.old }
         requires state { IsTrue (has_state (state_in self.old.addresses.rows a.0)) }

@@ -7,14 +7,13 @@ ghost use Rattle.savi_kinds.specs.Ports.{number_of};
 ghost use Rattle.savi_kinds.specs.ValidPlan.{IsValidPlan};
 ghost use Rattle.fcfs_states.specs.declared.event.Ev.{Ev};
 ghost use Rattle.dhcp_states.specs.Requests.{request_of, open_at, requests_at_port, refusal, asker};
-ghost use Rattle.mix_rules.specs.States.{IsLiveAt};
 ghost use Rattle.mix_rules.specs.Premises.{IsLeaseInRange};
-ghost use Rattle.bind_table.specs.Rows.{state_in, count_at, pair_of};
-ghost use Rattle.addr_table.specs.Ages.{aged_rows, AllStill};
-ghost use Rattle.addr_table.specs.declared.sent.SentProbe.{SentProbe};
-ghost use Rattle.addr_table.specs.Sends.{sends};
-ghost use Rattle.addr_table.specs.Rooms.{may_hold_more, IsFixable};
-ghost use Rattle.addr_history.specs.Probes.{probes_between};
+ghost use Rattle.savi_access.specs.Rows.{state_in, count_at, pair_of};
+ghost use Rattle.savi_access.specs.Ages.{aged_rows, AllStill};
+ghost use Rattle.savi_access.specs.declared.sent.SentProbe.{SentProbe};
+ghost use Rattle.savi_access.specs.Sends.{sends};
+ghost use Rattle.savi_access.specs.Rooms.{may_hold_more, IsFixable};
+ghost use Rattle.savi_access.specs.Probes.{probes_between};
 ghost use Rattle.savi_access.specs.Rules.{AccessRules, AccessBase, nothing_yet};
 ghost use Rattle.savi_access.specs.Marks.{Mark, Asked, Met, told, open_requests};
 ghost use Rattle.savi_access.specs.Plans.{rules_of};
@@ -73,13 +72,6 @@ impl AccessTable {
         ensures same { self.new ≡ self.old }
     {
         self.addresses.is_due(t)
-    }
-
-    /// Whether an address is live at a port. O(1) on average.
-    pub fn live(&self, a: Addr, port: Port) -> bool
-        ensures { IsTrue result ↔ IsLiveAt (state_in self.now.addresses.rows a.0) port }
-    {
-        self.addresses.live(a, port)
     }
 
     /// How many addresses the port holds. O(1).

@@ -5,8 +5,9 @@ use Rattle.std.proofs.lemmas.Bool.{cases_Bool, cases_eq, eqb-true, eq-eqb}
 use Rattle.addr_index.specs.declared.entry.Entry.{Entry}
 use Rattle.addr_index.specs.Indexes.{is_of, HasOneEach}
 use Rattle.addr_index.specs.Homes.{home_of}
-use Rattle.addr_index.specs.Ways.{IsOnWay, IsOffWay, IsRound, IsPassedPlace, IsAhead}
-use Rattle.addr_index.specs.Places.{in_place, entries_of, IsReached, IsReachedBut, IsOther, IsRoomFor, HasSameEntries, ClosesGap}
+use Rattle.addr_index.specs.Ways.{IsOnWay, IsOffWay, IsRound}
+use Rattle.addr_index.specs.Places.{in_place, entries_of, IsReached, IsReachedBut, IsRoomFor, HasSameEntries}
+use Rattle.addr_index.proofs.Gaps.{IsPassedPlace, IsAhead, IsOther, ClosesGap}
 use Rattle.addr_index.proofs.Ways.{end_off, on_off, by_gap, shorter, further, beside, cases_passed, passed_ahead, way_passed, ahead_by, none_ahead, passed_at, passed_later, not_passed, ahead_more}
 use Rattle.addr_index.proofs.Filling.{found_place, absent_places, find_filled, count_filled, length_filled, find_emptied, count_emptied, length_emptied, empty_place}
 

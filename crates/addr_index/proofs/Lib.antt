@@ -1,3 +1,4 @@
+pub mod Gaps
 pub mod Entries
 pub mod Ways
 pub mod Filling

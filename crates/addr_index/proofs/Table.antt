@@ -1,5 +1,5 @@
 -- The table when an entry is taken in or given up.
-use Rattle.std.proofs.Common.{◌≡◌, ◌≢◌, ◌==◌, ◌≤◌, ◌<◌, ◌+◌, ◌-◌, ◌*◌, ◌^◌, ℕ, zero, suc, Bool, true, false, cond, is_some, List, [], ◌∷◌, length, get_or, find, Option, Some, None, option_map, refl, sym, ◌∙◌, ap, subst, arith, inl, inr, get_or-set_other, get_or-set_same}
+use Rattle.std.proofs.Common.{◌≡◌, ◌≢◌, ◌==◌, ◌≤◌, ◌<◌, ◌+◌, ◌*◌, ◌^◌, ℕ, zero, suc, Bool, true, false, cond, is_some, List, [], ◌∷◌, length, get_or, find, Option, Some, None, option_map, refl, sym, ◌∙◌, ap, subst, arith, inl, inr, get_or-set_other, get_or-set_same}
 use Rattle.std.proofs.Math.ListN.{set, length-set}
 use Rattle.std.proofs.lemmas.Bool.{cases_Bool, cases_eq, eqb-true}
 use Rattle.addr_index.specs.declared.entry.Entry.{Entry}
@@ -44,8 +44,8 @@ place_absent places most a p each place absent =
     cc
 
 -- an entry is taken in
-pub IsTable-insert : (places : List (Option Entry)) (len most p : ℕ) (e : Entry) → IsPlaceTable places len most → IsRoomFor e.address places p → len < most → IsPlaceTable (set places p (Some e)) (len + 1) most
-IsTable-insert places len most p e table room less = record {
+pub IsTable-insert : (places : List (Option Entry)) (most p : ℕ) (e : Entry) → IsPlaceTable places most → IsRoomFor e.address places p → length (entries_of places) < most → IsPlaceTable (set places p (Some e)) most
+IsTable-insert places most p e table room less = record {
   reached = rw (length-set {A = Option Entry} places p (Some e)) reached;
   distinct = λ b. (elim (cases_Bool (is_of b e)) [
     | inl is ↦
@@ -57,8 +57,7 @@ IsTable-insert places len most p e table room less = record {
         let none : ◌≡◌ {A = ℕ} (cond (is_of b e) 1 0) 0 = rw isnt refl in
         omega (arith, count_filled places p e b room.within room.empty, none, table.distinct b)
   ]);
-  count = omega (arith, length_filled places p e room.within room.empty, table.count);
-  room = omega (arith, less);
+  room = omega (arith, length_filled places p e room.within room.empty, less);
   some = table.some;
   sparse = rw length-set table.sparse;
   limit = rw length-set table.limit;
@@ -102,12 +101,11 @@ length_removed places a p place =
     length_emptied places p e there
 
 -- an entry is given up
-pub IsTable-remove : (places new : List (Option Entry)) (len most a p : ℕ) → IsPlaceTable places len most → IsPlaceOf a places p → HasSameEntries (set places p None) new → IsReached (length new) new → length new ≡ length places → IsPlaceTable new (len - 1) most
-IsTable-remove places new len most a p table place same reached size = record {
+pub IsTable-remove : (places new : List (Option Entry)) (most a p : ℕ) → IsPlaceTable places most → IsPlaceOf a places p → HasSameEntries (set places p None) new → IsReached (length new) new → length new ≡ length places → IsPlaceTable new most
+IsTable-remove places new most a p table place same reached size = record {
   reached = reached;
   distinct = same.distinct;
-  count = omega (arith, same.count, length_removed places a p place, table.count);
-  room = omega (arith, table.room);
+  room = omega (arith, same.count, length_removed places a p place, table.room);
   some = table.some;
   sparse = omega (arith, size, table.sparse);
   limit = omega (arith, size, table.limit);
@@ -129,12 +127,11 @@ length_remove places new most a p each place same =
     omega (arith, one, same.count, length_removed places a p place)
 
 -- no entry
-pub IsTable-empty : (places : List (Option Entry)) (most : ℕ) → ((p : ℕ) → p < length places → in_place places p ≡ None) → 1 ≤ most → 2 * most ≤ length places → length places ≤ 2 ^ 22 → IsPlaceTable places 0 most
+pub IsTable-empty : (places : List (Option Entry)) (most : ℕ) → ((p : ℕ) → p < length places → in_place places p ≡ None) → 1 ≤ most → 2 * most ≤ length places → length places ≤ 2 ^ 22 → IsPlaceTable places most
 IsTable-empty places most empty some sparse limit = record {
   reached = λ p x e there on within none. (let nothing : in_place places p ≡ None = empty p (within_places places p e there) in cc);
   distinct = λ b. rw nowhere (omega arith);
-  count = ap length nowhere;
-  room = omega arith;
+  room = omega (arith, ap length nowhere);
   some = some;
   sparse = sparse;
   limit = limit;

@@ -1,7 +1,8 @@
 -- Ways along the ring of places.
 use Rattle.std.proofs.Common.{◌≢◌, ◌≤◌, ◌<◌, ◌+◌, ◌⊎◌, ℕ, inl, inr, arith}
 use Rattle.std.proofs.lemmas.Bool.{cases_lt}
-use Rattle.addr_index.specs.Ways.{IsOnWay, IsOffWay, IsRound, IsPassedPlace, IsAhead}
+use Rattle.addr_index.specs.Ways.{IsOnWay, IsOffWay, IsRound}
+use Rattle.addr_index.proofs.Gaps.{IsPassedPlace, IsAhead}
 
 -- the end of a way isn't on it
 pub end_off : (a b : ℕ) → IsOnWay a b b → ⊥

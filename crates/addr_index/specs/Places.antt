@@ -5,7 +5,7 @@ use Rattle.std.specs.Option.{option_map}
 use Rattle.addr_index.specs.declared.entry.Entry.{Entry}
 use Rattle.addr_index.specs.Indexes.{is_of, HasOneEach}
 use Rattle.addr_index.specs.Homes.{home_of}
-use Rattle.addr_index.specs.Ways.{IsOnWay, IsOffWay, IsRound, IsPassedPlace, IsAhead}
+use Rattle.addr_index.specs.Ways.{IsOnWay, IsOffWay}
 
 -- the entry of an address, given by its upper and its lower 64 bits, and its key, where there is one
 abbrev pub entry_if : Bool → ℕ → ℕ → ℕ → Option Entry
@@ -27,11 +27,6 @@ IsReached count places = (place passed : ℕ) (entry : Entry) → in_place place
 abbrev pub IsReachedBut : ℕ → ℕ → ℕ → List (Option Entry) → Type 0
 IsReachedBut count gap at places = (place passed : ℕ) (entry : Entry) → in_place places place ≡ Some entry → IsOnWay (home_of entry.address count) place passed → passed < count → in_place places passed ≡ None → (passed ≡ gap) × IsOffWay gap at place
 
--- a place has the entry of another address
-abbrev pub IsOther : ℕ → Option Entry → Type 0
-IsOther address None = ⊥
-IsOther address (Some entry) = entry.address ≢ address
-
 -- the place of an address
 pub record IsPlaceOf (address : ℕ) (places : List (Option Entry)) (place : ℕ) : Type 0 where
   pub within : place < length places
@@ -50,24 +45,12 @@ pub record HasSameEntries (old new : List (Option Entry)) : Type 0 where
   pub count : length (entries_of new) ≡ length (entries_of old)
   pub distinct : HasOneEach (entries_of new)
 
--- the places of an index of so many entries, with room for so many
-pub record IsPlaceTable (places : List (Option Entry)) (len most : ℕ) : Type 0 where
+-- the places of an index with room for so many entries
+pub record IsPlaceTable (places : List (Option Entry)) (most : ℕ) : Type 0 where
   pub reached : IsReached (length places) places
   pub distinct : HasOneEach (entries_of places)
-  pub count : length (entries_of places) ≡ len
-  pub room : len ≤ most
+  pub room : length (entries_of places) ≤ most
   pub some : 1 ≤ most
   -- half of the places stay empty at least
   pub sparse : 2 * most ≤ length places
   pub limit : length places ≤ 2 ^ 22
-
--- how far a gap is closed among so many places, after so many steps from the emptied one on
-pub record ClosesGap (count : ℕ) (initial places : List (Option Entry)) (emptied steps gap : ℕ) : Type 0 where
-  pub size : length places ≡ count
-  pub same : HasSameEntries initial places
-  pub within : gap < count
-  pub empty : in_place places gap ≡ None
-  pub passed : IsPassedPlace count emptied steps gap
-  pub reached : (at : ℕ) → IsRound count (emptied + steps) at → IsReachedBut count gap at places
-  -- an empty place is still ahead
-  pub ahead : (place : ℕ) × (place < count) × IsAhead count emptied steps place × (in_place places place ≡ None)

@@ -18,13 +18,3 @@ pub record IsRound (places steps place : ℕ) : Type 0 where
   pub within : place < places
   pub straight : steps < places → place ≡ steps
   pub round : places ≤ steps → place + places ≡ steps
-
--- a place that is passed by so many steps from another one on
-pub record IsPassedPlace (places from steps place : ℕ) : Type 0 where
-  pub straight : from ≤ place → place < from + steps
-  pub round : place < from → place + places < from + steps
-
--- one that isn't
-pub record IsAhead (places from steps place : ℕ) : Type 0 where
-  pub straight : from ≤ place → from + steps ≤ place
-  pub round : place < from → from + steps ≤ place + places

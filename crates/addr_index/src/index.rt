@@ -1,8 +1,7 @@
 //! The index.
 
-ghost use Rattle.std.specs.Prelude.{◌≡◌, ◌==◌, ◌≤◌, ◌<◌, ◌+◌, ◌^◌, ◌↔◌, ℕ, [], Some, None, is_some, if◌then◌else◌, length, IfOk, IsTrue};
-ghost use Rattle.std.specs.Bool.{MatchBool};
-ghost use Rattle.addr_index.specs.Indexes.{Index, key_in, HasOneEach};
+ghost use Rattle.std.specs.Prelude.{◌≡◌, ◌==◌, ◌≤◌, ◌<◌, ◌+◌, ◌^◌, ℕ, [], Some, None, is_some, if◌then◌else◌, length, IfOk};
+ghost use Rattle.addr_index.specs.Indexes.{Index, key_in};
 
 use crate::entry::Entry;
 use crate::place::Place;
@@ -19,7 +18,6 @@ use std::marker::Model;
 #[derive(Drop)]
 pub struct AddrIndex {
     places: Vec<Place>,
-    len: u32,
     most: u32,
 }
 
@@ -31,7 +29,7 @@ impl Model for AddrIndex {
 
     ghost view = { λ i. record { entries = entries_of i.places.items; most = i.most } };
 
-    ghost invariant = { λ i. IsPlaceTable i.places.items i.len i.most };
+    ghost invariant = { λ i. IsPlaceTable i.places.items i.most };
 }
 
 impl AddrIndex {
@@ -46,11 +44,7 @@ impl AddrIndex {
         for _ in 0..count {
             places.push(Place::empty())?;
         }
-        Ok(AddrIndex {
-            places,
-            len: 0,
-            most,
-        })
+        Ok(AddrIndex { places, most })
     }
 
     /// The key of an address: None exactly where the index doesn't hold it. O(1) on average.
@@ -75,10 +69,7 @@ impl AddrIndex {
     {
         match search(&self.places, a.0) {
             Ok(_) => unreachable!(),
-            Err(place) => {
-                self.places[place] = Place::of(Entry { address: a.0, key });
-                self.len += 1;
-            }
+            Err(place) => self.places[place] = Place::of(Entry { address: a.0, key }),
         }
     }
 
@@ -92,30 +83,6 @@ impl AddrIndex {
         if let Ok(place) = search(&self.places, a.0) {
             self.places[place] = Place::empty();
             close_gap(&mut self.places, place);
-            self.len -= 1;
         }
-    }
-
-    /// Whether the index holds no address. O(1).
-    pub fn is_empty(&self) -> bool
-        ensures { IsTrue result ↔ (length self.now.entries ≡ 0) }
-    {
-        self.len == 0
-    }
-
-    /// Whether the index holds as many addresses as it has room for. O(1).
-    pub fn is_full(&self) -> bool
-        ensures { MatchBool result (length self.now.entries ≡ self.now.most) (length self.now.entries < self.now.most) }
-    {
-        self.len == self.most
-    }
-
-    /// How many addresses the index holds, at most those that it has room for, and each once. O(1).
-    pub fn len(&self) -> u32
-        ensures len { result ≡ length self.now.entries }
-        ensures limit { length self.now.entries ≤ self.now.most }
-        ensures distinct { HasOneEach self.now.entries }
-    {
-        self.len
     }
 }

@@ -7,12 +7,14 @@ use Rattle.std.proofs.lemmas.List.Elements.{filter-append}
 use Rattle.fcfs_states.specs.declared.times.Times.{Times}
 use Rattle.mix_rules.specs.declared.state.AddrState.{AddrState}
 use Rattle.mix_rules.specs.Ageing.{due_next as due_of}
-use Rattle.bind_table.specs.declared.row.Row.{Row}
-use Rattle.bind_table.specs.Rows.{address_of, state_in, with_state, IsRising}
-use Rattle.bind_table.proofs.Parts.{none_there}
+use Rattle.savi_access.specs.declared.row.Row.{Row}
+use Rattle.savi_kinds.specs.Orders.{IsRising, is_below, is_above}
+use Rattle.savi_kinds.proofs.Orders.{rising-head, rising-tail}
+use Rattle.savi_access.specs.Rows.{address_of, state_in, with_state}
+use Rattle.savi_access.proofs.Parts.{none_there}
 use Rattle.timer_wheel.specs.declared.armed.Armed.{Armed}
-use Rattle.timer_wheel.specs.Arms.{is_below, is_above, due_in, pair_for, with_due}
-use Rattle.addr_table.specs.Ages.{dues}
+use Rattle.timer_wheel.specs.Arms.{armed_address, due_in, pair_for, with_due}
+use Rattle.addr_table.specs.Dues.{dues}
 use Rattle.addr_table.proofs.Splits.{lower, higher, flat-with}
 
 -- a filter over what it left, and over what another one left that shares nothing with it
@@ -35,20 +37,20 @@ filter_apart p q apart (x ∷ xs) =
 -- to arm an address that was taken out
 pub due_again : (a : ℕ) (due : Option ℕ) (arms : List Armed) → with_due a due (with_due a None arms) ≡ with_due a due arms
 due_again a due arms =
-    let front : List Armed = filter (is_below a) arms in
-    let back : List Armed = filter (is_above a) arms in
-    let below : filter (is_below a) (front ++ back) ≡ front =
-    filter-append (is_below a) front back
-    ∙ ap (λ xs. xs ++ filter (is_below a) back) (filter_twice (is_below a) arms)
-    ∙ ap (λ xs. front ++ xs) (filter_apart (is_above a) (is_below a) (λ x above. le-ltb x.address.0 a (let more : a < x.address.0 = ltb-true a x.address.0 above in omega (arith, more))) arms)
+    let front : List Armed = filter (is_below armed_address a) arms in
+    let back : List Armed = filter (is_above armed_address a) arms in
+    let below : filter (is_below armed_address a) (front ++ back) ≡ front =
+    filter-append (is_below armed_address a) front back
+    ∙ ap (λ xs. xs ++ filter (is_below armed_address a) back) (filter_twice (is_below armed_address a) arms)
+    ∙ ap (λ xs. front ++ xs) (filter_apart (is_above armed_address a) (is_below armed_address a) (λ x above. le-ltb x.address.0 a (let more : a < x.address.0 = ltb-true a x.address.0 above in omega (arith, more))) arms)
     ∙ append-nil front
     in
-    let above : filter (is_above a) (front ++ back) ≡ back =
-    filter-append (is_above a) front back
-    ∙ ap (λ xs. xs ++ filter (is_above a) back) (filter_apart (is_below a) (is_above a) (λ x low. le-ltb a x.address.0 (let less : x.address.0 < a = ltb-true x.address.0 a low in omega (arith, less))) arms)
-    ∙ filter_twice (is_above a) arms
+    let above : filter (is_above armed_address a) (front ++ back) ≡ back =
+    filter-append (is_above armed_address a) front back
+    ∙ ap (λ xs. xs ++ filter (is_above armed_address a) back) (filter_apart (is_below armed_address a) (is_above armed_address a) (λ x low. le-ltb a x.address.0 (let less : x.address.0 < a = ltb-true x.address.0 a low in omega (arith, less))) arms)
+    ∙ filter_twice (is_above armed_address a) arms
     in
-    ap (λ xs. xs ++ (pair_for a due ++ filter (is_above a) (front ++ back))) below ∙ ap (λ xs. front ++ (pair_for a due ++ xs)) above
+    ap (λ xs. xs ++ (pair_for a due ++ filter (is_above armed_address a) (front ++ back))) below ∙ ap (λ xs. front ++ (pair_for a due ++ xs)) above
 
 module _ (k : Times) where
   pair_passes : (p : ℕ → Bool) (a : ℕ) → p a ≡ true → (d : Option ℕ) → filter (λ (armed : Armed). p armed.address.0) (pair_for a d) ≡ pair_for a d
@@ -75,7 +77,7 @@ module _ (k : Times) where
   -- to change a state is to arm its address anew
   pub arms-with : (a : ℕ) (state : AddrState) (rows : List Row) → with_due a (due_of k state) (dues k rows) ≡ dues k (with_state a state rows)
   arms-with a state rows =
-      ap (λ xs. xs ++ (pair_for a (due_of k state) ++ filter (is_above a) (dues k rows))) (sym (dues-filter (λ n. nat_lt n a) rows))
+      ap (λ xs. xs ++ (pair_for a (due_of k state) ++ filter (is_above armed_address a) (dues k rows))) (sym (dues-filter (λ n. nat_lt n a) rows))
       ∙ ap (λ xs. dues k (lower a rows) ++ (pair_for a (due_of k state) ++ xs)) (sym (dues-filter (λ n. nat_lt a n) rows))
       ∙ sym (dues-with a state rows)
 
@@ -102,12 +104,12 @@ module _ (k : Times) where
   pair_other b a other None rest = refl
   pair_other b a other (Some due) rest = rw other refl
 
-  pub dues-at : (rows : List Row) → IsRising rows → (a : ℕ) → due_in (dues k rows) a ≡ due_of k (state_in rows a)
+  pub dues-at : (rows : List Row) → IsRising address_of rows → (a : ℕ) → due_in (dues k rows) a ≡ due_of k (state_in rows a)
   dues-at [] rising a = refl
   dues-at (row ∷ rows) rising a =
       elim (cases_Bool (address_of row == a)) [
         | inl here ↦
-            let high : AllByRecursion (λ other. a < address_of other) rows = subst (λ n. AllByRecursion (λ other. n < address_of other) rows) (eqb-true (address_of row) a here) rising.0 in
-            rw here (pair_there (address_of row) a here (due_of k row.state) (dues k rows) (dues-at rows rising.1 a ∙ ap (due_of k) (none_there a rows high)))
-        | inr other ↦ rw other (pair_other (address_of row) a other (due_of k row.state) (dues k rows) ∙ dues-at rows rising.1 a)
+            let high : AllByRecursion (λ other. a < address_of other) rows = subst (λ n. AllByRecursion (λ other. n < address_of other) rows) (eqb-true (address_of row) a here) (rising-head address_of row rows rising) in
+            rw here (pair_there (address_of row) a here (due_of k row.state) (dues k rows) (dues-at rows (rising-tail address_of row rows rising) a ∙ ap (due_of k) (none_there a rows high)))
+        | inr other ↦ rw other (pair_other (address_of row) a other (due_of k row.state) (dues k rows) ∙ dues-at rows (rising-tail address_of row rows rising) a)
       ]

@@ -6,14 +6,19 @@ use Rattle.savi_kinds.specs.declared.address.Addr.{Addr}
 use Rattle.fcfs_states.specs.declared.times.Times.{Times}
 use Rattle.mix_rules.specs.States.{nobody}
 use Rattle.mix_rules.specs.Ageing.{due_next}
-use Rattle.bind_table.specs.declared.row.Row.{Row}
-use Rattle.bind_table.specs.Rows.{address_of, state_in, IsRising}
-use Rattle.bind_table.proofs.Parts.{none_there, other_address}
+use Rattle.savi_access.specs.declared.row.Row.{Row}
+use Rattle.savi_kinds.specs.Orders.{IsRising}
+use Rattle.savi_kinds.proofs.Orders.{rising-head, rising-tail}
+use Rattle.savi_access.specs.Rows.{address_of, state_in}
+use Rattle.savi_access.proofs.Parts.{none_there, other_address, all_weaker}
 use Rattle.timer_wheel.specs.declared.armed.Armed.{Armed}
 use Rattle.timer_wheel.specs.Arms.{pair_for, sooner, first_armed, due_within}
-use Rattle.timer_wheel.specs.Laws.{IsNoLater}
-use Rattle.addr_table.specs.Ages.{dues, first_due}
-use Rattle.addr_table.proofs.Lists.{all_weaker}
+use Rattle.timer_wheel.proofs.Pointwise.{IsNoLater}
+use Rattle.addr_table.specs.Dues.{dues}
+
+-- what is due first of all, the least by moment and then by address
+abbrev pub first_due : Times → List Row → Option (ℕ × Addr)
+first_due k rows = first_armed (dues k rows)
 
 abbrev some_or : {X : Type 0} → X → Option X → X
 some_or d None = d
@@ -56,21 +61,21 @@ module _ (k : Times) where
       (both.0, first_none rows both.1)
 
   -- what is due is due for a row
-  has_row : (a due : ℕ) (row : Row) (rows : List Row) → IsRising (row ∷ rows) → due_next k (state_in rows a) ≡ Some due → state_in (row ∷ rows) a ≡ state_in rows a
+  has_row : (a due : ℕ) (row : Row) (rows : List Row) → IsRising address_of (row ∷ rows) → due_next k (state_in rows a) ≡ Some due → state_in (row ∷ rows) a ≡ state_in rows a
   has_row a due row rows rising own = rw (other_address (address_of row) a apart) refl
     where
       apart : address_of row ≡ a → ⊥
       apart same =
-          let none : state_in rows a ≡ nobody = none_there a rows (subst (λ n. AllByRecursion (λ other. n < address_of other) rows) same rising.0) in
+          let none : state_in rows a ≡ nobody = none_there a rows (subst (λ n. AllByRecursion (λ other. n < address_of other) rows) same (rising-head address_of row rows rising)) in
           let never : due_next k (state_in rows a) ≡ None = ap (due_next k) none in
           cc
 
   -- a row that is due no later than what is first of those behind it
-  head_first : (row : Row) (rows : List Row) (n : ℕ) → IsRising (row ∷ rows) → due_next k row.state ≡ Some n → AllByRecursion (λ other. (m : ℕ) → due_next k other.state ≡ Some m → n ≤ m) rows → IsFirst n (address_of row) (row ∷ rows)
+  head_first : (row : Row) (rows : List Row) (n : ℕ) → IsRising address_of (row ∷ rows) → due_next k row.state ≡ Some n → AllByRecursion (λ other. (m : ℕ) → due_next k other.state ≡ Some m → n ≤ m) rows → IsFirst n (address_of row) (row ∷ rows)
   head_first row rows n rising is later =
       record {
         own = rw (eq-eqb (address_of row) (address_of row) refl) is;
-        least = (λ m e. let same : n ≡ m = some-same n m (sym is ∙ e) in inr (same, (omega arith)), behind rows rising.0 later);
+        least = (λ m e. let same : n ≡ m = some-same n m (sym is ∙ e) in inr (same, (omega arith)), behind rows (rising-head address_of row rows rising) later);
       }
     where
       behind : (others : List Row) → AllByRecursion (λ other. address_of row < address_of other) others → AllByRecursion (λ other. (m : ℕ) → due_next k other.state ≡ Some m → n ≤ m) others → AllByRecursion (IsNoSooner n (address_of row)) others
@@ -87,7 +92,7 @@ module _ (k : Times) where
   never_sooner n rows never = all_weaker IsNeverDue (λ other. (m : ℕ) → due_next k other.state ≡ Some m → n ≤ m) (λ other h m e. let both : None ≡ Some m = sym h ∙ e in cc) rows never
 
   -- the least of all is that of the row in front or of those behind it
-  first_cons : (row : Row) (rows : List Row) → IsRising (row ∷ rows) → (n : ℕ) → due_next k row.state ≡ Some n → ((due : ℕ) (a : Addr) → first_due k rows ≡ Some (due, a) → IsFirst due a.0 rows) → (o : Option (ℕ × Addr)) → first_due k rows ≡ o → (due : ℕ) (a : Addr) → sooner (armed_for row n) o ≡ Some (due, a) → IsFirst due a.0 (row ∷ rows)
+  first_cons : (row : Row) (rows : List Row) → IsRising address_of (row ∷ rows) → (n : ℕ) → due_next k row.state ≡ Some n → ((due : ℕ) (a : Addr) → first_due k rows ≡ Some (due, a) → IsFirst due a.0 rows) → (o : Option (ℕ × Addr)) → first_due k rows ≡ o → (due : ℕ) (a : Addr) → sooner (armed_for row n) o ≡ Some (due, a) → IsFirst due a.0 (row ∷ rows)
   first_cons row rows rising n is later None rest due a first =
       let same : (n, row.address) ≡ (due, a) = some-same (n, row.address) (due, a) first in
       subst (λ (p : ℕ × Addr). IsFirst p.0 p.1.0 (row ∷ rows)) same (head_first row rows n rising is (never_sooner n rows (first_none rows rest)))
@@ -109,7 +114,7 @@ module _ (k : Times) where
             })
       ]
 
-  first_row : (row : Row) (rows : List Row) → IsRising (row ∷ rows) → ((due : ℕ) (a : Addr) → first_due k rows ≡ Some (due, a) → IsFirst due a.0 rows) → (d : Option ℕ) → due_next k row.state ≡ d → (due : ℕ) (a : Addr) → first_armed (pair_for (address_of row) d ++ dues k rows) ≡ Some (due, a) → IsFirst due a.0 (row ∷ rows)
+  first_row : (row : Row) (rows : List Row) → IsRising address_of (row ∷ rows) → ((due : ℕ) (a : Addr) → first_due k rows ≡ Some (due, a) → IsFirst due a.0 rows) → (d : Option ℕ) → due_next k row.state ≡ d → (due : ℕ) (a : Addr) → first_armed (pair_for (address_of row) d ++ dues k rows) ≡ Some (due, a) → IsFirst due a.0 (row ∷ rows)
   first_row row rows rising later None is due a first =
       let behind : IsFirst due a.0 rows = later due a first in
       record {
@@ -118,12 +123,12 @@ module _ (k : Times) where
       }
   first_row row rows rising later (Some n) is due a first = first_cons row rows rising n is later (first_due k rows) refl due a first
 
-  pub first_is : (rows : List Row) → IsRising rows → (due : ℕ) (a : Addr) → first_due k rows ≡ Some (due, a) → IsFirst due a.0 rows
+  pub first_is : (rows : List Row) → IsRising address_of rows → (due : ℕ) (a : Addr) → first_due k rows ≡ Some (due, a) → IsFirst due a.0 rows
   first_is [] rising due a first = cc
-  first_is (row ∷ rows) rising due a first = first_row row rows rising (first_is rows rising.1) (due_next k row.state) refl due a first
+  first_is (row ∷ rows) rising due a first = first_row row rows rising (first_is rows (rising-tail address_of row rows rising)) (due_next k row.state) refl due a first
 
   -- where nothing is due by t, each row is due later, if at all
-  pub all_late : (t : ℕ) (rows : List Row) → IsRising rows → (o : Option (ℕ × Addr)) → first_due k rows ≡ o → due_within t o ≡ None → AllByRecursion (λ row. (n : ℕ) → due_next k row.state ≡ Some n → t < n) rows
+  pub all_late : (t : ℕ) (rows : List Row) → IsRising address_of rows → (o : Option (ℕ × Addr)) → first_due k rows ≡ o → due_within t o ≡ None → AllByRecursion (λ row. (n : ℕ) → due_next k row.state ≡ Some n → t < n) rows
   all_late t rows rising None first none = all_weaker IsNeverDue (λ row. (n : ℕ) → due_next k row.state ≡ Some n → t < n) (λ row h n e. let both : None ≡ Some n = sym h ∙ e in cc) rows (first_none rows first)
   all_late t rows rising (Some f) first none =
       elim (cases_Bool (nat_le f.0 t)) [

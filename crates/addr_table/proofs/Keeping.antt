@@ -17,19 +17,19 @@ use Rattle.mix_rules.specs.Next.{next_state}
 use Rattle.mix_rules.specs.Holders.{MakesHolder}
 use Rattle.mix_rules.proofs.AgeingLemmas.{aged-sound}
 use Rattle.mix_rules.proofs.HolderLemmas.{next-held, aged-held}
-use Rattle.bind_table.specs.declared.row.Row.{Row}
-use Rattle.bind_table.specs.Rows.{state_in, rows_of, with_state, count_at, IsTable}
-use Rattle.bind_table.specs.Counts.{held_once}
-use Rattle.bind_table.proofs.Parts.{rising_with, stand_with, state_cases}
-use Rattle.bind_table.proofs.Pointwise.{changed_at}
-use Rattle.bind_table.proofs.Held.{recounted}
+use Rattle.savi_access.specs.declared.row.Row.{Row}
+use Rattle.savi_access.specs.Rows.{state_in, rows_of, with_state, count_at, IsTable}
+use Rattle.savi_access.proofs.Held.{held_once, recounted}
+use Rattle.savi_access.proofs.Parts.{rising_with, stand_with, state_cases}
+use Rattle.savi_access.proofs.Pointwise.{changed_at}
 use Rattle.timer_wheel.specs.Arms.{due_in, with_due}
-use Rattle.addr_table.specs.Ages.{dues}
-use Rattle.addr_table.specs.Keeps.{IsWithinPorts, IsWithinRules, IsSoundBy, AreSound}
-use Rattle.addr_table.specs.Rooms.{room_for, may_hold_more, IsFixable}
+use Rattle.addr_table.specs.Dues.{dues}
+use Rattle.savi_access.specs.Keeps.{IsWithinPorts, IsWithinRules, IsSoundBy, AreSound}
+use Rattle.savi_access.specs.Rooms.{room_for, may_hold_more, IsFixable}
 use Rattle.addr_table.proofs.Arms.{arms-with, length-others, dues-at}
 use Rattle.addr_table.proofs.States.{nobody-aged}
-use Rattle.addr_table.proofs.Rooms.{held-test, test-held, rows_most}
+use Rattle.savi_access.proofs.Holding.{held-told, told-held}
+use Rattle.savi_access.proofs.RowCounts.{rows_within}
 use Rattle.addr_table.proofs.Splits.{lower, higher, own_parts, length-with, gone_is}
 
 -- what holds of each address holds after a change of one
@@ -69,12 +69,12 @@ within_with per_port rows a state table within allowed p = by_test (is_held_at (
 
     by_holder : held_once (number_of p) state ≡ 1 → IsHeldAt (state_in rows a) p ⊎ (count_at (number_of p) rows < per_port) → count_at (number_of p) (with_state a state rows) ≤ per_port
     by_holder once (inl held) =
-        let was : held_once (number_of p) (state_in rows a) ≡ 1 = rw (held-test (state_in rows a) p held) refl in
+        let was : held_once (number_of p) (state_in rows a) ≡ 1 = rw (told-held (state_in rows a) p held) refl in
         omega (arith, counted, once, was, within p)
     by_holder once (inr room) = omega (arith, counted, once, room)
 
     by_test : (b : Bool) → is_held_at (number_of p) state ≡ b → count_at (number_of p) (with_state a state rows) ≤ per_port
-    by_test true is = by_holder (rw is refl) (allowed p (test-held state p is))
+    by_test true is = by_holder (rw is refl) (allowed p (held-told state p is))
     by_test false is = let none : held_once (number_of p) state ≡ 0 = rw is refl in omega (arith, counted, none, within p)
 
 pub kept_with : (k : Times) (per_port : ℕ) (rows : List Row) (a : ℕ) (state : AddrState) → IsWithinRules k per_port rows → AllMomentsFit state → IsAllowed per_port rows a state → IsWithinRules k per_port (with_state a state rows)
@@ -103,16 +103,16 @@ made per_port rows a TpNa p fixable free makes = absurd makes
 made per_port rows a (Lease r valid) p fixable free makes = room_of per_port rows r p makes.0 makes.1
 made per_port rows a (Release r) p fixable free makes = absurd makes
 made per_port rows a (Fix f) p (inl room) free makes = room_of per_port rows f p makes room
-made per_port rows a (Fix f) p (inr held) free makes = absurd (free (test-held (state_in rows a) p (subst (λ n. is_held_at n (state_in rows a) ≡ true) makes (held-test (state_in rows a) f held))))
+made per_port rows a (Fix f) p (inr held) free makes = absurd (free (held-told (state_in rows a) p (subst (λ n. is_held_at n (state_in rows a) ≡ true) makes (told-held (state_in rows a) f held))))
 made per_port rows a Clear p fixable free makes = absurd makes
 
 pub event-allowed : (m : Method) (k : Times) (t per_port : ℕ) (rows : List Row) (a : ℕ) (event : Ev) → IsFixable per_port rows a event → IsAllowed per_port rows a (next_state m k t (room_for per_port rows event) (state_in rows a) event).1
 event-allowed m k t per_port rows a event fixable p held = by_test (is_held_at (number_of p) (state_in rows a)) refl
   where
     by_test : (b : Bool) → is_held_at (number_of p) (state_in rows a) ≡ b → IsHeldAt (state_in rows a) p ⊎ (count_at (number_of p) rows < per_port)
-    by_test true is = inl (test-held (state_in rows a) p is)
+    by_test true is = inl (held-told (state_in rows a) p is)
     by_test false is =
-        let free : ¬ IsHeldAt (state_in rows a) p = λ was. true≢false (sym (held-test (state_in rows a) p was) ∙ is) in
+        let free : ¬ IsHeldAt (state_in rows a) p = λ was. true≢false (sym (told-held (state_in rows a) p was) ∙ is) in
         inr (made per_port rows a event p fixable free (next-held m k t (room_for per_port rows event) (state_in rows a) event p free held))
 
 -- there is a place for the row and the pair of an address that has a state, or may get one
@@ -124,8 +124,8 @@ module _ (k : Times) (per_port : ℕ) (rows : List Row) (a : ℕ) (state : AddrS
   place = by_one some
     where
       by_one : (has_state (state_in rows a) ≡ true) ⊎ (has_state state ≡ true) → length (lower a rows) + length (higher a rows) < 16 * per_port
-      by_one (inl stands) = omega (arith, rows_most per_port rows kept.table.stand kept.within, ap length (own_parts a rows kept.table), length-with a (state_in rows a) rows, one_row (state_in rows a) stands)
-      by_one (inr stands) = omega (arith, rows_most per_port (with_state a state rows) kept_new.table.stand kept_new.within, length-with a state rows, one_row state stands)
+      by_one (inl stands) = omega (arith, rows_within per_port rows kept.table.stand kept.within, ap length (own_parts a rows kept.table), length-with a (state_in rows a) rows, one_row (state_in rows a) stands)
+      by_one (inr stands) = omega (arith, rows_within per_port (with_state a state rows) kept_new.table.stand kept_new.within, length-with a state rows, one_row state stands)
 
   pub row_place : (most : ℕ) → most ≡ 16 * per_port → (has_state (state_in rows a) ≡ true) ⊎ (length rows < most)
   row_place most is =

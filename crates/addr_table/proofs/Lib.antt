@@ -1,12 +1,11 @@
 pub mod Lists
 pub mod States
 pub mod Splits
-pub mod AgedRows
 pub mod Firsts
 pub mod Quiet
 pub mod Steps
 pub mod Arms
-pub mod Rooms
 pub mod Keeping
 pub mod Turning
 pub mod SameStates
+pub mod TurnsLeft

@@ -1,18 +1,12 @@
 -- Probes put in order, and lists made of lists.
 use Rattle.std.proofs.Common.{◌≡◌, ◌⊎◌, ℕ, ◌<◌, ◌==◌, ◌&&◌, nat_lt, true, false, List, [], ◌∷◌, ◌++◌, append_assoc, refl, sym, ◌∙◌, ap, inl, inr, arith}
 use Rattle.std.specs.List.{AllByRecursion, flat_map}
-use Rattle.std.proofs.lemmas.Bool.{cases_Bool, or_cases, and_parts, or_from, or_left, or_right, and_from, and_left, and_right, ltb-true, eqb-true, lt-ltb, le-ltb, eq-eqb, ne_eqb}
+use Rattle.std.proofs.lemmas.Bool.{cases_Bool, or_cases, and_parts, or_from, and_left, and_right, ltb-true, eqb-true, le-ltb, ne_eqb}
 use Rattle.fcfs_states.specs.declared.answer.Probe.{Probe}
-use Rattle.addr_table.specs.declared.sent.SentProbe.{SentProbe}
-use Rattle.addr_table.specs.Sends.{is_before, put_in, in_order, sent_of}
-
-pub all_weaker : {X : Type 0} (P Q : X → Type 0) → ((x : X) → P x → Q x) → (xs : List X) → AllByRecursion P xs → AllByRecursion Q xs
-all_weaker P Q weaker [] all = tt
-all_weaker P Q weaker (x ∷ xs) all = (weaker x all.0, all_weaker P Q weaker xs all.1)
-
-pub all_joined : {X : Type 0} (P : X → Type 0) (xs ys : List X) → AllByRecursion P xs → AllByRecursion P ys → AllByRecursion P (xs ++ ys)
-all_joined P [] ys front back = back
-all_joined P (x ∷ xs) ys front back = (front.0, all_joined P xs ys front.1 back)
+use Rattle.savi_access.specs.declared.sent.SentProbe.{SentProbe}
+use Rattle.savi_access.specs.Sends.{is_before, put_in, in_order, sent_of}
+use Rattle.savi_access.proofs.Parts.{all_joined}
+use Rattle.savi_access.proofs.Orders.{IsBefore}
 
 pub flat_map-append : {X Y : Type 0} (f : X → List Y) (xs ys : List X) → flat_map f (xs ++ ys) ≡ flat_map f xs ++ flat_map f ys
 flat_map-append f [] ys = refl
@@ -21,17 +15,6 @@ flat_map-append f (x ∷ xs) ys = ap (λ rest. f x ++ rest) (flat_map-append f x
 pub all_flat : {X Y : Type 0} (P : X → Type 0) (Q : Y → Type 0) (f : X → List Y) → ((x : X) → P x → AllByRecursion Q (f x)) → (xs : List X) → AllByRecursion P xs → AllByRecursion Q (flat_map f xs)
 all_flat P Q f each [] all = tt
 all_flat P Q f each (x ∷ xs) all = all_joined Q (f x) (flat_map f xs) (each x all.0) (all_flat P Q f each xs all.1)
-
--- one probe comes before another one
-abbrev pub IsBefore : SentProbe → SentProbe → Type 0
-IsBefore x y = is_before x y ≡ true
-
--- it is due earlier, or at the same moment and for a lower address
-pub before_by : (x y : SentProbe) → (x.due < y.due) ⊎ ((x.due ≡ y.due) × (x.address.0 < y.address.0)) → IsBefore x y
-before_by x y (inl earlier) = or_left (nat_lt x.due y.due) (x.due == y.due && nat_lt x.address.0 y.address.0) (lt-ltb x.due y.due earlier)
-before_by x y (inr same) =
-    or_right (nat_lt x.due y.due) (x.due == y.due && nat_lt x.address.0 y.address.0)
-    (and_from (x.due == y.due) (nat_lt x.address.0 y.address.0) (eq-eqb x.due y.due same.0) (lt-ltb x.address.0 y.address.0 same.1))
 
 pub not_both_before : (x y : SentProbe) → IsBefore x y → is_before y x ≡ false
 not_both_before x y first = by_case (or_cases (nat_lt x.due y.due) (x.due == y.due && nat_lt x.address.0 y.address.0) first)

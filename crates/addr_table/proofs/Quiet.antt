@@ -6,17 +6,17 @@ use Rattle.savi_kinds.specs.declared.address.Addr.{Addr}
 use Rattle.fcfs_states.specs.declared.times.Times.{Times}
 use Rattle.fcfs_states.specs.Premises.{AreTimes}
 use Rattle.mix_rules.specs.Ageing.{AgedAddr, aged_state, due_next, IsStill}
-use Rattle.bind_table.specs.declared.row.Row.{Row}
-use Rattle.bind_table.specs.Rows.{address_of, state_in, rows_of, AllStand, IsTable}
+use Rattle.savi_access.specs.declared.row.Row.{Row}
+use Rattle.savi_access.specs.Rows.{address_of, state_in, rows_of, AllStand, IsTable}
 use Rattle.timer_wheel.specs.Arms.{due_within}
-use Rattle.addr_table.specs.Ages.{aged_row, aged_rows, first_due}
-use Rattle.addr_table.specs.Sends.{sent_of, row_sends, all_sends, in_order}
+use Rattle.savi_access.specs.Ages.{aged_row, aged_rows}
+use Rattle.savi_access.specs.Sends.{sent_of, row_sends, all_sends, in_order}
 use Rattle.addr_table.specs.Turns.{turns_of}
 use Rattle.addr_table.specs.OneTurn.{IsQuiet}
 use Rattle.addr_table.proofs.States.{nobody-still, idle-still, untouched-by, turns_fall}
-use Rattle.addr_table.proofs.AgedRows.{state_in-aged}
-use Rattle.addr_table.proofs.Firsts.{IsFirst, first_is, all_late}
-use Rattle.addr_table.proofs.Lists.{all_weaker}
+use Rattle.savi_access.proofs.Aged.{state_in-aged}
+use Rattle.addr_table.proofs.Firsts.{first_due, IsFirst, first_is, all_late}
+use Rattle.savi_access.proofs.Parts.{all_weaker}
 
 module _ (k : Times) (times : AreTimes k) (t : ℕ) where
   all-still : (rows : List Row) → AllByRecursion (λ row. IsStill k t row.state) rows → (a : ℕ) → IsStill k t (state_in rows a)
@@ -51,7 +51,7 @@ module _ (k : Times) (times : AreTimes k) (t : ℕ) where
   pub changed-by : (rows : List Row) → IsTable rows → (due : ℕ) (a : Addr) → first_due k rows ≡ Some (due, a) → due ≤ t → aged_rows k t rows ≢ rows
   changed-by rows table due a first by same =
       let at : IsFirst k due a.0 rows = first_is k rows table.rising due a first in
-      let kept : (aged_state k t (state_in rows a.0)).state ≡ state_in rows a.0 = sym (state_in-aged k t times rows table.rising a.0) ∙ ap (λ (rs : List Row). state_in rs a.0) same in
+      let kept : (aged_state k t (state_in rows a.0)).state ≡ state_in rows a.0 = sym (state_in-aged k times t rows a.0 table.rising) ∙ ap (λ (rs : List Row). state_in rs a.0) same in
       let less : turns_of (aged_state k t (state_in rows a.0)).state < turns_of (state_in rows a.0) = turns_fall k t (state_in rows a.0) due at.own by in
       let equal : turns_of (aged_state k t (state_in rows a.0)).state ≡ turns_of (state_in rows a.0) = ap turns_of kept in
       omega (arith, less, equal)

@@ -5,18 +5,19 @@ use Rattle.std.proofs.lemmas.Bool.{cases_Bool}
 use Rattle.std.proofs.lemmas.List.{length-append}
 use Rattle.mix_rules.specs.declared.state.AddrState.{AddrState}
 use Rattle.mix_rules.specs.States.{nobody, has_state}
-use Rattle.bind_table.specs.declared.row.Row.{Row}
-use Rattle.bind_table.specs.Rows.{state_in, address_row, rows_of, is_below, is_above, with_state, IsTable}
-use Rattle.bind_table.proofs.Parts.{parts}
+use Rattle.savi_access.specs.declared.row.Row.{Row}
+use Rattle.savi_kinds.specs.Orders.{is_below, is_above}
+use Rattle.savi_access.specs.Rows.{address_of, state_in, address_row, rows_of, with_state, IsTable}
+use Rattle.savi_access.proofs.Parts.{parts}
 use Rattle.addr_table.specs.Turns.{turns_of, turns_left}
 use Rattle.addr_table.proofs.Lists.{flat_map-append}
 
 -- the rows of lower and of higher addresses
 abbrev pub lower : ℕ → List Row → List Row
-lower a rows = filter (is_below a) rows
+lower a rows = filter (is_below address_of a) rows
 
 abbrev pub higher : ℕ → List Row → List Row
-higher a rows = filter (is_above a) rows
+higher a rows = filter (is_above address_of a) rows
 
 pub gone_is : (state : AddrState) → has_state state ≡ false → state ≡ nobody
 gone_is state gone = search rules

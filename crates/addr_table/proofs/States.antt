@@ -21,7 +21,7 @@ use Rattle.mix_rules.specs.Ageing.{AgedAddr, aged_state, bound_at, bound_end, so
 use Rattle.mix_rules.proofs.AgeingLemmas.{still-untouched, aged-still, aged-joins-all}
 use Rattle.mix_rules.proofs.EndLemmas.{due-touched, idle-touched, still-touched}
 use Rattle.addr_table.specs.Turns.{steps_left, ends_left, turns_of}
-use Rattle.addr_table.proofs.Lists.{all_weaker}
+use Rattle.savi_access.proofs.Parts.{all_weaker}
 
 -- each line of the ageing table leaves fewer to follow
 left-passed : (k : Times) (f : Fcfs) (due : ℕ) → due_of k f ≡ Some due → steps_left (after_due k due f) < steps_left f

@@ -8,14 +8,15 @@ use Rattle.fcfs_states.specs.Premises.{AreTimes}
 use Rattle.fcfs_states.specs.Ageing.{probes_behind}
 use Rattle.mix_rules.specs.declared.state.AddrState.{AddrState}
 use Rattle.mix_rules.specs.Ageing.{AgedAddr, aged_state, due_next}
-use Rattle.bind_table.specs.declared.row.Row.{Row}
-use Rattle.bind_table.specs.Rows.{address_of, state_in, rows_of, with_state, IsTable}
-use Rattle.bind_table.proofs.Parts.{all_filtered, below_all, above_all}
-use Rattle.addr_table.specs.declared.sent.SentProbe.{SentProbe}
-use Rattle.addr_table.specs.Ages.{aged_row, aged_rows}
-use Rattle.addr_table.specs.Sends.{sent_of, row_sends, all_sends, in_order, sends}
+use Rattle.savi_access.specs.declared.row.Row.{Row}
+use Rattle.savi_access.specs.Rows.{address_of, state_in, rows_of, with_state, IsTable}
+use Rattle.savi_access.proofs.Parts.{all_filtered, below_all, above_all, all_joined, all_weaker}
+use Rattle.savi_access.specs.declared.sent.SentProbe.{SentProbe}
+use Rattle.savi_access.specs.Ages.{aged_row, aged_rows}
+use Rattle.savi_access.specs.Sends.{sent_of, row_sends, all_sends, in_order, sends}
 use Rattle.addr_table.specs.Turns.{turns_of, turns_left}
-use Rattle.addr_table.proofs.Lists.{IsBefore, before_by, all_joined, all_sent, all_weaker, first_in_order, sent_of-append}
+use Rattle.savi_access.proofs.Orders.{IsBefore, before_by}
+use Rattle.addr_table.proofs.Lists.{all_sent, first_in_order, sent_of-append}
 use Rattle.addr_table.proofs.States.{nobody-aged, probes_from, no_probes, probes_after, way-still, state_by_way, probes_by_way, turns_fall}
 use Rattle.addr_table.proofs.Splits.{lower, higher, own_parts, flat-with, turns_left-with}
 use Rattle.addr_table.proofs.Firsts.{IsNoSooner, IsFirst}

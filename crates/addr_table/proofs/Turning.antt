@@ -13,20 +13,21 @@ use Rattle.mix_rules.specs.States.{has_state, IsSoundFor}
 use Rattle.mix_rules.specs.Ageing.{aged_state, due_next as due_of, IsStill}
 use Rattle.mix_rules.specs.Premises.{AllMomentsFit}
 use Rattle.mix_rules.specs.Next.{Outcome, next_state}
-use Rattle.bind_table.specs.declared.row.Row.{Row}
-use Rattle.bind_table.specs.Rows.{state_in, with_state}
+use Rattle.savi_access.specs.declared.row.Row.{Row}
+use Rattle.savi_access.specs.Rows.{state_in, with_state}
 use Rattle.bind_table.specs.Bindings.{Bindings}
-use Rattle.bind_table.proofs.Parts.{state_cases}
+use Rattle.savi_access.proofs.Parts.{state_cases}
 use Rattle.timer_wheel.specs.declared.armed.Armed.{Armed}
 use Rattle.timer_wheel.specs.Arms.{Wheel, due_in, with_due, first_armed, due_within}
 use Rattle.addr_table.specs.Addresses.{Addresses}
-use Rattle.addr_table.specs.Ages.{dues, first_due, AllStill}
+use Rattle.addr_table.specs.Dues.{dues}
+use Rattle.savi_access.specs.Ages.{AllStill}
 use Rattle.addr_table.specs.Armed.{IsArmed}
-use Rattle.addr_table.specs.Keeps.{IsWithinRules, IsSoundBy, AreSound, StaySound}
+use Rattle.savi_access.specs.Keeps.{IsWithinRules, IsSoundBy, AreSound, StaySound}
 use Rattle.addr_table.specs.OneTurn.{TurnsOnce, IsQuiet}
-use Rattle.addr_table.specs.Rooms.{room_for, IsFixable}
+use Rattle.savi_access.specs.Rooms.{room_for, IsFixable}
 use Rattle.addr_table.proofs.Arms.{due_again, arms-with}
-use Rattle.addr_table.proofs.Firsts.{IsFirst, first_is, first_by}
+use Rattle.addr_table.proofs.Firsts.{first_due, IsFirst, first_is, first_by}
 use Rattle.addr_table.proofs.Keeping.{IsAllowed, each_with, kept_with, aged-allowed, event-allowed, row_place, pair_place, taken_place, sound_with, aged-sound_by}
 use Rattle.addr_table.proofs.Quiet.{quiet}
 use Rattle.addr_table.proofs.Splits.{gone_is, own_parts}

@@ -1,9 +1,9 @@
 -- What one call gives of the probes that are due.
 use Rattle.std.specs.Prelude.{ℕ, ◌≡◌, Option, Some, None, [], ◌∷◌}
-use Rattle.addr_table.specs.declared.sent.SentProbe.{SentProbe}
+use Rattle.savi_access.specs.declared.sent.SentProbe.{SentProbe}
 use Rattle.addr_table.specs.Addresses.{Addresses}
-use Rattle.addr_table.specs.Ages.{aged_rows, AllStill}
-use Rattle.addr_table.specs.Sends.{sends}
+use Rattle.savi_access.specs.Ages.{aged_rows, AllStill}
+use Rattle.savi_access.specs.Sends.{sends}
 
 -- one probe is given, the first of those that are due by t, and all others are still to come
 pub record GivesOne (t : ℕ) (old new : Addresses) (sent : SentProbe) : Type 0 where

@@ -1,7 +1,4 @@
-pub mod Ages
-pub mod Sends
-pub mod Rooms
-pub mod Keeps
+pub mod Dues
 pub mod Addresses
 pub mod Outcomes
 pub mod Gives

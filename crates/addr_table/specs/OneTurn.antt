@@ -2,10 +2,10 @@
 use Rattle.std.specs.Prelude.{ℕ, ◌≡◌, ◌<◌, Option, Some, None, List, [], ◌++◌}
 use Rattle.fcfs_states.specs.Ageing.{probes_behind}
 use Rattle.addr_table.specs.declared.passed.Passed.{Passed}
-use Rattle.addr_table.specs.declared.sent.SentProbe.{SentProbe}
+use Rattle.savi_access.specs.declared.sent.SentProbe.{SentProbe}
 use Rattle.addr_table.specs.Addresses.{Addresses}
-use Rattle.addr_table.specs.Ages.{aged_rows, AllStill}
-use Rattle.addr_table.specs.Sends.{sent_of, sends}
+use Rattle.savi_access.specs.Ages.{aged_rows, AllStill}
+use Rattle.savi_access.specs.Sends.{sent_of, sends}
 use Rattle.addr_table.specs.Turns.{turns_left}
 
 -- the probe of a turn, where there is one

@@ -3,9 +3,9 @@ use Rattle.std.specs.Prelude.{ℕ}
 use Rattle.savi_kinds.specs.declared.plan.Method.{Method}
 use Rattle.fcfs_states.specs.declared.event.Ev.{Ev}
 use Rattle.mix_rules.specs.Next.{Outcome, next_state}
-use Rattle.bind_table.specs.Rows.{state_in}
+use Rattle.savi_access.specs.Rows.{state_in}
 use Rattle.addr_table.specs.Addresses.{Addresses}
-use Rattle.addr_table.specs.Rooms.{room_for}
+use Rattle.savi_access.specs.Rooms.{room_for}
 
 -- the answer to an event at t on an address of a prefix of this method, and the state of the address after it
 abbrev pub outcome_in : Method → ℕ → Addresses → ℕ → Ev → Outcome

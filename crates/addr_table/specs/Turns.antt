@@ -4,7 +4,7 @@ use Rattle.fcfs_states.specs.declared.state.Fcfs.{Fcfs}
 use Rattle.fcfs_states.specs.declared.state.Fcfs.TheVariants.{NoBind, Tentative, Valid, TestLt, TestVp}
 use Rattle.mix_rules.specs.declared.state.AddrState.{AddrState}
 use Rattle.mix_rules.specs.Ageing.{bound_end}
-use Rattle.bind_table.specs.declared.row.Row.{Row}
+use Rattle.savi_access.specs.declared.row.Row.{Row}
 
 -- by first come: so many lines of the ageing table may follow
 abbrev pub steps_left : Fcfs → ℕ

@@ -1,13 +1,13 @@
 //! Ageing of all addresses.
 
 ghost use Rattle.std.specs.Prelude.{◌≡◌, ◌^◌, ◌≤◌, fold};
-ghost use Rattle.addr_table.specs.declared.sent.SentProbe.{SentProbe};
-ghost use Rattle.addr_table.specs.Ages.{aged_rows, AllStill};
-ghost use Rattle.addr_table.specs.Sends.{sends};
-ghost use Rattle.addr_table.specs.Keeps.{StaySound};
+ghost use Rattle.savi_access.specs.declared.sent.SentProbe.{SentProbe};
+ghost use Rattle.savi_access.specs.Ages.{aged_rows, AllStill};
+ghost use Rattle.savi_access.specs.Sends.{sends};
+ghost use Rattle.savi_access.specs.Keeps.{StaySound};
 
-use crate::sent::SentProbe;
 use crate::table::AddrTable;
+use savi_access::SentProbe;
 use savi_kinds::Moment;
 
 /// What takes the probes that ageing sends, one after the other.

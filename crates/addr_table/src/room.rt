@@ -1,7 +1,7 @@
 // The port of an event.
 
 ghost use Rattle.std.specs.Prelude.{◌≡◌};
-ghost use Rattle.addr_table.specs.Rooms.{port_of};
+ghost use Rattle.savi_access.specs.Rooms.{port_of};
 
 use fcfs_states::Ev;
 use savi_kinds::Port;

@@ -6,7 +6,7 @@ ghost use Rattle.fcfs_states.specs.Ageing.{probes_behind};
 ghost use Rattle.mix_rules.specs.States.{has_state};
 ghost use Rattle.mix_rules.specs.Ageing.{aged_state, due_next as due_of};
 ghost use Rattle.mix_rules.specs.Premises.{AllMomentsFit};
-ghost use Rattle.bind_table.specs.Rows.{state_in, with_state};
+ghost use Rattle.savi_access.specs.Rows.{state_in, with_state};
 ghost use Rattle.timer_wheel.specs.Arms.{due_in, with_due};
 
 use bind_table::BindTable;

@@ -4,25 +4,24 @@ ghost use Rattle.std.specs.Prelude.{◌≡◌, ◌≢◌, ◌^◌, ◌*◌, ◌�
 ghost use Rattle.std.specs.Option.{option_map};
 ghost use Rattle.savi_kinds.specs.Ports.{number_of};
 ghost use Rattle.savi_kinds.specs.declared.plan.Method.{Method};
-ghost use Rattle.fcfs_states.specs.declared.event.Ev.TheVariants.{Fix};
 ghost use Rattle.fcfs_states.specs.Premises.{AreTimes};
-ghost use Rattle.mix_rules.specs.States.{IsSoundFor, IsLiveAt};
-ghost use Rattle.bind_table.specs.Rows.{state_in, with_state, count_at, pair_of};
-ghost use Rattle.addr_table.specs.Ages.{aged_rows, AllStill};
-ghost use Rattle.addr_table.specs.Sends.{sends};
-ghost use Rattle.addr_table.specs.Rooms.{may_hold_more, room_for, IsFixable};
+ghost use Rattle.mix_rules.specs.States.{IsSoundFor};
+ghost use Rattle.savi_access.specs.Rows.{state_in, with_state, count_at, pair_of};
+ghost use Rattle.savi_access.specs.Ages.{aged_rows, AllStill};
+ghost use Rattle.savi_access.specs.Sends.{sends};
+ghost use Rattle.savi_access.specs.Rooms.{may_hold_more, room_for, IsFixable};
 ghost use Rattle.addr_table.specs.Outcomes.{outcome_in};
 ghost use Rattle.addr_table.specs.Gives.{GivesProbe};
-ghost use Rattle.addr_table.specs.Keeps.{IsWithinRules, AreSound, StaySound};
+ghost use Rattle.savi_access.specs.Keeps.{IsWithinRules, AreSound, StaySound};
 ghost use Rattle.addr_table.specs.OneTurn.{Turns};
 
 use crate::passed::Passed;
 use crate::room::event_port;
-use crate::sent::SentProbe;
 use crate::stored::{is_same_state, pass, set};
 use bind_table::BindTable;
 use fcfs_states::{Answer, Ev, Times};
 use mix_rules::AddrState;
+use savi_access::SentProbe;
 use savi_kinds::{Addr, Method, Moment, PORTS_MOST, Port};
 use std::alloc::{AllocError, Global};
 use std::marker::Model;
@@ -43,7 +42,7 @@ pub struct AddrTable {
 
 impl Model for AddrTable {
     ghost use Rattle.addr_table.specs.Addresses.{Addresses};
-    ghost use Rattle.addr_table.specs.Keeps.{IsWithinRules};
+    ghost use Rattle.savi_access.specs.Keeps.{IsWithinRules};
     ghost use Rattle.addr_table.specs.Armed.{IsArmed};
 
     ghost Value = { Addresses };
@@ -77,13 +76,6 @@ impl AddrTable {
         self.table.get(a)
     }
 
-    /// Whether an address is live at a port. O(1) on average.
-    pub fn live(&self, a: Addr, port: Port) -> bool
-        ensures { IsTrue result ↔ IsLiveAt (state_in self.now.rows a.0) port }
-    {
-        self.table.get(a).live(port)
-    }
-
     /// How many addresses the port holds, as `BindTable::count` counts them. O(1).
     pub fn count(&self, port: Port) -> u32
         ensures value { result ≡ count_at (number_of port) self.now.rows }
@@ -107,13 +99,6 @@ impl AddrTable {
             Some(port) => self.has_room(port),
             None => false,
         }
-    }
-
-    /// Whether the operator may fix the address to the port: it has room, or holds the address already. O(1) on average.
-    pub fn may_fix(&self, a: Addr, port: Port) -> bool
-        ensures { IsTrue result ↔ IsFixable self.now.per_port self.now.rows a.0 (Fix port) }
-    {
-        self.has_room(port) || self.table.get(a).holds(port)
     }
 
     /// How many addresses have a state: at most 16 times what a port may hold. O(1).

@@ -9,9 +9,11 @@ use Rattle.savi_kinds.specs.PortSets.{no_ports}
 use Rattle.addr_index.specs.Indexes.{Index, key_in}
 use Rattle.mix_rules.specs.declared.state.AddrState.{AddrState}
 use Rattle.mix_rules.specs.States.{nobody}
-use Rattle.bind_table.specs.declared.row.Row.{Row}
-use Rattle.bind_table.specs.Rows.{address_row, state_in}
-use Rattle.bind_table.specs.Counts.{held_once, IsRecounted, once_in, AreMoved, AreHolders}
+use Rattle.savi_access.specs.declared.row.Row.{Row}
+use Rattle.savi_access.specs.Rows.{address_row, state_in}
+use Rattle.savi_access.proofs.Held.{held_once}
+use Rattle.bind_table.proofs.Recounts.{IsRecounted}
+use Rattle.bind_table.specs.Counts.{once_in, AreMoved, AreHolders}
 use Rattle.bind_table.specs.Kept.{IsKept, HasPorts, HasHolders}
 use Rattle.bind_table.proofs.KeptChanges.{row_by_key}
 use Rattle.bind_table.proofs.Tables.{counts_least}

@@ -7,23 +7,23 @@ use Rattle.slab.specs.Slab.{Slab, get, slab_len, Updates}
 use Rattle.addr_index.specs.Indexes.{Index, key_in}
 use Rattle.mix_rules.specs.declared.state.AddrState.{AddrState}
 use Rattle.mix_rules.specs.States.{nobody, has_state}
-use Rattle.bind_table.specs.declared.row.Row.{Row}
-use Rattle.bind_table.specs.Rows.{address_of, state_in, address_row, is_below, is_above, with_state}
+use Rattle.savi_access.specs.declared.row.Row.{Row}
+use Rattle.savi_kinds.specs.Orders.{is_below, is_above}
+use Rattle.savi_access.specs.Rows.{address_of, state_in, address_row, with_state}
 use Rattle.bind_table.specs.Places.{count_below}
 use Rattle.bind_table.proofs.Places.{StandsAt, BelongsAt}
-use Rattle.bind_table.specs.Counts.{IsRecounted}
+use Rattle.bind_table.proofs.Recounts.{IsRecounted, counts_kept}
 use Rattle.bind_table.specs.Kept.{HaveRows, key_of, IsKept}
-use Rattle.bind_table.proofs.Parts.{all_weaker, all_joined, below_all, above_all, rising_with, stand_with, rows_of-standing}
+use Rattle.savi_access.proofs.Parts.{all_weaker, all_joined, below_all, above_all, rising_with, stand_with, rows_of-standing}
 use Rattle.bind_table.proofs.Around.{around, between, front_is, behind_is, front_of, rest_of, stands_within}
 use Rattle.bind_table.proofs.Keys.{keys_length, told_take, told_drop, told_joined, told_other, row_under, state_found, state_absent, key_absent, key_of-middle, split_at}
-use Rattle.bind_table.proofs.Held.{counts_kept}
 
 -- rows that are lower or higher have other addresses
-lower_differ : (a : ℕ) (rows : List Row) → AllByRecursion (λ row. address_of row ≢ a) (filter (is_below a) rows)
-lower_differ a rows = all_weaker (λ row. address_of row < a) (λ row. address_of row ≢ a) (λ row h. λ same. omega (arith, h, same)) (filter (is_below a) rows) (below_all a rows)
+lower_differ : (a : ℕ) (rows : List Row) → AllByRecursion (λ row. address_of row ≢ a) (filter (is_below address_of a) rows)
+lower_differ a rows = all_weaker (λ row. address_of row < a) (λ row. address_of row ≢ a) (λ row h. λ same. omega (arith, h, same)) (filter (is_below address_of a) rows) (below_all a rows)
 
-higher_differ : (a : ℕ) (rows : List Row) → AllByRecursion (λ row. address_of row ≢ a) (filter (is_above a) rows)
-higher_differ a rows = all_weaker (λ row. a < address_of row) (λ row. address_of row ≢ a) (λ row h. λ same. omega (arith, h, same)) (filter (is_above a) rows) (above_all a rows)
+higher_differ : (a : ℕ) (rows : List Row) → AllByRecursion (λ row. address_of row ≢ a) (filter (is_above address_of a) rows)
+higher_differ a rows = all_weaker (λ row. a < address_of row) (λ row. address_of row ≢ a) (λ row h. λ same. omega (arith, h, same)) (filter (is_above address_of a) rows) (above_all a rows)
 
 -- the row of an address that the index has
 pub stands_by_key : (slab : Slab Row) (index : Index) (keys counts : List ℕ) (rows : List Row) (a key : ℕ) → IsKept slab index keys counts rows → key_in index a ≡ Some key → StandsAt a rows (count_below a rows)
@@ -41,9 +41,9 @@ belongs_without_key slab index keys counts rows a kept is =
 -- the keys around the one of an address
 pub record IsAround (slab : Slab Row) (keys : List ℕ) (rows : List Row) (a key : ℕ) (front back : List ℕ) : Type 0 where
   pub keys_are : keys ≡ front ++ key ∷ back
-  pub rows_are : rows ≡ filter (is_below a) rows ++ address_row a (state_in rows a) ∷ filter (is_above a) rows
-  pub lower : HaveRows (get slab) front (filter (is_below a) rows)
-  pub higher : HaveRows (get slab) back (filter (is_above a) rows)
+  pub rows_are : rows ≡ filter (is_below address_of a) rows ++ address_row a (state_in rows a) ∷ filter (is_above address_of a) rows
+  pub lower : HaveRows (get slab) front (filter (is_below address_of a) rows)
+  pub higher : HaveRows (get slab) back (filter (is_above address_of a) rows)
 
 pub around_key : (slab : Slab Row) (index : Index) (keys counts : List ℕ) (rows : List Row) (a key : ℕ) → IsKept slab index keys counts rows → key_in index a ≡ Some key → IsAround slab keys rows a key (take (count_below a rows) keys) (drop (suc (count_below a rows)) keys)
 around_key slab index keys counts rows a key kept is =
@@ -54,11 +54,11 @@ around_key slab index keys counts rows a key kept is =
     let back : List ℕ = drop (suc i) keys in
     let first : ℕ = get_or keys i key in
     let split : keys ≡ front ++ first ∷ back = split_at keys i key (omega (arith, within, keys_length (get slab) keys rows kept.told)) in
-    let whole : rows ≡ filter (is_below a) rows ++ address_row a (state_in rows a) ∷ filter (is_above a) rows = around a rows i kept.rising kept.stand at in
-    let lower : HaveRows (get slab) front (filter (is_below a) rows) = subst (HaveRows (get slab) front) (front_is a rows i kept.rising kept.stand at) (told_take (get slab) keys rows i kept.told) in
-    let found : key_of (front ++ first ∷ back) (filter (is_below a) rows ++ address_row a (state_in rows a) ∷ filter (is_above a) rows) a ≡ Some key = ap (λ ks. key_of ks (filter (is_below a) rows ++ address_row a (state_in rows a) ∷ filter (is_above a) rows) a) (sym split) ∙ ap (λ rs. key_of keys rs a) (sym whole) ∙ sym (kept.indexed a) ∙ is in
-    let middle : key_of (front ++ first ∷ back) (filter (is_below a) rows ++ address_row a (state_in rows a) ∷ filter (is_above a) rows) a ≡ cond (a == a) (Some first) (key_of (front ++ back) (filter (is_below a) rows ++ filter (is_above a) rows) a) = key_of-middle front back (filter (is_below a) rows) (filter (is_above a) rows) first a a (state_in rows a) (keys_length (get slab) front (filter (is_below a) rows) lower) (lower_differ a rows) in
-    let own : cond (a == a) (Some first) (key_of (front ++ back) (filter (is_below a) rows ++ filter (is_above a) rows) a) ≡ Some first = rw (eq-eqb a a refl) refl in
+    let whole : rows ≡ filter (is_below address_of a) rows ++ address_row a (state_in rows a) ∷ filter (is_above address_of a) rows = around a rows i kept.rising kept.stand at in
+    let lower : HaveRows (get slab) front (filter (is_below address_of a) rows) = subst (HaveRows (get slab) front) (front_is a rows i kept.rising kept.stand at) (told_take (get slab) keys rows i kept.told) in
+    let found : key_of (front ++ first ∷ back) (filter (is_below address_of a) rows ++ address_row a (state_in rows a) ∷ filter (is_above address_of a) rows) a ≡ Some key = ap (λ ks. key_of ks (filter (is_below address_of a) rows ++ address_row a (state_in rows a) ∷ filter (is_above address_of a) rows) a) (sym split) ∙ ap (λ rs. key_of keys rs a) (sym whole) ∙ sym (kept.indexed a) ∙ is in
+    let middle : key_of (front ++ first ∷ back) (filter (is_below address_of a) rows ++ address_row a (state_in rows a) ∷ filter (is_above address_of a) rows) a ≡ cond (a == a) (Some first) (key_of (front ++ back) (filter (is_below address_of a) rows ++ filter (is_above address_of a) rows) a) = key_of-middle front back (filter (is_below address_of a) rows) (filter (is_above address_of a) rows) first a a (state_in rows a) (keys_length (get slab) front (filter (is_below address_of a) rows) lower) (lower_differ a rows) in
+    let own : cond (a == a) (Some first) (key_of (front ++ back) (filter (is_below address_of a) rows ++ filter (is_above address_of a) rows) a) ≡ Some first = rw (eq-eqb a a refl) refl in
     let told : Some first ≡ Some key = sym own ∙ sym middle ∙ found in
     let same : first ≡ key = cc in
     record {
@@ -69,9 +69,9 @@ around_key slab index keys counts rows a key kept is =
     }
 
 -- what the index says of each address, where one stands between others
-pub index_around : (slab : Slab Row) (keys : List ℕ) (rows : List Row) (a key : ℕ) (front back : List ℕ) (state : AddrState) (b : ℕ) → HaveRows (get slab) front (filter (is_below a) rows) → key_of (front ++ key ∷ back) (filter (is_below a) rows ++ address_row a state ∷ filter (is_above a) rows) b ≡ cond (a == b) (Some key) (key_of (front ++ back) (filter (is_below a) rows ++ filter (is_above a) rows) b)
+pub index_around : (slab : Slab Row) (keys : List ℕ) (rows : List Row) (a key : ℕ) (front back : List ℕ) (state : AddrState) (b : ℕ) → HaveRows (get slab) front (filter (is_below address_of a) rows) → key_of (front ++ key ∷ back) (filter (is_below address_of a) rows ++ address_row a state ∷ filter (is_above address_of a) rows) b ≡ cond (a == b) (Some key) (key_of (front ++ back) (filter (is_below address_of a) rows ++ filter (is_above address_of a) rows) b)
 index_around slab keys rows a key front back state b lower =
-    key_of-middle front back (filter (is_below a) rows) (filter (is_above a) rows) key a b state (keys_length (get slab) front (filter (is_below a) rows) lower) (lower_differ a rows)
+    key_of-middle front back (filter (is_below address_of a) rows) (filter (is_above address_of a) rows) key a b state (keys_length (get slab) front (filter (is_below address_of a) rows) lower) (lower_differ a rows)
 
 -- the row under the key of an address is its own
 only_row : (slab : Slab Row) (index : Index) (keys counts : List ℕ) (rows : List Row) (a key : ℕ) → IsKept slab index keys counts rows → key_in index a ≡ Some key → (row : Row) → get slab key ≡ Some row → address_of row ≡ a
@@ -86,8 +86,8 @@ renewed slab later index keys counts new rows a key state kept is stands changed
     let i : ℕ = count_below a rows in
     let front : List ℕ = take i keys in
     let back : List ℕ = drop (suc i) keys in
-    let lower : List Row = filter (is_below a) rows in
-    let higher : List Row = filter (is_above a) rows in
+    let lower : List Row = filter (is_below address_of a) rows in
+    let higher : List Row = filter (is_above address_of a) rows in
     let around_it : IsAround slab keys rows a key front back = around_key slab index keys counts rows a key kept is in
     let with_it : with_state a state rows ≡ lower ++ address_row a state ∷ higher = ap (λ own. lower ++ (own ++ higher)) (rows_of-standing a state stands) in
     let only : (row : Row) → get slab key ≡ Some row → address_of row ≡ a = only_row slab index keys counts rows a key kept is in
@@ -119,8 +119,8 @@ inserted slab later index next keys counts new rows a key i state kept is place 
     let at : BelongsAt a rows i = record { place = place; state = (belongs_without_key slab index keys counts rows a kept is).state } in
     let front : List ℕ = take i keys in
     let back : List ℕ = drop i keys in
-    let lower : List Row = filter (is_below a) rows in
-    let higher : List Row = filter (is_above a) rows in
+    let lower : List Row = filter (is_below address_of a) rows in
+    let higher : List Row = filter (is_above address_of a) rows in
     let before : HaveRows (get slab) front lower = subst (HaveRows (get slab) front) (front_of a rows i kept.rising kept.stand at) (told_take (get slab) keys rows i kept.told) in
     let behind : HaveRows (get slab) back higher = subst (HaveRows (get slab) back) (rest_of a rows i kept.rising kept.stand at) (told_drop (get slab) keys rows i kept.told) in
     let with_it : with_state a state rows ≡ lower ++ address_row a state ∷ higher = ap (λ own. lower ++ (own ++ higher)) (rows_of-standing a state stands) in
@@ -150,8 +150,8 @@ pub removed : (slab later : Slab Row) (index next : Index) (keys counts new : Li
 removed slab later index next keys counts new rows a key i kept is place changed size indexes less recounts =
     let front : List ℕ = take i keys in
     let back : List ℕ = drop (suc i) keys in
-    let lower : List Row = filter (is_below a) rows in
-    let higher : List Row = filter (is_above a) rows in
+    let lower : List Row = filter (is_below address_of a) rows in
+    let higher : List Row = filter (is_above address_of a) rows in
     let around_it : IsAround slab keys rows a key front back = subst (λ j. IsAround slab keys rows a key (take j keys) (drop (suc j) keys)) (sym place) (around_key slab index keys counts rows a key kept is) in
     let only : (row : Row) → get slab key ≡ Some row → address_of row ≡ a = only_row slab index keys counts rows a key kept is in
     let told_front : HaveRows (get later) front lower = told_other (get slab) (get later) key a changed.others only front lower (lower_differ a rows) around_it.lower in
@@ -168,9 +168,9 @@ removed slab later index next keys counts new rows a key i kept is place changed
       index_size = omega (arith, less, kept.index_size, new_size, old_size);
     }
   where
-    without : (b : ℕ) → key_in index b ≡ cond (a == b) (Some key) (key_of (take i keys ++ drop (suc i) keys) (filter (is_below a) rows ++ filter (is_above a) rows) b) → cond (a == b) None (key_in index b) ≡ key_of (take i keys ++ drop (suc i) keys) (filter (is_below a) rows ++ filter (is_above a) rows) b
+    without : (b : ℕ) → key_in index b ≡ cond (a == b) (Some key) (key_of (take i keys ++ drop (suc i) keys) (filter (is_below address_of a) rows ++ filter (is_above address_of a) rows) b) → cond (a == b) None (key_in index b) ≡ key_of (take i keys ++ drop (suc i) keys) (filter (is_below address_of a) rows ++ filter (is_above address_of a) rows) b
     without b was =
         elim (cases_Bool (a == b)) [
-          | inl here ↦ rw here (sym (subst (λ n. key_of (take i keys ++ drop (suc i) keys) (filter (is_below a) rows ++ filter (is_above a) rows) n ≡ None) (eqb-true a b here) (key_absent a (take i keys ++ drop (suc i) keys) (filter (is_below a) rows ++ filter (is_above a) rows) (all_joined (λ row. address_of row ≢ a) (filter (is_below a) rows) (filter (is_above a) rows) (lower_differ a rows) (higher_differ a rows)))))
+          | inl here ↦ rw here (sym (subst (λ n. key_of (take i keys ++ drop (suc i) keys) (filter (is_below address_of a) rows ++ filter (is_above address_of a) rows) n ≡ None) (eqb-true a b here) (key_absent a (take i keys ++ drop (suc i) keys) (filter (is_below address_of a) rows ++ filter (is_above address_of a) rows) (all_joined (λ row. address_of row ≢ a) (filter (is_below address_of a) rows) (filter (is_above address_of a) rows) (lower_differ a rows) (higher_differ a rows)))))
           | inr other ↦ rw other (was ∙ rw other refl)
         ]

@@ -4,10 +4,10 @@ use Rattle.std.specs.List.{AllByRecursion}
 use Rattle.std.proofs.lemmas.Bool.{cases_Bool, eqb-true}
 use Rattle.mix_rules.specs.declared.state.AddrState.{AddrState}
 use Rattle.mix_rules.specs.States.{nobody, has_state}
-use Rattle.bind_table.specs.declared.row.Row.{Row}
-use Rattle.bind_table.specs.Rows.{address_of, state_in, address_row, AllStand}
+use Rattle.savi_access.specs.declared.row.Row.{Row}
+use Rattle.savi_access.specs.Rows.{address_of, state_in, address_row, AllStand}
 use Rattle.bind_table.specs.Kept.{HaveRows, key_of}
-use Rattle.bind_table.proofs.Parts.{other_address}
+use Rattle.savi_access.proofs.Parts.{other_address}
 
 -- the rows are those that the keys have
 pub rows_told : (f : ℕ → Option Row) (keys : List ℕ) (rows : List Row) → HaveRows f keys rows → filter_map f keys ≡ rows

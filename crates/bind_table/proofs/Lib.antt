@@ -1,9 +1,7 @@
-pub mod Parts
 pub mod Places
 pub mod Around
 pub mod Keys
-pub mod Held
+pub mod Recounts
 pub mod KeptChanges
 pub mod Tables
-pub mod Pointwise
 pub mod Holders

@@ -4,15 +4,14 @@ use Rattle.slab.specs.Slab.{Slab, get}
 use Rattle.addr_index.specs.Indexes.{Index, key_in}
 use Rattle.savi_kinds.specs.declared.port.PortSet.{PortSet}
 use Rattle.mix_rules.specs.States.{has_state}
-use Rattle.bind_table.specs.declared.row.Row.{Row}
-use Rattle.bind_table.specs.Rows.{state_in, address_row}
+use Rattle.savi_access.specs.declared.row.Row.{Row}
+use Rattle.savi_access.specs.Rows.{state_in, address_row}
 use Rattle.bind_table.specs.Places.{count_below}
 use Rattle.bind_table.specs.Bindings.{Bindings}
-use Rattle.bind_table.specs.Counts.{held_once}
+use Rattle.savi_access.proofs.Held.{held_once, held_least, held_most}
 use Rattle.bind_table.specs.Kept.{rows_under, IsKept, HasRoom, HasHolders}
 use Rattle.bind_table.proofs.Around.{stands_within, belongs_within, room_for}
 use Rattle.bind_table.proofs.Keys.{rows_told, keys_length}
-use Rattle.bind_table.proofs.Held.{held_least, held_most}
 use Rattle.bind_table.proofs.KeptChanges.{row_by_key, stands_by_key, belongs_without_key}
 
 -- the rows of a table are those that belong to its parts

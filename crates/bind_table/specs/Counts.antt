@@ -5,14 +5,6 @@ use Rattle.savi_kinds.specs.PortSets.{is_member}
 use Rattle.mix_rules.specs.declared.state.AddrState.{AddrState}
 use Rattle.mix_rules.specs.States.{is_held_at}
 
--- how often a port holds an address of this state: once or not at all
-abbrev pub held_once : ℕ → AddrState → ℕ
-held_once port state = if is_held_at port state then 1 else 0
-
--- the numbers once one address has the state after in place of the state before
-abbrev pub IsRecounted : AddrState → AddrState → List ℕ → List ℕ → Type 0
-IsRecounted before after old new = (port : ℕ) → 1 ≤ port → port ≤ 16 → slice_index new (port - 1) + held_once port before ≡ slice_index old (port - 1) + held_once port after
-
 -- how often a port is in a set: once or not at all
 abbrev pub once_in : PortSet → ℕ → ℕ
 once_in ports port = if is_member ports port then 1 else 0

@@ -7,8 +7,9 @@ use Rattle.addr_index.specs.Indexes.{Index, key_in}
 use Rattle.savi_kinds.specs.declared.port.PortSet.{PortSet}
 use Rattle.savi_kinds.specs.PortSets.{no_ports}
 use Rattle.mix_rules.specs.declared.state.AddrState.{AddrState}
-use Rattle.bind_table.specs.declared.row.Row.{Row}
-use Rattle.bind_table.specs.Rows.{address_of, IsRising, AllStand, count_at}
+use Rattle.savi_access.specs.declared.row.Row.{Row}
+use Rattle.savi_kinds.specs.Orders.{IsRising}
+use Rattle.savi_access.specs.Rows.{address_of, AllStand, count_at}
 use Rattle.bind_table.specs.Counts.{AreHolders}
 
 -- the rows that stand under these keys
@@ -31,7 +32,7 @@ key_of (key ∷ keys) (row ∷ rows) a = if address_of row == a then Some key el
 -- the parts belong together
 pub record IsKept (slab : Slab Row) (index : Index) (keys counts : List ℕ) (rows : List Row) : Type 0 where
   pub told : HaveRows (get slab) keys rows
-  pub rising : IsRising rows
+  pub rising : IsRising address_of rows
   pub stand : AllStand rows
   pub indexed : (a : ℕ) → key_in index a ≡ key_of keys rows a
   pub counted : (port : ℕ) → 1 ≤ port → port ≤ 16 → slice_index counts (port - 1) ≡ count_at port rows

@@ -1,5 +1,3 @@
-pub mod Rows
-pub mod Laws
 pub mod Bindings
 pub mod Places
 pub mod Kept

@@ -2,10 +2,10 @@
 
 ghost use Rattle.std.specs.Prelude.{◌≡◌, ◌≤◌, ◌<◌, ◌++◌, ◌∷◌, Some, IsSome, IfOk, take, drop, length, vec_capacity};
 ghost use Rattle.slab.specs.Slab.{get, slab_len, Updates};
-ghost use Rattle.bind_table.specs.declared.row.Row.{Row};
+ghost use Rattle.savi_access.specs.declared.row.Row.{Row};
 
-use crate::row::Row;
 use mix_rules::AddrState;
+use savi_access::Row;
 use savi_kinds::PortSet;
 use slab::Slab;
 use std::alloc::{AllocError, Global};

@@ -4,14 +4,14 @@ ghost use Rattle.std.specs.Prelude.{◌≡◌, ◌^◌, ◌⊎◌, ◌<◌, ◌�
 ghost use Rattle.std.specs.Option.{option_map};
 ghost use Rattle.savi_kinds.specs.Ports.{number_of};
 ghost use Rattle.mix_rules.specs.States.{nobody, has_state};
-ghost use Rattle.bind_table.specs.Rows.{state_in, with_state, count_at, pair_of, IsTable};
+ghost use Rattle.savi_access.specs.Rows.{state_in, with_state, count_at, pair_of, IsTable};
 
 use crate::counts::{count, holders, recount};
-use crate::row::Row;
 use crate::search::count_lower;
 use crate::stored::{empty_sets, insert, renew, row_under};
 use addr_index::AddrIndex;
 use mix_rules::AddrState;
+use savi_access::Row;
 use savi_kinds::{Addr, PORTS_MOST, Port, PortSet};
 use slab::Slab;
 use std::alloc::{AllocError, Global};

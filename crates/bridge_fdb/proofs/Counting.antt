@@ -5,9 +5,9 @@ use Rattle.std.proofs.lemmas.Bool.{cases_Bool, cond_both, and_parts, eqb-true, e
 use Rattle.std.proofs.lemmas.List.Elements.{All-head, All-tail, All-cons}
 use Rattle.savi_kinds.specs.Ports.{number_of}
 use Rattle.bridge_fdb.specs.declared.station.Station.{Station}
-use Rattle.bridge_fdb.specs.Stations.{mac_number, is_live, live_at, is_of, is_at, station_end, stations_at}
+use Rattle.bridge_fdb.specs.Stations.{mac_number, is_live, live_at, is_of, is_at, station_end, stations_at, station_number}
 use Rattle.bridge_fdb.specs.Learning.{is_known, with_station}
-use Rattle.bridge_fdb.specs.Limits.{IsRising}
+use Rattle.savi_kinds.specs.Orders.{IsRising}
 use Rattle.bridge_fdb.specs.Places.{StandsAt}
 use Rattle.bridge_fdb.specs.Kept.{IsTied, IsOwn, LivesUntil, in_slot, has, without}
 use Rattle.savi_kinds.proofs.Filters.{count_by-cons}
@@ -154,7 +154,7 @@ live_before end u None before lives = absurd lives
 live_before end u (Some y) before lives = lt-ltb u (station_end y) (omega (arith, before, lives))
 
 -- where one with the MAC address has ended, the same are live without it
-pub ended_one : (t n : ℕ) (xs : List Station) → IsRising xs → 1 ≤ count_by (λ x. is_of n x && not (is_live t x)) xs → live_at t (without n xs) ≡ live_at t xs
+pub ended_one : (t n : ℕ) (xs : List Station) → IsRising station_number xs → 1 ≤ count_by (λ x. is_of n x && not (is_live t x)) xs → live_at t (without n xs) ≡ live_at t xs
 ended_one t n xs rising some =
     let (i, within, there) = counted_one (λ x. is_of n x && not (is_live t x)) xs some in
     live_without_ended t n xs i rising within
@@ -191,7 +191,7 @@ fewer_before s xs unknown room =
     omega (arith, room, none, here, count_with p s xs)
 
 -- what holds of the station of a slot holds of the one that stands in the list
-pub slot_stands : (stations : List (Option Station)) (slots numbers : List ℕ) (xs : List Station) (r : Station → Bool) (slot i : ℕ) (y d : Station) → IsTied stations slots numbers xs → IsRising xs → StandsAt (mac_number y.mac) xs i → in_slot stations slot ≡ Some y → r y ≡ true → r (get_or xs i d) ≡ true
+pub slot_stands : (stations : List (Option Station)) (slots numbers : List ℕ) (xs : List Station) (r : Station → Bool) (slot i : ℕ) (y d : Station) → IsTied stations slots numbers xs → IsRising station_number xs → StandsAt (mac_number y.mac) xs i → in_slot stations slot ≡ Some y → r y ≡ true → r (get_or xs i d) ≡ true
 slot_stands stations slots numbers xs r slot i y d tied rising at is kind =
     let number : ℕ = mac_number y.mac in
     let x : Station = get_or xs i d in

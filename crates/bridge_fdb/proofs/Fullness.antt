@@ -5,9 +5,9 @@ use Rattle.savi_kinds.specs.Ports.{number_of}
 use Rattle.savi_kinds.specs.declared.port.Port.{Port}
 use Rattle.bridge_fdb.specs.declared.station.Station.{Station}
 use Rattle.bridge_fdb.specs.declared.full.Full.{Full}
-use Rattle.bridge_fdb.specs.Stations.{mac_number, is_live, live_at, is_of, is_at, stations_at}
+use Rattle.bridge_fdb.specs.Stations.{mac_number, is_live, live_at, is_of, is_at, stations_at, station_number}
 use Rattle.bridge_fdb.specs.Learning.{with_station}
-use Rattle.bridge_fdb.specs.Limits.{IsRising}
+use Rattle.savi_kinds.specs.Orders.{IsRising}
 use Rattle.bridge_fdb.specs.Places.{StandsAt}
 use Rattle.bridge_fdb.specs.Kept.{without}
 use Rattle.bridge_fdb.specs.Full.{TellsFull}
@@ -28,7 +28,7 @@ Tells-with full s xs tells new k t below before =
     omega (arith, tells k t below before, count_by-filter (is_at (k + 1)) (is_live t) xs, count_by-filter (is_at (k + 1)) (is_live t) (with_station s xs), count_with p s xs, none)
 
 -- one is given up, whose port is told of no longer
-pub Tells-without : (old new : Full) (n : ℕ) (xs : List Station) (i : ℕ) (x : Station) → TellsFull old xs → IsRising xs → StandsAt n xs i → x ≡ get_or xs i x → ((k : ℕ) → k < 16 → slice_index new.until k ≡ cond (number_of x.port == k + 1) 0 (slice_index old.until k)) → TellsFull new (without n xs)
+pub Tells-without : (old new : Full) (n : ℕ) (xs : List Station) (i : ℕ) (x : Station) → TellsFull old xs → IsRising station_number xs → StandsAt n xs i → x ≡ get_or xs i x → ((k : ℕ) → k < 16 → slice_index new.until k ≡ cond (number_of x.port == k + 1) 0 (slice_index old.until k)) → TellsFull new (without n xs)
 Tells-without old new n xs i x tells rising at is set k t below before =
     elim (cases_Bool (number_of x.port == k + 1)) [
       | inl here ↦ let none : slice_index new.until k ≡ 0 = set k below ∙ rw here refl in absurd (omega (arith, before, none))
@@ -53,7 +53,7 @@ Tells-set old new p end xs tells live set k t below before =
     ]
 
 -- one is seen again at its port
-pub Tells-renewed : (old new : Full) (s : Station) (xs : List Station) (i : ℕ) (x : Station) → TellsFull old xs → IsRising xs → StandsAt (mac_number s.mac) xs i → x ≡ get_or xs i x → number_of x.port ≡ number_of s.port → ((k : ℕ) → k < 16 → slice_index new.until k ≤ slice_index old.until k) → slice_index new.until (number_of s.port - 1) ≤ s.last + 300000 → TellsFull new (with_station s xs)
+pub Tells-renewed : (old new : Full) (s : Station) (xs : List Station) (i : ℕ) (x : Station) → TellsFull old xs → IsRising station_number xs → StandsAt (mac_number s.mac) xs i → x ≡ get_or xs i x → number_of x.port ≡ number_of s.port → ((k : ℕ) → k < 16 → slice_index new.until k ≤ slice_index old.until k) → slice_index new.until (number_of s.port - 1) ≤ s.last + 300000 → TellsFull new (with_station s xs)
 Tells-renewed old new s xs i x tells rising at is port lower own k t below before =
     let p : Station → Bool = lives_at (k + 1) t in
     let moment : t < slice_index old.until k = omega (arith, before, lower k below) in

@@ -5,8 +5,8 @@ use Rattle.std.specs.List.Sorted.{IsNonDecreasing}
 use Rattle.std.proofs.lemmas.Bool.{lt-ltb, le-ltb}
 use Rattle.std.proofs.lemmas.List.{get_or-map, length-map}
 use Rattle.bridge_fdb.specs.declared.station.Station.{Station}
-use Rattle.bridge_fdb.specs.Stations.{mac_number}
-use Rattle.bridge_fdb.specs.Limits.{IsRising}
+use Rattle.bridge_fdb.specs.Stations.{mac_number, station_number}
+use Rattle.savi_kinds.specs.Orders.{IsRising}
 use Rattle.bridge_fdb.specs.Places.{StandsAt, BelongsAt}
 use Rattle.bridge_fdb.specs.Kept.{mac_numbers}
 use Rattle.bridge_fdb.proofs.Rising.{stands, belongs_at_end, IsNonDecreasingBy-from_rising}
@@ -25,7 +25,7 @@ number_at xs i d e within = get_or-map (λ (station : Station). mac_number stati
 pub numbers_length : (xs : List Station) → length (mac_numbers xs) ≡ length xs
 numbers_length xs = length-map xs (λ (station : Station). mac_number station.mac)
 
-pub IsNonDecreasing-numbers : (xs : List Station) → IsRising xs → IsNonDecreasing (mac_numbers xs)
+pub IsNonDecreasing-numbers : (xs : List Station) → IsRising station_number xs → IsNonDecreasing (mac_numbers xs)
 IsNonDecreasing-numbers [] rising i j e from to = absurd (omega (arith, to))
 IsNonDecreasing-numbers (x ∷ xs) rising i j e from to =
     let inside : j < length (x ∷ xs) = omega (arith, to, numbers_length (x ∷ xs)) in
@@ -39,13 +39,13 @@ told : (xs : List Station) (ns : List ℕ) (k : ℕ) (d : Station) → ns ≡ ma
 told xs ns k d matching inside = ap (λ ms. get_or ms k 0) matching ∙ number_at xs k d 0 inside
 
 -- a station whose number was found
-pub stands_by_number : (n : ℕ) (xs : List Station) (ns : List ℕ) (i : ℕ) → IsRising xs → ns ≡ mac_numbers xs → i < length ns → get_or ns i 0 ≡ n → StandsAt n xs i
+pub stands_by_number : (n : ℕ) (xs : List Station) (ns : List ℕ) (i : ℕ) → IsRising station_number xs → ns ≡ mac_numbers xs → i < length ns → get_or ns i 0 ≡ n → StandsAt n xs i
 stands_by_number n xs ns i rising matching within same =
     let inside : i < length xs = omega (arith, within, sorted_length xs ns matching) in
     stands n xs i rising inside (λ d. sym (told xs ns i d matching inside) ∙ same)
 
 -- or its place, where it wasn't
-pub belongs_by_number : (n : ℕ) (xs : List Station) (ns : List ℕ) (i : ℕ) → IsRising xs → ns ≡ mac_numbers xs → i ≤ length ns → AllWithin (λ m. m < n) ns 0 i → AllWithin (λ m. n ≤ m) ns i (length ns) → (i < length ns → get_or ns i 0 ≢ n) → BelongsAt n xs i
+pub belongs_by_number : (n : ℕ) (xs : List Station) (ns : List ℕ) (i : ℕ) → IsRising station_number xs → ns ≡ mac_numbers xs → i ≤ length ns → AllWithin (λ m. m < n) ns 0 i → AllWithin (λ m. n ≤ m) ns i (length ns) → (i < length ns → get_or ns i 0 ≢ n) → BelongsAt n xs i
 belongs_by_number n xs ns i rising matching within lower others other =
     let same_length : length ns ≡ length xs = sorted_length xs ns matching in
     belongs_at_end n xs i rising (omega (arith, within, same_length))

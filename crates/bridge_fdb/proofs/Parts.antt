@@ -12,30 +12,30 @@ use Rattle.std.proofs.lemmas.Option.{slice_get_read}
 use Rattle.savi_kinds.specs.Ports.{number_of}
 use Rattle.savi_kinds.specs.declared.address.Mac.{Mac}
 use Rattle.bridge_fdb.specs.declared.station.Station.{Station}
-use Rattle.bridge_fdb.specs.Stations.{mac_number, is_live, live_at, is_of, is_below, is_above, is_at, learned_port}
+use Rattle.savi_kinds.specs.Orders.{is_below, is_above, IsRising}
+use Rattle.bridge_fdb.specs.Stations.{station_number, mac_number, is_live, live_at, is_of, is_at, learned_port}
 use Rattle.bridge_fdb.specs.Learning.{with_station, is_known}
-use Rattle.bridge_fdb.specs.Limits.{IsRising}
 use Rattle.bridge_fdb.specs.Places.{StandsAt, BelongsAt}
 use Rattle.savi_kinds.proofs.Filters.{count_by-cons, filter-none, find-none}
 use Rattle.bridge_fdb.proofs.Rising.{is_of-other, behind, rest_rising, none_of}
 
 -- each station is below, with or above
-pub count_parts : (n : ℕ) (p : Station → Bool) (xs : List Station) → count_by p xs ≡ count_by p (filter (is_below n) xs) + count_by p (filter (is_of n) xs) + count_by p (filter (is_above n) xs)
+pub count_parts : (n : ℕ) (p : Station → Bool) (xs : List Station) → count_by p xs ≡ count_by p (filter (is_below station_number n) xs) + count_by p (filter (is_of n) xs) + count_by p (filter (is_above station_number n) xs)
 count_parts n p [] = refl
 count_parts n p (x ∷ xs) =
     let m : ℕ = mac_number x.mac in
     let one : count_by p (x ∷ xs) ≡ cond (p x) 1 0 + count_by p xs = count_by-cons p x xs in
-    let rest : count_by p xs ≡ count_by p (filter (is_below n) xs) + count_by p (filter (is_of n) xs) + count_by p (filter (is_above n) xs) = count_parts n p xs in
+    let rest : count_by p xs ≡ count_by p (filter (is_below station_number n) xs) + count_by p (filter (is_of n) xs) + count_by p (filter (is_above station_number n) xs) = count_parts n p xs in
     elim (cases_Bool (nat_lt m n)) [
       | inl low ↦
           let before : m < n = ltb-true m n low in
-          let kept : count_by p (x ∷ filter (is_below n) xs) ≡ cond (p x) 1 0 + count_by p (filter (is_below n) xs) = count_by-cons p x (filter (is_below n) xs) in
+          let kept : count_by p (x ∷ filter (is_below station_number n) xs) ≡ cond (p x) 1 0 + count_by p (filter (is_below station_number n) xs) = count_by-cons p x (filter (is_below station_number n) xs) in
           rw (low, is_of-other n x (omega (arith, before)), le-ltb n m (omega (arith, before))) (omega (arith, one, rest, kept))
       | inr not_low ↦
           elim (cases_Bool (nat_lt n m)) [
             | inl high ↦
                 let after : n < m = ltb-true n m high in
-                let kept : count_by p (x ∷ filter (is_above n) xs) ≡ cond (p x) 1 0 + count_by p (filter (is_above n) xs) = count_by-cons p x (filter (is_above n) xs) in
+                let kept : count_by p (x ∷ filter (is_above station_number n) xs) ≡ cond (p x) 1 0 + count_by p (filter (is_above station_number n) xs) = count_by-cons p x (filter (is_above station_number n) xs) in
                 rw (not_low, is_of-other n x (omega (arith, after)), high) (omega (arith, one, rest, kept))
             | inr not_high ↦
                 let same : m ≡ n = omega (arith, ltb-false m n not_low, ltb-false n m not_high) in
@@ -45,11 +45,11 @@ count_parts n p (x ∷ xs) =
     ]
 
 -- those behind one with the number have another
-pub others_behind : (n : ℕ) (x : Station) (xs : List Station) → IsRising (x ∷ xs) → is_of n x ≡ true → All (λ y. is_of n y ≡ false) xs
+pub others_behind : (n : ℕ) (x : Station) (xs : List Station) → IsRising station_number (x ∷ xs) → is_of n x ≡ true → All (λ y. is_of n y ≡ false) xs
 others_behind n x xs rising same = none_of n xs (subst (λ m. All (λ y. m < mac_number y.mac) xs) (eqb-true (mac_number x.mac) n same) (behind x xs rising))
 
 -- in a rising list at most one has the number
-pub of_found : (n : ℕ) (xs : List Station) → IsRising xs → filter (is_of n) xs ≡ option_to_list (find (is_of n) xs)
+pub of_found : (n : ℕ) (xs : List Station) → IsRising station_number xs → filter (is_of n) xs ≡ option_to_list (find (is_of n) xs)
 of_found n [] rising = refl
 of_found n (x ∷ xs) rising =
     elim (cases_Bool (is_of n x)) [
@@ -61,8 +61,8 @@ of_found n (x ∷ xs) rising =
 pub count_with : (p : Station → Bool) (s : Station) (xs : List Station) → count_by p (with_station s xs) + count_by p (filter (is_of (mac_number s.mac)) xs) ≡ count_by p xs + cond (p s) 1 0
 count_with p s xs =
     let n : ℕ = mac_number s.mac in
-    let both : count_by p (with_station s xs) ≡ count_by p (filter (is_below n) xs) + count_by p (s ∷ filter (is_above n) xs) = sum_by-append (λ y. cond (p y) 1 0) (filter (is_below n) xs) (s ∷ filter (is_above n) xs) in
-    let one : count_by p (s ∷ filter (is_above n) xs) ≡ cond (p s) 1 0 + count_by p (filter (is_above n) xs) = count_by-cons p s (filter (is_above n) xs) in
+    let both : count_by p (with_station s xs) ≡ count_by p (filter (is_below station_number n) xs) + count_by p (s ∷ filter (is_above station_number n) xs) = sum_by-append (λ y. cond (p y) 1 0) (filter (is_below station_number n) xs) (s ∷ filter (is_above station_number n) xs) in
+    let one : count_by p (s ∷ filter (is_above station_number n) xs) ≡ cond (p s) 1 0 + count_by p (filter (is_above station_number n) xs) = count_by-cons p s (filter (is_above station_number n) xs) in
     omega (arith, both, one, count_parts n p xs)
 
 -- two filters may be turned
@@ -87,15 +87,15 @@ filter_turned p q (x ∷ xs) =
 pub live_with : (t : ℕ) (s : Station) (xs : List Station) → is_live t s ≡ true → live_at t (with_station s xs) ≡ with_station s (live_at t xs)
 live_with t s xs live =
     let n : ℕ = mac_number s.mac in
-    filter-append (is_live t) (filter (is_below n) xs) (s ∷ filter (is_above n) xs)
-    ∙ rw (live, filter_turned (is_live t) (is_below n) xs, filter_turned (is_live t) (is_above n) xs) refl
+    filter-append (is_live t) (filter (is_below station_number n) xs) (s ∷ filter (is_above station_number n) xs)
+    ∙ rw (live, filter_turned (is_live t) (is_below station_number n) xs, filter_turned (is_live t) (is_above station_number n) xs) refl
 
 -- what is live at t of a station that was found
 abbrev pub live_in : ℕ → Option Station → Option Station
 live_in t None = None
 live_in t (Some s) = cond (is_live t s) (Some s) None
 
-pub find_live : (t n : ℕ) (xs : List Station) → IsRising xs → find (is_of n) (live_at t xs) ≡ live_in t (find (is_of n) xs)
+pub find_live : (t n : ℕ) (xs : List Station) → IsRising station_number xs → find (is_of n) (live_at t xs) ≡ live_in t (find (is_of n) xs)
 find_live t n [] rising = refl
 find_live t n (x ∷ xs) rising =
     let rest : find (is_of n) (live_at t xs) ≡ live_in t (find (is_of n) xs) = find_live t n xs (rest_rising x xs rising) in
@@ -128,7 +128,7 @@ abbrev pub known_in : ℕ → ℕ → Option Station → Bool
 known_in port t None = false
 known_in port t (Some s) = is_at port s && is_live t s
 
-pub known_live : (port t n : ℕ) (xs : List Station) → IsRising xs → list_any (λ y. is_at port y && is_of n y) (live_at t xs) ≡ known_in port t (find (is_of n) xs)
+pub known_live : (port t n : ℕ) (xs : List Station) → IsRising station_number xs → list_any (λ y. is_at port y && is_of n y) (live_at t xs) ≡ known_in port t (find (is_of n) xs)
 known_live port t n [] rising = refl
 known_live port t n (x ∷ xs) rising =
     let rest : list_any (λ y. is_at port y && is_of n y) (live_at t xs) ≡ known_in port t (find (is_of n) xs) = known_live port t n xs (rest_rising x xs rising) in
@@ -170,22 +170,22 @@ insert_belongs s xs i at = rw (at.below, at.above) refl
 found_at : (n : ℕ) (xs : List Station) (i : ℕ) (x : Station) → StandsAt n xs i → x ≡ get_or xs i x → find (is_of n) xs ≡ Some x
 found_at n xs i x at is = at.found ∙ slice_get_read xs (length xs) i x refl at.bound is
 
-pub of_count : (p : Station → Bool) (n : ℕ) (xs : List Station) (i : ℕ) (x : Station) → IsRising xs → StandsAt n xs i → x ≡ get_or xs i x → count_by p (filter (is_of n) xs) ≡ cond (p x) 1 0
+pub of_count : (p : Station → Bool) (n : ℕ) (xs : List Station) (i : ℕ) (x : Station) → IsRising station_number xs → StandsAt n xs i → x ≡ get_or xs i x → count_by p (filter (is_of n) xs) ≡ cond (p x) 1 0
 of_count p n xs i x rising at is =
     let one : filter (is_of n) xs ≡ x ∷ [] = of_found n xs rising ∙ ap option_to_list (found_at n xs i x at is) in
     let counted : count_by p (filter (is_of n) xs) ≡ cond (p x) 1 0 + 0 = ap (count_by p) one ∙ count_by-cons p x [] in
     omega (arith, counted)
 
-pub place_found : (mac : Mac) (t : ℕ) (xs : List Station) (i : ℕ) (x : Station) → IsRising xs → StandsAt (mac_number mac) xs i → x ≡ get_or xs i x → learned_port mac (live_at t xs) ≡ option_map (λ station. station.port) (cond (is_live t x) (Some x) None)
+pub place_found : (mac : Mac) (t : ℕ) (xs : List Station) (i : ℕ) (x : Station) → IsRising station_number xs → StandsAt (mac_number mac) xs i → x ≡ get_or xs i x → learned_port mac (live_at t xs) ≡ option_map (λ station. station.port) (cond (is_live t x) (Some x) None)
 place_found mac t xs i x rising at is = ap (option_map (λ station. station.port)) (find_live t (mac_number mac) xs rising ∙ ap (live_in t) (found_at (mac_number mac) xs i x at is))
 
-pub place_missing : (mac : Mac) (t : ℕ) (xs : List Station) (i : ℕ) → IsRising xs → BelongsAt (mac_number mac) xs i → learned_port mac (live_at t xs) ≡ None
+pub place_missing : (mac : Mac) (t : ℕ) (xs : List Station) (i : ℕ) → IsRising station_number xs → BelongsAt (mac_number mac) xs i → learned_port mac (live_at t xs) ≡ None
 place_missing mac t xs i rising at = ap (option_map (λ station. station.port)) (find_live t (mac_number mac) xs rising ∙ ap (live_in t) at.none)
 
-pub known_found : (s : Station) (xs : List Station) (i : ℕ) (x : Station) → IsRising xs → StandsAt (mac_number s.mac) xs i → x ≡ get_or xs i x → is_known s (live_at s.last xs) ≡ (is_at (number_of s.port) x && is_live s.last x)
+pub known_found : (s : Station) (xs : List Station) (i : ℕ) (x : Station) → IsRising station_number xs → StandsAt (mac_number s.mac) xs i → x ≡ get_or xs i x → is_known s (live_at s.last xs) ≡ (is_at (number_of s.port) x && is_live s.last x)
 known_found s xs i x rising at is = known_live (number_of s.port) s.last (mac_number s.mac) xs rising ∙ ap (known_in (number_of s.port) s.last) (found_at (mac_number s.mac) xs i x at is)
 
-pub known_missing : (s : Station) (xs : List Station) (i : ℕ) → IsRising xs → BelongsAt (mac_number s.mac) xs i → is_known s (live_at s.last xs) ≡ false
+pub known_missing : (s : Station) (xs : List Station) (i : ℕ) → IsRising station_number xs → BelongsAt (mac_number s.mac) xs i → is_known s (live_at s.last xs) ≡ false
 known_missing s xs i rising at = known_live (number_of s.port) s.last (mac_number s.mac) xs rising ∙ ap (known_in (number_of s.port) s.last) at.none
 
 -- the list from a place on begins with the station there

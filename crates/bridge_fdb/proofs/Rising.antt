@@ -5,25 +5,25 @@ use Rattle.std.specs.List.Sorted.{IsNonDecreasingBy}
 use Rattle.std.proofs.lemmas.Bool.{cases_Bool, cases_eq, ltb-true, ltb-false, lt-ltb, le-ltb, eqb-true, eq-eqb}
 use Rattle.std.proofs.lemmas.List.Elements.{All-weaker}
 use Rattle.bridge_fdb.specs.declared.station.Station.{Station}
-use Rattle.bridge_fdb.specs.Stations.{mac_number, is_of, is_below, is_above}
-use Rattle.bridge_fdb.specs.Limits.{IsRising}
+use Rattle.savi_kinds.specs.Orders.{is_below, is_above, IsRising}
+use Rattle.bridge_fdb.specs.Stations.{station_number, mac_number, is_of}
 use Rattle.bridge_fdb.specs.Places.{StandsAt, BelongsAt}
 use Rattle.savi_kinds.proofs.Filters.{filter-all, filter-none, find-none}
 use Rattle.savi_kinds.proofs.Pairs.{AllPairs-head, AllPairs-tail}
 
 -- in a rising list those behind a station are higher
-pub behind : (x : Station) (xs : List Station) → IsRising (x ∷ xs) → All (λ y. mac_number x.mac < mac_number y.mac) xs
+pub behind : (x : Station) (xs : List Station) → IsRising station_number (x ∷ xs) → All (λ y. mac_number x.mac < mac_number y.mac) xs
 behind x xs rising = AllPairs-head (λ earlier later. mac_number earlier.mac < mac_number later.mac) x xs rising
 
-pub rest_rising : (x : Station) (xs : List Station) → IsRising (x ∷ xs) → IsRising xs
+pub rest_rising : (x : Station) (xs : List Station) → IsRising station_number (x ∷ xs) → IsRising station_number xs
 rest_rising x xs rising = AllPairs-tail (λ earlier later. mac_number earlier.mac < mac_number later.mac) x xs rising
 
 -- those that are higher than a number are all above it
-pub all_above : (n : ℕ) (xs : List Station) → All (λ y. n < mac_number y.mac) xs → All (λ y. is_above n y ≡ true) xs
-all_above n xs higher = All-weaker (λ y. n < mac_number y.mac) (λ y. is_above n y ≡ true) (λ y h. lt-ltb n (mac_number y.mac) h) xs higher
+pub all_above : (n : ℕ) (xs : List Station) → All (λ y. n < mac_number y.mac) xs → All (λ y. is_above station_number n y ≡ true) xs
+all_above n xs higher = All-weaker (λ y. n < mac_number y.mac) (λ y. is_above station_number n y ≡ true) (λ y h. lt-ltb n (mac_number y.mac) h) xs higher
 
-pub none_below : (n : ℕ) (xs : List Station) → All (λ y. n < mac_number y.mac) xs → All (λ y. is_below n y ≡ false) xs
-none_below n xs higher = All-weaker (λ y. n < mac_number y.mac) (λ y. is_below n y ≡ false) (λ y h. le-ltb (mac_number y.mac) n (omega (arith, h))) xs higher
+pub none_below : (n : ℕ) (xs : List Station) → All (λ y. n < mac_number y.mac) xs → All (λ y. is_below station_number n y ≡ false) xs
+none_below n xs higher = All-weaker (λ y. n < mac_number y.mac) (λ y. is_below station_number n y ≡ false) (λ y h. le-ltb (mac_number y.mac) n (omega (arith, h))) xs higher
 
 -- a station with another number isn't the one
 pub is_of-other : (n : ℕ) (y : Station) → mac_number y.mac ≢ n → is_of n y ≡ false
@@ -37,7 +37,7 @@ pub none_of : (n : ℕ) (xs : List Station) → All (λ y. n < mac_number y.mac)
 none_of n xs higher = All-weaker (λ y. n < mac_number y.mac) (λ y. is_of n y ≡ false) (λ y h. is_of-other n y (omega (arith, h))) xs higher
 
 -- a station with the number stands where it is
-pub stands : (n : ℕ) (xs : List Station) (i : ℕ) → IsRising xs → i < length xs → ((d : Station) → mac_number (get_or xs i d).mac ≡ n) → StandsAt n xs i
+pub stands : (n : ℕ) (xs : List Station) (i : ℕ) → IsRising station_number xs → i < length xs → ((d : Station) → mac_number (get_or xs i d).mac ≡ n) → StandsAt n xs i
 stands n [] i rising within is = absurd (omega (arith, within))
 stands n (x ∷ xs) zero rising within is =
     let same : mac_number x.mac ≡ n = is x in
@@ -45,15 +45,15 @@ stands n (x ∷ xs) zero rising within is =
     record {
       bound = within;
       found = rw (eq-eqb (mac_number x.mac) n same) refl;
-      below = rw (le-ltb (mac_number x.mac) n (omega (arith, same))) (sym (filter-none (is_below n) xs (none_below n xs higher)));
-      above = rw (le-ltb n (mac_number x.mac) (omega (arith, same))) (sym (filter-all (is_above n) xs (all_above n xs higher)));
+      below = rw (le-ltb (mac_number x.mac) n (omega (arith, same))) (sym (filter-none (is_below station_number n) xs (none_below n xs higher)));
+      above = rw (le-ltb n (mac_number x.mac) (omega (arith, same))) (sym (filter-all (is_above station_number n) xs (all_above n xs higher)));
     }
 stands n (x ∷ xs) (suc i) rising within is =
     let inside : i < length xs = omega (arith, within) in
     let later : mac_number x.mac < mac_number (get_or xs i x).mac = behind x xs rising i x inside in
     let lower : mac_number x.mac < n = omega (arith, later, is x) in
     let rest : StandsAt n xs i = stands n xs i (rest_rising x xs rising) inside is in
-    let behind_it : drop (suc i) xs ≡ filter (is_above n) xs = rw add-one at rest.above in
+    let behind_it : drop (suc i) xs ≡ filter (is_above station_number n) xs = rw add-one at rest.above in
     record {
       bound = within;
       found = rw (is_of-other n x (omega (arith, lower))) rest.found;
@@ -68,8 +68,8 @@ belongs n xs zero within lower higher =
     record {
       bound = within;
       none = find-none (is_of n) xs (none_of n xs all);
-      below = sym (filter-none (is_below n) xs (none_below n xs all));
-      above = sym (filter-all (is_above n) xs (all_above n xs all));
+      below = sym (filter-none (is_below station_number n) xs (none_below n xs all));
+      above = sym (filter-all (is_above station_number n) xs (all_above n xs all));
     }
 belongs n [] (suc i) within lower higher = absurd (omega (arith, within))
 belongs n (x ∷ xs) (suc i) within lower higher =
@@ -83,7 +83,7 @@ belongs n (x ∷ xs) (suc i) within lower higher =
     }
 
 -- the same from where the lower ones end
-pub belongs_at_end : (n : ℕ) (xs : List Station) (i : ℕ) → IsRising xs → i ≤ length xs → AllWithin (λ y. is_below n y ≡ true) xs 0 i → AllWithin (λ y. is_below n y ≡ false) xs i (length xs) → (i < length xs → (d : Station) → mac_number (get_or xs i d).mac ≢ n) → BelongsAt n xs i
+pub belongs_at_end : (n : ℕ) (xs : List Station) (i : ℕ) → IsRising station_number xs → i ≤ length xs → AllWithin (λ y. is_below station_number n y ≡ true) xs 0 i → AllWithin (λ y. is_below station_number n y ≡ false) xs i (length xs) → (i < length xs → (d : Station) → mac_number (get_or xs i d).mac ≢ n) → BelongsAt n xs i
 belongs_at_end n xs i rising within front not_yet other =
     belongs n xs i within
     (λ k d from to. ltb-true (mac_number (get_or xs k d).mac) n (front k d from to))
@@ -100,7 +100,7 @@ belongs_at_end n xs i rising within front not_yet other =
         omega (arith, at_least, more)
 
 -- what the search for a place asks
-pub IsNonDecreasingBy-from_rising : (xs : List Station) → IsRising xs → IsNonDecreasingBy (λ station. mac_number station.mac) xs
+pub IsNonDecreasingBy-from_rising : (xs : List Station) → IsRising station_number xs → IsNonDecreasingBy (λ station. mac_number station.mac) xs
 IsNonDecreasingBy-from_rising xs rising i j d from to =
     elim (cases_eq i j) [
       | inl same ↦ subst (λ k. mac_number (get_or xs i d).mac ≤ mac_number (get_or xs k d).mac) same (omega arith)

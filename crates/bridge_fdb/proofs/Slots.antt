@@ -9,8 +9,8 @@ use Rattle.std.proofs.lemmas.List.Elements.{All-head, All-tail, All-take, All-dr
 use Rattle.std.proofs.lemmas.List.Sums.{sum_by-set, sum_by-append}
 use Rattle.savi_kinds.specs.Ports.{number_of}
 use Rattle.bridge_fdb.specs.declared.station.Station.{Station}
-use Rattle.bridge_fdb.specs.Stations.{mac_number}
-use Rattle.bridge_fdb.specs.Limits.{IsRising}
+use Rattle.bridge_fdb.specs.Stations.{mac_number, station_number}
+use Rattle.savi_kinds.specs.Orders.{IsRising}
 use Rattle.bridge_fdb.specs.Places.{StandsAt}
 use Rattle.bridge_fdb.specs.Kept.{IsTied, IsOwn, in_slot, has, mac_numbers}
 use Rattle.savi_kinds.proofs.Lists.{split_at}
@@ -57,7 +57,7 @@ number_in None = 0
 number_in (Some x) = mac_number x.mac
 
 -- no two stations of the list are in one slot
-pub distinct : (stations : List (Option Station)) (slots numbers : List ℕ) (xs : List Station) (d : Station) → IsTied stations slots numbers xs → IsRising xs → (i j : ℕ) → i < length xs → j < length xs → i ≢ j → get_or slots j 0 ≢ get_or slots i 0
+pub distinct : (stations : List (Option Station)) (slots numbers : List ℕ) (xs : List Station) (d : Station) → IsTied stations slots numbers xs → IsRising station_number xs → (i j : ℕ) → i < length xs → j < length xs → i ≢ j → get_or slots j 0 ≢ get_or slots i 0
 distinct stations slots numbers xs d tied rising i j at other ne = λ same.
     let one : mac_number (get_or xs j d).mac ≡ mac_number (get_or xs i d).mac =
     ap number_in (sym (slot_tells stations slots numbers xs tied j d other) ∙ ap (in_slot stations) same ∙ slot_tells stations slots numbers xs tied i d at) in
@@ -69,14 +69,14 @@ distinct stations slots numbers xs d tied rising i j at other ne = λ same.
           omega (arith, less, one)
     ]
 
-pub front_distinct : (stations : List (Option Station)) (slots numbers : List ℕ) (xs : List Station) (d : Station) → IsTied stations slots numbers xs → IsRising xs → (i : ℕ) → i < length xs → All (λ j. j ≢ get_or slots i 0) (take i slots)
+pub front_distinct : (stations : List (Option Station)) (slots numbers : List ℕ) (xs : List Station) (d : Station) → IsTied stations slots numbers xs → IsRising station_number xs → (i : ℕ) → i < length xs → All (λ j. j ≢ get_or slots i 0) (take i slots)
 front_distinct stations slots numbers xs d tied rising i within =
     All-from_get_or (λ j. j ≢ get_or slots i 0) (take i slots) 0
     (λ k below.
     let before : k < i = omega (arith, below, length-take i slots) in
     subst (λ j. j ≢ get_or slots i 0) (sym (get_or-take i slots k 0 before)) (distinct stations slots numbers xs d tied rising i k within (omega (arith, before, within)) (omega (arith, before))))
 
-pub back_distinct : (stations : List (Option Station)) (slots numbers : List ℕ) (xs : List Station) (d : Station) → IsTied stations slots numbers xs → IsRising xs → (i : ℕ) → i < length xs → All (λ j. j ≢ get_or slots i 0) (drop (suc i) slots)
+pub back_distinct : (stations : List (Option Station)) (slots numbers : List ℕ) (xs : List Station) (d : Station) → IsTied stations slots numbers xs → IsRising station_number xs → (i : ℕ) → i < length xs → All (λ j. j ≢ get_or slots i 0) (drop (suc i) slots)
 back_distinct stations slots numbers xs d tied rising i within =
     let long : length slots ≡ length xs = slots_length stations slots numbers xs tied in
     All-from_get_or (λ j. j ≢ get_or slots i 0) (drop (suc i) slots) 0
@@ -121,7 +121,7 @@ emptied stations slot k y is =
       | inr other ↦ sym (get_or-set_other stations slot k None None other) ∙ is
     ]
 
-pub IsTied-renew : (stations : List (Option Station)) (slots numbers : List ℕ) (xs : List Station) (i : ℕ) (s : Station) → IsTied stations slots numbers xs → IsRising xs → StandsAt (mac_number s.mac) xs i → number_of (get_or xs i s).port ≡ number_of s.port → mac_number (get_or xs i s).mac ≡ mac_number s.mac → s.last ≤ 2 ^ 62 → IsTied (set stations (get_or slots i 0) (Some s)) slots numbers (set xs i s)
+pub IsTied-renew : (stations : List (Option Station)) (slots numbers : List ℕ) (xs : List Station) (i : ℕ) (s : Station) → IsTied stations slots numbers xs → IsRising station_number xs → StandsAt (mac_number s.mac) xs i → number_of (get_or xs i s).port ≡ number_of s.port → mac_number (get_or xs i s).mac ≡ mac_number s.mac → s.last ≤ 2 ^ 62 → IsTied (set stations (get_or slots i 0) (Some s)) slots numbers (set xs i s)
 IsTied-renew stations slots numbers xs i s tied rising at port number moment =
     let slot : ℕ = get_or slots i 0 in
     let there : in_slot stations slot ≡ Some (get_or xs i s) = slot_tells stations slots numbers xs tied i s at.bound in
@@ -150,7 +150,7 @@ IsTied-renew stations slots numbers xs i s tied rising at port number moment =
         let sum : count_by (has p) (set stations slot (Some s)) + cond (p (get_or xs i s)) 1 0 ≡ count_by (has p) stations + cond (p s) 1 0 = rw there at slots_sum in
         omega (arith, sum, list_sum, tied.counted p)
 
-pub IsTied-remove : (stations : List (Option Station)) (slots numbers : List ℕ) (xs : List Station) (i : ℕ) (d : Station) → IsTied stations slots numbers xs → IsRising xs → i < length xs → IsTied (set stations (get_or slots i 0) None) (take i slots ++ drop (suc i) slots) (take i numbers ++ drop (suc i) numbers) (take i xs ++ drop (suc i) xs)
+pub IsTied-remove : (stations : List (Option Station)) (slots numbers : List ℕ) (xs : List Station) (i : ℕ) (d : Station) → IsTied stations slots numbers xs → IsRising station_number xs → i < length xs → IsTied (set stations (get_or slots i 0) None) (take i slots ++ drop (suc i) slots) (take i numbers ++ drop (suc i) numbers) (take i xs ++ drop (suc i) xs)
 IsTied-remove stations slots numbers xs i d tied rising within =
     let slot : ℕ = get_or slots i 0 in
     let there : in_slot stations slot ≡ Some (get_or xs i d) = slot_tells stations slots numbers xs tied i d within in
@@ -283,7 +283,7 @@ set_twice (x ∷ xs) zero a b = refl
 set_twice (x ∷ xs) (suc i) a b = ap (λ ys. x ∷ ys) (set_twice xs i a b)
 
 -- one is taken out, and another one put into its slot
-pub IsTied-exchange : (stations : List (Option Station)) (slots numbers : List ℕ) (xs : List Station) (gone at v : ℕ) (s : Station) → IsTied stations slots numbers xs → IsRising xs → gone < length xs → number_of (get_or xs gone s).port ≡ number_of s.port → s.last ≤ 2 ^ 62 → v ≡ mac_number s.mac → IsTied (set stations (get_or slots gone 0) (Some s)) (take at (take gone slots ++ drop (suc gone) slots) ++ get_or slots gone 0 ∷ drop at (take gone slots ++ drop (suc gone) slots)) (take at (take gone numbers ++ drop (suc gone) numbers) ++ v ∷ drop at (take gone numbers ++ drop (suc gone) numbers)) (take at (take gone xs ++ drop (suc gone) xs) ++ s ∷ drop at (take gone xs ++ drop (suc gone) xs))
+pub IsTied-exchange : (stations : List (Option Station)) (slots numbers : List ℕ) (xs : List Station) (gone at v : ℕ) (s : Station) → IsTied stations slots numbers xs → IsRising station_number xs → gone < length xs → number_of (get_or xs gone s).port ≡ number_of s.port → s.last ≤ 2 ^ 62 → v ≡ mac_number s.mac → IsTied (set stations (get_or slots gone 0) (Some s)) (take at (take gone slots ++ drop (suc gone) slots) ++ get_or slots gone 0 ∷ drop at (take gone slots ++ drop (suc gone) slots)) (take at (take gone numbers ++ drop (suc gone) numbers) ++ v ∷ drop at (take gone numbers ++ drop (suc gone) numbers)) (take at (take gone xs ++ drop (suc gone) xs) ++ s ∷ drop at (take gone xs ++ drop (suc gone) xs))
 IsTied-exchange stations slots numbers xs gone at v s tied rising within port moment same =
     let slot : ℕ = get_or slots gone 0 in
     let there : in_slot stations slot ≡ Some (get_or xs gone s) = slot_tells stations slots numbers xs tied gone s within in

@@ -6,9 +6,10 @@ use Rattle.std.proofs.lemmas.List.Elements.{All-append, All-cons, All-filter, Al
 use Rattle.std.proofs.lemmas.List.Kept.{AllPairs-cons, AllPairs-filter}
 use Rattle.savi_kinds.specs.Ports.{number_of}
 use Rattle.bridge_fdb.specs.declared.station.Station.{Station}
-use Rattle.bridge_fdb.specs.Stations.{mac_number, is_of, is_below, is_above, is_at, stations_at}
+use Rattle.savi_kinds.specs.Orders.{is_below, is_above, IsRising}
+use Rattle.bridge_fdb.specs.Stations.{station_number, mac_number, is_of, is_at, stations_at}
 use Rattle.bridge_fdb.specs.Learning.{is_known, is_full, with_station, learned}
-use Rattle.bridge_fdb.specs.Limits.{IsRising, IsWithinLimits}
+use Rattle.bridge_fdb.specs.Limits.{IsWithinLimits}
 use Rattle.savi_kinds.proofs.Filters.{count_by-cons, count_by-push, count_by-filter-le}
 use Rattle.savi_kinds.proofs.Pairs.{AllPairs-append}
 use Rattle.savi_kinds.proofs.PortCounts.{length-by_port}
@@ -21,16 +22,16 @@ IsWithinLimits-filter p xs within = record {
   in_time = All-filter p (λ station. station.last ≤ 2 ^ 62) xs within.in_time;
 }
 
-pub IsRising-with : (s : Station) (xs : List Station) → IsRising xs → IsRising (with_station s xs)
+pub IsRising-with : (s : Station) (xs : List Station) → IsRising station_number xs → IsRising station_number (with_station s xs)
 IsRising-with s xs rising =
     let n : ℕ = mac_number s.mac in
     let R : Station → Station → Type 0 = λ earlier later. mac_number earlier.mac < mac_number later.mac in
-    let front : List Station = filter (is_below n) xs in
-    let back : List Station = filter (is_above n) xs in
-    let lower : All (λ y. mac_number y.mac < n) front = All-weaker (λ y. is_below n y ≡ true) (λ y. mac_number y.mac < n) (λ y h. ltb-true (mac_number y.mac) n h) front (filter_passes (is_below n) xs) in
-    let higher : All (R s) back = All-weaker (λ y. is_above n y ≡ true) (R s) (λ y h. ltb-true n (mac_number y.mac) h) back (filter_passes (is_above n) xs) in
-    AllPairs-append R front (s ∷ back) (AllPairs-filter R (is_below n) xs rising)
-    (AllPairs-cons R s back higher (AllPairs-filter R (is_above n) xs rising))
+    let front : List Station = filter (is_below station_number n) xs in
+    let back : List Station = filter (is_above station_number n) xs in
+    let lower : All (λ y. mac_number y.mac < n) front = All-weaker (λ y. is_below station_number n y ≡ true) (λ y. mac_number y.mac < n) (λ y h. ltb-true (mac_number y.mac) n h) front (filter_passes (is_below station_number n) xs) in
+    let higher : All (R s) back = All-weaker (λ y. is_above station_number n y ≡ true) (R s) (λ y h. ltb-true n (mac_number y.mac) h) back (filter_passes (is_above station_number n) xs) in
+    AllPairs-append R front (s ∷ back) (AllPairs-filter R (is_below station_number n) xs rising)
+    (AllPairs-cons R s back higher (AllPairs-filter R (is_above station_number n) xs rising))
     (All-weaker (λ y. mac_number y.mac < n) (λ y. All (R y) (s ∷ back)) (λ y low. All-cons (R y) s back low (All-weaker (R s) (R y) (λ z high. omega (arith, low, high)) back higher)) front lower)
 
 pub IsWithinLimits-with : (s : Station) (xs : List Station) → IsWithinLimits xs → s.last ≤ 2 ^ 62 → ((port : ℕ) → stations_at port (with_station s xs) ≤ 256) → IsWithinLimits (with_station s xs)
@@ -40,8 +41,8 @@ IsWithinLimits-with s xs within moment room =
       rising = IsRising-with s xs within.rising;
       room = room;
       in_time =
-          All-append (λ station. station.last ≤ 2 ^ 62) (filter (is_below n) xs) (s ∷ filter (is_above n) xs) (All-filter (is_below n) (λ station. station.last ≤ 2 ^ 62) xs within.in_time)
-          (All-cons (λ station. station.last ≤ 2 ^ 62) s (filter (is_above n) xs) moment (All-filter (is_above n) (λ station. station.last ≤ 2 ^ 62) xs within.in_time));
+          All-append (λ station. station.last ≤ 2 ^ 62) (filter (is_below station_number n) xs) (s ∷ filter (is_above station_number n) xs) (All-filter (is_below station_number n) (λ station. station.last ≤ 2 ^ 62) xs within.in_time)
+          (All-cons (λ station. station.last ≤ 2 ^ 62) s (filter (is_above station_number n) xs) moment (All-filter (is_above station_number n) (λ station. station.last ≤ 2 ^ 62) xs within.in_time));
     }
 
 -- one that is known is counted

@@ -7,9 +7,10 @@ use Rattle.std.proofs.lemmas.List.Elements.{All-append, All-cons, All-filter, Al
 use Rattle.std.proofs.lemmas.List.Kept.{AllPairs-filter}
 use Rattle.std.proofs.lemmas.List.Sums.{sum_by-append}
 use Rattle.bridge_fdb.specs.declared.station.Station.{Station}
-use Rattle.bridge_fdb.specs.Stations.{mac_number, is_live, live_at, is_of, is_below, is_above, is_at}
+use Rattle.savi_kinds.specs.Orders.{is_below, is_above, IsRising}
+use Rattle.bridge_fdb.specs.Stations.{station_number, mac_number, is_live, live_at, is_of, is_at}
 use Rattle.bridge_fdb.specs.Learning.{with_station}
-use Rattle.bridge_fdb.specs.Limits.{IsRising, IsWithinLimits}
+use Rattle.bridge_fdb.specs.Limits.{IsWithinLimits}
 use Rattle.bridge_fdb.specs.Places.{StandsAt, BelongsAt}
 use Rattle.bridge_fdb.specs.Kept.{without}
 use Rattle.savi_kinds.proofs.Filters.{filter-all, filter-none}
@@ -17,27 +18,27 @@ use Rattle.savi_kinds.proofs.Pairs.{AllPairs-append}
 use Rattle.bridge_fdb.proofs.Rising.{behind, rest_rising, is_of-other, none_below, all_above, belongs}
 use Rattle.bridge_fdb.proofs.Parts.{count_parts, filter_turned}
 
-above_not_below : (n : ℕ) (xs : List Station) → All (λ x. is_below n x ≡ false) (filter (is_above n) xs)
-above_not_below n xs = All-weaker (λ x. is_above n x ≡ true) (λ x. is_below n x ≡ false) (λ x h. let less : n < mac_number x.mac = ltb-true n (mac_number x.mac) h in le-ltb (mac_number x.mac) n (omega (arith, less))) (filter (is_above n) xs) (filter_passes (is_above n) xs)
+above_not_below : (n : ℕ) (xs : List Station) → All (λ x. is_below station_number n x ≡ false) (filter (is_above station_number n) xs)
+above_not_below n xs = All-weaker (λ x. is_above station_number n x ≡ true) (λ x. is_below station_number n x ≡ false) (λ x h. let less : n < mac_number x.mac = ltb-true n (mac_number x.mac) h in le-ltb (mac_number x.mac) n (omega (arith, less))) (filter (is_above station_number n) xs) (filter_passes (is_above station_number n) xs)
 
-below_not_above : (n : ℕ) (xs : List Station) → All (λ x. is_above n x ≡ false) (filter (is_below n) xs)
-below_not_above n xs = All-weaker (λ x. is_below n x ≡ true) (λ x. is_above n x ≡ false) (λ x h. let less : mac_number x.mac < n = ltb-true (mac_number x.mac) n h in le-ltb n (mac_number x.mac) (omega (arith, less))) (filter (is_below n) xs) (filter_passes (is_below n) xs)
+below_not_above : (n : ℕ) (xs : List Station) → All (λ x. is_above station_number n x ≡ false) (filter (is_below station_number n) xs)
+below_not_above n xs = All-weaker (λ x. is_below station_number n x ≡ true) (λ x. is_above station_number n x ≡ false) (λ x h. let less : mac_number x.mac < n = ltb-true (mac_number x.mac) n h in le-ltb n (mac_number x.mac) (omega (arith, less))) (filter (is_below station_number n) xs) (filter_passes (is_below station_number n) xs)
 
 -- to put a station into its place where the one with its MAC address was given up
 pub with_without : (s : Station) (xs : List Station) → with_station s (without (mac_number s.mac) xs) ≡ with_station s xs
 with_without s xs =
     let n : ℕ = mac_number s.mac in
-    let front : List Station = filter (is_below n) xs in
-    let back : List Station = filter (is_above n) xs in
-    let below : filter (is_below n) (front ++ back) ≡ front ++ [] = filter-append (is_below n) front back ∙ rw (filter-all (is_below n) front (filter_passes (is_below n) xs), filter-none (is_below n) back (above_not_below n xs)) refl in
-    let above : filter (is_above n) (front ++ back) ≡ back = filter-append (is_above n) front back ∙ rw (filter-all (is_above n) back (filter_passes (is_above n) xs), filter-none (is_above n) front (below_not_above n xs)) refl in
+    let front : List Station = filter (is_below station_number n) xs in
+    let back : List Station = filter (is_above station_number n) xs in
+    let below : filter (is_below station_number n) (front ++ back) ≡ front ++ [] = filter-append (is_below station_number n) front back ∙ rw (filter-all (is_below station_number n) front (filter_passes (is_below station_number n) xs), filter-none (is_below station_number n) back (above_not_below n xs)) refl in
+    let above : filter (is_above station_number n) (front ++ back) ≡ back = filter-append (is_above station_number n) front back ∙ rw (filter-all (is_above station_number n) back (filter_passes (is_above station_number n) xs), filter-none (is_above station_number n) front (below_not_above n xs)) refl in
     rw (below, above) (ap (λ ys. ys ++ s ∷ back) (append-nil front))
 
 pub live_without : (t n : ℕ) (xs : List Station) → live_at t (without n xs) ≡ without n (live_at t xs)
-live_without t n xs = filter-append (is_live t) (filter (is_below n) xs) (filter (is_above n) xs) ∙ rw (filter_turned (is_live t) (is_below n) xs, filter_turned (is_live t) (is_above n) xs) refl
+live_without t n xs = filter-append (is_live t) (filter (is_below station_number n) xs) (filter (is_above station_number n) xs) ∙ rw (filter_turned (is_live t) (is_below station_number n) xs, filter_turned (is_live t) (is_above station_number n) xs) refl
 
 -- where none has it, the list stays
-pub without_same : (n : ℕ) (xs : List Station) → IsRising xs → All (λ x. is_of n x ≡ false) xs → without n xs ≡ xs
+pub without_same : (n : ℕ) (xs : List Station) → IsRising station_number xs → All (λ x. is_of n x ≡ false) xs → without n xs ≡ xs
 without_same n [] rising others = refl
 without_same n (x ∷ xs) rising others =
     let m : ℕ = mac_number x.mac in
@@ -50,28 +51,28 @@ without_same n (x ∷ xs) rising others =
           let ne : m ≢ n = λ same. false≢true (sym (All-head (λ y. is_of n y ≡ false) x xs others) ∙ eq-eqb m n same) in
           let first : n < m = omega (arith, least, ne) in
           let higher : All (λ y. n < mac_number y.mac) (x ∷ xs) = All-cons (λ y. n < mac_number y.mac) x xs first (All-weaker (λ y. m < mac_number y.mac) (λ y. n < mac_number y.mac) (λ y more. omega (arith, more, first)) xs (behind x xs rising)) in
-          let front : filter (is_below n) (x ∷ xs) ≡ [] = filter-none (is_below n) (x ∷ xs) (none_below n (x ∷ xs) higher) in
-          let back : filter (is_above n) (x ∷ xs) ≡ x ∷ xs = filter-all (is_above n) (x ∷ xs) (all_above n (x ∷ xs) higher) in
-          ap (λ ys. ys ++ filter (is_above n) (x ∷ xs)) front ∙ back
+          let front : filter (is_below station_number n) (x ∷ xs) ≡ [] = filter-none (is_below station_number n) (x ∷ xs) (none_below n (x ∷ xs) higher) in
+          let back : filter (is_above station_number n) (x ∷ xs) ≡ x ∷ xs = filter-all (is_above station_number n) (x ∷ xs) (all_above n (x ∷ xs) higher) in
+          ap (λ ys. ys ++ filter (is_above station_number n) (x ∷ xs)) front ∙ back
     ]
 
-pub IsRising-without : (n : ℕ) (xs : List Station) → IsRising xs → IsRising (without n xs)
+pub IsRising-without : (n : ℕ) (xs : List Station) → IsRising station_number xs → IsRising station_number (without n xs)
 IsRising-without n xs rising =
     let R : Station → Station → Type 0 = λ earlier later. mac_number earlier.mac < mac_number later.mac in
-    let front : List Station = filter (is_below n) xs in
-    let back : List Station = filter (is_above n) xs in
-    let lower : All (λ y. mac_number y.mac < n) front = All-weaker (λ y. is_below n y ≡ true) (λ y. mac_number y.mac < n) (λ y h. ltb-true (mac_number y.mac) n h) front (filter_passes (is_below n) xs) in
-    let higher : All (λ y. n < mac_number y.mac) back = All-weaker (λ y. is_above n y ≡ true) (λ y. n < mac_number y.mac) (λ y h. ltb-true n (mac_number y.mac) h) back (filter_passes (is_above n) xs) in
-    AllPairs-append R front back (AllPairs-filter R (is_below n) xs rising) (AllPairs-filter R (is_above n) xs rising)
+    let front : List Station = filter (is_below station_number n) xs in
+    let back : List Station = filter (is_above station_number n) xs in
+    let lower : All (λ y. mac_number y.mac < n) front = All-weaker (λ y. is_below station_number n y ≡ true) (λ y. mac_number y.mac < n) (λ y h. ltb-true (mac_number y.mac) n h) front (filter_passes (is_below station_number n) xs) in
+    let higher : All (λ y. n < mac_number y.mac) back = All-weaker (λ y. is_above station_number n y ≡ true) (λ y. n < mac_number y.mac) (λ y h. ltb-true n (mac_number y.mac) h) back (filter_passes (is_above station_number n) xs) in
+    AllPairs-append R front back (AllPairs-filter R (is_below station_number n) xs rising) (AllPairs-filter R (is_above station_number n) xs rising)
     (All-weaker (λ y. mac_number y.mac < n) (λ y. All (R y) back) (λ y low. All-weaker (λ z. n < mac_number z.mac) (R y) (λ z high. omega (arith, low, high)) back higher) front lower)
 
 pub count_without : (p : Station → Bool) (n : ℕ) (xs : List Station) → count_by p (without n xs) + count_by p (filter (is_of n) xs) ≡ count_by p xs
 count_without p n xs =
-    let both : count_by p (without n xs) ≡ count_by p (filter (is_below n) xs) + count_by p (filter (is_above n) xs) = sum_by-append (λ y. cond (p y) 1 0) (filter (is_below n) xs) (filter (is_above n) xs) in
+    let both : count_by p (without n xs) ≡ count_by p (filter (is_below station_number n) xs) + count_by p (filter (is_above station_number n) xs) = sum_by-append (λ y. cond (p y) 1 0) (filter (is_below station_number n) xs) (filter (is_above station_number n) xs) in
     omega (arith, both, count_parts n p xs)
 
 pub All-without : (P : Station → Type 0) (n : ℕ) (xs : List Station) → All P xs → All P (without n xs)
-All-without P n xs all = All-append P (filter (is_below n) xs) (filter (is_above n) xs) (All-filter (is_below n) P xs all) (All-filter (is_above n) P xs all)
+All-without P n xs all = All-append P (filter (is_below station_number n) xs) (filter (is_above station_number n) xs) (All-filter (is_below station_number n) P xs all) (All-filter (is_above station_number n) P xs all)
 
 pub IsWithinLimits-without : (n : ℕ) (xs : List Station) → IsWithinLimits xs → IsWithinLimits (without n xs)
 IsWithinLimits-without n xs within = record {
@@ -83,7 +84,7 @@ IsWithinLimits-without n xs within = record {
 -- the station with the MAC address is taken out
 pub remove_stands : (n : ℕ) (xs : List Station) (i : ℕ) → StandsAt n xs i → take i xs ++ drop (suc i) xs ≡ without n xs
 remove_stands n xs i at =
-    let back : drop (suc i) xs ≡ filter (is_above n) xs = rw add-one at at.above in
+    let back : drop (suc i) xs ≡ filter (is_above station_number n) xs = rw add-one at at.above in
     rw (at.below, back) refl
 
 pub belongs_without : (n : ℕ) (xs : List Station) (i : ℕ) → BelongsAt n xs i → xs ≡ without n xs
@@ -99,12 +100,12 @@ none_found {X} p (x ∷ xs) none =
 
 pub none_left : (n : ℕ) (xs : List Station) → All (λ x. is_of n x ≡ false) (without n xs)
 none_left n xs =
-    All-append (λ x. is_of n x ≡ false) (filter (is_below n) xs) (filter (is_above n) xs)
-    (All-weaker (λ y. is_below n y ≡ true) (λ y. is_of n y ≡ false) (λ y h. let less : mac_number y.mac < n = ltb-true (mac_number y.mac) n h in is_of-other n y (omega (arith, less))) (filter (is_below n) xs) (filter_passes (is_below n) xs))
-    (All-weaker (λ y. is_above n y ≡ true) (λ y. is_of n y ≡ false) (λ y h. let less : n < mac_number y.mac = ltb-true n (mac_number y.mac) h in is_of-other n y (omega (arith, less))) (filter (is_above n) xs) (filter_passes (is_above n) xs))
+    All-append (λ x. is_of n x ≡ false) (filter (is_below station_number n) xs) (filter (is_above station_number n) xs)
+    (All-weaker (λ y. is_below station_number n y ≡ true) (λ y. is_of n y ≡ false) (λ y h. let less : mac_number y.mac < n = ltb-true (mac_number y.mac) n h in is_of-other n y (omega (arith, less))) (filter (is_below station_number n) xs) (filter_passes (is_below station_number n) xs))
+    (All-weaker (λ y. is_above station_number n y ≡ true) (λ y. is_of n y ≡ false) (λ y h. let less : n < mac_number y.mac = ltb-true n (mac_number y.mac) h in is_of-other n y (omega (arith, less))) (filter (is_above station_number n) xs) (filter_passes (is_above station_number n) xs))
 
 -- where the one with the MAC address has ended, the same are live without it
-pub live_without_ended : (t n : ℕ) (xs : List Station) (i : ℕ) → IsRising xs → i < length xs → ((d : Station) → is_of n (get_or xs i d) ≡ true) → ((d : Station) → is_live t (get_or xs i d) ≡ false) → live_at t (without n xs) ≡ live_at t xs
+pub live_without_ended : (t n : ℕ) (xs : List Station) (i : ℕ) → IsRising station_number xs → i < length xs → ((d : Station) → is_of n (get_or xs i d) ≡ true) → ((d : Station) → is_live t (get_or xs i d) ≡ false) → live_at t (without n xs) ≡ live_at t xs
 live_without_ended t n xs i rising within of_it ended =
     live_without t n xs ∙ without_same n (live_at t xs) (AllPairs-filter (λ earlier later. mac_number earlier.mac < mac_number later.mac) (is_live t) xs rising) (none_live (filter_passes (is_live t) xs) (All-filter (is_live t) (λ x. is_of n x ≡ true → is_live t x ≡ false) xs each))
   where
@@ -131,7 +132,7 @@ live_without_ended t n xs i rising within of_it ended =
         ]
 
 -- where a station belongs once another one was taken out
-pub belongs_left : (n : ℕ) (xs : List Station) (gone at left : ℕ) → IsRising xs → gone < length xs → BelongsAt n xs at → (gone < at → left + 1 ≡ at) → (at ≤ gone → left ≡ at) → BelongsAt n (take gone xs ++ drop (suc gone) xs) left
+pub belongs_left : (n : ℕ) (xs : List Station) (gone at left : ℕ) → IsRising station_number xs → gone < length xs → BelongsAt n xs at → (gone < at → left + 1 ≡ at) → (at ≤ gone → left ≡ at) → BelongsAt n (take gone xs ++ drop (suc gone) xs) left
 belongs_left n xs gone at left rising within belongs_at before after =
     belongs n (take gone xs ++ drop (suc gone) xs) left (omega (arith, count, place))
     (λ k d from to. lower k d to (cases_Bool (nat_lt k gone)))
@@ -149,15 +150,15 @@ belongs_left n xs gone at left rising within belongs_at before after =
 
     low_at : (k : ℕ) (d : Station) → k < at → mac_number (get_or xs k d).mac < n
     low_at k d to =
-        let all : All (λ x. is_below n x ≡ true) (take at xs) = rw belongs_at.below (filter_passes (is_below n) xs) in
-        let here : is_below n (get_or (take at xs) k d) ≡ true = all k d (omega (arith, to, length-take-le at xs belongs_at.bound)) in
+        let all : All (λ x. is_below station_number n x ≡ true) (take at xs) = rw belongs_at.below (filter_passes (is_below station_number n) xs) in
+        let here : is_below station_number n (get_or (take at xs) k d) ≡ true = all k d (omega (arith, to, length-take-le at xs belongs_at.bound)) in
         let same : get_or (take at xs) k d ≡ get_or xs k d = get_or-take at xs k d to in
         ltb-true (mac_number (get_or xs k d).mac) n (rw same at here)
 
     high_at : (k : ℕ) (d : Station) → at ≤ k → k < length xs → n < mac_number (get_or xs k d).mac
     high_at k d from to =
-        let all : All (λ x. is_above n x ≡ true) (drop at xs) = rw belongs_at.above (filter_passes (is_above n) xs) in
-        let here : is_above n (get_or (drop at xs) (k - at) d) ≡ true = all (k - at) d (omega (arith, from, to, length-drop at xs)) in
+        let all : All (λ x. is_above station_number n x ≡ true) (drop at xs) = rw belongs_at.above (filter_passes (is_above station_number n) xs) in
+        let here : is_above station_number n (get_or (drop at xs) (k - at) d) ≡ true = all (k - at) d (omega (arith, from, to, length-drop at xs)) in
         let index : at + (k - at) ≡ k = omega (arith, from) in
         let same : get_or (drop at xs) (k - at) d ≡ get_or xs k d = get_or-drop at xs (k - at) d ∙ ap (λ j. get_or xs j d) index in
         ltb-true n (mac_number (get_or xs k d).mac) (rw same at here)

@@ -5,7 +5,8 @@ use Rattle.std.specs.List.{filter_map}
 use Rattle.savi_kinds.specs.Ports.{number_of}
 use Rattle.bridge_fdb.specs.declared.station.Station.{Station}
 use Rattle.bridge_fdb.specs.declared.kept.Kept.{Kept}
-use Rattle.bridge_fdb.specs.Stations.{mac_number, is_live, station_end, is_below, is_above}
+use Rattle.savi_kinds.specs.Orders.{is_below, is_above}
+use Rattle.bridge_fdb.specs.Stations.{station_number, mac_number, is_live, station_end}
 
 -- the MAC address of each as a number
 abbrev pub mac_numbers : List Station → List ℕ
@@ -21,7 +22,7 @@ listed kept = filter_map (in_slot kept.stations.items) kept.slots.items
 
 -- the stations but for the one with this MAC address
 abbrev pub without : ℕ → List Station → List Station
-without number stations = filter (is_below number) stations ++ filter (is_above number) stations
+without number stations = filter (is_below station_number number) stations ++ filter (is_above station_number number) stations
 
 -- a slot is one of a port's 256
 abbrev pub IsSlotOf : ℕ → ℕ → Type 0

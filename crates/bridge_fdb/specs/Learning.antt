@@ -3,7 +3,8 @@ use Rattle.std.specs.Prelude.{nat_le, Bool, not, ◌&&◌, if◌then◌else◌, 
 use Rattle.std.specs.List.{list_any}
 use Rattle.savi_kinds.specs.Ports.{number_of}
 use Rattle.bridge_fdb.specs.declared.station.Station.{Station}
-use Rattle.bridge_fdb.specs.Stations.{mac_number, is_of, is_below, is_above, is_at, stations_at}
+use Rattle.savi_kinds.specs.Orders.{is_below, is_above}
+use Rattle.bridge_fdb.specs.Stations.{station_number, mac_number, is_of, is_at, stations_at}
 
 -- whether the station is among those of its port
 abbrev pub is_known : Station → List Station → Bool
@@ -15,7 +16,7 @@ is_full station stations = nat_le 256 (stations_at (number_of station.port) stat
 
 -- the stations of lower MAC addresses, this one, and those of higher ones: one with its MAC address is gone
 abbrev pub with_station : Station → List Station → List Station
-with_station station stations = filter (is_below (mac_number station.mac)) stations ++ station ∷ filter (is_above (mac_number station.mac)) stations
+with_station station stations = filter (is_below station_number (mac_number station.mac)) stations ++ station ∷ filter (is_above station_number (mac_number station.mac)) stations
 
 -- the stations that are live once this one was seen, where these were: one that is live at its port is live anew, another
 -- one is now at its port, unless the port has 256 already; then nothing changes, so that it stays where it is live elsewhere

@@ -11,6 +11,10 @@ use Rattle.bridge_fdb.specs.declared.station.Station.{Station}
 unfoldable pub mac_number : Mac → ℕ
 mac_number mac = from_be_bytes w64 (0 ∷ 0 ∷ mac.0)
 
+-- the MAC address of a station as a number
+abbrev pub station_number : Station → ℕ
+station_number station = mac_number station.mac
+
 -- the station that was seen at a port at moment t
 abbrev pub station_of : Mac → Port → ℕ → Station
 station_of mac port t = record { mac = mac; port = port; last = t }
@@ -29,15 +33,7 @@ live_at t stations = filter (is_live t) stations
 
 -- whether a station's MAC address is the one with this number
 abbrev pub is_of : ℕ → Station → Bool
-is_of number station = mac_number station.mac == number
-
--- whether it is lower
-abbrev pub is_below : ℕ → Station → Bool
-is_below number station = nat_lt (mac_number station.mac) number
-
--- whether it is higher
-abbrev pub is_above : ℕ → Station → Bool
-is_above number station = nat_lt number (mac_number station.mac)
+is_of number station = station_number station == number
 
 -- whether a station was seen last at the port of this number
 abbrev pub is_at : ℕ → Station → Bool

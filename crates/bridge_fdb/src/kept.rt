@@ -3,9 +3,9 @@
 ghost use Rattle.std.specs.Prelude.{◌≡◌, ◌<◌, ◌≤◌, ◌+◌, ◌*◌, ◌-◌, ◌^◌, ◌++◌, ◌∷◌, ℕ, [], None, Some, take, drop, length, IfOk, MatchResult, slice_index_or, vec_capacity};
 ghost use Rattle.std.specs.List.{AllWithin, remove};
 ghost use Rattle.savi_kinds.specs.Ports.{number_of};
-ghost use Rattle.bridge_fdb.specs.Stations.{mac_number, live_at, stations_at};
+ghost use Rattle.bridge_fdb.specs.Stations.{mac_number, live_at, stations_at, station_number};
 ghost use Rattle.bridge_fdb.specs.Learning.{with_station};
-ghost use Rattle.bridge_fdb.specs.Limits.{IsRising};
+ghost use Rattle.savi_kinds.specs.Orders.{IsRising};
 ghost use Rattle.bridge_fdb.specs.Places.{IsPlaceOf, StandsAt, BelongsAt};
 ghost use Rattle.bridge_fdb.specs.Kept.{Keeps, IsFree, IsOwn, LivesUntil, in_slot, listed};
 ghost use Rattle.bridge_fdb.specs.declared.station.Station.{Station};
@@ -72,7 +72,7 @@ impl Kept {
     // The place of the station with this MAC address, or where it would stand. O(log n).
     pub(crate) fn search(&self, mac: Mac) -> Result<usize, usize>
         requires kept { Keeps self.now }
-        requires rising { IsRising (listed self.now) }
+        requires rising { IsRising station_number (listed self.now) }
         ensures { IsPlaceOf (mac_number mac) (listed self.now) result }
     {
         let wanted = number(mac);
@@ -91,7 +91,7 @@ impl Kept {
     // Puts a station in place of the one with its MAC address and port, which stands at this place.
     pub(crate) fn renew(&mut self, at: usize, station: Station)
         requires kept { Keeps self.old }
-        requires rising { IsRising (listed self.old) }
+        requires rising { IsRising station_number (listed self.old) }
         requires place { StandsAt (mac_number station.mac) (listed self.old) at }
         requires port { number_of (slice_index_or (listed self.old) at station).port ≡ number_of station.port }
         requires moment { station.last ≤ 2 ^ 62 }
@@ -145,7 +145,7 @@ impl Kept {
     // Gives up the station at this place. O(n): it moves those of higher MAC addresses.
     pub(crate) fn remove(&mut self, at: usize)
         requires kept { Keeps self.old }
-        requires rising { IsRising (listed self.old) }
+        requires rising { IsRising station_number (listed self.old) }
         requires within { at < length (listed self.old) }
         ensures listed { listed self.new ≡ remove (listed self.old) at }
         ensures kept { Keeps self.new }
@@ -160,7 +160,7 @@ impl Kept {
     // stations between the two.
     pub(crate) fn exchange(&mut self, gone: usize, at: usize, station: Station)
         requires kept { Keeps self.old }
-        requires rising { IsRising (listed self.old) }
+        requires rising { IsRising station_number (listed self.old) }
         requires within { gone < length (listed self.old) }
         requires place { BelongsAt (mac_number station.mac) (listed self.old) at }
         requires port { number_of (slice_index_or (listed self.old) gone station).port ≡ number_of station.port }

@@ -1,12 +1,12 @@
 -- The lines that were told before a read failed.
-use Rattle.std.proofs.Common.{◌≡◌, ℕ, Bool, true, false, List, [], ◌∷◌, ◌++◌, refl, sym, subst, ◌∙◌, Option, Some, None, IfSome, take, inl, inr}
+use Rattle.std.proofs.Common.{◌≡◌, ℕ, Bool, true, false, List, [], ◌∷◌, ◌++◌, refl, ap, sym, subst, ◌∙◌, Option, Some, None, IfSome, take, inl, inr}
 use Rattle.savi_kinds.specs.declared.entry.How.{How}
 use Rattle.savi_kinds.specs.declared.entry.How.TheVariants as how
 use Rattle.savi_ends.specs.Octets.{Takes}
 use Rattle.savi_ends.proofs.Octets.{takes_more}
 use Rattle.cli_lang.specs.declared.kinds.LineGot.{LineGot}
 use Rattle.cli_lang.specs.declared.kinds.LineGot.TheVariants as got
-use Rattle.cli_lang.specs.Arrivals.{StampedBy}
+use Rattle.cli_lang.specs.Arrivals.{Line, stamped_by}
 use Rattle.cli_lang.specs.Readers.{State, Running, Ended, Comes, Answers, HasReadOne, answer_of, ended}
 use Rattle.cli_lang.specs.Calls.{Told, AreCalls, lines_of, stamps_of, CallsBeforeFault}
 
@@ -75,19 +75,20 @@ calls_gave live (told ∷ later) state before after calls_are =
     let call = calls_are.2.octets in
     one_call live state calls_are.0 call.0 told.buf told.answer later before calls_are.1 after call.1 call.2 calls_are.3 (calls_gave live later calls_are.0 calls_are.1 after calls_are.3)
 
-stamped_one : (answer : LineGot) (buf : List ℕ) (later : List Told) → StampedBy true (stamps_of later) (lines_of later) → StampedBy true (stamps_of (record { answer = answer; buf = buf } ∷ later)) (lines_of (record { answer = answer; buf = buf } ∷ later))
-stamped_one (got.Line stamp len) buf later others = (refl, others)
-stamped_one got.End buf later others = tt
-stamped_one (got.Malformed at) buf later others = tt
-stamped_one (got.Overlong at) buf later others = tt
-stamped_one got.Failed buf later others = tt
+-- each line was told with its stamp
+stamped_one : (answer : LineGot) (buf : List ℕ) (later : List Told) → lines_of later ≡ stamped_by true (stamps_of later) (lines_of later) → lines_of (record { answer = answer; buf = buf } ∷ later) ≡ stamped_by true (stamps_of (record { answer = answer; buf = buf } ∷ later)) (lines_of (record { answer = answer; buf = buf } ∷ later))
+stamped_one (got.Line stamp len) buf later others = ap (λ (l : List Line). let x : Line = record { stamp = stamp; command = take len buf } in x ∷ l) others
+stamped_one got.End buf later others = refl
+stamped_one (got.Malformed at) buf later others = refl
+stamped_one (got.Overlong at) buf later others = refl
+stamped_one got.Failed buf later others = refl
 
-stamped : (live : Bool) (calls : List Told) → StampedBy live (stamps_of calls) (lines_of calls)
-stamped false calls = tt
-stamped true [] = tt
+stamped : (live : Bool) (calls : List Told) → lines_of calls ≡ stamped_by live (stamps_of calls) (lines_of calls)
+stamped false calls = refl
+stamped true [] = refl
 stamped true (told ∷ later) = stamped_one told.answer told.buf later (stamped true later)
 
 pub calls_before_fault : CallsBeforeFault
 calls_before_fault live before calls after calls_are =
     let all = calls_gave live calls (Running 0 []) before after calls_are in
-    (all.gave, all.takes, record { run = all.comes; stamps = stamped live calls })
+    (all.gave, all.takes, record { whole = lines_of calls; run = all.comes; stamps = stamped live calls })

@@ -16,9 +16,10 @@ use Rattle.cli_lang.specs.declared.kinds.CmdFault.{CmdFault}
 use Rattle.cli_lang.specs.declared.kinds.CmdFault.TheVariants as fault
 use Rattle.cli_lang.specs.Words.{words_of}
 use Rattle.cli_lang.specs.Commands.{Form, ShowBindings, ShowPorts, ShowCounters, ShowStations, Clear, Static, Shut, Open, Quit, words_for, Gives, GivesPort, IsPortText, IsNoAddr, IsNoPort, WordsGive, LineGives}
-use Rattle.cli_lang.specs.CommandOf.{all_ports, port_of_text, addr_of, forms_for, form_of, with_port, command_in, command_of}
+use Rattle.cli_lang.specs.CommandOf.{all_ports, port_of_text, forms_for, form_of, with_port, command_in, command_of}
 use Rattle.cli_lang.proofs.OneAnswer.{one_answer}
-use Rattle.cli_lang.proofs.AddrFound.{addr_read}
+use Rattle.savi_kinds.specs.AddrOf.{addr_of}
+use Rattle.savi_kinds.proofs.AddrFound.{addr_read}
 
 -- what is found passes the test
 found : {X : Type 0} (test : X → Bool) (xs : List X) (x : X) → find test xs ≡ Some x → test x ≡ true

@@ -8,7 +8,7 @@ use Rattle.std.specs.Str.{bytes_eq}
 use Rattle.std.specs.Str.Parse.{digits_value}
 use Rattle.savi_kinds.specs.declared.entry.How.{How}
 use Rattle.savi_kinds.specs.declared.entry.How.TheVariants as how
-use Rattle.cli_lang.specs.Arrivals.{Line, Input, HasNoFeed, Says, IsLine, IsLong, IsRun, EndsAs, StampedBy, Arrive}
+use Rattle.cli_lang.specs.Arrivals.{Line, Input, HasNoFeed, Says, IsLine, IsLong, IsRun, EndsAs, Arrive, stamped_by}
 use Rattle.cli_lang.proofs.WordsFound.{word_or_words}
 use Rattle.cli_lang.proofs.TextSays.{one_word_says, no_stamp_says, stamp_says}
 
@@ -47,25 +47,6 @@ long_front octets text tail split apart long =
     let front : take 121 octets ≡ take 121 text = ap (take 121) split ∙ take-append-le 121 text tail (omega arith) in
     record { enough = omega (arith, ap length split, length-append text tail); apart = subst HasNoFeed (sym front) (no_feed_take 121 text apart) }
 
--- the stamps that are left behind the first
-later_readings : List ℕ → List ℕ
-later_readings [] = []
-later_readings (r ∷ readings) = readings
-
-first_reading : List ℕ → ℕ
-first_reading [] = 0
-first_reading (r ∷ readings) = r
-
-stamped_none : (live : Bool) (readings : List ℕ) → StampedBy live readings []
-stamped_none false readings = tt
-stamped_none true [] = tt
-stamped_none true (r ∷ readings) = tt
-
-stamped_more : (readings : List ℕ) (command : List ℕ) (lines : List Line) → StampedBy true (later_readings readings) lines → StampedBy true readings (record { stamp = first_reading readings; command = command } ∷ lines)
-unfolding later_readings first_reading
-stamped_more [] command lines stamped = tt
-stamped_more (r ∷ readings) command lines stamped = (refl, stamped)
-
 -- a text is a stamp or none
 stamp_or_not : (text : List ℕ) → ((n : ℕ) × (text ≡ decimal n) × (n < 2 ^ 64)) ⊎ ((n : ℕ) → n < 2 ^ 64 → text ≢ decimal n)
 stamp_or_not text =
@@ -85,89 +66,86 @@ stamp_or_not text =
         let set : bytes_eq text (decimal (digits_value 10 text)) ≡ true = (bytes_eq-Decides text (decimal (digits_value 10 text))).1 same in
         cc)
 
--- what the text of a line says, with a stamp that is the first reading where the input is live
-record Said (live : Bool) (readings text : List ℕ) : Type 0 where
+-- what the text of a line says; the stamp of a live one is free
+record Said (live : Bool) (text : List ℕ) : Type 0 where
   line : Line
   says : Says live text line
-  stamped : (lines : List Line) → StampedBy live (later_readings readings) lines → StampedBy live readings (line ∷ lines)
 
-said_or_not : (live : Bool) (readings text : List ℕ) → Said live readings text ⊎ ((line : Line) → ¬ Says live text line)
-said_or_not true readings text = inl (record { line = record { stamp = first_reading readings; command = text }; says = refl; stamped = λ lines stamped. stamped_more readings text lines stamped })
-said_or_not false readings text =
+said_or_not : (live : Bool) (text : List ℕ) → Said live text ⊎ ((line : Line) → ¬ Says live text line)
+said_or_not true text = inl (record { line = record { stamp = 0; command = text }; says = refl })
+said_or_not false text =
     elim (word_or_words text) [
       | inl one ↦ inr (one_word_says false text refl one)
       | inr two ↦ elim (stamp_or_not two.0) [
         | inr none ↦ inr (no_stamp_says false text two.0 two.1 refl two.2 none)
-        | inl stamp ↦ inl (record { line = record { stamp = stamp.0; command = two.1 }; says = stamp_says false text two.0 two.1 two.1 stamp.0 refl two.2 stamp.1 stamp.2 refl; stamped = λ lines stamped. tt })
+        | inl stamp ↦ inl (record { line = record { stamp = stamp.0; command = two.1 }; says = stamp_says false text two.0 two.1 two.1 stamp.0 refl two.2 stamp.1 stamp.2 refl })
       ]
     ]
 
 -- what is left at a place is some run
-record Later (live seen : Bool) (readings : List ℕ) (place : ℕ) (octets : List ℕ) : Type 0 where
+record Later (live seen : Bool) (place : ℕ) (octets : List ℕ) : Type 0 where
   lines : List Line
   ending : How
   run : IsRun live seen place lines ending octets
-  stamped : StampedBy live readings lines
 
-no_line : (live seen : Bool) (readings : List ℕ) (place : ℕ) (octets : List ℕ) (ending : How) → EndsAs live seen place ending octets → Later live seen readings place octets
-no_line live seen readings place octets ending ends = record { lines = []; ending = ending; run = ends; stamped = stamped_none live readings }
+no_line : (live seen : Bool) (place : ℕ) (octets : List ℕ) (ending : How) → EndsAs live seen place ending octets → Later live seen place octets
+no_line live seen place octets ending ends = record { lines = []; ending = ending; run = ends }
 
-one_line : (live seen : Bool) (readings : List ℕ) (place : ℕ) (octets text front rest : List ℕ) → octets ≡ front ++ rest → IsLine seen text front rest → Later live seen (later_readings readings) (place + length front) rest → Later live seen readings place octets
-one_line live seen readings place octets text front rest split line later =
+one_line : (live seen : Bool) (place : ℕ) (octets text front rest : List ℕ) → octets ≡ front ++ rest → IsLine seen text front rest → Later live seen (place + length front) rest → Later live seen place octets
+one_line live seen place octets text front rest split line later =
     elim (cases_lt (2 ^ 62) (place + length front)) [
-      | inl past ↦ no_line live seen readings place octets (how.Malformed place) (refl, inr (record { text = text; front = front; rest = rest; split = split; line = line; bad = inl past }))
-      | inr within ↦ elim (said_or_not live readings text) [
-        | inr none ↦ no_line live seen readings place octets (how.Malformed place) (refl, inr (record { text = text; front = front; rest = rest; split = split; line = line; bad = inr none }))
+      | inl past ↦ no_line live seen place octets (how.Malformed place) (refl, inr (record { text = text; front = front; rest = rest; split = split; line = line; bad = inl past }))
+      | inr within ↦ elim (said_or_not live text) [
+        | inr none ↦ no_line live seen place octets (how.Malformed place) (refl, inr (record { text = text; front = front; rest = rest; split = split; line = line; bad = inr none }))
         | inl said ↦ record {
           lines = said.line ∷ later.lines;
           ending = later.ending;
           run = (front, rest, split, (text, line, said.says, within), later.run);
-          stamped = said.stamped later.lines later.stamped;
         }
       ]
     ]
 
-long_line : (live seen : Bool) (readings : List ℕ) (place : ℕ) (octets : List ℕ) → IsLong octets → Later live seen readings place octets
-long_line live seen readings place octets long =
+long_line : (live seen : Bool) (place : ℕ) (octets : List ℕ) → IsLong octets → Later live seen place octets
+long_line live seen place octets long =
     elim (cases_lt (2 ^ 62) (place + 121)) [
-      | inl past ↦ no_line live seen readings place octets (how.Malformed place) (refl, inl (long, past))
-      | inr within ↦ no_line live seen readings place octets (how.Overlong place) (refl, long, within)
+      | inl past ↦ no_line live seen place octets (how.Malformed place) (refl, inl (long, past))
+      | inr within ↦ no_line live seen place octets (how.Overlong place) (refl, long, within)
     ]
 
 -- what is left has no line feed
-last_line : (live seen : Bool) (readings : List ℕ) (place : ℕ) (octets : List ℕ) → HasNoFeed octets → length octets ≤ 120 → Later live seen readings place octets
-last_line live false readings place octets apart short = no_line live false readings place octets how.Failed (refl, apart, short)
-last_line live true readings place [] apart short = no_line live true readings place [] how.End (refl, refl)
-last_line live true readings place (c ∷ octets) apart short =
+last_line : (live seen : Bool) (place : ℕ) (octets : List ℕ) → HasNoFeed octets → length octets ≤ 120 → Later live seen place octets
+last_line live false place octets apart short = no_line live false place octets how.Failed (refl, apart, short)
+last_line live true place [] apart short = no_line live true place [] how.End (refl, refl)
+last_line live true place (c ∷ octets) apart short =
     let text = c ∷ octets in
-    one_line live true readings place text text text [] (sym (append-nil text)) (record { apart = apart; short = short; whole = inr (refl, (λ none. absurd (omega (arith, ap length none))), refl, refl) })
-    (no_line live true (later_readings readings) (place + length text) [] how.End (refl, refl))
+    one_line live true place text text text [] (sym (append-nil text)) (record { apart = apart; short = short; whole = inr (refl, (λ none. absurd (omega (arith, ap length none))), refl, refl) })
+    (no_line live true (place + length text) [] how.End (refl, refl))
 
-some_run : (most : ℕ) (live seen : Bool) (readings : List ℕ) (place : ℕ) (octets : List ℕ) → length octets ≤ most → Later live seen readings place octets
-some_run zero live seen readings place octets within = last_line live seen readings place octets (λ k d inside. absurd (omega arith)) (omega arith)
-some_run (suc most) live seen readings place octets within =
+some_run : (most : ℕ) (live seen : Bool) (place : ℕ) (octets : List ℕ) → length octets ≤ most → Later live seen place octets
+some_run zero live seen place octets within = last_line live seen place octets (λ k d inside. absurd (omega arith)) (omega arith)
+some_run (suc most) live seen place octets within =
     elim (first_feed octets) [
       | inr apart ↦ elim (cases_lt 120 (length octets)) [
-        | inl long ↦ long_line live seen readings place octets (long_front octets octets [] (sym (append-nil octets)) apart long)
-        | inr short ↦ last_line live seen readings place octets apart short
+        | inl long ↦ long_line live seen place octets (long_front octets octets [] (sym (append-nil octets)) apart long)
+        | inr short ↦ last_line live seen place octets apart short
       ]
       | inl found ↦ elim (cases_lt 120 (length found.text)) [
-        | inl long ↦ long_line live seen readings place octets (long_front octets found.text (10 ∷ found.rest) found.split found.apart long)
+        | inl long ↦ long_line live seen place octets (long_front octets found.text (10 ∷ found.rest) found.split found.apart long)
         | inr short ↦
             let front = found.text ++ (10 ∷ []) in
-            one_line live seen readings place octets found.text front found.rest
+            one_line live seen place octets found.text front found.rest
             (found.split ∙ sym (append_assoc found.text (10 ∷ []) found.rest))
             (record { apart = found.apart; short = short; whole = inl refl })
-            (some_run most live seen (later_readings readings) (place + length front) found.rest (omega (arith, within, ap length found.split, length-append found.text (10 ∷ found.rest))))
+            (some_run most live seen (place + length front) found.rest (omega (arith, within, ap length found.split, length-append found.text (10 ∷ found.rest))))
       ]
     ]
 
-pub some_later : (live seen : Bool) (readings : List ℕ) (place : ℕ) (octets : List ℕ) → (lines : List Line) × (ending : How) × IsRun live seen place lines ending octets × StampedBy live readings lines
-some_later live seen readings place octets =
-    let later = some_run (length octets) live seen readings place octets (omega arith) in
-    (later.lines, later.ending, later.run, later.stamped)
+pub some_later : (live seen : Bool) (place : ℕ) (octets : List ℕ) → (lines : List Line) × (ending : How) × IsRun live seen place lines ending octets
+some_later live seen place octets =
+    let later = some_run (length octets) live seen place octets (omega arith) in
+    (later.lines, later.ending, later.run)
 
 pub some_input : (live seen : Bool) (readings octets : List ℕ) → (input : Input) × Arrive live seen readings octets input
 some_input live seen readings octets =
-    let later = some_later live seen readings 0 octets in
-    (record { arrivals = later.0; ending = later.1 }, record { run = later.2; stamps = later.3 })
+    let later = some_later live seen 0 octets in
+    (record { arrivals = stamped_by live readings later.0; ending = later.1 }, record { whole = later.0; run = later.2; stamps = refl })

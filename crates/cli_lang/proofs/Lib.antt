@@ -1,7 +1,6 @@
 pub mod WordsFound
 pub mod PortRead
 pub mod OneAnswer
-pub mod AddrFound
 pub mod CommandFound
 pub mod WordsJoined
 pub mod TextSays

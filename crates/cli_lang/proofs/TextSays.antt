@@ -3,7 +3,8 @@ use Rattle.std.proofs.Common.{ℕ, suc, ◌≡◌, ◌≢◌, ◌^◌, ◌<◌, 
 use Rattle.std.proofs.lemmas.Fmt.{decimal_is_IsNumeral}
 use Rattle.std.proofs.lemmas.Str.Parse.{digit_at}
 use Rattle.std.specs.List.{join_with_byte}
-use Rattle.cli_lang.specs.Words.{begun_with, words_of}
+use Rattle.savi_kinds.specs.AddrOf.{begun_with}
+use Rattle.cli_lang.specs.Words.{words_of}
 use Rattle.cli_lang.specs.Arrivals.{Line, Says}
 use Rattle.cli_lang.proofs.WordsFound.{some_word}
 use Rattle.cli_lang.proofs.WordsJoined.{join_first, words_joined}

@@ -5,7 +5,7 @@ use Rattle.std.specs.List.{join_with_byte}
 use Rattle.savi_kinds.specs.declared.entry.How.{How}
 use Rattle.savi_kinds.specs.declared.entry.How.TheVariants as how
 use Rattle.cli_lang.specs.Words.{words_of}
-use Rattle.cli_lang.specs.Arrivals.{Line, Input, HasNoFeed, Says, IsLine, IsLong, BeginsBadLine, IsRun, EndsAs, StampedBy, Arrive}
+use Rattle.cli_lang.specs.Arrivals.{Line, Input, HasNoFeed, Says, IsLine, IsLong, BeginsBadLine, IsRun, EndsAs, Arrive, stamped_by}
 use Rattle.cli_lang.proofs.WordsJoined.{words_joined}
 use Rattle.cli_lang.proofs.TextSays.{said_words}
 
@@ -138,70 +138,52 @@ ending_once live seen place octets e how.Quit one other = absurd other
 ending_once live seen place octets e how.Unwritten one other = absurd other
 ending_once live seen place octets e (how.Full len) one other = absurd other
 
--- as many readings as there may be lines, where the input is live
-abbrev pub Enough : Bool → List ℕ → List ℕ → Type 0
-Enough true readings octets = length octets ≤ length readings
-Enough false readings octets = Unit {0}
-
 line_same : (a b : Line) → a.stamp ≡ b.stamp → a.command ≡ b.command → a ≡ b
 line_same a b stamp command = ap₂ (λ (s : ℕ) (t : List ℕ). let l : Line = record { stamp = s; command = t } in l) stamp command
 
--- the readings that are left behind a line
-abbrev pub later : Bool → List ℕ → List ℕ
-later true [] = []
-later true (r ∷ readings) = readings
-later false readings = readings
-
-stamped_later : (live : Bool) (readings : List ℕ) (a : Line) (lines : List Line) → StampedBy live readings (a ∷ lines) → StampedBy live (later live readings) lines
-stamped_later true [] a [] stamped = tt
-stamped_later true [] a (b ∷ lines) stamped = tt
-stamped_later true (r ∷ readings) a lines stamped = stamped.1
-stamped_later false readings a lines stamped = tt
-
-enough_later : (live : Bool) (readings octets front rest : List ℕ) → octets ≡ front ++ rest → 0 < length front → Enough live readings octets → Enough live (later live readings) rest
-enough_later true [] octets front rest split some enough = omega (arith, ap length split, length-append front rest, some, enough)
-enough_later true (r ∷ readings) octets front rest split some enough = omega (arith, ap length split, length-append front rest, some, enough)
-enough_later false readings octets front rest split some enough = tt
+-- the same line, but for its stamp where the input is live
+abbrev pub IsSame : Bool → Line → Line → Type 0
+IsSame true a b = a.command ≡ b.command
+IsSame false a b = a ≡ b
 
 -- a text says one line
-says_once : (live : Bool) (readings text octets : List ℕ) (a b : Line) (lines others : List Line) → Says live text a → Says live text b → StampedBy live readings (a ∷ lines) → StampedBy live readings (b ∷ others) → Enough live readings octets → 0 < length octets → a ≡ b
-says_once true [] text octets a b lines others one other stamped stamped' enough some = absurd (omega (arith, enough, some))
-says_once true (r ∷ readings) text octets a b lines others one other stamped stamped' enough some =
-    line_same a b (stamped.0 ∙ sym stamped'.0) (sym one ∙ other)
-says_once false readings text octets a b lines others one other stamped stamped' enough some =
+says_once : (live : Bool) (text : List ℕ) (a b : Line) → Says live text a → Says live text b → IsSame live a b
+says_once true text a b one other = sym one ∙ other
+says_once false text a b one other =
     let both : decimal a.stamp ∷ words_of a.command ≡ decimal b.stamp ∷ words_of b.command = sym (said_words text a one) ∙ said_words text b other in
     let digits : decimal a.stamp ≡ decimal b.stamp = cc in
     let words : words_of a.command ≡ words_of b.command = cc in
     line_same a b (decimal_injective a.stamp b.stamp one.1 other.1 digits) (sym (words_joined a.command) ∙ ap (join_with_byte 32) words ∙ words_joined b.command)
 
--- what is left at a place is one run
-run_once : (lines others : List Line) (e f : How) (live seen : Bool) (readings : List ℕ) (place : ℕ) (octets : List ℕ) → IsRun live seen place lines e octets → IsRun live seen place others f octets → StampedBy live readings lines → StampedBy live readings others → Enough live readings octets → (lines ≡ others) × (e ≡ f)
-run_once [] [] e f live seen readings place octets one other stamped stamped' enough = (refl, ending_once live seen place octets e f one other)
-run_once [] (b ∷ others) e f live seen readings place octets one other stamped stamped' enough =
+-- lines that are the same but for their stamps, stamped by the same readings
+stamped_same : (live : Bool) (readings : List ℕ) (a b : Line) (lines others : List Line) → IsSame live a b → ((later : List ℕ) → stamped_by live later lines ≡ stamped_by live later others) → stamped_by live readings (a ∷ lines) ≡ stamped_by live readings (b ∷ others)
+stamped_same false readings a b lines others same rest = ap₂ (λ (x : Line) (l : List Line). x ∷ l) same (rest readings)
+stamped_same true [] a b lines others same rest = refl
+stamped_same true (r ∷ readings) a b lines others same rest = ap₂ (λ (c : List ℕ) (l : List Line). let x : Line = record { stamp = r; command = c } in x ∷ l) same (rest readings)
+
+-- what is left at a place is one run, but for the stamps of live lines
+run_once : (lines others : List Line) (e f : How) (live seen : Bool) (place : ℕ) (octets : List ℕ) → IsRun live seen place lines e octets → IsRun live seen place others f octets → ((readings : List ℕ) → stamped_by live readings lines ≡ stamped_by live readings others) × (e ≡ f)
+run_once [] [] e f live seen place octets one other = ((λ readings. refl), ending_once live seen place octets e f one other)
+run_once [] (b ∷ others) e f live seen place octets one other =
     absurd (no_ending live seen place e octets other.3.0 other.0 other.1 b one other.2 other.3.1 other.3.2 other.3.3)
-run_once (a ∷ lines) [] e f live seen readings place octets one other stamped stamped' enough =
+run_once (a ∷ lines) [] e f live seen place octets one other =
     absurd (no_ending live seen place f octets one.3.0 one.0 one.1 a other one.2 one.3.1 one.3.2 one.3.3)
-run_once (a ∷ lines) (b ∷ others) e f live seen readings place octets one other stamped stamped' enough =
+run_once (a ∷ lines) (b ∷ others) e f live seen place octets one other =
     let same = pieces_once seen octets one.3.0 one.0 one.1 other.3.0 other.0 other.1 one.2 other.2 one.3.1.apart other.3.1.apart one.3.1.whole other.3.1.whole in
-    let some : 0 < length one.0 = front_some seen one.3.0 one.0 one.1 one.3.1.whole in
-    let first : a ≡ b = says_once live readings one.3.0 octets a b lines others one.3.2 (subst (λ (t : List ℕ). Says live t b) (sym same.0) other.3.2) stamped stamped' enough (omega (arith, some, ap length one.2, length-append one.0 one.1)) in
+    let first : IsSame live a b = says_once live one.3.0 a b one.3.2 (subst (λ (t : List ℕ). Says live t b) (sym same.0) other.3.2) in
     let behind : IsRun live seen (place + length one.0) others f one.1 =
     subst (λ (l : List ℕ). IsRun live seen (place + length l) others f one.1) (sym same.1)
     (subst (λ (l : List ℕ). IsRun live seen (place + length other.0) others f l) (sym same.2) other.4) in
-    let rest = run_once lines others e f live seen (later live readings) (place + length one.0) one.1 one.4 behind (stamped_later live readings a lines stamped) (stamped_later live readings b others stamped') (enough_later live readings octets one.0 one.1 one.2 some enough) in
-    (ap₂ (λ (x : Line) (l : List Line). x ∷ l) first rest.0, rest.1)
+    let rest = run_once lines others e f live seen (place + length one.0) one.1 one.4 behind in
+    ((λ readings. stamped_same live readings a b lines others first rest.0), rest.1)
 
 input_same : (one other : Input) → one.arrivals ≡ other.arrivals → one.ending ≡ other.ending → one ≡ other
 input_same one other arrivals ending = ap₂ (λ (l : List Line) (e : How). let i : Input = record { arrivals = l; ending = e } in i) arrivals ending
 
-pub one_input : (live seen : Bool) (readings octets : List ℕ) (one other : Input) → (IsTrue live → length octets ≤ length readings) → Arrive live seen readings octets one → Arrive live seen readings octets other → one ≡ other
-one_input live seen readings octets one other enough a b =
-    let same = run_once one.arrivals other.arrivals one.ending other.ending live seen readings 0 octets a.run b.run a.stamps b.stamps (enough_of live enough) in
-    input_same one other same.0 same.1
-  where
-    enough_of : (l : Bool) → (IsTrue l → length octets ≤ length readings) → Enough l readings octets
-    enough_of true given = given refl
-    enough_of false given = tt
+pub one_input : (live seen : Bool) (readings octets : List ℕ) (one other : Input) → Arrive live seen readings octets one → Arrive live seen readings octets other → one ≡ other
+one_input live seen readings octets one other a b =
+    let same = run_once a.whole b.whole one.ending other.ending live seen 0 octets a.run b.run in
+    input_same one other (a.stamps ∙ same.0 readings ∙ sym b.stamps) same.1
 
 -- a line of an input that wasn't seen to end has its line feed
 unseen_line : (seen : Bool) (text front rest more : List ℕ) → IsLine false text front rest → IsLine seen text front more
@@ -211,28 +193,39 @@ unseen_line seen text front rest more line = record {
   whole = elim line.whole [ inl feed ↦ inl feed | inr last ↦ absurd (true≢false (sym last.0)) ];
 }
 
+-- the stamped lines of a front are a front of the stamped lines
+abbrev IsStampedFront : Bool → List ℕ → List Line → List Line → Type 0
+IsStampedFront live readings lines others = (rest : List Line) × (stamped_by live readings others ≡ stamped_by live readings lines ++ rest)
+
+front_none : (live : Bool) (readings : List ℕ) (others : List Line) → IsStampedFront live readings [] others
+front_none false readings others = (others, refl)
+front_none true [] others = ([], refl)
+front_none true (r ∷ readings) others = (stamped_by true (r ∷ readings) others, refl)
+
+front_same : (live : Bool) (readings : List ℕ) (a b : Line) (lines others : List Line) → IsSame live a b → ((later : List ℕ) → IsStampedFront live later lines others) → IsStampedFront live readings (a ∷ lines) (b ∷ others)
+front_same false readings a b lines others same rest =
+    let more = rest readings in (more.0, ap₂ (λ (x : Line) (l : List Line). x ∷ l) (sym same) more.1)
+front_same true [] a b lines others same rest = ([], refl)
+front_same true (r ∷ readings) a b lines others same rest =
+    let more = rest readings in (more.0, ap₂ (λ (c : List ℕ) (l : List Line). let x : Line = record { stamp = r; command = c } in x ∷ l) (sym same) more.1)
+
 -- a front of some octets holds a front of their lines
-front_run : (lines others : List Line) (e f : How) (live seen : Bool) (readings : List ℕ) (place : ℕ) (octets more : List ℕ) → IsRun live false place lines e octets → IsRun live seen place others f (octets ++ more) → StampedBy live readings lines → StampedBy live readings others → Enough live readings (octets ++ more) → (rest : List Line) × (others ≡ lines ++ rest)
-front_run [] others e f live seen readings place octets more one whole stamped stamped' enough = (others, refl)
-front_run (a ∷ lines) [] e f live seen readings place octets more one whole stamped stamped' enough =
+front_run : (lines others : List Line) (e f : How) (live seen : Bool) (place : ℕ) (octets more : List ℕ) → IsRun live false place lines e octets → IsRun live seen place others f (octets ++ more) → (readings : List ℕ) → IsStampedFront live readings lines others
+front_run [] others e f live seen place octets more one whole readings = front_none live readings others
+front_run (a ∷ lines) [] e f live seen place octets more one whole readings =
     let split : octets ++ more ≡ one.0 ++ (one.1 ++ more) = ap (λ (l : List ℕ). l ++ more) one.2 ∙ append_assoc one.0 one.1 more in
     absurd (no_ending live seen place f (octets ++ more) one.3.0 one.0 (one.1 ++ more) a whole split (unseen_line seen one.3.0 one.0 one.1 (one.1 ++ more) one.3.1) one.3.2 one.3.3)
-front_run (a ∷ lines) (b ∷ others) e f live seen readings place octets more one whole stamped stamped' enough =
+front_run (a ∷ lines) (b ∷ others) e f live seen place octets more one whole readings =
     let split : octets ++ more ≡ one.0 ++ (one.1 ++ more) = ap (λ (l : List ℕ). l ++ more) one.2 ∙ append_assoc one.0 one.1 more in
     let line = unseen_line seen one.3.0 one.0 one.1 (one.1 ++ more) one.3.1 in
     let same = pieces_once seen (octets ++ more) one.3.0 one.0 (one.1 ++ more) whole.3.0 whole.0 whole.1 split whole.2 line.apart whole.3.1.apart line.whole whole.3.1.whole in
-    let some : 0 < length one.0 = front_some seen one.3.0 one.0 (one.1 ++ more) line.whole in
-    let first : a ≡ b = says_once live readings one.3.0 (octets ++ more) a b lines others one.3.2 (subst (λ (t : List ℕ). Says live t b) (sym same.0) whole.3.2) stamped stamped' enough (omega (arith, some, ap length split, length-append one.0 (one.1 ++ more))) in
+    let first : IsSame live a b = says_once live one.3.0 a b one.3.2 (subst (λ (t : List ℕ). Says live t b) (sym same.0) whole.3.2) in
     let behind : IsRun live seen (place + length one.0) others f (one.1 ++ more) =
     subst (λ (l : List ℕ). IsRun live seen (place + length l) others f (one.1 ++ more)) (sym same.1)
     (subst (λ (l : List ℕ). IsRun live seen (place + length whole.0) others f l) (sym same.2) whole.4) in
-    let rest = front_run lines others e f live seen (later live readings) (place + length one.0) one.1 more one.4 behind (stamped_later live readings a lines stamped) (stamped_later live readings b others stamped') (enough_later live readings (octets ++ more) one.0 (one.1 ++ more) split some enough) in
-    (rest.0, ap₂ (λ (x : Line) (l : List Line). x ∷ l) (sym first) rest.1)
+    front_same live readings a b lines others first (front_run lines others e f live seen (place + length one.0) one.1 more one.4 behind)
 
-pub front_input : (live seen : Bool) (readings octets more : List ℕ) (part whole : Input) → (IsTrue live → length (octets ++ more) ≤ length readings) → Arrive live false readings octets part → Arrive live seen readings (octets ++ more) whole → (rest : List Line) × (whole.arrivals ≡ part.arrivals ++ rest)
-front_input live seen readings octets more part whole enough a b =
-    front_run part.arrivals whole.arrivals part.ending whole.ending live seen readings 0 octets more a.run b.run a.stamps b.stamps (enough_of live enough)
-  where
-    enough_of : (l : Bool) → (IsTrue l → length (octets ++ more) ≤ length readings) → Enough l readings (octets ++ more)
-    enough_of true given = given refl
-    enough_of false given = tt
+pub front_input : (live seen : Bool) (readings octets more : List ℕ) (part whole : Input) → Arrive live false readings octets part → Arrive live seen readings (octets ++ more) whole → (rest : List Line) × (whole.arrivals ≡ part.arrivals ++ rest)
+front_input live seen readings octets more part whole a b =
+    let front = front_run a.whole b.whole part.ending whole.ending live seen 0 octets more a.run b.run readings in
+    (front.0, b.stamps ∙ front.1 ∙ ap (λ (l : List Line). l ++ front.0) (sym a.stamps))

@@ -5,9 +5,9 @@ use Rattle.savi_kinds.specs.declared.entry.How.TheVariants as how
 use Rattle.savi_ends.specs.Octets.{Takes}
 use Rattle.cli_lang.specs.declared.kinds.LineGot.{LineGot}
 use Rattle.cli_lang.specs.declared.kinds.LineGot.TheVariants as got
-use Rattle.cli_lang.specs.Arrivals.{Line, Input, StampedBy}
+use Rattle.cli_lang.specs.Arrivals.{Line, Input}
 use Rattle.cli_lang.specs.Readers.{State, Running, Ended, Comes, Answers, HasReadOne, HasEnded, answer_of, ended}
-use Rattle.cli_lang.specs.Calls.{Told, AreCalls, AllAnswer, AnswersAre, stamps_of, CallsGiveInput}
+use Rattle.cli_lang.specs.Calls.{Told, AreCalls, AllAnswer, AnswersAre, CallsGiveInput}
 use Rattle.cli_lang.proofs.Existence.{some_later}
 
 -- a reader that has ended answers the same
@@ -22,23 +22,14 @@ ended_stays live ending last (told ∷ later) before after new is calls_are =
 record Gives (live : Bool) (state : State) (octets : List ℕ) (calls : List Told) : Type 0 where
   input : Input
   comes : Comes live true state octets input
-  stamps : StampedBy live (stamps_of calls) input.arrivals
   are : AnswersAre calls input.arrivals input.ending
 
 -- what a reader in any state will give
 some_gives : (live : Bool) (state : State) (octets : List ℕ) → (input : Input) × Comes live true state octets input
 some_gives live (Running place held) octets =
-    let later = some_later live true [] place (held ++ octets) in
+    let later = some_later live true place (held ++ octets) in
     (record { arrivals = later.0; ending = later.1 }, later.2)
 some_gives live (Ended ending) octets = (ended ending, refl)
-
-no_stamps : (live : Bool) (lines : List Line) → StampedBy live [] lines
-no_stamps true lines = tt
-no_stamps false lines = tt
-
-more_stamps : (live : Bool) (stamp : ℕ) (command : List ℕ) (readings : List ℕ) (lines : List Line) → StampedBy live readings lines → StampedBy live (stamp ∷ readings) (record { stamp = stamp; command = command } ∷ lines)
-more_stamps true stamp command readings lines stamped = (refl, stamped)
-more_stamps false stamp command readings lines stamped = tt
 
 -- what holds of a call that ended the input
 ending_comes : (live : Bool) (state new : State) (gave rest : List ℕ) (ending : How) → HasEnded live state new gave (Some rest) ending → Comes live true state (gave ++ rest) (ended ending)
@@ -56,35 +47,29 @@ one_call live state mid gave rest buf (got.Line stamp len) later new after answe
     line_call (inl read) = record {
       input = record { arrivals = record { stamp = stamp; command = take len buf } ∷ others.input.arrivals; ending = others.input.ending };
       comes = read.1 true rest others.input.arrivals others.input.ending others.comes;
-      stamps = more_stamps live stamp (take len buf) (stamps_of later) others.input.arrivals others.stamps;
       are = (refl, others.are);
     }
     line_call (inr last) =
         let none : others.input ≡ ended how.End = subst (λ (s : State). Comes live true s rest others.input) last.0 others.comes in
         let stays : AnswersAre later [] how.End = subst (λ (i : Input). AnswersAre later i.arrivals i.ending) none others.are in
-        let stamped : StampedBy live (stamps_of later) [] = subst (λ (i : Input). StampedBy live (stamps_of later) i.arrivals) none others.stamps in
         record {
           input = record { arrivals = record { stamp = stamp; command = take len buf } ∷ []; ending = how.End };
           comes = subst (λ (l : List ℕ). Comes live true state l (record { arrivals = record { stamp = stamp; command = take len buf } ∷ []; ending = how.End })) (sym (ap (λ (l : List ℕ). gave ++ l) last.1 ∙ append-nil gave)) last.2;
-          stamps = more_stamps live stamp (take len buf) (stamps_of later) [] stamped;
           are = (refl, stays);
         }
 one_call live state mid gave rest buf got.End later new after answers calls_are others = record {
   input = ended how.End;
   comes = ending_comes live state mid gave rest how.End answers;
-  stamps = no_stamps live [];
   are = (refl, ended_stays live how.End got.End later (Some rest) after new refl (subst (λ (s : State). AreCalls live s (Some rest) later new after) answers.0 calls_are));
 }
 one_call live state mid gave rest buf (got.Malformed at) later new after answers calls_are others = record {
   input = ended (how.Malformed at);
   comes = ending_comes live state mid gave rest (how.Malformed at) answers;
-  stamps = no_stamps live [];
   are = (refl, ended_stays live (how.Malformed at) (got.Malformed at) later (Some rest) after new refl (subst (λ (s : State). AreCalls live s (Some rest) later new after) answers.0 calls_are));
 }
 one_call live state mid gave rest buf (got.Overlong at) later new after answers calls_are others = record {
   input = ended (how.Overlong at);
   comes = ending_comes live state mid gave rest (how.Overlong at) answers;
-  stamps = no_stamps live [];
   are = (refl, ended_stays live (how.Overlong at) (got.Overlong at) later (Some rest) after new refl (subst (λ (s : State). AreCalls live s (Some rest) later new after) answers.0 calls_are));
 }
 one_call live state mid gave rest buf got.Failed later new after answers calls_are others =
@@ -92,7 +77,6 @@ one_call live state mid gave rest buf got.Failed later new after answers calls_a
     record {
       input = some.0;
       comes = some.1;
-      stamps = no_stamps live some.0.arrivals;
       are = ended_stays live how.Failed got.Failed later (Some rest) after new refl (subst (λ (s : State). AreCalls live s (Some rest) later new after) answers.0 calls_are);
     }
 
@@ -104,7 +88,7 @@ taken octets gave (Some rest) takes = (rest, refl, cc)
 calls_give : (live : Bool) (calls : List Told) (state : State) (octets : List ℕ) (new : State) (after : Option (List ℕ)) → AreCalls live state (Some octets) calls new after → Gives live state octets calls
 calls_give live [] state octets new after calls_are =
     let some = some_gives live state octets in
-    record { input = some.0; comes = some.1; stamps = no_stamps live some.0.arrivals; are = tt }
+    record { input = some.0; comes = some.1; are = tt }
 calls_give live (told ∷ later) state octets new after calls_are =
     let call = calls_are.2.octets in
     let left = taken octets call.0 calls_are.1 call.1 in
@@ -116,4 +100,4 @@ calls_give live (told ∷ later) state octets new after calls_are =
 pub calls_give_input : CallsGiveInput
 calls_give_input live octets calls new after calls_are =
     let all = calls_give live calls (Running 0 []) octets new after calls_are in
-    (all.input, record { run = all.comes; stamps = all.stamps }, all.are)
+    (all.input, all.comes, all.are)

@@ -4,7 +4,8 @@ use Rattle.std.proofs.lemmas.Bool.{cases_eq, cases_lt}
 use Rattle.std.proofs.lemmas.Option.{none-some}
 use Rattle.std.proofs.lemmas.List.{take_all}
 use Rattle.std.specs.List.{position, position_or_len}
-use Rattle.cli_lang.specs.Words.{begun_with, words_of}
+use Rattle.savi_kinds.specs.AddrOf.{begun_with}
+use Rattle.cli_lang.specs.Words.{words_of}
 
 -- a line with no space is one word
 only_word : (line : List ℕ) → length line < position_or_len (λ c. c == 32) line + 1 → words_of line ≡ line ∷ []

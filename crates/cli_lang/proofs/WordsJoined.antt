@@ -3,7 +3,8 @@ use Rattle.std.proofs.Common.{ℕ, ◌≡◌, ◌<◌, length, arith, List, [], 
 use Rattle.std.proofs.lemmas.Bool.{cases_eq}
 use Rattle.std.specs.List.{join_with_byte}
 use Rattle.cli_lang.proofs.WordsFound.{some_word}
-use Rattle.cli_lang.specs.Words.{begun_with, words_of}
+use Rattle.savi_kinds.specs.AddrOf.{begun_with}
+use Rattle.cli_lang.specs.Words.{words_of}
 
 -- an octet at the front of the first word stands at the front of the line
 begun_line : (c : ℕ) (words : List (List ℕ)) → join_with_byte 32 (begun_with c words) ≡ c ∷ join_with_byte 32 words

@@ -67,14 +67,19 @@ IsRun live seen place (line ∷ lines) ending octets =
     (first : List ℕ) × (rest : List ℕ) × (octets ≡ first ++ rest) × IsLineOf live seen place first rest line
     × IsRun live seen (place + length first) lines ending rest
 
--- The stamps of a live input are the readings of its clock, one after the other, as far as readings were made.
-abbrev pub StampedBy : Bool → List ℕ → List Line → Type 0
-StampedBy false readings lines = Unit {0}
-StampedBy true [] lines = Unit {0}
-StampedBy true (reading ∷ readings) [] = Unit {0}
-StampedBy true (reading ∷ readings) (line ∷ lines) = (line.stamp ≡ reading) × StampedBy true readings lines
+abbrev pub stamped_at : ℕ → Line → Line
+stamped_at reading line = record { stamp = reading; command = line.command }
+
+-- The lines of a live input with the readings of its clock as their stamps, one after the other, as many as there are
+-- readings for; those of any other input, which have their stamps in them, as they are.
+abbrev pub stamped_by : Bool → List ℕ → List Line → List Line
+stamped_by false readings lines = lines
+stamped_by true [] lines = []
+stamped_by true (reading ∷ readings) [] = []
+stamped_by true (reading ∷ readings) (line ∷ lines) = stamped_at reading line ∷ stamped_by true readings lines
 
 -- What the octets of a control input are, with the readings of its clock, and whether it was seen to end.
 pub record Arrive (live seen : Bool) (readings octets : List ℕ) (input : Input) : Type 0 where
-  pub run : IsRun live seen 0 input.arrivals input.ending octets
-  pub stamps : StampedBy live readings input.arrivals
+  pub whole : List Line
+  pub run : IsRun live seen 0 whole input.ending octets
+  pub stamps : input.arrivals ≡ stamped_by live readings whole

@@ -5,7 +5,7 @@ use Rattle.savi_kinds.specs.declared.entry.How.TheVariants as how
 use Rattle.savi_ends.specs.Octets.{Takes}
 use Rattle.cli_lang.specs.declared.kinds.LineGot.{LineGot}
 use Rattle.cli_lang.specs.declared.kinds.LineGot.TheVariants as got
-use Rattle.cli_lang.specs.Arrivals.{Line, Input, Arrive}
+use Rattle.cli_lang.specs.Arrivals.{Line, Input, IsRun, Arrive}
 use Rattle.cli_lang.specs.Readers.{State, Running, Ended, Answers, last_answer}
 
 -- an answer, and what the buffer holds then
@@ -59,11 +59,12 @@ abbrev pub stamps_of : List Told → List ℕ
 stamps_of [] = []
 stamps_of (told ∷ later) = stamp_told told.answer (stamps_of later)
 
--- The answers of a new reader are the input that its source's octets are, where that is read to its end.
+-- The answers of a new reader are the lines of all the octets that its source had left, in their order, each with the stamp
+-- that was told, and then how they end.
 abbrev pub CallsGiveInput : Type 0
 CallsGiveInput =
     (live : Bool) (octets : List ℕ) (calls : List Told) (new : State) (after : Option (List ℕ)) → AreCalls live (Running 0 []) (Some octets) calls new after
-    → (input : Input) × Arrive live true (stamps_of calls) octets input × AnswersAre calls input.arrivals input.ending
+    → (input : Input) × IsRun live true 0 input.arrivals input.ending octets × AnswersAre calls input.arrivals input.ending
 
 -- the lines that were told, one after the other, up to the first answer that is none
 abbrev pub line_of : LineGot → List ℕ → List Line → List Line

@@ -73,6 +73,14 @@ Stamps readings live old new (got.Malformed at) = new ≡ old
 Stamps readings live old new (got.Overlong at) = new ≡ old
 Stamps readings live old new got.Failed = new ≡ old
 
+-- Where no line was read, the buffer stays as it was.
+abbrev pub KeepsBuffer : LineGot → List ℕ → List ℕ → Type 0
+KeepsBuffer (got.Line stamp len) old new = Unit {0}
+KeepsBuffer got.End old new = new ≡ old
+KeepsBuffer (got.Malformed at) old new = new ≡ old
+KeepsBuffer (got.Overlong at) old new = new ≡ old
+KeepsBuffer got.Failed old new = new ≡ old
+
 -- the answer of an input that has ended so
 abbrev pub answer_of : How → Option LineGot
 answer_of how.End = Some got.End

@@ -54,6 +54,7 @@ impl Ahead {
     pub fn next<S: Source>(&mut self, source: &mut S) -> Octet
         ensures later { S.faults source.old ≤ S.faults source.new }
         ensures cause { result ≡ Octet.Failed → Rose (S.faults source.old) (S.faults source.new) }
+        ensures still { result ≢ Octet.Failed → S.faults source.new ≡ S.faults source.old }
         ensures octets { (gave : List ℕ) × Takes (S.left source.old) (S.left source.new) gave × GivesOctet result (self.old ++ gave) self.new (S.left source.new) }
         ensures held { self.old ≢ [] → (source.new ≡ source.old) × ((c : ℕ) × (result ≡ Octet.Is c) × (self.old ≡ c ∷ self.new)) }
     {
@@ -87,6 +88,7 @@ impl Ahead {
     fn refill<S: Source>(&mut self, source: &mut S) -> Got
         ensures later { S.faults source.old ≤ S.faults source.new }
         ensures cause { result ≡ Got.Failed → Rose (S.faults source.old) (S.faults source.new) }
+        ensures still { result ≢ Got.Failed → S.faults source.new ≡ S.faults source.old }
         ensures octets { Takes (S.left source.old) (S.left source.new) self.new }
         ensures held { (self.new ≡ []) → (n : ℕ) → result ≢ got.Bytes n }
         ensures end { result ≡ Got.End → NothingLeft (S.left source.new) × (self.new ≡ []) }

@@ -1,4 +1,4 @@
-ghost use Rattle.std.specs.Prelude.{◌≡◌, ◌≤◌, ℕ, Bool, false, IsTrue, List, ◌++◌, Result, length};
+ghost use Rattle.std.specs.Prelude.{◌≡◌, ℕ, Bool, false, List, ◌++◌, Result};
 ghost use Rattle.std.specs.List.{join_with_byte};
 ghost use Rattle.savi_kinds.specs.Characters.{space};
 ghost use Rattle.cli_lang.specs.declared.kinds.Command.{Command};
@@ -29,14 +29,14 @@ pub fn octets_arrive()
     ensures { (live seen : Bool) (readings octets : List ℕ) → (input : Input) × Arrive live seen readings octets input }
 {}
 
-/// Law: no list of octets is two control inputs, where a live one has as many readings as there may be lines.
+/// Law: no list of octets, with the readings of a clock, is two control inputs.
 pub fn octets_arrive_once()
-    ensures { (live seen : Bool) (readings octets : List ℕ) (one other : Input) → (IsTrue live → length octets ≤ length readings) → Arrive live seen readings octets one → Arrive live seen readings octets other → one ≡ other }
+    ensures { (live seen : Bool) (readings octets : List ℕ) (one other : Input) → Arrive live seen readings octets one → Arrive live seen readings octets other → one ≡ other }
 {}
 
 /// Law: the first octets of an input, where the last of them weren't seen to end it, hold the first of its lines.
 pub fn front_arrives()
-    ensures { (live seen : Bool) (readings octets more : List ℕ) (part whole : Input) → (IsTrue live → length (octets ++ more) ≤ length readings) → Arrive live false readings octets part → Arrive live seen readings (octets ++ more) whole → (later : List Line) × (whole.arrivals ≡ part.arrivals ++ later) }
+    ensures { (live seen : Bool) (readings octets more : List ℕ) (part whole : Input) → Arrive live false readings octets part → Arrive live seen readings (octets ++ more) whole → (later : List Line) × (whole.arrivals ≡ part.arrivals ++ later) }
 {}
 
 /// Law: call after call, a reader's answers are the lines of what its source had left, each in its turn, and then how the

@@ -46,7 +46,7 @@ impl Model for Lines {
 impl Lines {
     ghost use Rattle.savi_kinds.specs.declared.entry.How.TheVariants as how;
     ghost use Rattle.cli_lang.specs.Takings.{DecideLine};
-    ghost use Rattle.cli_lang.specs.Readers.{Running, Ended, Answers, Stamps, last_answer, IsPlaced};
+    ghost use Rattle.cli_lang.specs.Readers.{Running, Ended, Answers, Stamps, KeepsBuffer, last_answer, IsPlaced};
 
     /// A reader at the beginning of its input.
     pub fn new() -> Lines
@@ -64,8 +64,8 @@ impl Lines {
     /// stamp (ms) is a reading of the clock, taken when the line is whole. Else it is a stamp in decimal without a leading
     /// zero, one space, and the command; any other line is `Malformed` at its place, and so is one that ends past place
     /// 2^62. A line of more than 120 octets is `Overlong` at its place. `Failed` comes only where a read failed in this
-    /// call, in a line that isn't whole. After `End`, `Malformed`, `Overlong` or `Failed` the reader reads nothing and
-    /// answers the same again.
+    /// call, in a line that isn't whole. Where there is no line the buffer stays as it was. After `End`, `Malformed`,
+    /// `Overlong` or `Failed` the reader reads nothing and answers the same again.
     ///
     /// O(n) in the octets of the line.
     pub fn next<S: Source, C: Clock>(
@@ -77,6 +77,7 @@ impl Lines {
     ) -> LineGot
         ensures later { S.faults source.old ≤ S.faults source.new }
         ensures cause { result ≡ LineGot.Failed → self.old ≢ Ended how.Failed → Rose (S.faults source.old) (S.faults source.new) }
+        ensures still { result ≢ LineGot.Failed → S.faults source.new ≡ S.faults source.old }
 
         // There are octets that the source gave in this call, and the answer is what they are behind those that were held.
         ensures octets { (gave : List ℕ) × Takes (S.left source.old) (S.left source.new) gave × Answers live self.old self.new gave buf.new (S.left source.new) result }
@@ -86,6 +87,7 @@ impl Lines {
 
         // A reader that has ended reads nothing and answers the same.
         ensures again { IfSome (last_answer self.old) (λ answer. (result ≡ answer) × (self.new ≡ self.old) × (source.new ≡ source.old) × (buf.new ≡ buf.old)) }
+        ensures kept { KeepsBuffer result buf.old buf.new }
         ensures stamps { Stamps C.readings live clock.old clock.new result }
         ensures placed { IsPlaced self.new }
     {
@@ -112,7 +114,9 @@ impl Lines {
         ensures unread { (at : ℕ) (held : List ℕ) → self.old ≡ Running at held → DecideLine held → source.new ≡ source.old }
         ensures later { S.faults source.old ≤ S.faults source.new }
         ensures cause { result ≡ LineGot.Failed → Rose (S.faults source.old) (S.faults source.new) }
+        ensures still { result ≢ LineGot.Failed → S.faults source.new ≡ S.faults source.old }
         ensures octets { (gave : List ℕ) × Takes (S.left source.old) (S.left source.new) gave × Answers live self.old self.new gave buf.new (S.left source.new) result }
+        ensures kept { KeepsBuffer result buf.old buf.new }
         ensures stamps { Stamps C.readings live clock.old clock.new result }
         ensures placed { IsPlaced self.new }
     {

@@ -1,4 +1,4 @@
-ghost use Rattle.std.specs.Prelude.{◌≡◌, ◌≤◌, ℕ, List, ◌++◌};
+ghost use Rattle.std.specs.Prelude.{◌≡◌, ◌≢◌, ◌≤◌, ℕ, List, ◌++◌};
 ghost use Rattle.savi_ends.specs.Octets.{Takes};
 ghost use Rattle.savi_ends.specs.Faults.{Rose};
 ghost use Rattle.cli_lang.specs.Takings.{DecideLine, TakesLine};
@@ -30,6 +30,7 @@ pub(crate) fn take_line<S: Source>(
 ) -> Taken
     ensures later { S.faults source.old ≤ S.faults source.new }
     ensures cause { result ≡ Taken.Failed → Rose (S.faults source.old) (S.faults source.new) }
+    ensures still { result ≢ Taken.Failed → S.faults source.new ≡ S.faults source.old }
     ensures octets { (gave : List ℕ) × Takes (S.left source.old) (S.left source.new) gave × TakesLine result (ahead.old ++ gave) ahead.new buf.new (S.left source.new) }
     ensures unread { DecideLine ahead.old → source.new ≡ source.old }
 {

@@ -16,7 +16,8 @@ pub(crate) struct Said {
     pub len: u32,
 }
 
-/// Reads the text of a line that ends at this place. `None` where the place is past 2^62, or the text says nothing.
+/// Reads the text of a line that ends at this place. `None` where the place is past 2^62, or the text says nothing;
+/// then the buffer stays as it was.
 pub(crate) fn read_text<C: Clock>(
     text: &[u8],
     end: u64,
@@ -27,6 +28,7 @@ pub(crate) fn read_text<C: Clock>(
     requires { length text.now ≤ 120 }
     ensures some { IfSome result (λ said. (end ≤ 2 ^ 62) × (said.len ≤ 120) × Says live text.now (record { stamp = said.stamp; command = take said.len buf.new })) }
     ensures none { IfNone result ((2 ^ 62 < end) ⊎ ((line : Line) → ¬ Says live text.now line)) }
+    ensures kept { IfNone result (buf.new ≡ buf.old) }
     ensures clock { MatchOption result (clock.new ≡ clock.old) (λ said. ReadsClock C.readings live clock.old clock.new said.stamp) }
 {
     if end > LAST_PLACE {

@@ -17,7 +17,7 @@ use Rattle.fcfs_states.specs.declared.times.Times.{Times}
 use Rattle.fcfs_states.specs.declared.state.Fcfs.{Fcfs}
 use Rattle.fcfs_states.specs.declared.state.Fcfs.TheVariants.{NoBind, Tentative, Valid, TestLt, TestVp}
 use Rattle.dhcp_states.specs.declared.bound.Bound.{Bound}
-use Rattle.bind_table.specs.declared.row.Row.{Row}
+use Rattle.savi_access.specs.declared.row.Row.{Row}
 use Rattle.hist_store.specs.TextOfLines.{lines_text}
 use Rattle.hist_store.specs.PortTexts.{port_text}
 use Rattle.hist_store.specs.VerdictTexts.{rule_name}
@@ -26,7 +26,10 @@ use Rattle.control_replies.specs.declared.refusal.Refusal.TheVariants.{UnknownCo
 use Rattle.control_replies.specs.declared.port_row.PortRow.{PortRow}
 use Rattle.control_replies.specs.declared.counts.Counts.{Counts}
 use Rattle.control_replies.specs.Replies.{refusal_text, end_text}
-use Rattle.control_replies.specs.Bindings.{claimant_text, until_text, binding_fields, fcfs_lines, bound_lines, state_lines, binding_lines, all_binding_lines, bindings_text, HasMoments, HasEnd, IsStored}
+use Rattle.fcfs_states.specs.Premises.{AreMomentsBelow}
+use Rattle.mix_rules.specs.Ageing.{bound_end}
+use Rattle.mix_rules.specs.Premises.{IsMomentBelow}
+use Rattle.control_replies.specs.Bindings.{claimant_text, until_text, binding_fields, fcfs_lines, bound_lines, state_lines, binding_lines, all_binding_lines, bindings_text, IsStored}
 use Rattle.control_replies.specs.Shows.{shut_word, port_fields, port_line, ports_text, station_fields, station_line, stations_text, HasCounts, IsStation}
 use Rattle.control_replies.specs.Counters.{all_rules, dropped_count, counter_fields, rule_fields, other_lines, counters_text, AreCounts}
 use Rattle.control_replies.proofs.Lines.{twenty_digits, port_digits, line_size, lines_more, lines_size}
@@ -54,22 +57,22 @@ binding_size : (address : Addr) (port : Port) (state : List ℕ) (claimant : Opt
 binding_size address port state claimant until short fits =
     omega (arith, line_size (addr_text address) (port_text port ∷ state ∷ claimant_text claimant ∷ until_text until ∷ []), most_len address, port_digits port, short, claimant_size claimant, until_size until fits)
 
-fcfs_size : (times : Times) (address : Addr) (fcfs : Fcfs) → times.test < 2 ^ 64 → HasMoments fcfs → length (lines_text (fcfs_lines times address fcfs)) ≤ 78
+fcfs_size : (times : Times) (address : Addr) (fcfs : Fcfs) → times.test < 2 ^ 64 → AreMomentsBelow (2 ^ 64) fcfs → length (lines_text (fcfs_lines times address fcfs)) ≤ 78
 fcfs_size times address NoBind test fits = omega arith
 fcfs_size times address (Tentative p since two) test fits = binding_size address p (codes "tentative") None (Some (since + times.test)) (omega arith) (omega (arith, test, fits))
 fcfs_size times address (Valid p until) test fits = binding_size address p (codes "valid") None (Some until) (omega arith) (omega (arith, fits))
 fcfs_size times address (TestLt p since two) test fits = binding_size address p (codes "testing-lt") None (Some (since + times.test)) (omega arith) (omega (arith, test, fits))
 fcfs_size times address (TestVp p q since two) test fits = binding_size address p (codes "testing-vp") (Some q) (Some (since + times.test)) (omega arith) (omega (arith, test, fits))
 
-end_fits : (until : Option ℕ) → IfSome until (λ moment. moment < 2 ^ 64) → IfSome until (λ moment. moment < 2 ^ 65)
+end_fits : (until : Option ℕ) → IsMomentBelow (2 ^ 64) until → IfSome until (λ moment. moment < 2 ^ 65)
 end_fits (Some moment) fits = omega (arith, fits)
-end_fits None fits = fits
+end_fits None fits = tt
 
-bound_size : (address : Addr) (dhcp : Option Bound) → HasEnd dhcp → length (lines_text (bound_lines address dhcp)) ≤ 78
+bound_size : (address : Addr) (dhcp : Option Bound) → IsMomentBelow (2 ^ 64) (bound_end dhcp) → length (lines_text (bound_lines address dhcp)) ≤ 78
 bound_size address (Some bound) fits = binding_size address bound.p (codes "bound") None bound.until (omega arith) (end_fits bound.until fits)
 bound_size address None fits = omega arith
 
-state_size : (times : Times) (address : Addr) (fixed : Option Port) (fcfs : Fcfs) (dhcp : Option Bound) → times.test < 2 ^ 64 → HasMoments fcfs → HasEnd dhcp → length (lines_text (state_lines times address fixed fcfs dhcp)) ≤ 156
+state_size : (times : Times) (address : Addr) (fixed : Option Port) (fcfs : Fcfs) (dhcp : Option Bound) → times.test < 2 ^ 64 → AreMomentsBelow (2 ^ 64) fcfs → IsMomentBelow (2 ^ 64) (bound_end dhcp) → length (lines_text (state_lines times address fixed fcfs dhcp)) ≤ 156
 state_size times address (Some port) fcfs dhcp test first second = omega (arith, binding_size address port (codes "static") None None (omega arith) tt)
 state_size times address None fcfs dhcp test first second =
     let both : length (lines_text (bound_lines address dhcp ++ fcfs_lines times address fcfs)) ≡ length (lines_text (bound_lines address dhcp)) + length (lines_text (fcfs_lines times address fcfs)) =

@@ -1,14 +1,17 @@
 -- What `show bindings` prints: for each address its lines, the one of DHCPv6 (RFC 7513) before the one of first come, first
 -- served (RFC 6620); an address that the operator has fixed (`static`) has one line.
-use Rattle.std.specs.Prelude.{ℕ, ◌+◌, ◌^◌, ◌<◌, List, [], ◌∷◌, ◌++◌, codes, decimal, Option, Some, None, IfSome}
+use Rattle.std.specs.Prelude.{ℕ, ◌+◌, ◌^◌, List, [], ◌∷◌, ◌++◌, codes, decimal, Option, Some, None}
 use Rattle.savi_kinds.specs.declared.address.Addr.{Addr}
 use Rattle.savi_kinds.specs.declared.port.Port.{Port}
 use Rattle.savi_kinds.specs.AddrText.{addr_text}
 use Rattle.fcfs_states.specs.declared.times.Times.{Times}
 use Rattle.fcfs_states.specs.declared.state.Fcfs.{Fcfs}
 use Rattle.fcfs_states.specs.declared.state.Fcfs.TheVariants.{NoBind, Tentative, Valid, TestLt, TestVp}
+use Rattle.fcfs_states.specs.Premises.{AreMomentsBelow}
 use Rattle.dhcp_states.specs.declared.bound.Bound.{Bound}
-use Rattle.bind_table.specs.declared.row.Row.{Row}
+use Rattle.mix_rules.specs.Ageing.{bound_end}
+use Rattle.mix_rules.specs.Premises.{IsMomentBelow}
+use Rattle.savi_access.specs.declared.row.Row.{Row}
 use Rattle.hist_store.specs.TextOfLines.{lines_text}
 use Rattle.hist_store.specs.PortTexts.{port_text}
 use Rattle.control_replies.specs.Replies.{end_text}
@@ -61,20 +64,7 @@ all_binding_lines times (row ∷ rows) = binding_lines times row ++ all_binding_
 abbrev pub bindings_text : Times → List Row → List ℕ
 bindings_text times rows = all_binding_lines times rows ++ end_text
 
--- the moments in a state of first come, first served are numbers of 64 bits
-abbrev pub HasMoments : Fcfs → Type 0
-HasMoments NoBind = Unit {0}
-HasMoments (Tentative p since two) = since < 2 ^ 64
-HasMoments (Valid p until) = until < 2 ^ 64
-HasMoments (TestLt p since two) = since < 2 ^ 64
-HasMoments (TestVp p q since two) = since < 2 ^ 64
-
--- and so is the end of a binding by DHCPv6
-abbrev pub HasEnd : Option Bound → Type 0
-HasEnd (Some bound) = IfSome bound.until (λ moment. moment < 2 ^ 64)
-HasEnd None = Unit {0}
-
 -- each moment of a row is a number of 64 bits, as the code has them
 pub record IsStored (row : Row) : Type 0 where
-  pub fcfs : HasMoments row.state.fcfs
-  pub dhcp : HasEnd row.state.dhcp
+  pub fcfs : AreMomentsBelow (2 ^ 64) row.state.fcfs
+  pub dhcp : IsMomentBelow (2 ^ 64) (bound_end row.state.dhcp)

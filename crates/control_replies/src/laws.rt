@@ -6,7 +6,7 @@ ghost use Rattle.savi_kinds.specs.declared.address.Mac.{Mac};
 ghost use Rattle.savi_kinds.specs.declared.port.Port.{Port};
 ghost use Rattle.savi_kinds.specs.Rules.{rule_number};
 ghost use Rattle.fcfs_states.specs.declared.times.Times.{Times};
-ghost use Rattle.bind_table.specs.declared.row.Row.{Row};
+ghost use Rattle.savi_access.specs.declared.row.Row.{Row};
 ghost use Rattle.control_replies.specs.declared.refusal.Refusal.{Refusal};
 ghost use Rattle.control_replies.specs.declared.port_row.PortRow.{PortRow};
 ghost use Rattle.control_replies.specs.declared.counts.Counts.{Counts};

@@ -8,7 +8,7 @@ use Rattle.fcfs_states.specs.declared.answer.Probe.{Probe}
 use Rattle.fcfs_states.specs.declared.state.Fcfs.{Fcfs}
 use Rattle.fcfs_states.specs.declared.state.Fcfs.TheVariants.{NoBind, Tentative, Valid, TestLt, TestVp}
 use Rattle.fcfs_states.specs.declared.times.Times.{Times}
-use Rattle.fcfs_states.specs.Premises.{AreTimes}
+use Rattle.fcfs_states.specs.Premises.{AreTimes, IsFcfsEvent}
 use Rattle.fcfs_states.specs.States.{Same, IsSound, IsLive}
 use Rattle.fcfs_states.specs.Next.{next}
 use Rattle.fcfs_states.specs.Ageing.{AgeRow, tentative_probe, test_lt_probe, test_vp_probe, tentative_ends, valid_ends, test_lt_ends, test_vp_ends, IsRested, Ages, rests, goes_on}
@@ -19,15 +19,24 @@ use Rattle.fcfs_states.proofs.RowLemmas.{Row-sound, Row-rested, Row-live, Row-te
 use Rattle.fcfs_states.proofs.AgeingLemmas.{Ages-aged, Ages-rest, untouched}
 use Rattle.fcfs_states.proofs.AgesLemmas.{Ages-sound, AgeRow-rests, AgeRow-sound, AgeRow-live, aged-joins}
 
+-- events of first come, first served, in turn, one after the other
+abbrev pub IsRun : ℕ → List TimedEvent → Type 0
+IsRun t [] = Unit {0}
+IsRun t (mark ∷ past) = (mark.moment ≤ t) × IsFcfsEvent mark.event × IsRun mark.moment past
+
+pub run_of : (t : ℕ) (marks : List TimedEvent) → IsTimeline t marks → IsRun t marks
+run_of t [] line = tt
+run_of t (mark ∷ past) line = (line.0.0, line.1.0, run_of mark.moment past (line.0.1, line.1.1))
+
 module _ (k : Times) (times : AreTimes k) where
   -- the state after a run is sound, and nothing is due in it at the last event
-  sound_of : (t : ℕ) (marks : List TimedEvent) → IsTimeline t marks → IsSound (state_of k marks)
+  sound_of : (t : ℕ) (marks : List TimedEvent) → IsRun t marks → IsSound (state_of k marks)
   sound_of t [] run = tt
   sound_of t (mark ∷ past) run =
       Row-sound (Row-next k mark.moment mark.room (aged k mark.moment (state_of k past)).state mark.event run.1)
       (Ages-sound k mark.moment (Ages-aged k times mark.moment (state_of k past)) (sound_of mark.moment past run.2))
 
-  rested_of : (t : ℕ) (mark : TimedEvent) (past : List TimedEvent) → IsTimeline t (mark ∷ past) → IsRested k mark.moment (state_of k (mark ∷ past))
+  rested_of : (t : ℕ) (mark : TimedEvent) (past : List TimedEvent) → IsRun t (mark ∷ past) → IsRested k mark.moment (state_of k (mark ∷ past))
   rested_of t mark past run =
       Row-rested (Row-next k mark.moment mark.room (aged k mark.moment (state_of k past)).state mark.event run.1) times
       (Ages-rest k times mark.moment (Ages-aged k times mark.moment (state_of k past)))
@@ -52,14 +61,14 @@ module _ (k : Times) (times : AreTimes k) where
       ]
 
   -- no event of a run is above its end
-  silent_late : (t : ℕ) (port : Port) (since : ℕ) (marks : List TimedEvent) → IsTimeline t marks → t ≤ since → IsSilentAfter port since marks
+  silent_late : (t : ℕ) (port : Port) (since : ℕ) (marks : List TimedEvent) → IsRun t marks → t ≤ since → IsSilentAfter port since marks
   silent_late t port since [] run late = tt
   silent_late t port since (mark ∷ past) run late = (λ above. absurd (let by : mark.moment ≤ t = run.0 in omega arith), silent_late mark.moment port since past run.2 (let by : mark.moment ≤ t = run.0 in omega arith))
 
-  pub silent : (t : ℕ) (marks : List TimedEvent) (port : Port) (since : ℕ) → IsTimeline t marks → IsTestOf port since (aged k t (state_of k marks)).state → IsSilentAfter port since marks
+  pub silent : (t : ℕ) (marks : List TimedEvent) (port : Port) (since : ℕ) → IsRun t marks → IsTestOf port since (aged k t (state_of k marks)).state → IsSilentAfter port since marks
   silent t [] port since run test = tt
   silent t (mark ∷ past) port since run test =
-      let itself : IsTimeline mark.moment (mark ∷ past) = (omega arith, run.1, run.2) in
+      let itself : IsRun mark.moment (mark ∷ past) = (omega arith, run.1, run.2) in
       elim (Ages-test t (Ages-aged k times t (state_of k (mark ∷ past))) port since test mark.moment (rested_of t mark past run)) [
         | inl there ↦
             elim (cases_lt since mark.moment) [
@@ -154,7 +163,7 @@ module _ (k : Times) (times : AreTimes k) where
   stands_now port since from (has_rival same is) idle = inl (same, is)
 
   -- the events after t0
-  module _ (t0 : ℕ) (early : List TimedEvent) (run0 : IsTimeline t0 early) where
+  module _ (t0 : ℕ) (early : List TimedEvent) (run0 : IsRun t0 early) where
     from_of : List TimedEvent → ℕ
     from_of [] = t0
     from_of (mark ∷ late) = mark.moment
@@ -167,7 +176,7 @@ module _ (k : Times) (times : AreTimes k) where
     IsFrom : List TimedEvent → Type 0
     IsFrom late = AllByRecursion (λ mark. t0 ≤ mark.moment) late
 
-    from_most : (t : ℕ) (late : List TimedEvent) → t0 ≤ t → IsTimeline t (late ++ early) → from_of late ≤ t
+    from_most : (t : ℕ) (late : List TimedEvent) → t0 ≤ t → IsRun t (late ++ early) → from_of late ≤ t
     unfolding from_of
     from_most t [] after run = after
     from_most t (mark ∷ late) after run = run.0
@@ -177,19 +186,19 @@ module _ (k : Times) (times : AreTimes k) where
     from_least [] all = omega arith
     from_least (mark ∷ late) all = all.0
 
-    aged-later : (t : ℕ) (late : List TimedEvent) → t0 ≤ t → IsTimeline t (late ++ early) → IsFrom late → (aged k t (state_of k (late ++ early))).state ≡ (aged k t (later late)).state
+    aged-later : (t : ℕ) (late : List TimedEvent) → t0 ≤ t → IsRun t (late ++ early) → IsFrom late → (aged k t (state_of k (late ++ early))).state ≡ (aged k t (later late)).state
     unfolding later IsFrom
     aged-later t [] after run all = ap (λ (a : AgedState). a.state) (aged-joins k times t0 t (state_of k early) after)
     aged-later t (mark ∷ late) after run all = ap (λ s. (aged k t (next k mark.moment mark.room s mark.event).1).state) (aged-later mark.moment late all.0 run.2 all.1)
 
-    later_sound : (t : ℕ) (late : List TimedEvent) → IsTimeline t (late ++ early) → IsSound (later late)
+    later_sound : (t : ℕ) (late : List TimedEvent) → IsRun t (late ++ early) → IsSound (later late)
     unfolding later
     later_sound t [] run = Ages-sound k t0 (Ages-aged k times t0 (state_of k early)) (sound_of k times t0 early run0)
     later_sound t (mark ∷ late) run =
         Row-sound (Row-next k mark.moment mark.room (aged k mark.moment (later late)).state mark.event run.1)
         (Ages-sound k mark.moment (Ages-aged k times mark.moment (later late)) (later_sound mark.moment late run.2))
 
-    later_rested : (t : ℕ) (late : List TimedEvent) → IsTimeline t (late ++ early) → IsRested k (from_of late) (later late)
+    later_rested : (t : ℕ) (late : List TimedEvent) → IsRun t (late ++ early) → IsRested k (from_of late) (later late)
     unfolding later from_of
     later_rested t [] run = Ages-rest k times t0 (Ages-aged k times t0 (state_of k early))
     later_rested t (mark ∷ late) run =
@@ -197,7 +206,7 @@ module _ (k : Times) (times : AreTimes k) where
         (Ages-rest k times mark.moment (Ages-aged k times mark.moment (later late)))
 
     -- a test that began before t0 was there at t0
-    older_there : (t : ℕ) (late : List TimedEvent) → IsTimeline t (late ++ early) → IsFrom late → (port : Port) (since : ℕ) → IsTestOf port since (later late) → since < t0 → IsTestOf port since (later [])
+    older_there : (t : ℕ) (late : List TimedEvent) → IsRun t (late ++ early) → IsFrom late → (port : Port) (since : ℕ) → IsTestOf port since (later late) → since < t0 → IsTestOf port since (later [])
     unfolding later IsFrom
     older_there t [] run all port since test older = test
     older_there t (mark ∷ late) run all port since test older =
@@ -211,20 +220,20 @@ module _ (k : Times) (times : AreTimes k) where
           | inr after ↦ absurd (omega arith)
         ]
 
-    itself : (t : ℕ) (late : List TimedEvent) → IsTimeline t (late ++ early) → IsTimeline (from_of late) (late ++ early)
+    itself : (t : ℕ) (late : List TimedEvent) → IsRun t (late ++ early) → IsRun (from_of late) (late ++ early)
     unfolding from_of
     itself t [] run = run0
     itself t (mark ∷ late) run = (omega arith, run.1, run.2)
 
-    quiet : (t : ℕ) (late : List TimedEvent) → IsTimeline t (late ++ early) → IsFrom late → (port : Port) (since : ℕ) → IsTestOf port since (later late) → IsSilentAfter port since (late ++ early)
+    quiet : (t : ℕ) (late : List TimedEvent) → IsRun t (late ++ early) → IsFrom late → (port : Port) (since : ℕ) → IsTestOf port since (later late) → IsSilentAfter port since (late ++ early)
     quiet t late run all port since test =
-        let own : IsTimeline (from_of late) (late ++ early) = itself t late run in
+        let own : IsRun (from_of late) (late ++ early) = itself t late run in
         let is : (aged k (from_of late) (state_of k (late ++ early))).state ≡ later late =
         aged-later (from_of late) late (from_least late all) own all
         ∙ ap (λ (a : AgedState). a.state) (untouched k times (from_of late) (later late) (later_rested t late run)) in
         silent k times (from_of late) (late ++ early) port since own (subst (IsTestOf port since) (sym is) test)
 
-    ends_here : (t : ℕ) (late : List TimedEvent) → IsTimeline t (late ++ early) → IsFrom late → (port : Port) → IsLive (later late) port → ¬ IsLive (aged k t (later late)).state port → IsLostByTest k port t0 t (later []) (late ++ early)
+    ends_here : (t : ℕ) (late : List TimedEvent) → IsRun t (late ++ early) → IsFrom late → (port : Port) → IsLive (later late) port → ¬ IsLive (aged k t (later late)).state port → IsLostByTest k port t0 t (later []) (late ++ early)
     ends_here t late run all port live ended =
         let ends : Ends t port (later late) = Ages-ends t (Ages-aged k times t (later late)) (later_sound t late run) port live ended in
         let idle : IsRested k (from_of late) (later late) = later_rested t late run in
@@ -251,7 +260,7 @@ module _ (k : Times) (times : AreTimes k) where
               ];
         }
 
-    over_before : (t : ℕ) (mark : TimedEvent) (late : List TimedEvent) → IsTimeline t ((mark ∷ late) ++ early) → (port : Port) → ¬ IsLive (later (mark ∷ late)) port → ¬ IsLive (aged k mark.moment (later late)).state port
+    over_before : (t : ℕ) (mark : TimedEvent) (late : List TimedEvent) → IsRun t ((mark ∷ late) ++ early) → (port : Port) → ¬ IsLive (later (mark ∷ late)) port → ¬ IsLive (aged k mark.moment (later late)).state port
     unfolding later
     over_before t mark late run port over = λ still. over (Row-live (Row-next k mark.moment mark.room (aged k mark.moment (later late)).state mark.event run.1) port still)
 
@@ -259,7 +268,7 @@ module _ (k : Times) (times : AreTimes k) where
     unfolding IsFrom
     later_from mark late all = all.1
 
-    lost_before : (t : ℕ) (mark : TimedEvent) (late : List TimedEvent) {port : Port} → IsTimeline t ((mark ∷ late) ++ early) → IsLostByTest k port t0 mark.moment (later []) (late ++ early) → IsLostByTest k port t0 t (later []) ((mark ∷ late) ++ early)
+    lost_before : (t : ℕ) (mark : TimedEvent) (late : List TimedEvent) {port : Port} → IsRun t ((mark ∷ late) ++ early) → IsLostByTest k port t0 mark.moment (later []) (late ++ early) → IsLostByTest k port t0 t (later []) ((mark ∷ late) ++ early)
     lost_before t mark late run lost =
         let by : lost.since + k.test ≤ mark.moment = lost.by in
         let below : mark.moment ≤ t = run.0 in
@@ -271,7 +280,7 @@ module _ (k : Times) (times : AreTimes k) where
           whole = lost.whole;
         }
 
-    lost : (t : ℕ) (late : List TimedEvent) → IsTimeline t (late ++ early) → IsFrom late → (port : Port) → IsLive (later []) port → ¬ IsLive (aged k t (later late)).state port → IsLostByTest k port t0 t (later []) (late ++ early)
+    lost : (t : ℕ) (late : List TimedEvent) → IsRun t (late ++ early) → IsFrom late → (port : Port) → IsLive (later []) port → ¬ IsLive (aged k t (later late)).state port → IsLostByTest k port t0 t (later []) (late ++ early)
     lost t [] run all port live ended = ends_here t [] run all port live ended
     lost t (mark ∷ late) run all port live ended =
         elim (live_or_not (later (mark ∷ late)) port) [
@@ -280,7 +289,7 @@ module _ (k : Times) (times : AreTimes k) where
         ]
 
   -- an address that was live at a port, and no longer is, was lost by a test that its holder didn't answer
-  pub lost_by_test : (t0 t : ℕ) (early late : List TimedEvent) (port : Port) → t0 ≤ t → IsTimeline t0 early → IsTimeline t (late ++ early) → AllByRecursion (λ mark. t0 ≤ mark.moment) late → IsLive (aged k t0 (state_of k early)).state port → ¬ IsLive (aged k t (state_of k (late ++ early))).state port → IsLostByTest k port t0 t (aged k t0 (state_of k early)).state (late ++ early)
+  pub lost_by_test : (t0 t : ℕ) (early late : List TimedEvent) (port : Port) → t0 ≤ t → IsRun t0 early → IsRun t (late ++ early) → AllByRecursion (λ mark. t0 ≤ mark.moment) late → IsLive (aged k t0 (state_of k early)).state port → ¬ IsLive (aged k t (state_of k (late ++ early))).state port → IsLostByTest k port t0 t (aged k t0 (state_of k early)).state (late ++ early)
   unfolding later IsFrom
   lost_by_test t0 t early late port after run0 run all live ended =
       lost t0 early run0 t late run all port live (λ still. ended (subst (λ s. IsLive s port) (sym (aged-later t0 early run0 t late after run all)) still))

@@ -2,6 +2,7 @@
 use Rattle.std.specs.Prelude.{ℕ, ◌≡◌, ◌+◌, ◌<◌, ◌≤◌, Bool, List, [], ◌∷◌}
 use Rattle.std.specs.List.{AllByRecursion}
 use Rattle.savi_kinds.specs.declared.port.Port.{Port}
+use Rattle.savi_kinds.specs.Orders.{AreInTurn}
 use Rattle.fcfs_states.specs.declared.event.Ev.{Ev}
 use Rattle.fcfs_states.specs.declared.event.Ev.TheVariants.{Sent, Dad, Na, TpDad, TpNa, Lease, Release, Fix, Clear}
 use Rattle.fcfs_states.specs.declared.state.Fcfs.{Fcfs}
@@ -38,6 +39,9 @@ pub record TimedEvent : Type 0 where
   pub event : Ev
   pub room : Bool
 
+abbrev pub event_moment : TimedEvent → ℕ
+event_moment mark = mark.moment
+
 -- the state after an event: aged to its moment, then the row of the event
 abbrev pub moved_on : Times → TimedEvent → Fcfs → Fcfs
 moved_on k mark state = (next k mark.moment mark.room (aged k mark.moment state).state mark.event).1
@@ -47,10 +51,9 @@ abbrev pub state_of : Times → List TimedEvent → Fcfs
 state_of k [] = NoBind
 state_of k (mark ∷ past) = moved_on k mark (state_of k past)
 
--- the events are of first come, first served, and none is at a later moment than a newer one, or than t
+-- the events are of first come, first served, and in turn, up to t
 abbrev pub IsTimeline : ℕ → List TimedEvent → Type 0
-IsTimeline t [] = Unit {0}
-IsTimeline t (mark ∷ past) = (mark.moment ≤ t) × IsFcfsEvent mark.event × IsTimeline mark.moment past
+IsTimeline t marks = AreInTurn event_moment 0 t marks × AllByRecursion (λ mark. IsFcfsEvent mark.event) marks
 
 -- in none of the events above this moment was the host at the port heard
 abbrev pub IsSilentAfter : Port → ℕ → List TimedEvent → Type 0

@@ -1,5 +1,5 @@
 -- Times, moments and events that the tables take.
-use Rattle.std.specs.Prelude.{◌<◌, ◌≤◌, ◌^◌}
+use Rattle.std.specs.Prelude.{ℕ, ◌<◌, ◌≤◌, ◌^◌}
 use Rattle.fcfs_states.specs.declared.times.Times.{Times}
 use Rattle.fcfs_states.specs.declared.event.Ev.{Ev}
 use Rattle.fcfs_states.specs.declared.event.Ev.TheVariants.{Sent, Dad, Na, TpDad, TpNa, Lease, Release, Fix, Clear}
@@ -14,13 +14,17 @@ pub record AreTimes (k : Times) : Type 0 where
   pub life : 1 ≤ k.life
   pub life_most : k.life < 2 ^ 62
 
--- each moment in the state is below 2^63
+-- each moment in the state is below this one
+abbrev pub AreMomentsBelow : ℕ → Fcfs → Type 0
+AreMomentsBelow limit NoBind = Unit {0}
+AreMomentsBelow limit (Tentative p since two) = since < limit
+AreMomentsBelow limit (Valid p until) = until < limit
+AreMomentsBelow limit (TestLt p since two) = since < limit
+AreMomentsBelow limit (TestVp p q since two) = since < limit
+
+-- as the tables take them: each is below 2^63
 abbrev pub MomentsFit : Fcfs → Type 0
-MomentsFit NoBind = Unit {0}
-MomentsFit (Tentative p since two) = since < 2 ^ 63
-MomentsFit (Valid p until) = until < 2 ^ 63
-MomentsFit (TestLt p since two) = since < 2 ^ 63
-MomentsFit (TestVp p q since two) = since < 2 ^ 63
+MomentsFit state = AreMomentsBelow (2 ^ 63) state
 
 -- the events of first come, first served; the others are those of DHCP and of the operator
 abbrev pub IsFcfsEvent : Ev → Type 0

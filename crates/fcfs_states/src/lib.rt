@@ -19,7 +19,6 @@ mod tentative;
 mod test_lt;
 mod test_vp;
 mod times;
-mod turn;
 mod valid;
 
 pub use ageing::Aged;

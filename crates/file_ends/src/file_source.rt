@@ -2,6 +2,7 @@
 
 ghost use Rattle.std.specs.Prelude.{◌≡◌, None, IfOk};
 
+use crate::file_id::{FileId, file_id};
 use savi_ends::{Got, Source, receive};
 use std::alloc::Global;
 use std::fs::{File, Files};
@@ -14,6 +15,7 @@ const PIECE_OCTETS: usize = 65_536;
 #[derive(Drop)]
 pub struct FileSource {
     reader: BufReader<File>,
+    id: Option<FileId>,
     faults: u64,
 }
 
@@ -23,10 +25,19 @@ impl FileSource {
         ensures { IfOk result (λ s. ⟦<FileSource as Source>⟧.faults s ≡ 0) }
     {
         let file = File::open(rt, name)?;
+        let id = file_id(&file)?;
         Ok(FileSource {
+            id,
             reader: BufReader::with_capacity(alloc, PIECE_OCTETS, file)?,
             faults: 0,
         })
+    }
+}
+
+impl FileSource {
+    /// Which file it is; `None` where it isn't a regular one.
+    pub fn id(&self) -> Option<FileId> {
+        self.id
     }
 }
 

@@ -4,8 +4,10 @@
 //! failures are counted is proved.
 #![tactic(auto)]
 
+mod file_id;
 mod file_sink;
 mod file_source;
 
+pub use file_id::FileId;
 pub use file_sink::FileSink;
 pub use file_source::FileSource;

@@ -15,8 +15,8 @@ book_of w = record {
   faults = w.faults;
   inputs = named_place w.input;
   outputs = named_place w.output;
-  ports = port_place w.ports;
-  control = spot_place w.control;
+  ports = λ key. port_place w.ports key.number;
+  control = λ key. spot_place w.control;
   ticker = mem.place_holding w.ticker;
   std = std_place w.out w.err;
 }

@@ -191,7 +191,7 @@ fn fault(faults: &mut u64) -> OpenFailed
 }
 
 impl<'a> World for HeldWorld<'a> {
-    ghost use Rattle.savi_ends.specs.Places.{Book, HandsOut, IsReady, Opens, OthersStay, IsOnlyOut, BothFresh};
+    ghost use Rattle.savi_ends.specs.Places.{Book, ControlKey, HandsOut, IsReady, Opens, OthersStay, OtherPortsStay, IsOnlyOut, IsPortOut, IsPortKept, IsControlOut, IsControlKept, BothFresh, port_key};
     ghost use Rattle.held_ends.specs.HeldWorlds.{book_of};
 
     type S = HeldSource<'a>;
@@ -286,17 +286,17 @@ impl<'a> World for HeldWorld<'a> {
     }
 
     fn keep_port(&mut self, n: Port, ends: HeldEnds<'a>)
-        requires { ((book_of self.old).ports (number_of n)).is_out ≡ true }
-        ensures kept { ((book_of self.new).ports (number_of n)).stands ≡ Some ends.entry }
-        ensures others { OthersStay (book_of self.old).ports (book_of self.new).ports (number_of n) }
+        requires { IsPortOut (book_of self.old).ports (number_of n) }
+        ensures kept { IsPortKept (book_of self.old).ports (book_of self.new).ports (number_of n) ends.entry }
+        ensures others { OtherPortsStay (book_of self.old).ports (book_of self.new).ports (number_of n) }
         ensures rest { book_of self.new ≡ record (book_of self.old) { ports = (book_of self.new).ports } }
     {
         self.ports.keep(n, ends);
     }
 
     fn keep_control(&mut self, ends: HeldEnds<'a>)
-        requires { (book_of self.old).control.is_out ≡ true }
-        ensures kept { (book_of self.new).control.stands ≡ Some ends.entry }
+        requires { IsControlOut (book_of self.old).control }
+        ensures kept { IsControlKept (book_of self.old).control (book_of self.new).control ends.entry }
         ensures rest { book_of self.new ≡ record (book_of self.old) { control = (book_of self.new).control } }
     {
         self.control.keep(ends);

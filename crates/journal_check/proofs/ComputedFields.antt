@@ -12,17 +12,17 @@ use Rattle.savi_kinds.specs.declared.entry.Who.{Who}
 use Rattle.savi_kinds.specs.Ports.{number_of}
 use Rattle.savi_kinds.specs.PortSets.{set_of}
 use Rattle.savi_kinds.specs.ValidPlan.{IsValidPlan, numbers_of}
-use Rattle.addr_table.specs.declared.sent.SentProbe.{SentProbe}
-use Rattle.addr_table.specs.Sends.{all_sends}
-use Rattle.addr_history.specs.Bases.{AddrRules, AddrBase}
-use Rattle.addr_history.specs.Marks.{Named}
-use Rattle.addr_history.specs.Tables.{rows_after, rows_at}
-use Rattle.addr_history.specs.Probes.{probes_between}
-use Rattle.addr_history.specs.Legal.{IsAddrBase}
-use Rattle.addr_history.proofs.StatesKept.{base_times}
-use Rattle.addr_history.proofs.Orders.{order-length}
-use Rattle.addr_history.proofs.AllSends.{few_sends, sends-late}
-use Rattle.addr_history.proofs.RowCounts.{few_rows}
+use Rattle.savi_access.specs.declared.sent.SentProbe.{SentProbe}
+use Rattle.savi_access.specs.Sends.{all_sends}
+use Rattle.savi_access.specs.Bases.{AddrRules, AddrBase}
+use Rattle.savi_access.specs.NamedMarks.{Named}
+use Rattle.savi_access.specs.Tables.{rows_after, rows_at}
+use Rattle.savi_access.specs.Probes.{probes_between}
+use Rattle.savi_access.specs.Limits.{IsAddrBase}
+use Rattle.savi_access.proofs.StatesKept.{base_times}
+use Rattle.savi_access.proofs.Orders.{order-length}
+use Rattle.savi_access.proofs.AllSends.{few_sends, sends-late}
+use Rattle.savi_access.proofs.RowCounts.{few_rows}
 use Rattle.savi_access.specs.Marks.{told}
 use Rattle.savi_access.specs.Plans.{rules_of}
 use Rattle.savi_access.proofs.States.{told_past, told_before}

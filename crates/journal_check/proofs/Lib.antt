@@ -1,3 +1,5 @@
+pub mod HeaderRead
+pub mod JudgedAs
 pub mod FewEntries
 pub mod ComputedFields
 pub mod LegalFields

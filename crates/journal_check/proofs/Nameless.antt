@@ -14,7 +14,7 @@ use Rattle.savi_kinds.specs.ValidPlan.{IsValidPlan, IsWithin}
 use Rattle.hist_store.specs.Rows.{Row}
 use Rattle.hist_store.specs.TextOfLines.{lines_text}
 use Rattle.hist_store.specs.JournalTexts.{address_text, begin_line, journal_end_line, entry_lines, header_lines, journal_text, limit_lines, journal_port_fields, prefix_fields, time_lines, word_lines}
-use Rattle.addr_history.specs.Probes.{HasChanged}
+use Rattle.savi_access.specs.Probes.{HasChanged}
 use Rattle.savi_access.specs.Rules.{AccessRules}
 use Rattle.savi_access.specs.Marks.{Mark, told}
 use Rattle.savi_access.specs.Plans.{rules_of}

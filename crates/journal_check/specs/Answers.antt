@@ -1,7 +1,7 @@
 -- What a text is, as a journal. Its octets are the text of a history that a switch may have, the newest row first, and a
 -- rest; the answer is a condition on the two. That nothing before the fault is at fault need not be said: that history
 -- stands.
-use Rattle.std.specs.Prelude.{◌≡◌, ◌≢◌, ◌+◌, ◌⊎◌, ℕ, List, [], ◌∷◌, ◌++◌, length, Option, IfSome, All}
+use Rattle.std.specs.Prelude.{◌≡◌, ◌≢◌, ◌≤◌, ◌+◌, ◌⊎◌, ℕ, List, [], ◌∷◌, ◌++◌, length, Option, IfSome, All}
 use Rattle.hex.specs.Hex.{IsBytes}
 use Rattle.savi_kinds.specs.declared.plan.Plan.{Plan}
 use Rattle.savi_kinds.specs.Characters.{line_feed}
@@ -9,7 +9,7 @@ use Rattle.hist_store.specs.Rows.{Row}
 use Rattle.hist_store.specs.LineTexts.{line_text}
 use Rattle.hist_store.specs.EntryLines.{SaysEntry}
 use Rattle.hist_store.specs.JournalTexts.{address_text, header_lines, journal_header_text, journal_end_text}
-use Rattle.savi_ends.specs.Octets.{NothingLeft}
+use Rattle.savi_ends.specs.Octets.{NothingLeft, Takes}
 use Rattle.savi_history.specs.Bases.{empty}
 use Rattle.savi_history.specs.Legal.{IsLegal, IsFinished}
 use Rattle.journal_check.specs.declared.answer.Checked.{Checked}
@@ -92,3 +92,8 @@ Ends plan past behind (Wrong entry want have) = ⊥
 Ends plan past behind (BadLine n) = (n ≡ next_line plan past + 1) × IfSome behind (λ octets. octets ≢ [])
 Ends plan past behind Failed = Unit {0}
 Ends plan past behind NoMemory = ⊥
+
+-- the header of a plan was read, and no more than one piece behind it
+abbrev pub HasReadHeader : Option (List ℕ) → Option (List ℕ) → Type 0
+HasReadHeader before after =
+    (plan : Plan) × (held : List ℕ) × IsPlan plan × (length held ≤ 16384) × Takes before after (journal_header_text address_text plan ++ held)

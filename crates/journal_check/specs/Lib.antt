@@ -7,5 +7,6 @@ pub mod Differing
 pub mod Puts
 pub mod EgressEnds
 pub mod Turns
+pub mod Judging
 pub mod Answers
 pub mod Laws

@@ -105,10 +105,9 @@ pub record IsListed (line : List ℕ) (ports : List PortPlan) (prefixes : List P
   pub count : length ports' + length prefixes' ≡ length ports + length prefixes + 1
   pub text : line ≡ joined next
 
--- the line was added; or it is `begin`; or it is none that may come next; or there was no memory
+-- the line was added; or it is `begin`; or it is none that may come next
 abbrev pub Adds : Added → List ℕ → List PortPlan → List PrefixPlan → List PortPlan → List PrefixPlan → Type 0
 Adds added.Line line ports prefixes ports' prefixes' = IsListed line ports prefixes ports' prefixes'
 Adds added.Begin line ports prefixes ports' prefixes' =
     (0 < length ports) × (line ≡ joined begin_line) × (ports' ≡ ports) × (prefixes' ≡ prefixes)
 Adds added.Bad line ports prefixes ports' prefixes' = IsNotListed ports prefixes line × (ports' ≡ ports) × (prefixes' ≡ prefixes)
-Adds added.NoMemory line ports prefixes ports' prefixes' = Unit {0}

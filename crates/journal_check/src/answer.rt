@@ -81,3 +81,37 @@ pub enum Checked {
     /// There was no memory, before the first entry was judged.
     NoMemory,
 }
+
+/// What a text is, once there is memory to judge it.
+#[derive(Drop)]
+pub(crate) enum Judged {
+    Good {
+        entries: u64,
+    },
+    Wrong {
+        entry: u64,
+        want: FieldText,
+        have: FieldText,
+    },
+    BadLine {
+        n: u64,
+    },
+    /// A read failed.
+    Failed,
+}
+
+impl Judged {
+    ghost use Rattle.journal_check.specs.Judging.{checked_of};
+
+    /// The answer of the check.
+    pub fn checked(self) -> Checked
+        ensures { result ≡ checked_of self }
+    {
+        match self {
+            Judged::Good { entries } => Checked::Good { entries },
+            Judged::Wrong { entry, want, have } => Checked::Wrong { entry, want, have },
+            Judged::BadLine { n } => Checked::BadLine { n },
+            Judged::Failed => Checked::Failed,
+        }
+    }
+}

@@ -1,6 +1,6 @@
 //! The header of a journal.
 
-ghost use Rattle.std.specs.Prelude.{◌≡◌, ◌+◌, ◌<◌, ◌≤◌, ◌∷◌, ◌++◌, [], length, IfErr, IfOk, IfSome};
+ghost use Rattle.std.specs.Prelude.{◌≡◌, ◌≢◌, ◌+◌, ◌<◌, ◌≤◌, ◌∷◌, ◌++◌, [], length, Err, IfErr, IfOk, IfSome};
 ghost use Rattle.savi_ends.specs.Octets.{in_front};
 ghost use Rattle.savi_ends.specs.Faults.{Rose};
 ghost use Rattle.hist_store.specs.TextOfLines.{lines_text};
@@ -10,9 +10,11 @@ ghost use Rattle.journal_check.specs.Headers.{IsPlan};
 ghost use Rattle.journal_check.specs.SettingLines.{AreSettings, setting_lines};
 ghost use Rattle.journal_check.specs.ListLines.{AreLists, list_lines, plan_by};
 ghost use Rattle.journal_check.specs.declared.settings.Settings.{Settings};
+ghost use Rattle.journal_check.specs.declared.answer.Checked.{Checked};
+ghost use Rattle.journal_check.specs.Judging.{checked_of};
 ghost use Rattle.journal_check.specs.Answers.{IfRead, IsBadHeader};
 
-use crate::answer::Checked;
+use crate::answer::Judged;
 use crate::lines::{Lines, Taken};
 use crate::lists::{Added, Lists};
 use crate::settings::{SETTING_LINES, Settings};
@@ -22,22 +24,25 @@ use savi_ends::Source;
 use savi_kinds::{Plan, PortPlans, PrefixPlans, Text};
 use std::alloc::Global;
 
-/// Reads the header, whose lines are the first ones of a text, and gives the plan that it says, without names. `Err` is the
-/// answer where it is none, or where a read failed or there was no memory.
+/// Reads the header, whose lines are the first ones of a text, and gives the plan that it says, without names. `Err` is what
+/// the text is where it has none, or that a read failed. The lists are empty, and no memory is taken.
 pub fn read_header<S: Source>(
     alloc: Global,
+    lists: Lists,
     lines: &mut Lines,
     source: &mut S,
-) -> Result<Plan, Checked>
+) -> Result<Plan, Judged>
+    requires { (lists.ports.items ≡ []) × (lists.prefixes.items ≡ []) }
     ensures later { S.faults source.old ≤ S.faults source.new }
-    ensures cause { IfErr result (λ answer. answer ≡ Checked.Failed → Rose (S.faults source.old) (S.faults source.new)) }
+    ensures cause { IfErr result (λ judged. judged ≡ Judged.Failed → Rose (S.faults source.old) (S.faults source.new)) }
+    ensures still { result ≢ Err Judged.Failed → S.faults source.new ≡ S.faults source.old }
     ensures plan { IfOk result (λ plan. IsPlan plan
         × (to_come lines.old (S.left source.old) ≡ in_front (journal_header_text address_text plan) (to_come lines.new (S.left source.new)))) }
-    ensures bad { IfErr result (λ answer. IfRead answer (IfSome (to_come lines.old (S.left source.old)) (λ octets. IsBadHeader octets answer))) }
+    ensures bad { IfErr result (λ judged. IfRead (checked_of judged) (IfSome (to_come lines.old (S.left source.old)) (λ octets. IsBadHeader octets (checked_of judged)))) }
 {
     let mut line = ArrayVec::new();
     let settings = read_settings(lines, source, &mut line)?;
-    let lists = read_lists(alloc, lines, source, &mut line)?;
+    let lists = read_lists(alloc, lists, lines, source, &mut line)?;
     Ok(plan_of(alloc, &settings, lists))
 }
 
@@ -57,19 +62,20 @@ fn read_settings<S: Source>(
     lines: &mut Lines,
     source: &mut S,
     line: &mut JournalLine,
-) -> Result<Settings, Checked>
+) -> Result<Settings, Judged>
     ensures later { S.faults source.old ≤ S.faults source.new }
-    ensures cause { IfErr result (λ answer. answer ≡ Checked.Failed → Rose (S.faults source.old) (S.faults source.new)) }
+    ensures cause { IfErr result (λ judged. judged ≡ Judged.Failed → Rose (S.faults source.old) (S.faults source.new)) }
+    ensures still { result ≢ Err Judged.Failed → S.faults source.new ≡ S.faults source.old }
     ensures settings { IfOk result (λ settings. AreSettings settings
         × (to_come lines.old (S.left source.old) ≡ in_front (lines_text (setting_lines settings)) (to_come lines.new (S.left source.new)))) }
-    ensures bad { IfErr result (λ answer. IfRead answer (IfSome (to_come lines.old (S.left source.old)) (λ octets. IsBadHeader octets answer))) }
+    ensures bad { IfErr result (λ judged. IfRead (checked_of judged) (IfSome (to_come lines.old (S.left source.old)) (λ octets. IsBadHeader octets (checked_of judged)))) }
 {
     let mut settings = Settings::new();
     for number in 0..SETTING_LINES {
         match lines.next(source, line) {
             Taken::Line => {}
             Taken::Broken => return Err(bad_setting(number)),
-            Taken::Failed => return Err(Checked::Failed),
+            Taken::Failed => return Err(Judged::Failed),
         }
         if !settings.read(number, line.as_slice()) {
             return Err(bad_setting(number));
@@ -79,11 +85,11 @@ fn read_settings<S: Source>(
 }
 
 // The line of the setting with this number, counted from 0, is bad.
-fn bad_setting(number: usize) -> Checked
+fn bad_setting(number: usize) -> Judged
     requires { number < 11 }
-    ensures { result ≡ Checked.BadLine (number + 1) }
+    ensures { checked_of result ≡ Checked.BadLine (number + 1) }
 {
-    Checked::BadLine {
+    Judged::BadLine {
         n: number as u64 + 1,
     }
 }
@@ -91,43 +97,42 @@ fn bad_setting(number: usize) -> Checked
 // Reads the lines of the ports and prefixes, and `begin`.
 fn read_lists<S: Source>(
     alloc: Global,
+    lists: Lists,
     lines: &mut Lines,
     source: &mut S,
     line: &mut JournalLine,
-) -> Result<Lists, Checked>
+) -> Result<Lists, Judged>
+    requires { (lists.ports.items ≡ []) × (lists.prefixes.items ≡ []) }
     ensures later { S.faults source.old ≤ S.faults source.new }
-    ensures cause { IfErr result (λ answer. answer ≡ Checked.Failed → Rose (S.faults source.old) (S.faults source.new)) }
+    ensures cause { IfErr result (λ judged. judged ≡ Judged.Failed → Rose (S.faults source.old) (S.faults source.new)) }
+    ensures still { result ≢ Err Judged.Failed → S.faults source.new ≡ S.faults source.old }
     ensures lists { IfOk result (λ lists. AreLists lists.ports.items lists.prefixes.items × (0 < length lists.ports.items)
         × (to_come lines.old (S.left source.old) ≡ in_front (lines_text (list_lines lists.ports.items lists.prefixes.items ++ begin_line ∷ [])) (to_come lines.new (S.left source.new)))) }
-    ensures bad { IfErr result (λ answer. IfRead answer ((settings : Settings) → AreSettings settings
-        → IfSome (in_front (lines_text (setting_lines settings)) (to_come lines.old (S.left source.old))) (λ octets. IsBadHeader octets answer))) }
+    ensures bad { IfErr result (λ judged. IfRead (checked_of judged) ((settings : Settings) → AreSettings settings
+        → IfSome (in_front (lines_text (setting_lines settings)) (to_come lines.old (S.left source.old))) (λ octets. IsBadHeader octets (checked_of judged)))) }
 {
-    let mut lists = match Lists::make(alloc) {
-        Ok(lists) => lists,
-        Err(_) => return Err(Checked::NoMemory),
-    };
+    let mut lists = lists;
     'listed: loop {
         match lines.next(source, line) {
             Taken::Line => {}
             Taken::Broken => return Err(bad_listed(&lists)),
-            Taken::Failed => return Err(Checked::Failed),
+            Taken::Failed => return Err(Judged::Failed),
         }
         match lists.take(alloc, line.as_slice()) {
             Added::Line => {}
             Added::Begin => return Ok(lists),
             Added::Bad => return Err(bad_listed(&lists)),
-            Added::NoMemory => return Err(Checked::NoMemory),
         }
     }
 }
 
 // The line behind those of the settings and of these lists is bad.
-fn bad_listed(lists: &Lists) -> Checked
+fn bad_listed(lists: &Lists) -> Judged
     requires { AreLists lists.now.ports.items lists.now.prefixes.items }
-    ensures { result ≡ Checked.BadLine (length lists.now.ports.items + length lists.now.prefixes.items + 12) }
+    ensures { checked_of result ≡ Checked.BadLine (length lists.now.ports.items + length lists.now.prefixes.items + 12) }
 {
     let listed = lists.ports.len() + lists.prefixes.len();
-    Checked::BadLine {
+    Judged::BadLine {
         n: (SETTING_LINES + listed) as u64 + 1,
     }
 }

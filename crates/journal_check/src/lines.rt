@@ -51,7 +51,7 @@ enum Cut {
 }
 
 impl Lines {
-    ghost use Rattle.std.specs.Prelude.{◌≡◌, ◌<◌, ◌≤◌, [], length};
+    ghost use Rattle.std.specs.Prelude.{◌≡◌, ◌≢◌, ◌<◌, ◌≤◌, [], length};
     ghost use Rattle.savi_ends.specs.Octets.{NothingLeft};
     ghost use Rattle.savi_ends.specs.Faults.{Rose};
     ghost use Rattle.journal_check.specs.Pieces.{Cuts, TookLine, held_octets, to_come};
@@ -72,6 +72,7 @@ impl Lines {
     pub fn next<S: Source>(&mut self, source: &mut S, line: &mut JournalLine) -> Taken
         ensures later { S.faults source.old ≤ S.faults source.new }
         ensures cause { result ≡ Taken.Failed → Rose (S.faults source.old) (S.faults source.new) }
+        ensures still { result ≢ Taken.Failed → S.faults source.new ≡ S.faults source.old }
         ensures taken { TookLine result line.new.items (to_come self.old (S.left source.old)) (to_come self.new (S.left source.new)) }
     {
         line.clear();
@@ -93,6 +94,7 @@ impl Lines {
     pub fn fill<S: Source>(&mut self, source: &mut S) -> Behind
         ensures later { S.faults source.old ≤ S.faults source.new }
         ensures cause { result ≡ Behind.Failed → Rose (S.faults source.old) (S.faults source.new) }
+        ensures still { result ≢ Behind.Failed → S.faults source.new ≡ S.faults source.old }
         ensures same { to_come self.new (S.left source.new) ≡ to_come self.old (S.left source.old) }
         ensures more { result ≡ Behind.More → self.new.at < self.new.end }
         ensures some { result ≡ Behind.More → 0 < length (held_octets self.new) }

@@ -1,6 +1,6 @@
 //! The lines of a journal's header behind the settings: the ports, the prefixes and `begin`.
 
-ghost use Rattle.std.specs.Prelude.{◌≡◌, ◌≢◌, ◌↔◌, ◌+◌, ◌-◌, ◌<◌, ◌≤◌, [], ◌∷◌, ◌++◌, IfNone, IfOk, IfSome, IsTrue, OnOk, length, slice_index, slice_index_or};
+ghost use Rattle.std.specs.Prelude.{◌≡◌, ◌≢◌, ◌↔◌, ◌+◌, ◌-◌, ◌<◌, ◌≤◌, [], ◌∷◌, ◌++◌, IfNone, IfOk, IfSome, IsTrue, length, slice_index, slice_index_or, vec_capacity};
 ghost use Rattle.savi_kinds.specs.declared.address.Prefix.{Prefix};
 ghost use Rattle.savi_kinds.specs.declared.plan.Role.{Role};
 ghost use Rattle.savi_kinds.specs.declared.plan.Method.{Method};
@@ -19,11 +19,13 @@ use savi_kinds::{
 };
 use std::alloc::{AllocError, Global};
 
-/// The ports and prefixes of a plan, as far as they were read. They have no names.
+/// The ports and prefixes of a plan, as far as they were read, with room for all that a plan may have. They have no names.
 #[derive(Drop)]
 pub struct Lists {
     pub ports: Vec<PortPlan>,
     pub prefixes: Vec<PrefixPlan>,
+    ghost room_for_ports: { 16 ≤ vec_capacity ports },
+    ghost room_for_prefixes: { 32 ≤ vec_capacity prefixes },
 }
 
 /// What a line says behind those that were read.
@@ -44,13 +46,12 @@ pub enum Added {
     Begin,
     /// It is none that may stand there.
     Bad,
-    NoMemory,
 }
 
 impl Lists {
     ghost use Rattle.journal_check.specs.ListLines.{AreLists, Adds, MayAddPort, MayAddPrefix, SaysListed, port_by};
 
-    /// Empty lists, with room for as many ports and prefixes as a plan may have.
+    /// Empty lists, with room for as many ports and prefixes as a plan may have. All their memory is taken here.
     pub fn make(alloc: Global) -> Result<Lists, AllocError>
         ensures { IfOk result (λ lists. (lists.ports.items ≡ []) × (lists.prefixes.items ≡ [])) }
     {
@@ -65,14 +66,14 @@ impl Lists {
         ensures { Adds result line.now self.old.ports.items self.old.prefixes.items self.new.ports.items self.new.prefixes.items }
     {
         match self.read(line) {
-            Listed::Port(port, role, format) => match self.add_port(alloc, port, role, format) {
-                Ok(()) => Added::Line,
-                Err(_) => Added::NoMemory,
-            },
-            Listed::Prefix(prefix, method) => match self.add_prefix(prefix, method) {
-                Ok(()) => Added::Line,
-                Err(_) => Added::NoMemory,
-            },
+            Listed::Port(port, role, format) => {
+                self.add_port(alloc, port, role, format);
+                Added::Line
+            }
+            Listed::Prefix(prefix, method) => {
+                self.add_prefix(prefix, method);
+                Added::Line
+            }
             Listed::Begin => Added::Begin,
             Listed::Bad => Added::Bad,
         }
@@ -169,32 +170,34 @@ impl Lists {
         }
     }
 
-    // Adds a port without names.
-    fn add_port(
-        &mut self,
-        alloc: Global,
-        number: Port,
-        role: Role,
-        format: Format,
-    ) -> Result<(), AllocError>
-        ensures ports { OnOk result (self.new.ports.items ≡ self.old.ports.items ++ port_by number role format ∷ []) }
+    // Adds a port without names. There is room for it.
+    fn add_port(&mut self, alloc: Global, number: Port, role: Role, format: Format)
+        requires { length self.old.ports.items < 16 }
+        ensures ports { self.new.ports.items ≡ self.old.ports.items ++ port_by number role format ∷ [] }
         ensures prefixes { self.new.prefixes.items ≡ self.old.prefixes.items }
     {
-        self.ports.push(PortPlan {
+        let added = self.ports.push(PortPlan {
             number,
             role,
             format,
             input: Text::new(String::new(alloc)),
             output: Text::new(String::new(alloc)),
-        })?;
-        Ok(())
+        });
+        match added {
+            Ok(()) => {}
+            Err(_) => unreachable!(),
+        }
     }
 
-    fn add_prefix(&mut self, prefix: Prefix, method: Method) -> Result<(), AllocError>
+    // Adds a prefix. There is room for it.
+    fn add_prefix(&mut self, prefix: Prefix, method: Method)
+        requires { length self.old.prefixes.items < 32 }
         ensures ports { self.new.ports.items ≡ self.old.ports.items }
-        ensures prefixes { OnOk result (self.new.prefixes.items ≡ self.old.prefixes.items ++ record { prefix = prefix; method = method } ∷ []) }
+        ensures prefixes { self.new.prefixes.items ≡ self.old.prefixes.items ++ record { prefix = prefix; method = method } ∷ [] }
     {
-        self.prefixes.push(PrefixPlan { prefix, method })?;
-        Ok(())
+        match self.prefixes.push(PrefixPlan { prefix, method }) {
+            Ok(()) => {}
+            Err(_) => unreachable!(),
+        }
     }
 }

@@ -24,7 +24,7 @@ no_more : (old new : State) (more : List ℕ) (left : Option (List ℕ)) (line :
 no_more old new more left line is (inl one) =
     let place = one.0.0 in
     let held = one.0.1 in
-    let later = some_later true true [] place (held ++ []) in
+    let later = some_later true true place (held ++ []) in
     let comes : Comes true true new [] (of_lines later.0 later.1) = subst (λ (s : State). Comes true true s [] (of_lines later.0 later.1)) (sym one.0.2) later.2 in
     no_lines line later.0 later.1 hows.End (subst (λ (s : State). Comes true true s (more ++ []) (of_lines (line ∷ later.0) later.1)) is (one.1 true [] later.0 later.1 comes))
 no_more old new more left line is (inr one) = no_lines line [] hows.End hows.End (subst (λ (s : State). Comes true true s more (of_lines (line ∷ []) hows.End)) is one.2)
@@ -79,7 +79,7 @@ module _ (state : State) (gave : List ℕ) (lines : List Line) where
   first_at : (left : Option (List ℕ)) → HasHeard state gave left lines → AreFirst (AreLiveLines true) (in_front gave left) lines
   first_at None heard = tt
   first_at (Some rest) (inl behind) =
-      let later = some_later true true [] behind.0.0 (behind.0.1 ++ rest) in
+      let later = some_later true true behind.0.0 (behind.0.1 ++ rest) in
       let comes : Comes true true state rest (of_lines later.0 later.1) = subst (λ (s : State). Comes true true s rest (of_lines later.0 later.1)) (sym behind.0.2) later.2 in
       record { behind = later.0; ending = later.1; read = behind.1 true rest later.0 later.1 comes }
   first_at (Some rest) (inr over) = record {
@@ -100,7 +100,7 @@ all_given first (Some rest) gave nothing takes = subst (λ (o : Option (List ℕ
 -- there was no room for the last line
 pub heard_refused : (state : State) (gave : List ℕ) (first left : Option (List ℕ)) (lines : List Line) (line : Line) → HasHeard state gave left (lines ++ line ∷ []) → Takes first left gave → AreBeforeRefusal AreLiveLines first left lines
 heard_refused state gave first left lines line (inl behind) takes =
-    let later = some_later true false [] behind.0.0 (behind.0.1 ++ []) in
+    let later = some_later true false behind.0.0 (behind.0.1 ++ []) in
     let comes : Comes true false state [] (of_lines later.0 later.1) = subst (λ (s : State). Comes true false s [] (of_lines later.0 later.1)) (sym behind.0.2) later.2 in
     record {
       gave = gave;

@@ -1,5 +1,5 @@
 -- The ends of control between two lines, and once control has ended.
-use Rattle.std.proofs.Common.{◌≡◌, ◌≤◌, ℕ, Bool, true, false, List, [], ◌∷◌, ◌++◌, refl, sym, ap, ◌∙◌, subst, arith, inl, inr, append-nil, Option, Some, None, IfSome}
+use Rattle.std.proofs.Common.{◌≡◌, ◌≢◌, ◌≤◌, ℕ, Bool, true, false, List, [], ◌∷◌, ◌++◌, refl, sym, ap, ◌∙◌, subst, arith, inl, inr, append-nil, Option, Some, None, IfSome}
 use Rattle.std.specs.List.{All, concat}
 use Rattle.std.proofs.lemmas.List.{map-append}
 use Rattle.std.proofs.lemmas.List.Elements.{All-cons, All-head, All-nil, All-tail}
@@ -73,8 +73,8 @@ takes_none (Some rest) = refl
 
 -- counts of faults
 
-rose_later : (first mid new : ℕ) → first ≤ mid → Rose mid new → Rose first new
-rose_later first mid new later rose = omega arith
+rose_later : (first mid new : ℕ) → mid ≡ first → Rose mid new → Rose first new
+rose_later first mid new same rose = omega arith
 
 module _ {S K C : Type 0} (left : S → Option (List ℕ)) (written : K → Option (List ℕ)) (source_faults : S → ℕ)
     (sink_faults : K → ℕ) (readings : C → Option (List ℕ)) (plan : Plan) where
@@ -91,8 +91,8 @@ module _ {S K C : Type 0} (left : S → Option (List ℕ)) (written : K → Opti
         stamped = adds_none (readings first.clock);
         took = behind_none (written first.sink);
         running = refl;
-        source = omega arith;
-        sink = omega arith;
+        source = refl;
+        sink = refl;
         unbroken = λ same. cc;
       }))
 
@@ -106,7 +106,9 @@ module _ {S K C : Type 0} (left : S → Option (List ℕ)) (written : K → Opti
     pub source : source_faults first.source ≤ source_faults now.source
     pub sink : sink_faults first.sink ≤ sink_faults now.sink
     pub broken : how ≡ hows.Failed → Rose (source_faults first.source) (source_faults now.source)
+    pub still : how ≢ hows.Failed → source_faults now.source ≡ source_faults first.source
     pub unwritten : how ≡ hows.Unwritten → Rose (sink_faults first.sink) (sink_faults now.sink)
+    pub still_out : how ≢ hows.Unwritten → sink_faults now.sink ≡ sink_faults first.sink
 
   pub served_row : (past : List Row) (first now : Ends S K C) (lines : List Line) (told : List (List ℕ)) (how : How) → HasServed past first now lines told how → ControlRow left written source_faults sink_faults readings plan empty past first now
   served_row past first now lines told how served = record {
@@ -120,7 +122,9 @@ module _ {S K C : Type 0} (left : S → Option (List ℕ)) (written : K → Opti
     source = served.source;
     sink = served.sink;
     broken = λ failed. served.broken (some_same (sym served.shows.ending ∙ failed));
+    still = λ other. served.still (λ failed. other (served.shows.ending ∙ ap (λ (h : How). Some h) failed));
     unwritten = λ failed. served.unwritten (some_same (sym served.shows.ending ∙ failed));
+    still_out = λ other. served.still_out (λ failed. other (served.shows.ending ∙ ap (λ (h : How). Some h) failed));
   }
 
   -- the next line, or the end of the input, was read
@@ -136,7 +140,10 @@ module _ {S K C : Type 0} (left : S → Option (List ℕ)) (written : K → Opti
     source_later : source_faults first.source ≤ source_faults new.source
     source_later = let before = serves.source in omega (arith, before, source)
 
-    module _ (line : Line) (read : HasReadOne true state later more (left new.source) line) (reading : AddsReading (readings old.clock) (readings new.clock) line.stamp) where
+    module _ (line : Line) (read : HasReadOne true state later more (left new.source) line) (reading : AddsReading (readings old.clock) (readings new.clock) line.stamp) (same : source_faults new.source ≡ source_faults old.source) where
+      source_same : source_faults new.source ≡ source_faults first.source
+      source_same = same ∙ serves.source
+
       abbrev lines_now : List Line
       lines_now = entered_lines past ++ line ∷ []
 
@@ -162,8 +169,8 @@ module _ {S K C : Type 0} (left : S → Option (List ℕ)) (written : K → Opti
         took = took_more (written first.sink) (written old.sink) (written new.sink) (replies plan empty past) answered.reply serves.took answered.took.1
             ∙ ap (λ (ts : List (List ℕ)). behind (written first.sink) (concat ts)) (sym answered.replied);
         running = answered.ending;
-        source = source_later;
-        sink = sink_later answered.later;
+        source = source_same;
+        sink = answered.took.2 ∙ serves.sink;
         unbroken = goes_on state later more (left new.source) line read;
       }
 
@@ -175,10 +182,15 @@ module _ {S K C : Type 0} (left : S → Option (List ℕ)) (written : K → Opti
         stamped = (line.stamp, stamped_now);
         fits_out = subst (λ (k : K). written k ≡ behind (written first.sink) (concat (replies plan empty past))) (sym refused.same) serves.took;
         source = source_later;
-        sink = subst (λ (k : K). sink_faults first.sink ≤ sink_faults k) (sym refused.same) serves.sink;
-        broken = λ same. cc;
-        unwritten = λ same. cc;
+        sink = let before = refused_sink in omega arith;
+        broken = λ failed. cc;
+        still = λ other. source_same;
+        unwritten = λ failed. cc;
+        still_out = λ other. refused_sink;
       })
+        where
+          refused_sink : sink_faults new.sink ≡ sink_faults first.sink
+          refused_sink = ap sink_faults refused.same ∙ serves.sink
 
       all_first : AreFirst (AreLiveLines true) (left first.source) lines_now
       all_first = heard_first later gave_more lines_now (left first.source) (left new.source) heard_now took_all
@@ -192,8 +204,10 @@ module _ {S K C : Type 0} (left : S → Option (List ℕ)) (written : K → Opti
         fits_out = took_more (written first.sink) (written old.sink) (written new.sink) (replies plan empty past) answered.reply serves.took answered.took.1;
         source = source_later;
         sink = sink_later answered.later;
-        broken = λ same. cc;
-        unwritten = λ same. cc;
+        broken = λ failed. cc;
+        still = λ other. source_same;
+        unwritten = λ failed. cc;
+        still_out = λ other. answered.took.2 ∙ serves.sink;
       })
       line_last hows.Unwritten answered = served_row now first new lines_now (replies plan empty past ++ answered.reply ∷ []) hows.Unwritten (record {
         shows = record { lines = answered.lines; told = answered.replied; ending = answered.ending };
@@ -203,8 +217,10 @@ module _ {S K C : Type 0} (left : S → Option (List ℕ)) (written : K → Opti
         fits_out = took_front (written first.sink) (written old.sink) (written new.sink) (replies plan empty past) answered.reply answered.took.0 serves.took answered.took.1 answered.took.2;
         source = source_later;
         sink = sink_later answered.later;
-        broken = λ same. cc;
-        unwritten = λ same. rose_later (sink_faults first.sink) (sink_faults old.sink) (sink_faults new.sink) serves.sink answered.took.3;
+        broken = λ failed. cc;
+        still = λ other. source_same;
+        unwritten = λ failed. rose_later (sink_faults first.sink) (sink_faults old.sink) (sink_faults new.sink) serves.sink answered.took.3;
+        still_out = λ other. absurd (other refl);
       })
       line_last hows.End answered = absurd answered.took
       line_last (hows.Malformed at) answered = absurd answered.took
@@ -229,8 +245,11 @@ module _ {S K C : Type 0} (left : S → Option (List ℕ)) (written : K → Opti
       stamped_same : AddsReadings (readings first.clock) (readings new.clock) (line_stamps (entered_lines past))
       stamped_same = subst (λ (c : C). AddsReadings (readings first.clock) (readings c) (line_stamps (entered_lines past))) (sym clock_same) serves.stamped
 
-      sink_still : sink_faults first.sink ≤ sink_faults new.sink
-      sink_still = subst (λ (k : K). sink_faults first.sink ≤ sink_faults k) (sym sink_same) serves.sink
+      sink_still : sink_faults new.sink ≡ sink_faults first.sink
+      sink_still = ap sink_faults sink_same ∙ serves.sink
+
+      sink_not_before : sink_faults first.sink ≤ sink_faults new.sink
+      sink_not_before = let same = sink_still in omega arith
 
       whole : (how : How) → HasEnded true state later more (left new.source) how → IfSome (left first.source) (λ octets. AreLiveLines true octets (entered_lines past) how)
       whole how has = heard_end state later serves.gave more (left old.source) (entered_lines past) how (left first.source) (left new.source) serves.heard has serves.takes takes
@@ -239,43 +258,49 @@ module _ {S K C : Type 0} (left : S → Option (List ℕ)) (written : K → Opti
       abbrev pub EndsSo : How → Type 0
       EndsSo how = Shows plan now (entered_lines past) (replies plan empty past) (Some how)
 
-      pub input_ended : EndsSo hows.End → HasEnded true state later more (left new.source) hows.End → ControlRow left written source_faults sink_faults readings plan empty now first new
-      input_ended shows has = served_row now first new (entered_lines past) (replies plan empty past) hows.End (record {
+      pub input_ended : EndsSo hows.End → HasEnded true state later more (left new.source) hows.End → source_faults new.source ≡ source_faults old.source → ControlRow left written source_faults sink_faults readings plan empty now first new
+      input_ended shows has same = served_row now first new (entered_lines past) (replies plan empty past) hows.End (record {
         shows = shows;
         gave = (gave_more, took_all);
         fits = (whole hows.End has, serves.none);
         stamped = stamped_same;
         fits_out = took_same;
         source = source_later;
-        sink = sink_still;
-        broken = λ same. cc;
-        unwritten = λ same. cc;
+        sink = sink_not_before;
+        broken = λ failed. cc;
+        still = λ other. same ∙ serves.source;
+        unwritten = λ failed. cc;
+        still_out = λ other. sink_still;
       })
 
-      pub input_malformed : (at : ℕ) → EndsSo (hows.Malformed at) → HasEnded true state later more (left new.source) (hows.Malformed at) → ControlRow left written source_faults sink_faults readings plan empty now first new
-      input_malformed at shows has = served_row now first new (entered_lines past) (replies plan empty past) (hows.Malformed at) (record {
+      pub input_malformed : (at : ℕ) → EndsSo (hows.Malformed at) → HasEnded true state later more (left new.source) (hows.Malformed at) → source_faults new.source ≡ source_faults old.source → ControlRow left written source_faults sink_faults readings plan empty now first new
+      input_malformed at shows has same = served_row now first new (entered_lines past) (replies plan empty past) (hows.Malformed at) (record {
         shows = shows;
         gave = (gave_more, took_all);
         fits = (whole (hows.Malformed at) has, serves.none);
         stamped = stamped_same;
         fits_out = took_same;
         source = source_later;
-        sink = sink_still;
-        broken = λ same. cc;
-        unwritten = λ same. cc;
+        sink = sink_not_before;
+        broken = λ failed. cc;
+        still = λ other. same ∙ serves.source;
+        unwritten = λ failed. cc;
+        still_out = λ other. sink_still;
       })
 
-      pub input_overlong : (at : ℕ) → EndsSo (hows.Overlong at) → HasEnded true state later more (left new.source) (hows.Overlong at) → ControlRow left written source_faults sink_faults readings plan empty now first new
-      input_overlong at shows has = served_row now first new (entered_lines past) (replies plan empty past) (hows.Overlong at) (record {
+      pub input_overlong : (at : ℕ) → EndsSo (hows.Overlong at) → HasEnded true state later more (left new.source) (hows.Overlong at) → source_faults new.source ≡ source_faults old.source → ControlRow left written source_faults sink_faults readings plan empty now first new
+      input_overlong at shows has same = served_row now first new (entered_lines past) (replies plan empty past) (hows.Overlong at) (record {
         shows = shows;
         gave = (gave_more, took_all);
         fits = (whole (hows.Overlong at) has, serves.none);
         stamped = stamped_same;
         fits_out = took_same;
         source = source_later;
-        sink = sink_still;
-        broken = λ same. cc;
-        unwritten = λ same. cc;
+        sink = sink_not_before;
+        broken = λ failed. cc;
+        still = λ other. same ∙ serves.source;
+        unwritten = λ failed. cc;
+        still_out = λ other. sink_still;
       })
 
       -- a read failed
@@ -294,7 +319,9 @@ module _ {S K C : Type 0} (left : S → Option (List ℕ)) (written : K → Opti
         stamped = stamped_same;
         fits_out = took_same;
         source = source_later;
-        sink = sink_still;
-        broken = λ same. rose_later (source_faults first.source) (source_faults old.source) (source_faults new.source) serves.source rose;
-        unwritten = λ same. cc;
+        sink = sink_not_before;
+        broken = λ failed. rose_later (source_faults first.source) (source_faults old.source) (source_faults new.source) serves.source rose;
+        still = λ other. absurd (other refl);
+        unwritten = λ failed. cc;
+        still_out = λ other. sink_still;
       })

@@ -1,5 +1,5 @@
 -- The ends of control while it goes on, and once it has ended.
-use Rattle.std.specs.Prelude.{◌≡◌, ◌≢◌, ℕ, ◌≤◌, Bool, true, false, List, Option, None}
+use Rattle.std.specs.Prelude.{◌≡◌, ◌≢◌, ℕ, Bool, true, false, List, Option, None}
 use Rattle.std.specs.List.{concat}
 use Rattle.savi_kinds.specs.declared.plan.Plan.{Plan}
 use Rattle.savi_kinds.specs.declared.entry.How.TheVariants as hows
@@ -19,7 +19,7 @@ use Rattle.live_control.specs.Heard.{HasHeard}
 module _ {S K C : Type 0} (left : S → Option (List ℕ)) (written : K → Option (List ℕ)) (source_faults : S → ℕ)
     (sink_faults : K → ℕ) (readings : C → Option (List ℕ)) (plan : Plan) where
   -- what was read of control's source, from its first ends on, are the lines that the history holds, stamped by the clock,
-  -- and the sink took the replies to them
+  -- and the sink took the replies to them; no read and no write has failed
   pub record Serves (past : List Row) (first now : Ends S K C) (state : State) : Type 0 where
     pub gave : List ℕ
     pub takes : Takes (left first.source) (left now.source) gave
@@ -28,8 +28,8 @@ module _ {S K C : Type 0} (left : S → Option (List ℕ)) (written : K → Opti
     pub stamped : AddsReadings (readings first.clock) (readings now.clock) (line_stamps (entered_lines past))
     pub took : written now.sink ≡ behind (written first.sink) (concat (replies plan empty past))
     pub running : control_end past ≡ None
-    pub source : source_faults first.source ≤ source_faults now.source
-    pub sink : sink_faults first.sink ≤ sink_faults now.sink
+    pub source : source_faults now.source ≡ source_faults first.source
+    pub sink : sink_faults now.sink ≡ sink_faults first.sink
     pub unbroken : state ≢ Ended hows.Failed
 
   -- control goes on, or has ended

@@ -1,5 +1,5 @@
 -- One read of an input and one turn for it.
-use Rattle.std.proofs.Common.{◌≡◌, ℕ, ◌+◌, ◌≤◌, Bool, true, false, List, [], ◌∷◌, ◌++◌, refl, sym, subst, ap, ◌∙◌, Option, Some, take, arith}
+use Rattle.std.proofs.Common.{◌≡◌, ◌≢◌, ℕ, ◌+◌, ◌≤◌, Bool, true, false, List, [], ◌∷◌, ◌++◌, refl, sym, subst, ap, ◌∙◌, Option, Some, take, arith}
 use Rattle.savi_kinds.specs.declared.plan.Format.{Format}
 use Rattle.savi_kinds.specs.declared.plan.Format.TheVariants as forms
 use Rattle.savi_kinds.specs.declared.entry.How.{How}
@@ -87,8 +87,8 @@ module _ {C : Type 0} (readings : C → Option (List ℕ)) (old new : C) where
   unread_failed (readers.Pcap state) same = ap readings same
   unread_failed (readers.Stream state) same = ap readings same
 
-rose_since : (first mid now : ℕ) → first ≤ mid → Rose mid now → Rose first now
-rose_since first mid now later rose = omega arith
+rose_since : (first mid now : ℕ) → mid ≡ first → Rose mid now → Rose first now
+rose_since first mid now same rose = omega arith
 
 module _ {S C : Type 0} (left : S → Option (List ℕ)) (faults : S → ℕ) (readings : C → Option (List ℕ)) (format : Format) (port : ℕ) (source : S) (clock : C) where
   -- at the beginning
@@ -99,7 +99,7 @@ module _ {S C : Type 0} (left : S → Option (List ℕ)) (faults : S → ℕ) (r
     takes = subst (λ (s : S). Takes (left source) (left s) []) (sym same_source) (takes_none (left source));
     read = read_none format input.reader new;
     stamped = subst (λ (c : C). HasStamped input.reader (readings clock) (readings c) []) (sym same_clock) (stamped_first input.reader (readings clock));
-    later = subst (λ (s : S). faults source ≤ faults s) (sym same_source) (omega arith);
+    still = ap faults same_source;
     unbroken = new_unbroken format input.reader new;
   }
 
@@ -111,16 +111,16 @@ module _ {S C : Type 0} (left : S → Option (List ℕ)) (faults : S → ℕ) (r
       subst (λ (t : List Row × S × C). IngressRow left faults readings format port t.0 source t.1 clock t.2) (λ i. (sym same_past i, sym same_source i, sym same_clock i)) row
 
   module _ (old new : PortInput S C) (before after : List Row) (goes : GoesOn left faults readings format port source clock old before) where
-    more_at : (x : Arrival) (gave : List ℕ) → Takes (left old.source) (left new.source) gave → IsOne old.reader new.reader gave x → HasStampedOne old.reader (readings old.clock) (readings new.clock) (stamp_of x) → faults old.source ≤ faults new.source
+    more_at : (x : Arrival) (gave : List ℕ) → Takes (left old.source) (left new.source) gave → IsOne old.reader new.reader gave x → HasStampedOne old.reader (readings old.clock) (readings new.clock) (stamp_of x) → faults new.source ≡ faults old.source
         → arrived port after ≡ arrived port before ++ x ∷ [] → GoesOn left faults readings format port source clock new after
-    more_at x gave takes one stamp later entered = record {
+    more_at x gave takes one stamp still entered = record {
       form = one_form old.reader new.reader gave x one ∙ goes.form;
       gave = goes.gave ++ gave;
       takes = takes_more goes.gave gave (left source) (left old.source) (left new.source) goes.takes takes;
       read = subst (λ (l : List Arrival). HasRead new.reader (goes.gave ++ gave) l) (sym entered) (read_more old.reader new.reader goes.gave gave (arrived port before) x goes.read one);
       stamped = subst (λ (l : List Arrival). HasStamped new.reader (readings clock) (readings new.clock) l) (sym entered)
           (stamped_more old.reader new.reader gave x (readings clock) (readings old.clock) (readings new.clock) (arrived port before) one goes.stamped stamp);
-      later = let first = goes.later in omega arith;
+      still = still ∙ goes.still;
       unbroken = one_unbroken old.reader new.reader gave x one;
     }
 
@@ -129,43 +129,46 @@ module _ {S C : Type 0} (left : S → Option (List ℕ)) (faults : S → ℕ) (r
         → EndsInput port how before after → FitsInput (reader_form old.reader) (left source) (left new.source) (arrived port before) (Some how)
         → AreStamped (reader_form old.reader) (readings clock) (readings new.clock) (arrived port before) (Some how)
         → (how ≡ hows.Failed → Rose (faults old.source) (faults new.source))
+        → (how ≢ hows.Failed → faults new.source ≡ faults old.source)
         → IngressRow left faults readings format port after source new.source clock new.clock
-    ended_at how gave takes later ends fits stamped cause = record {
+    ended_at how gave takes later ends fits stamped cause stays = record {
       gave = (goes.gave ++ gave, takes_more goes.gave gave (left source) (left old.source) (left new.source) goes.takes takes);
       fits = subst (λ (t : Format × List Arrival × Option How). FitsInput t.0 (left source) (left new.source) t.1 t.2)
           (λ i. (goes.form i, sym ends.arrivals_same i, sym ends.ended_so i)) fits;
       stamped = subst (λ (t : Format × List Arrival × Option How). AreStamped t.0 (readings clock) (readings new.clock) t.1 t.2)
           (λ i. (goes.form i, sym ends.arrivals_same i, sym ends.ended_so i)) stamped;
-      later = let first = goes.later in omega arith;
-      broken = λ failed. rose_since (faults source) (faults old.source) (faults new.source) goes.later (cause (some_how how (sym ends.ended_so ∙ failed)));
+      later = let first = goes.still in omega arith;
+      broken = λ failed. rose_since (faults source) (faults old.source) (faults new.source) goes.still (cause (some_how how (sym ends.ended_so ∙ failed)));
+      still = λ other. stays (λ failed. other (ends.ended_so ∙ ap (λ (h : How). Some h) failed)) ∙ goes.still;
     }
       where
         some_how : (how : How) → Some how ≡ Some hows.Failed → how ≡ hows.Failed
         some_how how e = cc
 
     -- there was no room for an arrival
-    full_at : (x : Arrival) (gave : List ℕ) → Takes (left old.source) (left new.source) gave → IsOne old.reader new.reader gave x → HasStampedOne old.reader (readings old.clock) (readings new.clock) (stamp_of x) → faults old.source ≤ faults new.source
+    full_at : (x : Arrival) (gave : List ℕ) → Takes (left old.source) (left new.source) gave → IsOne old.reader new.reader gave x → HasStampedOne old.reader (readings old.clock) (readings new.clock) (stamp_of x) → faults new.source ≡ faults old.source
         → Enters port x false before after → IngressRow left faults readings format port after source new.source clock new.clock
-    full_at x gave takes one stamp later refused =
-        ended_at (hows.Full refused.1.0) gave takes later (record { arrivals_same = refused.0; ended_so = refused.1.1 })
+    full_at x gave takes one stamp still refused =
+        ended_at (hows.Full refused.1.0) gave takes (omega (arith, still)) (record { arrivals_same = refused.0; ended_so = refused.1.1 })
         (fits_full (left source) (left old.source) (left new.source) goes.gave gave new.buf (arrived port before) goes.takes takes refused.1.0 x old.reader new.reader goes.read one)
         (stamped_full refused.1.0 old.reader x (readings clock) (readings old.clock) (readings new.clock) (arrived port before) goes.stamped stamp)
         (λ e. cc)
+        (λ other. still)
 
-    arrival_at : (x : Arrival) (gave : List ℕ) (entered : Bool) → Takes (left old.source) (left new.source) gave → IsOne old.reader new.reader gave x → HasStampedOne old.reader (readings old.clock) (readings new.clock) (stamp_of x) → faults old.source ≤ faults new.source
+    arrival_at : (x : Arrival) (gave : List ℕ) (entered : Bool) → Takes (left old.source) (left new.source) gave → IsOne old.reader new.reader gave x → HasStampedOne old.reader (readings old.clock) (readings new.clock) (stamp_of x) → faults new.source ≡ faults old.source
         → Enters port x entered before after → GoesOnOrEnds left faults readings format port source clock new after entered
-    arrival_at x gave true takes one stamp later enters = more_at x gave takes one stamp later enters
-    arrival_at x gave false takes one stamp later enters = full_at x gave takes one stamp later enters
+    arrival_at x gave true takes one stamp still enters = more_at x gave takes one stamp still enters
+    arrival_at x gave false takes one stamp still enters = full_at x gave takes one stamp still enters
 
     pub left_frame : (stamp len : ℕ) (entered : Bool) → Reads left faults readings old new (next.Frame stamp len) → Enters port (Frame stamp (frame_in new len)) entered before after → GoesOnOrEnds left faults readings format port source clock new after entered
     left_frame stamp len entered reads enters =
         arrival_at (Frame stamp (frame_in new len)) reads.octets.0 entered reads.octets.1 (one_frame old.reader new.reader reads.octets.0 new.buf (left new.source) stamp len reads.octets.2)
-        (frame_stamped readings old.clock new.clock old.reader stamp len reads.stamps) reads.later enters
+        (frame_stamped readings old.clock new.clock old.reader stamp len reads.stamps) (reads.still (λ e. cc)) enters
 
     pub left_long : (stamp len : ℕ) (entered : Bool) → Reads left faults readings old new (next.Long stamp len) → Enters port (Long stamp len) entered before after → GoesOnOrEnds left faults readings format port source clock new after entered
     left_long stamp len entered reads enters =
         arrival_at (Long stamp len) reads.octets.0 entered reads.octets.1 (one_long old.reader new.reader reads.octets.0 new.buf (left new.source) stamp len reads.octets.2)
-        (long_stamped readings old.clock new.clock old.reader stamp len reads.stamps) reads.later enters
+        (long_stamped readings old.clock new.clock old.reader stamp len reads.stamps) (reads.still (λ e. cc)) enters
 
     pub left_end : Reads left faults readings old new next.End → EndsInput port hows.End before after → IngressRow left faults readings format port after source new.source clock new.clock
     left_end reads ends =
@@ -174,6 +177,7 @@ module _ {S C : Type 0} (left : S → Option (List ℕ)) (faults : S → ℕ) (r
         (subst (λ (o : Option (List ℕ)). AreStamped (reader_form old.reader) (readings clock) o (arrived port before) (Some hows.End)) (sym (unread_end readings old.clock new.clock old.reader reads.stamps))
         (stamped_end old.reader (readings clock) (readings old.clock) (arrived port before) goes.stamped))
         (λ e. cc)
+        (λ other. reads.still (λ e. cc))
 
     pub left_malformed : (at : ℕ) → Reads left faults readings old new (next.Malformed at) → EndsInput port (hows.Malformed at) before after → IngressRow left faults readings format port after source new.source clock new.clock
     left_malformed at reads ends =
@@ -182,6 +186,7 @@ module _ {S C : Type 0} (left : S → Option (List ℕ)) (faults : S → ℕ) (r
         (subst (λ (o : Option (List ℕ)). AreStamped (reader_form old.reader) (readings clock) o (arrived port before) (Some (hows.Malformed at))) (sym (unread_malformed readings old.clock new.clock at old.reader reads.stamps))
         (stamped_malformed at old.reader (readings clock) (readings old.clock) (arrived port before) goes.stamped))
         (λ e. cc)
+        (λ other. reads.still (λ e. cc))
 
     pub left_failed : Reads left faults readings old new next.Failed → EndsInput port hows.Failed before after → IngressRow left faults readings format port after source new.source clock new.clock
     left_failed reads ends =
@@ -190,3 +195,4 @@ module _ {S C : Type 0} (left : S → Option (List ℕ)) (faults : S → ℕ) (r
         (subst (λ (o : Option (List ℕ)). AreStamped (reader_form old.reader) (readings clock) o (arrived port before) (Some hows.Failed)) (sym (unread_failed readings old.clock new.clock old.reader reads.stamps))
         (stamped_failed old.reader (readings clock) (readings old.clock) (arrived port before) goes.stamped))
         (λ e. reads.cause refl goes.unbroken)
+        (λ other. absurd (other refl))

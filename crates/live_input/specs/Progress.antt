@@ -1,5 +1,5 @@
 -- What the history holds of an input while its worker reads on.
-use Rattle.std.specs.Prelude.{◌≡◌, ℕ, ◌≤◌, Bool, true, false, List, [], Option}
+use Rattle.std.specs.Prelude.{◌≡◌, ℕ, Bool, true, false, List, [], Option}
 use Rattle.savi_kinds.specs.declared.plan.Format.{Format}
 use Rattle.savi_kinds.specs.declared.plan.Format.TheVariants as forms
 use Rattle.savi_kinds.specs.Arrivals.{Arrival}
@@ -32,14 +32,15 @@ HasStamped (readers.Pcap state) read read_more arrivals = read_more ≡ read
 HasStamped (readers.Stream state) read read_more arrivals = AddsReadings read read_more (stamps_in arrivals)
 
 module _ {S C : Type 0} (left : S → Option (List ℕ)) (faults : S → ℕ) (readings : C → Option (List ℕ)) where
-  -- what was read of an input of this form, from its first source and clock on, is what the history holds of it
+  -- what was read of an input of this form, from its first source and clock on, is what the history holds of it, and no read
+  -- has failed
   pub record GoesOn (format : Format) (port : ℕ) (source : S) (clock : C) (input : PortInput S C) (past : List Row) : Type 0 where
     pub form : reader_form input.reader ≡ format
     pub gave : List ℕ
     pub takes : Takes (left source) (left input.source) gave
     pub read : HasRead input.reader gave (arrived port past)
     pub stamped : HasStamped input.reader (readings clock) (readings input.clock) (arrived port past)
-    pub later : faults source ≤ faults input.source
+    pub still : faults input.source ≡ faults source
     pub unbroken : ¬ HasFailed input.reader
 
   -- the input goes on, or has ended

@@ -34,19 +34,19 @@ itself : (n : ℕ) → (n == n) ≡ true
 itself n = grind (arith, nat_tests)
 
 module _ {K : Type 0} (written : K → Option (List ℕ)) (faults : K → ℕ) (plan : Plan) (format : Format) (port : Port) (first : K) where
-  -- A sink took all that was sent so far.
+  -- A sink took all that was sent so far, and no write has failed.
   pub record IsSending (past : List Row) (now : K) : Type 0 where
     pub took : written now ≡ behind (written first) (output_text format (sent plan empty (number_of port) past))
-    pub later : faults first ≤ faults now
+    pub still : faults now ≡ faults first
 
   abbrev IsMyRow : List Row → K → Type 0
   IsMyRow past now = EgressRow written faults format plan empty (number_of port) past first now
 
   -- the output is begun
-  pub sending_begins : (past : List Row) (now : K) → past ≡ [] → written now ≡ behind (written first) (beginning format) → faults first ≤ faults now → IsSending past now
-  sending_begins past now nothing wrote later = record {
+  pub sending_begins : (past : List Row) (now : K) → past ≡ [] → written now ≡ behind (written first) (beginning format) → faults now ≡ faults first → IsSending past now
+  sending_begins past now nothing wrote still = record {
     took = wrote ∙ ap (behind (written first)) (sym (ap (λ (l : List Row). output_text format (sent plan empty (number_of port) l)) nothing ∙ output_begins format));
-    later = later;
+    still = still;
   }
 
   -- what an end of the egress leaves
@@ -67,7 +67,7 @@ module _ {K : Type 0} (written : K → Option (List ℕ)) (faults : K → ℕ) (
     pub sending_idles : (now : List Row) (sink : K) → IsSending before sink → now ≡ found → IsSending now sink
     sending_idles now sink so_far same = record {
       took = so_far.took ∙ ap (λ (l : List Item). behind (written first) (output_text format l)) (sent_is ∙ ap (sent plan empty (number_of port)) (sym same));
-      later = so_far.later;
+      still = so_far.still;
     }
 
     -- a turn in which the egress ended, behind one that left nothing to write
@@ -78,8 +78,9 @@ module _ {K : Type 0} (written : K → Option (List ℕ)) (faults : K → ℕ) (
         let how : output_end (number_of port) now ≡ Some hows.End = ap (output_end (number_of port)) made ∙ ends_so found hows.End in
         record {
           fits = rw how (so_far.took ∙ ap (λ (l : List Item). behind (written first) (output_text format l)) items);
-          later = so_far.later;
+          later = let before = so_far.still in omega arith;
           broken = λ failed. let e : Some hows.End ≡ Some hows.Failed = sym how ∙ failed in cc;
+          still = λ other. so_far.still;
         }
 
     -- a turn in which the egress ended for a failed write: what the sink took is a front of the output that holds what is
@@ -103,6 +104,7 @@ module _ {K : Type 0} (written : K → Option (List ℕ)) (faults : K → ℕ) (
           );
           later = later;
           broken = λ failed. rose;
+          still = λ other. absurd (other how);
         }
 
     -- a turn that took all that waited
@@ -131,10 +133,10 @@ module _ {K : Type 0} (written : K → Option (List ℕ)) (faults : K → ℕ) (
           ∙ behind_again (written first) (output_text format (sent plan empty (number_of port) before)) octets
 
       -- and which was written
-      pub sending_sends : (old new : K) → IsSending before old → written new ≡ behind (written old) (records_of format batch) → faults old ≤ faults new → IsSending now new
-      sending_sends old new so_far wrote later = record {
+      pub sending_sends : (old new : K) → IsSending before old → written new ≡ behind (written old) (records_of format batch) → faults new ≡ faults old → IsSending now new
+      sending_sends old new so_far wrote still = record {
         took = behind_taken old new (records_of format batch) so_far wrote ∙ ap (behind (written first)) (sym output_now);
-        later = omega (arith, so_far.later, later);
+        still = still ∙ so_far.still;
       }
 
       -- or not: what the sink took then, of the output so far
@@ -179,6 +181,6 @@ module _ {K : Type 0} (written : K → Option (List ℕ)) (faults : K → ℕ) (
       (front_taken before found legal goes_on batch mid all taken old new failed so_far)
       (front_is before found legal goes_on batch mid all taken old new failed)
       (sure_front before found legal goes_on batch mid all taken failed.0)
-      (omega (arith, so_far.later, rose))
-      (omega (arith, so_far.later, later))
+      (omega (arith, so_far.still, rose))
+      (omega (arith, so_far.still, later))
       made

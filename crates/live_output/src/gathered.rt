@@ -68,6 +68,7 @@ impl Gathered {
         ensures emptied { self.new.octets.items ≡ [] }
         ensures later { K.faults sink.old ≤ K.faults sink.new }
         ensures cause { result ≡ Put.Failed → Rose (K.faults sink.old) (K.faults sink.new) }
+        ensures still { result ≡ Put.Done → K.faults sink.new ≡ K.faults sink.old }
     {
         if self.octets.is_empty() {
             return Put::Done;

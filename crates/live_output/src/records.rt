@@ -15,6 +15,7 @@ pub(crate) fn begin<K: Sink>(format: Format, sink: &mut K) -> Put
     ensures extends { Extends result (K.written sink.old) (K.written sink.new) (beginning format) }
     ensures later { K.faults sink.old ≤ K.faults sink.new }
     ensures cause { result ≡ Put.Failed → Rose (K.faults sink.old) (K.faults sink.new) }
+    ensures still { result ≡ Put.Done → K.faults sink.new ≡ K.faults sink.old }
 {
     match format {
         Format::Pcap => pcap_io::begin(sink),
@@ -28,6 +29,7 @@ pub(crate) fn put<K: Sink>(format: Format, sink: &mut K, moment: u64, frame: &[u
     ensures extends { Extends result (K.written sink.old) (K.written sink.new) (record_of format (item_with moment frame.now)) }
     ensures later { K.faults sink.old ≤ K.faults sink.new }
     ensures cause { result ≡ Put.Failed → Rose (K.faults sink.old) (K.faults sink.new) }
+    ensures still { result ≡ Put.Done → K.faults sink.new ≡ K.faults sink.old }
 {
     match format {
         Format::Pcap => pcap_io::put(sink, moment, frame),

@@ -25,6 +25,7 @@ pub(crate) fn write_batch<K: Sink>(
     ensures extends { Extends result (K.written sink.old) (K.written sink.new) (records_of format batch.now) }
     ensures later { K.faults sink.old ≤ K.faults sink.new }
     ensures cause { result ≡ Put.Failed → Rose (K.faults sink.old) (K.faults sink.new) }
+    ensures still { result ≡ Put.Done → K.faults sink.new ≡ K.faults sink.old }
 {
     gathered.clear();
     for i in 0..batch.len() {
@@ -50,6 +51,7 @@ fn write_record<K: Sink>(
     ensures part { result ≡ Put.Failed → Extends Put.Failed (K.written sink.old) (K.written sink.new) (gathered.old.octets.items ++ record_of format (item_with moment frame.now)) }
     ensures later { K.faults sink.old ≤ K.faults sink.new }
     ensures cause { result ≡ Put.Failed → Rose (K.faults sink.old) (K.faults sink.new) }
+    ensures still { result ≡ Put.Done → K.faults sink.new ≡ K.faults sink.old }
 {
     if gathered.add(format, moment, frame) {
         return Put::Done;

@@ -1,6 +1,6 @@
 -- What each worker of a live session leaves of its ends, by the history. Each holds of a history once the worker's pass has
 -- ended there, and of each one that goes on from there by rows of other passes.
-use Rattle.std.specs.Prelude.{◌≡◌, ℕ, ◌≤◌, List, [], reverse, Option, Some}
+use Rattle.std.specs.Prelude.{◌≡◌, ◌≢◌, ℕ, ◌≤◌, List, [], reverse, Option, Some}
 use Rattle.savi_kinds.specs.declared.plan.Plan.{Plan}
 use Rattle.savi_kinds.specs.declared.plan.Format.{Format}
 use Rattle.savi_kinds.specs.declared.entry.How.TheVariants as hows
@@ -21,7 +21,7 @@ use Rattle.live_session.specs.LiveOutputs.{FitsOutputOf}
 use Rattle.live_session.specs.Ticking.{ticker_end, TickedUntil}
 
 -- The source of a port: what it gave up are the arrivals that the history holds of the port, each once and in order, and
--- ends as the input ended there. Its clock stamped them. It ended by a failed read only where its own faults rose.
+-- ends as the input ended there. Its clock stamped them. It ended by a failed read exactly where its own faults rose.
 pub record IngressRow {S C : Type 0} (left : S → Option (List ℕ)) (faults : S → ℕ) (readings : C → Option (List ℕ))
     (format : Format) (port : ℕ) (past : List Row) (old_source new_source : S) (old_clock new_clock : C) : Type 0 where
   pub gave : (octets : List ℕ) × Takes (left old_source) (left new_source) octets
@@ -29,16 +29,18 @@ pub record IngressRow {S C : Type 0} (left : S → Option (List ℕ)) (faults : 
   pub stamped : AreStamped format (readings old_clock) (readings new_clock) (arrived port past) (input_end port past)
   pub later : faults old_source ≤ faults new_source
   pub broken : input_end port past ≡ Some hows.Failed → Rose (faults old_source) (faults new_source)
+  pub still : input_end port past ≢ Some hows.Failed → faults new_source ≡ faults old_source
 
--- The sink of a port took what the history sends there. It ended by a failed write only where its own faults rose.
+-- The sink of a port took what the history sends there. It ended by a failed write exactly where its own faults rose.
 pub record EgressRow {K : Type 0} (written : K → Option (List ℕ)) (faults : K → ℕ)
     (format : Format) (plan : Plan) (base : Base) (port : ℕ) (past : List Row) (old new : K) : Type 0 where
   pub fits : FitsOutputOf format plan base (written old) (written new) port past
   pub later : faults old ≤ faults new
   pub broken : output_end port past ≡ Some hows.Failed → Rose (faults old) (faults new)
+  pub still : output_end port past ≢ Some hows.Failed → faults new ≡ faults old
 
 -- The ends of control: what its source gave up are the lines that the history holds, stamped by its clock, and its sink took
--- the replies to them. It ended by a failed read, or by a reply that wasn't written, only where its own faults rose.
+-- the replies to them. It ended by a failed read, or by a reply that wasn't written, exactly where its own faults rose.
 pub record ControlRow {S K C : Type 0} (left : S → Option (List ℕ)) (written : K → Option (List ℕ)) (source_faults : S → ℕ)
     (sink_faults : K → ℕ) (readings : C → Option (List ℕ)) (plan : Plan) (base : Base) (past : List Row) (old new : Ends S K C) : Type 0 where
   pub gave : (octets : List ℕ) × Takes (left old.source) (left new.source) octets
@@ -48,7 +50,9 @@ pub record ControlRow {S K C : Type 0} (left : S → Option (List ℕ)) (written
   pub source : source_faults old.source ≤ source_faults new.source
   pub sink : sink_faults old.sink ≤ sink_faults new.sink
   pub broken : control_end past ≡ Some hows.Failed → Rose (source_faults old.source) (source_faults new.source)
+  pub still : control_end past ≢ Some hows.Failed → source_faults new.source ≡ source_faults old.source
   pub unwritten : control_end past ≡ Some hows.Unwritten → Rose (sink_faults old.sink) (sink_faults new.sink)
+  pub still_out : control_end past ≢ Some hows.Unwritten → sink_faults new.sink ≡ sink_faults old.sink
 
 -- Where there is no control, no line was entered, and its end was made.
 pub record NoControlRow (past : List Row) : Type 0 where

@@ -36,6 +36,7 @@ module _ {S K C : Type 0} (left : S → Option (List ℕ)) (written : K → Opti
         stamped = subst (λ (x : List Arrival × Option How). AreStamped format (readings clock) (readings later) x.0 x.1) (λ i. (arrivals i, ended i)) row.stamped;
         later = row.later;
         broken = λ failed. row.broken (ended ∙ failed);
+        still = λ other. row.still (λ failed. other (sym ended ∙ failed));
       }
 
   pub egress_later : (format : Format) (port : ℕ) (old new : K) → IsLater (egress_pass plan port) before now → EgressRow written sink_faults format plan empty port before old new → EgressRow written sink_faults format plan empty port now old new
@@ -47,6 +48,7 @@ module _ {S K C : Type 0} (left : S → Option (List ℕ)) (written : K → Opti
         fits = subst (λ (x : List Item × List ℕ × Option How). FitsOutput (written old) (written new) (output_text format x.0) x.1 x.2) (λ i. (items i, sure i, ended i)) row.fits;
         later = row.later;
         broken = λ failed. row.broken (ended ∙ failed);
+        still = λ other. row.still (λ failed. other (sym ended ∙ failed));
       }
 
   pub control_later : (old new : Option (Ends S K C)) → IsLater (control_pass plan) before now → ControlOf left written source_faults sink_faults readings plan empty before old new → ControlOf left written source_faults sink_faults readings plan empty now old new
@@ -62,7 +64,9 @@ module _ {S K C : Type 0} (left : S → Option (List ℕ)) (written : K → Opti
         source = row.source;
         sink = row.sink;
         broken = λ failed. row.broken (ended ∙ failed);
+        still = λ other. row.still (λ failed. other (sym ended ∙ failed));
         unwritten = λ failed. row.unwritten (ended ∙ failed);
+        still_out = λ other. row.still_out (λ failed. other (sym ended ∙ failed));
       }
   control_later None None goes_on row =
       record {

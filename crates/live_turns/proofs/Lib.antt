@@ -2,3 +2,5 @@ pub mod Seating
 pub mod OpenInputs
 pub mod Entering
 pub mod Turning
+pub mod Growing
+pub mod WokenPorts

@@ -1,3 +1,4 @@
 pub mod Seats
 pub mod TurnKinds
 pub mod Turned
+pub mod Wakes

@@ -12,12 +12,14 @@ ghost use Rattle.live_turns.specs.Seats.{IsEndedPass, IsAt, IsRunning, lock_plan
 ghost use Rattle.live_turns.specs.TurnKinds.{DidDrain, DidEnd, DidInput, DidLine, DidTick};
 ghost use Rattle.live_turns.specs.TurnKinds.{IsFrame, ends_egress, ends_ticker, maker_of};
 ghost use Rattle.live_turns.specs.Turned.{Turned};
+ghost use Rattle.live_turns.specs.Wakes.{Wakes};
 
 use crate::gate::Gate;
 use crate::kinds::{DrainTurn, TickTurn};
 use crate::turns::Turns;
 use crate::under_lock::{drain, end, enter_frame, enter_line, tick};
-use crate::waking::{wake_all, wake_outputs};
+use crate::waking::{wake_after, wake_all, wake_outputs};
+use arrayvec::ArrayVec;
 use core_keep::KeptCore;
 use savi_core::{Batch, Event, Reply};
 use savi_kinds::{How, Port, Who};
@@ -38,14 +40,15 @@ pub fn frame_turn<R: Wait, G: Gate>(
     requires frame { IsFrame (event_of event) }
     requires class { IsClassed event }
     ensures turned { Turned lock.now (maker_of (event_of event.entry)) turns.pass result.0.pass (DidInput (event_of event.entry) result.1) }
+    ensures wakes { Turned lock.now (maker_of (event_of event.entry)) turns.pass result.0.pass (Wakes (DidInput (event_of event.entry) result.1) result.0.woken.items) }
     ensures state { IsAt lock.now (maker_of (event_of event.entry)) (not result.1) result.0.pass }
 {
     let turn = turns.announce(rt, gate);
     let mut held = lock.enter(rt, turns.into_pass());
     let (entered, queued) = enter_frame(held.value(), event);
     let pass = held.leave();
-    wake_outputs(lock, queued);
-    (Turns::after(pass, turn), entered)
+    let woken = wake_outputs(lock, queued);
+    (Turns::after(pass, turn, woken), entered)
 }
 
 /// One turn of control: enters a line, and puts the reply to it into `reply`, in place of what it held. Where there is no
@@ -63,14 +66,15 @@ pub fn line_turn<R: Wait, G: Gate>(
     requires running { IsRunning lock.now Control turns.pass }
     requires short { length line.now ≤ 120 }
     ensures turned { Turned lock.now Control turns.pass result.0.pass (DidLine stamp line.now result.1 reply.new) }
+    ensures wakes { Turned lock.now Control turns.pass result.0.pass (Wakes (DidLine stamp line.now result.1 reply.new) result.0.woken.items) }
     ensures state { IsAt lock.now Control (not result.1) result.0.pass }
 {
     let turn = turns.announce(rt, gate);
     let mut held = lock.enter(rt, turns.into_pass());
     let entered = enter_line(held.value(), stamp, line, reply);
     let pass = held.leave();
-    wake_all(lock);
-    (Turns::after(pass, turn), entered)
+    let woken = wake_all(lock);
+    (Turns::after(pass, turn, woken), entered)
 }
 
 /// One turn that ends a pass for a reason that may come whatever the history is: that of an input, or of an egress whose
@@ -86,14 +90,15 @@ pub fn end_turn<R: Wait, G: Gate>(
     requires running { IsRunning lock.now who turns.pass }
     requires may { (past : List Row) → MayEnd (lock_plan lock.now) empty past who how }
     ensures turned { Turned lock.now who turns.pass result.pass (DidEnd who how) }
+    ensures wakes { Turned lock.now who turns.pass result.pass (Wakes (DidEnd who how) result.woken.items) }
     ensures ended { IsEndedPass lock.now who result.pass }
 {
     let turn = turns.announce(rt, gate);
     let mut held = lock.enter(rt, turns.into_pass());
     end(held.value(), who, how);
     let pass = held.leave();
-    wake_all(lock);
-    Turns::after(pass, turn)
+    let woken = wake_all(lock);
+    Turns::after(pass, turn, woken)
 }
 
 /// One turn of the ticker, whose clock reads `stamp` (ms): makes a tick where an address has another state by then. Where
@@ -108,16 +113,15 @@ pub fn tick_turn<R: Wait, G: Gate>(
 ) -> (Turns, TickTurn)
     requires running { IsRunning lock.now Ticker turns.pass }
     ensures turned { Turned lock.now Ticker turns.pass result.0.pass (DidTick stamp result.1) }
+    ensures wakes { Turned lock.now Ticker turns.pass result.0.pass (Wakes (DidTick stamp result.1) result.0.woken.items) }
     ensures state { IsAt lock.now Ticker (ends_ticker result.1) result.0.pass }
 {
     let turn = turns.announce(rt, gate);
     let mut held = lock.enter(rt, turns.into_pass());
     let came = tick(held.value(), stamp);
     let pass = held.leave();
-    if came != TickTurn::Idle {
-        wake_all(lock);
-    }
-    (Turns::after(pass, turn), came)
+    let woken = wake_after(lock, came);
+    (Turns::after(pass, turn, woken), came)
 }
 
 /// One turn of the egress of a port: takes all that waits there into the batch, in place of what it held. Where nothing
@@ -133,10 +137,11 @@ pub fn drain_turn<R: Wait, G: Gate>(
 ) -> (Turns, DrainTurn)
     requires running { IsRunning lock.now (Egress port) turns.pass }
     ensures turned { Turned lock.now (Egress port) turns.pass result.0.pass (DidDrain port batch.new result.1) }
+    ensures wakes { Turned lock.now (Egress port) turns.pass result.0.pass (Wakes (DidDrain port batch.new result.1) result.0.woken.items) }
     ensures state { IsAt lock.now (Egress port) (ends_egress result.1) result.0.pass }
 {
     let turn = turns.announce(rt, gate);
     let mut held = lock.enter(rt, turns.into_pass());
     let came = drain(held.value(), port, batch);
-    (Turns::after(held.leave(), turn), came)
+    (Turns::after(held.leave(), turn, ArrayVec::new()), came)
 }

@@ -7,6 +7,7 @@ ghost use Rattle.savi_history.specs.Events as events;
 ghost use Rattle.savi_history.specs.Legal.{InputsEnded, IsLegal, IsOpen, MayEnd};
 ghost use Rattle.savi_history.specs.Passes.{AllEnded, control_pass, has_pass, ticker_pass};
 ghost use Rattle.savi_core.specs.Steps.{IsClassed, event_of};
+ghost use Rattle.live_turns.specs.Wakes.{HasGrownPorts, MayHaveQueued};
 ghost use Rattle.live_turns.specs.TurnKinds.{DidDrain, DidEnd, DidInput, DidLine, DidTick, IsFrame, MayQueue, maker_of};
 
 use crate::kinds::{DrainTurn, TickTurn};
@@ -14,8 +15,8 @@ use core_keep::KeptCore;
 use savi_core::{Batch, Core, Event, Reply, Stepped};
 use savi_kinds::{DEPTH_MOST, Entry, How, Port, PortSet, Who};
 
-/// Enters a frame, or ends its pass where there is no room for it. The answer is whether it was entered, and the ports at
-/// which something may wait for it, of which nothing is promised.
+/// Enters a frame, or ends its pass where there is no room for it. The answer is whether it was entered, and ports, among
+/// them each whose queue has grown.
 pub(crate) fn enter_frame(kept: &mut KeptCore, event: Event<'_>) -> (bool, PortSet)
     requires open { IsOpen kept.old.core.value.plan empty kept.old.core.value.past (maker_of (event_of event)) }
     requires frame { IsFrame (event_of event) }
@@ -23,6 +24,7 @@ pub(crate) fn enter_frame(kept: &mut KeptCore, event: Event<'_>) -> (bool, PortS
     ensures plan { kept.new.core.value.plan ≡ kept.old.core.value.plan }
     ensures legal { IsLegal kept.old.core.value.plan empty kept.old.core.value.past }
     ensures did { DidInput (event_of event.entry) result.0 kept.old.core.value.plan kept.old.core.value.past kept.new.core.value.past }
+    ensures grown { HasGrownPorts result.1 kept.old.core.value.plan kept.old.core.value.past kept.new.core.value.past }
 {
     let _len = kept.core.len();
     match kept.core.step(event) {
@@ -36,7 +38,9 @@ pub(crate) fn enter_frame(kept: &mut KeptCore, event: Event<'_>) -> (bool, PortS
 }
 
 // The ports to whose queues an entry may have put something: those of its frame, and any where it has probes.
-fn queued_to(entry: Entry) -> PortSet {
+fn queued_to(entry: Entry) -> PortSet
+    ensures { MayHaveQueued entry result }
+{
     if entry.probes > 0 {
         PortSet(u16::MAX)
     } else {

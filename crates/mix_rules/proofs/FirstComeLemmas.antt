@@ -9,7 +9,7 @@ use Rattle.fcfs_states.specs.declared.state.Fcfs.{Fcfs}
 use Rattle.fcfs_states.specs.Premises.{AreTimes}
 use Rattle.fcfs_states.specs.States.{Same}
 use Rattle.fcfs_states.specs.Ageing.{IsRested}
-use Rattle.fcfs_states.specs.FirstCome.{IsTestOf, TimedEvent}
+use Rattle.fcfs_states.specs.FirstCome.{IsTestOf, TimedEvent, event_moment}
 use Rattle.fcfs_states.proofs.RunLemmas.{same_or_not, live_or_not as fcfs_live_or_not, bound_test, silent_within}
 use Rattle.dhcp_states.specs.declared.bound.Bound.{Bound}
 use Rattle.dhcp_states.specs.Bindings.{is_over, binding_at}
@@ -18,7 +18,8 @@ use Rattle.mix_rules.specs.States.{IsSoundFor, IsLiveAt, IsLiveBy, IsFixedAt, ow
 use Rattle.mix_rules.specs.Ageing.{AgedAddr, aged_state, IsStill}
 use Rattle.mix_rules.specs.Next.{next_state, IsPassing}
 use Rattle.mix_rules.specs.Ends.{EndsByTest, EndsByTime}
-use Rattle.mix_rules.specs.FirstCome.{state_of, state_at, answer_at, IsTimelineFrom, IsOwnedAt, OnTheWay, by_age, by_event, earlier, IsSilenced, KeepsAddress, but_for_silence, but_for_operator, but_for_dhcp}
+use Rattle.savi_kinds.specs.Orders.{AreInTurn}
+use Rattle.mix_rules.specs.FirstCome.{state_of, state_at, answer_at, IsOwnedAt, OnTheWay, by_age, by_event, earlier, IsSilenced, KeepsAddress, but_for_silence, but_for_operator, but_for_dhcp}
 use Rattle.mix_rules.proofs.EventLemmas.{next-live, next-owned, sent-passes, one_port}
 use Rattle.mix_rules.proofs.AgeingLemmas.{aged-sound, aged-still, still-untouched}
 use Rattle.mix_rules.proofs.EndLemmas.{aged-live, tested_to_come, tested_now}
@@ -45,12 +46,12 @@ aged-owned k t port None fcfs (Some bound) owned over =
       | inr is ↦ absurd (over (subst (λ (dhcp : Option Bound). IsFixedAt (owner_of None dhcp) port) (let stands : Some bound ≡ binding_at t bound = rw is refl in stands) owned))
     ]
 
-run-append : (from t0 t : ℕ) (early late : List TimedEvent) → IsTimelineFrom from t0 early → IsTimelineFrom t0 t late → IsTimelineFrom from t (late ++ early)
+run-append : (from t0 t : ℕ) (early late : List TimedEvent) → AreInTurn event_moment from t0 early → AreInTurn event_moment t0 t late → AreInTurn event_moment from t (late ++ early)
 run-append from t0 t [] [] before run = let one : from ≤ t0 = before in let two : t0 ≤ t = run in omega arith
 run-append from t0 t (mark ∷ past) [] before run = (let one : mark.moment ≤ t0 = before.0 in let two : t0 ≤ t = run in omega arith, before.1)
 run-append from t0 t early (mark ∷ late) before run = (run.0, run-append from t0 mark.moment early late before run.1)
 
-module _ (m : Method) (k : Times) (times : AreTimes k) (base : AddrState) (sound : IsSoundFor m base) (from t0 : ℕ) (early : List TimedEvent) (before : IsTimelineFrom from t0 early) (port : Port) where
+module _ (m : Method) (k : Times) (times : AreTimes k) (base : AddrState) (sound : IsSoundFor m base) (from t0 : ℕ) (early : List TimedEvent) (before : AreInTurn event_moment from t0 early) (port : Port) where
   -- the state at t0
   abbrev mid : AddrState
   mid = state_at m k base early t0
@@ -65,12 +66,12 @@ module _ (m : Method) (k : Times) (times : AreTimes k) (base : AddrState) (sound
   last-still [] = mid-still
   last-still (mark ∷ late) = run-still m k times mid mark late
 
-  last-itself : (t : ℕ) (late : List TimedEvent) → IsTimelineFrom t0 t late → IsTimelineFrom t0 (last_of m k times t0 late) late
+  last-itself : (t : ℕ) (late : List TimedEvent) → AreInTurn event_moment t0 t late → AreInTurn event_moment t0 (last_of m k times t0 late) late
   last-itself t [] run = omega arith
   last-itself t (mark ∷ late) run = (omega arith, run.1)
 
   -- what holds by the newest event holds later
-  later_kept : (t : ℕ) (mark : TimedEvent) (late : List TimedEvent) → IsTimelineFrom t0 t (mark ∷ late) → KeepsAddress m k base early t0 late mark.moment port → KeepsAddress m k base early t0 (mark ∷ late) t port
+  later_kept : (t : ℕ) (mark : TimedEvent) (late : List TimedEvent) → AreInTurn event_moment t0 t (mark ∷ late) → KeepsAddress m k base early t0 late mark.moment port → KeepsAddress m k base early t0 (mark ∷ late) t port
   later_kept t mark late run (but_for_silence lost) =
       let by : lost.since + k.test ≤ mark.moment = lost.by in
       let after : mark.moment ≤ t = run.0 in
@@ -85,7 +86,7 @@ module _ (m : Method) (k : Times) (times : AreTimes k) (base : AddrState) (sound
   later_kept t mark late run (but_for_dhcp ends) = but_for_dhcp (earlier ends)
 
   -- an owner is lost by the second or the third cause
-  owned_ends : (t : ℕ) (late : List TimedEvent) → IsTimelineFrom t0 t late → OnTheWay m k mid (λ t s. IsOwnedAt s port × ¬ IsOwnedAt (aged_state k t s).state port) (λ mark s new. IsOwnedAt s port × ¬ IsOwnedAt new port) t late → KeepsAddress m k base early t0 late t port
+  owned_ends : (t : ℕ) (late : List TimedEvent) → AreInTurn event_moment t0 t late → OnTheWay m k mid (λ t s. IsOwnedAt s port × ¬ IsOwnedAt (aged_state k t s).state port) (λ mark s new. IsOwnedAt s port × ¬ IsOwnedAt new port) t late → KeepsAddress m k base early t0 late t port
   owned_ends t late run (by_age lost) = but_for_dhcp (by_age (aged-owned k t port _ _ _ lost.0 lost.1))
   owned_ends t late run (by_event {mark = mark} {past = past} lost) =
       elim (next-owned m k mark.moment mark.room (state_at m k mid past mark.moment) mark.event port lost.0 lost.1) [
@@ -96,7 +97,7 @@ module _ (m : Method) (k : Times) (times : AreTimes k) (base : AddrState) (sound
 
   module _ (free : ¬ IsOwnedAt mid port) where
     -- the end of a test of the port
-    silenced : (t : ℕ) (late : List TimedEvent) → IsTimelineFrom t0 t late → EndsByTest k port t (state_of m k mid late) → IsSilenced k port t0 t mid (late ++ early)
+    silenced : (t : ℕ) (late : List TimedEvent) → AreInTurn event_moment t0 t late → EndsByTest k port t (state_of m k mid late) → IsSilenced k port t0 t mid (late ++ early)
     silenced t late run ends =
         let state : Fcfs = (state_of m k mid late).fcfs in
         let last : ℕ = last_of m k times t0 late in
@@ -104,8 +105,8 @@ module _ (m : Method) (k : Times) (times : AreTimes k) (base : AddrState) (sound
         let idle : IsRested k last state = last_rests m k times t0 mid late mid-still.rested in
         let to_come : last < ends.since + k.test = tested_to_come k times port ends.since last state ends.tested idle in
         let now : IsTestOf port ends.since state ⊎ (last < ends.since) = tested_now k times port ends.since last state ends.tested idle in
-        let itself : IsTimelineFrom t0 last late = last-itself t late run in
-        let all : IsTimelineFrom from last (late ++ early) = run-append from t0 last early late before itself in
+        let itself : AreInTurn event_moment t0 last late = last-itself t late run in
+        let all : AreInTurn event_moment from last (late ++ early) = run-append from t0 last early late before itself in
         let is : state_at m k base (late ++ early) last ≡ state_of m k mid late =
         state_at-append m k times base t0 last early late itself ∙ ap (λ (a : AgedAddr). a.state) (still-untouched k times last (state_of m k mid late) (last-still late)) in
         record {
@@ -132,7 +133,7 @@ module _ (m : Method) (k : Times) (times : AreTimes k) (base : AddrState) (sound
               ];
         }
 
-    live_ends : (t : ℕ) (late : List TimedEvent) → IsTimelineFrom t0 t late → OnTheWay m k mid (λ t s. IsLiveAt s port × ¬ IsLiveAt (aged_state k t s).state port) (λ mark s new. IsLiveAt s port × ¬ IsLiveAt new port) t late → KeepsAddress m k base early t0 late t port
+    live_ends : (t : ℕ) (late : List TimedEvent) → AreInTurn event_moment t0 t late → OnTheWay m k mid (λ t s. IsLiveAt s port × ¬ IsLiveAt (aged_state k t s).state port) (λ mark s new. IsLiveAt s port × ¬ IsLiveAt new port) t late → KeepsAddress m k base early t0 late t port
     live_ends t late run (by_age lost) =
         elim (aged-live k times port t m (state_of m k mid late) (run-sound m k times mid mid-sound late) lost.0 lost.1) [
           | inl time ↦ but_for_dhcp (by_age time)
@@ -146,7 +147,7 @@ module _ (m : Method) (k : Times) (times : AreTimes k) (base : AddrState) (sound
     live_ends t late run (earlier {mark = mark} {past = past} way) = later_kept t mark past run (live_ends mark.moment past run.1 way)
 
   -- an address that was live at the port at t0 and no longer is at t
-  pub kept : (t : ℕ) (late : List TimedEvent) → IsTimelineFrom t0 t late → IsLiveAt mid port → ¬ IsLiveAt (state_at m k base (late ++ early) t) port → KeepsAddress m k base early t0 late t port
+  pub kept : (t : ℕ) (late : List TimedEvent) → AreInTurn event_moment t0 t late → IsLiveAt mid port → ¬ IsLiveAt (state_at m k base (late ++ early) t) port → KeepsAddress m k base early t0 late t port
   kept t late run live over =
       let lost : ¬ IsLiveAt (state_at m k mid late t) port = subst (λ s. ¬ IsLiveAt s port) (state_at-append m k times base t0 t early late run) over in
       elim (owner_or_not (owner_of mid.fixed mid.dhcp) port) [
@@ -155,7 +156,7 @@ module _ (m : Method) (k : Times) (times : AreTimes k) (base : AddrState) (sound
       ]
 
   -- a packet of another port that passes says that it is no longer
-  pub first_come : (mark : TimedEvent) (late : List TimedEvent) (q : Port) → mark.event ≡ Sent q → ¬ Same q port → IsTimelineFrom t0 mark.moment late → IsLiveAt mid port → IsPassing (answer_at m k base (late ++ early) mark) → KeepsAddress m k base early t0 late mark.moment port
+  pub first_come : (mark : TimedEvent) (late : List TimedEvent) (q : Port) → mark.event ≡ Sent q → ¬ Same q port → AreInTurn event_moment t0 mark.moment late → IsLiveAt mid port → IsPassing (answer_at m k base (late ++ early) mark) → KeepsAddress m k base early t0 late mark.moment port
   first_come mark late q is differ run live passing =
       let s : AddrState = state_at m k base (late ++ early) mark.moment in
       let s-sound : IsSoundFor m s = aged-sound k times mark.moment m (state_of m k base (late ++ early)) (run-sound m k times base sound (late ++ early)) in

@@ -6,12 +6,13 @@ use Rattle.savi_kinds.specs.declared.plan.Method.{Method}
 use Rattle.fcfs_states.specs.declared.times.Times.{Times}
 use Rattle.fcfs_states.specs.Premises.{AreTimes}
 use Rattle.fcfs_states.specs.Ageing.{IsRested}
-use Rattle.fcfs_states.specs.FirstCome.{IsTestOf, IsHeardAt, TimedEvent, IsSilentAfter}
+use Rattle.fcfs_states.specs.FirstCome.{IsTestOf, IsHeardAt, TimedEvent, IsSilentAfter, event_moment}
 use Rattle.mix_rules.specs.declared.state.AddrState.{AddrState}
 use Rattle.mix_rules.specs.States.{IsSoundFor}
 use Rattle.mix_rules.specs.Next.{next_state}
 use Rattle.mix_rules.specs.Ageing.{AgedAddr, aged_state, IsStill}
-use Rattle.mix_rules.specs.FirstCome.{state_of, state_at, IsTimelineFrom, OnTheWay, by_age, by_event, earlier}
+use Rattle.savi_kinds.specs.Orders.{AreInTurn}
+use Rattle.mix_rules.specs.FirstCome.{state_of, state_at, OnTheWay, by_age, by_event, earlier}
 use Rattle.mix_rules.proofs.EventLemmas.{next-sound, next-test, next-still}
 use Rattle.mix_rules.proofs.AgeingLemmas.{aged-sound, aged-still, aged-joins-all}
 use Rattle.mix_rules.proofs.EndLemmas.{aged-test}
@@ -25,11 +26,11 @@ module _ (m : Method) (k : Times) (times : AreTimes k) where
   run-still base mark past = next-still m k mark.moment mark.room _ mark.event times (aged-still k times mark.moment (state_of m k base past))
 
   -- a run may be cut: the state at a moment leads on as the whole run does
-  pub state_at-append : (base : AddrState) (t0 t : ℕ) (early late : List TimedEvent) → IsTimelineFrom t0 t late → state_at m k base (late ++ early) t ≡ state_at m k (state_at m k base early t0) late t
+  pub state_at-append : (base : AddrState) (t0 t : ℕ) (early late : List TimedEvent) → AreInTurn event_moment t0 t late → state_at m k base (late ++ early) t ≡ state_at m k (state_at m k base early t0) late t
   state_at-append base t0 t early [] run = ap (λ (a : AgedAddr). a.state) (aged-joins-all k times t0 t run (state_of m k base early))
   state_at-append base t0 t early (mark ∷ late) run = ap (λ s. (aged_state k t (next_state m k mark.moment mark.room s mark.event).1).state) (state_at-append base t0 mark.moment early late run.1)
 
-  pub from_most : (from t : ℕ) (past : List TimedEvent) → IsTimelineFrom from t past → from ≤ t
+  pub from_most : (from t : ℕ) (past : List TimedEvent) → AreInTurn event_moment from t past → from ≤ t
   from_most from t [] run = run
   from_most from t (mark ∷ past) run = let le : from ≤ mark.moment = from_most from mark.moment past run.1 in let by : mark.moment ≤ t = run.0 in omega arith
 
@@ -38,11 +39,11 @@ module _ (m : Method) (k : Times) (times : AreTimes k) where
   last_of from [] = from
   last_of from (mark ∷ past) = mark.moment
 
-  pub last_most : (from t : ℕ) (past : List TimedEvent) → IsTimelineFrom from t past → last_of from past ≤ t
+  pub last_most : (from t : ℕ) (past : List TimedEvent) → AreInTurn event_moment from t past → last_of from past ≤ t
   last_most from t [] run = run
   last_most from t (mark ∷ past) run = run.0
 
-  pub last_least : (from t : ℕ) (past : List TimedEvent) → IsTimelineFrom from t past → from ≤ last_of from past
+  pub last_least : (from t : ℕ) (past : List TimedEvent) → AreInTurn event_moment from t past → from ≤ last_of from past
   last_least from t [] run = omega arith
   last_least from t (mark ∷ past) run = from_most from mark.moment past run.1
 
@@ -51,7 +52,7 @@ module _ (m : Method) (k : Times) (times : AreTimes k) where
   last_rests from base (mark ∷ past) rest = (run-still base mark past).rested
 
   -- no event of a run is above its end
-  pub silent_late : (port : Port) (from t since : ℕ) (marks : List TimedEvent) → IsTimelineFrom from t marks → t ≤ since → IsSilentAfter port since marks
+  pub silent_late : (port : Port) (from t since : ℕ) (marks : List TimedEvent) → AreInTurn event_moment from t marks → t ≤ since → IsSilentAfter port since marks
   silent_late port from t since [] run late = tt
   silent_late port from t since (mark ∷ past) run late = (λ above. absurd (let by : mark.moment ≤ t = run.0 in omega arith), silent_late port from mark.moment since past run.1 (let by : mark.moment ≤ t = run.0 in omega arith))
 
@@ -64,10 +65,10 @@ module _ (m : Method) (k : Times) (times : AreTimes k) where
         (stood.0, subst (IsTestOf port since) stood.1 test)
 
     -- while a test stands its holder isn't heard
-    pub silent_at : (from t : ℕ) (past : List TimedEvent) → IsTimelineFrom from t past → IsTestOf port since (state_at m k base past t).fcfs → IsSilentAfter port since past
+    pub silent_at : (from t : ℕ) (past : List TimedEvent) → AreInTurn event_moment from t past → IsTestOf port since (state_at m k base past t).fcfs → IsSilentAfter port since past
     silent_at from t [] run test = tt
     silent_at from t (mark ∷ past) run test =
-        let itself : IsTimelineFrom from mark.moment (mark ∷ past) = (omega arith, run.1) in
+        let itself : AreInTurn event_moment from mark.moment (mark ∷ past) = (omega arith, run.1) in
         elim (aged-test k times port t (state_of m k base (mark ∷ past)) since mark.moment (run-still base mark past).rested test) [
           | inl there ↦
               elim (cases_lt since mark.moment) [
@@ -78,7 +79,7 @@ module _ (m : Method) (k : Times) (times : AreTimes k) where
         ]
 
     -- a test that is older than the run stood before it, where nothing was due there
-    pub stood_before : (from t : ℕ) (past : List TimedEvent) → IsTimelineFrom from t past → IsRested k from base.fcfs → since < from → IsTestOf port since (state_of m k base past).fcfs → IsTestOf port since base.fcfs
+    pub stood_before : (from t : ℕ) (past : List TimedEvent) → AreInTurn event_moment from t past → IsRested k from base.fcfs → since < from → IsTestOf port since (state_of m k base past).fcfs → IsTestOf port since base.fcfs
     stood_before from t [] run rest old test = test
     stood_before from t (mark ∷ past) run rest old test =
         let newer : from ≤ mark.moment = from_most from mark.moment past run.1 in

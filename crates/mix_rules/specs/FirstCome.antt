@@ -29,11 +29,6 @@ state_at m k base past t = (aged_state k t (state_of m k base past)).state
 abbrev pub answer_at : Method → Times → AddrState → List TimedEvent → TimedEvent → Answer
 answer_at m k base past mark = (outcome m k mark (state_of m k base past)).0
 
--- no event is at a later moment than a newer one, or than t, or at an earlier one than `from`
-abbrev pub IsTimelineFrom : ℕ → ℕ → List TimedEvent → Type 0
-IsTimelineFrom from t [] = from ≤ t
-IsTimelineFrom from t (mark ∷ past) = (mark.moment ≤ t) × IsTimelineFrom from mark.moment past
-
 -- the port owns the address: it is fixed there or, not being fixed, bound there by DHCP
 abbrev pub IsOwnedAt : AddrState → Port → Type 0
 IsOwnedAt s port = IsFixedAt (owner_of s.fixed s.dhcp) port

@@ -6,10 +6,14 @@ use Rattle.fcfs_states.specs.Premises.{MomentsFit}
 use Rattle.mix_rules.specs.declared.state.AddrState.{AddrState}
 use Rattle.mix_rules.specs.Ageing.{bound_end}
 
--- the moment, where there is one, is below 2^63
+-- the moment, where there is one, is below this one
+abbrev pub IsMomentBelow : ℕ → Option ℕ → Type 0
+IsMomentBelow limit None = Unit {0}
+IsMomentBelow limit (Some moment) = moment < limit
+
+-- as the tables take it: it is below 2^63
 abbrev pub IsLow : Option ℕ → Type 0
-IsLow None = Unit {0}
-IsLow (Some moment) = moment < 2 ^ 63
+IsLow moment = IsMomentBelow (2 ^ 63) moment
 
 -- each moment in the state is below 2^63
 pub record AllMomentsFit (s : AddrState) : Type 0 where

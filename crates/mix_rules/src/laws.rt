@@ -10,17 +10,17 @@ ghost use Rattle.fcfs_states.specs.declared.times.Times.{Times};
 ghost use Rattle.fcfs_states.specs.Premises.{AreTimes};
 ghost use Rattle.fcfs_states.specs.States.{Same};
 ghost use Rattle.fcfs_states.specs.Ageing.{IsRested, probes_behind};
-ghost use Rattle.fcfs_states.specs.FirstCome.{TimedEvent, IsTestOf, IsHeardAt, IsSilentAfter};
+ghost use Rattle.fcfs_states.specs.FirstCome.{TimedEvent, IsTestOf, IsHeardAt, IsSilentAfter, event_moment};
 ghost use Rattle.mix_rules.specs.declared.state.AddrState.{AddrState};
 ghost use Rattle.mix_rules.specs.States.{nobody, has_state, IsSoundFor, IsLiveAt, IsHeldAt};
-ghost use Rattle.mix_rules.specs.Holders.{MakesHolder};
 ghost use Rattle.mix_rules.specs.Holders.{MakesHolder};
 ghost use Rattle.mix_rules.specs.Next.{next_state, IsPassing};
 ghost use Rattle.mix_rules.specs.TableLaws.{IsOnlyRow};
 ghost use Rattle.mix_rules.specs.Ageing.{aged_state, due_next, joined_ageing, IsStill, IsTouched};
 ghost use Rattle.mix_rules.specs.Premises.{AllMomentsFit, IsLeaseInRange};
 ghost use Rattle.mix_rules.specs.Ends.{IsByOperator, EndsByEvent, EndsByTime, EndsByTest};
-ghost use Rattle.mix_rules.specs.FirstCome.{state_of, state_at, answer_at, IsTimelineFrom, KeepsAddress};
+ghost use Rattle.savi_kinds.specs.Orders.{AreInTurn};
+ghost use Rattle.mix_rules.specs.FirstCome.{state_of, state_at, answer_at, KeepsAddress};
 
 /// An address has no state exactly where its state is that of an address that no port has.
 pub fn nobody_alone_has_no_state()
@@ -125,7 +125,7 @@ pub fn a_test_stands_in_silence()
         → AreTimes k → IsRested k from s.fcfs → IsTestOf port since (aged_state k t s).state.fcfs
         → IsTestOf port since s.fcfs ⊎ (from < since) }
     ensures run { (m : Method) (k : Times) (base : AddrState) (from t : ℕ) (past : List TimedEvent) (port : Port) (since : ℕ)
-        → AreTimes k → IsSoundFor m base → IsTimelineFrom from t past → IsTestOf port since (state_at m k base past t).fcfs
+        → AreTimes k → IsSoundFor m base → AreInTurn event_moment from t past → IsTestOf port since (state_at m k base past t).fcfs
         → IsSilentAfter port since past }
 {}
 
@@ -133,7 +133,7 @@ pub fn a_test_stands_in_silence()
 /// sound one are sound.
 pub fn states_are_read_from_any_moment()
     ensures cut { (m : Method) (k : Times) (base : AddrState) (t0 t : ℕ) (early late : List TimedEvent)
-        → AreTimes k → IsTimelineFrom t0 t late
+        → AreTimes k → AreInTurn event_moment t0 t late
         → state_at m k base (late ++ early) t ≡ state_at m k (state_at m k base early t0) late t }
     ensures sound { (m : Method) (k : Times) (base : AddrState) (past : List TimedEvent)
         → AreTimes k → IsSoundFor m base → IsSoundFor m (state_of m k base past) }
@@ -144,7 +144,7 @@ pub fn states_are_read_from_any_moment()
 /// causes: its host's silence for as long as a test takes, the operator, or the end of a binding by DHCP there.
 pub fn who_has_an_address_keeps_it()
     ensures { (m : Method) (k : Times) (base : AddrState) (from t0 t : ℕ) (early late : List TimedEvent) (port : Port)
-        → AreTimes k → IsSoundFor m base → IsTimelineFrom from t0 early → IsTimelineFrom t0 t late
+        → AreTimes k → IsSoundFor m base → AreInTurn event_moment from t0 early → AreInTurn event_moment t0 t late
         → IsLiveAt (state_at m k base early t0) port
         → ¬ IsLiveAt (state_at m k base (late ++ early) t) port
         → KeepsAddress m k base early t0 late t port }
@@ -153,7 +153,7 @@ pub fn who_has_an_address_keeps_it()
 /// So a packet from it that passes at another port of a host says that one of the three causes was there.
 pub fn first_come_is_first_served()
     ensures { (m : Method) (k : Times) (base : AddrState) (from t0 : ℕ) (early late : List TimedEvent) (mark : TimedEvent) (p q : Port)
-        → AreTimes k → IsSoundFor m base → IsTimelineFrom from t0 early → IsTimelineFrom t0 mark.moment late
+        → AreTimes k → IsSoundFor m base → AreInTurn event_moment from t0 early → AreInTurn event_moment t0 mark.moment late
         → mark.event ≡ Sent q → ¬ Same q p
         → IsLiveAt (state_at m k base early t0) p
         → IsPassing (answer_at m k base (late ++ early) mark)

@@ -1,4 +1,4 @@
-ghost use Rattle.std.specs.Prelude.{◌≡◌, ◌≤◌, ℕ, List, IfSome, IfNone, Contains};
+ghost use Rattle.std.specs.Prelude.{◌≡◌, ◌≢◌, ◌≤◌, ℕ, List, IfSome, IfNone, Contains};
 ghost use Rattle.savi_ends.specs.Octets.{Takes};
 ghost use Rattle.savi_ends.specs.Faults.{Rose};
 ghost use Rattle.pcap_io.specs.Kinds.{IsHeader};
@@ -42,6 +42,7 @@ pub(crate) enum Header {
 pub(crate) fn read_header<S: Source>(source: &mut S, only: Option<HeaderKind>) -> Header
     ensures later { S.faults source.old ≤ S.faults source.new }
     ensures cause { result ≡ Header.Failed → Rose (S.faults source.old) (S.faults source.new) }
+    ensures still { result ≢ Header.Failed → S.faults source.new ≡ S.faults source.old }
     ensures octets { (gave : List ℕ) × Takes (S.left source.old) (S.left source.new) gave × HeaderIs (kinds_of only) result gave (S.left source.new) }
 {
     let mut header = [0; HEADER_OCTETS];

@@ -84,6 +84,7 @@ impl PcapReader {
     ) -> Next
         ensures later { S.faults source.old ≤ S.faults source.new }
         ensures cause { result ≡ Next.Failed → self.old ≢ Ended how.Failed → Rose (S.faults source.old) (S.faults source.new) }
+        ensures still { result ≢ Next.Failed → S.faults source.new ≡ S.faults source.old }
 
         // There are octets that the source gave in this call, and the answer is what they are.
         ensures octets { (gave : List ℕ) × Takes (S.left source.old) (S.left source.new) gave × Answers self.old self.new gave buf.new (S.left source.new) result }
@@ -123,6 +124,7 @@ impl PcapReader {
         requires { place ≤ 2 ^ 62 }
         ensures later { S.faults source.old ≤ S.faults source.new }
         ensures cause { result ≡ Next.Failed → Rose (S.faults source.old) (S.faults source.new) }
+        ensures still { result ≢ Next.Failed → S.faults source.new ≡ S.faults source.old }
         ensures octets { (gave : List ℕ) × Takes (S.left source.old) (S.left source.new) gave × Answers (Running kind place) self.new gave buf.new (S.left source.new) result }
         ensures placed { IsPlaced self.new }
     {

@@ -1,4 +1,4 @@
-ghost use Rattle.std.specs.Prelude.{◌≡◌, ◌≤◌, ◌^◌, ℕ, List, length};
+ghost use Rattle.std.specs.Prelude.{◌≡◌, ◌≢◌, ◌≤◌, ◌^◌, ℕ, List, length};
 ghost use Rattle.savi_ends.specs.Octets.{Takes};
 ghost use Rattle.savi_ends.specs.Faults.{Rose};
 ghost use Rattle.pcap_io.specs.Records.{stamp_of};
@@ -28,6 +28,7 @@ pub(crate) fn read_record<S: Source>(
     requires { place ≤ 2 ^ 62 }
     ensures later { S.faults source.old ≤ S.faults source.new }
     ensures cause { result ≡ Next.Failed → Rose (S.faults source.old) (S.faults source.new) }
+    ensures still { result ≢ Next.Failed → S.faults source.new ≡ S.faults source.old }
     ensures octets { (gave : List ℕ) × Takes (S.left source.old) (S.left source.new) gave × Answers (Running kind place) (state_after kind place result) gave buf.new (S.left source.new) result }
 {
     let mut head = [0; RECORD_HEADER_OCTETS];
@@ -70,6 +71,7 @@ fn stamp_in(kind: HeaderKind, head: &[u8; RECORD_HEADER_OCTETS]) -> u64
 fn pass_over<S: Source>(source: &mut S, len: usize, buf: &mut [u8; FRAME_OCTETS_MOST]) -> Filled
     ensures later { S.faults source.old ≤ S.faults source.new }
     ensures cause { result ≡ Filled.Failed → Rose (S.faults source.old) (S.faults source.new) }
+    ensures still { result ≢ Filled.Failed → S.faults source.new ≡ S.faults source.old }
     ensures octets { (gave : List ℕ) × Takes (S.left source.old) (S.left source.new) gave × Passes result len gave (S.left source.new) }
 {
     let mut missing = len;

@@ -28,6 +28,7 @@ pub fn begin<K: Sink>(sink: &mut K) -> Put
     ensures extends { Extends result (K.written sink.old) (K.written sink.new) header_text }
     ensures later { K.faults sink.old ≤ K.faults sink.new }
     ensures cause { result ≡ Put.Failed → Rose (K.faults sink.old) (K.faults sink.new) }
+    ensures still { result ≡ Put.Done → K.faults sink.new ≡ K.faults sink.old }
 {
     sink.write(&HEADER)
 }
@@ -40,6 +41,7 @@ pub fn put<K: Sink>(sink: &mut K, moment: u64, frame: &[u8]) -> Put
     ensures extends { Extends result (K.written sink.old) (K.written sink.new) (record_text moment frame.now) }
     ensures later { K.faults sink.old ≤ K.faults sink.new }
     ensures cause { result ≡ Put.Failed → Rose (K.faults sink.old) (K.faults sink.new) }
+    ensures still { result ≡ Put.Done → K.faults sink.new ≡ K.faults sink.old }
 {
     let record = record_of(moment, frame);
     sink.write(record.as_slice())

@@ -1,2 +1,3 @@
 pub mod PortSources
 pub mod PortSinks
+pub mod MachineClocks

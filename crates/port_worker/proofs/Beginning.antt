@@ -53,14 +53,15 @@ module _ {K : Type 0} (written : K → Option (List ℕ)) (faults : K → ℕ) (
   -- the header was written, or that failed
   begun_step : IsWritten written faults plan port past now (header_text ∷ []) old new → PortStep written faults plan port now old new (λ stops. with_failure plan empty stops.ports port past)
   begun_step (inl all) =
-      let here : RunsOn written plan past q old new = record {
+      let here : RunsOn written faults plan past q old new = record {
         running = fresh.running;
         none = fresh.none;
         took = subst (λ (l : List Item). TookPieces (written old) (written new) (pieces l) None) (sym fresh.unsent) all.took;
+        still = all.still;
       } in
       record {
         later = None;
-        output = subst (λ (l : List Row). RunsOn written plan l q old new) (sym all.past) here;
+        output = subst (λ (l : List Row). RunsOn written faults plan l q old new) (sym all.past) here;
         made_so = λ stops allowed. all.past ∙ sym (no_failure plan stops port past (subst (λ (l : List Row). is_stopped (stops.ports q) (pieces_by plan empty q l) ≡ false) all.past allowed));
       }
   begun_step (inr front) =

@@ -1,5 +1,5 @@
 -- Control behind the last turn.
-use Rattle.std.proofs.Common.{◌≡◌, ℕ, List, [], ◌++◌, length, refl, sym, ap, ◌∙◌, subst, append-nil, Option, Some, None}
+use Rattle.std.proofs.Common.{◌≡◌, ◌≢◌, ℕ, List, [], ◌++◌, length, refl, sym, ap, ◌∙◌, subst, append-nil, Option, Some, None}
 use Rattle.std.specs.List.Sorted.{IsStrictlyIncreasing}
 use Rattle.savi_kinds.specs.declared.plan.Plan.{Plan}
 use Rattle.savi_kinds.specs.declared.entry.How.{How}
@@ -53,6 +53,13 @@ unwritten_of : {K : Type 0} (written : K → Option (List ℕ)) (sink_faults : K
 unwritten_of written sink_faults plan past start sink None was is = absurd (was.none is)
 unwritten_of written sink_faults plan past start sink (Some whole) was is = was.rose
 
+done_apart : (a : LineAhead) → a ≡ ahead.Done → a ≢ ahead.Failed
+done_apart a done failed = cc
+
+still_of : {K : Type 0} (written : K → Option (List ℕ)) (sink_faults : K → ℕ) (plan : Plan) (past : List Row) (start sink : K) (known : Option ℕ) → AreReplies written sink_faults plan past start sink known → control_end past ≢ Some hows.Unwritten → sink_faults sink ≡ sink_faults start
+still_of written sink_faults plan past start sink None was other = was.still
+still_of written sink_faults plan past start sink (Some whole) was other = absurd (other was.failed)
+
 module _ {S K C : Type 0} (left : S → Option (List ℕ)) (written : K → Option (List ℕ)) (source_faults : S → ℕ) (sink_faults : K → ℕ) (plan : Plan) (past : List Row) (stop : Option ℕ) where
   -- Control's whole input, and what a finished replay of it was to control's ends.
   pub record ControlOver (first ends : Option (ControlEnds S K C)) (taken : List Turn) : Type 0 where
@@ -63,7 +70,7 @@ module _ {S K C : Type 0} (left : S → Option (List ℕ)) (written : K → Opti
     pub serves : (now : List Row) (inputs : List Input) (stops : Stops) → stops.control ≡ stop → ControlSame plan empty past now → IsStrictlyIncreasing (numbers_of plan.ports) → length inputs ≡ length plan.ports → now ≡ replayed plan empty lines inputs stops
         → ServesControl left written source_faults sink_faults plan empty now first ends lines stop
 
-  module _ (start c : ControlEnds S K C) (taken : List Turn) (runs : ControlRuns left written source_faults sink_faults plan past stop start c taken) (out : HeardOut left plan past start c taken) where
+  module _ (start c : ControlEnds S K C) (taken : List Turn) (runs : ControlRuns left written source_faults sink_faults plan past stop start c taken) (out : HeardOut left plan past start c taken) (done : c.ahead ≡ ahead.Done) where
     serves_lines : (now : List Row) (inputs : List Input) (stops : Stops) → stops.control ≡ stop → ControlSame plan empty past now → IsStrictlyIncreasing (numbers_of plan.ports) → length inputs ≡ length plan.ports → now ≡ replayed plan empty (Some out.input) inputs stops
         → IsControlServed left written source_faults sink_faults plan empty now out.input stop start.ends c.ends
     serves_lines now inputs stops stop_is same rising size now_is =
@@ -85,6 +92,8 @@ module _ {S K C : Type 0} (left : S → Option (List ℕ)) (written : K → Opti
           source = runs.source;
           sink = runs.sink;
           broken = λ is. runs.broken (sym same.end_same ∙ is);
+          still = λ others. runs.still (done_apart c.ahead done) (λ is. others (same.end_same ∙ is));
+          still_out = λ others. still_of written sink_faults plan past start.ends.sink c.ends.sink stop runs.replied (λ is. others (same.end_same ∙ is));
           unwritten = λ is. unwritten_of written sink_faults plan past start.ends.sink c.ends.sink stop runs.replied (sym same.end_same ∙ is);
         }
 
@@ -105,5 +114,5 @@ module _ {S K C : Type 0} (left : S → Option (List ℕ)) (written : K → Opti
         rest = out.rest;
         of = out.of;
         split = out.split;
-        serves = λ now inputs stops stop_is same rising size now_is. serves_lines start c taken stands out now inputs stops stop_is same rising size now_is;
+        serves = λ now inputs stops stop_is same rising size now_is. serves_lines start c taken stands out (done_at c known none) now inputs stops stop_is same rising size now_is;
       }

@@ -111,6 +111,7 @@ replies_over : {K : Type 0} (written : K → Option (List ℕ)) (faults : K → 
 replies_over written faults plan past how start old None other running was = record {
   none = λ same. other (some_same how hows.Unwritten same);
   took = subst (λ (l : List (List ℕ)). TookPieces (written start) (written old) l None) (sym (append-nil (replies plan empty past))) was.took;
+  still = was.still;
 }
 replies_over written faults plan past how start old (Some whole) other running was = let e = sym running ∙ was.ended in cc
 
@@ -153,9 +154,9 @@ module _ {S K C : Type 0} (written : K → Option (List ℕ)) (faults : K → �
     same_now = subst (λ (l : List Row). ControlSame plan empty mid l) (sym now_drained) (control_drained plan empty ports_go.0.ports plan.ports mid)
 
     -- the reply was written
-    went_on : mid ≡ behind_reply plan (is_quit line) entry → TookPieces (written sink) (written sink_new) (shown plan empty entry ∷ []) None → RepliesRunOn written plan past start sink → known.control ≡ None
+    went_on : mid ≡ behind_reply plan (is_quit line) entry → TookPieces (written sink) (written sink_new) (shown plan empty entry ∷ []) None → faults sink_new ≡ faults sink → RepliesRunOn written faults plan past start sink → known.control ≡ None
         → (later : Stops) × AreOutputs written faults plan later now first new × AreReplies written faults plan now start sink_new later.control × AllFollow plan known later past now (λ stops. entered plan empty stops (Commands line) past)
-    went_on mid_is took was none =
+    went_on mid_is took still was none =
         let replies_mid : replies plan empty mid ≡ replies plan empty entry = ap (λ (l : List Row). replies plan empty l) mid_is ∙ replies_behind plan (is_quit line) entry in
         let replies_now : replies plan empty now ≡ replies plan empty entry = same_now.replies_same ∙ replies_mid in
         let size : length (replies plan empty now) ≡ count + 1 = ap (λ (l : List (List ℕ)). length l) replies_now ∙ entry_count in
@@ -165,6 +166,7 @@ module _ {S K C : Type 0} (written : K → Option (List ℕ)) (faults : K → �
           record {
             none = λ same. end_mid (sym same_now.end_same ∙ same);
             took = subst (λ (l : List (List ℕ)). TookPieces (written start) (written sink_new) l None) (sym replies_now) (took_then (written start) (written sink) (written sink_new) (replies plan empty past) (shown plan empty entry ∷ []) was.took took);
+            still = still ∙ was.still;
           },
           record {
             before = λ stops allowed. record {
@@ -178,7 +180,7 @@ module _ {S K C : Type 0} (written : K → Option (List ℕ)) (faults : K → �
         )
 
     -- it could not be written
-    stopped : mid ≡ with_event plan empty entry (End Control hows.Unwritten) → TookPieces (written sink) (written sink_new) (shown plan empty entry ∷ []) (Some 0) → faults start ≤ faults sink → Rose (faults sink) (faults sink_new) → RepliesRunOn written plan past start sink → known.control ≡ None
+    stopped : mid ≡ with_event plan empty entry (End Control hows.Unwritten) → TookPieces (written sink) (written sink_new) (shown plan empty entry ∷ []) (Some 0) → faults start ≤ faults sink → Rose (faults sink) (faults sink_new) → RepliesRunOn written faults plan past start sink → known.control ≡ None
         → (later : Stops) × AreOutputs written faults plan later now first new × AreReplies written faults plan now start sink_new later.control × AllFollow plan known later past now (λ stops. entered plan empty stops (Commands line) past)
     stopped mid_is took later rose was none =
         let whole = count + 0 in
@@ -209,9 +211,9 @@ module _ {S K C : Type 0} (written : K → Option (List ℕ)) (faults : K → �
   abbrev Gone : List (PortEnds S K C) → K → Stops → Type 0
   Gone first start known = (later : Stops) × AreOutputs written faults plan later now first new × AreReplies written faults plan now start sink_new later.control × AllFollow plan known later past now (λ stops. entered plan empty stops (Commands line) past)
 
-  gone_on : (first : List (PortEnds S K C)) (start : K) (known : Stops) → AreOutputs written faults plan known past first old → faults start ≤ faults sink → known.control ≡ None → RepliesRunOn written plan past start sink → IsAnswered written faults plan (is_quit line) entry mid sink sink_new → Gone first start known
+  gone_on : (first : List (PortEnds S K C)) (start : K) (known : Stops) → AreOutputs written faults plan known past first old → faults start ≤ faults sink → known.control ≡ None → RepliesRunOn written faults plan past start sink → IsAnswered written faults plan (is_quit line) entry mid sink sink_new → Gone first start known
   gone_on first start known outputs later none was (inl whole) =
-      went_on first start known outputs (keeps_answered written faults plan past mid line sink sink_new (inl whole)) whole.made whole.took was none
+      went_on first start known outputs (keeps_answered written faults plan past mid line sink sink_new (inl whole)) whole.made whole.took whole.still was none
   gone_on first start known outputs later none was (inr front) =
       stopped first start known outputs (keeps_answered written faults plan past mid line sink sink_new (inr front)) front.made front.took later front.rose was none
 

@@ -87,7 +87,7 @@ pub record HeardOut {S K C : Type 0} (left : S → Option (List ℕ)) (plan : Pl
 
 -- octets that come from a new reader are an input
 are_lines : (seen : Bool) (octets : List ℕ) (lines : List Line) (ending : How) → Comes false seen start octets (of_lines lines ending) → AreLines seen octets lines ending
-are_lines seen octets lines ending comes = record { run = comes; stamps = tt }
+are_lines seen octets lines ending comes = record { whole = lines; run = comes; stamps = refl }
 
 are_whole : (first : Option (List ℕ)) (lines : List Line) (ending : How) → IfSome first (λ octets. Comes false true start octets (of_lines lines ending)) → IfSome first (λ octets. AreLines true octets lines ending)
 are_whole None lines ending whole = tt

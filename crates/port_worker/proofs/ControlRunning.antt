@@ -1,5 +1,5 @@
 -- The ends of control between two turns.
-use Rattle.std.proofs.Common.{◌≡◌, ℕ, ◌≤◌, true, false, List, refl, sym, ap, ◌∙◌, subst, arith, Option, Some, None}
+use Rattle.std.proofs.Common.{◌≡◌, ◌≢◌, ℕ, ◌≤◌, true, false, List, refl, sym, ap, ◌∙◌, subst, arith, Option, Some, None}
 use Rattle.savi_kinds.specs.declared.plan.Plan.{Plan}
 use Rattle.savi_kinds.specs.declared.entry.How.{How}
 use Rattle.savi_kinds.specs.declared.entry.How.TheVariants as hows
@@ -46,6 +46,8 @@ pub record ControlRuns {S K C : Type 0} (left : S → Option (List ℕ)) (writte
   -- a read that failed, entered or not, was a fault of the source
   pub failed : now.ahead ≡ ahead.Failed → Rose (source_faults first.ends.source) (source_faults now.ends.source)
   pub broken : control_end past ≡ Some hows.Failed → Rose (source_faults first.ends.source) (source_faults now.ends.source)
+  -- and there was no other one
+  pub still : now.ahead ≢ ahead.Failed → control_end past ≢ Some hows.Failed → source_faults now.ends.source ≡ source_faults first.ends.source
 
 -- The same of control's ends, where there are any; else its input has ended at once.
 abbrev pub ControlStands : {S K C : Type 0} → (S → Option (List ℕ)) → (K → Option (List ℕ)) → (S → ℕ) → (K → ℕ) → Plan → List Row → Option ℕ → Option (ControlEnds S K C) → Option (ControlEnds S K C) → List Turn → Type 0
@@ -126,6 +128,7 @@ replied_kept : {K : Type 0} (written : K → Option (List ℕ)) (sink_faults : K
 replied_kept written sink_faults plan past now start sink None same was = record {
   none = λ is. was.none (sym same.end_same ∙ is);
   took = subst (λ (l : List (List ℕ)). TookPieces (written start) (written sink) l None) (sym same.replies_same) was.took;
+  still = was.still;
 }
 replied_kept written sink_faults plan past now start sink (Some whole) same was = record {
   ended = same.ended_same ∙ was.ended;
@@ -133,6 +136,9 @@ replied_kept written sink_faults plan past now start sink (Some whole) same was 
   took = subst (λ (l : List (List ℕ)). TookPieces (written start) (written sink) l (Some whole)) (sym same.replies_same) was.took;
   rose = was.rose;
 }
+
+unread_failed : (a : LineAhead) → a ≡ ahead.Unread → a ≡ ahead.Failed → ⊥
+unread_failed a unread failed = cc
 
 module _ {S K C : Type 0} (left : S → Option (List ℕ)) (written : K → Option (List ℕ)) (source_faults : S → ℕ) (sink_faults : K → ℕ) (plan : Plan) where
   pub control_agrees : (past : List Row) (stop : Option ℕ) (first now : Option (ControlEnds S K C)) (taken : List Turn) → ControlStands left written source_faults sink_faults plan past stop first now taken → Agrees empty past (control_pass plan) (control_head now)
@@ -163,6 +169,7 @@ module _ {S K C : Type 0} (left : S → Option (List ℕ)) (written : K → Opti
         replied = subst (λ (k : K). AreReplies written sink_faults plan past first.ends.sink k stop) (sym looked.sink) runs.replied;
         failed = λ failed. rose_later (source_faults first.ends.source) (source_faults old.ends.source) (source_faults new.ends.source) runs.source (looked.failed unread failed);
         broken = λ ended_so. rose_before (source_faults first.ends.source) (source_faults old.ends.source) (source_faults new.ends.source) (runs.broken ended_so) looked.later;
+        still = λ other others. looked.still other ∙ runs.still (λ failed. unread_failed old.ahead unread failed) others;
       }
 
   looked_known : (past : List Row) (stop : Option ℕ) (first old new : ControlEnds S K C) (taken : List Turn) (a : LineAhead) → old.ahead ≡ a → IsLineKnown a → IsHeard left source_faults old new
@@ -271,4 +278,5 @@ module _ {S K C : Type 0} (left : S → Option (List ℕ)) (written : K → Opti
     replied = replied_kept written sink_faults plan past now first.ends.sink c.ends.sink stop same stands.replied;
     failed = stands.failed;
     broken = λ ended_so. stands.broken (sym same.end_same ∙ ended_so);
+    still = λ other others. stands.still other (λ ended_so. others (same.end_same ∙ ended_so));
   }

@@ -156,8 +156,9 @@ module _ {S K C : Type 0} (left : S → Option (List ℕ)) (written : K → Opti
   Now = ControlRuns left written source_faults sink_faults plan now stop_now first new (taken ++ turn ∷ [])
 
   runs_by : (b : Bool) → has_ended empty (control_pass plan) now ≡ b → IsLineSound new.reader (line_ahead_after b) → LineProgress left plan now first new (taken ++ turn ∷ []) (line_ahead_after b)
-      → (control_end now ≡ Some hows.Failed → Rose (source_faults first.ends.source) (source_faults old.ends.source)) → Now
-  runs_by b ended sound progress broken =
+      → (control_end now ≡ Some hows.Failed → Rose (source_faults first.ends.source) (source_faults old.ends.source))
+      → (control_end now ≢ Some hows.Failed → source_faults old.ends.source ≡ source_faults first.ends.source) → Now
+  runs_by b ended sound progress broken still =
       let there : new.ahead ≡ line_ahead_after b = ahead_is ∙ ap line_ahead_after ended in
       record {
         used = record {
@@ -173,7 +174,12 @@ module _ {S K C : Type 0} (left : S → Option (List ℕ)) (written : K → Opti
         replied = replied;
         failed = λ failed. absurd (never_failed b (sym there ∙ failed));
         broken = λ ended_so. subst (λ (s : S). Rose (source_faults first.ends.source) (source_faults s)) (sym source_is) (broken ended_so);
+        still = λ other others. ap source_faults source_is ∙ still others;
       }
+
+  -- no read has failed where none is known of
+  quiet : old.ahead ≢ ahead.Failed → HeardSoFar left past first old taken → source_faults old.ends.source ≡ source_faults first.ends.source
+  quiet other so_far = runs.still other (λ failed. let e : None ≡ Some hows.Failed = sym so_far.running ∙ failed in cc)
 
   -- a line
 
@@ -196,6 +202,9 @@ module _ {S K C : Type 0} (left : S → Option (List ℕ)) (written : K → Opti
     hears : IsHearing new.reader
     hears = subst (λ (s : State). IsHearing s) (sym reader_is) (subst (λ (a : LineAhead). IsLineSound old.reader a) is runs.sound).1
 
+    line_quiet : source_faults old.ends.source ≡ source_faults first.ends.source
+    line_quiet = quiet (λ failed. let e : ahead.Line stamp len ≡ ahead.Failed = sym is ∙ failed in cc) so_far
+
     none_failed : control_end now ≡ None → control_end now ≡ Some hows.Failed → ⊥
     none_failed none failed = let e : None ≡ Some hows.Failed = sym none ∙ failed in cc
 
@@ -205,10 +214,12 @@ module _ {S K C : Type 0} (left : S → Option (List ℕ)) (written : K → Opti
         runs_by false on.running hears
         (subst (λ (t : Turn). HeardSoFar left now first new (taken ++ t ∷ [])) (sym is_commands) (line_on left plan past now first old new taken so_far source_is reader_is stamp len is there on.lines on.none))
         (λ failed. absurd (none_failed on.none failed))
+        (λ others. line_quiet)
     line_by (inr over) =
         runs_by true over.ended tt
         (subst (λ (t : Turn). HeardOut left plan now first new (taken ++ t ∷ [])) (sym is_commands) (line_out left plan past now first old new taken so_far source_is reader_is stamp len is over.kept over.other))
         (λ failed. absurd (over.other failed))
+        (λ others. line_quiet)
 
     line_stepped : Now
     line_stepped = line_by made
@@ -228,11 +239,12 @@ module _ {S K C : Type 0} (left : S → Option (List ℕ)) (written : K → Opti
     some_other : ending ≢ hows.Failed → control_end now ≡ Some hows.Failed → ⊥
     some_other other failed = let e : Some ending ≡ Some hows.Failed = sym ends_as ∙ failed in other cc
 
-    end_stepped : IsSeenEnd ending → IsControlEnding ending → ending ≢ hows.Failed → (so_far : HeardSoFar left past first old taken) → IfSome (left first.ends.source) (λ octets. Comes false true start octets (of_lines so_far.before ending)) → Now
-    end_stepped seen fine other so_far whole =
+    end_stepped : IsSeenEnd ending → IsControlEnding ending → ending ≢ hows.Failed → old.ahead ≢ ahead.Failed → (so_far : HeardSoFar left past first old taken) → IfSome (left first.ends.source) (λ octets. Comes false true start octets (of_lines so_far.before ending)) → Now
+    end_stepped seen fine other apart so_far whole =
         runs_by true ended tt
         (subst (λ (t : Turn). HeardOut left plan now first new (taken ++ t ∷ [])) (sym is_end) (end_out left plan past now first old new taken so_far source_is reader_is ending seen fine ends_as whole))
         (λ failed. absurd (some_other other failed))
+        (λ others. quiet apart so_far)
 
   fail_stepped : old.ahead ≡ ahead.Failed → Now
   fail_stepped is =
@@ -243,6 +255,7 @@ module _ {S K C : Type 0} (left : S → Option (List ℕ)) (written : K → Opti
       runs_by true (ended hows.Failed is_end) tt
       (subst (λ (t : Turn). HeardOut left plan now first new (taken ++ t ∷ [])) (sym is_end) (fail_out left plan past now first old new taken so_far source_is reader_is (ends_as hows.Failed is_end) comes))
       (λ failed. runs.failed is)
+      (λ others. absurd (others (ends_as hows.Failed is_end)))
 
   whole_stepped : (a : LineAhead) (ending : How) → old.ahead ≡ a → Some (Ends Control ending) ≡ line_turn_ahead old.buf a → IsSeenEnd ending → IsControlEnding ending → ending ≢ hows.Failed
       → ((so_far : HeardSoFar left past first old taken) → HeardAhead (left first.ends.source) (left old.ends.source) old.reader so_far.gave old.buf so_far.before a → IfSome (left first.ends.source) (λ octets. Comes false true start octets (of_lines so_far.before ending)))
@@ -250,7 +263,8 @@ module _ {S K C : Type 0} (left : S → Option (List ℕ)) (written : K → Opti
   whole_stepped a ending is which seen fine other whole goes =
       let so_far : HeardSoFar left past first old taken = goes (subst (λ (b : LineAhead). LineProgress left plan past first old taken b) is runs.progress) in
       let is_end : turn ≡ Ends Control ending = same_turn (Ends Control ending) turn (which ∙ subst (λ (b : LineAhead). line_turn_ahead old.buf b ≡ Some turn) is turn_is) in
-      end_stepped ending is_end seen fine other so_far
+      let apart : old.ahead ≢ ahead.Failed = λ failed. other (let e : Some (Ends Control ending) ≡ Some (Ends Control hows.Failed) = which ∙ ap (line_turn_ahead old.buf) (sym is ∙ failed) in cc) in
+      end_stepped ending is_end seen fine other apart so_far
       (whole so_far (subst (λ (b : LineAhead). HeardAhead (left first.ends.source) (left old.ends.source) old.reader so_far.gave old.buf so_far.before b) is so_far.heard))
 
   stepped_at : (a : LineAhead) → old.ahead ≡ a → line_turn_ahead old.buf a ≡ Some turn → Now

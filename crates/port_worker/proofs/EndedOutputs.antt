@@ -1,5 +1,5 @@
 -- What a sink took, behind the end of a replay.
-use Rattle.std.proofs.Common.{◌≡◌, ℕ, List, sym, ap, ◌∙◌, subst, Option, Some, None}
+use Rattle.std.proofs.Common.{◌≡◌, ◌≢◌, ℕ, List, sym, ap, ◌∙◌, subst, Option, Some, None}
 use Rattle.savi_kinds.specs.declared.plan.Plan.{Plan}
 use Rattle.savi_kinds.specs.declared.entry.How.{How}
 use Rattle.savi_kinds.specs.declared.entry.How.TheVariants as hows
@@ -31,3 +31,7 @@ module _ {K : Type 0} (written : K → Option (List ℕ)) (faults : K → ℕ) (
   pub broken_of : (known : Option ℕ) → IsOutput written faults plan past n old new known → IsOutputEnded plan past now n → output_end n now ≡ Some hows.Failed → Rose (faults old) (faults new)
   broken_of None output ended failed = let e : Some hows.End ≡ Some hows.Failed = sym (ended.ended output.running) ∙ failed in cc
   broken_of (Some whole) output ended failed = output.rose
+
+  pub still_of : (known : Option ℕ) → IsOutput written faults plan past n old new known → IsOutputEnded plan past now n → output_end n now ≢ Some hows.Failed → faults new ≡ faults old
+  still_of None output ended other = output.still
+  still_of (Some whole) output ended other = absurd (other (ended.still output.ended ∙ output.failed))

@@ -42,7 +42,7 @@ use Rattle.port_worker.proofs.ControlEnding.{ControlOver, control_done, control_
 use Rattle.port_worker.proofs.ControlFirst.{agree_all, done_all}
 use Rattle.port_worker.proofs.ControlProgress.{control_head}
 use Rattle.port_worker.proofs.ControlRunning.{control_agrees}
-use Rattle.port_worker.proofs.EndedOutputs.{took_of, fit_of, broken_of}
+use Rattle.port_worker.proofs.EndedOutputs.{took_of, fit_of, broken_of, still_of}
 use Rattle.port_worker.proofs.Fitting.{IsFit, HasCause}
 use Rattle.port_worker.proofs.Later.{IsLater}
 use Rattle.port_worker.proofs.Planned.{count_is, number_is}
@@ -266,7 +266,9 @@ module _ {S K C : Type 0} (left : S → Option (List ℕ)) (written : K → Opti
             fits_out = fit_of written sink_faults plan past now n p.ends.sink q.ends.sink (r.known.ports n) (output_at k d inside) (ended_output k d inside);
             source = later.source;
             sink = later.sink;
-            broken = causes.each k d inside;
+            broken = (causes.each k d inside).broken;
+            still = (causes.each k d inside).still;
+            still_out = still_of written sink_faults plan past now n p.ends.sink q.ends.sink (r.known.ports n) (output_at k d inside) (ended_output k d inside);
             broken_out = broken_of written sink_faults plan past now n p.ends.sink q.ends.sink (r.known.ports n) (output_at k d inside) (ended_output k d inside);
           }
 

@@ -53,6 +53,8 @@ pub record FitsSoFar {S K C : Type 0} (left : S → Option (List ℕ)) (source_f
   pub later : source_faults old.ends.source ≤ source_faults new.ends.source
   pub failed : new.ahead ≡ ahead.Failed → Rose (source_faults old.ends.source) (source_faults new.ends.source)
   pub broken : input_end (number_of old.port) past ≡ Some hows.Failed → Rose (source_faults old.ends.source) (source_faults new.ends.source)
+  -- and there was no other one
+  pub still : new.ahead ≢ ahead.Failed → input_end (number_of old.port) past ≢ Some hows.Failed → source_faults new.ends.source ≡ source_faults old.ends.source
 
 -- the input ends behind what was read
 whole_at : (first mid : State) (one two : List ℕ) (front : List Arrival) (how : How) (a b c : Option (List ℕ)) → Takes a b one → Takes b c two → HasRead first mid one front
@@ -92,6 +94,9 @@ read_more left past first old new one two ahead.Done a_is take_one take_two none
 known_same : {S K C : Type 0} (left : S → Option (List ℕ)) (source_faults : S → ℕ) (past : List Row) (first old new : PortEnds S K C) (a : Ahead) → old.ahead ≡ a → IsReadAhead a → (IsReadAhead old.ahead → new ≡ old) → FitsSoFar left source_faults past first old → FitsSoFar left source_faults past first new
 known_same {S} {K} {C} left source_faults past first old new a is known same so_far = subst (λ (p : PortEnds S K C). FitsSoFar left source_faults past first p) (sym (same (subst IsReadAhead (sym is) known))) so_far
 
+unread_still : (a : Ahead) → a ≡ ahead.Unread → a ≡ ahead.Failed → ⊥
+unread_still a unread failed = cc
+
 look_one : {S K C : Type 0} (left : S → Option (List ℕ)) (source_faults : S → ℕ) (past : List Row) (first old new : PortEnds S K C) (a : Ahead) → old.ahead ≡ a → IsLooked left source_faults old new → FitsSoFar left source_faults past first old → FitsSoFar left source_faults past first new
 look_one left source_faults past first old new ahead.Unread is looked so_far =
     let more = looked.read is in
@@ -104,6 +109,7 @@ look_one left source_faults past first old new ahead.Unread is looked so_far =
       later = omega (arith, so_far.later, looked.later);
       failed = λ failed. rose_later (source_faults first.ends.source) (source_faults old.ends.source) (source_faults new.ends.source) so_far.later (looked.failed is failed);
       broken = λ ended_so. rose_before (source_faults first.ends.source) (source_faults old.ends.source) (source_faults new.ends.source) (so_far.broken ended_so) looked.later;
+      still = λ other others. looked.still other ∙ so_far.still (λ failed. unread_still old.ahead is failed) others;
     }
 look_one left source_faults past first old new (ahead.Frame stamp len) is looked so_far = known_same left source_faults past first old new (ahead.Frame stamp len) is tt looked.same so_far
 look_one left source_faults past first old new (ahead.Long stamp len) is looked so_far = known_same left source_faults past first old new (ahead.Long stamp len) is tt looked.same so_far
@@ -121,9 +127,6 @@ fits_looked left source_faults past first old new so_far looked = record {
 
 -- the start
 
-unread_still : (a : Ahead) → a ≡ ahead.Unread → a ≡ ahead.Failed → ⊥
-unread_still a unread failed = cc
-
 none_ended : {X : Type 0} {x : X} → None ≡ Some x → ⊥
 none_ended is = cc
 
@@ -136,6 +139,7 @@ start_one {S} {K} {C} left written source_faults faults past old new holds unrea
       fits = rw (unread.0, holds.arrivals_same, holds.end_same) (refl, λ rest later ending comes. comes);
       later = omega arith;
       failed = λ failed. absurd (unread_still old.ahead unread.0 failed);
+      still = λ other others. refl;
       broken = λ ended_so. absurd (none_ended (sym holds.end_same ∙ ended_so));
     } in
     subst (λ (p : PortEnds S K C). FitsSoFar left source_faults past old p) (sym only.same) start
@@ -159,6 +163,7 @@ same_one {S} {K} {C} left written source_faults faults past now first old new st
       later = so_far.later;
       failed = so_far.failed;
       broken = λ ended_so. so_far.broken (sym holds.end_same ∙ ended_so);
+      still = λ other others. so_far.still other (λ ended_so. others (holds.end_same ∙ ended_so));
     } in
     let same : new ≡ record old { ends = record old.ends { sink = new.ends.sink } } =
     stepped.same ∙ ap (λ (a : Ahead). record old { ends = record old.ends { sink = new.ends.sink }; ahead = a }) ahead_is in
@@ -280,6 +285,23 @@ never_failed : (b : Bool) (a : Ahead) → a ≡ ahead_after b → a ≡ ahead.Fa
 never_failed true a is failed = cc
 never_failed false a is failed = cc
 
+-- the end of an input at a failed read that was read
+fails_there : (plan : Plan) (stops : Stops) (past : List Row) (port : Port) (buf : List ℕ) (a : Ahead) (turn : Turn) → turn_ahead port buf a ≡ Some turn → a ≡ ahead.Failed → input_end (number_of port) (entered plan empty stops turn past) ≡ Some hows.Failed
+fails_there plan stops past port buf a turn is failed =
+    let turn_is : turn ≡ Ends (Ingress port) hows.Failed = same_turn (Ends (Ingress port) hows.Failed) turn (subst (λ (b : Ahead). turn_ahead port buf b ≡ Some turn) failed is) in
+    ap (λ (t : Turn). input_end (number_of port) (entered plan empty stops t past)) turn_is ∙ (end_entered plan empty past port hows.Failed).ended_so
+
+-- an input with a turn has not ended
+open_before : (first reader : State) (gave buf : List ℕ) (before after : Option (List ℕ)) (past : List Row) (port : Port) (a : Ahead) (turn : Turn) → turn_ahead port buf a ≡ Some turn
+    → FitsAhead first reader gave buf before after (arrived (number_of port) past) (input_end (number_of port) past) a → input_end (number_of port) past ≡ None
+open_before first reader gave buf before after past port ahead.Unread turn is fits = fits.0
+open_before first reader gave buf before after past port (ahead.Frame stamp len) turn is fits = fits.0
+open_before first reader gave buf before after past port (ahead.Long stamp len) turn is fits = fits.0
+open_before first reader gave buf before after past port ahead.End turn is fits = fits.0
+open_before first reader gave buf before after past port (ahead.Malformed at) turn is fits = fits.0
+open_before first reader gave buf before after past port ahead.Failed turn is fits = fits.0
+open_before first reader gave buf before after past port ahead.Done turn is fits = cc
+
 here_one : {S K C : Type 0} (left : S → Option (List ℕ)) (written : K → Option (List ℕ)) (source_faults : S → ℕ) (faults : K → ℕ) (plan : Plan) (stops : Stops) (past now : List Row) (first old new : PortEnds S K C) (turn : Turn) → old.port ≡ first.port → IsStepped written faults old new → turn_of old ≡ Some turn
     → now ≡ entered plan empty stops turn past → new.ahead ≡ ahead_after (ends_input plan past turn) → FitsSoFar left source_faults past first old → FitsSoFar left source_faults now first new
 here_one {S} {K} {C} left written source_faults faults plan stops past now first old new turn port_is stepped turn_is now_is ahead_is so_far =
@@ -292,6 +314,9 @@ here_one {S} {K} {C} left written source_faults faults plan stops past now first
       later = so_far.later;
       failed = λ failed. absurd (never_failed (ends_input plan past turn) new.ahead ahead_is failed);
       broken = entered_broken (Rose (source_faults first.ends.source) (source_faults old.ends.source)) plan stops past first.port old.buf old.ahead turn turn_first so_far.failed so_far.broken;
+      still = λ other others.
+          so_far.still (λ failed. others (fails_there plan stops past first.port old.buf old.ahead turn turn_first failed))
+          (λ ended_so. none_ended (sym (open_before first.reader old.reader so_far.gave old.buf (left first.ends.source) (left old.ends.source) past first.port old.ahead turn turn_first so_far.fits) ∙ ended_so));
     } in
     subst (λ (l : List Row). FitsSoFar left source_faults l first new) (sym now_is) (subst (λ (p : PortEnds S K C). FitsSoFar left source_faults (entered plan empty stops turn past) first p) (sym stepped.same) moved)
 
@@ -329,9 +354,10 @@ abbrev pub IsFit : {S K C : Type 0} → (S → Option (List ℕ)) → List Row �
 IsFit left past old new =
     Fits (AreInput (Comes old.reader)) (left old.ends.source) (left new.ends.source) (arrived (number_of old.port) past) (input_end (number_of old.port) past)
 
--- a failed read that the history tells of has a cause
-abbrev pub HasCause : {S K C : Type 0} → (S → ℕ) → List Row → PortEnds S K C → PortEnds S K C → Type 0
-HasCause source_faults past old new = input_end (number_of old.port) past ≡ Some hows.Failed → Rose (source_faults old.ends.source) (source_faults new.ends.source)
+-- the source has a fault exactly where the history tells of a failed read
+pub record HasCause {S K C : Type 0} (source_faults : S → ℕ) (past : List Row) (old new : PortEnds S K C) : Type 0 where
+  pub broken : input_end (number_of old.port) past ≡ Some hows.Failed → Rose (source_faults old.ends.source) (source_faults new.ends.source)
+  pub still : input_end (number_of old.port) past ≢ Some hows.Failed → source_faults new.ends.source ≡ source_faults old.ends.source
 
 pub fits_finished : {S K C : Type 0} (left : S → Option (List ℕ)) (source_faults : S → ℕ) (plan : Plan) (first old : List (PortEnds S K C)) (past now : List Row) → EachPair (FitsSoFar left source_faults past) first old → ((k : ℕ) (d : PortEnds S K C) → k < length old → (get_or old k d).ahead ≡ ahead.Done)
     → now ≡ egress_ended plan empty plan.ports (with_event plan empty past (End Ticker hows.End)) → EachPair (IsFit left now) first old
@@ -346,12 +372,19 @@ fits_finished left source_faults plan first old past now so_far done now_is = re
       rw (now_is, holds.arrivals_same, holds.end_same) fits;
 }
 
--- a fault came wherever the history tells of a failed read, also where it holds no more of the inputs since
-pub broken_since : {S K C : Type 0} (left : S → Option (List ℕ)) (source_faults : S → ℕ) (first old new : List (PortEnds S K C)) (past now : List Row) → EachPair (FitsSoFar left source_faults past) first old → length new ≡ length old
-    → ((k : ℕ) (d : PortEnds S K C) → k < length old → source_faults (get_or old k d).ends.source ≤ source_faults (get_or new k d).ends.source) → ((n : ℕ) → input_end n now ≡ input_end n past) → EachPair (HasCause source_faults now) first new
-broken_since left source_faults first old new past now so_far size later same = record {
-  size = size ∙ so_far.size;
-  each = λ k d within ended_so.
+done_apart : (a : Ahead) → a ≡ ahead.Done → a ≢ ahead.Failed
+done_apart a done failed = cc
+
+-- a fault came exactly where the history tells of a failed read, also where it holds no more of the inputs since
+pub causes_finished : {S K C : Type 0} (left : S → Option (List ℕ)) (source_faults : S → ℕ) (first old : List (PortEnds S K C)) (past now : List Row) → EachPair (FitsSoFar left source_faults past) first old
+    → ((k : ℕ) (d : PortEnds S K C) → k < length old → (get_or old k d).ahead ≡ ahead.Done) → ((n : ℕ) → input_end n now ≡ input_end n past) → EachPair (HasCause source_faults now) first old
+causes_finished left source_faults first old past now so_far done same = record {
+  size = so_far.size;
+  each = λ k d within.
       let one = so_far.each k d within in
-      rose_before (source_faults (get_or first k d).ends.source) (source_faults (get_or old k d).ends.source) (source_faults (get_or new k d).ends.source) (one.broken (sym (same (number_of (get_or first k d).port)) ∙ ended_so)) (later k d (omega (arith, so_far.size)));
+      let n = number_of (get_or first k d).port in
+      record {
+        broken = λ ended_so. one.broken (sym (same n) ∙ ended_so);
+        still = λ others. one.still (done_apart (get_or old k d).ahead (done k d (omega (arith, so_far.size)))) (λ ended_so. others (same n ∙ ended_so));
+      };
 }

@@ -44,7 +44,7 @@ no_more : (old new : State) (more : List ℕ) (left : Option (List ℕ)) (line :
 no_more old new more left line is (inl one) =
     let place = one.0.0 in
     let held = one.0.1 in
-    let later = some_later false true [] place (held ++ []) in
+    let later = some_later false true place (held ++ []) in
     let comes : Comes false true new [] (of_lines later.0 later.1) = subst (λ (s : State). Comes false true s [] (of_lines later.0 later.1)) (sym one.0.2) later.2 in
     no_lines line later.0 later.1 hows.End (subst (λ (s : State). Comes false true s (more ++ []) (of_lines (line ∷ later.0) later.1)) is (one.1 true [] later.0 later.1 comes))
 no_more old new more left line is (inr one) = no_lines line [] hows.End hows.End (subst (λ (s : State). Comes false true s more (of_lines (line ∷ []) hows.End)) is one.2)
@@ -153,7 +153,7 @@ all_front P xs ys all k d inside =
 
 pub heard_lines : (state : State) (gave : List ℕ) (left : Option (List ℕ)) (lines : List Line) → HasHeard state gave left lines → All IsReadableLine lines
 heard_lines state gave left lines (inl behind) =
-    let later = some_later false true [] behind.0.0 (behind.0.1 ++ []) in
+    let later = some_later false true behind.0.0 (behind.0.1 ++ []) in
     let comes : Comes false true state [] (of_lines later.0 later.1) = subst (λ (s : State). Comes false true s [] (of_lines later.0 later.1)) (sym behind.0.2) later.2 in
     all_front IsReadableLine lines later.0 (run_lines (lines ++ later.0) 0 later.1 (gave ++ []) (behind.1 true [] later.0 later.1 comes))
 heard_lines state gave left lines (inr over) = run_lines lines 0 hows.End gave over.2
@@ -172,7 +172,7 @@ all_given first (Some rest) gave nothing takes = subst (λ (o : Option (List ℕ
 
 pub holds_at : (state : State) (gave : List ℕ) (first left : Option (List ℕ)) (lines : List Line) → HasHeard state gave left lines → Takes first left gave → Holds first gave lines
 holds_at state gave first left lines (inl behind) takes =
-    let later = some_later false false [] behind.0.0 (behind.0.1 ++ []) in
+    let later = some_later false false behind.0.0 (behind.0.1 ++ []) in
     let comes : Comes false false state [] (of_lines later.0 later.1) = subst (λ (s : State). Comes false false s [] (of_lines later.0 later.1)) (sym behind.0.2) later.2 in
     record {
       seen = false;
@@ -195,7 +195,7 @@ module _ (state : State) (gave : List ℕ) (lines : List Line) where
   some_at (Some rest) (inl behind) =
       let place = behind.0.0 in
       let held = behind.0.1 in
-      let later = some_later false true [] place (held ++ rest) in
+      let later = some_later false true place (held ++ rest) in
       let comes : Comes false true state rest (of_lines later.0 later.1) = subst (λ (s : State). Comes false true s rest (of_lines later.0 later.1)) (sym behind.0.2) later.2 in
       record {
         behind = later.0;

@@ -63,6 +63,7 @@ output_kept written faults plan n past now old new None keeps was = record {
   running = keeps.ended_same ∙ was.running;
   none = keeps.end_same ∙ was.none;
   took = subst (λ (l : List Item). TookPieces (written old) (written new) (pieces l) None) (sym keeps.sent_same) was.took;
+  still = was.still;
 }
 output_kept written faults plan n past now old new (Some whole) keeps was = record {
   ended = keeps.ended_same ∙ was.ended;

@@ -183,19 +183,20 @@ module _ {K : Type 0} (written : K → Option (List ℕ)) (faults : K → ℕ) (
     pieces_mid = let sizes = length-append (sent plan empty q past) items in let e : length (sent plan empty q mid) ≡ length (sent plan empty q past) + length items = ap (λ (l : List Item). length l) sent_mid ∙ sizes in omega arith
 
     -- all was written
-    pub drained_step : now ≡ mid → TookPieces (written old) (written new) (records items) None → RunsOn written plan past q first old → DrainStep written faults plan port None past now first new made
-    drained_step now_is took was =
-        let here : RunsOn written plan mid q first new = record {
+    pub drained_step : now ≡ mid → TookPieces (written old) (written new) (records items) None → faults new ≡ faults old → RunsOn written faults plan past q first old → DrainStep written faults plan port None past now first new made
+    drained_step now_is took still was =
+        let here : RunsOn written faults plan mid q first new = record {
           running = was.running;
           none = was.none;
           took = subst (λ (l : List (List ℕ)). TookPieces (written first) (written new) l None) (sym (ap pieces sent_mid ∙ pieces-append (sent plan empty q past) items))
               (took_then (written first) (written old) (written new) (pieces (sent plan empty q past)) (records items) was.took took);
+          still = still ∙ was.still;
         } in
         let more = pieces_mid in
         record {
           step = record {
             later = None;
-            output = subst (λ (l : List Row). RunsOn written plan l q first new) (sym now_is) here;
+            output = subst (λ (l : List Row). RunsOn written faults plan l q first new) (sym now_is) here;
             made_so = λ stops allowed. now_is ∙ sym (drained_is stops ∙ no_failure plan stops port mid (subst (λ (l : List Row). is_stopped (stops.ports q) (pieces_by plan empty q l) ≡ false) now_is allowed));
           };
           before = λ stop allowed.
@@ -203,7 +204,7 @@ module _ {K : Type 0} (written : K → Option (List ℕ)) (faults : K → ℕ) (
         }
 
     -- a write failed
-    module _ (whole : ℕ) (took : TookPieces (written old) (written new) (records items) (Some whole)) (rose : Rose (faults old) (faults new)) (later_faults : faults first ≤ faults old) (was : RunsOn written plan past q first old) where
+    module _ (whole : ℕ) (took : TookPieces (written old) (written new) (records items) (Some whole)) (rose : Rose (faults old) (faults new)) (later_faults : faults first ≤ faults old) (was : RunsOn written faults plan past q first old) where
       abbrev done : ℕ
       done = length (pieces (sent plan empty q past)) + whole
 
@@ -262,7 +263,7 @@ drain_step {S} {K} {C} written faults plan past now first x y known later output
     quiet_step written faults plan x.port past now first x.ends.sink y.ends.sink known quiet.none quiet.past_same (ap (λ (p : PortEnds S K C). p.ends.sink) quiet.same) output
 drain_step written faults plan past now first x y None later output (inr drained) =
     elim drained.wrote as (λ w. DrainStep written faults plan x.port None past now first y.ends.sink (λ stops. with_drain plan empty stops.ports x.port (length (waiting_at plan x.port past)) past)) [
-      | inl all ↦ drained_step written faults plan x.port past now first x.ends.sink y.ends.sink drained.some all.past all.took output
+      | inl all ↦ drained_step written faults plan x.port past now first x.ends.sink y.ends.sink drained.some all.past all.took all.still output
       | inr front ↦ failed_step written faults plan x.port past now first x.ends.sink y.ends.sink drained.some front.whole front.took front.rose later output front.past
     ]
 drain_step written faults plan past now first x y (Some whole) later output (inr drained) = absurd (drained.some output.quiet)

@@ -146,9 +146,11 @@ control_starts left written source_faults sink_faults plan before c stops begins
       replied = record {
         none = λ is. none_so (control_end before) hows.Unwritten same.end_same is;
         took = subst (λ (l : List (List ℕ)). TookPieces (written c.ends.sink) (written c.ends.sink) l None) (sym same.replies_same) (behind_none (written c.ends.sink));
+        still = refl;
       };
       failed = λ failed. absurd (unread_failed c.ahead none.0 failed);
       broken = λ is. absurd (none_so (control_end before) hows.Failed same.end_same is);
+      still = λ other others. refl;
     }
 
 module _ {S K C : Type 0} (left : S → Option (List ℕ)) (written : K → Option (List ℕ)) (source_faults : S → ℕ) (sink_faults : K → ℕ) (plan : Plan) (ends : Option (ControlEnds S K C)) (first ports : List (PortEnds S K C))

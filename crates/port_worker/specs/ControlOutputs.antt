@@ -25,10 +25,11 @@ abbrev pub unheard : {S K C : Type 0} → Machine → Option (ControlEnds S K C)
 unheard m None = with_event m (End Control hows.End)
 unheard m (Some c) = m
 
--- the sink took all replies
-pub record RepliesRunOn {K : Type 0} (written : K → Option (List ℕ)) (plan : Plan) (past : List Row) (old new : K) : Type 0 where
+-- the sink took all replies, and no write has failed
+pub record RepliesRunOn {K : Type 0} (written : K → Option (List ℕ)) (faults : K → ℕ) (plan : Plan) (past : List Row) (old new : K) : Type 0 where
   pub none : control_end past ≢ Some hows.Unwritten
   pub took : TookPieces (written old) (written new) (replies plan empty past) None
+  pub still : faults new ≡ faults old
 
 -- a reply could not be written behind so many whole ones, and control has ended for that
 pub record RepliesHaveStopped {K : Type 0} (written : K → Option (List ℕ)) (faults : K → ℕ) (plan : Plan) (past : List Row) (old new : K) (whole : ℕ) : Type 0 where
@@ -39,7 +40,7 @@ pub record RepliesHaveStopped {K : Type 0} (written : K → Option (List ℕ)) (
 
 -- control's output by what is known of where a reply could not be written
 abbrev pub AreReplies : {K : Type 0} → (K → Option (List ℕ)) → (K → ℕ) → Plan → List Row → K → K → Option ℕ → Type 0
-AreReplies written faults plan past old new None = RepliesRunOn written plan past old new
+AreReplies written faults plan past old new None = RepliesRunOn written faults plan past old new
 AreReplies written faults plan past old new (Some whole) = RepliesHaveStopped written faults plan past old new whole
 
 -- what the writes may turn out to have failed at, by what is known of all outputs

@@ -1,5 +1,5 @@
 -- What a replay was to the ends of control: what its source gave up, and what its sink took.
-use Rattle.std.specs.Prelude.{◌≡◌, ℕ, ◌≤◌, Bool, true, false, List, [], Option, Some, None}
+use Rattle.std.specs.Prelude.{◌≡◌, ◌≢◌, ℕ, ◌≤◌, Bool, true, false, List, [], Option, Some, None}
 use Rattle.savi_kinds.specs.declared.plan.Plan.{Plan}
 use Rattle.savi_kinds.specs.declared.entry.How.{How}
 use Rattle.savi_kinds.specs.declared.entry.How.TheVariants as hows
@@ -37,8 +37,8 @@ IsControlInputOf before after ended_so lines (hows.Full len) = ⊥
 
 -- What a history was to the ends of control. The octets of the source are this input, and what it gave up fits what the
 -- history holds of it. The sink took the replies as this stop says, each one piece, and they fit how the history says that
--- control ended. No count of faults fell; control ended by a failed read only where that of its source rose, by a reply
--- that could not be written only where that of its sink did.
+-- control ended. No count of faults fell; control ended by a failed read exactly where that of its source rose, by a
+-- reply that could not be written exactly where that of its sink did.
 pub record IsControlServed {S K C : Type 0} (left : S → Option (List ℕ)) (written : K → Option (List ℕ)) (source_faults : S → ℕ) (sink_faults : K → ℕ) (plan : Plan) (base : Base) (past : List Row) (input : control.Input) (stop : Option ℕ) (old new : Ends S K C) : Type 0 where
   pub used : IsUsed left written old new
   pub gave : IsControlInputOf (left old.source) (left new.source) (control_end past) input.arrivals input.ending
@@ -48,7 +48,9 @@ pub record IsControlServed {S K C : Type 0} (left : S → Option (List ℕ)) (wr
   pub source : source_faults old.source ≤ source_faults new.source
   pub sink : sink_faults old.sink ≤ sink_faults new.sink
   pub broken : control_end past ≡ Some hows.Failed → Rose (source_faults old.source) (source_faults new.source)
+  pub still : control_end past ≢ Some hows.Failed → source_faults new.source ≡ source_faults old.source
   pub unwritten : control_end past ≡ Some hows.Unwritten → Rose (sink_faults old.sink) (sink_faults new.sink)
+  pub still_out : control_end past ≢ Some hows.Unwritten → sink_faults new.sink ≡ sink_faults old.sink
 
 -- The same of ends that are there before and after, and then control has an input; or there are none, and it has none.
 abbrev pub ServesControl : {S K C : Type 0} → (S → Option (List ℕ)) → (K → Option (List ℕ)) → (S → ℕ) → (K → ℕ) → Plan → Base → List Row → Option (ControlEnds S K C) → Option (ControlEnds S K C) → Option control.Input → Option ℕ → Type 0

@@ -31,10 +31,11 @@ pub record IsDrainable (plan : Plan) (past : List Row) (port : Port) : Type 0 wh
 abbrev pub with_failed : Plan → Port → List Row → List Row
 with_failed plan port past = with_event plan empty past (End (Egress port) hows.Failed)
 
--- A sink took these pieces, and the history is as before; or a write failed, for which the egress has ended.
-pub record TookAll {K : Type 0} (written : K → Option (List ℕ)) (before now : List Row) (given : List (List ℕ)) (old new : K) : Type 0 where
+-- A sink took these pieces without a fault, and the history is as before; or a write failed, for which the egress has ended.
+pub record TookAll {K : Type 0} (written : K → Option (List ℕ)) (faults : K → ℕ) (before now : List Row) (given : List (List ℕ)) (old new : K) : Type 0 where
   pub past : now ≡ before
   pub took : TookPieces (written old) (written new) given None
+  pub still : faults new ≡ faults old
 
 pub record TookFront {K : Type 0} (written : K → Option (List ℕ)) (faults : K → ℕ) (plan : Plan) (port : Port) (before now : List Row) (given : List (List ℕ)) (old new : K) : Type 0 where
   pub past : now ≡ with_failed plan port before
@@ -44,7 +45,7 @@ pub record TookFront {K : Type 0} (written : K → Option (List ℕ)) (faults : 
 
 abbrev pub IsWritten : {K : Type 0} → (K → Option (List ℕ)) → (K → ℕ) → Plan → Port → List Row → List Row → List (List ℕ) → K → K → Type 0
 IsWritten written faults plan port before now given old new =
-    TookAll written before now given old new ⊎ TookFront written faults plan port before now given old new
+    TookAll written faults before now given old new ⊎ TookFront written faults plan port before now given old new
 
 -- the header of a port's capture was written, or that failed
 abbrev pub IsBegun : {S K C : Type 0} → (K → Option (List ℕ)) → (K → ℕ) → Plan → List Row → List Row → PortEnds S K C → PortEnds S K C → Type 0

@@ -114,3 +114,4 @@ pub record IsLooked {S K C : Type 0} (left : S → Option (List ℕ)) (faults : 
   pub done : new.ahead ≡ ahead.Done → old.ahead ≡ ahead.Done
   pub read : old.ahead ≡ ahead.Unread → ReadsAhead left old new
   pub failed : old.ahead ≡ ahead.Unread → new.ahead ≡ ahead.Failed → Rose (faults old.ends.source) (faults new.ends.source)
+  pub still : new.ahead ≢ ahead.Failed → faults new.ends.source ≡ faults old.ends.source

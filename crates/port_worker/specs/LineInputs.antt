@@ -104,6 +104,7 @@ pub record IsHeard {S K C : Type 0} (left : S → Option (List ℕ)) (faults : S
   pub read : old.ahead ≡ ahead.Unread → (octets : List ℕ) × Takes (left old.ends.source) (left new.ends.source) octets × IsHeardAs old.reader new.reader octets new.buf (left new.ends.source) new.ahead
   pub done : new.ahead ≡ ahead.Done → old.ahead ≡ ahead.Done
   pub failed : old.ahead ≡ ahead.Unread → new.ahead ≡ ahead.Failed → Rose (faults old.ends.source) (faults new.ends.source)
+  pub still : new.ahead ≢ ahead.Failed → faults new.ends.source ≡ faults old.ends.source
 
 -- the same of control's ends, where there are any
 abbrev pub IsControlHeard : {S K C : Type 0} → (S → Option (List ℕ)) → (S → ℕ) → Option (ControlEnds S K C) → Option (ControlEnds S K C) → Type 0

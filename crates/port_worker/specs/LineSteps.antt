@@ -25,10 +25,11 @@ use Rattle.port_worker.specs.Steps.{ends_input}
 abbrev pub behind_reply : Plan → Bool → List Row → List Row
 behind_reply plan quit past = if quit then with_event plan empty past (End Control hows.Quit) else past
 
--- a sink took the reply to the newest entry, a line's, whole
-pub record IsReplied {K : Type 0} (written : K → Option (List ℕ)) (plan : Plan) (quit : Bool) (past now : List Row) (old new : K) : Type 0 where
+-- a sink took the reply to the newest entry, a line's, whole, without a fault
+pub record IsReplied {K : Type 0} (written : K → Option (List ℕ)) (faults : K → ℕ) (plan : Plan) (quit : Bool) (past now : List Row) (old new : K) : Type 0 where
   pub made : now ≡ behind_reply plan quit past
   pub took : TookPieces (written old) (written new) (shown plan empty past ∷ []) None
+  pub still : faults new ≡ faults old
 
 -- it took a front of it, and control has ended for that
 pub record IsCutOff {K : Type 0} (written : K → Option (List ℕ)) (faults : K → ℕ) (plan : Plan) (past now : List Row) (old new : K) : Type 0 where
@@ -37,7 +38,7 @@ pub record IsCutOff {K : Type 0} (written : K → Option (List ℕ)) (faults : K
   pub rose : Rose (faults old) (faults new)
 
 abbrev pub IsAnswered : {K : Type 0} → (K → Option (List ℕ)) → (K → ℕ) → Plan → Bool → List Row → List Row → K → K → Type 0
-IsAnswered written faults plan quit past now old new = IsReplied written plan quit past now old new ⊎ IsCutOff written faults plan past now old new
+IsAnswered written faults plan quit past now old new = IsReplied written faults plan quit past now old new ⊎ IsCutOff written faults plan past now old new
 
 -- the history with the entry of a line
 abbrev pub with_command : Plan → Line → List Row → List Row

@@ -14,11 +14,12 @@ use Rattle.savi_history.specs.PortOutputs.{output_end, pieces, text_before_last_
 use Rattle.port_worker.specs.declared.port_ends.PortEnds.{PortEnds}
 use Rattle.port_worker.specs.Pairs.{EachPair}
 
--- An output that goes on: its sink took all that was sent at the port.
-pub record RunsOn {K : Type 0} (written : K → Option (List ℕ)) (plan : Plan) (past : List Row) (port : ℕ) (old new : K) : Type 0 where
+-- An output that goes on: its sink took all that was sent at the port, and no write has failed.
+pub record RunsOn {K : Type 0} (written : K → Option (List ℕ)) (faults : K → ℕ) (plan : Plan) (past : List Row) (port : ℕ) (old new : K) : Type 0 where
   pub running : has_ended empty (egress_pass plan port) past ≡ false
   pub none : output_end port past ≡ None
   pub took : TookPieces (written old) (written new) (pieces (sent plan empty port past)) None
+  pub still : faults new ≡ faults old
 
 -- An output at which a write failed behind so many whole pieces: its egress has ended for that, and nothing waits there.
 pub record HasStopped {K : Type 0} (written : K → Option (List ℕ)) (faults : K → ℕ) (plan : Plan) (past : List Row) (port : ℕ) (old new : K) (whole : ℕ) : Type 0 where
@@ -31,7 +32,7 @@ pub record HasStopped {K : Type 0} (written : K → Option (List ℕ)) (faults :
 
 -- an output by what is known of where a write failed there
 abbrev pub IsOutput : {K : Type 0} → (K → Option (List ℕ)) → (K → ℕ) → Plan → List Row → ℕ → K → K → Option ℕ → Type 0
-IsOutput written faults plan past port old new None = RunsOn written plan past port old new
+IsOutput written faults plan past port old new None = RunsOn written faults plan past port old new
 IsOutput written faults plan past port old new (Some whole) = HasStopped written faults plan past port old new whole
 
 pub record IsOutputOf {S K C : Type 0} (written : K → Option (List ℕ)) (faults : K → ℕ) (plan : Plan) (known : Stops) (past : List Row) (old new : PortEnds S K C) : Type 0 where

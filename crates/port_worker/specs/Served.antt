@@ -1,6 +1,6 @@
 -- What a replay was to the ends of control and of the ports: one history, and at each port what it says of its ends, before
 -- and after.
-use Rattle.std.specs.Prelude.{◌≡◌, ℕ, ◌<◌, ◌≤◌, List, length, slice_index_or, Option, Some}
+use Rattle.std.specs.Prelude.{◌≡◌, ◌≢◌, ℕ, ◌<◌, ◌≤◌, List, length, slice_index_or, Option, Some}
 use Rattle.savi_kinds.specs.declared.plan.Plan.{Plan}
 use Rattle.savi_kinds.specs.declared.entry.How.{How}
 use Rattle.savi_kinds.specs.declared.entry.How.TheVariants as hows
@@ -43,7 +43,7 @@ IsInputOf Arrives before after ended_so arrivals (hows.Full len) = ⊥
 -- What a history was to the ends of the port of this number. The octets of the source are this input, and what it gave up
 -- fits what the history holds of it; the sink took the pieces of the capture of what the history sends there, as this stop
 -- says, and they fit how the history says that the output ended. No count of faults fell; an input ended by a failed read
--- only where that of its own source rose, an output by a failed write only where that of its own sink did.
+-- exactly where that of its own source rose, an output by a failed write exactly where that of its own sink did.
 pub record IsServed {S K C : Type 0} (left : S → Option (List ℕ)) (written : K → Option (List ℕ)) (source_faults : S → ℕ) (sink_faults : K → ℕ) (Arrives : List ℕ → Input → Type 0) (plan : Plan) (base : Base) (past : List Row) (port : ℕ) (input : Input) (stop : Option ℕ) (old new : Ends S K C) : Type 0 where
   pub used : IsUsed left written old new
   pub gave : IsInputOf Arrives (left old.source) (left new.source) (input_end port past) input.arrivals input.ending
@@ -53,7 +53,9 @@ pub record IsServed {S K C : Type 0} (left : S → Option (List ℕ)) (written :
   pub source : source_faults old.source ≤ source_faults new.source
   pub sink : sink_faults old.sink ≤ sink_faults new.sink
   pub broken : input_end port past ≡ Some hows.Failed → Rose (source_faults old.source) (source_faults new.source)
+  pub still : input_end port past ≢ Some hows.Failed → source_faults new.source ≡ source_faults old.source
   pub broken_out : output_end port past ≡ Some hows.Failed → Rose (sink_faults old.sink) (sink_faults new.sink)
+  pub still_out : output_end port past ≢ Some hows.Failed → sink_faults new.sink ≡ sink_faults old.sink
 
 -- The history is finished, it is the replay of control's input, where it has one, and of inputs, one for each port of the
 -- plan in its order, to sinks that stop so. This holds of control's input and its stop, and of each port that: of its place

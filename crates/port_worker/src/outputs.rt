@@ -108,6 +108,7 @@ impl<S, K: Sink, C> PortEnds<S, K, C> {
         ensures only { OnlySink K.written K.faults self.old self.new }
         ensures took { TookAs result (K.written self.old.ends.sink) (K.written self.new.ends.sink) (header_text ∷ []) }
         ensures cause { result ≡ Put.Failed → Rose (K.faults self.old.ends.sink) (K.faults self.new.ends.sink) }
+        ensures still { result ≡ Put.Done → K.faults self.new.ends.sink ≡ K.faults self.old.ends.sink }
     {
         begin(&mut self.ends.sink)
     }
@@ -118,6 +119,7 @@ impl<S, K: Sink, C> PortEnds<S, K, C> {
         ensures took { TookAs result (K.written self.old.ends.sink) (K.written self.new.ends.sink) (records batch.now) }
         ensures none { batch.now ≡ [] → self.new ≡ self.old }
         ensures cause { result ≡ Put.Failed → Rose (K.faults self.old.ends.sink) (K.faults self.new.ends.sink) }
+        ensures still { result ≡ Put.Done → K.faults self.new.ends.sink ≡ K.faults self.old.ends.sink }
     {
         write_batch(&mut self.ends.sink, batch)
     }
@@ -129,6 +131,7 @@ fn write_batch<K: Sink>(sink: &mut K, batch: &Batch) -> Put
     ensures none { batch.now ≡ [] → sink.new ≡ sink.old }
     ensures later { K.faults sink.old ≤ K.faults sink.new }
     ensures cause { result ≡ Put.Failed → Rose (K.faults sink.old) (K.faults sink.new) }
+    ensures still { result ≡ Put.Done → K.faults sink.new ≡ K.faults sink.old }
 {
     for i in 0..batch.len() {
         let (moment, frame) = batch.item(i);

@@ -4,7 +4,7 @@ use Rattle.savi_kinds.specs.declared.plan.Plan.{Plan}
 use Rattle.savi_conf.specs.Answers.{IsAnswer}
 use Rattle.savi_ends.specs.Places.{Place}
 use Rattle.run_config.specs.declared.refusal.Refusal.{Refusal}
-use Rattle.run_config.specs.Configs.{OfText, IsBuilt, IsConfigured, EndHasFault, TakesFew, IsReadFrom}
+use Rattle.run_config.specs.Configs.{OfText, IsBuilt, IsConfigured, EndHasFault, EndHasNoFault, TakesFew, IsReadFrom}
 
 of_stands : {S : Type 0} (left : S → Option (List ℕ)) (stands : Option S) (source : S) (Holds : List ℕ → Type 0) → IfSome stands (λ told. source ≡ told) → IfSome (left source) Holds → IfSome stands (λ told. IfSome (left told) Holds)
 of_stands left None source Holds same given = tt
@@ -25,6 +25,9 @@ if_text (Some text) Read Holds follows read = follows text read
 -- the end that is kept has a fault
 pub kept_fault : {S : Type 0} (faults : S → ℕ) (place : Place S) (source : S) → place.stands ≡ Some source → 0 < faults source → EndHasFault faults place
 kept_fault faults place source kept fault = subst (λ o. IsSomeAnd o (λ x. 0 < faults x)) (sym kept) fault
+
+pub kept_sound : {S : Type 0} (faults : S → ℕ) (place : Place S) (source : S) → place.stands ≡ Some source → faults source ≡ 0 → EndHasNoFault faults place
+kept_sound faults place source kept sound = subst (λ o. IsSomeAnd o (λ x. faults x ≡ 0)) (sym kept) sound
 
 taken_from : {S : Type 0} (left : S → Option (List ℕ)) (stands : Option S) (source kept : S) → IfSome stands (λ told. source ≡ told) → TakesFew (left source) (left kept) → IfSome stands (λ told. TakesFew (left told) (left kept))
 taken_from left None source kept same takes = tt

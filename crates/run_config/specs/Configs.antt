@@ -32,6 +32,10 @@ pub record IsRefused {S : Type 0} (replay : Bool) (left : S → Option (List ℕ
 abbrev pub EndHasFault : {X : Type 0} → (X → ℕ) → Place X → Type 0
 EndHasFault faults place = IsSomeAnd place.stands (λ x. 0 < faults x)
 
+-- the end that is kept in a place has no fault
+abbrev pub EndHasNoFault : {X : Type 0} → (X → ℕ) → Place X → Type 0
+EndHasNoFault faults place = IsSomeAnd place.stands (λ x. faults x ≡ 0)
+
 -- what was read of a text: the whole of it, or a front that is longer than a configuration may be
 abbrev pub IsWholeOrLong : List ℕ → List ℕ → Type 0
 IsWholeOrLong front text = (front ≡ text) ⊎ ((most_octets < length front) × IsFront front text)

@@ -6,7 +6,7 @@ ghost use Rattle.savi_ends.specs.Faults.{Rose};
 ghost use Rattle.savi_ends.specs.Places.{IsReady, OthersStay};
 ghost use Rattle.savi_conf.specs.declared.fault.ConfFault.{ConfFault};
 ghost use Rattle.run_config.specs.declared.refusal.Refusal.{Refusal};
-ghost use Rattle.run_config.specs.Configs.{EndHasFault, IsBuilt, IsConfigured, IsReadFrom, IsRefused, IsWholeOrLong, TakesFew};
+ghost use Rattle.run_config.specs.Configs.{EndHasFault, EndHasNoFault, IsBuilt, IsConfigured, IsReadFrom, IsRefused, IsWholeOrLong, TakesFew};
 
 use crate::refusal::Refusal;
 use savi_conf::{ConfFault, OCTETS_MOST, read_plan};
@@ -40,6 +40,8 @@ pub fn configure<W: World>(
     ensures refused { (fault : ConfFault) → result ≡ Err (Refusal.Refused fault) → IsRefused replay W.S.left ((W.book world.old).inputs file.now) fault }
     ensures unopened { result ≡ Err Refusal.CannotOpen → Rose (W.book world.old).faults (W.book world.new).faults }
     ensures unread { result ≡ Err Refusal.ReadFailed → EndHasFault W.S.faults ((W.book world.new).inputs file.now) }
+    ensures still { result ≢ Err Refusal.ReadFailed → result ≢ Err Refusal.CannotOpen → result ≢ Err Refusal.NoMemory → EndHasNoFault W.S.faults ((W.book world.new).inputs file.now) }
+    ensures still_memory { result ≡ Err Refusal.NoMemory → ((W.book world.new).inputs file.now ≡ (W.book world.old).inputs file.now) ⊎ EndHasNoFault W.S.faults ((W.book world.new).inputs file.now) }
 
     ensures as_it_was { result ≡ Err Refusal.CannotOpen → (W.book world.new).inputs file.now ≡ (W.book world.old).inputs file.now }
     ensures kept { result ≢ Err Refusal.CannotOpen → result ≢ Err Refusal.NoMemory → IsReadFrom W.S.left ((W.book world.old).inputs file.now) ((W.book world.new).inputs file.now) }
@@ -71,6 +73,7 @@ fn read_config<S: Source>(
     ensures says { IfOk result (λ plan. IfSome (S.left source.old) (λ text. IsAnswer text replay (Ok plan))) }
     ensures refused { (fault : ConfFault) → result ≡ Err (Refusal.Refused fault) → (fault ≢ ConfFault.NoMemory) × IfSome (S.left source.old) (λ text. IsAnswer text replay (Err fault)) }
     ensures unread { result ≡ Err Refusal.ReadFailed → Rose (S.faults source.old) (S.faults source.new) }
+    ensures still { result ≢ Err Refusal.ReadFailed → S.faults source.new ≡ S.faults source.old }
     ensures opened { result ≢ Err Refusal.CannotOpen }
     ensures takes { TakesFew (S.left source.old) (S.left source.new) }
 {
@@ -89,6 +92,7 @@ fn read_config<S: Source>(
 fn read_text<S: Source>(source: &mut S, buffer: &mut [u8]) -> Option<usize>
     requires { length buffer.old ≡ 65537 }
     ensures cause { IfNone result (Rose (S.faults source.old) (S.faults source.new)) }
+    ensures still { IfSome result (λ count. S.faults source.new ≡ S.faults source.old) }
     ensures within { IfSome result (λ count. count ≤ length buffer.new) }
     ensures text { IfSome result (λ count. IfSome (S.left source.old) (IsWholeOrLong (take count buffer.new))) }
     ensures takes { TakesFew (S.left source.old) (S.left source.new) }

@@ -1,5 +1,5 @@
 -- Each frame comes to its case.
-use Rattle.std.proofs.Common.{◌≡◌, ◌≢◌, ℕ, ◌==◌, ◌||◌, Bool, true, false, Option, Some, None, IsSome, is_some, unwrap_or, if◌then◌else◌, List, [], ◌∷◌, refl, sym, ap, ◌∙◌, subst, inl, inr, ◌⊎◌, rules}
+use Rattle.std.proofs.Common.{◌≡◌, ◌≢◌, ℕ, ◌==◌, ◌||◌, Bool, true, false, Option, Some, None, IsSome, is_some, option_map, unwrap_or, if◌then◌else◌, List, [], ◌∷◌, refl, sym, ap, ◌∙◌, subst, inl, inr, ◌⊎◌, rules}
 use Rattle.std.proofs.lemmas.Bool.{cases_Bool, eq-eqb, eqb-true}
 use Rattle.arrayvec.specs.ArrayVec.{ArrayVec}
 use Rattle.savi_kinds.specs.declared.port.Port.{Port}
@@ -7,8 +7,8 @@ use Rattle.savi_kinds.specs.declared.plan.Method.{Method}
 use Rattle.savi_kinds.specs.declared.plan.Role.{Role}
 use Rattle.savi_kinds.specs.declared.plan.Role.TheVariants as roles
 use Rattle.savi_kinds.specs.declared.verdict.Rule.{Rule}
-use Rattle.savi_kinds.specs.declared.verdict.Rule.TheVariants.{OffLink, NaTarget, UnspecifiedSource}
-use Rattle.savi_kinds.specs.declared.verdict.Scope.TheVariants.{All, TrustedOnly}
+use Rattle.savi_kinds.specs.declared.verdict.Rule.TheVariants.{OffLink, NaTarget, UnspecifiedSource, Unverified}
+use Rattle.savi_kinds.specs.declared.verdict.Scope.TheVariants.{TrustedOnly}
 use Rattle.savi_kinds.specs.declared.verdict.Verdict.{Verdict}
 use Rattle.savi_kinds.specs.declared.verdict.Verdict.TheVariants.{Pass, Drop}
 use Rattle.savi_kinds.specs.Ports.{number_of}
@@ -23,35 +23,39 @@ use Rattle.frame_class.specs.declared.classes.Read.TheVariants.{Icmp}
 use Rattle.ra_guard.specs.GuardOf.{guard_of, is_validating}
 use Rattle.fcfs_states.specs.declared.event.Ev.{Ev}
 use Rattle.fcfs_states.specs.declared.event.Ev.TheVariants.{Sent, Dad, Na, TpDad, TpNa, Lease, Release}
+use Rattle.fcfs_states.specs.declared.answer.Answer.{Answer}
+use Rattle.fcfs_states.specs.declared.answer.Probe.{Probe}
 use Rattle.fcfs_states.specs.declared.times.Times.{Times}
+use Rattle.fcfs_states.specs.Premises.{AreTimes}
 use Rattle.dhcp_states.specs.Requests.{refusal, asker}
 use Rattle.mix_rules.specs.declared.state.AddrState.{AddrState}
 use Rattle.mix_rules.specs.Next.{next_state, IsPass}
-use Rattle.mix_rules.specs.Ageing.{aged_state}
-use Rattle.addr_history.specs.Marks.{mark_of}
-use Rattle.addr_history.specs.States.{outcome_by, state_of}
+use Rattle.savi_access.specs.Bases.{AreTables}
+use Rattle.savi_access.specs.NamedMarks.{mark_of}
+use Rattle.savi_access.specs.States.{outcome_by, state_of}
 use Rattle.savi_access.specs.Rules.{AccessRules, AccessBase}
-use Rattle.savi_access.specs.Marks.{Mark, Met, told, open_requests}
+use Rattle.savi_access.specs.Marks.{Mark, Met, told, open_requests, named_for}
 use Rattle.savi_access.specs.Frames.{dad_target, advertised, is_router_solicitation, is_listener_message, dhcp_to, is_asking, gives_up}
-use Rattle.savi_access.specs.Judged.{Judged, judged, judged_by, judged_for, validated, trusted, heard_or, from_unspecified, unspecified_by, sourced, followed, message, message_by, dhcp_or_other, to_server, to_server_by, to_client_or_other, to_client, replied, replied_by, asked_by, answered, answered_or, named_for, with_event, with_events, is_on_link, is_passed, comes_to, passes, drops}
-use Rattle.savi_access.specs.Cases.{HasRow, Is, AreTold, none, on_link, off_link, IsReply, met, unasked, nameless, no_reply, SaysMore, advertises, advertises_off_link, asks_in_vain, asks, asks_nameless, lets_go, to_client as to_clients, nothing, IsValidated, IsHeard, IsCase, guarded, off, other, heard, validated as by_source, AsksForAddresses, LetsGo, ShowsNd, ShowsDhcp, ShowsListener, IsOtherFrame}
+use Rattle.savi_access.specs.Judged.{Judged, judged, judged_by, judged_for, validated, trusted, heard_or, from_unspecified, unspecified_by, sourced, followed, message, message_by, dhcp_or_other, to_server, to_server_by, to_client_or_other, to_client, replied, replied_by, asked_by, answered, answered_or, answer_to, with_event, with_events, is_on_link, is_passed, comes_to, passes, drops}
+use Rattle.savi_access.specs.Cases.{state_now, answer_of, IsSent, Detects, Advertises, HasRow, AreTold, none, on_link, off_link, IsReply, met, unasked, nameless, no_reply, SaysMore, advertises, advertises_off_link, asks_in_vain, asks, asks_nameless, lets_go, to_client as to_clients, nothing, IsValidated, IsHeard, IsCase, guarded, off, other, heard, validated as by_source, AsksForAddresses, LetsGo, ShowsNd, ShowsDhcp, ShowsListener, IsOtherFrame}
 use Rattle.savi_access.specs.Cases as cases
+use Rattle.savi_access.proofs.HeldAddresses.{room_is}
 use Rattle.savi_access.proofs.States.{true_not_false, none_some}
 
 -- each event of a frame has a verdict
-sent-given : (m : Method) (k : Times) (t : ℕ) (room : Bool) (s : AddrState) (p : Port) → (next_state m k t room s (Sent p)).0.verdict ≡ Some (unwrap_or (next_state m k t room s (Sent p)).0.verdict (Pass All))
+sent-given : (m : Method) (k : Times) (t : ℕ) (room : Bool) (s : AddrState) (p : Port) → (next_state m k t room s (Sent p)).0.verdict ≡ Some (unwrap_or (next_state m k t room s (Sent p)).0.verdict (Drop Unverified))
 sent-given m k t room s p = search rules
 
-dad-given : (m : Method) (k : Times) (t : ℕ) (room : Bool) (s : AddrState) (p : Port) → (next_state m k t room s (Dad p)).0.verdict ≡ Some (unwrap_or (next_state m k t room s (Dad p)).0.verdict (Pass All))
+dad-given : (m : Method) (k : Times) (t : ℕ) (room : Bool) (s : AddrState) (p : Port) → (next_state m k t room s (Dad p)).0.verdict ≡ Some (unwrap_or (next_state m k t room s (Dad p)).0.verdict (Drop Unverified))
 dad-given m k t room s p = search rules
 
-na-given : (m : Method) (k : Times) (t : ℕ) (room : Bool) (s : AddrState) (p : Port) → (next_state m k t room s (Na p)).0.verdict ≡ Some (unwrap_or (next_state m k t room s (Na p)).0.verdict (Pass All))
+na-given : (m : Method) (k : Times) (t : ℕ) (room : Bool) (s : AddrState) (p : Port) → (next_state m k t room s (Na p)).0.verdict ≡ Some (unwrap_or (next_state m k t room s (Na p)).0.verdict (Drop Unverified))
 na-given m k t room s p = search rules
 
-trusted_dad-given : (m : Method) (k : Times) (t : ℕ) (room : Bool) (s : AddrState) → (next_state m k t room s TpDad).0.verdict ≡ Some (unwrap_or (next_state m k t room s TpDad).0.verdict (Pass All))
+trusted_dad-given : (m : Method) (k : Times) (t : ℕ) (room : Bool) (s : AddrState) → (next_state m k t room s TpDad).0.verdict ≡ Some (unwrap_or (next_state m k t room s TpDad).0.verdict (Drop Unverified))
 trusted_dad-given m k t room s = search rules
 
-trusted_na-given : (m : Method) (k : Times) (t : ℕ) (room : Bool) (s : AddrState) → (next_state m k t room s TpNa).0.verdict ≡ Some (unwrap_or (next_state m k t room s TpNa).0.verdict (Pass All))
+trusted_na-given : (m : Method) (k : Times) (t : ℕ) (room : Bool) (s : AddrState) → (next_state m k t room s TpNa).0.verdict ≡ Some (unwrap_or (next_state m k t room s TpNa).0.verdict (Drop Unverified))
 trusted_na-given m k t room s = search rules
 
 -- what a packet shows, by what is read of it
@@ -60,69 +64,85 @@ abbrev flags_in : Read → ℕ
 flags_in (Icmp kind fragmented (Some (messages.Na target flags))) = flags
 flags_in _ = 0
 
-na-shown : (read : Read) (target : ℕ) → advertised read ≡ Some target → ShowsNd (messages.Na (record { 0 = target }) (flags_in read)) read
-na-shown read target is = search rules
+na-told : (read : Read) (target : ℕ) → advertised read ≡ Some target → ShowsNd (messages.Na (record { 0 = target }) (flags_in read)) read
+na-told read target is = search rules
 
-dad-shown : (read : Read) (target : ℕ) → dad_target read ≡ Some target → ShowsNd (messages.Ns (record { 0 = target }) true) read
+pub na-shown : (read : Read) (target : ℕ) → advertised read ≡ Some target → Advertises target read
+na-shown read target is = (flags_in read, na-told read target is)
+
+pub dad-shown : (read : Read) (target : ℕ) → dad_target read ≡ Some target → Detects target read
 dad-shown read target is = search rules
 
-na-unshown : (read : Read) → advertised read ≡ None → (target flags : ℕ) → ¬ ShowsNd (messages.Na (record { 0 = target }) flags) read
-na-unshown read is target flags shows = search rules
+na-untold : (read : Read) → advertised read ≡ None → (target flags : ℕ) → ¬ ShowsNd (messages.Na (record { 0 = target }) flags) read
+na-untold read is target flags shows = search rules
 
-dad-unshown : (read : Read) → dad_target read ≡ None → (target : ℕ) → ¬ ShowsNd (messages.Ns (record { 0 = target }) true) read
+na-unshown : (read : Read) → advertised read ≡ None → (target : ℕ) → ¬ Advertises target read
+na-unshown read is target shows = na-untold read is target shows.0 shows.1
+
+dad-unshown : (read : Read) → dad_target read ≡ None → (target : ℕ) → ¬ Detects target read
 dad-unshown read is target shows = search rules
 
-rs-shown : (read : Read) → is_router_solicitation read ≡ true → ShowsNd messages.Rs read
+pub rs-shown : (read : Read) → is_router_solicitation read ≡ true → ShowsNd messages.Rs read
 rs-shown read is = search rules
 
-rs-unshown : (read : Read) → is_router_solicitation read ≡ false → ¬ ShowsNd messages.Rs read
+pub rs-unshown : (read : Read) → is_router_solicitation read ≡ false → ¬ ShowsNd messages.Rs read
 rs-unshown read is shows = search rules
 
-listener-shown : (ip : Ip) (read : Read) → is_listener_message ip read ≡ true → ShowsListener ip read
+pub listener-shown : (ip : Ip) (read : Read) → is_listener_message ip read ≡ true → ShowsListener ip read
 listener-shown ip read is = search rules
 
-listener-unshown : (ip : Ip) (read : Read) → is_listener_message ip read ≡ false → ¬ ShowsListener ip read
+pub listener-unshown : (ip : Ip) (read : Read) → is_listener_message ip read ≡ false → ¬ ShowsListener ip read
 listener-unshown ip read is shows = search rules
 
-dhcp-shown : (port : ℕ) (read : Read) (dhcp : Dhcp) → dhcp_to port read ≡ Some dhcp → ShowsDhcp port dhcp read
+pub dhcp-shown : (port : ℕ) (read : Read) (dhcp : Dhcp) → dhcp_to port read ≡ Some dhcp → ShowsDhcp port dhcp read
 dhcp-shown port read dhcp is = search rules
 
 dhcp-unshown : (port : ℕ) (read : Read) → dhcp_to port read ≡ None → (dhcp : Dhcp) → ¬ ShowsDhcp port dhcp read
 dhcp-unshown port read is dhcp shows = search rules
 
-asking : (dhcp : Dhcp) → is_asking dhcp ≡ true → AsksForAddresses dhcp
+pub asking : (dhcp : Dhcp) → is_asking dhcp ≡ true → AsksForAddresses dhcp
 asking dhcp is = search rules
 
-not_asking : (dhcp : Dhcp) → is_asking dhcp ≡ false → ¬ AsksForAddresses dhcp
+pub not_asking : (dhcp : Dhcp) → is_asking dhcp ≡ false → ¬ AsksForAddresses dhcp
 not_asking dhcp is asks_so = search rules
 
-giving : (dhcp : Dhcp) → gives_up dhcp ≡ true → LetsGo dhcp
+pub giving : (dhcp : Dhcp) → gives_up dhcp ≡ true → LetsGo dhcp
 giving dhcp is = search rules
 
-not_giving : (dhcp : Dhcp) → gives_up dhcp ≡ false → ¬ LetsGo dhcp
+pub not_giving : (dhcp : Dhcp) → gives_up dhcp ≡ false → ¬ LetsGo dhcp
 not_giving dhcp is lets = search rules
 
 some_or_none : {A : Type 0} (o : Option A) → IsSome o ⊎ (o ≡ None)
 some_or_none None = inr refl
 some_or_none (Some a) = inl refl
 
-module _ (r : AccessRules) (base : AccessBase) (vlan : ℕ) (port : Port) (t : ℕ) where
+module _ (r : AccessRules) (base : AccessBase) (vlan : ℕ) (port : Port) (t : ℕ) (times : AreTimes r.addresses.times) (tables : AreTables base.addresses) where
+  -- the answer that the marks lead to is that of the row
+  pub answer_is : (past : List Mark) (a : ℕ) (event : Ev) (m : Method) → r.addresses.method_of vlan a ≡ Some m → answer_to r base vlan port t past a event ≡ answer_of r base vlan port t m (named_for r base vlan t past a event).room (state_now r base vlan port t past a) event
+  answer_is past a event m found =
+      ap (λ (o : Option Method). (outcome_by o r.addresses.times (mark_of (named_for r base vlan t past a event)) (state_of r.addresses base.addresses (told past) vlan a)).0) found
+
   -- an event with a verdict, in every state
   abbrev pub Given : Ev → Type 0
-  Given event = (m : Method) (k : Times) (t : ℕ) (room : Bool) (s : AddrState) → (next_state m k t room s event).0.verdict ≡ Some (unwrap_or (next_state m k t room s event).0.verdict (Pass All))
+  Given event = (m : Method) (k : Times) (t : ℕ) (room : Bool) (s : AddrState) → (next_state m k t room s event).0.verdict ≡ Some (unwrap_or (next_state m k t room s event).0.verdict (Drop Unverified))
 
-  row_of : (past : List Mark) (a : ℕ) (event : Ev) → Given event → (o : Option Method) → r.addresses.method_of vlan a ≡ o → IsSome o → HasRow r base vlan port t past a event (answered r base vlan port t past a event)
-  row_of past a event given None found on = absurd (none_some on)
-  row_of past a event given (Some m) found on =
-      record {
-        on_link = ap is_some found;
-        verdict =
-            subst (λ (o : Option Method). (outcome_by o r.addresses.times (mark_of (named_for r base vlan port t past a event)) (state_of r.addresses base.addresses (told past) vlan a)).0.verdict ≡ Some (unwrap_or (outcome_by o r.addresses.times (mark_of (named_for r base vlan port t past a event)) (state_of r.addresses base.addresses (told past) vlan a)).0.verdict (Pass All)))
-            (sym found)
-            (given m r.addresses.times t (named_for r base vlan port t past a event).room (aged_state r.addresses.times t (state_of r.addresses base.addresses (told past) vlan a)).state);
+  sent_at : (a : ℕ) (o : Option Probe) → IsSent r base vlan port t a o (option_map (λ probe. record { due = t; address = record { 0 = a }; probe = probe }) o)
+  sent_at a None = refl
+  sent_at a (Some probe) = refl
+
+  row_of : (past : List Mark) (a : ℕ) (event : Ev) → Given event → (m : Method) → r.addresses.method_of vlan a ≡ Some m → HasRow r base vlan port t past a event (answered r base vlan port t past a event)
+  row_of past a event given m found =
+      subst (λ (answer : Answer). HasRow r base vlan port t past a event (record { verdict = unwrap_or answer.verdict (Drop Unverified); marks = with_event r base vlan port t a event past; probe = option_map (λ probe. record { due = t; address = record { 0 = a }; probe = probe }) answer.probe }))
+      (sym (answer_is past a event m found))
+      (record {
+        method = m;
+        room = (named_for r base vlan t past a event).room;
+        on_link = found;
+        is_room = room_is r base vlan port t times tables past event;
+        verdict = given m r.addresses.times t (named_for r base vlan t past a event).room (state_now r base vlan port t past a);
+        probe = sent_at a (answer_of r base vlan port t m (named_for r base vlan t past a event).room (state_now r base vlan port t past a) event).probe;
         marks = refl;
-        probe = refl;
-      }
+      })
 
   -- a step that an on-link address decides, and the rule for another one
   on_or : (P : Judged → Type 0) (past : List Mark) (rule : Rule) (a : ℕ) (event : Ev) → Given event
@@ -133,7 +153,7 @@ module _ (r : AccessRules) (base : AccessBase) (vlan : ℕ) (port : Port) (t : �
     where
       by_method : (o : Option Method) → r.addresses.method_of vlan a ≡ o → P (if is_some o then answered r base vlan port t past a event else drops rule past)
       by_method None found = gone found
-      by_method (Some m) found = row (row_of past a event given (Some m) found refl)
+      by_method (Some m) found = row (row_of past a event given m found)
 
   told_each : (event : Offered → Ev) (leases : List Offered) (past : List Mark) → AreTold r base vlan port t event leases past (with_events r base vlan port t event leases past)
   told_each event [] past = none
@@ -145,7 +165,7 @@ module _ (r : AccessRules) (base : AccessBase) (vlan : ℕ) (port : Port) (t : �
           → AreTold r base vlan port t event leases (with_event r base vlan port t lease.address.0 (event lease) past) (with_events r base vlan port t event leases (with_event r base vlan port t lease.address.0 (event lease) past))
           → AreTold r base vlan port t event (lease ∷ leases) past (with_events r base vlan port t event leases (if is_some o then with_event r base vlan port t lease.address.0 (event lease) past else past))
       by_method None found without with_it = off_link found without
-      by_method (Some m) found without with_it = on_link (ap is_some found) with_it
+      by_method (Some m) found without with_it = on_link (named_for r base vlan t past lease.address.0 (event lease)).room (ap is_some found) (room_is r base vlan port t times tables past (event lease)) with_it
 
   reply_by : (past : List Mark) (dhcp : Dhcp) (duid : ArrayVec ℕ) (o : Option Port) → dhcp.kind ≡ 7 → dhcp.duid ≡ Some duid → asker dhcp.tid duid.items (open_requests base vlan past t) ≡ o → IsReply r base vlan port t past dhcp (passes (replied_by r base vlan port t past dhcp duid.items o))
   reply_by past dhcp duid None kind named asked_by = unasked duid kind named asked_by (refl, refl, refl)
@@ -167,11 +187,7 @@ module _ (r : AccessRules) (base : AccessBase) (vlan : ℕ) (port : Port) (t : �
   module _ (past : List Mark) (read : Read) where
     client_is : (s : Option Dhcp) → dhcp_to 546 read ≡ s → advertised read ≡ None → dhcp_to 547 read ≡ None → SaysMore r base vlan port t past read (to_client_or_other r base vlan port t past s)
     client_is (Some dhcp) is na server = to_clients dhcp (dhcp-shown 546 read dhcp is) (reply_is past dhcp)
-    client_is None is na server = nothing (na-unshown read na) (λ dhcp. λ shows. neither dhcp shows) (refl, refl, refl)
-      where
-        neither : (dhcp : Dhcp) → ShowsDhcp 547 dhcp read ⊎ ShowsDhcp 546 dhcp read → ⊥
-        neither dhcp (inl shows) = dhcp-unshown 547 read server dhcp shows
-        neither dhcp (inr shows) = dhcp-unshown 546 read is dhcp shows
+    client_is None is na server = nothing (na-unshown read na) (dhcp-unshown 547 read server) (dhcp-unshown 546 read is) (refl, refl, refl)
 
     asked_is : (dhcp : Dhcp) (duid : ArrayVec ℕ) (o : Option Rule) → ShowsDhcp 547 dhcp read → AsksForAddresses dhcp → dhcp.duid ≡ Some duid → refusal (number_of port) dhcp.tid duid.items (open_requests base vlan past t) ≡ o
         → SaysMore r base vlan port t past read (asked_by r base vlan port t past dhcp.tid duid.items o)
@@ -212,8 +228,8 @@ module _ (r : AccessRules) (base : AccessBase) (vlan : ℕ) (port : Port) (t : �
     message_is : (s : Option ℕ) → advertised read ≡ s → SaysMore r base vlan port t past read (message_by r base vlan port t past read s)
     message_is (Some target) is =
         on_or (SaysMore r base vlan port t past read) past NaTarget target (Na port) (λ m k t room s. na-given m k t room s port)
-        (λ row. advertises target (flags_in read) (na-shown read target is) row)
-        (λ off_so. advertises_off_link target (flags_in read) (na-shown read target is) off_so (refl, refl, refl))
+        (λ row. advertises target (na-shown read target is) row)
+        (λ off_so. advertises_off_link target (na-shown read target is) off_so (refl, refl, refl))
     message_is None is = dhcp_is (dhcp_to 547 read) refl is
 
   not_passing : (v : Verdict) → is_passed v ≡ false → ¬ IsPass (Some v)
@@ -277,35 +293,35 @@ module _ (r : AccessRules) (base : AccessBase) (vlan : ℕ) (port : Port) (t : �
       where
         by_method : (o : Option Method) → r.addresses.method_of vlan a ≡ o → P (if is_some o then answered r base vlan port t past a event else passes past)
         by_method None found = gone found
-        by_method (Some m) found = row (row_of past a event given (Some m) found refl)
+        by_method (Some m) found = row (row_of past a event given m found)
 
     heard_na : (s : Option ℕ) → advertised read ≡ s → dad_target read ≡ None → IsHeard r base vlan port t past read (heard_or r base vlan port t past s TpNa (to_client_or_other r base vlan port t past (dhcp_to 546 read)))
     heard_na (Some target) is dad =
         heard_if (IsHeard r base vlan port t past read) target TpNa (λ m k t room s. trusted_na-given m k t room s)
-        (λ row. cases.advertises target (flags_in read) (na-shown read target is) row)
-        (λ gone. cases.off_link target (flags_in read) (inr (na-shown read target is)) gone (refl, refl, refl))
+        (λ row. cases.advertises target (na-shown read target is) row)
+        (λ gone. cases.off_link target (inr (na-shown read target is)) gone (refl, refl, refl))
     heard_na None is dad = heard_client (dhcp_to 546 read) refl dad is
 
     heard_dad : (s : Option ℕ) → dad_target read ≡ s → IsHeard r base vlan port t past read (heard_or r base vlan port t past s TpDad (heard_or r base vlan port t past (advertised read) TpNa (to_client_or_other r base vlan port t past (dhcp_to 546 read))))
     heard_dad (Some target) is =
         heard_if (IsHeard r base vlan port t past read) target TpDad (λ m k t room s. trusted_dad-given m k t room s)
         (λ row. cases.detects target (dad-shown read target is) row)
-        (λ gone. cases.off_link target 0 (inl (dad-shown read target is)) gone (refl, refl, refl))
+        (λ gone. cases.off_link target (inl (dad-shown read target is)) gone (refl, refl, refl))
     heard_dad None is = heard_na (advertised read) refl is
 
   module _ (past : List Mark) (class : Class) (free : guard_of (r.role_of (number_of port)) r.drop_unknown class ≡ None) (on : r.validates ≡ true) where
     validated_is : (c : Class) → class ≡ c → (r.role_of (number_of port) ≢ roles.Trusted) → IsCase r base vlan port t past class (validated r base vlan port t past c)
-    validated_is Runt is host = other free on (subst (IsOtherFrame r base vlan port t) (sym is) tt) (refl, refl, refl)
-    validated_is (Tagged eth) is host = other free on (subst (IsOtherFrame r base vlan port t) (sym is) tt) (refl, refl, refl)
-    validated_is (Other eth) is host = other free on (subst (IsOtherFrame r base vlan port t) (sym is) tt) (refl, refl, refl)
-    validated_is (BadIp eth) is host = other free on (subst (IsOtherFrame r base vlan port t) (sym is) tt) (refl, refl, refl)
+    validated_is Runt is host = other free on (subst IsOtherFrame (sym is) tt) (refl, refl, refl)
+    validated_is (Tagged eth) is host = other free on (subst IsOtherFrame (sym is) tt) (refl, refl, refl)
+    validated_is (Other eth) is host = other free on (subst IsOtherFrame (sym is) tt) (refl, refl, refl)
+    validated_is (BadIp eth) is host = other free on (subst IsOtherFrame (sym is) tt) (refl, refl, refl)
     validated_is (Ip6 eth ip read) is host = by_source eth ip read free on host is (packet_is past ip read)
 
     trusted_is : (c : Class) → class ≡ c → r.role_of (number_of port) ≡ roles.Trusted → IsCase r base vlan port t past class (trusted r base vlan port t past c)
-    trusted_is Runt is host = other free on (subst (IsOtherFrame r base vlan port t) (sym is) tt) (refl, refl, refl)
-    trusted_is (Tagged eth) is host = other free on (subst (IsOtherFrame r base vlan port t) (sym is) tt) (refl, refl, refl)
-    trusted_is (Other eth) is host = other free on (subst (IsOtherFrame r base vlan port t) (sym is) tt) (refl, refl, refl)
-    trusted_is (BadIp eth) is host = other free on (subst (IsOtherFrame r base vlan port t) (sym is) tt) (refl, refl, refl)
+    trusted_is Runt is host = other free on (subst IsOtherFrame (sym is) tt) (refl, refl, refl)
+    trusted_is (Tagged eth) is host = other free on (subst IsOtherFrame (sym is) tt) (refl, refl, refl)
+    trusted_is (Other eth) is host = other free on (subst IsOtherFrame (sym is) tt) (refl, refl, refl)
+    trusted_is (BadIp eth) is host = other free on (subst IsOtherFrame (sym is) tt) (refl, refl, refl)
     trusted_is (Ip6 eth ip read) is host = heard eth ip read free on host is (heard_dad past read (dad_target read) refl)
 
     for_role : (role : Role) → r.role_of (number_of port) ≡ role → IsCase r base vlan port t past class (judged_for r base vlan port t past class role)

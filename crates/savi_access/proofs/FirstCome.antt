@@ -1,5 +1,5 @@
 -- Who came first keeps an address, for frames.
-use Rattle.std.proofs.Common.{◌≡◌, ◌≢◌, ℕ, ◌≤◌, ◌^◌, true, is_some, Some, None, List, [], ◌∷◌, ◌++◌, refl, sym, ap, ◌∙◌, subst, inl, inr, ◌⊎◌}
+use Rattle.std.proofs.Common.{◌≡◌, ◌≢◌, ℕ, ◌≤◌, ◌^◌, true, false, is_some, Some, None, List, [], ◌∷◌, ◌++◌, refl, sym, ap, ◌∙◌, subst, inl, inr, ◌⊎◌}
 use Rattle.savi_kinds.specs.declared.port.Port.{Port}
 use Rattle.savi_kinds.specs.declared.plan.Method.{Method}
 use Rattle.savi_kinds.specs.declared.plan.Role.TheVariants as roles
@@ -12,17 +12,19 @@ use Rattle.fcfs_states.specs.States.{Same}
 use Rattle.mix_rules.specs.States.{IsSoundFor}
 use Rattle.mix_rules.specs.Next.{IsPass}
 use Rattle.mix_rules.proofs.EventLemmas.{one_port}
-use Rattle.bind_table.specs.Rows.{state_in}
-use Rattle.addr_table.specs.Keeps.{IsSoundBy}
-use Rattle.addr_history.specs.Marks.{AreInTurn}
-use Rattle.addr_history.specs.States.{state_at, IsLiveAfter}
-use Rattle.addr_history.specs.FirstCome.{IsKeptOn}
-use Rattle.addr_history.proofs.FirstCome.{keeps}
+use Rattle.savi_access.specs.Rows.{state_in}
+use Rattle.savi_access.specs.Keeps.{IsSoundBy}
+use Rattle.savi_kinds.specs.Orders.{AreInTurn}
+use Rattle.savi_access.specs.NamedMarks.{named_moment}
+use Rattle.savi_access.specs.States.{state_at, IsLiveAfter}
+use Rattle.savi_access.specs.FirstCome.{IsKeptOn}
+use Rattle.savi_access.proofs.AddrFirstCome.{keeps}
 use Rattle.savi_access.specs.Rules.{AccessRules, AccessBase, IsAccessBase}
 use Rattle.savi_access.specs.Marks.{Mark, Told, Asked, Met, told, newest_moment}
 use Rattle.savi_access.specs.Legal.{AreMarks}
 use Rattle.savi_access.specs.Judged.{judged}
 use Rattle.savi_access.specs.Access.{IsLiveHere, HasAccess, IsPermitted}
+use Rattle.savi_access.proofs.Living.{lives_at}
 use Rattle.savi_access.proofs.States.{times, none_some}
 use Rattle.savi_access.proofs.Passing.{accessed}
 
@@ -33,14 +35,14 @@ told-append (Asked vlan request ∷ late) early = told-append late early
 told-append (Met vlan moment tid duid ∷ late) early = told-append late early
 
 module _ (r : AccessRules) (base : AccessBase) (is : IsAccessBase r base) (vlan : ℕ) (q : Port) (t : ℕ) (soon : t ≤ 2 ^ 62) (late early : List Mark) (right : AreMarks r base (late ++ early)) (after : newest_moment base (late ++ early) ≤ t) (own : r.addresses.vlan_of (number_of q) ≡ Some vlan) (on : r.validates ≡ true) (off : r.addresses.method_of vlan 0 ≡ None) (host : r.role_of (number_of q) ≢ roles.Trusted) where
-  pub keeps_first : (eth : Eth) (ip : Ip) (read : Read) (m : Method) → r.addresses.method_of vlan ip.src.0 ≡ Some m → (from t0 : ℕ) → AreInTurn from t0 (told early) → AreInTurn t0 t (told late) → (p : Port) → IsLiveAfter r.addresses base.addresses (told early) t0 vlan ip.src.0 p → ¬ Same q p
+  pub keeps_first : (eth : Eth) (ip : Ip) (read : Read) (m : Method) → r.addresses.method_of vlan ip.src.0 ≡ Some m → (from t0 : ℕ) → AreInTurn named_moment from t0 (told early) → AreInTurn named_moment t0 t (told late) → (p : Port) → IsLiveAfter r.addresses base.addresses (told early) t0 vlan ip.src.0 p → ¬ Same q p
       → IsPass (Some (judged r base vlan q t (late ++ early) (Ip6 eth ip read)).verdict)
       → IsKeptOn r.addresses base.addresses m (told early) t0 (told late) t vlan ip.src.0 p
   keeps_first eth ip read m found from t0 turn_early turn_late p live apart passed =
       keeps r.addresses base.addresses (times r base is vlan q t soon) vlan ip.src.0 m found sound from t0 (told early) (told late) turn_early p live t turn_late
-      (λ lives. apart (one_port_of (live_here (accessed_so.1)) (subst (λ l. IsLiveAfter r.addresses base.addresses l t vlan ip.src.0 p) (sym (told-append late early)) lives)))
+      (λ lives. apart (one_port_of (live_here (accessed_so.1.1)) (subst (λ l. IsLiveAfter r.addresses base.addresses l t vlan ip.src.0 p) (sym (told-append late early)) lives)))
     where
-      accessed_so : HasAccess r base vlan q t (late ++ early) (Ip6 eth ip read)
+      accessed_so : HasAccess r base vlan q t (late ++ early) false (Ip6 eth ip read)
       accessed_so = (accessed r base is vlan q t soon (late ++ early) right after own on off (Ip6 eth ip read) host tt).0 passed
 
       sound : IsSoundFor m (state_in (base.addresses.rows vlan) ip.src.0)
@@ -51,4 +53,4 @@ module _ (r : AccessRules) (base : AccessBase) (is : IsAccessBase r base) (vlan 
       live_here (inr permitted) = absurd (none_some (ap is_some (sym off ∙ ap (λ a. r.addresses.method_of vlan a) (sym permitted.0) ∙ found)))
 
       one_port_of : IsLiveHere r base vlan q t (late ++ early) ip.src.0 → IsLiveAfter r.addresses base.addresses (told (late ++ early)) t vlan ip.src.0 p → Same q p
-      one_port_of here there = one_port (state_at r.addresses base.addresses (told (late ++ early)) t vlan ip.src.0) q p here there
+      one_port_of here there = one_port (state_at r.addresses base.addresses (told (late ++ early)) t vlan ip.src.0) q p ((lives_at (state_at r.addresses base.addresses (told (late ++ early)) t vlan ip.src.0) q).0 here) there

@@ -20,27 +20,27 @@ use Rattle.frame_class.specs.declared.classes.Class.TheVariants.{Runt, Tagged, O
 use Rattle.frame_class.specs.declared.classes.Read.{Read}
 use Rattle.frame_class.specs.declared.classes.Read.TheVariants.{Bad, Hidden, Unknown, Later, Icmp, Udp, Plain}
 use Rattle.ra_guard.specs.GuardOf.{guard_of, is_validating}
-use Rattle.bind_table.specs.declared.row.Row.{Row}
+use Rattle.savi_access.specs.declared.row.Row.{Row}
 use Rattle.savi_kinds.specs.Ports.{number_of}
 use Rattle.fcfs_states.specs.declared.event.Ev.{Ev}
 use Rattle.fcfs_states.specs.declared.event.Ev.TheVariants.{Sent, Dad, Na, TpDad, TpNa, Lease, Release}
 use Rattle.dhcp_states.specs.declared.request.Request.{Request}
 use Rattle.dhcp_states.specs.Requests.{request_of, is_open, has_pair, without_pair, with_request, refusal, asker}
 use Rattle.mix_rules.specs.Premises.{IsLeaseInRange}
-use Rattle.addr_table.specs.Rooms.{port_of, IsFixable}
-use Rattle.addr_history.specs.Legal.{IsOfVlan}
-use Rattle.addr_history.specs.Tables.{rows_at}
+use Rattle.savi_access.specs.Rooms.{port_of, IsFixable}
+use Rattle.savi_access.specs.Limits.{IsOfVlan}
+use Rattle.savi_access.specs.Tables.{rows_at}
 use Rattle.savi_access.specs.Rules.{AccessRules, AccessBase, IsRequestOf, IsAccessBase}
-use Rattle.savi_access.specs.Marks.{Mark, Told, Asked, Met, told, moment_of, newest_moment, requests_after, open_requests}
+use Rattle.savi_access.specs.Marks.{Mark, Told, Asked, Met, told, moment_of, newest_moment, requests_after, open_requests, named_for}
 use Rattle.savi_access.specs.Legal.{Follows, AreMarks, HasFront}
 use Rattle.savi_access.specs.Frames.{HasLifetimes, ShowsLifetimes, AreLifetimes, dad_target, advertised, dhcp_to, is_router_solicitation, is_listener_message, asking_duid, answered_duid, gives_up}
-use Rattle.savi_access.specs.Judged.{Judged, judged, judged_by, judged_for, validated, trusted, heard_or, from_unspecified, unspecified_by, sourced, message, message_by, dhcp_or_other, to_server_by, to_client_or_other, replied, replied_by, asked, asked_by, answered, answered_or, named_for, with_event, with_events, is_on_link, is_passed, comes_to, passes, drops}
+use Rattle.savi_access.specs.Judged.{Judged, judged, judged_by, judged_for, validated, trusted, heard_or, from_unspecified, unspecified_by, sourced, message, message_by, dhcp_or_other, to_server_by, to_client_or_other, replied, replied_by, asked, asked_by, answered, answered_or, with_event, with_events, is_on_link, is_passed, comes_to, passes, drops}
 use Rattle.savi_access.proofs.States.{none_some, true_not_false, told_before}
 
 module _ (r : AccessRules) (base : AccessBase) (is : IsAccessBase r base) (vlan : ℕ) (port : Port) (t : ℕ) (early : t ≤ 2 ^ 62) where
   pub told_follows : (past : List Mark) → AreMarks r base past → newest_moment base past ≤ t → (a : ℕ) (event : Ev) → IsSome (r.addresses.method_of vlan a) → IsLeaseInRange event → IsOfVlan r.addresses vlan (port_of event)
       → IsFixable r.addresses.per_port (rows_at r.addresses base.addresses (told past) t vlan) a event
-      → Follows r base past (Told (named_for r base vlan port t past a event))
+      → Follows r base past (Told (named_for r base vlan t past a event))
   told_follows past right after a event on lease of_vlan fix =
       record {
         order = after;
@@ -148,7 +148,7 @@ module _ (r : AccessRules) (base : AccessBase) (is : IsAccessBase r base) (vlan 
 
   event_right : (past : List Mark) → Right past → (a : ℕ) (event : Ev) → IsSome (r.addresses.method_of vlan a) → IsFree event → Right (with_event r base vlan port t a event past)
   event_right past right a event on free =
-      longer (Told (named_for r base vlan port t past a event)) past refl right
+      longer (Told (named_for r base vlan t past a event)) past refl right
       (told_follows r base is vlan port t early past right.legal right.last a event on free.lease free.of_vlan (free.fix (rows_at r.addresses base.addresses (told past) t vlan) a))
 
   or_right : (past : List Mark) (o : Option Method) (rule : Rule) (x : Judged) → (IsSome o → Right x.marks) → Right past → Right (if is_some o then x else drops rule past).marks

@@ -300,10 +300,12 @@ module _ (r : AccessRules) (base : AccessBase) (is : IsAccessBase r base) (vlan 
     bad_stops (Some rule) eth first host passed = passed
     bad_stops None eth first host passed = first BadIpv6 (host, tt)
 
-    pub accessed : (class : Class) → r.role_of (number_of port) ≢ roles.Trusted → IsIpv6 class → (Passes (judged r base vlan port t past class) ↔ HasAccess r base vlan port t past class)
+    pub accessed : (class : Class) → r.role_of (number_of port) ≢ roles.Trusted → IsIpv6 class → (Passes (judged r base vlan port t past class) ↔ HasAccess r base vlan port t past false class)
     unfolding judged
     accessed Runt host ipv6 = absurd ipv6
     accessed (Tagged eth) host ipv6 = absurd ipv6
     accessed (Other eth) host ipv6 = absurd ipv6
     accessed (BadIp eth) host ipv6 = (λ passed. bad_stops (guard_of (r.role_of (number_of port)) r.drop_unknown (BadIp eth)) eth (guard_is (r.role_of (number_of port)) r.drop_unknown (BadIp eth)) host passed, λ never. absurd never)
-    accessed (Ip6 eth ip read) host ipv6 = by_guard (guard_of (r.role_of (number_of port)) r.drop_unknown (Ip6 eth ip read)) eth ip read host
+    accessed (Ip6 eth ip read) host ipv6 =
+        let is_so = by_guard (guard_of (r.role_of (number_of port)) r.drop_unknown (Ip6 eth ip read)) eth ip read host in
+        (λ passed. (refl, is_so.0 passed), λ has. is_so.1 has.1)

@@ -4,6 +4,8 @@ use Rattle.std.specs.Prelude.{All}
 use Rattle.std.specs.List.{list_any}
 use Rattle.std.proofs.lemmas.Bool.{false≢true, cases_Bool}
 use Rattle.std.proofs.lemmas.List.Elements.{All-nil, All-head, All-tail}
+use Rattle.savi_kinds.proofs.Orders.{rising-none}
+use Rattle.savi_access.specs.Rows.{address_of}
 use Rattle.savi_kinds.specs.declared.plan.Plan.{Plan}
 use Rattle.savi_kinds.specs.declared.plan.PortPlan.{PortPlan}
 use Rattle.savi_kinds.specs.declared.plan.PrefixPlan.{PrefixPlan}
@@ -14,9 +16,9 @@ use Rattle.savi_kinds.specs.ValidPlan.{IsValidPlan, numbers_of, nets_of, IsPlanP
 use Rattle.nd_read.specs.InPrefix.{lies_in}
 use Rattle.nd_read.proofs.InPrefix.{Decides-lies_in}
 use Rattle.fcfs_states.specs.Premises.{AreTimes}
-use Rattle.addr_history.specs.Bases.{AddrRules, no_states}
-use Rattle.addr_history.specs.Legal.{IsAddrBase}
-use Rattle.addr_history.proofs.StatesKept.{nobody-kept}
+use Rattle.savi_access.specs.Bases.{AddrRules, no_states}
+use Rattle.savi_access.specs.Limits.{IsAddrBase}
+use Rattle.savi_access.proofs.StatesKept.{nobody-kept}
 use Rattle.savi_access.specs.Rules.{IsRequestOf, HasHostPorts, IsAccessBase, nothing_yet}
 use Rattle.savi_access.specs.Plans.{times_of, has_port, vlan_by, vlan_among, role_among, role_of, method_among, method_in, rules_of}
 use Rattle.savi_access.proofs.States.{none_some}
@@ -33,7 +35,7 @@ plan_times plan valid = record {
 no_states_base : (r : AddrRules) → AreTimes r.times → IsAddrBase r no_states
 no_states_base r times = record {
   early = omega arith;
-  kept = λ vlan. record { table = record { rising = tt; stand = tt }; times = times; fit = λ a. (nobody-kept r.times times (r.method_of vlan a) 0).fits; within = λ port. omega arith };
+  kept = λ vlan. record { table = record { rising = rising-none address_of; stand = tt }; times = times; fit = λ a. (nobody-kept r.times times (r.method_of vlan a) 0).fits; within = λ port. omega arith };
   ports = λ vlan a port held. absurd (false≢true held);
   sound = λ vlan a. (nobody-kept r.times times (r.method_of vlan a) 0).sound;
   still = λ vlan a. (nobody-kept r.times times (r.method_of vlan a) 0).still;

@@ -1,19 +1,25 @@
--- Which packets of a host pass: those that no rule on messages stops, and whose source is live at the port or which a named
--- exception permits. All of it is read before what the packet itself tells.
-use Rattle.std.specs.Prelude.{ℕ, ◌≡◌, ◌⊎◌, IsSome, IsSomeAnd, IsTrue, List}
+-- Which packets of a host pass: those that come in at a port that isn't shut, that no rule on messages stops, and whose
+-- source is live at the port or which a named exception permits. All of it is read before what the packet itself tells.
+use Rattle.std.specs.Prelude.{ℕ, ◌≡◌, ◌⊎◌, Bool, false, Option, Some, None, IsSome, IsSomeAnd, IsTrue, List}
 use Rattle.savi_kinds.specs.declared.port.Port.{Port}
 use Rattle.savi_kinds.specs.Ports.{number_of}
+use Rattle.eth_frame.specs.declared.header.Eth.{Eth}
 use Rattle.v6_chain.specs.declared.packet.Ip.{Ip}
 use Rattle.frame_class.specs.declared.classes.Class.{Class}
 use Rattle.frame_class.specs.declared.classes.Class.TheVariants.{BadIp, Ip6}
 use Rattle.frame_class.specs.declared.classes.Read.{Read}
 use Rattle.ra_guard.specs.GuardOf.{guard_of}
 use Rattle.fcfs_states.specs.declared.event.Ev.TheVariants.{Dad}
+use Rattle.fcfs_states.specs.declared.state.Fcfs.{Fcfs}
+use Rattle.fcfs_states.specs.declared.state.Fcfs.TheVariants.{NoBind, Tentative, Valid, TestLt, TestVp}
+use Rattle.fcfs_states.specs.States.{Same}
+use Rattle.dhcp_states.specs.declared.bound.Bound.{Bound}
 use Rattle.dhcp_states.specs.Requests.{refusal}
+use Rattle.mix_rules.specs.declared.state.AddrState.{AddrState}
 use Rattle.mix_rules.specs.Next.{IsPassing}
-use Rattle.addr_history.specs.States.{IsLiveAfter}
 use Rattle.savi_access.specs.Rules.{AccessRules, AccessBase}
 use Rattle.savi_access.specs.Marks.{Mark, told, open_requests}
+use Rattle.savi_access.specs.States.{state_at}
 use Rattle.savi_access.specs.Frames.{dad_target, advertised, is_router_solicitation, is_listener_message, dhcp_to, asking_duid}
 use Rattle.savi_access.specs.Judged.{answer_to}
 
@@ -23,13 +29,31 @@ IsIpv6 (BadIp eth) = Unit {0}
 IsIpv6 (Ip6 eth ip read) = Unit {0}
 IsIpv6 _ = ⊥
 
+-- by first come the port is the holder: the address is bound to it, or under a test as bound to it (RFC 6620 section 3.2)
+abbrev pub IsHolder : Fcfs → Port → Type 0
+IsHolder (Valid holder until) port = Same holder port
+IsHolder (TestLt holder since two) port = Same holder port
+IsHolder (TestVp holder claimant since two) port = Same holder port
+IsHolder (Tentative claimant since two) port = ⊥
+IsHolder NoBind port = ⊥
+
+-- an address is live at the port: it is fixed there; or it isn't fixed, and is bound there by DHCP; or it is neither, and
+-- the port is its holder by first come
+abbrev pub LivesBy : Option Port → Option Bound → Fcfs → Port → Type 0
+LivesBy (Some fixed) dhcp fcfs port = Same fixed port
+LivesBy None (Some bound) fcfs port = Same bound.p port
+LivesBy None None fcfs port = IsHolder fcfs port
+
+abbrev pub LivesAt : AddrState → Port → Type 0
+LivesAt state port = LivesBy state.fixed state.dhcp state.fcfs port
+
 -- at this port in this VLAN, at moment t, after these marks
 module _ (r : AccessRules) (base : AccessBase) (vlan : ℕ) (port : Port) (t : ℕ) (past : List Mark) where
-  -- the address is live at the port
+  -- the address is live here
   abbrev pub IsLiveHere : ℕ → Type 0
-  IsLiveHere a = IsLiveAfter r.addresses base.addresses (told past) t vlan a port
+  IsLiveHere a = LivesAt (state_at r.addresses base.addresses (told past) t vlan a) port
 
-  -- it advertises an address that isn't live at the port
+  -- the packet advertises an address that isn't live here
   abbrev pub AdvertisesOther : Read → Type 0
   AdvertisesOther read = IsSomeAnd (advertised read) (λ target. ¬ IsLiveHere target)
 
@@ -42,9 +66,10 @@ module _ (r : AccessRules) (base : AccessBase) (vlan : ℕ) (port : Port) (t : �
       IsSome (refusal (number_of port) dhcp.tid duid.items (open_requests base vlan past t))))
 
   -- a rule on messages stops it
-  abbrev pub IsStopped : Class → Read → Type 0
-  IsStopped class read =
-      IsSome (guard_of (r.role_of (number_of port)) r.drop_unknown class) ⊎ (AdvertisesOther read ⊎ IsRefusedRequest read)
+  abbrev pub IsStopped : Eth → Ip → Read → Type 0
+  IsStopped eth ip read =
+      IsSome (guard_of (r.role_of (number_of port)) r.drop_unknown (Ip6 eth ip read))
+      ⊎ (AdvertisesOther read ⊎ IsRefusedRequest read)
 
   -- duplicate address detection of an on-link address, which its row of the state tables lets pass
   abbrev pub MayDetect : Read → Type 0
@@ -58,7 +83,8 @@ module _ (r : AccessRules) (base : AccessBase) (vlan : ℕ) (port : Port) (t : �
   IsPermitted ip read =
       (ip.src.0 ≡ 0) × (MayDetect read ⊎ (IsTrue (is_router_solicitation read) ⊎ IsTrue (is_listener_message ip read)))
 
-  -- a packet of IPv6 that may pass
-  abbrev pub HasAccess : Class → Type 0
-  HasAccess (Ip6 eth ip read) = (¬ IsStopped (Ip6 eth ip read) read) × (IsLiveHere ip.src.0 ⊎ IsPermitted ip read)
-  HasAccess _ = ⊥
+  -- a packet of IPv6 that may pass, at the port that is shut or not
+  abbrev pub HasAccess : Bool → Class → Type 0
+  HasAccess shut (Ip6 eth ip read) =
+      (shut ≡ false) × ((¬ IsStopped eth ip read) × (IsLiveHere ip.src.0 ⊎ IsPermitted ip read))
+  HasAccess shut _ = ⊥

@@ -6,7 +6,7 @@ use Rattle.savi_kinds.specs.declared.port.Port.{Port}
 use Rattle.savi_kinds.specs.declared.plan.Role.TheVariants as roles
 use Rattle.savi_kinds.specs.declared.plan.Role.{Role}
 use Rattle.savi_kinds.specs.declared.verdict.Rule.{Rule}
-use Rattle.savi_kinds.specs.declared.verdict.Rule.TheVariants.{UnspecifiedSource, OffLink, NaTarget}
+use Rattle.savi_kinds.specs.declared.verdict.Rule.TheVariants.{UnspecifiedSource, OffLink, Unverified, NaTarget}
 use Rattle.savi_kinds.specs.declared.verdict.Scope.TheVariants.{All, TrustedOnly}
 use Rattle.savi_kinds.specs.declared.verdict.Verdict.{Verdict}
 use Rattle.savi_kinds.specs.declared.verdict.Verdict.TheVariants.{Pass, Drop}
@@ -22,13 +22,10 @@ use Rattle.fcfs_states.specs.declared.answer.Answer.{Answer}
 use Rattle.fcfs_states.specs.declared.event.Ev.{Ev}
 use Rattle.fcfs_states.specs.declared.event.Ev.TheVariants.{Sent, Dad, Na, TpDad, TpNa, Lease, Release}
 use Rattle.dhcp_states.specs.Requests.{request_of, refusal, asker}
-use Rattle.addr_table.specs.declared.sent.SentProbe.{SentProbe}
-use Rattle.addr_table.specs.Rooms.{room_for}
-use Rattle.addr_history.specs.Marks.{Named}
-use Rattle.addr_history.specs.States.{answer_at}
-use Rattle.addr_history.specs.Tables.{rows_at}
+use Rattle.savi_access.specs.declared.sent.SentProbe.{SentProbe}
+use Rattle.savi_access.specs.States.{answer_at}
 use Rattle.savi_access.specs.Rules.{AccessRules, AccessBase}
-use Rattle.savi_access.specs.Marks.{Mark, Told, Asked, Met, told, open_requests}
+use Rattle.savi_access.specs.Marks.{Mark, Told, Asked, Met, told, named_for, open_requests}
 use Rattle.savi_access.specs.Frames.{dad_target, advertised, is_router_solicitation, is_listener_message, dhcp_to, asking_duid, answered_duid, gives_up}
 
 pub record Judged : Type 0 where
@@ -61,26 +58,17 @@ module _ (r : AccessRules) (base : AccessBase) (vlan : ℕ) (port : Port) (t : �
   abbrev pub is_on_link : ℕ → Bool
   is_on_link a = is_some (r.addresses.method_of vlan a)
 
-  -- an event on an address after these marks, with the room that its port has before it
-  abbrev pub named_for : List Mark → ℕ → Ev → Named
-  named_for past a event = record {
-    vlan = vlan;
-    address = a;
-    moment = t;
-    event = event;
-    room = room_for r.addresses.per_port (rows_at r.addresses base.addresses (told past) t vlan) event;
-  }
-
   abbrev pub answer_to : List Mark → ℕ → Ev → Answer
-  answer_to past a event = answer_at r.addresses base.addresses (told past) (named_for past a event)
+  answer_to past a event = answer_at r.addresses base.addresses (told past) (named_for r base vlan t past a event)
 
   abbrev pub with_event : ℕ → Ev → List Mark → List Mark
-  with_event a event past = Told (named_for past a event) ∷ past
+  with_event a event past = Told (named_for r base vlan t past a event) ∷ past
 
-  -- the event is answered by its row of the state tables
+  -- the event is answered by its row of the state tables: each event of a frame has one with a verdict, and nothing would pass
+  -- without
   abbrev pub answered : List Mark → ℕ → Ev → Judged
   answered past a event = record {
-    verdict = unwrap_or (answer_to past a event).verdict (Pass All);
+    verdict = unwrap_or (answer_to past a event).verdict (Drop Unverified);
     marks = with_event a event past;
     probe = option_map (λ probe. record { due = t; address = record { 0 = a }; probe = probe }) (answer_to past a event).probe;
   }

@@ -2,7 +2,7 @@
 use Rattle.std.specs.Prelude.{ℕ, ◌≡◌, ◌≤◌, ◌^◌, IsSome, Some, None, List, [], ◌∷◌, ◌++◌, All}
 use Rattle.savi_kinds.specs.Ports.{number_of}
 use Rattle.dhcp_states.specs.Requests.{refusal, asker}
-use Rattle.addr_history.specs.Legal.{MayFollow as MayBeTold}
+use Rattle.savi_access.specs.Limits.{MayFollow as MayBeTold}
 use Rattle.savi_access.specs.Rules.{AccessRules, AccessBase}
 use Rattle.savi_access.specs.Marks.{Mark, Told, Asked, Met, told, moment_of, newest_moment, open_requests}
 

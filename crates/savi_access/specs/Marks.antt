@@ -1,10 +1,13 @@
 -- What happened, as a list of marks, the newest first: to addresses, and to the requests of DHCPv6 clients (RFC 7513
 -- section 6).
 use Rattle.std.specs.Prelude.{ℕ, ◌==◌, if◌then◌else◌, List, [], ◌∷◌}
+use Rattle.fcfs_states.specs.declared.event.Ev.{Ev}
 use Rattle.dhcp_states.specs.declared.request.Request.{Request}
 use Rattle.dhcp_states.specs.Requests.{open_at, with_request, without_pair}
-use Rattle.addr_history.specs.Marks.{Named}
-use Rattle.addr_history.specs.Legal.{base_at as addr_base_at}
+use Rattle.savi_access.specs.NamedMarks.{Named}
+use Rattle.savi_access.specs.Rooms.{room_for}
+use Rattle.savi_access.specs.Tables.{rows_at}
+use Rattle.savi_access.specs.Limits.{base_at as addr_base_at}
 use Rattle.savi_access.specs.Rules.{AccessRules, AccessBase}
 
 pub data Mark : Type 0 where
@@ -26,6 +29,17 @@ abbrev pub moment_of : Mark → ℕ
 moment_of (Told named) = named.moment
 moment_of (Asked vlan request) = request.opened
 moment_of (Met vlan moment tid duid) = moment
+
+-- the mark of an event on an address of a VLAN at moment t, after these: with it stands whether the event's port had room
+-- before it
+abbrev pub named_for : AccessRules → AccessBase → ℕ → ℕ → List Mark → ℕ → Ev → Named
+named_for r base vlan t past a event = record {
+  vlan = vlan;
+  address = a;
+  moment = t;
+  event = event;
+  room = room_for r.addresses.per_port (rows_at r.addresses base.addresses (told past) t vlan) event;
+}
 
 -- the moment of the newest mark, or of what came before all of them
 abbrev pub newest_moment : AccessBase → List Mark → ℕ

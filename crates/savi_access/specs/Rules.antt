@@ -5,8 +5,8 @@ use Rattle.savi_kinds.specs.declared.plan.Role.TheVariants.{Trusted}
 use Rattle.savi_kinds.specs.Ports.{number_of}
 use Rattle.dhcp_states.specs.declared.request.Request.{Request}
 use Rattle.dhcp_states.specs.Limits.{IsWithinLimits}
-use Rattle.addr_history.specs.Bases.{AddrRules, AddrBase, no_states}
-use Rattle.addr_history.specs.Legal.{IsAddrBase}
+use Rattle.savi_access.specs.Bases.{AddrRules, AddrBase, no_states}
+use Rattle.savi_access.specs.Limits.{IsAddrBase}
 
 pub record AccessRules : Type 0 where
   -- how addresses are assigned, by which times they age, what a port may hold

@@ -17,30 +17,39 @@ ghost use Rattle.frame_class.specs.declared.classes.Read.{Read};
 ghost use Rattle.ra_guard.specs.GuardOf.{guard_of};
 ghost use Rattle.dhcp_states.specs.Limits.{IsWithinLimits};
 ghost use Rattle.fcfs_states.specs.States.{Same};
+ghost use Rattle.mix_rules.specs.declared.state.AddrState.{AddrState};
+ghost use Rattle.mix_rules.specs.States.{IsLiveAt};
 ghost use Rattle.mix_rules.specs.Next.{IsPass};
-ghost use Rattle.addr_history.specs.Marks.{AreInTurn};
-ghost use Rattle.addr_history.specs.States.{IsLiveAfter};
-ghost use Rattle.addr_history.specs.FirstCome.{IsKeptOn};
+ghost use Rattle.savi_kinds.specs.Orders.{AreInTurn};
+ghost use Rattle.savi_access.specs.Bases.{AreTables};
+ghost use Rattle.savi_access.specs.NamedMarks.{named_moment};
+ghost use Rattle.savi_access.specs.States.{IsLiveAfter};
+ghost use Rattle.savi_access.specs.FirstCome.{IsKeptOn};
 ghost use Rattle.savi_access.specs.Rules.{AccessRules, AccessBase, HasHostPorts, IsAccessBase, nothing_yet};
 ghost use Rattle.savi_access.specs.Marks.{Mark, told, newest_moment, open_requests, base_at};
 ghost use Rattle.savi_access.specs.Frames.{AreLifetimes};
 ghost use Rattle.savi_access.specs.Legal.{AreMarks, HasFront};
 ghost use Rattle.savi_access.specs.Judged.{judged, judged_without};
-ghost use Rattle.savi_access.specs.Cases.{IsCase};
-ghost use Rattle.savi_access.specs.Access.{IsIpv6, HasAccess};
+ghost use Rattle.savi_access.specs.Cases.{IsCase, MeetsOneCase};
+ghost use Rattle.savi_access.specs.Access.{LivesAt, IsIpv6, HasAccess};
 ghost use Rattle.savi_access.specs.Plans.{rules_of, has_port};
 ghost use Rattle.fcfs_states.specs.Premises.{AreTimes};
 
-use addr_history::states_stay_a_base;
+use crate::address_laws::states_stay_a_base;
 
-/// A packet at the port of a host or a server passes exactly where no rule on messages stops it and its source is live at
-/// the port, or a named exception permits it. The port is of the packet's VLAN, and `::` isn't on-link.
+/// A packet at a port of a host or a server that isn't shut passes exactly where no rule on messages stops it and its source
+/// is live at the port, or a named exception permits it. The port is of the packet's VLAN, and `::` isn't on-link.
 pub fn a_packet_passes_where_its_source_is_live()
     ensures { (r : AccessRules) (base : AccessBase) (vlan : ℕ) (port : Port) (t : ℕ) (past : List Mark) (class : Class)
         → IsAccessBase r base → AreMarks r base past → newest_moment base past ≤ t → t ≤ 2 ^ 62
         → r.validates ≡ true → r.role_of (number_of port) ≢ Trusted → r.addresses.vlan_of (number_of port) ≡ Some vlan
         → r.addresses.method_of vlan 0 ≡ None → IsIpv6 class
-        → (IsPass (Some (judged r base vlan port t past class).verdict) ↔ HasAccess r base vlan port t past class) }
+        → (IsPass (Some (judged r base vlan port t past class).verdict) ↔ HasAccess r base vlan port t past false class) }
+{}
+
+/// An address lives where `AddrState::live` of `mix_rules` answers that it is live.
+pub fn an_address_lives_where_it_is_live()
+    ensures { (state : AddrState) (port : Port) → (LivesAt state port ↔ IsLiveAt state port) }
 {}
 
 /// First come, first served, for frames. An address that was live at a port, after `early` at t0, and from which a packet
@@ -52,17 +61,26 @@ pub fn frames_keep_who_came_first()
         → IsAccessBase r base → AreMarks r base (late ++ early) → newest_moment base (late ++ early) ≤ t → t ≤ 2 ^ 62
         → r.validates ≡ true → r.role_of (number_of q) ≢ Trusted → r.addresses.vlan_of (number_of q) ≡ Some vlan
         → r.addresses.method_of vlan 0 ≡ None → r.addresses.method_of vlan ip.src.0 ≡ Some m
-        → AreInTurn from t0 (told early) → AreInTurn t0 t (told late)
+        → AreInTurn named_moment from t0 (told early) → AreInTurn named_moment t0 t (told late)
         → IsLiveAfter r.addresses base.addresses (told early) t0 vlan ip.src.0 p → ¬ Same q p
         → IsPass (Some (judged r base vlan q t (late ++ early) (Ip6 eth ip read)).verdict)
         → IsKeptOn r.addresses base.addresses m (told early) t0 (told late) t vlan ip.src.0 p }
 {}
 
 /// Each frame comes to the case that it meets, with its verdict, its scope, all that it tells and the probe that it causes.
-/// The cases are stated by what stands in its packet.
+/// The cases are stated by what stands in its packet, and by the states of addresses. Each event of a frame has a row with a
+/// verdict.
 pub fn a_frame_comes_to_its_case()
     ensures { (r : AccessRules) (base : AccessBase) (vlan : ℕ) (port : Port) (t : ℕ) (past : List Mark) (class : Class)
+        → AreTimes r.addresses.times → AreTables base.addresses
         → IsCase r base vlan port t past class (judged r base vlan port t past class) }
+{}
+
+/// Two cases of one frame are the same: the cases leave nothing open.
+pub fn a_frame_meets_one_case()
+    ensures { (r : AccessRules) (base : AccessBase) (vlan : ℕ) (port : Port) (t : ℕ) (past : List Mark) (class : Class)
+        → AreTimes r.addresses.times → AreTables base.addresses
+        → MeetsOneCase r base vlan port t past class }
 {}
 
 /// The rules of a valid plan are such as the other laws want: its start is within the limits, each of its ports whose

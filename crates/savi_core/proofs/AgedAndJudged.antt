@@ -1,5 +1,5 @@
 -- What a judgement, or an ageing, leaves behind a history that a core remembers.
-use Rattle.std.proofs.Common.{◌≡◌, ℕ, ◌≤◌, ◌^◌, Bool, ◌∙◌, List, [], ◌++◌, map, sym, ap, subst, arith}
+use Rattle.std.proofs.Common.{◌≡◌, ℕ, ◌≤◌, ◌^◌, Bool, ◌∙◌, List, ◌++◌, map, sym, ap, subst, arith}
 use Rattle.std.specs.Prelude.{reverse}
 use Rattle.savi_kinds.specs.declared.plan.Plan.{Plan}
 use Rattle.savi_kinds.specs.declared.port.Port.{Port}
@@ -9,7 +9,7 @@ use Rattle.frame_class.specs.declared.classes.Class.{Class}
 use Rattle.frame_class.specs.Reading.{IsClassOf}
 use Rattle.frame_class.specs.ClassOf.{class_of}
 use Rattle.frame_class.proofs.ClassIs.{class_only}
-use Rattle.addr_table.specs.declared.sent.SentProbe.{SentProbe}
+use Rattle.savi_access.specs.declared.sent.SentProbe.{SentProbe}
 use Rattle.savi_access.specs.Rules.{AccessBase}
 use Rattle.savi_access.specs.Marks.{Mark}
 use Rattle.savi_access.specs.Plans.{rules_of}
@@ -62,16 +62,16 @@ module _ {k : CoreState} (was : Remembers k) (table : Table) (tells : Tells k.pl
   start : uncounted rings ≡ record { lanes = k.lanes; shut = k.shut; queued = 0; lost = 0 }
   start = ap (λ (lanes : List (Lane Queued)). record { lanes = lanes; shut = rings.shut; queued = 0; lost = 0 }) lanes_are ∙ ap (λ (shut : PortSet). record { lanes = k.lanes; shut = shut; queued = 0; lost = 0 }) shut_are
 
-  shut_is : shut_in rings.shut ≡ shut_by k.base (reverse k.rows)
+  shut_is : shut_in rings.shut ≡ shut_by k.plan k.base (reverse k.rows)
   shut_is = ap shut_in shut_are ∙ was.shut_ports
 
   later : last_moment k.base (reverse k.rows) ≤ moment_at k.base (reverse k.rows) stamp
   later = omega arith
 
   module _ (port : Port) (octets : List ℕ) (class : Class) (class_is : IsClassOf octets class) (verdict : Verdict) (fact : Judges (rules_of k.plan) k.moment t (shut_in rings.shut (number_of port)) port class table' rings rings' verdict (access_of k.base) (marks k.plan k.base (reverse k.rows))) where
-    exact : Judges (rules_of k.plan) (last_moment k.base (reverse k.rows)) (moment_at k.base (reverse k.rows) stamp) (is_shut k.base (number_of port) (reverse k.rows)) port (class_of octets) table' rings rings' verdict (access_of k.base) (marks k.plan k.base (reverse k.rows))
+    exact : Judges (rules_of k.plan) (last_moment k.base (reverse k.rows)) (moment_at k.base (reverse k.rows) stamp) (is_shut k.plan k.base (number_of port) (reverse k.rows)) port (class_of octets) table' rings rings' verdict (access_of k.base) (marks k.plan k.base (reverse k.rows))
     exact =
-        subst (λ (cl : Class). Judges (rules_of k.plan) (last_moment k.base (reverse k.rows)) (moment_at k.base (reverse k.rows) stamp) (is_shut k.base (number_of port) (reverse k.rows)) port cl table' rings rings' verdict (access_of k.base) (marks k.plan k.base (reverse k.rows))) (class_only octets class class_is)
+        subst (λ (cl : Class). Judges (rules_of k.plan) (last_moment k.base (reverse k.rows)) (moment_at k.base (reverse k.rows) stamp) (is_shut k.plan k.base (number_of port) (reverse k.rows)) port cl table' rings rings' verdict (access_of k.base) (marks k.plan k.base (reverse k.rows))) (class_only octets class class_is)
         (subst (λ (shut : ℕ → Bool). Judges (rules_of k.plan) (last_moment k.base (reverse k.rows)) (moment_at k.base (reverse k.rows) stamp) (shut (number_of port)) port class table' rings rings' verdict (access_of k.base) (marks k.plan k.base (reverse k.rows))) shut_is
         (subst (λ (at : ℕ). Judges (rules_of k.plan) (last_moment k.base (reverse k.rows)) at (shut_in rings.shut (number_of port)) port class table' rings rings' verdict (access_of k.base) (marks k.plan k.base (reverse k.rows))) moment_is
         (subst (λ (from : ℕ). Judges (rules_of k.plan) from t (shut_in rings.shut (number_of port)) port class table' rings rings' verdict (access_of k.base) (marks k.plan k.base (reverse k.rows))) was.last fact)))

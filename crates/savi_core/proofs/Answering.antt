@@ -1,5 +1,5 @@
 -- What the newest entry of a history is answered, by what a core keeps.
-use Rattle.std.proofs.Common.{ℕ, suc, ◌≡◌, ◌+◌, ◌-◌, ◌<◌, ◌≤◌, Bool, true, List, [], ◌∷◌, ◌++◌, length, map, get_or, Option, Some, None, Result, Ok, inl, inr, refl, sym, ap, subst, ◌∙◌, arith}
+use Rattle.std.proofs.Common.{ℕ, suc, ◌≡◌, ◌+◌, ◌-◌, ◌<◌, Bool, true, List, [], ◌∷◌, ◌++◌, length, map, get_or, Option, Some, None, Result, Ok, inl, inr, refl, sym, ap, subst, ◌∙◌, arith}
 use Rattle.std.specs.Prelude.{reverse, IsSomeAnd}
 use Rattle.std.specs.List.{slice_get}
 use Rattle.std.proofs.lemmas.Option.{slice_get_cases}
@@ -13,7 +13,7 @@ use Rattle.savi_kinds.specs.declared.entry.Act.{Act}
 use Rattle.savi_kinds.specs.declared.entry.Act.TheVariants as acts
 use Rattle.savi_kinds.specs.Ports.{number_of}
 use Rattle.dhcp_states.specs.Requests.{open_at, requests_at_port}
-use Rattle.bind_table.specs.Rows.{count_at}
+use Rattle.savi_access.specs.Rows.{count_at}
 use Rattle.bridge_fdb.specs.declared.station.Station.{Station}
 use Rattle.bridge_fdb.specs.Stations.{live_at, station_told}
 use Rattle.cli_lang.specs.declared.kinds.Command.{Command}
@@ -41,7 +41,6 @@ use Rattle.savi_history.specs.Stations.{stations}
 use Rattle.savi_history.specs.Shown.{port_row, reply_to, reply_unless, shown, counts_of}
 use Rattle.savi_core.specs.Knows.{Knows}
 use Rattle.savi_core.specs.Lanes.{Lane, no_lane}
-use Rattle.savi_core.specs.Machines.{Machine, base_of}
 use Rattle.savi_core.specs.Refused.{IsCommand, EndsWithCommand, IsRefusalBy, IsRefusal}
 use Rattle.savi_core.specs.Remembers.{CoreState, Remembers}
 use Rattle.savi_core.specs.Rings.{Rings, shut_in}

@@ -3,7 +3,6 @@ use Rattle.std.proofs.Common.{ℕ, ◌≡◌, Bool, List, [], length, Option, So
 use Rattle.savi_kinds.specs.PortSets.{no_ports}
 use Rattle.savi_kinds.specs.declared.plan.Role.{Role}
 use Rattle.savi_kinds.specs.declared.verdict.Rule.{Rule}
-use Rattle.savi_kinds.specs.declared.verdict.Rule.TheVariants.{Malformed}
 use Rattle.frame_class.specs.declared.classes.Class.{Class}
 use Rattle.frame_class.specs.Reading.{IsClassOf}
 use Rattle.frame_class.specs.ClassOf.{class_of}
@@ -14,7 +13,6 @@ use Rattle.ra_guard.proofs.RuleOf.{guard_only}
 use Rattle.savi_kinds.specs.declared.port.Port.{Port}
 use Rattle.savi_kinds.specs.declared.port.PortSet.{PortSet}
 use Rattle.savi_kinds.specs.declared.verdict.Verdict.{Verdict}
-use Rattle.savi_kinds.specs.declared.verdict.Verdict.TheVariants.{Drop}
 use Rattle.savi_kinds.specs.declared.entry.Entry.{Entry}
 use Rattle.savi_kinds.specs.declared.entry.Act.{Act}
 use Rattle.savi_kinds.specs.declared.entry.Act.TheVariants as acts
@@ -51,7 +49,7 @@ frame_entry_is m port stamp octets by moment act verdict out cut queued missed b
     cc (by_is, moment_is, act_is, verdict_is, goes, left_out, queued_is, missed_is)
 
 -- so is the entry of a frame that is too long
-pub long_entry_is : (m : Machine) (port : Port) (stamp len by moment : ℕ) (verdict : Verdict) (queued missed : ℕ) → by ≡ pass_of m.plan (Ingress port) → moment ≡ moment_at (base_of m) m.past stamp → verdict ≡ judged_long (base_of m) m.past port
+pub long_entry_is : (m : Machine) (port : Port) (stamp len by moment : ℕ) (verdict : Verdict) (queued missed : ℕ) → by ≡ pass_of m.plan (Ingress port) → moment ≡ moment_at (base_of m) m.past stamp → verdict ≡ judged_long m.plan (base_of m) m.past port
     → queued ≡ probes m.plan (base_of m) m.past (acts.Long port stamp len) [] → missed ≡ lost m.plan (base_of m) m.past (acts.Long port stamp len) [] → long_made port stamp len by moment verdict queued missed ≡ entry_of m (events.Long port stamp len)
 long_entry_is m port stamp len by moment verdict queued missed by_is moment_is verdict_is queued_is missed_is = cc (by_is, moment_is, verdict_is, queued_is, missed_is)
 

@@ -7,7 +7,7 @@ use Rattle.savi_kinds.specs.declared.address.Mac.{Mac}
 use Rattle.savi_kinds.specs.declared.plan.Plan.{Plan}
 use Rattle.savi_kinds.specs.declared.entry.Act.{Act}
 use Rattle.savi_kinds.specs.ValidPlan.{IsValidPlan, numbers_of}
-use Rattle.addr_table.specs.declared.sent.SentProbe.{SentProbe}
+use Rattle.savi_access.specs.declared.sent.SentProbe.{SentProbe}
 use Rattle.egress_ring.specs.declared.item.Item.{Item as Queued}
 use Rattle.hist_store.specs.Rows.{Row}
 use Rattle.savi_history.specs.Bases.{Base}
@@ -169,12 +169,12 @@ module _ (plan : Plan) (base : Base) (past : List Row) (act : Act) (octets : Lis
   few_lost short [] = omega arith
   few_lost short (n ∷ ns) = omega (arith, few_lost short ns, short, few_coming n)
 
-  module _ (rows : List Row) (sents : List SentProbe) (rings : Rings) (shut_is : shut_in rings.shut ≡ shut_by base past) (came : map offer_of sents ≡ offers plan base past act octets) (was : Show plan rows rings.lanes (lane_of plan base past)) where
-    coming_by : (ns : List ℕ) → offered (shut_by base past) sents (map (lane_of plan base past) ns) ≡ over_ports ns coming
+  module _ (rows : List Row) (sents : List SentProbe) (rings : Rings) (shut_is : shut_in rings.shut ≡ shut_by plan base past) (came : map offer_of sents ≡ offers plan base past act octets) (was : Show plan rows rings.lanes (lane_of plan base past)) where
+    coming_by : (ns : List ℕ) → offered (shut_by plan base past) sents (map (lane_of plan base past) ns) ≡ over_ports ns coming
     coming_by [] = refl
     coming_by (n ∷ ns) =
-        let mine : length (map (probe_shown plan.mac) (sent_to (shut_by base past) sents (lane_of plan base past n))) ≡ coming n = ap (λ (items : List Item). length items) (offered_is plan base past n act octets sents came) in
-        omega (arith, coming_by ns, mine, length-map (sent_to (shut_by base past) sents (lane_of plan base past n)) (probe_shown plan.mac))
+        let mine : length (map (probe_shown plan.mac) (sent_to (shut_by plan base past) sents (lane_of plan base past n))) ≡ coming n = ap (λ (items : List Item). length items) (offered_is plan base past n act octets sents came) in
+        omega (arith, coming_by ns, mine, length-map (sent_to (shut_by plan base past) sents (lane_of plan base past n)) (probe_shown plan.mac))
 
     coming_is : offered (shut_in rings.shut) sents rings.lanes ≡ over_ports (numbers_of plan.ports) coming
     coming_is =

@@ -11,7 +11,7 @@ use Rattle.savi_kinds.specs.ValidPlan.{numbers_of}
 use Rattle.fcfs_states.specs.declared.answer.Probe.{Probe}
 use Rattle.fcfs_states.specs.declared.answer.Probe.TheVariants.{Trusted, To}
 use Rattle.probe_write.specs.ProbeFrame.{probe_of}
-use Rattle.addr_table.specs.declared.sent.SentProbe.{SentProbe}
+use Rattle.savi_access.specs.declared.sent.SentProbe.{SentProbe}
 use Rattle.egress_ring.specs.declared.item.Item.{Item as Queued}
 use Rattle.hist_store.specs.Rows.{Row}
 use Rattle.savi_history.specs.Bases.{Base}
@@ -110,11 +110,11 @@ by_lanes mac rows (sent ∷ sents) rings =
     ∙ map_twice (with_probe (shut_in rings.shut) (probe_shown mac sent) sent.probe) (with_probes (shut_in rings.shut) mac sents) (with_probes (shut_in rings.shut) mac (sent ∷ sents)) (one_more (shut_in rings.shut) mac sent sents) (map (shown_lane mac rows) rings.lanes)
 
 -- the ports that are shut by the history
-abbrev pub shut_by : Base → List Row → ℕ → Bool
-shut_by base past = λ number. is_shut base number past
+abbrev pub shut_by : Plan → Base → List Row → ℕ → Bool
+shut_by plan base past = λ number. is_shut plan base number past
 
 module _ (plan : Plan) (base : Base) (past : List Row) (q : ℕ) where
-  goes_is : (probe : Probe) → goes_to (shut_by base past) probe (lane_of plan base past q) ≡ is_probed plan base past q probe
+  goes_is : (probe : Probe) → goes_to (shut_by plan base past) probe (lane_of plan base past q) ≡ is_probed plan base past q probe
   goes_is Trusted = refl
   goes_is (To port) = refl
 
@@ -124,28 +124,28 @@ module _ (plan : Plan) (base : Base) (past : List Row) (q : ℕ) where
   kept_at false sent rest offered same = same
 
   -- the probes that go to a port are those that the history offers it
-  pub sent_is : (sents : List SentProbe) → map (probe_shown plan.mac) (sent_to (shut_by base past) sents (lane_of plan base past q)) ≡ map (probe_item plan) (filter (λ (offer : Offer). is_probed plan base past q offer.probe) (map offer_of sents))
+  pub sent_is : (sents : List SentProbe) → map (probe_shown plan.mac) (sent_to (shut_by plan base past) sents (lane_of plan base past q)) ≡ map (probe_item plan) (filter (λ (offer : Offer). is_probed plan base past q offer.probe) (map offer_of sents))
   sent_is [] = refl
   sent_is (sent ∷ sents) =
       let rest = filter (λ (offer : Offer). is_probed plan base past q offer.probe) (map offer_of sents) in
-      kept_at (goes_to (shut_by base past) sent.probe (lane_of plan base past q)) sent (sent_to (shut_by base past) sents (lane_of plan base past q)) rest (sent_is sents)
+      kept_at (goes_to (shut_by plan base past) sent.probe (lane_of plan base past q)) sent (sent_to (shut_by plan base past) sents (lane_of plan base past q)) rest (sent_is sents)
       ∙ ap (λ (b : Bool). map (probe_item plan) (if b then offer_of sent ∷ rest else rest)) (goes_is sent.probe)
 
   module _ (act : Act) (octets : List ℕ) (sents : List SentProbe) (came : map offer_of sents ≡ offers plan base past act octets) where
-    pub offered_is : map (probe_shown plan.mac) (sent_to (shut_by base past) sents (lane_of plan base past q)) ≡ offered_at plan base past act octets q
+    pub offered_is : map (probe_shown plan.mac) (sent_to (shut_by plan base past) sents (lane_of plan base past q)) ≡ offered_at plan base past act octets q
     offered_is = sent_is sents ∙ ap (λ (all : List Offer). map (probe_item plan) (filter (λ (offer : Offer). is_probed plan base past q offer.probe) all)) came
 
-    probed_is : with_probes (shut_by base past) plan.mac sents (lane_of plan base past q) ≡ probed_lane plan base past act octets q
+    probed_is : with_probes (shut_by plan base past) plan.mac sents (lane_of plan base past q) ≡ probed_lane plan base past act octets q
     probed_is = ap (λ (items : List Item). laned q (is_trusted (role_of plan q)) (room_at plan base past q) (all_joined (room_at plan base past q) (queue plan base q past) items)) offered_is
 
 -- The lanes that show the history's show, once all probes of an entry were offered, what waits then.
-pub show_probed : (plan : Plan) (base : Base) (past rows : List Row) (act : Act) (octets : List ℕ) (sents : List SentProbe) (rings : Rings) → shut_in rings.shut ≡ shut_by base past → map offer_of sents ≡ offers plan base past act octets
+pub show_probed : (plan : Plan) (base : Base) (past rows : List Row) (act : Act) (octets : List ℕ) (sents : List SentProbe) (rings : Rings) → shut_in rings.shut ≡ shut_by plan base past → map offer_of sents ≡ offers plan base past act octets
     → Show plan rows rings.lanes (lane_of plan base past) → Show plan rows (fold rings_after_probe rings sents).lanes (probed_lane plan base past act octets)
 show_probed plan base past rows act octets sents rings shut_is came was = record {
   there = there_probed rows sents rings was.there;
   same =
       by_lanes plan.mac rows sents rings
       ∙ ap (λ (shut : ℕ → Bool). map (with_probes shut plan.mac sents) (map (shown_lane plan.mac rows) rings.lanes)) shut_is
-      ∙ ap (map (with_probes (shut_by base past) plan.mac sents)) was.same
-      ∙ map_twice (lane_of plan base past) (with_probes (shut_by base past) plan.mac sents) (probed_lane plan base past act octets) (λ q. probed_is plan base past q act octets sents came) (numbers_of plan.ports);
+      ∙ ap (map (with_probes (shut_by plan base past) plan.mac sents)) was.same
+      ∙ map_twice (lane_of plan base past) (with_probes (shut_by plan base past) plan.mac sents) (probed_lane plan base past act octets) (λ q. probed_is plan base past q act octets sents came) (numbers_of plan.ports);
 }

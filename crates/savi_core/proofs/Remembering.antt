@@ -3,7 +3,7 @@ use Rattle.std.proofs.Common.{◌-◌, nat_le, ℕ, zero, suc, replicate, ◌≡
 use Rattle.std.specs.Prelude.{All, reverse}
 use Rattle.std.proofs.lemmas.List.{length-reverse, length-map, reverse-append, get_or-map}
 use Rattle.std.proofs.lemmas.List.Elements.{All-nil, All-cons}
-use Rattle.std.proofs.lemmas.Bool.{cases_lt, ltb-true, leb-true, and_parts}
+use Rattle.std.proofs.lemmas.Bool.{cases_lt, ltb-true, leb-true, and_parts, false≢true}
 use Rattle.savi_kinds.specs.declared.plan.Plan.{Plan}
 use Rattle.savi_kinds.specs.declared.plan.PortPlan.{PortPlan}
 use Rattle.savi_kinds.specs.declared.plan.Role.{Role}
@@ -25,6 +25,7 @@ use Rattle.savi_core.specs.Lanes.{Lane, empty_lane, lane_of}
 use Rattle.savi_core.specs.Waits.{queued_item, shown_lane, IsThere, AreThere, Show}
 use Rattle.savi_history.specs.ShutPorts.{shut_after, is_shut}
 use Rattle.savi_history.proofs.Directing.{and-false}
+use Rattle.savi_history.proofs.Shutting.{shut_inside as known_if_shut}
 use Rattle.std.proofs.Math.Path.{fun_ext}
 use Rattle.std.proofs.lemmas.Nat.Bits.{bit_at-zero}
 use Rattle.savi_kinds.specs.declared.port.PortSet.{PortSet}
@@ -88,6 +89,7 @@ remembers_start plan lanes valid are = record {
   passes = λ pass below. none_ended 34 pass;
   marks = refl;
   shut_ports = none_shut;
+  shut_inside = λ number shut. absurd (false≢true (sym (ap (λ (f : ℕ → Bool). f number) none_shut) ∙ shut));
   queues = record {
     there = subst (λ (ls : List (Lane Queued)). All (AreThere []) ls) (sym are) (start_there plan.depth plan.ports);
     same = ap (map (shown_lane plan.mac [])) are ∙ start_shown plan plan.ports (λ k d within. start_role plan k d valid within);
@@ -100,7 +102,7 @@ remembers_start plan lanes valid are = record {
 pub record HasNext (k : CoreState) (r : Row) (ended' : List Bool) (shut' : PortSet) (lanes' : List (Lane Queued)) : Type 0 where
   pub passes : (pass : ℕ) → pass < pass_count k.plan → get_or ended' pass false ≡ ((is_end r.entry.act && (r.entry.by == pass)) || get_or k.ended pass false)
   pub marks : length ended' ≡ length k.ended
-  pub shut_ports : shut_in shut' ≡ (λ number. is_shut k.base number (r ∷ reverse k.rows))
+  pub shut_ports : shut_in shut' ≡ (λ number. is_shut k.plan k.base number (r ∷ reverse k.rows))
   pub queues : Show k.plan (k.rows ++ r ∷ []) lanes' (lane_of k.plan k.base (r ∷ reverse k.rows))
   pub octets : held k.rows + length r.octets ≤ k.plan.bytes
   pub room : k.plan.entries < length k.rows + 1 + 4130 → length k.rows + 1 + still_to_come k.plan k.base (r ∷ reverse k.rows) ≤ k.plan.entries
@@ -122,17 +124,18 @@ module _ {k : CoreState} (was : Remembers k) where
         passes = λ pass below. rw at (next.passes pass below ∙ ap (λ b. (is_end r.entry.act && (r.entry.by == pass)) || b) (was.passes pass below));
         marks = next.marks ∙ was.marks;
         shut_ports = rw at next.shut_ports;
+        shut_inside = λ number shut. known_if_shut k.plan k.base (r ∷ reverse k.rows) number was.within (sym (ap (λ (f : ℕ → Bool). f number) next.shut_ports) ∙ shut);
         queues = rw at next.queues;
         octets = omega (arith, held-append k.rows (r ∷ []), next.octets);
         room = rw (at, longer) next.room;
       }
 
   -- an entry that is no command leaves the ports as they are
-  pub shut_still : (r : Row) (act : Act) → r.entry.act ≡ act → ((number : ℕ) → shut_after number r.octets act (is_shut k.base number (reverse k.rows)) ≡ is_shut k.base number (reverse k.rows))
-      → shut_in k.shut ≡ (λ number. is_shut k.base number (r ∷ reverse k.rows))
+  pub shut_still : (r : Row) (act : Act) → r.entry.act ≡ act → ((number : ℕ) → shut_after k.plan number r.octets act (is_shut k.plan k.base number (reverse k.rows)) ≡ is_shut k.plan k.base number (reverse k.rows))
+      → shut_in k.shut ≡ (λ number. is_shut k.plan k.base number (r ∷ reverse k.rows))
   shut_still r act is leaves =
       was.shut_ports
-      ∙ fun_ext (λ number. sym (leaves number) ∙ ap (λ (a : Act). shut_after number r.octets a (is_shut k.base number (reverse k.rows))) (sym is))
+      ∙ fun_ext (λ number. sym (leaves number) ∙ ap (λ (a : Act). shut_after k.plan number r.octets a (is_shut k.plan k.base number (reverse k.rows))) (sym is))
 
   -- how many passes are open
   pub open_is : (n : ℕ) → n ≤ pass_count k.plan → open_among k.ended n ≡ open_below k.base (reverse k.rows) n

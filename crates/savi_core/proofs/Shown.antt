@@ -1,5 +1,5 @@
 -- What the shows print, line by line.
-use Rattle.std.proofs.Common.{ℕ, suc, ◌≡◌, ◌+◌, ◌*◌, ◌<◌, ◌≤◌, List, [], ◌∷◌, ◌++◌, length, map, take, drop, get_or, Option, Some, None, true, inl, inr, refl, sym, ap, ◌∙◌, append_assoc, arith}
+use Rattle.std.proofs.Common.{ℕ, ◌≡◌, ◌+◌, ◌<◌, ◌≤◌, List, [], ◌∷◌, ◌++◌, length, map, take, get_or, Some, None, true, inl, inr, refl, sym, ap, ◌∙◌, append_assoc, arith}
 use Rattle.std.specs.List.{slice_get}
 use Rattle.std.specs.Option.{option_map}
 use Rattle.std.proofs.lemmas.Option.{slice_get-get_or, slice_get_cases, none-some, same_Some}
@@ -13,8 +13,8 @@ use Rattle.savi_kinds.specs.Ports.{number_of}
 use Rattle.savi_kinds.proofs.PortCounts.{length-by_port}
 use Rattle.fcfs_states.specs.declared.times.Times.{Times}
 use Rattle.mix_rules.specs.declared.state.AddrState.{AddrState}
-use Rattle.bind_table.specs.declared.row.Row.{Row}
-use Rattle.bind_table.specs.Rows.{pair_of}
+use Rattle.savi_access.specs.declared.row.Row.{Row}
+use Rattle.savi_access.specs.Rows.{pair_of}
 use Rattle.bridge_fdb.specs.declared.station.Station.{Station}
 use Rattle.bridge_fdb.specs.Limits.{IsWithinLimits}
 use Rattle.hist_store.specs.TextOfLines.{lines_text}

@@ -1,5 +1,5 @@
 -- Which ports are shut, through each change of the queues, and where frames go then.
-use Rattle.std.proofs.Common.{ℕ, ◌≡◌, ◌≤◌, ◌==◌, ◌&&◌, ◌||◌, not, nat_le, if◌then◌else◌, Bool, true, false, List, [], ◌∷◌, ◌++◌, fold, refl, sym, ap, subst, ◌∙◌, inl, inr}
+use Rattle.std.proofs.Common.{ℕ, ◌≡◌, ◌≤◌, ◌==◌, ◌&&◌, ◌||◌, not, nat_le, if◌then◌else◌, Bool, true, false, Some, None, List, [], ◌∷◌, ◌++◌, fold, refl, sym, ap, subst, ◌∙◌, inl, inr}
 use Rattle.std.proofs.Math.Path.{fun_ext}
 use Rattle.std.proofs.lemmas.Bool.{cases_Bool, cases_eq, eq-eqb, ne_eqb, leb-true, le-leb, false≢true}
 use Rattle.savi_kinds.specs.declared.plan.Plan.{Plan}
@@ -8,17 +8,19 @@ use Rattle.savi_kinds.specs.declared.port.PortSet.{PortSet}
 use Rattle.savi_kinds.specs.Ports.{number_of}
 use Rattle.savi_kinds.specs.PortSets.{is_member, set_of}
 use Rattle.savi_kinds.specs.ValidPlan.{numbers_of}
-use Rattle.addr_table.specs.declared.sent.SentProbe.{SentProbe}
+use Rattle.savi_access.specs.declared.sent.SentProbe.{SentProbe}
+use Rattle.control_replies.specs.declared.refusal.Refusal.TheVariants as refusals
 use Rattle.hist_store.specs.Rows.{Row}
 use Rattle.savi_history.specs.Bases.{Base}
 use Rattle.savi_history.specs.Passes.{has_port}
-use Rattle.savi_history.specs.ShutPorts.{is_shut}
+use Rattle.savi_history.specs.Commands.{port_refusal}
+use Rattle.savi_history.specs.ShutPorts.{is_heard_at, is_shut}
 use Rattle.savi_history.specs.Outs.{without_shut}
 use Rattle.savi_history.proofs.Directing.{member_filter, all_numbers, known_member, and-false}
 use Rattle.savi_core.specs.Rings.{Rings, uncounted, shut_in, with_shut, rings_after_probe}
 use Rattle.savi_kinds.specs.declared.verdict.Verdict.{Verdict}
 use Rattle.frame_class.specs.declared.classes.Class.{Class}
-use Rattle.addr_history.specs.Probes.{probes_between}
+use Rattle.savi_access.specs.Probes.{probes_between}
 use Rattle.savi_access.specs.Rules.{AccessRules, AccessBase}
 use Rattle.savi_access.specs.Marks.{Mark, told}
 use Rattle.access_table.specs.Kept.{Kept as Table}
@@ -50,13 +52,13 @@ shut_as {k} same was = subst (λ (s : PortSet). Remembers (record k { shut = s }
 
 -- of a set of ports those that aren't shut, where all members are of the plan
 pub open_outs : (plan : Plan) (base : Base) (past : List Row) (set left : PortSet) → ((n : ℕ) → 1 ≤ n → is_member left n ≡ true → has_port plan n ≡ true)
-    → ((n : ℕ) → 1 ≤ n → is_member left n ≡ (is_member set n && not (is_shut base n past))) → left ≡ without_shut plan base past set
+    → ((n : ℕ) → 1 ≤ n → is_member left n ≡ (is_member set n && not (is_shut plan base n past))) → left ≡ without_shut plan base past set
 open_outs plan base past set left known members =
     same_members left (without_shut plan base past set)
     (λ n least.
     let all = is_member (set_of (numbers_of plan.ports)) n in
     let both : is_member (without_shut plan base past set) n ≡ (all && is_member left n) =
-    member_filter (λ q. is_member set q && not (is_shut base q past)) (numbers_of plan.ports) n (all_numbers plan.ports) least ∙ ap (λ (b : Bool). all && b) (sym (members n least)) in
+    member_filter (λ q. is_member set q && not (is_shut plan base q past)) (numbers_of plan.ports) n (all_numbers plan.ports) least ∙ ap (λ (b : Bool). all && b) (sym (members n least)) in
     elim (cases_Bool (is_member left n)) [
       | inl there ↦ there ∙ sym (both ∙ ap (λ (b : Bool). all && b) there ∙ ap (λ (b : Bool). b && true) (known_member plan.ports n least (known n least there)))
       | inr none ↦ none ∙ sym (both ∙ ap (λ (b : Bool). all && b) none ∙ and-false all)
@@ -122,3 +124,13 @@ module _ (set new : PortSet) (port : Port) where
           either : (b : Bool) → (if b then false else false) ≡ false
           either true = refl
           either false = refl
+
+-- a `shut` or an `open` that is answered `ok` is heard at its port
+pub heard : (plan : Plan) (port : Port) (now : Bool) (shut : ℕ → Bool) → port_refusal plan port ≡ None → with_shut (number_of port) now shut ≡ (λ number. if is_heard_at plan port number then now else shut number)
+heard plan port now shut granted =
+    let known : has_port plan (number_of port) ≡ true =
+    elim (cases_Bool (has_port plan (number_of port))) [
+      | inl is ↦ is
+      | inr unknown ↦ absurd cc (sym (ap (λ (b : Bool). if b then None else Some refusals.NoSuchPort) unknown) ∙ granted)
+    ] in
+    fun_ext (λ number. ap (λ (b : Bool). if b && number_of port == number then now else shut number) (sym known))

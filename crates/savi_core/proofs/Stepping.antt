@@ -12,7 +12,7 @@ use Rattle.savi_kinds.specs.declared.entry.Who.TheVariants.{Ingress, Control, Ti
 use Rattle.savi_kinds.specs.declared.entry.How.{How}
 use Rattle.savi_kinds.specs.Ports.{number_of}
 use Rattle.savi_kinds.specs.ValidPlan.{numbers_of}
-use Rattle.addr_table.specs.declared.sent.SentProbe.{SentProbe}
+use Rattle.savi_access.specs.declared.sent.SentProbe.{SentProbe}
 use Rattle.egress_ring.specs.declared.item.Item.{Item as Queued}
 use Rattle.egress_ring.specs.declared.item.Item.TheVariants as queued
 use Rattle.hist_store.specs.Rows.{Row, held}
@@ -71,7 +71,7 @@ stepped_view plan rows e octets event m view is_row =
 
 module _ {k : CoreState} (was : Remembers k) where
   -- the lanes once the probes of an entry were offered, whatever they are
-  pub probed_now : (act : Act) (octets : List ℕ) (sents : List SentProbe) (rings : Rings) → shut_in rings.shut ≡ shut_by k.base (reverse k.rows) → map offer_of sents ≡ offers k.plan k.base (reverse k.rows) act octets → rings.lanes ≡ k.lanes
+  pub probed_now : (act : Act) (octets : List ℕ) (sents : List SentProbe) (rings : Rings) → shut_in rings.shut ≡ shut_by k.plan k.base (reverse k.rows) → map offer_of sents ≡ offers k.plan k.base (reverse k.rows) act octets → rings.lanes ≡ k.lanes
       → Show k.plan k.rows (fold rings_after_probe rings sents).lanes (probed_lane k.plan k.base (reverse k.rows) act octets)
   probed_now act octets sents rings shut_is came are =
       show_probed k.plan k.base (reverse k.rows) k.rows act octets sents rings shut_is came
@@ -102,7 +102,7 @@ module _ {k : CoreState} (was : Remembers k) where
 
   -- a line of control may have shut a port, or opened one
   pub remembers_command : (stamp : ℕ) (line : List ℕ) (e : Entry) (shut' : PortSet) (lanes' : List (Lane Queued)) → MayCome k.plan k.base (reverse k.rows) (events.Command stamp line) → e ≡ (row_of k.plan k.base (reverse k.rows) (events.Command stamp line)).entry
-      → shut_in shut' ≡ (λ number. shut_by_command number (command_of line) (shut_in k.shut number))
+      → shut_in shut' ≡ (λ number. shut_by_command k.plan number (command_of line) (shut_in k.shut number))
       → Show k.plan k.rows lanes' (probed_lane k.plan k.base (reverse k.rows) (events.command_act (reverse k.rows) stamp line) line)
       → Remembers (record k { rows = k.rows ++ row e line ∷ []; moment = e.moment; shut = shut'; lanes = lanes' })
   remembers_command stamp line e shut' lanes' may e_is shut_is shows =
@@ -113,8 +113,8 @@ module _ {k : CoreState} (was : Remembers k) where
         marks = refl;
         shut_ports =
             shut_is
-            ∙ fun_ext (λ number. ap (λ (shut : ℕ → Bool). shut_by_command number (command_of line) (shut number)) was.shut_ports
-            ∙ ap (λ (a : Act). shut_after number line a (is_shut k.base number (reverse k.rows))) (sym act_is));
+            ∙ fun_ext (λ number. ap (λ (shut : ℕ → Bool). shut_by_command k.plan number (command_of line) (shut number)) was.shut_ports
+            ∙ ap (λ (a : Act). shut_after k.plan number line a (is_shut k.plan k.base number (reverse k.rows))) (sym act_is));
         queues = show_by (show_more shows (row e line)) (lane_of k.plan k.base (row e line ∷ reverse k.rows)) (λ q known. lane_commanded k.plan k.base (reverse k.rows) (row e line) q stamp (held (reverse k.rows)) (length line) act_is);
         octets = omega (arith, room.1, may.1);
         room = λ near. absurd (omega (arith, near, room.0));

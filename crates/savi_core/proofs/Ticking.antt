@@ -2,12 +2,12 @@
 use Rattle.std.proofs.Common.{◌≡◌, ◌≢◌, ◌↔◌, ℕ, ◌≤◌, List, [], sym, ap, ◌∙◌}
 use Rattle.std.specs.Prelude.{reverse}
 use Rattle.fcfs_states.specs.declared.times.Times.{Times}
-use Rattle.bind_table.specs.declared.row.Row.{Row as AddressRow}
-use Rattle.addr_table.specs.Ages.{aged_rows}
-use Rattle.addr_table.specs.Sends.{sends}
-use Rattle.addr_history.specs.Tables.{rows_at}
-use Rattle.addr_history.proofs.StatesKept.{base_times, base_tables}
-use Rattle.addr_history.proofs.TablesOf.{changes, rows-later}
+use Rattle.savi_access.specs.declared.row.Row.{Row as AddressRow}
+use Rattle.savi_access.specs.Ages.{aged_rows}
+use Rattle.savi_access.specs.Sends.{sends}
+use Rattle.savi_access.specs.Tables.{rows_at}
+use Rattle.savi_access.proofs.StatesKept.{base_times, base_tables}
+use Rattle.savi_access.proofs.TablesOf.{changes, rows-later}
 use Rattle.savi_access.specs.Marks.{told}
 use Rattle.savi_access.specs.Plans.{rules_of}
 use Rattle.access_table.specs.Kept.{Kept as Table}

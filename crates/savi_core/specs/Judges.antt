@@ -3,7 +3,7 @@ use Rattle.std.specs.Prelude.{◌≡◌, ℕ, Bool, List, ◌++◌, fold}
 use Rattle.savi_kinds.specs.declared.port.Port.{Port}
 use Rattle.savi_kinds.specs.declared.verdict.Verdict.{Verdict}
 use Rattle.frame_class.specs.declared.classes.Class.{Class}
-use Rattle.addr_history.specs.Probes.{probes_between}
+use Rattle.savi_access.specs.Probes.{probes_between}
 use Rattle.savi_access.specs.Rules.{AccessRules, AccessBase}
 use Rattle.savi_access.specs.Marks.{Mark, told}
 use Rattle.access_table.specs.Kept.{Kept, Represents}

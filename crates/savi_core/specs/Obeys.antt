@@ -15,5 +15,5 @@ use Rattle.savi_core.specs.Rings.{Rings, shut_in}
 pub record Obeys (plan : Plan) (t : ℕ) (order : Result Command CmdFault) (kept : Kept) (old new : Rings) (refused : Option Refusal) (base : AccessBase) (past : List Mark) : Type 0 where
   pub refusal : refused ≡ refusal_of plan (rows_told plan base past t) order
   pub states : Represents (rules_of plan) base (commanded plan base t order past) t kept
-  pub shut : shut_in new.shut ≡ (λ number. shut_by number order (shut_in old.shut number))
+  pub shut : shut_in new.shut ≡ (λ number. shut_by plan number order (shut_in old.shut number))
   pub rest : new ≡ record old { shut = new.shut }

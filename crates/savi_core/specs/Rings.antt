@@ -6,7 +6,7 @@ use Rattle.savi_kinds.specs.declared.port.PortSet.{PortSet}
 use Rattle.savi_kinds.specs.PortSets.{is_member}
 use Rattle.egress_ring.specs.declared.item.Item.{Item as Queued}
 use Rattle.egress_ring.specs.declared.item.Item.TheVariants as entries
-use Rattle.addr_table.specs.declared.sent.SentProbe.{SentProbe}
+use Rattle.savi_access.specs.declared.sent.SentProbe.{SentProbe}
 use Rattle.savi_core.specs.Lanes.{Lane, with_probe, takes, leaves_out}
 
 pub record Rings : Type 0 where

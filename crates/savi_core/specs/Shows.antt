@@ -4,7 +4,7 @@ use Rattle.savi_kinds.specs.declared.plan.Plan.{Plan}
 use Rattle.savi_kinds.specs.declared.plan.PortPlan.{PortPlan}
 use Rattle.savi_kinds.specs.Ports.{number_of}
 use Rattle.dhcp_states.specs.Requests.{open_at, requests_at_port}
-use Rattle.bind_table.specs.Rows.{count_at}
+use Rattle.savi_access.specs.Rows.{count_at}
 use Rattle.access_table.specs.Kept.{Kept}
 use Rattle.control_replies.specs.declared.port_row.PortRow.{PortRow}
 use Rattle.savi_history.specs.Passes.{place_of}

@@ -57,10 +57,9 @@ fn obey_order(
     ensures obeyed { (base : AccessBase) (past : List Mark) → Represents (rules_of ports.now) base past t access.old
         → Obeys ports.now t (Ok order) access.new queues.old queues.new result base past }
 {
-    mark(queues, order);
     let refused = refusal(access, ports, order);
     match refused {
-        None => carry_out(access, ports, order, t),
+        None => carry_out(access, queues, ports, order, t),
         Some(_) => {}
     }
     refused
@@ -135,39 +134,29 @@ pub(crate) fn fault_refusal(fault: CmdFault) -> Refusal
     }
 }
 
-// What a command that isn't refused makes of an address.
-fn carry_out(access: &mut AccessTable, ports: &Ports, order: Command, t: Moment)
+// What a command that isn't refused makes of an address, or of a port.
+fn carry_out(
+    access: &mut AccessTable,
+    queues: &mut Queues,
+    ports: &Ports,
+    order: Command,
+    t: Moment,
+)
     requires moment { t ≤ 2 ^ 62 }
     requires ready { IsAgedTo (rules_of ports.now) t access.old }
     requires per_port { access.old.addresses.per_port ≡ ports.now.per_port }
     requires granted { refusal_of ports.now access.old.addresses.rows (Ok order) ≡ None }
     ensures ready { IsAgedTo (rules_of ports.now) t access.new }
     ensures told { Moves (rules_of ports.now) t access.old access.new (λ base past. ordered ports.now base t (Ok order) past) }
+    ensures shut { shut_in queues.new.shut ≡ (λ number. shut_by ports.now number (Ok order) (shut_in queues.old.shut number)) }
+    ensures rest { queues.new ≡ record queues.old { shut = queues.new.shut } }
 {
     match order {
         Command::Static(address, port) => access.fix(ports.plan(), address, port, t),
         Command::Clear(address) => access.clear(ports.plan(), address, t),
-        Command::Shut(_)
-        | Command::Reopen(_)
-        | Command::ShowBindings
-        | Command::ShowPorts
-        | Command::ShowCounters
-        | Command::ShowStations
-        | Command::Quit => {}
-    }
-}
-
-// Which ports are shut behind a command.
-fn mark(queues: &mut Queues, order: Command)
-    ensures shut { shut_in queues.new.shut ≡ (λ number. shut_by number (Ok order) (shut_in queues.old.shut number)) }
-    ensures rest { queues.new ≡ record queues.old { shut = queues.new.shut } }
-{
-    match order {
         Command::Shut(port) => queues.set_shut(port, true),
         Command::Reopen(port) => queues.set_shut(port, false),
-        Command::Static(_, _)
-        | Command::Clear(_)
-        | Command::ShowBindings
+        Command::ShowBindings
         | Command::ShowPorts
         | Command::ShowCounters
         | Command::ShowStations

@@ -8,11 +8,11 @@ ghost use Rattle.savi_core.specs.Waits.{AreThere, IsThere, queued_item};
 
 use crate::batch::Batch;
 use crate::ports::is_trusted;
-use addr_table::SentProbe;
 use egress_ring::{EgressRing, Item};
 use fcfs_states::Probe;
 use hist_store::Hist;
 use probe_write::probe;
+use savi_access::SentProbe;
 use savi_kinds::{How, Mac, Port, PortPlan, PortSet};
 use std::alloc::{AllocError, Global};
 use std::marker::Model;

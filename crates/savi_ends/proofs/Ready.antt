@@ -55,8 +55,8 @@ handed_nothing w fresh = record {
   faults = fresh.faulty;
   inputs = λ name. ready_names _ w.inputs.items name fresh.inputs;
   outputs = λ name. ready_names _ w.outputs.items name fresh.outputs;
-  ports = λ port. ready_ports _ w.ports.items port fresh.ports;
-  control = ready_place _ w.control fresh.control;
+  ports = λ key. ready_ports _ w.ports.items key.number fresh.ports;
+  control = λ key. ready_place _ w.control fresh.control;
   ticker = there w.ticker fresh.ticker;
   std = λ which. ready_std _ w.out w.err which fresh.out fresh.err;
 }

@@ -15,14 +15,14 @@ abbrev pub std_place : {X : Type 0} → Option X → Option X → Std → Place 
 std_place out err std.Out = place_holding out
 std_place out err std.Err = place_holding err
 
--- all places of the world
+-- all places of the world: those of a port are one, whatever its names are, and so are those of control
 abbrev pub book_of : MemWorld → Book MemSource MemSink MemClock
 book_of w = record {
   faults = w.faulty;
   inputs = named_places w.inputs.items;
   outputs = named_places w.outputs.items;
-  ports = numbered_places w.ports.items;
-  control = place_holding w.control;
+  ports = λ key. numbered_places w.ports.items key.number;
+  control = λ key. place_holding w.control;
   ticker = place_holding w.ticker;
   std = std_place w.out w.err;
 }

@@ -44,6 +44,7 @@ impl Sink for CountSink {
         ensures extends { Extends result (⟦<CountSink as Sink>⟧.written self.old) (⟦<CountSink as Sink>⟧.written self.new) piece.now }
         ensures later { ⟦<CountSink as Sink>⟧.faults self.old ≤ ⟦<CountSink as Sink>⟧.faults self.new }
         ensures cause { result ≡ Put.Failed → Rose (⟦<CountSink as Sink>⟧.faults self.old) (⟦<CountSink as Sink>⟧.faults self.new) }
+        ensures still { result ≡ Put.Done → ⟦<CountSink as Sink>⟧.faults self.new ≡ ⟦<CountSink as Sink>⟧.faults self.old }
 
         // What the write answers, and what it changes.
         ensures answers { result ≡ Put.Done }

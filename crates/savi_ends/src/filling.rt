@@ -1,4 +1,4 @@
-ghost use Rattle.std.specs.Prelude.{◌≡◌, ◌≤◌, ℕ, List};
+ghost use Rattle.std.specs.Prelude.{◌≡◌, ◌≢◌, ◌≤◌, ℕ, List};
 ghost use Rattle.savi_ends.specs.Octets.{Takes};
 ghost use Rattle.savi_ends.specs.Faults.{Rose};
 ghost use Rattle.savi_ends.specs.Fills.{Fills};
@@ -23,6 +23,7 @@ pub enum Filled {
 pub fn fill<S: Source>(source: &mut S, buf: &mut [u8]) -> Filled
     ensures later { S.faults source.old ≤ S.faults source.new }
     ensures cause { result ≡ Filled.Failed → Rose (S.faults source.old) (S.faults source.new) }
+    ensures still { result ≢ Filled.Failed → S.faults source.new ≡ S.faults source.old }
     ensures octets { (gave : List ℕ) × Takes (S.left source.old) (S.left source.new) gave × Fills result buf.new gave (S.left source.new) }
 {
     let mut at = 0;

@@ -2,8 +2,8 @@
 //! them out and keeps them.
 //!
 //! The contract of each trait says what an end did in a call: the octets that a source gave up, those
-//! by which a sink was extended, the reading of a clock, and that a failure is told only where a count
-//! of faults rose. Everything above is generic over these traits. No RFC is read here.
+//! by which a sink was extended, the reading of a clock, and that a failure is told exactly where a
+//! count of faults rose. Everything above is generic over these traits. No RFC is read here.
 #![tactic(auto)]
 
 mod clock;

@@ -65,6 +65,7 @@ impl Sink for MemSink {
         ensures extends { Extends result (⟦<MemSink as Sink>⟧.written self.old) (⟦<MemSink as Sink>⟧.written self.new) piece.now }
         ensures later { ⟦<MemSink as Sink>⟧.faults self.old ≤ ⟦<MemSink as Sink>⟧.faults self.new }
         ensures cause { result ≡ Put.Failed → Rose (⟦<MemSink as Sink>⟧.faults self.old) (⟦<MemSink as Sink>⟧.faults self.new) }
+        ensures still { result ≡ Put.Done → ⟦<MemSink as Sink>⟧.faults self.new ≡ ⟦<MemSink as Sink>⟧.faults self.old }
 
         // What the write answers, and what it changes.
         ensures answers { result ≡ next_write (sink_state self.old) (length piece.now) }

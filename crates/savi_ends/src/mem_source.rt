@@ -1,4 +1,4 @@
-ghost use Rattle.std.specs.Prelude.{◌≡◌, ◌<◌, ◌≤◌, ℕ, Some, length, min, vec_len};
+ghost use Rattle.std.specs.Prelude.{◌≡◌, ◌≢◌, ◌<◌, ◌≤◌, ℕ, Some, length, min, vec_len};
 
 use crate::piece::give;
 use crate::source::{Got, Source};
@@ -63,6 +63,7 @@ impl Source for MemSource {
         ensures end { result ≡ Got.End → NothingLeft (⟦<MemSource as Source>⟧.left self.old) }
         ensures later { ⟦<MemSource as Source>⟧.faults self.old ≤ ⟦<MemSource as Source>⟧.faults self.new }
         ensures cause { result ≡ Got.Failed → Rose (⟦<MemSource as Source>⟧.faults self.old) (⟦<MemSource as Source>⟧.faults self.new) }
+        ensures still { result ≢ Got.Failed → ⟦<MemSource as Source>⟧.faults self.new ≡ ⟦<MemSource as Source>⟧.faults self.old }
 
         // What the read gives, and what it changes.
         ensures gives { result ≡ next_read (source_state self.old) (length buf.old) }

@@ -1,4 +1,4 @@
-ghost use Rattle.std.specs.Prelude.{◌≡◌, ◌≤◌, ◌↔◌, ℕ, true, false, IsTrue, IsSomeAnd, All, Some, is_ok, is_some};
+ghost use Rattle.std.specs.Prelude.{◌≡◌, ◌≤◌, ◌↔◌, ℕ, true, false, IsTrue, IsSomeAnd, OnErr, All, Some, is_ok, is_some};
 ghost use Rattle.savi_kinds.specs.Ports.{number_of};
 ghost use Rattle.savi_ends.specs.MemPlaces.{NamesDiffer};
 ghost use Rattle.savi_ends.specs.Counts.{next_count, is_listed};
@@ -66,7 +66,7 @@ impl MemWorld {
 }
 
 impl World for MemWorld {
-    ghost use Rattle.savi_ends.specs.Places.{Book, HandsOut, IsReady, Opens, OthersStay, IsOnlyOut};
+    ghost use Rattle.savi_ends.specs.Places.{Book, ControlKey, HandsOut, IsReady, Opens, OthersStay, OtherPortsStay, IsOnlyOut, IsPortOut, IsPortKept, IsControlOut, IsControlKept, port_key};
     ghost use Rattle.savi_ends.specs.MemPlaces.{keys_of};
     ghost use Rattle.savi_ends.specs.MemWorlds.{book_of, openings_of, next_works, after_opening};
 
@@ -124,13 +124,14 @@ impl World for MemWorld {
 
     fn port(&mut self, n: Port, plan: &PortPlan) -> Result<MemEnds, OpenFailed>
         requires planned { number_of plan.now.number ≡ number_of n }
-        requires ready { IsReady (BothFresh ⟦<MemSource as Source>⟧.faults ⟦<MemSink as Sink>⟧.faults) ((book_of self.old).ports (number_of n)) }
-        ensures opens { Opens (BothFresh ⟦<MemSource as Source>⟧.faults ⟦<MemSink as Sink>⟧.faults) (book_of self.old).faults (book_of self.new).faults ((book_of self.old).ports (number_of n)) ((book_of self.new).ports (number_of n)) result }
-        ensures others { OthersStay (book_of self.old).ports (book_of self.new).ports (number_of n) }
+        requires ready { IsReady (BothFresh ⟦<MemSource as Source>⟧.faults ⟦<MemSink as Sink>⟧.faults) ((book_of self.old).ports (port_key plan.now)) }
+        ensures opens { Opens (BothFresh ⟦<MemSource as Source>⟧.faults ⟦<MemSink as Sink>⟧.faults) (book_of self.old).faults (book_of self.new).faults ((book_of self.old).ports (port_key plan.now)) ((book_of self.new).ports (port_key plan.now)) result }
+        ensures others { OtherPortsStay (book_of self.old).ports (book_of self.new).ports (number_of n) }
+        ensures unopened { OnErr result ((book_of self.new).ports ≡ (book_of self.old).ports) }
         ensures rest { book_of self.new ≡ record (book_of self.old) { faults = (book_of self.new).faults; ports = (book_of self.new).ports } }
 
         // Whether the opening works, and what it counts.
-        ensures works { is_ok result ≡ next_works (openings_of self.old) (is_some ((book_of self.old).ports (number_of n)).stands) }
+        ensures works { is_ok result ≡ next_works (openings_of self.old) (is_some ((book_of self.old).ports (port_key plan.now)).stands) }
         ensures counts { openings_of self.new ≡ after_opening (openings_of self.old) (is_ok result) }
         ensures keys { keys_of self.new.ports.items ≡ keys_of self.old.ports.items }
     {
@@ -144,15 +145,19 @@ impl World for MemWorld {
         }
     }
 
-    fn control(&mut self, _source: &str, _sink: &str, _live: bool) -> Result<MemEnds, OpenFailed>
-        requires { IsReady (BothFresh ⟦<MemSource as Source>⟧.faults ⟦<MemSink as Sink>⟧.faults) (book_of self.old).control }
-        ensures opens { Opens (BothFresh ⟦<MemSource as Source>⟧.faults ⟦<MemSink as Sink>⟧.faults) (book_of self.old).faults (book_of self.new).faults (book_of self.old).control (book_of self.new).control result }
+    fn control(&mut self, source: &str, sink: &str, live: bool) -> Result<MemEnds, OpenFailed>
+        requires { IsReady (BothFresh ⟦<MemSource as Source>⟧.faults ⟦<MemSink as Sink>⟧.faults) ((book_of self.old).control (record { source = source.now; sink = sink.now; live = live })) }
+        ensures opens { Opens (BothFresh ⟦<MemSource as Source>⟧.faults ⟦<MemSink as Sink>⟧.faults) (book_of self.old).faults (book_of self.new).faults ((book_of self.old).control (record { source = source.now; sink = sink.now; live = live })) ((book_of self.new).control (record { source = source.now; sink = sink.now; live = live })) result }
+        ensures unopened { OnErr result ((book_of self.new).control ≡ (book_of self.old).control) }
         ensures rest { book_of self.new ≡ record (book_of self.old) { faults = (book_of self.new).faults; control = (book_of self.new).control } }
 
         // Whether the opening works, and what it counts.
-        ensures works { is_ok result ≡ next_works (openings_of self.old) (is_some (book_of self.old).control.stands) }
+        ensures works { is_ok result ≡ next_works (openings_of self.old) (is_some ((book_of self.old).control (record { source = source.now; sink = sink.now; live = live })).stands) }
         ensures counts { openings_of self.new ≡ after_opening (openings_of self.old) (is_ok result) }
     {
+        let _ = source;
+        let _ = sink;
+        let _ = live;
         if is_next_to_fail(&mut self.opened, &self.fails) {
             return Err(fault(&mut self.faulty));
         }
@@ -193,9 +198,9 @@ impl World for MemWorld {
     }
 
     fn keep_port(&mut self, n: Port, ends: MemEnds)
-        requires { ((book_of self.old).ports (number_of n)).is_out ≡ true }
-        ensures kept { ((book_of self.new).ports (number_of n)).stands ≡ Some ends }
-        ensures others { OthersStay (book_of self.old).ports (book_of self.new).ports (number_of n) }
+        requires { IsPortOut (book_of self.old).ports (number_of n) }
+        ensures kept { IsPortKept (book_of self.old).ports (book_of self.new).ports (number_of n) ends }
+        ensures others { OtherPortsStay (book_of self.old).ports (book_of self.new).ports (number_of n) }
         ensures rest { book_of self.new ≡ record (book_of self.old) { ports = (book_of self.new).ports } }
         ensures counts { openings_of self.new ≡ openings_of self.old }
         ensures keys { keys_of self.new.ports.items ≡ keys_of self.old.ports.items }
@@ -204,8 +209,8 @@ impl World for MemWorld {
     }
 
     fn keep_control(&mut self, ends: MemEnds)
-        requires { (book_of self.old).control.is_out ≡ true }
-        ensures kept { (book_of self.new).control.stands ≡ Some ends }
+        requires { IsControlOut (book_of self.old).control }
+        ensures kept { IsControlKept (book_of self.old).control (book_of self.new).control ends }
         ensures rest { book_of self.new ≡ record (book_of self.old) { control = (book_of self.new).control } }
         ensures counts { openings_of self.new ≡ openings_of self.old }
     {

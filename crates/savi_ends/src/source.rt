@@ -1,4 +1,4 @@
-ghost use Rattle.std.specs.Prelude.{◌≡◌, ◌<◌, ◌≤◌, ℕ, List, Option, length};
+ghost use Rattle.std.specs.Prelude.{◌≡◌, ◌≢◌, ◌<◌, ◌≤◌, ℕ, List, Option, length};
 
 /// What a read gave.
 #[derive(Clone, Copy, PartialEq, Eq, Debug)]
@@ -30,12 +30,13 @@ pub trait Source {
     /// Reads the next octets into the front of a buffer that isn't empty.
     ///
     /// `End` comes only where nothing is left, where the source tells what is left. `Failed` comes
-    /// only where the count of faults rose in this call, and then nothing was taken.
+    /// only where the count of faults rose in this call, and then nothing was taken; else the count stays as it was.
     fn read(&mut self, buf: &mut [u8]) -> Got
         requires { 0 < length buf.old }
         ensures count { FitsIn result (length buf.old) }
         ensures bytes { Takes (left self.old) (left self.new) (octets_given result buf.new) }
         ensures end { result ≡ Got.End → NothingLeft (left self.old) }
         ensures later { faults self.old ≤ faults self.new }
-        ensures cause { result ≡ Got.Failed → Rose (faults self.old) (faults self.new) };
+        ensures cause { result ≡ Got.Failed → Rose (faults self.old) (faults self.new) }
+        ensures still { result ≢ Got.Failed → faults self.new ≡ faults self.old };
 }

@@ -1,4 +1,4 @@
-ghost use Rattle.std.specs.Prelude.{◌≡◌, ◌<◌, ◌≤◌, ℕ, Some, length, vec_len};
+ghost use Rattle.std.specs.Prelude.{◌≡◌, ◌≢◌, ◌<◌, ◌≤◌, ℕ, Some, length, vec_len};
 
 use crate::piece::give;
 use crate::source::{Got, Source};
@@ -47,6 +47,7 @@ impl Source for SureSource {
         ensures end { result ≡ Got.End → NothingLeft (⟦<SureSource as Source>⟧.left self.old) }
         ensures later { ⟦<SureSource as Source>⟧.faults self.old ≤ ⟦<SureSource as Source>⟧.faults self.new }
         ensures cause { result ≡ Got.Failed → Rose (⟦<SureSource as Source>⟧.faults self.old) (⟦<SureSource as Source>⟧.faults self.new) }
+        ensures still { result ≢ Got.Failed → ⟦<SureSource as Source>⟧.faults self.new ≡ ⟦<SureSource as Source>⟧.faults self.old }
 
         // What the read gives, and what it changes.
         ensures gives { result ≡ piece_of (sure_left self.old) (length buf.old) }

@@ -1,4 +1,4 @@
-ghost use Rattle.std.specs.Prelude.{◌≡◌, ℕ, true, false, Some, IfSome};
+ghost use Rattle.std.specs.Prelude.{◌≡◌, ℕ, true, false, Some, IfSome, OnErr};
 ghost use Rattle.savi_kinds.specs.Ports.{number_of};
 
 use crate::clock::Clock;
@@ -27,15 +27,17 @@ pub enum Std {
 
 /// Where the ends of the switch come from, and where they go back to.
 ///
-/// Each end has a place: an input or output by its name, a port's ends by its number, and one place
-/// each for control, the ticker's clock and the two standard outputs. An opening needs that the place
-/// isn't handed out yet. It hands out the end that the world tells for that place, if it tells one, and
-/// the end has no fault so far; or it answers `OpenFailed`, only where the world's count of faults rose
-/// in the call. A `keep` call needs that the place is handed out, and puts the end there. Every call
-/// changes the place that it names and no other.
+/// Each end has a place: an input or output by its name, a port's ends by its number, the names of its
+/// input and output and their format, those of control by the names of its input and output and by
+/// whether they are live, and one place each for the ticker's clock and the two standard outputs. An
+/// opening needs that the place isn't handed out yet. It hands out the end that the world tells for that
+/// place, if it tells one, and the end has no fault so far; or it answers `OpenFailed`, only where the
+/// world's count of faults rose in the call. A `keep` call needs that the place is handed out, and puts
+/// the end there. Every call changes the place that it names and no other; those of one port under other
+/// names and another format may be the same place, and so may all those of control.
 pub trait World {
     ghost use Rattle.savi_ends.specs.declared.world.Std.{Std};
-    ghost use Rattle.savi_ends.specs.Places.{Book, HandsOut, IsReady, Opens, OthersStay, IsOnlyOut, BothFresh};
+    ghost use Rattle.savi_ends.specs.Places.{Book, ControlKey, HandsOut, IsReady, Opens, OthersStay, OtherPortsStay, IsOnlyOut, IsPortOut, IsPortKept, IsControlOut, IsControlKept, BothFresh, port_key};
 
     type S: Source + Send;
 
@@ -71,9 +73,10 @@ pub trait World {
         plan: &PortPlan,
     ) -> Result<Ends<Self::S, Self::K, Self::C>, OpenFailed>
         requires planned { number_of plan.now.number ≡ number_of n }
-        requires ready { IsReady (BothFresh Self.S.faults Self.K.faults) ((book self.old).ports (number_of n)) }
-        ensures opens { Opens (BothFresh Self.S.faults Self.K.faults) (book self.old).faults (book self.new).faults ((book self.old).ports (number_of n)) ((book self.new).ports (number_of n)) result }
-        ensures others { OthersStay (book self.old).ports (book self.new).ports (number_of n) }
+        requires ready { IsReady (BothFresh Self.S.faults Self.K.faults) ((book self.old).ports (port_key plan.now)) }
+        ensures opens { Opens (BothFresh Self.S.faults Self.K.faults) (book self.old).faults (book self.new).faults ((book self.old).ports (port_key plan.now)) ((book self.new).ports (port_key plan.now)) result }
+        ensures others { OtherPortsStay (book self.old).ports (book self.new).ports (number_of n) }
+        ensures unopened { OnErr result ((book self.new).ports ≡ (book self.old).ports) }
         ensures rest { book self.new ≡ record (book self.old) { faults = (book self.new).faults; ports = (book self.new).ports } };
 
     /// Opens the ends of control, by the names of its input and output. They are live where the clock
@@ -84,8 +87,9 @@ pub trait World {
         sink: &str,
         live: bool,
     ) -> Result<Ends<Self::S, Self::K, Self::C>, OpenFailed>
-        requires { IsReady (BothFresh Self.S.faults Self.K.faults) (book self.old).control }
-        ensures opens { Opens (BothFresh Self.S.faults Self.K.faults) (book self.old).faults (book self.new).faults (book self.old).control (book self.new).control result }
+        requires { IsReady (BothFresh Self.S.faults Self.K.faults) ((book self.old).control (record { source = source.now; sink = sink.now; live = live })) }
+        ensures opens { Opens (BothFresh Self.S.faults Self.K.faults) (book self.old).faults (book self.new).faults ((book self.old).control (record { source = source.now; sink = sink.now; live = live })) ((book self.new).control (record { source = source.now; sink = sink.now; live = live })) result }
+        ensures unopened { OnErr result ((book self.new).control ≡ (book self.old).control) }
         ensures rest { book self.new ≡ record (book self.old) { faults = (book self.new).faults; control = (book self.new).control } };
 
     /// Hands out the ticker's clock.
@@ -104,15 +108,15 @@ pub trait World {
 
     /// Keeps the ends of this port.
     fn keep_port(&mut self, n: Port, ends: Ends<Self::S, Self::K, Self::C>)
-        requires { ((book self.old).ports (number_of n)).is_out ≡ true }
-        ensures kept { ((book self.new).ports (number_of n)).stands ≡ Some ends }
-        ensures others { OthersStay (book self.old).ports (book self.new).ports (number_of n) }
+        requires { IsPortOut (book self.old).ports (number_of n) }
+        ensures kept { IsPortKept (book self.old).ports (book self.new).ports (number_of n) ends }
+        ensures others { OtherPortsStay (book self.old).ports (book self.new).ports (number_of n) }
         ensures rest { book self.new ≡ record (book self.old) { ports = (book self.new).ports } };
 
     /// Keeps the ends of control.
     fn keep_control(&mut self, ends: Ends<Self::S, Self::K, Self::C>)
-        requires { (book self.old).control.is_out ≡ true }
-        ensures kept { (book self.new).control.stands ≡ Some ends }
+        requires { IsControlOut (book self.old).control }
+        ensures kept { IsControlKept (book self.old).control (book self.new).control ends }
         ensures rest { book self.new ≡ record (book self.old) { control = (book self.new).control } };
 
     /// Keeps the only input that is handed out.

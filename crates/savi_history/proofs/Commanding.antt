@@ -14,14 +14,14 @@ use Rattle.fcfs_states.specs.declared.event.Ev.TheVariants.{Fix, Clear}
 use Rattle.mix_rules.specs.declared.state.AddrState.{AddrState}
 use Rattle.mix_rules.specs.States.{has_state, is_held_at}
 use Rattle.mix_rules.specs.Premises.{IsLeaseInRange}
-use Rattle.bind_table.specs.declared.row.Row.{Row}
-use Rattle.bind_table.specs.Rows.{state_in}
-use Rattle.addr_table.specs.Keeps.{IsSoundBy}
-use Rattle.addr_table.specs.Rooms.{port_of, IsFixable}
-use Rattle.addr_history.specs.Legal.{IsOfVlan}
-use Rattle.addr_history.proofs.Holding.{held-told}
-use Rattle.addr_history.proofs.StatesKept.{base_times, base_tables, states_kept}
-use Rattle.addr_history.proofs.TablesOf.{states_at}
+use Rattle.savi_access.specs.declared.row.Row.{Row}
+use Rattle.savi_access.specs.Rows.{state_in}
+use Rattle.savi_access.specs.Keeps.{IsSoundBy}
+use Rattle.savi_access.specs.Rooms.{port_of, IsFixable}
+use Rattle.savi_access.specs.Limits.{IsOfVlan}
+use Rattle.savi_access.proofs.Holding.{held-told}
+use Rattle.savi_access.proofs.StatesKept.{base_times, base_tables, states_kept}
+use Rattle.savi_access.proofs.TablesOf.{states_at}
 use Rattle.cli_lang.specs.declared.kinds.Command.{Command}
 use Rattle.cli_lang.specs.declared.kinds.Command.TheVariants as orders
 use Rattle.cli_lang.specs.declared.kinds.CmdFault.{CmdFault}

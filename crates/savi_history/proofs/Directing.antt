@@ -184,23 +184,23 @@ module _ (plan : Plan) (base : Base) (past : List Row) (port : Port) (stamp : �
   everywhere verdict = outs_by plan (number_of port) known verdict
 
   -- those that aren't shut
-  open_is : (verdict : Verdict) (n : ℕ) → 1 ≤ n → is_member (row_by verdict).entry.outs n ≡ (is_member (set_of (numbers_of plan.ports)) n && (is_member (everywhere verdict) n && not (is_shut base n past)))
-  open_is verdict n least = member_filter (λ q. is_member (everywhere verdict) q && not (is_shut base q past)) (numbers_of plan.ports) n (all_numbers plan.ports) least
+  open_is : (verdict : Verdict) (n : ℕ) → 1 ≤ n → is_member (row_by verdict).entry.outs n ≡ (is_member (set_of (numbers_of plan.ports)) n && (is_member (everywhere verdict) n && not (is_shut plan base n past)))
+  open_is verdict n least = member_filter (λ q. is_member (everywhere verdict) q && not (is_shut plan base q past)) (numbers_of plan.ports) n (all_numbers plan.ports) least
 
   none_open : (verdict : Verdict) (n : ℕ) → 1 ≤ n → is_member (everywhere verdict) n ≡ false → is_member (row_by verdict).entry.outs n ≡ false
   none_open verdict n least none =
-      open_is verdict n least ∙ ap (λ (b : Bool). is_member (set_of (numbers_of plan.ports)) n && (b && not (is_shut base n past))) none ∙ and-false (is_member (set_of (numbers_of plan.ports)) n)
+      open_is verdict n least ∙ ap (λ (b : Bool). is_member (set_of (numbers_of plan.ports)) n && (b && not (is_shut plan base n past))) none ∙ and-false (is_member (set_of (numbers_of plan.ports)) n)
 
   was_there : (verdict : Verdict) (n : ℕ) → 1 ≤ n → is_member (row_by verdict).entry.outs n ≡ true → is_member (everywhere verdict) n ≡ true
   was_there verdict n least there =
-      (and_parts (is_member (everywhere verdict) n) (not (is_shut base n past))
-      (and_parts (is_member (set_of (numbers_of plan.ports)) n) (is_member (everywhere verdict) n && not (is_shut base n past)) (sym (open_is verdict n least) ∙ there)).1).0
+      (and_parts (is_member (everywhere verdict) n) (not (is_shut plan base n past))
+      (and_parts (is_member (set_of (numbers_of plan.ports)) n) (is_member (everywhere verdict) n && not (is_shut plan base n past)) (sym (open_is verdict n least) ∙ there)).1).0
 
-  still_there : (verdict : Verdict) (n : ℕ) → 1 ≤ n → has_port plan n ≡ true → is_shut base n past ≡ false → is_member (everywhere verdict) n ≡ true → is_member (row_by verdict).entry.outs n ≡ true
+  still_there : (verdict : Verdict) (n : ℕ) → 1 ≤ n → has_port plan n ≡ true → is_shut plan base n past ≡ false → is_member (everywhere verdict) n ≡ true → is_member (row_by verdict).entry.outs n ≡ true
   still_there verdict n least inside unshut there =
       open_is verdict n least
-      ∙ ap (λ (b : Bool). b && (is_member (everywhere verdict) n && not (is_shut base n past))) (known_member plan.ports n least inside)
-      ∙ ap (λ (b : Bool). b && not (is_shut base n past)) there
+      ∙ ap (λ (b : Bool). b && (is_member (everywhere verdict) n && not (is_shut plan base n past))) (known_member plan.ports n least inside)
+      ∙ ap (λ (b : Bool). b && not (is_shut plan base n past)) there
       ∙ ap not unshut
 
   frame_directed : (verdict : Verdict) → IsDirected plan base past (row_by verdict) port

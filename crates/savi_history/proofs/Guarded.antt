@@ -96,10 +96,10 @@ event_stopped : (Has : List ℕ → Type 0) → IsStopped Has → (plan : Plan) 
 event_stopped Has stopped plan base past (events.Frame port stamp octets) = λ at_port frame host has.
     let same : port ≡ at_port = ap (port_in port) frame.frame in
     let here : is_trusted (role_of plan (number_of port)) ≡ false = subst (λ (p : Port). is_trusted (role_of plan (number_of p)) ≡ false) (sym same) host in
-    unless_shut plan base (is_shut base (number_of port) past) (marks plan base past) port (moment_at base past stamp) (class_of octets)
+    unless_shut plan base (is_shut plan base (number_of port) past) (marks plan base past) port (moment_at base past stamp) (class_of octets)
     (stopped-not_pass (rules_of plan) (access_of base) the_vlan port (moment_at base past stamp) (marks plan base past) (class_of octets) (stopped octets (role_of plan (number_of port)) plan.drop_unknown has here))
 event_stopped Has stopped plan base past (events.Command stamp line) = λ at_port frame host has. refl
-event_stopped Has stopped plan base past (events.Long port stamp len) = λ at_port frame host has. long_drop (is_shut base (number_of port) past)
+event_stopped Has stopped plan base past (events.Long port stamp len) = λ at_port frame host has. long_drop (is_shut plan base (number_of port) past)
 event_stopped Has stopped plan base past (events.Tick stamp) = λ at_port frame host has. refl
 event_stopped Has stopped plan base past (events.Drain port count) = λ at_port frame host has. refl
 event_stopped Has stopped plan base past (events.End who how) = λ at_port frame host has. refl

@@ -98,9 +98,9 @@ unshut plan base true told port t class passed = absurd (false≢true passed)
 event_source : (plan : Plan) (base : Base) (past : List Row) (event : Event) (eth : Eth) → is_pass (row_of plan base past event).entry.verdict ≡ true → ethernet_of (row_of plan base past event).octets ≡ Some eth → is_group eth.src ≡ false
 event_source plan base past (events.Frame port stamp octets) eth passed is =
     passed_source (rules_of plan) (access_of base) port (moment_at base past stamp) (marks plan base past) (class_of octets) eth
-    (unshut plan base (is_shut base (number_of port) past) (marks plan base past) port (moment_at base past stamp) (class_of octets) passed) (eth_is octets (class_of octets) (class_is octets) ∙ is)
+    (unshut plan base (is_shut plan base (number_of port) past) (marks plan base past) port (moment_at base past stamp) (class_of octets) passed) (eth_is octets (class_of octets) (class_is octets) ∙ is)
 event_source plan base past (events.Command stamp line) eth passed is = absurd (false≢true passed)
-event_source plan base past (events.Long port stamp len) eth passed is = absurd (false≢true (sym (long_drop (is_shut base (number_of port) past)) ∙ passed))
+event_source plan base past (events.Long port stamp len) eth passed is = absurd (false≢true (sym (long_drop (is_shut plan base (number_of port) past)) ∙ passed))
 event_source plan base past (events.Tick stamp) eth passed is = absurd (false≢true passed)
 event_source plan base past (events.Drain port count) eth passed is = absurd (false≢true passed)
 event_source plan base past (events.End who how) eth passed is = absurd (false≢true passed)

@@ -8,7 +8,8 @@ use Rattle.savi_kinds.specs.declared.entry.Act.{Act}
 use Rattle.savi_kinds.specs.declared.entry.Act.TheVariants as acts
 use Rattle.eth_frame.specs.declared.header.Eth.{Eth}
 use Rattle.bridge_fdb.specs.declared.station.Station.{Station}
-use Rattle.bridge_fdb.specs.Stations.{mac_number, station_of, station_end, is_live, is_below, is_above, live_at}
+use Rattle.savi_kinds.specs.Orders.{is_below, is_above}
+use Rattle.bridge_fdb.specs.Stations.{station_number, mac_number, station_of, station_end, is_live, live_at}
 use Rattle.bridge_fdb.specs.Learning.{is_known, is_full, with_station, learned}
 use Rattle.bridge_fdb.proofs.Within.{IsWithinLimits-filter, IsWithinLimits-learned}
 use Rattle.hist_store.specs.Rows.{Row}
@@ -46,8 +47,8 @@ pub all_learned : (P : Station → Type 0) (s : Station) (xs : List Station) →
 all_learned P s xs one all =
     let n : ℕ = mac_number s.mac in
     cond_both (is_full s xs && not (is_known s xs)) xs (with_station s xs) (λ ys. All P ys) (λ _. all)
-    (λ _. All-append P (filter (is_below n) xs) (s ∷ filter (is_above n) xs) (All-filter (is_below n) P xs all)
-    (All-cons P s (filter (is_above n) xs) one (All-filter (is_above n) P xs all)))
+    (λ _. All-append P (filter (is_below station_number n) xs) (s ∷ filter (is_above station_number n) xs) (All-filter (is_below station_number n) P xs all)
+    (All-cons P s (filter (is_above station_number n) xs) one (All-filter (is_above station_number n) P xs all)))
 
 -- stations at a moment, at a later one
 pub later_stations : (moment later : ℕ) (xs : List Station) → moment ≤ later → AreStationsAt moment xs → AreStationsAt later (live_at later xs)

@@ -11,6 +11,7 @@ use Rattle.savi_kinds.specs.declared.entry.Act.TheVariants as acts
 use Rattle.savi_kinds.specs.Ports.{number_of}
 use Rattle.savi_kinds.specs.ValidPlan.{IsValidPlan}
 use Rattle.frame_class.specs.declared.classes.Class.{Class}
+use Rattle.frame_class.specs.declared.classes.Class.TheVariants.{Runt, Tagged, Other, BadIp, Ip6}
 use Rattle.frame_class.specs.ClassOf.{class_of}
 use Rattle.hist_store.specs.Rows.{Row}
 use Rattle.mix_rules.specs.Next.{IsPass}
@@ -38,7 +39,7 @@ use Rattle.savi_history.specs.Legal.{MayCome, Stands, IsLegal}
 abbrev pub AreOctets : List Row → Type 0
 AreOctets past = All (λ (r : Row). IsBytes r.octets) past
 
-abbrev is_frame : Act → Bool
+abbrev pub is_frame : Act → Bool
 is_frame (acts.Frame port stamp at len) = true
 is_frame (acts.Long port stamp len) = false
 is_frame (acts.Tick stamp) = false
@@ -46,7 +47,7 @@ is_frame (acts.Command stamp at len) = false
 is_frame (acts.Drain port count) = false
 is_frame (acts.End who how) = false
 
-abbrev port_in : Port → Act → Port
+abbrev pub port_in : Port → Act → Port
 port_in other (acts.Frame port stamp at len) = port
 port_in other (acts.Long port stamp len) = other
 port_in other (acts.Tick stamp) = other
@@ -94,7 +95,7 @@ module _ (plan : Plan) (valid : IsValidPlan plan) (base : Base) (within : IsWith
   marks_by past port stamp octets shut = (judged_after plan base shut (marks plan base past) port (moment_at base past stamp) (class_of octets)).marks
 
   frame_next : (past : List Row) (port : Port) (stamp : ℕ) (octets : List ℕ) → IsTold plan base past → newest_moment (access_of base) (marks plan base past) ≤ moment_at base past stamp
-      → (shut : Bool) → is_shut base (number_of port) past ≡ shut
+      → (shut : Bool) → is_shut plan base (number_of port) past ≡ shut
       → AreMarks (rules_of plan) (access_of base) (marks_by past port stamp octets false) → newest_moment (access_of base) (marks_by past port stamp octets false) ≤ moment_at base past stamp
       → HasFront (moment_at base past stamp) (marks plan base past) (marks_by past port stamp octets false)
       → IsNext past (row_of plan base past (Frame port stamp octets))
@@ -122,7 +123,7 @@ module _ (plan : Plan) (valid : IsValidPlan plan) (base : Base) (within : IsWith
       let after : newest_moment (access_of base) (marks plan base past) ≤ moment_at base past stamp = omega (arith, told.last) in
       let all = judged_marks (rules_of plan) (access_of base) within.access the_vlan port (moment_at base past stamp) soon (marks plan base past) told.right after (class_of octets) (lifetimes octets bytes)
       (λ host. own_ports plan (number_of port) may.0.open_pass.known host) in
-      frame_next past port stamp octets told after (is_shut base (number_of port) past) refl all.0 all.1 all.2
+      frame_next past port stamp octets told after (is_shut plan base (number_of port) past) refl all.0 all.1 all.2
   one_more past (Command stamp line) legal told may bytes =
       let soon : moment_at base past stamp ≤ 2 ^ 62 = stays_early plan base past (Command stamp line) (early past legal) in
       let after : newest_moment (access_of base) (marks plan base past) ≤ moment_at base past stamp = omega (arith, told.last) in
@@ -148,11 +149,18 @@ module _ (plan : Plan) (valid : IsValidPlan plan) (base : Base) (within : IsWith
   next_told r past legal bytes = mutual_next r past legal bytes (told_rightly past legal.1 (All-tail (λ (x : Row). IsBytes x.octets) r past bytes))
 
   -- no frame passes at a shut port
+  none_at_shut : (told : List Mark) (port : Port) (t : ℕ) (class : Class) → ¬ HasAccess (rules_of plan) (access_of base) the_vlan port t told true class
+  none_at_shut told port t Runt has = has
+  none_at_shut told port t (Tagged eth) has = has
+  none_at_shut told port t (Other eth) has = has
+  none_at_shut told port t (BadIp eth) has = has
+  none_at_shut told port t (Ip6 eth ip read) has = false≢true (sym has.0)
+
   unless_shut : (shut : Bool) (told : List Mark) (port : Port) (t : ℕ) (class : Class)
-      → (IsPass (Some (judged_after plan base false told port t class).verdict) ↔ HasAccess (rules_of plan) (access_of base) the_vlan port t told class)
-      → (IsPass (Some (judged_after plan base shut told port t class).verdict) ↔ ((shut ≡ false) × HasAccess (rules_of plan) (access_of base) the_vlan port t told class))
-  unless_shut false told port t class both = (λ pass. (refl, both.0 pass), λ has. both.1 has.1)
-  unless_shut true told port t class both = (λ pass. absurd pass, λ has. absurd (false≢true (sym has.0)))
+      → (IsPass (Some (judged_after plan base false told port t class).verdict) ↔ HasAccess (rules_of plan) (access_of base) the_vlan port t told false class)
+      → (IsPass (Some (judged_after plan base shut told port t class).verdict) ↔ HasAccess (rules_of plan) (access_of base) the_vlan port t told shut class)
+  unless_shut false told port t class both = both
+  unless_shut true told port t class both = (λ pass. absurd pass, λ has. absurd (none_at_shut told port t class has))
 
   module _ (on : plan.savi ≡ true) where
     event_passed : (past : List Row) (event : Event) → IsLegal plan base past → IsTold plan base past → MayCome plan base past event → PassedRightly plan base past (row_of plan base past event)
@@ -162,7 +170,7 @@ module _ (plan : Plan) (valid : IsValidPlan plan) (base : Base) (within : IsWith
         let after : newest_moment (access_of base) (marks plan base past) ≤ moment_at base past stamp = omega (arith, told.last) in
         let here : role_of plan (number_of port) ≢ roles.Trusted = subst (λ (p : Port). role_of plan (number_of p) ≢ roles.Trusted) (sym same) host in
         subst (λ (p : Port). IsPass (row_of plan base past (Frame port stamp octets)).entry.verdict ↔ HadAccess plan base past (row_of plan base past (Frame port stamp octets)) p) same
-        (unless_shut (is_shut base (number_of port) past) (marks plan base past) port (moment_at base past stamp) (class_of octets) (accessed (rules_of plan) (access_of base) within.access the_vlan port (moment_at base past stamp) soon (marks plan base past) told.right after
+        (unless_shut (is_shut plan base (number_of port) past) (marks plan base past) port (moment_at base past stamp) (class_of octets) (accessed (rules_of plan) (access_of base) within.access the_vlan port (moment_at base past stamp) soon (marks plan base past) told.right after
         (own_ports plan (number_of port) may.0.open_pass.known here) on (unspecified_off_link plan valid) (class_of octets) here ipv6))
     event_passed past (Command stamp line) legal told may at_port frame host ipv6 = absurd (false≢true (ap is_frame frame.frame))
     event_passed past (Long port stamp len) legal told may at_port frame host ipv6 = absurd (false≢true (ap is_frame frame.frame))

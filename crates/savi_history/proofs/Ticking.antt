@@ -38,7 +38,7 @@ module _ (plan : Plan) (base : Base) (past : List Row) (stamp : ℕ) where
 
   verdict_left : (port : Port) (next : ℕ) (octets : List ℕ) → moment_at base past stamp ≤ moment_at base past next → verdict_of plan base ticked port next octets ≡ verdict_of plan base past port next octets
   verdict_left port next octets later =
-      ap (λ (t : ℕ). (judged_after plan base (is_shut base (number_of port) past) (marks plan base past) port t (class_of octets)).verdict) (same_moment next later)
+      ap (λ (t : ℕ). (judged_after plan base (is_shut plan base (number_of port) past) (marks plan base past) port t (class_of octets)).verdict) (same_moment next later)
 
   outs_left : (port : Port) (next : ℕ) (octets : List ℕ) → moment_at base past stamp ≤ moment_at base past next → outs_of plan base ticked port next octets ≡ outs_of plan base past port next octets
   outs_left port next octets later =

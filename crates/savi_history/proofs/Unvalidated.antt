@@ -18,14 +18,15 @@ use Rattle.fcfs_states.specs.declared.times.Times.{Times}
 use Rattle.fcfs_states.specs.declared.answer.Probe.{Probe}
 use Rattle.mix_rules.specs.States.{has_state}
 use Rattle.mix_rules.specs.declared.state.AddrState.{AddrState}
-use Rattle.bind_table.specs.declared.row.Row.{Row as State}
-use Rattle.bind_table.specs.Rows.{address_of, address_row, rows_of, is_below, is_above, state_in, with_state}
-use Rattle.addr_table.specs.declared.sent.SentProbe.{SentProbe}
-use Rattle.addr_table.specs.Sends.{sent_of, all_sends}
-use Rattle.addr_history.specs.Bases.{AddrRules, AddrBase}
-use Rattle.addr_history.specs.Marks.{Named, mark_of}
-use Rattle.addr_history.specs.States.{outcome_by, outcome_of}
-use Rattle.addr_history.specs.Tables.{rows_with, rows_after}
+use Rattle.savi_access.specs.declared.row.Row.{Row as State}
+use Rattle.savi_kinds.specs.Orders.{is_below, is_above}
+use Rattle.savi_access.specs.Rows.{address_of, address_row, rows_of, state_in, with_state}
+use Rattle.savi_access.specs.declared.sent.SentProbe.{SentProbe}
+use Rattle.savi_access.specs.Sends.{sent_of, all_sends}
+use Rattle.savi_access.specs.Bases.{AddrRules, AddrBase}
+use Rattle.savi_access.specs.NamedMarks.{Named, mark_of}
+use Rattle.savi_access.specs.States.{outcome_by, outcome_of}
+use Rattle.savi_access.specs.Tables.{rows_with, rows_after}
 use Rattle.hist_store.specs.Rows.{Row}
 use Rattle.savi_access.specs.Marks.{Mark, Told, Asked, Met, told}
 use Rattle.savi_access.specs.Judged.{Judged, judged_without}
@@ -84,8 +85,8 @@ quiet_event r named s is = by_method (r.method_of named.vlan named.address) is
 
 quiet_rows : (a : ℕ) (state : AddrState) (rows : List State) → state.fcfs ≡ NoBind → AreQuiet rows → AreQuiet (with_state a state rows)
 quiet_rows a state rows quiet all =
-    All-append IsQuiet (filter (is_below a) rows) (rows_of a state ++ filter (is_above a) rows) (All-filter (is_below a) IsQuiet rows all)
-    (All-append IsQuiet (rows_of a state) (filter (is_above a) rows) (own (has_state state)) (All-filter (is_above a) IsQuiet rows all))
+    All-append IsQuiet (filter (is_below address_of a) rows) (rows_of a state ++ filter (is_above address_of a) rows) (All-filter (is_below address_of a) IsQuiet rows all)
+    (All-append IsQuiet (rows_of a state) (filter (is_above address_of a) rows) (own (has_state state)) (All-filter (is_above address_of a) IsQuiet rows all))
   where
     own : (b : Bool) → AreQuiet (if b then address_row a state ∷ [] else [])
     own true = All-cons IsQuiet (address_row a state) [] quiet (All-nil IsQuiet)
@@ -136,7 +137,7 @@ module _ (plan : Plan) (base : Base) (off : plan.savi ≡ false) where
 
   marked_by_operator : (rows : List Row) (r : Row) (act : Act) (past : List Mark) → All IsOfOperator past → All IsOfOperator (marked plan base rows r act past)
   marked_by_operator rows r (Frame port stamp at len) past all =
-      subst (λ (marks : List Mark). All IsOfOperator marks) (sym (frame_tells_nothing (is_shut base (number_of port) rows) past port r.entry.moment (class_of r.octets))) all
+      subst (λ (marks : List Mark). All IsOfOperator marks) (sym (frame_tells_nothing (is_shut plan base (number_of port) rows) past port r.entry.moment (class_of r.octets))) all
   marked_by_operator rows r (Long port stamp len) past all = all
   marked_by_operator rows r (Tick stamp) past all = all
   marked_by_operator rows r (Command stamp at len) past all =
@@ -150,7 +151,7 @@ module _ (plan : Plan) (base : Base) (off : plan.savi ≡ false) where
   operators_marks (r ∷ past) = marked_by_operator past r r.entry.act (marks plan base past) (operators_marks past)
 
   -- the guard decides
-  pub judged_plainly : (past : List Row) (port : Port) (stamp : ℕ) (octets : List ℕ) → is_shut base (number_of port) past ≡ false → judged_of plan base past port stamp octets ≡ judged_without (marks plan base past) (guard_at port (class_of octets))
+  pub judged_plainly : (past : List Row) (port : Port) (stamp : ℕ) (octets : List ℕ) → is_shut plan base (number_of port) past ≡ false → judged_of plan base past port stamp octets ≡ judged_without (marks plan base past) (guard_at port (class_of octets))
   judged_plainly past port stamp octets unshut =
       ap (λ (b : Bool). judged_after plan base b (marks plan base past) port (moment_at base past stamp) (class_of octets)) unshut
       ∙ plainly (marks plan base past) port (moment_at base past stamp) (class_of octets)
@@ -168,7 +169,7 @@ module _ (plan : Plan) (base : Base) (off : plan.savi ≡ false) where
     none_of : (past : List Row) (act : Act) (octets : List ℕ) → probes_of plan base past act octets ≡ []
     none_of past (Frame port stamp at len) octets =
         ap (λ (due : List SentProbe). due ++ in_answer (judged_of plan base past port stamp octets).probe) (none_due past (moment_at base past stamp))
-        ∙ ap in_answer (frame_asks_nothing (is_shut base (number_of port) past) (marks plan base past) port (moment_at base past stamp) (class_of octets))
+        ∙ ap in_answer (frame_asks_nothing (is_shut plan base (number_of port) past) (marks plan base past) port (moment_at base past stamp) (class_of octets))
     none_of past (Long port stamp len) octets = none_due past (moment_at base past stamp)
     none_of past (Tick stamp) octets = none_due past (moment_at base past stamp)
     none_of past (Command stamp at len) octets = none_due past (moment_at base past stamp)

@@ -31,8 +31,8 @@ use Rattle.savi_history.specs.Offers.{Offer, offer_of, due_by, in_answer, probes
 use Rattle.savi_history.specs.Moments.{last_moment, moment_at}
 use Rattle.frame_class.specs.declared.classes.Class.{Class}
 use Rattle.frame_class.specs.ClassOf.{class_of}
-use Rattle.addr_table.specs.declared.sent.SentProbe.{SentProbe}
-use Rattle.addr_history.specs.Probes.{probes_between}
+use Rattle.savi_access.specs.declared.sent.SentProbe.{SentProbe}
+use Rattle.savi_access.specs.Probes.{probes_between}
 use Rattle.savi_access.specs.Rules.{AccessRules}
 use Rattle.savi_access.specs.Marks.{Mark, Told, told}
 use Rattle.savi_access.specs.Judged.{Judged, judged}
@@ -40,19 +40,19 @@ use Rattle.savi_access.specs.Plans.{has_port, role_of, vlan_by, vlan_among, meth
 use Rattle.savi_history.specs.Vlans.{the_vlan}
 use Rattle.fcfs_states.specs.declared.event.Ev.{Ev}
 use Rattle.fcfs_states.specs.declared.event.Ev.TheVariants.{Fix, Clear}
-use Rattle.bind_table.specs.declared.row.Row.{Row as State}
-use Rattle.addr_table.specs.Rooms.{room_for}
-use Rattle.addr_history.specs.Tables.{rows_at}
+use Rattle.savi_access.specs.declared.row.Row.{Row as State}
+use Rattle.savi_access.specs.Rooms.{room_for}
+use Rattle.savi_access.specs.Tables.{rows_at}
 use Rattle.cli_lang.specs.declared.kinds.Command.{Command as Order}
 use Rattle.cli_lang.specs.declared.kinds.Command.TheVariants as orders
 use Rattle.cli_lang.specs.declared.kinds.CmdFault.{CmdFault}
 use Rattle.cli_lang.specs.CommandOf.{command_of}
 use Rattle.control_replies.specs.declared.refusal.Refusal.{Refusal}
 use Rattle.control_replies.specs.declared.refusal.Refusal.TheVariants as refusals
-use Rattle.savi_history.specs.ShutPorts.{is_shut}
+use Rattle.savi_history.specs.ShutPorts.{is_heard_at, shut_by, shut_after, is_shut}
 use Rattle.savi_history.specs.Commands.{rows_told, may_hold, refusal_of, with_mark, ordered_unless, commanded}
 use Rattle.savi_history.specs.Marks.{judged_after, marked, marks}
-use Rattle.savi_history.specs.Judged.{judged_of, verdict_of}
+use Rattle.savi_history.specs.Judged.{judged_of, verdict_of, long_by, judged_long}
 use Rattle.savi_history.specs.Stations.{known_port}
 use Rattle.savi_history.specs.Outs.{is_in_scope, directed, outs_by, without_shut, outs}
 use Rattle.savi_history.specs.Queues.{Item, probe_item, is_probed, offered_at, room_at, all_joined, probed, framed, waiting_after, queue, queued_at, lost_at, over_ports, probes, lost, is_closed, cuts}
@@ -131,6 +131,35 @@ module _ (plan : Plan) (base : Base) where
   known_kept : (number : ℕ) → has_port (without_names plan) number ≡ has_port plan number
   known_kept number = ap (λ (numbers : List ℕ). list_any (λ n. n == number) numbers) (numbers_kept plan.ports)
 
+  heard_kept : (port : Port) (number : ℕ) → is_heard_at (without_names plan) port number ≡ is_heard_at plan port number
+  heard_kept port number = ap (λ (known : Bool). known && number_of port == number) (known_kept (number_of port))
+
+  shut_by_kept : (number : ℕ) (order : Result Order CmdFault) (before : Bool) → shut_by (without_names plan) number order before ≡ shut_by plan number order before
+  shut_by_kept number (Ok (orders.Shut port)) before = ap (λ (heard : Bool). if heard then true else before) (heard_kept port number)
+  shut_by_kept number (Ok (orders.Reopen port)) before = ap (λ (heard : Bool). if heard then false else before) (heard_kept port number)
+  shut_by_kept number (Ok (orders.Static address port)) before = refl
+  shut_by_kept number (Ok (orders.Clear address)) before = refl
+  shut_by_kept number (Ok orders.ShowBindings) before = refl
+  shut_by_kept number (Ok orders.ShowPorts) before = refl
+  shut_by_kept number (Ok orders.ShowCounters) before = refl
+  shut_by_kept number (Ok orders.ShowStations) before = refl
+  shut_by_kept number (Ok orders.Quit) before = refl
+  shut_by_kept number (Err fault) before = refl
+
+  shut_after_kept : (number : ℕ) (octets : List ℕ) (act : Act) (before : Bool) → shut_after (without_names plan) number octets act before ≡ shut_after plan number octets act before
+  shut_after_kept number octets (acts.Command stamp at len) before = shut_by_kept number (command_of octets) before
+  shut_after_kept number octets (acts.Frame port stamp at len) before = refl
+  shut_after_kept number octets (acts.Long port stamp len) before = refl
+  shut_after_kept number octets (acts.Tick stamp) before = refl
+  shut_after_kept number octets (acts.Drain port count) before = refl
+  shut_after_kept number octets (acts.End who how) before = refl
+
+  pub shut_kept : (number : ℕ) (past : List Row) → is_shut (without_names plan) base number past ≡ is_shut plan base number past
+  shut_kept number [] = refl
+  shut_kept number (r ∷ past) =
+      shut_after_kept number r.octets r.entry.act (is_shut (without_names plan) base number past)
+      ∙ ap (λ (before : Bool). shut_after plan number r.octets r.entry.act before) (shut_kept number past)
+
   refusal_kept : (rows : List State) (order : Result Order CmdFault) → refusal_of (without_names plan) rows order ≡ refusal_of plan rows order
   refusal_kept rows (Err fault) = refl
   refusal_kept rows (Ok (orders.Static address port)) =
@@ -169,7 +198,9 @@ module _ (plan : Plan) (base : Base) where
       (refusal_kept (rows_told (without_names plan) (access_of base) past moment) order ∙ ap (λ (rows : List State). refusal_of plan rows order) (table_kept past moment))
 
   marked_kept : (rows : List Row) (r : Row) (act : Act) (past : List Mark) → marked (without_names plan) base rows r act past ≡ marked plan base rows r act past
-  marked_kept rows r (acts.Frame port stamp at len) past = ap (λ (j : Judged). j.marks) (after_is (is_shut base (number_of port) rows) past port r.entry.moment (class_of r.octets))
+  marked_kept rows r (acts.Frame port stamp at len) past =
+      ap (λ (shut : Bool). (judged_after (without_names plan) base shut past port r.entry.moment (class_of r.octets)).marks) (shut_kept (number_of port) rows)
+      ∙ ap (λ (j : Judged). j.marks) (after_is (is_shut plan base (number_of port) rows) past port r.entry.moment (class_of r.octets))
   marked_kept rows r (acts.Long port stamp len) past = refl
   marked_kept rows r (acts.Tick stamp) past = refl
   marked_kept rows r (acts.Command stamp at len) past = commanded_kept r.entry.moment (command_of r.octets) past
@@ -182,8 +213,9 @@ module _ (plan : Plan) (base : Base) where
 
   judged_kept : (past : List Row) (port : Port) (stamp : ℕ) (octets : List ℕ) → judged_of (without_names plan) base past port stamp octets ≡ judged_of plan base past port stamp octets
   judged_kept past port stamp octets =
-      after_is (is_shut base (number_of port) past) (marks (without_names plan) base past) port (moment_at base past stamp) (class_of octets)
-      ∙ ap (λ (all : List Mark). judged_after plan base (is_shut base (number_of port) past) all port (moment_at base past stamp) (class_of octets)) (marks_kept past)
+      ap (λ (shut : Bool). judged_after (without_names plan) base shut (marks (without_names plan) base past) port (moment_at base past stamp) (class_of octets)) (shut_kept (number_of port) past)
+      ∙ after_is (is_shut plan base (number_of port) past) (marks (without_names plan) base past) port (moment_at base past stamp) (class_of octets)
+      ∙ ap (λ (all : List Mark). judged_after plan base (is_shut plan base (number_of port) past) all port (moment_at base past stamp) (class_of octets)) (marks_kept past)
 
   due_kept : (past : List Row) (moment : ℕ) → due_by (without_names plan) base past moment ≡ due_by plan base past moment
   due_kept past moment =
@@ -228,7 +260,9 @@ outs_by_kept plan port known (Drop rule) = refl
 
 outs_kept : (plan : Plan) (base : Base) (past : List Row) (port moment : ℕ) (octets : List ℕ) (verdict : Verdict) → outs the_vlan (without_names plan) base past port moment octets verdict ≡ outs the_vlan plan base past port moment octets verdict
 outs_kept plan base past port moment octets verdict =
-    ap (λ (numbers : List ℕ). set_of (filter (λ q. is_member (outs_by (without_names plan) port (known_port the_vlan base past moment octets) verdict) q && not (is_shut base q past)) numbers)) (numbers_kept plan.ports)
+    ap (λ (shut : ℕ → Bool). set_of (filter (λ q. is_member (outs_by (without_names plan) port (known_port the_vlan base past moment octets) verdict) q && not (shut q)) (numbers_of (map without_port_names plan.ports))))
+    (fun_ext (λ q. shut_kept plan base q past))
+    ∙ ap (λ (numbers : List ℕ). set_of (filter (λ q. is_member (outs_by (without_names plan) port (known_port the_vlan base past moment octets) verdict) q && not (is_shut plan base q past)) numbers)) (numbers_kept plan.ports)
     ∙ ap (λ (set : PortSet). without_shut plan base past set) (outs_by_kept plan port (known_port the_vlan base past moment octets) verdict)
 
 -- what waits
@@ -246,8 +280,10 @@ module _ (plan : Plan) (base : Base) where
   room_kept past q = ap (λ (pass : ℕ). if has_ended base pass past then 0 else plan.depth) (egress_kept q)
 
   probed_port_kept : (past : List Row) (q : ℕ) (probe : Probe) → is_probed bare base past q probe ≡ is_probed plan base past q probe
-  probed_port_kept past q Trusted = ap (λ (role : Role). is_trusted role && not (is_shut base q past)) (role_among_kept plan.ports q)
-  probed_port_kept past q (To port) = refl
+  probed_port_kept past q Trusted =
+      ap (λ (shut : Bool). is_trusted (role_among (map without_port_names plan.ports) q) && not shut) (shut_kept plan base q past)
+      ∙ ap (λ (role : Role). is_trusted role && not (is_shut plan base q past)) (role_among_kept plan.ports q)
+  probed_port_kept past q (To port) = ap (λ (shut : Bool). number_of port == q && not shut) (shut_kept plan base q past)
 
   offers_kept : (past : List Row) (act : Act) (octets : List ℕ) → offers bare base past act octets ≡ offers plan base past act octets
   unfolding offers
@@ -352,7 +388,8 @@ row_kept plan base past (Long port stamp len) =
     let by = pass_kept plan (passes.Ingress port) in
     let queued = probes_kept plan base past (acts.Long port stamp len) [] in
     let missed = lost_kept plan base past (acts.Long port stamp len) [] in
-    cc (by, queued, missed)
+    let verdict : judged_long (without_names plan) base past port ≡ judged_long plan base past port = ap long_by (shut_kept plan base (number_of port) past) in
+    cc (by, verdict, queued, missed)
 row_kept plan base past (Command stamp line) =
     let by = pass_kept plan passes.Control in
     let queued = probes_kept plan base past (command_act past stamp line) line in

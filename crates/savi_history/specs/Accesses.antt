@@ -1,5 +1,5 @@
 -- Access over a history: which IPv6 frames passed at the ports of hosts and servers.
-use Rattle.std.specs.Prelude.{◌≡◌, ◌≢◌, false, ◌≤◌, ◌↔◌, List, [], ◌∷◌}
+use Rattle.std.specs.Prelude.{◌≢◌, ◌≤◌, ◌↔◌, List, [], ◌∷◌}
 use Rattle.savi_kinds.specs.declared.plan.Plan.{Plan}
 use Rattle.savi_kinds.specs.declared.plan.Role.TheVariants.{Trusted}
 use Rattle.savi_kinds.specs.declared.port.Port.{Port}
@@ -18,12 +18,11 @@ use Rattle.savi_history.specs.ShutPorts.{is_shut}
 use Rattle.savi_history.specs.Marks.{marks}
 use Rattle.savi_history.specs.Adverts.{IsFrameAt}
 
--- The frame of a row had access at the port, by what was told before it: the port wasn't shut, no rule on messages stopped
--- the frame, and its source was live there at the row's moment, or a named exception permitted it.
+-- the frame of a row had access at the port (`savi_access/specs/Access`), by what was told before it
 abbrev pub HadAccess : Plan → Base → List Row → Row → Port → Type 0
 HadAccess plan base past r port =
-    (is_shut base (number_of port) past ≡ false)
-    × HasAccess (rules_of plan) (access_of base) the_vlan port r.entry.moment (marks plan base past) (class_of r.octets)
+    HasAccess (rules_of plan) (access_of base) the_vlan port r.entry.moment (marks plan base past)
+    (is_shut plan base (number_of port) past) (class_of r.octets)
 
 -- where the row is of an IPv6 frame at a port of a host or a server, the frame passed exactly where it had access
 abbrev pub PassedRightly : Plan → Base → List Row → Row → Type 0

@@ -2,7 +2,7 @@
 use Rattle.std.specs.Prelude.{ℕ, List, []}
 use Rattle.bridge_fdb.specs.declared.station.Station.{Station}
 use Rattle.dhcp_states.specs.declared.request.Request.{Request}
-use Rattle.bind_table.specs.declared.row.Row.{Row}
+use Rattle.savi_access.specs.declared.row.Row.{Row}
 use Rattle.savi_access.specs.Rules.{AccessBase}
 
 pub record Base : Type 0 where

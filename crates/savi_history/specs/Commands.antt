@@ -6,10 +6,10 @@ use Rattle.savi_kinds.specs.Ports.{number_of}
 use Rattle.fcfs_states.specs.declared.event.Ev.{Ev}
 use Rattle.fcfs_states.specs.declared.event.Ev.TheVariants.{Fix, Clear}
 use Rattle.mix_rules.specs.States.{has_state, is_held_at}
-use Rattle.bind_table.specs.declared.row.Row.{Row}
-use Rattle.bind_table.specs.Rows.{state_in}
-use Rattle.addr_table.specs.Rooms.{may_hold_more, room_for}
-use Rattle.addr_history.specs.Tables.{rows_at}
+use Rattle.savi_access.specs.declared.row.Row.{Row}
+use Rattle.savi_access.specs.Rows.{state_in}
+use Rattle.savi_access.specs.Rooms.{may_hold_more}
+use Rattle.savi_access.specs.Tables.{rows_at}
 use Rattle.cli_lang.specs.declared.kinds.Command.{Command}
 use Rattle.cli_lang.specs.declared.kinds.Command.TheVariants as orders
 use Rattle.cli_lang.specs.declared.kinds.CmdFault.{CmdFault}
@@ -17,7 +17,7 @@ use Rattle.cli_lang.specs.declared.kinds.CmdFault.TheVariants as faults
 use Rattle.control_replies.specs.declared.refusal.Refusal.{Refusal}
 use Rattle.control_replies.specs.declared.refusal.Refusal.TheVariants as refusals
 use Rattle.savi_access.specs.Rules.{AccessBase}
-use Rattle.savi_access.specs.Marks.{Mark, Told, told}
+use Rattle.savi_access.specs.Marks.{Mark, Told, told, named_for}
 use Rattle.savi_access.specs.Plans.{rules_of, has_port, role_of, method_in}
 use Rattle.savi_history.specs.Vlans.{the_vlan}
 use Rattle.savi_history.specs.Passes.{is_trusted}
@@ -66,15 +66,9 @@ refusal_of plan rows (Ok orders.ShowCounters) = None
 refusal_of plan rows (Ok orders.ShowStations) = None
 refusal_of plan rows (Ok orders.Quit) = None
 
--- the mark of an event on an address at this moment
+-- the marks with that of an event on an address at this moment
 abbrev pub with_mark : Plan → AccessBase → ℕ → ℕ → Ev → List Mark → List Mark
-with_mark plan base moment a event marks = Told (record {
-  vlan = the_vlan;
-  address = a;
-  moment = moment;
-  event = event;
-  room = room_for plan.per_port (rows_told plan base marks moment) event;
-}) ∷ marks
+with_mark plan base moment a event marks = Told (named_for (rules_of plan) base the_vlan moment marks a event) ∷ marks
 
 -- the marks behind a command that isn't refused: `static` fixes its address to its port, and `clear` leaves no state
 abbrev pub ordered : Plan → AccessBase → ℕ → Result Command CmdFault → List Mark → List Mark

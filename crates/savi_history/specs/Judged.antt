@@ -18,7 +18,7 @@ use Rattle.savi_history.specs.Marks.{marks, judged_after}
 -- what a frame with these octets at a port comes to after this past
 abbrev pub judged_of : Plan → Base → List Row → Port → ℕ → List ℕ → Judged
 judged_of plan base past port stamp octets =
-    judged_after plan base (is_shut base (number_of port) past) (marks plan base past) port (moment_at base past stamp) (class_of octets)
+    judged_after plan base (is_shut plan base (number_of port) past) (marks plan base past) port (moment_at base past stamp) (class_of octets)
 
 abbrev pub verdict_of : Plan → Base → List Row → Port → ℕ → List ℕ → Verdict
 verdict_of plan base past port stamp octets = (judged_of plan base past port stamp octets).verdict
@@ -28,5 +28,5 @@ abbrev pub long_by : Bool → Verdict
 long_by true = Drop PortDown
 long_by false = Drop Malformed
 
-abbrev pub judged_long : Base → List Row → Port → Verdict
-judged_long base past port = long_by (is_shut base (number_of port) past)
+abbrev pub judged_long : Plan → Base → List Row → Port → Verdict
+judged_long plan base past port = long_by (is_shut plan base (number_of port) past)

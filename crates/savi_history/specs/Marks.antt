@@ -32,7 +32,7 @@ judged_after plan base shut told port moment class = judged_at (rules_of plan) (
 -- the marks after an entry, by those before it and by the past: a frame and a command add their own in front
 abbrev pub marked : Plan → Base → List Row → Row → Act → List Mark → List Mark
 marked plan base past r (Frame port stamp at len) told =
-    (judged_after plan base (is_shut base (number_of port) past) told port r.entry.moment (class_of r.octets)).marks
+    (judged_after plan base (is_shut plan base (number_of port) past) told port r.entry.moment (class_of r.octets)).marks
 marked plan base past r (Long port stamp len) told = told
 marked plan base past r (Tick stamp) told = told
 marked plan base past r (Command stamp at len) told = commanded plan (access_of base) r.entry.moment (command_of r.octets) told

@@ -7,8 +7,8 @@ use Rattle.savi_kinds.specs.declared.address.Addr.{Addr}
 use Rattle.savi_kinds.specs.declared.entry.Act.{Act}
 use Rattle.savi_kinds.specs.declared.entry.Act.TheVariants.{Frame, Long, Tick, Command, Drain, End}
 use Rattle.fcfs_states.specs.declared.answer.Probe.{Probe}
-use Rattle.addr_table.specs.declared.sent.SentProbe.{SentProbe}
-use Rattle.addr_history.specs.Probes.{probes_between}
+use Rattle.savi_access.specs.declared.sent.SentProbe.{SentProbe}
+use Rattle.savi_access.specs.Probes.{probes_between}
 use Rattle.hist_store.specs.Rows.{Row}
 use Rattle.savi_access.specs.Marks.{told}
 use Rattle.savi_access.specs.Plans.{rules_of}

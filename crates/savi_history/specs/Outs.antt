@@ -41,7 +41,7 @@ outs_by plan port known (Drop rule) = no_ports
 
 -- of a set of ports those of the plan that aren't shut
 abbrev pub without_shut : Plan → Base → List Row → PortSet → PortSet
-without_shut plan base past set = set_of (filter (λ q. is_member set q && not (is_shut base q past)) (numbers_of plan.ports))
+without_shut plan base past set = set_of (filter (λ q. is_member set q && not (is_shut plan base q past)) (numbers_of plan.ports))
 
 -- the ports to which these octets go in this VLAN with this verdict, at this moment and after this past
 abbrev pub outs : ℕ → Plan → Base → List Row → ℕ → ℕ → List ℕ → Verdict → PortSet

@@ -41,7 +41,7 @@ is_for plan q (To port) = number_of port == q
 
 -- whether it goes there: not where the port is shut
 abbrev pub is_probed : Plan → Base → List Row → ℕ → Probe → Bool
-is_probed plan base past q probe = is_for plan q probe && not (is_shut base q past)
+is_probed plan base past q probe = is_for plan q probe && not (is_shut plan base q past)
 
 -- the probes that an entry with this act and these octets offers to q, in order
 abbrev pub offered_at : Plan → Base → List Row → Act → List ℕ → ℕ → List Item

@@ -9,7 +9,7 @@ use Rattle.savi_kinds.specs.declared.verdict.Verdict.TheVariants.{Pass, Drop}
 use Rattle.savi_kinds.specs.Ports.{number_of}
 use Rattle.savi_kinds.specs.Rules.{rule_number}
 use Rattle.dhcp_states.specs.Requests.{requests_at_port}
-use Rattle.bind_table.specs.Rows.{count_at}
+use Rattle.savi_access.specs.Rows.{count_at}
 use Rattle.bridge_fdb.specs.Stations.{live_at, station_told}
 use Rattle.cli_lang.specs.declared.kinds.Command.{Command}
 use Rattle.cli_lang.specs.declared.kinds.Command.TheVariants.{ShowBindings, ShowPorts, ShowCounters, ShowStations, Clear, Static, Shut, Reopen, Quit}
@@ -56,7 +56,7 @@ abbrev pub port_row : Plan → Base → List Row → ℕ → PortPlan → PortRo
 port_row plan base past moment port = record {
   number = port.number;
   role = port.role;
-  is_shut = is_shut base (number_of port.number) past;
+  is_shut = is_shut plan base (number_of port.number) past;
   held = count_at (number_of port.number) (rows_told plan (access_of base) (marks plan base past) moment);
   pending = requests_at_port (number_of port.number) (open_requests (access_of base) the_vlan (marks plan base past) moment);
   queued = length (queue plan base (number_of port.number) past);

@@ -28,7 +28,7 @@ pub record IsDirected (plan : Plan) (base : Base) (past : List Row) (r : Row) (p
   -- to the port of the station that it is for, and to no other
   pub alone : (place : Port) (n : ℕ) → KnownBefore base past r place → 1 ≤ n → is_member r.entry.outs n ≡ true → n ≡ number_of place
   -- there it does go, if it may go everywhere and that is another port of the plan, which isn't shut
-  pub reached : (place : Port) → KnownBefore base past r place → r.entry.verdict ≡ Some (Pass scopes.All) → has_port plan (number_of place) ≡ true → is_shut base (number_of place) past ≡ false → number_of place ≢ number_of port → is_member r.entry.outs (number_of place) ≡ true
+  pub reached : (place : Port) → KnownBefore base past r place → r.entry.verdict ≡ Some (Pass scopes.All) → has_port plan (number_of place) ≡ true → is_shut plan base (number_of place) past ≡ false → number_of place ≢ number_of port → is_member r.entry.outs (number_of place) ≡ true
 
 abbrev pub IsDirectedBy : Plan → Base → List Row → Row → Act → Type 0
 IsDirectedBy plan base past r (Frame port stamp at len) = IsDirected plan base past r port

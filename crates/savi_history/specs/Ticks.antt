@@ -4,8 +4,8 @@ use Rattle.savi_kinds.specs.declared.plan.Plan.{Plan}
 use Rattle.savi_kinds.specs.declared.port.Port.{Port}
 use Rattle.bridge_fdb.specs.Stations.{live_at}
 use Rattle.hist_store.specs.Rows.{Row}
-use Rattle.addr_history.specs.States.{state_at}
-use Rattle.addr_history.specs.Probes.{HasChanged}
+use Rattle.savi_access.specs.States.{state_at}
+use Rattle.savi_access.specs.Probes.{HasChanged}
 use Rattle.savi_access.specs.Marks.{told, open_requests}
 use Rattle.savi_access.specs.Plans.{rules_of}
 use Rattle.savi_history.specs.Bases.{Base, access_of}
@@ -33,7 +33,7 @@ pub record IsSameFrom (plan : Plan) (base : Base) (moment : ℕ) (past other : L
       → open_requests (access_of base) vlan (marks plan base past) t ≡ open_requests (access_of base) vlan (marks plan base other) t
   pub stations : (t vlan : ℕ) → moment ≤ t
       → live_at t (stations vlan base past) ≡ live_at t (stations vlan base other)
-  pub shut : (q : ℕ) → is_shut base q past ≡ is_shut base q other
+  pub shut : (q : ℕ) → is_shut plan base q past ≡ is_shut plan base q other
   pub verdicts : (port : Port) (stamp : ℕ) (octets : List ℕ) → moment ≤ moment_at base other stamp
       → verdict_of plan base past port stamp octets ≡ verdict_of plan base other port stamp octets
   pub outs : (port : Port) (stamp : ℕ) (octets : List ℕ) → moment ≤ moment_at base other stamp

@@ -1,6 +1,6 @@
 //! The laws on whole histories. Each function does nothing: its contract is the law.
 
-ghost use Rattle.std.specs.Prelude.{◌≡◌, ◌≢◌, ◌<◌, ◌≤◌, ◌++◌, ◌⊎◌, ℕ, true, false, List, [], length, slice_index, Option, Some, None, All};
+ghost use Rattle.std.specs.Prelude.{◌≡◌, ◌≢◌, ◌<◌, ◌≤◌, ◌++◌, ◌⊎◌, ℕ, Bool, true, false, List, [], length, slice_index, Option, Some, None, Result, All};
 ghost use Rattle.savi_kinds.specs.Arrivals.{Input};
 ghost use Rattle.savi_kinds.specs.ValidPlan.{IsValidPlan, numbers_of};
 ghost use Rattle.savi_kinds.specs.declared.entry.Act.{Act};
@@ -10,7 +10,7 @@ ghost use Rattle.hist_store.specs.JournalTexts.{address_text};
 ghost use Rattle.hist_store.specs.Rows.{Row};
 ghost use Rattle.savi_history.specs.Bases.{Base, empty, access_of};
 ghost use Rattle.savi_history.specs.Legal.{IsLegal, IsFinished, MayCome};
-ghost use Rattle.savi_history.specs.CameFirst.{IsLiveAtEnd, IsLostSince};
+ghost use Rattle.savi_history.specs.CameFirst.{IsLiveAtEnd, IsLostSince, AllKeepWhoCameFirst};
 ghost use Rattle.savi_history.specs.Events.{Frame, outs_of};
 ghost use Rattle.savi_history.specs.Moments.{last_moment, moment_at};
 ghost use Rattle.savi_access.specs.Rules.{IsAccessBase};
@@ -44,10 +44,15 @@ ghost use Rattle.savi_access.specs.Judged.{drops, judged_without};
 ghost use Rattle.savi_kinds.specs.PortSets.{is_member};
 ghost use Rattle.savi_kinds.specs.declared.verdict.Rule.TheVariants.{PortDown};
 ghost use Rattle.savi_kinds.specs.declared.verdict.Verdict.TheVariants.{Drop};
-ghost use Rattle.savi_history.specs.ShutPorts.{is_shut};
+ghost use Rattle.savi_history.specs.ShutPorts.{is_shut, shut_by};
+ghost use Rattle.savi_history.specs.Commands.{refusal_of};
+ghost use Rattle.cli_lang.specs.declared.kinds.Command.{Command};
+ghost use Rattle.cli_lang.specs.declared.kinds.CmdFault.{CmdFault};
+ghost use Rattle.control_replies.specs.declared.refusal.Refusal.{Refusal};
+ghost use Rattle.savi_access.specs.declared.row.Row.{Row as AddressRow};
 ghost use Rattle.savi_history.specs.Offers.{offers};
 ghost use Rattle.savi_history.specs.Ticks.{TickLeaves};
-ghost use Rattle.savi_history.specs.Passes.{role_of};
+ghost use Rattle.savi_history.specs.Passes.{role_of, has_port};
 ghost use Rattle.frame_class.specs.ClassOf.{class_of};
 ghost use Rattle.savi_kinds.specs.Ports.{number_of};
 ghost use Rattle.savi_kinds.specs.declared.port.Port.{Port};
@@ -72,18 +77,20 @@ pub fn packets_pass_where_their_source_is_live()
         → IsLegal plan base past → All (λ r. IsBytes r.octets) past → AllPassedRightly plan base past }
 {}
 
-/// First come, first served, over histories of a switch that validates sources. An address was live at a port at some
-/// moment, and a frame that came in later at another port of a host or a server passes with that address as its source. Then
-/// its first port had lost it by one of three causes.
+/// First come, first served, over histories of a switch that validates sources. Where an address is live at a port after the
+/// first entries of a legal history, and a later entry is a frame that passes at another port of a host or a server with that
+/// address as its source, its first port had lost it by one of three causes (`all`). The same of a frame that comes in next
+/// (`next`).
 pub fn histories_keep_who_came_first()
-    ensures { (plan : Plan) (base : Base) (early late : List Row) (p q : Port) (stamp : ℕ) (octets : List ℕ) (eth : Eth) (ip : Ip) (read : Read) (m : Method)
+    ensures all { (plan : Plan) (base : Base) (past : List Row) → IsValidPlan plan → IsWithinLimits plan base → plan.savi ≡ true
+        → IsLegal plan base past → All (λ r. IsBytes r.octets) past → AllKeepWhoCameFirst plan base past }
+    ensures next { (plan : Plan) (base : Base) (early late : List Row) (p q : Port) (stamp : ℕ) (octets : List ℕ) (eth : Eth) (ip : Ip) (read : Read)
         → IsValidPlan plan → IsWithinLimits plan base → plan.savi ≡ true
         → IsLegal plan base (late ++ early) → All (λ r. IsBytes r.octets) (late ++ early)
         → MayCome plan base (late ++ early) (Frame q stamp octets) → class_of octets ≡ Ip6 eth ip read
-        → role_of plan (number_of q) ≢ Trusted → (rules_of plan).addresses.method_of the_vlan ip.src.0 ≡ Some m
-        → IsLiveAtEnd plan base early ip.src.0 p → ¬ Same q p
+        → role_of plan (number_of q) ≢ Trusted → IsLiveAtEnd plan base early ip.src.0 p → ¬ Same q p
         → IsPass (Some (verdict_of plan base (late ++ early) q stamp octets))
-        → IsLostSince plan base early late (moment_at base (late ++ early) stamp) ip.src.0 m p }
+        → IsLostSince plan base early late (moment_at base (late ++ early) stamp) ip.src.0 p }
 {}
 
 /// The start of a switch with a valid plan is within the limits.
@@ -138,19 +145,26 @@ pub fn ticks_change_nothing_later()
 pub fn probes_come_with_validation()
     ensures offers { (plan : Plan) (base : Base) (past : List Row) (act : Act) (octets : List ℕ) → plan.savi ≡ false → base.rows the_vlan ≡ [] → offers plan base past act octets ≡ [] }
     ensures marks { (plan : Plan) (base : Base) (past : List Row) → plan.savi ≡ false → All IsOfOperator (marks plan base past) }
-    ensures judged { (plan : Plan) (base : Base) (past : List Row) (port : Port) (stamp : ℕ) (octets : List ℕ) → plan.savi ≡ false → is_shut base (number_of port) past ≡ false
+    ensures judged { (plan : Plan) (base : Base) (past : List Row) (port : Port) (stamp : ℕ) (octets : List ℕ) → plan.savi ≡ false → is_shut plan base (number_of port) past ≡ false
         → judged_of plan base past port stamp octets ≡ judged_without (marks plan base past) (guard_of (role_of plan (number_of port)) plan.drop_unknown (class_of octets)) }
+{}
+
+/// Which ports are shut is by the commands that are answered `ok`: one that is refused shuts and opens none, whichever
+/// addresses have a state (`refused`). Only ports of the plan are shut (`inside`).
+pub fn refused_commands_shut_no_port()
+    ensures refused { (plan : Plan) (rows : List AddressRow) (order : Result Command CmdFault) (refusal : Refusal) (number : ℕ) (before : Bool) → refusal_of plan rows order ≡ Some refusal → shut_by plan number order before ≡ before }
+    ensures inside { (plan : Plan) (base : Base) (past : List Row) (number : ℕ) → IsWithinLimits plan base → is_shut plan base number past ≡ true → has_port plan number ≡ true }
 {}
 
 /// A shut port takes no part: each frame that comes in there is dropped for it and tells nothing, and neither a frame nor a
 /// probe goes to it.
 pub fn shut_ports_take_no_part()
-    ensures dropped { (plan : Plan) (base : Base) (past : List Row) (port : Port) (stamp : ℕ) (octets : List ℕ) → is_shut base (number_of port) past ≡ true
+    ensures dropped { (plan : Plan) (base : Base) (past : List Row) (port : Port) (stamp : ℕ) (octets : List ℕ) → is_shut plan base (number_of port) past ≡ true
         → judged_of plan base past port stamp octets ≡ drops PortDown (marks plan base past) }
-    ensures long { (base : Base) (past : List Row) (port : Port) → is_shut base (number_of port) past ≡ true → judged_long base past port ≡ Drop PortDown }
-    ensures frames { (plan : Plan) (base : Base) (past : List Row) (port : Port) (stamp : ℕ) (octets : List ℕ) (q : ℕ) → 1 ≤ q → is_shut base q past ≡ true
+    ensures long { (plan : Plan) (base : Base) (past : List Row) (port : Port) → is_shut plan base (number_of port) past ≡ true → judged_long plan base past port ≡ Drop PortDown }
+    ensures frames { (plan : Plan) (base : Base) (past : List Row) (port : Port) (stamp : ℕ) (octets : List ℕ) (q : ℕ) → 1 ≤ q → is_shut plan base q past ≡ true
         → is_member (outs_of plan base past port stamp octets) q ≡ false }
-    ensures probes { (plan : Plan) (base : Base) (past : List Row) (act : Act) (octets : List ℕ) (q : ℕ) → is_shut base q past ≡ true → offered_at plan base past act octets q ≡ [] }
+    ensures probes { (plan : Plan) (base : Base) (past : List Row) (act : Act) (octets : List ℕ) (q : ℕ) → is_shut plan base q past ≡ true → offered_at plan base past act octets q ≡ [] }
 {}
 
 /// In the history of a replay of control's input, where it has one, and of one input for each port of the plan, every pass

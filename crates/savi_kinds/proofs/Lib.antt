@@ -1,6 +1,7 @@
 pub mod Members
 pub mod Colons
 pub mod AddrGrammar
+pub mod AddrFound
 pub mod AddrSpelling
 pub mod MacGrammar
 pub mod DecimalGrammar
@@ -8,6 +9,7 @@ pub mod PrefixGrammar
 pub mod AddrWritten
 pub mod Filters
 pub mod Pairs
+pub mod Orders
 pub mod PortCounts
 pub mod Lists
 pub mod PortNumbers

@@ -1,4 +1,5 @@
 pub mod Ports
+pub mod Orders
 pub mod PortSets
 pub mod Rules
 pub mod Prefixes
@@ -8,5 +9,6 @@ pub mod ValidPlan
 pub mod PlanWords
 pub mod Arrivals
 pub mod AddrText
+pub mod AddrOf
 pub mod PrefixText
 pub mod Characters

@@ -2,6 +2,7 @@ ghost use Rattle.std.specs.Prelude.{◌≡◌, ◌+◌, ◌*◌, ◌≤◌, ◌+
 ghost use Rattle.std.specs.Net.Text.{hex, longest_zero_run as first_longest_run};
 ghost use Rattle.arrayvec.specs.ArrayString.{array_string_len};
 ghost use Rattle.savi_kinds.specs.declared.address.Addr.{Addr};
+ghost use Rattle.savi_kinds.specs.AddrOf.{addr_of};
 ghost use Rattle.savi_kinds.specs.AddrText.{IsAddrText, addr_text, groups_text, groups_of as groups_of_addr};
 
 use crate::address::Addr;
@@ -31,6 +32,7 @@ const TWO_DIGITS: u16 = 0x10;
 pub fn read_addr(text: &[u8]) -> Option<Addr>
     ensures read { IfSome result (IsAddrText text.now) }
     ensures only { IfNone result ((a : Addr) → ¬ IsAddrText text.now a) }
+    ensures value { result ≡ addr_of text.now }
 {
     // The library reads form 3 too, in which alone dots stand.
     if text.contains(&b'.') {

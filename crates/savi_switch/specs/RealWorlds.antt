@@ -8,7 +8,8 @@ use Rattle.socket_ends.specs.declared.socket_source.SocketSource.{SocketSource}
 use Rattle.socket_ends.specs.declared.socket_sink.SocketSink.{SocketSink}
 use Rattle.port_ends.specs.declared.port_source.PortSource.{PortSource}
 use Rattle.port_ends.specs.declared.port_sink.PortSink.{PortSink}
-use Rattle.savi_switch.specs.declared.machine_clock.MachineClock.{MachineClock}
+use Rattle.std.specs.declared.rt.LibcRuntime.{LibcRuntime}
+use Rattle.port_ends.specs.declared.machine_clock.MachineClock.{MachineClock}
 use Rattle.savi_switch.specs.declared.real_world.RealWorld.{RealWorld}
 use Rattle.end_places.specs.Spots.{spot_place}
 use Rattle.end_places.specs.NamedSpots.{named_place}
@@ -19,13 +20,13 @@ std_place w Out = spot_place w.out
 std_place w Err = spot_place w.err
 
 abbrev pub book_of : {R A B C D : Type 0} → RealWorld R A B C D →
-    Book (PortSource FileSource (SocketSource R A B C D)) (PortSink FileSink (SocketSink R A B C D)) MachineClock
+    Book (PortSource FileSource (SocketSource R A B C D)) (PortSink FileSink (SocketSink R A B C D)) (MachineClock LibcRuntime)
 book_of w = record {
   faults = w.faults;
   inputs = named_place w.input;
   outputs = named_place w.output;
-  ports = port_place w.ports;
-  control = spot_place w.control;
+  ports = λ key. port_place w.ports key.number;
+  control = λ key. spot_place w.control;
   ticker = spot_place w.ticker;
   std = std_place w;
 }

@@ -8,7 +8,8 @@
 
 ghost use Rattle.std.specs.Prelude.{◌≡◌};
 
-mod machine_clock;
+mod open_files;
+mod opener;
 mod real_world;
 
 use file_ends::FileSink;

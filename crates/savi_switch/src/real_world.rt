@@ -4,44 +4,36 @@ ghost use Rattle.std.specs.Prelude.{◌≡◌, ◌≤◌, ℕ, List, true, false
 ghost use Rattle.savi_kinds.specs.Ports.{number_of};
 ghost use Rattle.savi_ends.specs.Faults.{Rose};
 
-use crate::machine_clock::MachineClock;
+use crate::opener::{Opener, RealClock, RealEnds, RealSink, RealSource};
 use end_places::{NamedSpot, PortSpots, Spot};
-use file_ends::{FileSink, FileSource};
-use port_ends::{PortSink, PortSource};
-use savi_ends::{Ends, OpenFailed, Sink, Source, Std, World};
+use file_ends::FileSink;
+use port_ends::PortSink;
+use savi_ends::{OpenFailed, Sink, Source, Std, World};
 use savi_kinds::{Format, Port, PortPlan, Text};
-use socket_ends::{SocketSink, SocketSource, open_sockets};
 use std::alloc::{AllocError, Global};
 use std::fs::Files;
 use std::net::Net;
 use std::sync::Wait;
 
-/// A file, or what the peer of a socket sends.
-pub type RealSource<R> = PortSource<FileSource, SocketSource<R>>;
-
-/// A file or a standard output, or what is sent to the peer of a socket.
-pub type RealSink<R> = PortSink<FileSink, SocketSink<R>>;
-
-/// The ends of a port, or of control.
-pub type RealEnds<R> = Ends<RealSource<R>, RealSink<R>, MachineClock>;
-
 /// Files and sockets by name, the standard outputs, and the machine's clock. It tells nothing of what they hold, and keeps
 /// each end in a fixed place: one input and one output by name, and the ends of sixteen ports.
 ///
 /// A port whose format is pcap is over files, and one whose format is stream over Unix sockets; so is control where it is
-/// live, and else it is over files.
+/// live, and else it is over files. A file that is written holds what it did before until the first octet is written; that of
+/// replies, where a session wrote outputs and no reply, until it is kept.
 #[derive(Drop)]
 pub struct RealWorld<R: Files + Net + Wait + Copy + Drop> {
     host: HostRuntime,
-    // what sockets listen and wait by
-    rt: R,
     alloc: Global,
     faults: u64,
+    opener: Opener<R>,
+    // whether the output of a port was a file that was written
+    has_written: bool,
     input: NamedSpot<RealSource<R>>,
     output: NamedSpot<RealSink<R>>,
     ports: PortSpots<RealEnds<R>>,
     control: Spot<RealEnds<R>>,
-    ticker: Spot<MachineClock>,
+    ticker: Spot<RealClock>,
     out: Spot<RealSink<R>>,
     err: Spot<RealSink<R>>,
 }
@@ -56,9 +48,10 @@ impl<R: Files + Net + Wait + Copy + Drop> RealWorld<R> {
     {
         Ok(RealWorld {
             host,
-            rt,
             alloc,
             faults: 0,
+            opener: Opener::make(host, rt, alloc)?,
+            has_written: false,
             input: NamedSpot::new(),
             output: NamedSpot::new(),
             ports: PortSpots::make(alloc)?,
@@ -69,40 +62,21 @@ impl<R: Files + Net + Wait + Copy + Drop> RealWorld<R> {
         })
     }
 
-    // The ends over these two names: sockets, where they are live, or files.
-    fn open_ends(&self, input: &str, output: &str, live: bool) -> Option<RealEnds<R>>
-        ensures source { IfSome result (λ ends. ⟦<RealSource<R> as Source>⟧.faults ends.source ≡ 0) }
-        ensures sink { IfSome result (λ ends. ⟦<RealSink<R> as Sink>⟧.faults ends.sink ≡ 0) }
-    {
-        let (source, sink) = if live {
-            self.listen(input, output)?
-        } else {
-            self.open_files(input, output)?
-        };
-        Some(Ends {
-            source,
-            sink,
-            clock: MachineClock::new(self.host),
-        })
+    // Whether the output of a port is a file that was written.
+    fn is_written(ends: &RealEnds<R>) -> bool {
+        match &ends.sink {
+            PortSink::File(sink) => !sink.is_as_it_was(),
+            PortSink::Socket(_) => false,
+        }
     }
 
-    // The ends over these two files.
-    fn open_files(&self, input: &str, output: &str) -> Option<(RealSource<R>, RealSink<R>)>
-        ensures source { IfSome result (λ ends. ⟦<RealSource<R> as Source>⟧.faults ends.0 ≡ 0) }
-        ensures sink { IfSome result (λ ends. ⟦<RealSink<R> as Sink>⟧.faults ends.1 ≡ 0) }
-    {
-        let source = FileSource::open(&self.host, self.alloc, input).ok()?;
-        let sink = FileSink::create(&self.host, output).ok()?;
-        Some((PortSource::File(source), PortSink::File(sink)))
-    }
-
-    // The ends over the sockets at these two paths.
-    fn listen(&self, input: &str, output: &str) -> Option<(RealSource<R>, RealSink<R>)>
-        ensures source { IfSome result (λ ends. ⟦<RealSource<R> as Source>⟧.faults ends.0 ≡ 0) }
-        ensures sink { IfSome result (λ ends. ⟦<RealSink<R> as Sink>⟧.faults ends.1 ≡ 0) }
-    {
-        let (source, sink) = open_sockets(self.rt, &self.host, self.alloc, input, output).ok()?;
-        Some((PortSource::Socket(source), PortSink::Socket(sink)))
+    // Empties the file of replies where a session has written none.
+    fn empty_replies(&self, ends: &RealEnds<R>) {
+        if let PortSink::File(sink) = &ends.sink {
+            if self.has_written {
+                let _emptied = sink.empty();
+            }
+        }
     }
 }
 
@@ -116,14 +90,14 @@ fn fault(faults: &mut u64) -> OpenFailed
 }
 
 impl<R: Files + Net + Wait + Copy + Send + Sync + Drop> World for RealWorld<R> {
-    ghost use Rattle.savi_ends.specs.Places.{Book, HandsOut, IsReady, Opens, OthersStay, IsOnlyOut, BothFresh};
+    ghost use Rattle.savi_ends.specs.Places.{Book, ControlKey, HandsOut, IsReady, Opens, OthersStay, OtherPortsStay, IsOnlyOut, IsPortOut, IsPortKept, IsControlOut, IsControlKept, BothFresh, port_key};
     ghost use Rattle.savi_switch.specs.RealWorlds.{book_of};
 
     type S = RealSource<R>;
 
     type K = RealSink<R>;
 
-    type C = MachineClock;
+    type C = RealClock;
 
     ghost book = { book_of };
 
@@ -138,12 +112,12 @@ impl<R: Files + Net + Wait + Copy + Send + Sync + Drop> World for RealWorld<R> {
         let Ok(copy) = String::from_str(self.alloc, name) else {
             return Err(fault(&mut self.faults));
         };
-        match FileSource::open(&self.host, self.alloc, name) {
-            Ok(source) => {
+        match self.opener.source(name) {
+            Some(source) => {
                 self.input.hand_out(Text::new(copy));
-                Ok(PortSource::File(source))
+                Ok(source)
             }
-            Err(_) => Err(fault(&mut self.faults)),
+            None => Err(fault(&mut self.faults)),
         }
     }
 
@@ -154,12 +128,12 @@ impl<R: Files + Net + Wait + Copy + Send + Sync + Drop> World for RealWorld<R> {
         let Ok(copy) = String::from_str(self.alloc, name) else {
             return Err(fault(&mut self.faults));
         };
-        match FileSink::create(&self.host, name) {
-            Ok(sink) => {
+        match self.opener.sink(name) {
+            Some(sink) => {
                 self.output.hand_out(Text::new(copy));
-                Ok(PortSink::File(sink))
+                Ok(sink)
             }
-            Err(_) => Err(fault(&mut self.faults)),
+            None => Err(fault(&mut self.faults)),
         }
     }
 
@@ -168,7 +142,10 @@ impl<R: Files + Net + Wait + Copy + Send + Sync + Drop> World for RealWorld<R> {
             Format::Pcap => false,
             Format::Stream => true,
         };
-        match self.open_ends(plan.input.as_str(), plan.output.as_str(), live) {
+        match self
+            .opener
+            .ends(plan.input.as_str(), plan.output.as_str(), live)
+        {
             Some(ends) => {
                 self.ports.hand_out(n);
                 Ok(ends)
@@ -178,7 +155,7 @@ impl<R: Files + Net + Wait + Copy + Send + Sync + Drop> World for RealWorld<R> {
     }
 
     fn control(&mut self, source: &str, sink: &str, live: bool) -> Result<RealEnds<R>, OpenFailed> {
-        match self.open_ends(source, sink, live) {
+        match self.opener.ends(source, sink, live) {
             Some(ends) => {
                 self.control.hand_out();
                 Ok(ends)
@@ -187,9 +164,9 @@ impl<R: Files + Net + Wait + Copy + Send + Sync + Drop> World for RealWorld<R> {
         }
     }
 
-    fn ticker(&mut self) -> MachineClock {
+    fn ticker(&mut self) -> RealClock {
         self.ticker.hand_out();
-        MachineClock::new(self.host)
+        self.opener.clock()
     }
 
     fn std(&mut self, which: Std) -> RealSink<R> {
@@ -206,19 +183,21 @@ impl<R: Files + Net + Wait + Copy + Send + Sync + Drop> World for RealWorld<R> {
     }
 
     fn keep_port(&mut self, n: Port, ends: RealEnds<R>)
-        requires { ((book_of self.old).ports (number_of n)).is_out ≡ true }
-        ensures kept { ((book_of self.new).ports (number_of n)).stands ≡ Some ends }
-        ensures others { OthersStay (book_of self.old).ports (book_of self.new).ports (number_of n) }
+        requires { IsPortOut (book_of self.old).ports (number_of n) }
+        ensures kept { IsPortKept (book_of self.old).ports (book_of self.new).ports (number_of n) ends }
+        ensures others { OtherPortsStay (book_of self.old).ports (book_of self.new).ports (number_of n) }
         ensures rest { book_of self.new ≡ record (book_of self.old) { ports = (book_of self.new).ports } }
     {
+        self.has_written = self.has_written || Self::is_written(&ends);
         self.ports.keep(n, ends);
     }
 
     fn keep_control(&mut self, ends: RealEnds<R>)
-        requires { (book_of self.old).control.is_out ≡ true }
-        ensures kept { (book_of self.new).control.stands ≡ Some ends }
+        requires { IsControlOut (book_of self.old).control }
+        ensures kept { IsControlKept (book_of self.old).control (book_of self.new).control ends }
         ensures rest { book_of self.new ≡ record (book_of self.old) { control = (book_of self.new).control } }
     {
+        self.empty_replies(&ends);
         self.control.keep(ends);
     }
 
@@ -231,7 +210,7 @@ impl<R: Files + Net + Wait + Copy + Send + Sync + Drop> World for RealWorld<R> {
         self.output.keep(sink);
     }
 
-    fn keep_ticker(&mut self, clock: MachineClock) {
+    fn keep_ticker(&mut self, clock: RealClock) {
         self.ticker.keep(clock);
     }
 

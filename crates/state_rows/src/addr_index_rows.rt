@@ -1,6 +1,6 @@
 //! An index in use.
 
-ghost use Rattle.std.specs.Prelude.{◌≡◌};
+ghost use Rattle.std.specs.Prelude.{◌≡◌, length};
 ghost use Rattle.addr_index.specs.Homes.{home_of};
 
 use addr_index::AddrIndex;
@@ -20,13 +20,25 @@ fn chosen() -> (Addr, Addr, Addr, Addr)
     (Addr(10), Addr(30), Addr(32), Addr(2))
 }
 
-// Takes an address in under a key, or gives it up where the key is 0.
-fn set(index: &mut AddrIndex, a: Addr, key: u32) {
-    if key == 0 {
+// Takes an address in under a key, or gives it up where the key is 0. So many addresses were held before, and are now.
+fn set(index: &mut AddrIndex, held: u32, a: Addr, key: u32) -> u32
+    requires held { length index.old.entries ≡ held }
+    requires most { index.old.most ≡ 4 }
+    ensures held { length index.new.entries ≡ result }
+    ensures most { index.new.most ≡ 4 }
+{
+    if index.get(a).is_some() {
+        if key > 0 {
+            return held;
+        }
         index.remove(a);
-    } else if !index.is_full() && index.get(a).is_none() {
-        index.insert(a, key);
+        return held - 1;
     }
+    if key == 0 || held >= MOST {
+        return held;
+    }
+    index.insert(a, key);
+    held + 1
 }
 
 // The key of an address, or 0.
@@ -49,8 +61,9 @@ fn entries_move_back_round_the_last_place(rt: HostRuntime) -> Result<(), AllocEr
         ("one that isn't there", c, 0, [5, 2, 0, 4]),
         ("at its home", d, 0, [5, 2, 0, 0]),
     ];
+    let mut held = 0;
     for (name, address, given, wanted) in steps {
-        set(&mut index, address, given);
+        held = set(&mut index, held, address, given);
         let keys = [
             key(&index, a),
             key(&index, b),

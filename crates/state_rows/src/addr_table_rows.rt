@@ -1,16 +1,17 @@
 //! One table over scripts of events.
 
 ghost use Rattle.std.specs.Prelude.{◌≡◌, ◌≤◌, ◌^◌, ℕ, List, Some};
-ghost use Rattle.bind_table.specs.declared.row.Row.{Row};
+ghost use Rattle.savi_access.specs.declared.row.Row.{Row};
 ghost use Rattle.savi_kinds.specs.declared.plan.Method.TheVariants.{Mixed};
-ghost use Rattle.addr_table.specs.declared.sent.SentProbe.{SentProbe};
-ghost use Rattle.addr_table.specs.Ages.{AllStill};
-ghost use Rattle.addr_table.specs.Rooms.{IsFixable};
-ghost use Rattle.addr_table.specs.Keeps.{AreSound, StaySound};
+ghost use Rattle.savi_access.specs.declared.sent.SentProbe.{SentProbe};
+ghost use Rattle.savi_access.specs.Ages.{AllStill};
+ghost use Rattle.savi_access.specs.Rooms.{IsFixable};
+ghost use Rattle.savi_access.specs.Keeps.{AreSound, StaySound};
 
 use crate::plain::{Says, TIMES, plain_verdict, port, port_of};
-use addr_table::{AddrTable, ProbeSink, SentProbe};
+use addr_table::{AddrTable, ProbeSink};
 use fcfs_states::{Ev, Probe};
+use savi_access::SentProbe;
 use savi_kinds::{Addr, LAST_MOMENT, Method, Moment, Rule};
 use std::process::Abort;
 use std::test::Fail;

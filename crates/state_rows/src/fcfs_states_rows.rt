@@ -448,7 +448,8 @@ fn reached(rt: &impl Abort, events: &[(u64, Act, u8)]) -> Fcfs
     let mut state = Fcfs::NoBind;
     for (at, act, port) in events {
         assert!(rt; *at <= LAST_MOMENT);
-        state.age_and_step(event_of(rt, *act, *port), *at, true, &TIMES);
+        state.age(*at, &TIMES);
+        state.step(event_of(rt, *act, *port), *at, true, &TIMES);
     }
     state.age(NOW, &TIMES);
     state
@@ -496,7 +497,8 @@ fn take_event(rt: &impl Abort, start: Start, state: Fcfs, act: Act, port: u8)
 {
     for room in [true, false] {
         let mut now = state;
-        let (_, answer) = now.age_and_step(event_of(rt, act, port), NOW, room, &TIMES);
+        now.age(NOW, &TIMES);
+        let answer = now.step(event_of(rt, act, port), NOW, room, &TIMES);
         let probe = answer.probe.map(plain_probe);
         let got = (plain_verdict(answer.verdict), probe, plain_state(now));
         compare(rt, start, act, port, room, got);

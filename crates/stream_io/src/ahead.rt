@@ -42,6 +42,7 @@ impl Ahead {
     pub fn fill<S: Source>(&mut self, source: &mut S, buf: &mut [u8]) -> Filled
         ensures later { S.faults source.old ≤ S.faults source.new }
         ensures cause { result ≡ Filled.Failed → Rose (S.faults source.old) (S.faults source.new) }
+        ensures still { result ≢ Filled.Failed → S.faults source.new ≡ S.faults source.old }
         ensures octets { (gave : List ℕ) × Takes (S.left source.old) (S.left source.new) gave × FillsFrom result buf.new (self.old ++ gave) self.new (S.left source.new) }
         ensures unread { length buf.old ≤ length self.old → (source.new ≡ source.old) × (self.old ≡ buf.new ++ self.new) }
     {
@@ -60,6 +61,7 @@ impl Ahead {
     pub fn pass_over<S: Source>(&mut self, source: &mut S, len: usize) -> Filled
         ensures later { S.faults source.old ≤ S.faults source.new }
         ensures cause { result ≡ Filled.Failed → Rose (S.faults source.old) (S.faults source.new) }
+        ensures still { result ≢ Filled.Failed → S.faults source.new ≡ S.faults source.old }
         ensures octets { (gave : List ℕ) × Takes (S.left source.old) (S.left source.new) gave × PassesOver result len (self.old ++ gave) self.new (S.left source.new) }
         ensures unread { len ≤ length self.old → source.new ≡ source.old }
     {
@@ -82,6 +84,7 @@ impl Ahead {
     fn hold<S: Source>(&mut self, source: &mut S) -> Got
         ensures later { S.faults source.old ≤ S.faults source.new }
         ensures cause { result ≡ Got.Failed → Rose (S.faults source.old) (S.faults source.new) }
+        ensures still { result ≢ Got.Failed → S.faults source.new ≡ S.faults source.old }
         ensures octets { (gave : List ℕ) × Takes (S.left source.old) (S.left source.new) gave × (self.new ≡ self.old ++ gave) }
         ensures holds { HoldsAhead result self.new (S.left source.new) }
         ensures unread { self.old ≢ [] → (source.new ≡ source.old) × (self.new ≡ self.old) }

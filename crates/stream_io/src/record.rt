@@ -1,4 +1,4 @@
-ghost use Rattle.std.specs.Prelude.{◌≡◌, ◌≤◌, ◌^◌, ℕ, List, ◌++◌, length};
+ghost use Rattle.std.specs.Prelude.{◌≡◌, ◌≢◌, ◌≤◌, ◌^◌, ℕ, List, ◌++◌, length};
 ghost use Rattle.savi_ends.specs.Octets.{Takes};
 ghost use Rattle.savi_ends.specs.Faults.{Rose};
 ghost use Rattle.stream_io.specs.Readers.{DecideRecord};
@@ -40,6 +40,7 @@ pub(crate) fn take_record<S: Source>(
     requires { place ≤ 2 ^ 62 }
     ensures later { S.faults source.old ≤ S.faults source.new }
     ensures cause { result ≡ Taken.Failed → Rose (S.faults source.old) (S.faults source.new) }
+    ensures still { result ≢ Taken.Failed → S.faults source.new ≡ S.faults source.old }
     ensures octets { (gave : List ℕ) × Takes (S.left source.old) (S.left source.new) gave × TakesRecord result place (ahead.old ++ gave) ahead.new buf.new (S.left source.new) }
     ensures unread { DecideRecord place ahead.old → source.new ≡ source.old }
 {
@@ -71,6 +72,7 @@ fn take_body<S: Source>(
 ) -> Filled
     ensures later { S.faults source.old ≤ S.faults source.new }
     ensures cause { result ≡ Filled.Failed → Rose (S.faults source.old) (S.faults source.new) }
+    ensures still { result ≢ Filled.Failed → S.faults source.new ≡ S.faults source.old }
     ensures octets { (gave : List ℕ) × Takes (S.left source.old) (S.left source.new) gave × TakesBody result len (ahead.old ++ gave) ahead.new buf.new (S.left source.new) }
     ensures unread { len ≤ length ahead.old → source.new ≡ source.old }
 {

@@ -26,6 +26,7 @@ pub fn put<K: Sink>(sink: &mut K, _moment: u64, frame: &[u8]) -> Put
     ensures extends { Extends result (K.written sink.old) (K.written sink.new) (record_text frame.now) }
     ensures later { K.faults sink.old ≤ K.faults sink.new }
     ensures cause { result ≡ Put.Failed → Rose (K.faults sink.old) (K.faults sink.new) }
+    ensures still { result ≡ Put.Done → K.faults sink.new ≡ K.faults sink.old }
 {
     let mut record: ArrayVec<u8, RECORD_OCTETS_MOST> = ArrayVec::new();
     add(&mut record, &(frame.len() as u32).to_be_bytes());

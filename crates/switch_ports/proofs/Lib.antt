@@ -1,4 +1,5 @@
 pub mod Rising
+pub mod Named
 pub mod Opens
 pub mod Keeps
 pub mod LiveOpens

@@ -9,9 +9,11 @@ use Rattle.savi_kinds.specs.declared.plan.PortPlan.{PortPlan}
 use Rattle.savi_kinds.specs.Ports.{number_of}
 use Rattle.savi_kinds.specs.ValidPlan.{numbers_of}
 use Rattle.savi_ends.specs.declared.world.Ends.{Ends}
-use Rattle.savi_ends.specs.Places.{Book, Place, OthersStay, IsReady}
+use Rattle.savi_ends.specs.Places.{Book, Place, PortKey, OtherPortsStay, IsReady, port_key}
+use Rattle.switch_ports.specs.Named.{key_among, named_by}
 use Rattle.switch_ports.specs.Openings.{IsOpened}
 use Rattle.switch_ports.specs.Live.{AreOpened, IsNextOf, IsOffFirst, OthersSame}
+use Rattle.switch_ports.proofs.Named.{key_here, key_number}
 
 -- what holds of each element and its place holds of one more behind them
 pub each_push : {X : Type 0} (P : ℕ → X → Type 0) (xs : List X) (y : X) → ((k : ℕ) (d : X) → k < length xs → P k (get_or xs k d)) → P (length xs) y → (k : ℕ) (d : X) → k < length (xs ++ y ∷ []) → P k (get_or (xs ++ y ∷ []) k d)
@@ -26,7 +28,7 @@ each_push {X} P xs y each last k d inside =
 -- the ports of the plans below an index are open
 pub record LiveOpens {S K C : Type 0} (IsFresh : Ends S K C → Type 0) (plans : List PortPlan) (index : ℕ) (held : List (Ends S K C)) (old new : Book S K C) : Type 0 where
   pub size : length held ≡ index
-  pub opened : AreOpened IsFresh (numbers_of plans) old.ports new.ports held
+  pub opened : AreOpened IsFresh (numbers_of plans) (named_by plans old.ports) (named_by plans new.ports) held
   pub others : OthersSame (numbers_of plans) index old.ports new.ports
   pub later : old.faults ≤ new.faults
   pub rest : new ≡ record old { faults = new.faults; ports = new.ports }
@@ -35,7 +37,7 @@ pub live_opens_none : {S K C : Type 0} (IsFresh : Ends S K C → Type 0) (plans 
 live_opens_none {S} {K} {C} IsFresh plans held book none = rw none (record {
   size = refl;
   opened = λ k d inside. absurd (omega arith);
-  others = λ n off. refl;
+  others = λ key off. refl;
   later = omega arith;
   rest = refl;
 })
@@ -57,32 +59,31 @@ off_here plans i plan rising inside is = off_from (numbers_of plans) i (number_o
 
 -- a port that isn't open yet may be opened
 pub live_ready : {S K C : Type 0} (IsFresh : Ends S K C → Type 0) (plans : List PortPlan) (i : ℕ) (plan : PortPlan) (held : List (Ends S K C)) (old new : Book S K C)
-    → IsStrictlyIncreasing (numbers_of plans) → i < length plans → plan ≡ get_or plans i plan → LiveOpens IsFresh plans i held old new → ((n : ℕ) → IsReady IsFresh (old.ports n)) → IsReady IsFresh (new.ports (number_of plan.number))
+    → IsStrictlyIncreasing (numbers_of plans) → i < length plans → plan ≡ get_or plans i plan → LiveOpens IsFresh plans i held old new → ((key : PortKey) → IsReady IsFresh (old.ports key)) → IsReady IsFresh (new.ports (port_key plan))
 live_ready {S} {K} {C} IsFresh plans i plan held old new rising inside is so_far ready =
-    let n = number_of plan.number in
-    rw (so_far.others n (off_here plans i plan rising inside is)) (ready n)
+    rw (so_far.others (port_key plan) (off_here plans i plan rising inside is)) (ready (port_key plan))
 
 pub live_open_step : {S K C : Type 0} (IsFresh : Ends S K C → Type 0) (plans : List PortPlan) (i : ℕ) (plan : PortPlan) (held held' : List (Ends S K C)) (ends : Ends S K C) (old mid new : Book S K C)
     → IsStrictlyIncreasing (numbers_of plans) → i < length plans → plan ≡ get_or plans i plan → LiveOpens IsFresh plans i held old mid
     → held' ≡ held ++ ends ∷ []
-    → mid.faults ≤ new.faults → (new.ports (number_of plan.number)).is_out ≡ true → IfSome (mid.ports (number_of plan.number)).stands (λ t. ends ≡ t) → IsFresh ends
-    → OthersStay mid.ports new.ports (number_of plan.number) → new ≡ record mid { faults = new.faults; ports = new.ports }
+    → mid.faults ≤ new.faults → (new.ports (port_key plan)).is_out ≡ true → IfSome (mid.ports (port_key plan)).stands (λ t. ends ≡ t) → IsFresh ends
+    → OtherPortsStay mid.ports new.ports (number_of plan.number) → new ≡ record mid { faults = new.faults; ports = new.ports }
     → LiveOpens IsFresh plans (i + 1) held' old new
 live_open_step {S} {K} {C} IsFresh plans i plan held held' ends old mid new rising inside is so_far pushed later out told fresh stay rest =
     let n = number_of plan.number in
     let numbers = numbers_of plans in
     let here : slice_index numbers i ≡ n = number_here plans i plan inside is in
     let off : IsOffFirst numbers i n = off_here plans i plan rising inside is in
-    let Opened : ℕ → Ends S K C → Type 0 = λ k x. IsOpened IsFresh (old.ports (slice_index numbers k)) (new.ports (slice_index numbers k)) x in
+    let Opened : ℕ → Ends S K C → Type 0 = λ k x. IsOpened IsFresh (named_by plans old.ports (slice_index numbers k)) (named_by plans new.ports (slice_index numbers k)) x in
     let size = so_far.size in
     let at : slice_index numbers (length held) ≡ n = ap (slice_index numbers) size ∙ here in
-    let last : IsOpened IsFresh (old.ports n) (new.ports n) ends = record { out = out; told = subst (λ (q : Place (Ends S K C)). IfSome q.stands (λ t. ends ≡ t)) (so_far.others n off) told; fresh = fresh } in
+    let last : IsOpened IsFresh (named_by plans old.ports n) (named_by plans new.ports n) ends = rw (key_here plans i plan rising inside is) (record { out = out; told = subst (λ (q : Place (Ends S K C)). IfSome q.stands (λ t. ends ≡ t)) (so_far.others (port_key plan) off) told; fresh = fresh }) in
     rw pushed (record {
       size = omega (arith, length-append held (ends ∷ []), size);
       opened = each_push Opened held ends
-          (λ k d below. subst (λ (x : Place (Ends S K C)). IsOpened IsFresh (old.ports (slice_index numbers k)) x (get_or held k d)) (sym (stay (slice_index numbers k) (off k (omega (arith, size, below))))) (so_far.opened k d below))
-          (subst (λ (m : ℕ). IsOpened IsFresh (old.ports m) (new.ports m) ends) (sym at) last);
-      others = λ m away. stay m (λ same. away i (omega arith) (here ∙ sym same)) ∙ so_far.others m (λ k below. away k (omega (arith, below)));
+          (λ k d below. subst (λ (x : Place (Ends S K C)). IsOpened IsFresh (named_by plans old.ports (slice_index numbers k)) x (get_or held k d)) (sym (stay (key_among plans (slice_index numbers k)) (λ equal. off k (omega (arith, size, below)) (sym (key_number plans (slice_index numbers k)) ∙ equal)))) (so_far.opened k d below))
+          (subst (λ (m : ℕ). IsOpened IsFresh (named_by plans old.ports m) (named_by plans new.ports m) ends) (sym at) last);
+      others = λ key away. stay key (λ same. away i (omega arith) (here ∙ sym same)) ∙ so_far.others key (λ k below. away k (omega (arith, below)));
       later = omega (arith, so_far.later, later);
       rest = rest ∙ ap (λ (b : Book S K C). record b { faults = new.faults; ports = new.ports }) so_far.rest;
     })
@@ -92,9 +93,9 @@ live_fails_next plans i count plan inside is size = (omega (arith, numbers_len p
 
 -- what is open stays so where the opening of the next port fails
 pub live_opened_still : {S K C : Type 0} (IsFresh : Ends S K C → Type 0) (plans : List PortPlan) (i : ℕ) (plan : PortPlan) (held : List (Ends S K C)) (old mid new : Book S K C)
-    → IsStrictlyIncreasing (numbers_of plans) → i < length plans → plan ≡ get_or plans i plan → LiveOpens IsFresh plans i held old mid → OthersStay mid.ports new.ports (number_of plan.number)
-    → AreOpened IsFresh (numbers_of plans) old.ports new.ports held
+    → IsStrictlyIncreasing (numbers_of plans) → i < length plans → plan ≡ get_or plans i plan → LiveOpens IsFresh plans i held old mid → OtherPortsStay mid.ports new.ports (number_of plan.number)
+    → AreOpened IsFresh (numbers_of plans) (named_by plans old.ports) (named_by plans new.ports) held
 live_opened_still {S} {K} {C} IsFresh plans i plan held old mid new rising inside is so_far stay = λ k d below.
     let numbers = numbers_of plans in
     let size = so_far.size in
-    subst (λ (x : Place (Ends S K C)). IsOpened IsFresh (old.ports (slice_index numbers k)) x (get_or held k d)) (sym (stay (slice_index numbers k) (off_here plans i plan rising inside is k (omega (arith, size, below))))) (so_far.opened k d below)
+    subst (λ (x : Place (Ends S K C)). IsOpened IsFresh (named_by plans old.ports (slice_index numbers k)) x (get_or held k d)) (sym (stay (key_among plans (slice_index numbers k)) (λ equal. off_here plans i plan rising inside is k (omega (arith, size, below)) (sym (key_number plans (slice_index numbers k)) ∙ equal)))) (so_far.opened k d below)

@@ -10,19 +10,21 @@ use Rattle.savi_kinds.specs.declared.port.Port.{Port}
 use Rattle.savi_kinds.specs.Ports.{number_of}
 use Rattle.savi_kinds.specs.ValidPlan.{numbers_of}
 use Rattle.savi_ends.specs.declared.world.Ends.{Ends}
-use Rattle.savi_ends.specs.Places.{Book, Place, OthersStay, IsReady}
+use Rattle.savi_ends.specs.Places.{Book, Place, PortKey, OtherPortsStay, IsReady, port_key}
 use Rattle.port_worker.specs.declared.port_ends.PortEnds.{PortEnds}
 use Rattle.port_worker.specs.Replays.{ports_held, IsUnread}
+use Rattle.switch_ports.specs.Named.{key_among, named_by}
 use Rattle.switch_ports.specs.Openings.{ports_of, IsOff, IsOpened, IsNextBehind, IsReadAnew}
+use Rattle.switch_ports.proofs.Named.{key_here, key_number}
 use Rattle.switch_ports.proofs.Rising.{All-both, All-front, All-middle, off_next}
 
 -- the ports of the plans below an index are open
 pub record OpensSoFar {S K C : Type 0} (IsFresh : Ends S K C → Type 0) (plans : List PortPlan) (index : ℕ) (held : List (PortEnds S K C)) (old new : Book S K C) : Type 0 where
   pub ports : ports_held held ≡ take index (ports_of plans)
-  pub opened : All (λ p. IsOpened IsFresh (old.ports (number_of p.port)) (new.ports (number_of p.port)) p.ends) held
+  pub opened : All (λ p. IsOpened IsFresh (named_by plans old.ports (number_of p.port)) (named_by plans new.ports (number_of p.port)) p.ends) held
   pub unread : All IsUnread held
   pub readers : All IsReadAnew held
-  pub others : (n : ℕ) → IsOff held n → new.ports n ≡ old.ports n
+  pub others : (key : PortKey) → IsOff held key.number → new.ports key ≡ old.ports key
   pub later : old.faults ≤ new.faults
   pub rest : new ≡ record old { faults = new.faults; ports = new.ports }
 
@@ -32,17 +34,16 @@ opens_none {S} {K} {C} IsFresh plans held book none = rw none (record {
   opened = λ k d inside. absurd (omega arith);
   unread = λ k d inside. absurd (omega arith);
   readers = λ k d inside. absurd (omega arith);
-  others = λ n off. refl;
+  others = λ key off. refl;
   later = omega arith;
   rest = refl;
 })
 
 -- a port that isn't open yet may be opened
 pub next_ready : {S K C : Type 0} (IsFresh : Ends S K C → Type 0) (plans : List PortPlan) (i : ℕ) (plan : PortPlan) (held : List (PortEnds S K C)) (old new : Book S K C)
-    → IsStrictlyIncreasing (numbers_of plans) → i < length plans → plan ≡ get_or plans i plan → OpensSoFar IsFresh plans i held old new → ((n : ℕ) → IsReady IsFresh (old.ports n)) → IsReady IsFresh (new.ports (number_of plan.number))
+    → IsStrictlyIncreasing (numbers_of plans) → i < length plans → plan ≡ get_or plans i plan → OpensSoFar IsFresh plans i held old new → ((key : PortKey) → IsReady IsFresh (old.ports key)) → IsReady IsFresh (new.ports (port_key plan))
 next_ready {S} {K} {C} IsFresh plans i plan held old new rising inside is so_far ready =
-    let n = number_of plan.number in
-    rw (so_far.others n (off_next held plans i plan rising inside is so_far.ports)) (ready n)
+    rw (so_far.others (port_key plan) (off_next held plans i plan rising inside is so_far.ports)) (ready (port_key plan))
 
 off_last : {S K C : Type 0} (held : List (PortEnds S K C)) (p : PortEnds S K C) (m n : ℕ) → number_of p.port ≡ n → IsOff (held ++ p ∷ []) m → m ≢ n
 off_last {S} {K} {C} held p m n here away same = All-middle (λ (q : PortEnds S K C). number_of q.port ≢ m) held p [] away (here ∙ sym same)
@@ -67,24 +68,25 @@ drop_here plans i plan inside is =
 pub open_step : {S K C : Type 0} (IsFresh : Ends S K C → Type 0) (plans : List PortPlan) (i : ℕ) (plan : PortPlan) (held held' : List (PortEnds S K C)) (p : PortEnds S K C) (old mid new : Book S K C)
     → IsStrictlyIncreasing (numbers_of plans) → i < length plans → plan ≡ get_or plans i plan → OpensSoFar IsFresh plans i held old mid
     → held' ≡ held ++ p ∷ [] → p.port ≡ plan.number → IsUnread p → IsReadAnew p
-    → mid.faults ≤ new.faults → (new.ports (number_of plan.number)).is_out ≡ true → IfSome (mid.ports (number_of plan.number)).stands (λ t. p.ends ≡ t) → IsFresh p.ends
-    → OthersStay mid.ports new.ports (number_of plan.number) → new ≡ record mid { faults = new.faults; ports = new.ports }
+    → mid.faults ≤ new.faults → (new.ports (port_key plan)).is_out ≡ true → IfSome (mid.ports (port_key plan)).stands (λ t. p.ends ≡ t) → IsFresh p.ends
+    → OtherPortsStay mid.ports new.ports (number_of plan.number) → new ≡ record mid { faults = new.faults; ports = new.ports }
     → OpensSoFar IsFresh plans (i + 1) held' old new
 open_step {S} {K} {C} IsFresh plans i plan held held' p old mid new rising inside is so_far pushed port unread anew later out told fresh stay rest =
     let n = number_of plan.number in
     let off = off_next held plans i plan rising inside is so_far.ports in
-    let WasOpened : PortEnds S K C → Type 0 = λ q. IsOpened IsFresh (old.ports (number_of q.port)) (mid.ports (number_of q.port)) q.ends in
-    let NowOpened : PortEnds S K C → Type 0 = λ q. IsOpened IsFresh (old.ports (number_of q.port)) (new.ports (number_of q.port)) q.ends in
+    let WasOpened : PortEnds S K C → Type 0 = λ q. IsOpened IsFresh (named_by plans old.ports (number_of q.port)) (named_by plans mid.ports (number_of q.port)) q.ends in
+    let NowOpened : PortEnds S K C → Type 0 = λ q. IsOpened IsFresh (named_by plans old.ports (number_of q.port)) (named_by plans new.ports (number_of q.port)) q.ends in
     let Apart : PortEnds S K C → Type 0 = λ q. number_of q.port ≢ n in
-    let before = so_far.others n off in
+    let before = so_far.others (port_key plan) off in
     let here : number_of p.port ≡ n = ap number_of port in
-    let opened : IsOpened IsFresh (old.ports (number_of p.port)) (new.ports (number_of p.port)) p.ends = rw here (record { out = out; told = subst (λ (q : Place (Ends S K C)). IfSome q.stands (λ t. p.ends ≡ t)) before told; fresh = fresh }) in
+    let key : key_among plans (number_of p.port) ≡ port_key plan = ap (key_among plans) here ∙ key_here plans i plan rising inside is in
+    let opened : IsOpened IsFresh (named_by plans old.ports (number_of p.port)) (named_by plans new.ports (number_of p.port)) p.ends = rw key (record { out = out; told = subst (λ (q : Place (Ends S K C)). IfSome q.stands (λ t. p.ends ≡ t)) before told; fresh = fresh }) in
     rw pushed (record {
       ports = ports_more held plans i plan p inside is so_far.ports port;
-      opened = All-push NowOpened held p (All-both WasOpened Apart NowOpened held so_far.opened off (λ q was apart. subst (λ (x : Place (Ends S K C)). IsOpened IsFresh (old.ports (number_of q.port)) x q.ends) (sym (stay (number_of q.port) apart)) was)) opened;
+      opened = All-push NowOpened held p (All-both WasOpened Apart NowOpened held so_far.opened off (λ q was apart. subst (λ (x : Place (Ends S K C)). IsOpened IsFresh (named_by plans old.ports (number_of q.port)) x q.ends) (sym (stay (key_among plans (number_of q.port)) (λ equal. apart (sym (key_number plans (number_of q.port)) ∙ equal)))) was)) opened;
       unread = All-push (λ (q : PortEnds S K C). IsUnread q) held p so_far.unread unread;
       readers = All-push (λ (q : PortEnds S K C). IsReadAnew q) held p so_far.readers anew;
-      others = λ m away. stay m (off_last held p m n here away) ∙ so_far.others m (All-front (λ (q : PortEnds S K C). number_of q.port ≢ m) held (p ∷ []) away);
+      others = λ key away. stay key (off_last held p key.number n here away) ∙ so_far.others key (All-front (λ (q : PortEnds S K C). number_of q.port ≢ key.number) held (p ∷ []) away);
       later = omega (arith, so_far.later, later);
       rest = rest ∙ ap (λ (b : Book S K C). record b { faults = new.faults; ports = new.ports }) so_far.rest;
     })

@@ -1,14 +1,15 @@
 -- Ports that are open, each held beside its number, and the ends of control.
-use Rattle.std.specs.Prelude.{◌≡◌, ◌≢◌, ℕ, true, List, ◌∷◌, ◌++◌, map, All, AllPairs, Option, None, Some, IfSome}
+use Rattle.std.specs.Prelude.{◌≡◌, ◌≢◌, ℕ, true, false, List, ◌∷◌, ◌++◌, map, All, AllPairs, Option, None, Some, IfSome}
 use Rattle.savi_kinds.specs.declared.plan.PortPlan.{PortPlan}
 use Rattle.savi_kinds.specs.declared.port.Port.{Port}
 use Rattle.savi_kinds.specs.Ports.{number_of}
 use Rattle.savi_ends.specs.declared.world.Ends.{Ends}
-use Rattle.savi_ends.specs.Places.{Place}
+use Rattle.savi_ends.specs.Places.{Place, ControlKey}
 use Rattle.pcap_io.specs.Kinds.{classic_kinds}
 use Rattle.pcap_io.specs.Readers.{Fresh}
 use Rattle.port_worker.specs.declared.control_ends.ControlEnds.{ControlEnds}
 use Rattle.port_worker.specs.declared.port_ends.PortEnds.{PortEnds}
+use Rattle.switch_ports.specs.Named.{control_key}
 
 -- the ports of these plans, in their order
 abbrev pub ports_of : List PortPlan → List Port
@@ -36,10 +37,11 @@ pub record IsOpened {X : Type 0} (IsFresh : X → Type 0) (old new : Place X) (x
   pub told : IfSome old.stands (λ told. x ≡ told)
   pub fresh : IsFresh x
 
--- Where there are names of control's input and output, its ends are held, as what was told of their place; where there are
--- none, nothing is held, and the place wasn't touched.
-abbrev pub IsControlOpened : {S K C : Type 0} → (Ends S K C → Type 0) → Option (List ℕ × List ℕ) → Place (Ends S K C) → Place (Ends S K C) → Option (ControlEnds S K C) → Type 0
+-- Where there are names of control's input and output, its ends are held, as what was told of their place by these names, in
+-- a run that isn't live; where there are none, nothing is held, and no place was touched.
+abbrev pub IsControlOpened : {S K C : Type 0} → (Ends S K C → Type 0) → Option (List ℕ × List ℕ) → (ControlKey → Place (Ends S K C)) → (ControlKey → Place (Ends S K C)) → Option (ControlEnds S K C) → Type 0
 IsControlOpened IsFresh None old new None = new ≡ old
 IsControlOpened IsFresh None old new (Some control) = ⊥
 IsControlOpened IsFresh (Some names) old new None = ⊥
-IsControlOpened IsFresh (Some names) old new (Some control) = IsOpened IsFresh old new control.ends
+IsControlOpened IsFresh (Some names) old new (Some control) =
+    IsOpened IsFresh (old (control_key false names)) (new (control_key false names)) control.ends

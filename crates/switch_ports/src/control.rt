@@ -1,8 +1,8 @@
 //! The opening and the keeping of the ends of control.
 
-ghost use Rattle.std.specs.Prelude.{◌≡◌, ◌≤◌, true, Some, IfNone, IfOk, IfSome, IsSome, OnErr, OnSome};
+ghost use Rattle.std.specs.Prelude.{◌≡◌, ◌≤◌, Some, IfNone, IfOk, IfSome, IsSome, OnErr, OnSome};
 ghost use Rattle.savi_ends.specs.Faults.{Rose};
-ghost use Rattle.savi_ends.specs.Places.{BothFresh, IsReady};
+ghost use Rattle.savi_ends.specs.Places.{BothFresh, ControlKey, IsControlKept, IsControlOut, IsReady};
 ghost use Rattle.port_worker.specs.LineInputs.{IsControlUnheard};
 ghost use Rattle.switch_ports.specs.Live.{IsLiveControlOpened};
 ghost use Rattle.switch_ports.specs.Openings.{IsControlOpened};
@@ -23,7 +23,7 @@ pub fn open_control<W: World>(
     names: &Option<(Text, Text)>,
     world: &mut W,
 ) -> Result<Option<ControlEnds<W::S, W::K, W::C>>, OpenFailed>
-    requires ready { IsReady (BothFresh W.S.faults W.K.faults) (W.book world.old).control }
+    requires ready { (key : ControlKey) → IsReady (BothFresh W.S.faults W.K.faults) ((W.book world.old).control key) }
     ensures opened { IfOk result (IsControlOpened (BothFresh W.S.faults W.K.faults) names.now (W.book world.old).control (W.book world.new).control) }
     ensures unheard { IfOk result (λ control. IsControlUnheard control) }
     ensures named { OnErr result (IsSome names.now) }
@@ -44,7 +44,7 @@ fn open_named<W: World>(
     sink: &str,
     world: &mut W,
 ) -> Result<Option<ControlEnds<W::S, W::K, W::C>>, OpenFailed>
-    requires ready { IsReady (BothFresh W.S.faults W.K.faults) (W.book world.old).control }
+    requires ready { (key : ControlKey) → IsReady (BothFresh W.S.faults W.K.faults) ((W.book world.old).control key) }
     ensures opened { IfOk result (IsControlOpened (BothFresh W.S.faults W.K.faults) (Some (source.now, sink.now)) (W.book world.old).control (W.book world.new).control) }
     ensures unheard { IfOk result (λ control. IsControlUnheard control) }
     ensures as_it_was { OnErr result ((W.book world.new).control ≡ (W.book world.old).control) }
@@ -60,8 +60,8 @@ fn open_named<W: World>(
 
 /// Keeps the ends of control, where there are any, at their place.
 pub fn keep_control<W: World>(control: Option<ControlEnds<W::S, W::K, W::C>>, world: &mut W)
-    requires out { OnSome control ((W.book world.old).control.is_out ≡ true) }
-    ensures kept { IfSome control (λ c. (W.book world.new).control.stands ≡ Some c.ends) }
+    requires out { OnSome control (IsControlOut (W.book world.old).control) }
+    ensures kept { IfSome control (λ c. IsControlKept (W.book world.old).control (W.book world.new).control c.ends) }
     ensures none { IfNone control ((W.book world.new).control ≡ (W.book world.old).control) }
     ensures rest { W.book world.new ≡ record (W.book world.old) { control = (W.book world.new).control } }
 {
@@ -81,7 +81,7 @@ pub fn open_live_control<W: World>(
     names: &Option<(Text, Text)>,
     world: &mut W,
 ) -> Result<Option<Ends<W::S, W::K, W::C>>, OpenFailed>
-    requires ready { IsReady (BothFresh W.S.faults W.K.faults) (W.book world.old).control }
+    requires ready { (key : ControlKey) → IsReady (BothFresh W.S.faults W.K.faults) ((W.book world.old).control key) }
     ensures opened { IfOk result (IsLiveControlOpened (BothFresh W.S.faults W.K.faults) names.now (W.book world.old).control (W.book world.new).control) }
     ensures named { OnErr result (IsSome names.now) }
     ensures as_it_was { OnErr result ((W.book world.new).control ≡ (W.book world.old).control) }
@@ -101,7 +101,7 @@ fn open_named_live<W: World>(
     sink: &str,
     world: &mut W,
 ) -> Result<Option<Ends<W::S, W::K, W::C>>, OpenFailed>
-    requires ready { IsReady (BothFresh W.S.faults W.K.faults) (W.book world.old).control }
+    requires ready { (key : ControlKey) → IsReady (BothFresh W.S.faults W.K.faults) ((W.book world.old).control key) }
     ensures opened { IfOk result (IsLiveControlOpened (BothFresh W.S.faults W.K.faults) (Some (source.now, sink.now)) (W.book world.old).control (W.book world.new).control) }
     ensures as_it_was { OnErr result ((W.book world.new).control ≡ (W.book world.old).control) }
     ensures later { (W.book world.old).faults ≤ (W.book world.new).faults }
@@ -116,8 +116,8 @@ fn open_named_live<W: World>(
 
 /// Keeps live ends of control, where there are any, at their place.
 pub fn keep_live_control<W: World>(control: Option<Ends<W::S, W::K, W::C>>, world: &mut W)
-    requires out { OnSome control ((W.book world.old).control.is_out ≡ true) }
-    ensures kept { IfSome control (λ ends. (W.book world.new).control.stands ≡ Some ends) }
+    requires out { OnSome control (IsControlOut (W.book world.old).control) }
+    ensures kept { IfSome control (λ ends. IsControlKept (W.book world.old).control (W.book world.new).control ends) }
     ensures none { IfNone control ((W.book world.new).control ≡ (W.book world.old).control) }
     ensures rest { W.book world.new ≡ record (W.book world.old) { control = (W.book world.new).control } }
 {

@@ -1,7 +1,8 @@
 //! The keeping of the ports that are held.
 
-ghost use Rattle.std.specs.Prelude.{◌≡◌, ℕ, All, Some, true};
+ghost use Rattle.std.specs.Prelude.{◌≡◌, All};
 ghost use Rattle.savi_kinds.specs.Ports.{number_of};
+ghost use Rattle.savi_ends.specs.Places.{IsPortKept, IsPortOut, PortKey};
 ghost use Rattle.switch_ports.specs.Openings.{HaveOwnNumbers, IsOff};
 
 use port_worker::PortEnds;
@@ -10,9 +11,9 @@ use savi_ends::World;
 /// Keeps the ends of each of these ports at its own place. O(ports).
 pub fn keep_all<W: World>(mut held: Vec<PortEnds<W::S, W::K, W::C>>, world: &mut W)
     requires apart { HaveOwnNumbers held.items }
-    requires out { All (λ p. ((W.book world.old).ports (number_of p.port)).is_out ≡ true) held.items }
-    ensures kept { All (λ p. ((W.book world.new).ports (number_of p.port)).stands ≡ Some p.ends) held.items }
-    ensures others { (n : ℕ) → IsOff held.items n → (W.book world.new).ports n ≡ (W.book world.old).ports n }
+    requires out { All (λ p. IsPortOut (W.book world.old).ports (number_of p.port)) held.items }
+    ensures kept { All (λ p. IsPortKept (W.book world.old).ports (W.book world.new).ports (number_of p.port) p.ends) held.items }
+    ensures others { (key : PortKey) → IsOff held.items key.number → (W.book world.new).ports key ≡ (W.book world.old).ports key }
     ensures rest { W.book world.new ≡ record (W.book world.old) { ports = (W.book world.new).ports } }
 {
     while let Some(one) = held.pop() {

@@ -1,11 +1,12 @@
 //! The ports of a live session: their ends in the order of the plan, opened and kept.
 
-ghost use Rattle.std.specs.Prelude.{◌≡◌, ◌≤◌, ◌<◌, ◌++◌, ◌∷◌, ℕ, true, [], length, map, slice_index, None, IfSome, OnSome, vec_capacity};
+ghost use Rattle.std.specs.Prelude.{◌≡◌, ◌≤◌, ◌<◌, ◌++◌, ◌∷◌, ℕ, [], length, map, slice_index, None, IfSome, OnSome, vec_capacity};
 ghost use Rattle.std.specs.List.Sorted.{IsStrictlyIncreasing};
 ghost use Rattle.savi_kinds.specs.Ports.{number_of};
 ghost use Rattle.savi_kinds.specs.ValidPlan.{numbers_of};
 ghost use Rattle.savi_ends.specs.Faults.{Rose};
-ghost use Rattle.savi_ends.specs.Places.{BothFresh, IsReady};
+ghost use Rattle.savi_ends.specs.Places.{BothFresh, IsPortOut, IsReady, PortKey};
+ghost use Rattle.switch_ports.specs.Named.{named_by};
 ghost use Rattle.switch_ports.specs.Live.{AreKept, AreOpened, IsNextOf, OthersSame};
 
 use crate::opening::add;
@@ -22,10 +23,10 @@ pub fn open_live<W: World>(
     requires rising { IsStrictlyIncreasing (numbers_of plans.now) }
     requires empty { held.old.items ≡ [] }
     requires room { length plans.now ≤ vec_capacity held.old }
-    requires ready { (n : ℕ) → IsReady (BothFresh W.S.faults W.K.faults) ((W.book world.old).ports n) }
+    requires ready { (key : PortKey) → IsReady (BothFresh W.S.faults W.K.faults) ((W.book world.old).ports key) }
     ensures all { result ≡ None → length held.new.items ≡ length plans.now }
     ensures failed { IfSome result (λ port. IsNextOf (numbers_of plans.now) (length held.new.items) (number_of port)) }
-    ensures opened { AreOpened (BothFresh W.S.faults W.K.faults) (numbers_of plans.now) (W.book world.old).ports (W.book world.new).ports held.new.items }
+    ensures opened { AreOpened (BothFresh W.S.faults W.K.faults) (numbers_of plans.now) (named_by plans.now (W.book world.old).ports) (named_by plans.now (W.book world.new).ports) held.new.items }
     ensures others { OthersSame (numbers_of plans.now) (length held.new.items) (W.book world.old).ports (W.book world.new).ports }
     ensures later { (W.book world.old).faults ≤ (W.book world.new).faults }
     ensures cause { OnSome result (Rose (W.book world.old).faults (W.book world.new).faults) }
@@ -44,8 +45,8 @@ pub fn open_live<W: World>(
 pub fn keep_live<W: World>(numbers: &[Port], mut held: Vec<Ends<W::S, W::K, W::C>>, world: &mut W)
     requires rising { IsStrictlyIncreasing (map number_of numbers.now) }
     requires few { length held.items ≤ length numbers.now }
-    requires out { (place : ℕ) → place < length held.items → ((W.book world.old).ports (slice_index (map number_of numbers.now) place)).is_out ≡ true }
-    ensures kept { AreKept (map number_of numbers.now) (W.book world.new).ports held.items }
+    requires out { (place : ℕ) → place < length held.items → IsPortOut (W.book world.old).ports (slice_index (map number_of numbers.now) place) }
+    ensures kept { AreKept (map number_of numbers.now) (W.book world.old).ports (W.book world.new).ports held.items }
     ensures others { OthersSame (map number_of numbers.now) (length held.items) (W.book world.old).ports (W.book world.new).ports }
     ensures rest { W.book world.new ≡ record (W.book world.old) { ports = (W.book world.new).ports } }
 {

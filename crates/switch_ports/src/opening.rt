@@ -1,12 +1,13 @@
 //! The opening of the ports of a plan.
 
-ghost use Rattle.std.specs.Prelude.{◌≡◌, ◌≤◌, ◌<◌, ◌++◌, ◌∷◌, ℕ, [], length, All, None, IfSome, OnSome, vec_len, vec_capacity};
+ghost use Rattle.std.specs.Prelude.{◌≡◌, ◌≤◌, ◌<◌, ◌++◌, ◌∷◌, [], length, All, None, IfSome, OnSome, vec_len, vec_capacity};
 ghost use Rattle.std.specs.List.Sorted.{IsStrictlyIncreasing};
 ghost use Rattle.savi_kinds.specs.Ports.{number_of};
 ghost use Rattle.savi_kinds.specs.ValidPlan.{numbers_of};
 ghost use Rattle.savi_ends.specs.Faults.{Rose};
-ghost use Rattle.savi_ends.specs.Places.{BothFresh, IsReady};
+ghost use Rattle.savi_ends.specs.Places.{BothFresh, IsReady, PortKey};
 ghost use Rattle.port_worker.specs.Replays.{ports_held, IsUnread};
+ghost use Rattle.switch_ports.specs.Named.{named_by};
 ghost use Rattle.switch_ports.specs.Openings.{ports_of, IsOff, IsOpened, IsNextBehind, IsReadAnew};
 
 use pcap_io::PcapReader;
@@ -26,13 +27,13 @@ pub fn open_all<W: World>(
     requires rising { IsStrictlyIncreasing (numbers_of plans.now) }
     requires empty { held.old.items ≡ [] }
     requires room { length plans.now ≤ vec_capacity held.old }
-    requires ready { (n : ℕ) → IsReady (BothFresh W.S.faults W.K.faults) ((W.book world.old).ports n) }
+    requires ready { (key : PortKey) → IsReady (BothFresh W.S.faults W.K.faults) ((W.book world.old).ports key) }
     ensures all { result ≡ None → ports_held held.new.items ≡ ports_of plans.now }
     ensures failed { IfSome result (λ port. IsNextBehind port (ports_held held.new.items) (ports_of plans.now)) }
-    ensures opened { All (λ p. IsOpened (BothFresh W.S.faults W.K.faults) ((W.book world.old).ports (number_of p.port)) ((W.book world.new).ports (number_of p.port)) p.ends) held.new.items }
+    ensures opened { All (λ p. IsOpened (BothFresh W.S.faults W.K.faults) (named_by plans.now (W.book world.old).ports (number_of p.port)) (named_by plans.now (W.book world.new).ports (number_of p.port)) p.ends) held.new.items }
     ensures unread { All IsUnread held.new.items }
     ensures readers { All IsReadAnew held.new.items }
-    ensures others { (n : ℕ) → IsOff held.new.items n → (W.book world.new).ports n ≡ (W.book world.old).ports n }
+    ensures others { (key : PortKey) → IsOff held.new.items key.number → (W.book world.new).ports key ≡ (W.book world.old).ports key }
     ensures later { (W.book world.old).faults ≤ (W.book world.new).faults }
     ensures cause { OnSome result (Rose (W.book world.old).faults (W.book world.new).faults) }
     ensures rest { W.book world.new ≡ record (W.book world.old) { faults = (W.book world.new).faults; ports = (W.book world.new).ports } }

@@ -1,9 +1,9 @@
 -- How the check of a journal ends.
-use Rattle.std.proofs.Common.{◌≡◌, ◌≤◌, ℕ, ◌⊎◌, inl, inr, List, [], Bool, true, false, if◌then◌else◌, refl, sym, ap, ◌∙◌, subst, arith, Option, IfSome}
+use Rattle.std.proofs.Common.{◌≡◌, ◌≢◌, ◌≤◌, ℕ, ◌⊎◌, inl, inr, List, [], Bool, true, false, if◌then◌else◌, refl, sym, ap, ◌∙◌, subst, arith, Option, Some, IfSome}
 use Rattle.savi_ends.specs.declared.world.Std.TheVariants.{Out}
 use Rattle.savi_ends.specs.Faults.{Rose}
 use Rattle.savi_ends.specs.Places.{Place, Book}
-use Rattle.run_config.specs.Configs.{EndHasFault, OfText}
+use Rattle.run_config.specs.Configs.{EndHasFault, EndHasNoFault, OfText}
 use Rattle.journal_check.specs.declared.answer.Checked.{Checked}
 use Rattle.journal_check.specs.declared.answer.Checked.TheVariants.{Good, Wrong, BadLine, Failed, NoMemory}
 use Rattle.journal_check.specs.Answers.{IfRead, IsAnswer}
@@ -12,7 +12,7 @@ use Rattle.switch_report.specs.RunLines.{cannot_open_line, memory_line, read_fai
 use Rattle.switch_run.specs.Causes.{IsOneOf, IsUnserved, Keeps, TookOrPart, quiet_statuses, statuses}
 use Rattle.switch_run.specs.Checks.{IsAnswered, IsCheckRun, IsCheckedUnopened, IsJudged, IsKept, IsTextRead, check_line, check_status}
 use Rattle.switch_run.specs.Session.{WasTold, ToldBy}
-use Rattle.run_config.proofs.Configured.{of_told}
+use Rattle.run_config.proofs.Configured.{of_told, kept_sound}
 use Rattle.switch_run.proofs.Loading.{told_nothing}
 use Rattle.switch_run.proofs.Running.{Ran, inputs_first, inputs_last, ran_told, ran_quiet, ran_open, out≢err}
 
@@ -45,7 +45,7 @@ module _ {S K C : Type 0} (left : S → Option (List ℕ)) (written : K → Opti
   never_two = by_did (λ n. n ≡ 2 → ⊥) run.did (λ e. absurd (omega (arith, e))) (λ e. absurd (omega (arith, e))) (λ e. absurd (omega (arith, e))) (λ e. absurd (omega (arith, e))) (λ e. absurd (omega (arith, e))) (λ e. absurd (omega (arith, e)))
 
   -- what is written, or said of a file that wasn't opened or read, has another status
-  answered_not : (n : ℕ) → (0 ≡ n → ⊥) → (4 ≡ n → ⊥) → (6 ≡ n → ⊥) → IsAnswered left written sink_faults file Says old new status → status ≡ n → ⊥
+  answered_not : (n : ℕ) → (0 ≡ n → ⊥) → (4 ≡ n → ⊥) → (6 ≡ n → ⊥) → IsAnswered left written source_faults sink_faults file Says old new status → status ≡ n → ⊥
   answered_not n zero four six answered e = by_line (λ m. m ≡ n → ⊥) answered.answer status answered.line_written answered.read zero four six answered.cause e
 
   memory_told : Did → status ≡ 1 → Says memory_line
@@ -66,7 +66,7 @@ module _ {S K C : Type 0} (left : S → Option (List ℕ)) (written : K → Opti
   pub check_opening : status ≡ 7 → Rose old.faults new.faults
   check_opening seven = opening_rose run.did seven
 
-  not_quiet : IsAnswered left written sink_faults file Says old new status → IsOneOf quiet_statuses status → ⊥
+  not_quiet : IsAnswered left written source_faults sink_faults file Says old new status → IsOneOf quiet_statuses status → ⊥
   not_quiet answered =
       by_line (λ n. IsOneOf quiet_statuses n → ⊥) answered.answer status answered.line_written answered.read (λ e. let t : false ≡ true = e in cc) (λ e. let t : false ≡ true = e in cc) (λ e. let t : false ≡ true = e in cc) answered.cause
 
@@ -101,6 +101,7 @@ module _ {S K C : Type 0} (left : S → Option (List ℕ)) (written : K → Opti
   moved_judged : IsJudged left written source_faults sink_faults file (ToldBy sink_faults written e e') b1 b2 status → IsJudged left written source_faults sink_faults file (WasTold sink_faults written b0 b3) b0 b3 status
   moved_judged (inl unjudged) = inl (record {
     status_is = unjudged.status_is;
+    still = subst (λ (p : Place S). EndHasNoFault source_faults p) (sym last) unjudged.still;
     errors = ran_told sink_faults written b0 b1 b2 b3 e e' memory_line ran unjudged.errors;
     out = ran_quiet b0 b1 b2 b3 e e' ran unjudged.out;
   })
@@ -113,6 +114,7 @@ module _ {S K C : Type 0} (left : S → Option (List ℕ)) (written : K → Opti
   moved_judged (inr (inr answered)) = inr (inr (record {
     answer = answered.answer;
     read = answered.read;
+    still = subst (λ (p : Place S). EndHasNoFault source_faults p) (sym last) answered.still;
     is = of_first (λ text. IsAnswer text answered.answer) answered.is;
     alone = of_first (λ text. (other : Checked) → IsAnswer text other → answered.answer ≡ other) answered.alone;
     good = λ entries good. of_first (λ text. IsFinishedJournal text entries) (answered.good entries good);
@@ -178,17 +180,25 @@ if_read (BadLine n) P read is = is
 if_read Failed P read is = absurd read
 if_read NoMemory P read is = absurd read
 
+read_not_failed : (answer : Checked) → IsTextRead answer → answer ≢ Failed
+read_not_failed (Good entries) read same = cc
+read_not_failed (Wrong entry want have) read same = cc
+read_not_failed (BadLine n) read same = cc
+read_not_failed Failed read same = absurd read
+read_not_failed NoMemory read same = absurd read
+
 -- what was found of the source that was handed out is the answer to the text that stood in its place, and was written
-pub answered_with : {S K C : Type 0} (left : S → Option (List ℕ)) (written : K → Option (List ℕ)) (sink_faults : K → ℕ) (file : List ℕ) (errors : K) (source : S) (checked answer : Checked) (line : List ℕ) (old new : Book S K C) (middle : Place K) (status answered : ℕ)
-    → IfSome (old.inputs file).stands (λ told. source ≡ told) → Found left source checked → checked ≡ answer → IsTextRead answer → line ≡ check_line answer → answered ≡ check_status answer → middle ≡ old.std Out
+pub answered_with : {S K C : Type 0} (left : S → Option (List ℕ)) (written : K → Option (List ℕ)) (source_faults : S → ℕ) (sink_faults : K → ℕ) (file : List ℕ) (errors : K) (source back : S) (checked answer : Checked) (line : List ℕ) (old new : Book S K C) (middle : Place K) (status answered : ℕ)
+    → IfSome (old.inputs file).stands (λ told. source ≡ told) → source_faults source ≡ 0 → (new.inputs file).stands ≡ Some back → (checked ≢ Failed → source_faults back ≡ source_faults source) → Found left source checked → checked ≡ answer → IsTextRead answer → line ≡ check_line answer → answered ≡ check_status answer → middle ≡ old.std Out
     → ((done : Bool) × Keeps (TookOrPart sink_faults written done line) middle (new.std Out) × (status ≡ (if done then answered else 6)))
-    → IsAnswered left written sink_faults file (ToldBy sink_faults written errors errors) old new status
-answered_with {S} {K} {C} left written sink_faults file errors source checked answer line old new middle status answered told found is read line_is status_is same (done, keeps, cause) =
+    → IsAnswered left written source_faults sink_faults file (ToldBy sink_faults written errors errors) old new status
+answered_with {S} {K} {C} left written source_faults sink_faults file errors source back checked answer line old new middle status answered told fresh kept still found is read line_is status_is same (done, keeps, cause) =
     let this = subst (λ (a : Checked). Found left source a) is found in
     let place = old.inputs file in
     record {
       answer = answer;
       read = read;
+      still = kept_sound source_faults (new.inputs file) back kept (still (λ failed. read_not_failed answer read (sym is ∙ failed)) ∙ fresh);
       is = of_told left place source (λ text. IsAnswer text answer) told (if_read answer _ read this.is);
       alone = of_told left place source (λ text. (other : Checked) → IsAnswer text other → answer ≡ other) told (if_read answer _ read this.alone);
       good = λ entries good. of_told left place source (λ text. IsFinishedJournal text entries) told (this.good entries good);

@@ -16,7 +16,6 @@ use Rattle.switch_run.proofs.Checking.{check_is, check_memory, check_opening, ch
 use Rattle.switch_run.proofs.Faulting.{live_read_fault, live_write_fault, read_fault_of, write_fault_of}
 use Rattle.switch_run.proofs.Forms.{same_file, same_journal, same_load, same_served, not_both, not_checked, not_judged, not_live, not_loaded, not_served}
 use Rattle.switch_run.proofs.Loading.{load_is, load_memory, load_out, load_unserved, not_two, not_seven, ran_load}
-use Rattle.switch_run.proofs.Refusing.{unused_same}
 use Rattle.switch_run.proofs.Running.{Ran, ran_told, ran_open, ran_quiet, ran_run, ran_served, ran_session, ran_ticker, ran_untouched, ran_unused}
 
 -- what the contract of a run says
@@ -34,7 +33,7 @@ pub record Clauses {S K C : Type 0} (left : S → Option (List ℕ)) (written : 
   pub read : (file : List ℕ) → IsReplay file words → status ≡ 5 → HasSomeReadFault source_faults file new
   pub write : (file : List ℕ) → IsReplay file words → status ≡ 6 → HasSomeWriteFault sink_faults new
   pub quiet : IsOneOf quiet_statuses status → new.std Out ≡ old.std Out
-  pub unused : IsOneOf unused_statuses status → IsUnused old new
+  pub unused : (file : List ℕ) → IsReplay file words → IsOneOf unused_statuses status → IsUnused true left file old new
   pub elsewhere : (file : List ℕ) → IsReplay file words → IsElsewhereSame file old new
   pub serve : (file : List ℕ) → IsServe file words → IsServeRun left written source_faults sink_faults readings file (WasTold sink_faults written old new) old new status
   pub served_read : (file : List ℕ) → IsServe file words → status ≡ 5 → HasSomeReadFault source_faults file new
@@ -59,7 +58,7 @@ clauses_of {S} {K} {C} left written source_faults sink_faults readings words b0 
       read = λ file form. absurd (none (inl (file, form)));
       write = λ file form. absurd (none (inl (file, form)));
       quiet = λ one_of. untouched.out;
-      unused = λ one_of. unused_same b0 b3 (record { ports = ap (λ (b : Book S K C). b.ports) untouched.rest; control = ap (λ (b : Book S K C). b.control) untouched.rest; ticker = ap (λ (b : Book S K C). b.ticker) untouched.rest; outputs = ap (λ (b : Book S K C). b.outputs) untouched.rest });
+      unused = λ file form. absurd (none (inl (file, form)));
       elsewhere = λ file form. absurd (none (inl (file, form)));
       serve = λ file form. absurd (none (inr (inl (file, form))));
       served_read = λ file form. absurd (none (inr (inl (file, form))));
@@ -85,7 +84,7 @@ clauses_of {S} {K} {C} left written source_faults sink_faults readings words b0 
       read = λ f is five. rw (same_file words f file is form) (read_fault_of left written source_faults sink_faults _ b0 b3 file status five (did.session (subst (λ (n : ℕ). IsOneOf session_statuses n) (sym five) refl)));
       write = λ f is six. write_fault_of left written source_faults sink_faults _ b0 b3 file status six (did.session (subst (λ (n : ℕ). IsOneOf session_statuses n) (sym six) refl));
       quiet = did.quiet;
-      unused = did.unused;
+      unused = λ f is one_of. rw (same_file words f file is form) (did.unused one_of);
       elsewhere = λ f is. rw (same_file words f file is form) (record { ticker = ran_ticker b0 b1 b2 b3 e e' ran r.ticker; inputs = did.inputs });
       serve = λ f is. absurd (serves f is);
       served_read = λ f is. absurd (serves f is);
@@ -111,7 +110,7 @@ clauses_of {S} {K} {C} left written source_faults sink_faults readings words b0 
       read = λ f is. absurd (replays f is);
       write = λ f is. absurd (replays f is);
       quiet = did.quiet;
-      unused = did.unused;
+      unused = λ f is. absurd (replays f is);
       elsewhere = λ f is. absurd (replays f is);
       serve = λ f is. rw (same_served words f file is form) did;
       served_read = λ f is five. rw (same_served words f file is form) (live_read_fault left written source_faults sink_faults readings _ b0 b3 file status five (did.session (subst (λ (n : ℕ). IsOneOf session_statuses n) (sym five) refl)));
@@ -135,7 +134,7 @@ clauses_of {S} {K} {C} left written source_faults sink_faults readings words b0 
       read = λ f is. absurd (replays f is);
       write = λ f is. absurd (replays f is);
       quiet = λ quiet. ran_quiet b0 b1 b2 b3 e e' ran (check_out left written source_faults sink_faults file Says b1 b2 status r quiet);
-      unused = λ unused. ran_unused b0 b1 b2 b3 e e' ran (unused_same b1 b2 (check_unserved left written source_faults sink_faults file Says b1 b2 status r));
+      unused = λ f is. absurd (replays f is);
       elsewhere = λ f is. absurd (replays f is);
       serve = λ f is. absurd (not_live words f file is form);
       served_read = λ f is. absurd (not_live words f file is form);
@@ -159,7 +158,7 @@ clauses_of {S} {K} {C} left written source_faults sink_faults readings words b0 
       read = λ file is. absurd (replays file is);
       write = λ file is. absurd (replays file is);
       quiet = λ quiet. ran_quiet b0 b1 b2 b3 e e' ran (load_out written sink_faults seed frames Says b1 b2 status r quiet);
-      unused = λ unused. ran_unused b0 b1 b2 b3 e e' ran (unused_same b1 b2 (load_unserved written sink_faults seed frames Says b1 b2 status r));
+      unused = λ file is. absurd (replays file is);
       elsewhere = λ file is. absurd (replays file is);
       serve = λ file is. absurd (not_loaded words file seed frames is form);
       served_read = λ file is. absurd (not_loaded words file seed frames is form);

@@ -2,31 +2,34 @@
 use Rattle.std.proofs.Common.{◌≡◌, ◌≢◌, ℕ, ◌<◌, ◌&&◌, ◌||◌, not, if◌then◌else◌, ◌⊎◌, inl, inr, List, [], ◌∷◌, Bool, true, false, length, refl, sym, ap, ◌∙◌, subst, arith, Option, Some, None, IfNone, IfSome}
 use Rattle.std.specs.Prelude.{All}
 use Rattle.savi_kinds.specs.declared.plan.Plan.{Plan}
+use Rattle.savi_kinds.specs.ValidPlan.{numbers_of}
 use Rattle.savi_ends.specs.declared.world.Std.TheVariants.{Out}
-use Rattle.savi_ends.specs.Places.{Place, Book, OthersStay}
+use Rattle.savi_ends.specs.declared.world.Ends.{Ends}
+use Rattle.savi_ends.specs.Places.{Place, Book, PortKey, ControlKey, OthersStay}
 use Rattle.hist_store.specs.Rows.{Row}
 use Rattle.savi_history.specs.Endings.{has_failed, has_failed_write, has_malformed, has_full}
 use Rattle.port_worker.specs.declared.port_ends.PortEnds.{PortEnds}
 use Rattle.port_worker.specs.declared.session.Ready.{Ready}
+use Rattle.switch_ports.specs.Named.{control_key}
 use Rattle.switch_ports.specs.Openings.{IsReadAnew}
 use Rattle.switch_report.specs.RunLines.{memory_line}
 use Rattle.switch_run.specs.declared.session.Outcome.{Outcome}
-use Rattle.switch_run.specs.Causes.{IsBack, IsOffPlanSame, IsOneOf, IsUnused, KeepsAll, quiet_statuses, session_statuses, statuses, unused_statuses}
+use Rattle.switch_run.specs.Causes.{IsBack, IsControlBack, IsOffPlanSame, IsOneOf, IsUnusedOf, KeepsAll, ports_in, quiet_statuses, session_statuses, statuses, unused_statuses}
 use Rattle.switch_run.specs.Session.{IsSessionOf, IsSummed}
 use Rattle.switch_run.specs.Played.{IsPlayed}
 use Rattle.switch_run.proofs.Through.{Handled, HandledAll, session_of, ports_back, control_back, output_back, cases_name, back_from, keeps_all_of, off_plan}
 
 -- what the clauses say where all was opened, with this session
-pub record Closes {S K C : Type 0} (left : S → Option (List ℕ)) (written : K → Option (List ℕ)) (plan : Plan) (Says : List ℕ → Type 0) (Session : Type 0) (old new : Book S K C) (status : ℕ) : Type 0 where
+pub record Closes {S K C : Type 0} (live : Bool) (left : S → Option (List ℕ)) (written : K → Option (List ℕ)) (plan : Plan) (Says : List ℕ → Type 0) (Session : Type 0) (old new : Book S K C) (status : ℕ) : Type 0 where
   pub one_of : IsOneOf statuses status
   pub usage : status ≢ 2
   pub config : status ≢ 3
   pub opening : status ≢ 7
   pub memory : status ≡ 1 → Says memory_line
-  pub unplayed : status ≡ 1 → KeepsAll left written plan old new × IsOffPlanSame plan old new
+  pub unplayed : status ≡ 1 → KeepsAll live left written plan old new × IsOffPlanSame plan old new
   pub session : IsOneOf session_statuses status → Session
   pub quiet : IsOneOf quiet_statuses status → new.std Out ≡ old.std Out
-  pub unused : IsOneOf unused_statuses status → IsUnused old new
+  pub unused : IsOneOf unused_statuses status → IsUnusedOf live plan old new
 
 is_status : (f w m h : Bool) → IsOneOf statuses (if f then 5 else if w then 6 else if m then 4 else if h then 8 else 0)
 is_status true w m h = refl
@@ -55,10 +58,10 @@ pub untouched_back : {X : Type 0} (old new : Place X) → new ≡ old → IsBack
 untouched_back {X} old new same = subst (λ (x : Place X). IsBack old x) (sym same) (back_from old.stands)
 
 -- there was no memory
-pub closes_unplayed : {S K C : Type 0} (left : S → Option (List ℕ)) (written : K → Option (List ℕ)) (plan : Plan) (Says : List ℕ → Type 0) (Session : Type 0) (old new : Book S K C) (status : ℕ)
-    → status ≡ 1 → Says memory_line → new.std Out ≡ old.std Out → KeepsAll left written plan old new → IsOffPlanSame plan old new → IsUnused old new
-    → Closes left written plan Says Session old new status
-closes_unplayed left written plan Says Session old new status one told quiet keeps off unused = record {
+pub closes_unplayed : {S K C : Type 0} (live : Bool) (left : S → Option (List ℕ)) (written : K → Option (List ℕ)) (plan : Plan) (Says : List ℕ → Type 0) (Session : Type 0) (old new : Book S K C) (status : ℕ)
+    → status ≡ 1 → Says memory_line → new.std Out ≡ old.std Out → KeepsAll live left written plan old new → IsOffPlanSame plan old new → IsUnusedOf live plan old new
+    → Closes live left written plan Says Session old new status
+closes_unplayed live left written plan Says Session old new status one told quiet keeps off unused = record {
   one_of = rw one refl;
   usage = λ two. absurd (omega (arith, one, two));
   config = λ three. absurd (omega (arith, one, three));
@@ -71,10 +74,10 @@ closes_unplayed left written plan Says Session old new status one told quiet kee
 }
 
 -- a history was summed up
-pub closes_played : {S K C : Type 0} (left : S → Option (List ℕ)) (written : K → Option (List ℕ)) (sink_faults : K → ℕ) (plan : Plan) (Says : List ℕ → Type 0) (Session : Type 0) (past : List Row) (journal_written : Bool) (old new : Book S K C) (status : ℕ)
+pub closes_played : {S K C : Type 0} (live : Bool) (left : S → Option (List ℕ)) (written : K → Option (List ℕ)) (sink_faults : K → ℕ) (plan : Plan) (Says : List ℕ → Type 0) (Session : Type 0) (past : List Row) (journal_written : Bool) (old new : Book S K C) (status : ℕ)
     → IsSummed written sink_faults Says past journal_written (old.std Out) (new.std Out) status → Session
-    → Closes left written plan Says Session old new status
-closes_played left written sink_faults plan Says Session past journal_written old new status summed did =
+    → Closes live left written plan Says Session old new status
+closes_played live left written sink_faults plan Says Session past journal_written old new status summed did =
     let is = summed_is written sink_faults Says past journal_written (old.std Out) (new.std Out) status summed in
     let never : IsOneOf quiet_statuses status → ⊥ = is.1 in
     let never_is : (n : ℕ) → IsOneOf quiet_statuses n → status ≡ n → ⊥ = λ n quiet e. never (subst (λ (m : ℕ). IsOneOf quiet_statuses m) (sym e) quiet) in
@@ -92,12 +95,13 @@ closes_played left written sink_faults plan Says Session past journal_written ol
 
 closes_none : {S K C : Type 0} (left : S → Option (List ℕ)) (written : K → Option (List ℕ)) (plan : Plan) (Says : List ℕ → Type 0) (Session : Type 0) (held back : Ready S K C) (sink sink' : K) (old new : Book S K C) (status : ℕ)
     → HandledAll plan held back sink sink' old new → new.ticker ≡ old.ticker → back ≡ held → sink' ≡ sink → status ≡ 1 → Says memory_line → new.std Out ≡ old.std Out
-    → Closes left written plan Says Session old new status
+    → Closes false left written plan Says Session old new status
 closes_none {S} {K} {C} left written plan Says Session held back sink sink' old new status all ticker same same' one told quiet =
     let unread : HandledAll plan held held sink sink old new =
     subst (λ (k : K). HandledAll plan held held sink k old new) same' (subst (λ (r : Ready S K C). HandledAll plan held r sink sink' old new) same all) in
-    closes_unplayed left written plan Says Session old new status one told quiet (keeps_all_of left written plan held sink old new unread) (off_plan plan held held sink sink old new unread) (record {
-      ports = ports_back held.ports.items old.ports new.ports unread.ports;
+    closes_unplayed false left written plan Says Session old new status one told quiet (keeps_all_of left written plan held sink old new unread) (off_plan plan held held sink sink old new unread) (record {
+      ports = ports_back held.ports.items (ports_in plan old) (ports_in plan new) unread.ports;
+      others = (off_plan plan held held sink sink old new unread).ports;
       control = control_back plan.control held.control old.control new.control unread.control;
       ticker = untouched_back old.ticker new.ticker ticker;
       outputs = output_back plan.journal sink old.outputs new.outputs unread.journal;
@@ -108,13 +112,13 @@ pub closes : {S K C : Type 0} (left : S → Option (List ℕ)) (written : K → 
     → HandledAll plan held back sink sink' old new → new.ticker ≡ old.ticker → mid.std ≡ old.std → All IsReadAnew held.ports.items
     → IfNone outcome ((back ≡ held) × (sink' ≡ sink)) → IfSome outcome (λ o. IsPlayed left written source_faults sink_faults plan o.core.past held back sink sink' o.journal_written)
     → IfNone outcome ((status ≡ 1) × (Says memory_line × (new ≡ mid))) → IfSome outcome (λ o. IsSummed written sink_faults Says o.core.past o.journal_written (mid.std Out) (new.std Out) status)
-    → Closes left written plan Says (IsSessionOf left written source_faults sink_faults plan Says old new status) old new status
+    → Closes false left written plan Says (IsSessionOf left written source_faults sink_faults plan Says old new status) old new status
 closes {S} {K} {C} left written source_faults sink_faults plan Says held back sink sink' None old mid new status all ticker same anew none played unserved concluded =
     closes_none left written plan Says _ held back sink sink' old new status all ticker none.0 none.1 unserved.0 unserved.1.0
     (ap (λ (b : Book S K C). b.std Out) unserved.1.1 ∙ ap (λ (p : _ → Place K). p Out) same)
 closes {S} {K} {C} left written source_faults sink_faults plan Says held back sink sink' (Some o) old mid new status all ticker same anew none played unserved concluded =
     let summed = subst (λ (p : Place K). IsSummed written sink_faults Says o.core.past o.journal_written p (new.std Out) status) (ap (λ (p : _ → Place K). p Out) same) concluded in
-    closes_played left written sink_faults plan Says _ o.core.past o.journal_written old new status summed
+    closes_played false left written sink_faults plan Says _ o.core.past o.journal_written old new status summed
     (session_of left written source_faults sink_faults plan Says held back sink sink' o.core.past o.journal_written old new status all anew played summed)
 
 element : {X : Type 0} (xs : List X) (k : ℕ) → k < length xs → X
@@ -129,11 +133,28 @@ stays_by old new name other here others (inr apart) = others other apart
 pub stays_all : {K : Type 0} (old new : List ℕ → Place K) (name : List ℕ) → new name ≡ old name → OthersStay old new name → (other : List ℕ) → new other ≡ old other
 stays_all old new name here others other = stays_by old new name other here others (cases_name other name)
 
+-- places of control that weren't touched have their ends back
+pub control_same : {S K C : Type 0} (live : Bool) (names : Option (List ℕ × List ℕ)) (old new : ControlKey → Place (Ends S K C)) → new ≡ old → IsControlBack live names old new
+control_same live None old new same = same
+control_same {S} {K} {C} live (Some names) old new same = untouched_back (old (control_key live names)) (new (control_key live names)) (ap (λ (p : ControlKey → Place (Ends S K C)). p (control_key live names)) same)
+
 -- the ports that were opened came back as they were, and so did control, and no output was touched
-pub unused_by : {S K C : Type 0} (held : List (PortEnds S K C)) (old new : Book S K C) → Handled held held old.ports new.ports → IsBack old.control new.control → new.ticker ≡ old.ticker → ((name : List ℕ) → new.outputs name ≡ old.outputs name) → IsUnused old new
-unused_by {S} {K} {C} held old new handled control ticker same = record {
-  ports = ports_back held old.ports new.ports handled;
+pub unused_by : {S K C : Type 0} (plan : Plan) (held : List (PortEnds S K C)) (old new : Book S K C) → Handled held held (ports_in plan old) (ports_in plan new) → ((key : PortKey) → All (λ n. n ≢ key.number) (numbers_of plan.ports) → new.ports key ≡ old.ports key)
+    → IsControlBack false plan.control old.control new.control → new.ticker ≡ old.ticker → ((name : List ℕ) → new.outputs name ≡ old.outputs name) → IsUnusedOf false plan old new
+unused_by {S} {K} {C} plan held old new handled others control ticker same = record {
+  ports = ports_back held (ports_in plan old) (ports_in plan new) handled;
+  others = others;
   control = control;
   ticker = untouched_back old.ticker new.ticker ticker;
   outputs = λ name. subst (λ (x : Place K). IsBack (old.outputs name) x) (sym (same name)) (back_from (old.outputs name).stands);
+}
+
+-- nothing was touched
+pub unused_still : {S K C : Type 0} (live : Bool) (plan : Plan) (book : Book S K C) → IsUnusedOf live plan book book
+unused_still live plan book = record {
+  ports = λ port. back_from (ports_in plan book port).stands;
+  others = λ key away. refl;
+  control = control_same live plan.control book.control book.control refl;
+  ticker = back_from book.ticker.stands;
+  outputs = λ name. back_from (book.outputs name).stands;
 }

@@ -9,7 +9,7 @@ use Rattle.savi_kinds.specs.Ports.{number_of}
 use Rattle.savi_kinds.specs.ValidPlan.{numbers_of}
 use Rattle.savi_ends.specs.declared.world.Std.TheVariants.{Out}
 use Rattle.savi_ends.specs.declared.world.Ends.{Ends}
-use Rattle.savi_ends.specs.Places.{Place, Book}
+use Rattle.savi_ends.specs.Places.{Place, Book, PortKey, ControlKey}
 use Rattle.cli_lang.specs.Arrivals as control
 use Rattle.hist_store.specs.Rows.{Row}
 use Rattle.savi_history.specs.Bases.{empty}
@@ -24,7 +24,8 @@ use Rattle.savi_history.proofs.WithoutControl.{without_control}
 use Rattle.live_session.specs.LiveRows.{ControlRow}
 use Rattle.run_config.specs.Configs.{EndHasFault}
 use Rattle.port_worker.specs.ControlServed.{IsControlServed}
-use Rattle.switch_run.specs.Causes.{HasReadFault, HasSomeReadFault, HasSomeWriteFault, Keeps, TookOrPart}
+use Rattle.switch_run.specs.Causes.{HasReadFault, HasSomeReadFault, HasSomeWriteFault, Keeps, TookOrPart, ports_in}
+use Rattle.switch_ports.specs.Named.{control_key, key_among}
 use Rattle.switch_run.specs.Live.{IsServeOf, IsServeSession, ServesControlAt}
 use Rattle.switch_run.specs.Session.{IsReplayOf, IsReported, IsSession, IsFileUnread, ServesControlPlace}
 use Rattle.switch_run.proofs.LegalFailures.{legal_failed, legal_failed_write, number_of_place, plan_element}
@@ -55,16 +56,16 @@ fault_kept faults place x kept fault = rw kept fault
 
 -- control ended so only where it has an input, and then its ends stand in its place
 
-abbrev HasEnds : {S K C : Type 0} → (S → Option (List ℕ)) → (K → Option (List ℕ)) → (S → ℕ) → (K → ℕ) → Plan → List Row → Place (Ends S K C) → Place (Ends S K C) → Type 0
+abbrev HasEnds : {S K C : Type 0} → (S → Option (List ℕ)) → (K → Option (List ℕ)) → (S → ℕ) → (K → ℕ) → Plan → List Row → (ControlKey → Place (Ends S K C)) → (ControlKey → Place (Ends S K C)) → Type 0
 HasEnds left written source_faults sink_faults plan past old new =
-    (input : control.Input) × (stop : Option ℕ) × Keeps (IsControlServed left written source_faults sink_faults plan empty past input stop) old new
+    (key : ControlKey) × (input : control.Input) × (stop : Option ℕ) × Keeps (IsControlServed left written source_faults sink_faults plan empty past input stop) (old key) (new key)
 
-has_ends : {S K C : Type 0} (left : S → Option (List ℕ)) (written : K → Option (List ℕ)) (source_faults : S → ℕ) (sink_faults : K → ℕ) (plan : Plan) (past : List Row) (names : Option (List ℕ × List ℕ)) (lines : Option control.Input) (stop : Option ℕ) (old new : Place (Ends S K C))
+has_ends : {S K C : Type 0} (left : S → Option (List ℕ)) (written : K → Option (List ℕ)) (source_faults : S → ℕ) (sink_faults : K → ℕ) (plan : Plan) (past : List Row) (names : Option (List ℕ × List ℕ)) (lines : Option control.Input) (stop : Option ℕ) (old new : ControlKey → Place (Ends S K C))
     → ServesControlPlace left written source_faults sink_faults plan past names lines stop old new → (lines ≡ None → ⊥) → HasEnds left written source_faults sink_faults plan past old new
 has_ends left written source_faults sink_faults plan past None None stop old new serves some = absurd (some refl)
 has_ends left written source_faults sink_faults plan past None (Some input) stop old new serves some = absurd serves
 has_ends left written source_faults sink_faults plan past (Some names) None stop old new serves some = absurd serves
-has_ends left written source_faults sink_faults plan past (Some names) (Some input) stop old new serves some = (input, stop, serves)
+has_ends left written source_faults sink_faults plan past (Some names) (Some input) stop old new serves some = (control_key false names, input, stop, serves)
 
 no_input : Input
 no_input = record { arrivals = []; ending = hows.End }
@@ -79,29 +80,31 @@ module _ {S K C : Type 0} (left : S → Option (List ℕ)) (written : K → Opti
   control_ends : (r.serves.lines ≡ None → ⊥) → HasEnds left written source_faults sink_faults plan r.past old.control new.control
   control_ends some = has_ends left written source_faults sink_faults plan r.past plan.control r.serves.lines r.serves.stops.control old.control new.control r.serves.control some
 
-  read_at : IsOfInput plan r.past → ((port : ℕ) × HasReadFault source_faults new port) ⊎ EndHasFault (λ e. source_faults e.source) new.control
+  read_at : IsOfInput plan r.past → ((key : PortKey) × HasReadFault source_faults new key) ⊎ ((names : ControlKey) × EndHasFault (λ e. source_faults e.source) (new.control names))
   read_at (inl found) =
       let port = get_or (numbers_of plan.ports) found.0 0 in
       let at = r.serves.each found.0 no_input found.1 in
       let rose = at.holds.broken found.2 in
-      inl (port, fault_kept (λ (e : Ends S K C). source_faults e.source) (new.ports port) at.back at.kept (omega (arith, rose)))
+      inl (key_among plan.ports port, fault_kept (λ (e : Ends S K C). source_faults e.source) (ports_in plan new port) at.back at.kept (omega (arith, rose)))
   read_at (inr is) =
-      let at = (control_ends (λ none. let e : Some hows.Failed ≡ Some hows.End = sym is ∙ ended_alone none in cc)).2 in
+      let ends = control_ends (λ none. let e : Some hows.Failed ≡ Some hows.End = sym is ∙ ended_alone none in cc) in
+      let at = ends.3 in
       let rose = at.holds.broken is in
-      inr (fault_kept (λ (e : Ends S K C). source_faults e.source) new.control at.back at.kept (omega (arith, rose)))
+      inr (ends.0, fault_kept (λ (e : Ends S K C). source_faults e.source) (new.control ends.0) at.back at.kept (omega (arith, rose)))
 
   write_at : IsOfOutput plan r.past → HasSomeWriteFault sink_faults new
   write_at (inl found) =
       let port = get_or (numbers_of plan.ports) found.0 0 in
       let at = r.serves.each found.0 no_input found.1 in
       let rose = at.holds.broken_out found.2 in
-      inl (port, fault_kept (λ (e : Ends S K C). sink_faults e.sink) (new.ports port) at.back at.kept (omega (arith, rose)))
+      inl (key_among plan.ports port, fault_kept (λ (e : Ends S K C). sink_faults e.sink) (ports_in plan new port) at.back at.kept (omega (arith, rose)))
   write_at (inr is) =
-      let at = (control_ends (λ none. let e : Some hows.Unwritten ≡ Some hows.End = sym is ∙ ended_alone none in cc)).2 in
+      let ends = control_ends (λ none. let e : Some hows.Unwritten ≡ Some hows.End = sym is ∙ ended_alone none in cc) in
+      let at = ends.3 in
       let rose = at.holds.unwritten is in
-      inr (inl (fault_kept (λ (e : Ends S K C). sink_faults e.sink) new.control at.back at.kept (omega (arith, rose))))
+      inr (inl (ends.0, fault_kept (λ (e : Ends S K C). sink_faults e.sink) (new.control ends.0) at.back at.kept (omega (arith, rose))))
 
-  replay_read : status ≡ 5 → ((port : ℕ) × HasReadFault source_faults new port) ⊎ EndHasFault (λ e. source_faults e.source) new.control
+  replay_read : status ≡ 5 → ((key : PortKey) × HasReadFault source_faults new key) ⊎ ((names : ControlKey) × EndHasFault (λ e. source_faults e.source) (new.control names))
   replay_read five =
       let failed : has_failed r.past ≡ true = failed_by status (has_failed r.past) (has_failed_write r.past || not (r.reported.journal_written && r.reported.summed.summary_written)) (has_malformed r.past) (has_full r.past) r.reported.summed.cause five in
       read_at (subst (λ (l : List Row). IsOfInput plan l) (sym r.serves.replay) (failed_at_input plan empty r.serves.lines r.serves.inputs r.serves.stops (ap has_failed (sym r.serves.replay) ∙ failed)))
@@ -158,23 +161,24 @@ write_fault_of left written source_faults sink_faults Says old new file status s
 
 module _ {S K C : Type 0} (left : S → Option (List ℕ)) (written : K → Option (List ℕ)) (source_faults : S → ℕ) (sink_faults : K → ℕ) (readings : C → Option (List ℕ)) (plan : Plan) (past : List Row) where
   -- control that ended in no ordinary way has its ends in its place
-  has_live : (names : Option (List ℕ × List ℕ)) (how : How) (old new : Place (Ends S K C)) → ServesControlAt left written source_faults sink_faults readings plan past names old new → control_end past ≡ Some how → how ≢ hows.End
-      → Keeps (ControlRow left written source_faults sink_faults readings plan empty past) old new
+  has_live : (names : Option (List ℕ × List ℕ)) (how : How) (old new : ControlKey → Place (Ends S K C)) → ServesControlAt left written source_faults sink_faults readings plan past names old new → control_end past ≡ Some how → how ≢ hows.End
+      → (key : ControlKey) × Keeps (ControlRow left written source_faults sink_faults readings plan empty past) (old key) (new key)
   has_live None how old new serves is other = absurd (other (let both : Some how ≡ Some hows.End = sym is ∙ serves.0.ended in cc))
-  has_live (Some names) how old new serves is other = serves
+  has_live (Some names) how old new serves is other = (control_key true names, serves)
 
 module _ {S K C : Type 0} (left : S → Option (List ℕ)) (written : K → Option (List ℕ)) (source_faults : S → ℕ) (sink_faults : K → ℕ) (readings : C → Option (List ℕ)) (plan : Plan) (Says : List ℕ → Type 0) (old new : Book S K C) (status : ℕ) (r : IsServeOf left written source_faults sink_faults readings plan Says old new status) where
-  live_read_at : IsOfInput plan r.past → ((port : ℕ) × HasReadFault source_faults new port) ⊎ EndHasFault (λ e. source_faults e.source) new.control
+  live_read_at : IsOfInput plan r.past → ((key : PortKey) × HasReadFault source_faults new key) ⊎ ((names : ControlKey) × EndHasFault (λ e. source_faults e.source) (new.control names))
   live_read_at (inl (k, inside, is)) =
       let d = plan_element plan.ports k inside in
       let p = get_or plan.ports k d in
       let at = r.ports k d inside in
       let rose = at.holds.0.broken (subst (λ (n : ℕ). input_end n r.past ≡ Some hows.Failed) (number_of_place plan k d inside) is) in
-      inl (number_of p.number, fault_kept (λ (e : Ends S K C). source_faults e.source) (new.ports (number_of p.number)) at.back at.kept (omega (arith, rose)))
+      inl (key_among plan.ports (number_of p.number), fault_kept (λ (e : Ends S K C). source_faults e.source) (ports_in plan new (number_of p.number)) at.back at.kept (omega (arith, rose)))
   live_read_at (inr is) =
-      let at = has_live left written source_faults sink_faults readings plan r.past plan.control hows.Failed old.control new.control r.control is (λ e. cc) in
+      let ends = has_live left written source_faults sink_faults readings plan r.past plan.control hows.Failed old.control new.control r.control is (λ e. cc) in
+      let at = ends.1 in
       let rose = at.holds.broken is in
-      inr (fault_kept (λ (e : Ends S K C). source_faults e.source) new.control at.back at.kept (omega (arith, rose)))
+      inr (ends.0, fault_kept (λ (e : Ends S K C). source_faults e.source) (new.control ends.0) at.back at.kept (omega (arith, rose)))
 
   live_write_at : IsOfOutput plan r.past → HasSomeWriteFault sink_faults new
   live_write_at (inl (k, inside, is)) =
@@ -182,13 +186,14 @@ module _ {S K C : Type 0} (left : S → Option (List ℕ)) (written : K → Opti
       let p = get_or plan.ports k d in
       let at = r.ports k d inside in
       let rose = at.holds.1.broken (subst (λ (n : ℕ). output_end n r.past ≡ Some hows.Failed) (number_of_place plan k d inside) is) in
-      inl (number_of p.number, fault_kept (λ (e : Ends S K C). sink_faults e.sink) (new.ports (number_of p.number)) at.back at.kept (omega (arith, rose)))
+      inl (key_among plan.ports (number_of p.number), fault_kept (λ (e : Ends S K C). sink_faults e.sink) (ports_in plan new (number_of p.number)) at.back at.kept (omega (arith, rose)))
   live_write_at (inr is) =
-      let at = has_live left written source_faults sink_faults readings plan r.past plan.control hows.Unwritten old.control new.control r.control is (λ e. cc) in
+      let ends = has_live left written source_faults sink_faults readings plan r.past plan.control hows.Unwritten old.control new.control r.control is (λ e. cc) in
+      let at = ends.1 in
       let rose = at.holds.unwritten is in
-      inr (inl (fault_kept (λ (e : Ends S K C). sink_faults e.sink) new.control at.back at.kept (omega (arith, rose))))
+      inr (inl (ends.0, fault_kept (λ (e : Ends S K C). sink_faults e.sink) (new.control ends.0) at.back at.kept (omega (arith, rose))))
 
-  live_read : status ≡ 5 → ((port : ℕ) × HasReadFault source_faults new port) ⊎ EndHasFault (λ e. source_faults e.source) new.control
+  live_read : status ≡ 5 → ((key : PortKey) × HasReadFault source_faults new key) ⊎ ((names : ControlKey) × EndHasFault (λ e. source_faults e.source) (new.control names))
   live_read five =
       let w = has_failed_write r.past || not (r.reported.journal_written && r.reported.summed.summary_written) in
       live_read_at (legal_failed plan empty r.past r.legal (failed_by status (has_failed r.past) w (has_malformed r.past) (has_full r.past) r.reported.summed.cause five))

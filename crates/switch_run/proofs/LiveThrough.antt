@@ -13,7 +13,7 @@ use Rattle.savi_kinds.specs.Ports.{number_of}
 use Rattle.savi_kinds.specs.ValidPlan.{numbers_of}
 use Rattle.savi_ends.specs.declared.world.Std.TheVariants.{Out}
 use Rattle.savi_ends.specs.declared.world.Ends.{Ends}
-use Rattle.savi_ends.specs.Places.{Place, Book}
+use Rattle.savi_ends.specs.Places.{Place, Book, PortKey, ControlKey, IsPortOut, IsPortKept, IsControlOut, IsControlKept}
 use Rattle.hist_store.specs.Rows.{Row}
 use Rattle.savi_history.specs.Bases.{empty}
 use Rattle.live_session.specs.LiveRows.{ControlRow, TickerRow}
@@ -21,10 +21,12 @@ use Rattle.live_session.specs.LiveSession.{PortRow, ControlOf}
 use Rattle.live_switch.specs.declared.ready.Ready.{Ready}
 use Rattle.port_worker.specs.SentFrames.{TookMore}
 use Rattle.port_worker.specs.Used.{IsUsed}
+use Rattle.switch_ports.specs.Named.{control_key, key_among, named_by}
+use Rattle.switch_ports.proofs.Named.{key_number}
 use Rattle.switch_ports.specs.Live.{AreKept, AreOpened, IsLiveControlOpened, IsNextOf, IsOffFirst, OthersSame}
 use Rattle.switch_report.specs.RunLines.{cannot_open_line, control_word, journal_word, memory_line, port_name}
 use Rattle.switch_run.specs.declared.session.Outcome.{Outcome}
-use Rattle.switch_run.specs.Causes.{IsBack, IsOffPlanSame, IsUnused, Keeps, KeepsAll, KeepsControl}
+use Rattle.switch_run.specs.Causes.{IsBack, IsControlBack, IsOffPlanSame, IsUnusedOf, Keeps, KeepsAll, KeepsControl, ports_in}
 use Rattle.switch_run.specs.Live.{IsLivePlayed, IsServeOf, ServesControlAt}
 use Rattle.switch_run.specs.Session.{IsControlUnopened, IsJournalUnopened, IsPortUnopened, IsSummed}
 use Rattle.switch_run.proofs.Through.{HandledEnds, HandledOne, back_from, both_told, element, is_some_of, keeps_of, output_back, reported_of, unused_ends, unused_sink}
@@ -37,16 +39,16 @@ pub record HandledPorts {S K C : Type 0} (numbers : List ℕ) (held back : List 
   pub size : length back ≡ length held
   pub told : (k : ℕ) (d : Ends S K C) → k < length held → IfSome (old (slice_index numbers k)).stands (λ t. get_or held k d ≡ t)
   pub kept : (k : ℕ) (d : Ends S K C) → k < length held → (new (slice_index numbers k)).stands ≡ Some (get_or back k d)
-  pub others : OthersSame numbers (length held) old new
+  pub others : (n : ℕ) → IsOffFirst numbers (length held) n → new n ≡ old n
 
--- the same of the ends of control, where the plan has names for them; else there are none, and their place stays
-abbrev pub HandledLive : {S K C : Type 0} → Option (List ℕ × List ℕ) → Option (Ends S K C) → Option (Ends S K C) → Place (Ends S K C) → Place (Ends S K C) → Type 0
+-- the same of the ends of control, where the plan has names for them; else there are none, and their places stay
+abbrev pub HandledLive : {S K C : Type 0} → Option (List ℕ × List ℕ) → Option (Ends S K C) → Option (Ends S K C) → (ControlKey → Place (Ends S K C)) → (ControlKey → Place (Ends S K C)) → Type 0
 HandledLive None None None old new = new ≡ old
 HandledLive None None (Some back) old new = ⊥
 HandledLive None (Some held) back old new = ⊥
 HandledLive (Some names) None back old new = ⊥
 HandledLive (Some names) (Some held) None old new = ⊥
-HandledLive (Some names) (Some held) (Some back) old new = HandledEnds held back old new
+HandledLive (Some names) (Some held) (Some back) old new = HandledEnds held back (old (control_key true names)) (new (control_key true names))
 
 -- the same of the ticker's clock
 pub record HandledClock {C : Type 0} (clock clock' : C) (old new : Place C) : Type 0 where
@@ -56,7 +58,8 @@ pub record HandledClock {C : Type 0} (clock clock' : C) (old new : Place C) : Ty
 -- the same of all ends of a plan
 pub record HandledPlan {S K C : Type 0} (plan : Plan) (held back : Ready S K C) (sink sink' : K) (old new : Book S K C) : Type 0 where
   pub planned : length held.ports.items ≡ length plan.ports
-  pub ports : HandledPorts (numbers_of plan.ports) held.ports.items back.ports.items old.ports new.ports
+  pub ports : HandledPorts (numbers_of plan.ports) held.ports.items back.ports.items (ports_in plan old) (ports_in plan new)
+  pub others : OthersSame (numbers_of plan.ports) (length held.ports.items) old.ports new.ports
   pub control : HandledLive plan.control held.control back.control old.control new.control
   pub ticker : HandledClock held.ticker back.ticker old.ticker new.ticker
   pub journal : HandledOne plan.journal sink sink' old.outputs new.outputs
@@ -69,50 +72,60 @@ pub numbers_count : (plan : Plan) (numbers : List Port) → map number_of number
 numbers_count plan numbers are = sym (length-map numbers number_of) ∙ ap length are ∙ numbers_len plan
 
 -- ports that were opened are handed out
-pub live_out : {S K C : Type 0} (IsFresh : Ends S K C → Type 0) (numbers numbers' : List ℕ) (held back : List (Ends S K C)) (p0 p1 p2 : ℕ → Place (Ends S K C)) → AreOpened IsFresh numbers p0 p1 held → length back ≡ length held → numbers' ≡ numbers → p2 ≡ p1
-    → (k : ℕ) → k < length back → (p2 (slice_index numbers' k)).is_out ≡ true
-live_out {S} {K} {C} IsFresh numbers numbers' held back p0 p1 p2 opened size are same k inside =
+pub live_out : {S K C : Type 0} (IsFresh : Ends S K C → Type 0) (plans : List PortPlan) (numbers numbers' : List ℕ) (held back : List (Ends S K C)) (p0 p1 p2 : PortKey → Place (Ends S K C)) → AreOpened IsFresh numbers (named_by plans p0) (named_by plans p1) held → length back ≡ length held → numbers' ≡ numbers → p2 ≡ p1
+    → (k : ℕ) → k < length back → IsPortOut p2 (slice_index numbers' k)
+live_out {S} {K} {C} IsFresh plans numbers numbers' held back p0 p1 p2 opened size are same k inside =
     let within : k < length held = omega (arith, size, inside) in
-    ap (λ (n : List ℕ). (p2 (slice_index n k)).is_out) are ∙ ap (λ (p : ℕ → Place (Ends S K C)). (p (slice_index numbers k)).is_out) same ∙ (opened k (element held k within) within).out
+    let n = slice_index numbers k in
+    subst (λ (l : List ℕ). IsPortOut p2 (slice_index l k)) (sym are)
+    (key_among plans n, key_number plans n, ap (λ (p : PortKey → Place (Ends S K C)). (p (key_among plans n)).is_out) same ∙ (opened k (element held k within) within).out)
 
-pub live_handled : {S K C : Type 0} (IsFresh : Ends S K C → Type 0) (numbers numbers' : List ℕ) (held back : List (Ends S K C)) (p0 p1 p2 p3 p4 : ℕ → Place (Ends S K C))
-    → AreOpened IsFresh numbers p0 p1 held → OthersSame numbers (length held) p0 p1 → p2 ≡ p1
-    → length back ≡ length held → numbers' ≡ numbers → AreKept numbers' p3 back → OthersSame numbers' (length back) p2 p3 → p4 ≡ p3
-    → HandledPorts numbers held back p0 p4
-live_handled {S} {K} {C} IsFresh numbers numbers' held back p0 p1 p2 p3 p4 opened off1 same12 size are kept off3 same34 = record {
+-- the ports that aren't held stay
+pub live_others : {S K C : Type 0} (numbers numbers' : List ℕ) (held back : List (Ends S K C)) (p0 p1 p2 p3 p4 : PortKey → Place (Ends S K C))
+    → OthersSame numbers (length held) p0 p1 → p2 ≡ p1 → length back ≡ length held → numbers' ≡ numbers → OthersSame numbers' (length back) p2 p3 → p4 ≡ p3 → OthersSame numbers (length held) p0 p4
+live_others {S} {K} {C} numbers numbers' held back p0 p1 p2 p3 p4 off1 same12 size are off3 same34 = λ key off.
+    ap (λ (p : PortKey → Place (Ends S K C)). p key) same34
+    ∙ off3 key (λ k inside same. off k (omega (arith, size, inside)) (ap (λ (l : List ℕ). slice_index l k) (sym are) ∙ same))
+    ∙ ap (λ (p : PortKey → Place (Ends S K C)). p key) same12 ∙ off1 key off
+
+pub live_handled : {S K C : Type 0} (IsFresh : Ends S K C → Type 0) (plans : List PortPlan) (numbers numbers' : List ℕ) (held back : List (Ends S K C)) (p0 p1 p2 p3 p4 : PortKey → Place (Ends S K C))
+    → AreOpened IsFresh numbers (named_by plans p0) (named_by plans p1) held → OthersSame numbers (length held) p0 p1 → p2 ≡ p1
+    → length back ≡ length held → numbers' ≡ numbers → AreKept numbers' p2 p3 back → OthersSame numbers' (length back) p2 p3 → p4 ≡ p3
+    → HandledPorts numbers held back (named_by plans p0) (named_by plans p4)
+live_handled {S} {K} {C} IsFresh plans numbers numbers' held back p0 p1 p2 p3 p4 opened off1 same12 size are kept off3 same34 = record {
   size = size;
   told = λ k d inside. (opened k d inside).told;
   kept = λ k d inside.
-      ap (λ (p : ℕ → Place (Ends S K C)). (p (slice_index numbers k)).stands) same34
-      ∙ ap (λ (n : List ℕ). (p3 (slice_index n k)).stands) (sym are)
-      ∙ kept k d (omega (arith, size, inside));
-  others = λ n off.
-      ap (λ (p : ℕ → Place (Ends S K C)). p n) same34
-      ∙ off3 n (λ k inside same. off k (omega (arith, size, inside)) (ap (λ (l : List ℕ). slice_index l k) (sym are) ∙ same))
-      ∙ ap (λ (p : ℕ → Place (Ends S K C)). p n) same12 ∙ off1 n off;
+      let n = slice_index numbers k in
+      let key = key_among plans n in
+      ap (λ (p : PortKey → Place (Ends S K C)). (p key).stands) same34
+      ∙ kept k d (omega (arith, size, inside)) key (key_number plans n ∙ ap (λ (l : List ℕ). slice_index l k) (sym are)) (ap (λ (p : PortKey → Place (Ends S K C)). (p key).is_out) same12 ∙ (opened k d inside).out);
+  others = λ n off. live_others numbers numbers' held back p0 p1 p2 p3 p4 off1 same12 size are off3 same34 (key_among plans n) (subst (λ (m : ℕ). IsOffFirst numbers (length held) m) (sym (key_number plans n)) off);
 }
 
 -- ends of control that are held are handed out
-pub live_control_out : {S K C : Type 0} (IsFresh : Ends S K C → Type 0) (names : Option (List ℕ × List ℕ)) (held back : Option (Ends S K C)) (p0 p1 p2 : Place (Ends S K C))
-    → IsLiveControlOpened IsFresh names p0 p1 held → is_some back ≡ is_some held → p2 ≡ p1 → OnSome back (p2.is_out ≡ true)
+pub live_control_out : {S K C : Type 0} (IsFresh : Ends S K C → Type 0) (names : Option (List ℕ × List ℕ)) (held back : Option (Ends S K C)) (p0 p1 p2 : ControlKey → Place (Ends S K C))
+    → IsLiveControlOpened IsFresh names p0 p1 held → is_some back ≡ is_some held → p2 ≡ p1 → OnSome back (IsControlOut p2)
 live_control_out IsFresh None None None p0 p1 p2 opened same stays = tt
 live_control_out IsFresh None None (Some back) p0 p1 p2 opened same stays = let t : true ≡ false = same in cc
 live_control_out IsFresh None (Some held) back p0 p1 p2 opened same stays = absurd opened
 live_control_out IsFresh (Some names) None back p0 p1 p2 opened same stays = absurd opened
 live_control_out IsFresh (Some names) (Some held) None p0 p1 p2 opened same stays = tt
-live_control_out {S} {K} {C} IsFresh (Some names) (Some held) (Some back) p0 p1 p2 opened same stays = ap (λ (p : Place (Ends S K C)). p.is_out) stays ∙ opened.out
+live_control_out {S} {K} {C} IsFresh (Some names) (Some held) (Some back) p0 p1 p2 opened same stays =
+    (control_key true names, ap (λ (p : ControlKey → Place (Ends S K C)). (p (control_key true names)).is_out) stays ∙ opened.out)
 
--- the place of control before the ports were opened, behind control's opening, and before and behind the keeping of its ends
-pub live_control : {S K C : Type 0} (IsFresh : Ends S K C → Type 0) (names : Option (List ℕ × List ℕ)) (held back : Option (Ends S K C)) (p0 p1 p2 p3 p4 p5 : Place (Ends S K C))
-    → p1 ≡ p0 → IsLiveControlOpened IsFresh names p1 p2 held → is_some back ≡ is_some held → p3 ≡ p2 → IfSome back (λ ends. p4.stands ≡ Some ends) → IfNone back (p4 ≡ p3) → p5 ≡ p4 → HandledLive names held back p0 p5
+-- the places of control before the ports were opened, behind control's opening, and before and behind the keeping of its ends
+pub live_control : {S K C : Type 0} (IsFresh : Ends S K C → Type 0) (names : Option (List ℕ × List ℕ)) (held back : Option (Ends S K C)) (p0 p1 p2 p3 p4 p5 : ControlKey → Place (Ends S K C))
+    → p1 ≡ p0 → IsLiveControlOpened IsFresh names p1 p2 held → is_some back ≡ is_some held → p3 ≡ p2 → IfSome back (λ ends. IsControlKept p3 p4 ends) → IfNone back (p4 ≡ p3) → p5 ≡ p4 → HandledLive names held back p0 p5
 live_control IsFresh None None None p0 p1 p2 p3 p4 p5 same01 opened same same23 kept none same45 = same45 ∙ none ∙ same23 ∙ opened ∙ same01
 live_control IsFresh None None (Some back) p0 p1 p2 p3 p4 p5 same01 opened same same23 kept none same45 = let t : true ≡ false = same in cc
 live_control IsFresh None (Some held) back p0 p1 p2 p3 p4 p5 same01 opened same same23 kept none same45 = absurd opened
 live_control IsFresh (Some names) None back p0 p1 p2 p3 p4 p5 same01 opened same same23 kept none same45 = absurd opened
 live_control IsFresh (Some names) (Some held) None p0 p1 p2 p3 p4 p5 same01 opened same same23 kept none same45 = let t : false ≡ true = same in cc
 live_control {S} {K} {C} IsFresh (Some names) (Some held) (Some back) p0 p1 p2 p3 p4 p5 same01 opened same same23 kept none same45 = record {
-  told = subst (λ (p : Place (Ends S K C)). IfSome p.stands (λ t. held ≡ t)) same01 opened.told;
-  kept = ap (λ (p : Place (Ends S K C)). p.stands) same45 ∙ kept;
+  told = subst (λ (p : ControlKey → Place (Ends S K C)). IfSome (p (control_key true names)).stands (λ t. held ≡ t)) same01 opened.told;
+  kept = ap (λ (p : ControlKey → Place (Ends S K C)). (p (control_key true names)).stands) same45
+      ∙ kept (control_key true names) (ap (λ (p : ControlKey → Place (Ends S K C)). (p (control_key true names)).is_out) same23 ∙ opened.out);
 }
 
 -- a port is among the first of these, or it is none of them
@@ -143,32 +156,34 @@ port_back {S} {K} {C} numbers held old new n handled (inr (k, inside, found)) =
 pub live_ports_back : {S K C : Type 0} (numbers : List ℕ) (held : List (Ends S K C)) (old new : ℕ → Place (Ends S K C)) → HandledPorts numbers held held old new → (n : ℕ) → IsBack (old n) (new n)
 live_ports_back numbers held old new handled n = port_back numbers held old new n handled (among_first numbers (length held) n)
 
-pub live_control_back : {S K C : Type 0} (names : Option (List ℕ × List ℕ)) (held : Option (Ends S K C)) (old new : Place (Ends S K C)) → HandledLive names held held old new → IsBack old new
-live_control_back {S} {K} {C} None None old new handled = subst (λ (x : Place (Ends S K C)). IsBack old x) (sym handled) (back_from old.stands)
+pub live_control_back : {S K C : Type 0} (names : Option (List ℕ × List ℕ)) (held : Option (Ends S K C)) (old new : ControlKey → Place (Ends S K C)) → HandledLive names held held old new → IsControlBack true names old new
+live_control_back None None old new handled = handled
 live_control_back None (Some held) old new handled = absurd handled
 live_control_back (Some names) None old new handled = absurd handled
-live_control_back (Some names) (Some held) old new handled = both_told (λ told kept. kept ≡ told) old.stands new.stands held held handled.told handled.kept refl
+live_control_back (Some names) (Some held) old new handled =
+    both_told (λ told kept. kept ≡ told) (old (control_key true names)).stands (new (control_key true names)).stands held held handled.told handled.kept refl
 
-control_off : {S K C : Type 0} (names : Option (List ℕ × List ℕ)) (held back : Option (Ends S K C)) (old new : Place (Ends S K C)) → HandledLive names held back old new → names ≡ None → new ≡ old
+control_off : {S K C : Type 0} (names : Option (List ℕ × List ℕ)) (held back : Option (Ends S K C)) (old new : ControlKey → Place (Ends S K C)) → HandledLive names held back old new → names ≡ None → new ≡ old
 control_off None None None old new handled none = handled
 control_off None None (Some back) old new handled none = absurd handled
 control_off None (Some held) back old new handled none = absurd handled
 control_off (Some names) held back old new handled none = cc
 
-control_kept : {S K C : Type 0} (names : Option (List ℕ × List ℕ)) (held back : Option (Ends S K C)) (old new : Place (Ends S K C)) → HandledLive names held back old new → IsSome names → IsSome new.stands
-control_kept None held back old new handled named = let t : false ≡ true = named in cc
-control_kept (Some names) None back old new handled named = absurd handled
-control_kept (Some names) (Some held) None old new handled named = absurd handled
-control_kept (Some names) (Some held) (Some back) old new handled named = is_some_of new.stands back handled.kept
+control_kept : {S K C : Type 0} (names : Option (List ℕ × List ℕ)) (held back : Option (Ends S K C)) (old new : ControlKey → Place (Ends S K C)) → HandledLive names held back old new → IfSome names (λ n. IsSome (new (control_key true n)).stands)
+control_kept None held back old new handled = tt
+control_kept (Some names) None back old new handled = absurd handled
+control_kept (Some names) (Some held) None old new handled = absurd handled
+control_kept (Some names) (Some held) (Some back) old new handled = is_some_of (new (control_key true names)).stands back handled.kept
 
-keeps_control : {S K C : Type 0} (left : S → Option (List ℕ)) (written : K → Option (List ℕ)) (names : Option (List ℕ × List ℕ)) (held : Option (Ends S K C)) (old new : Place (Ends S K C)) → HandledLive names held held old new → KeepsControl (IsUsed left written) names old new
+keeps_control : {S K C : Type 0} (left : S → Option (List ℕ)) (written : K → Option (List ℕ)) (names : Option (List ℕ × List ℕ)) (held : Option (Ends S K C)) (old new : ControlKey → Place (Ends S K C)) → HandledLive names held held old new → KeepsControl (IsUsed left written) true names old new
 keeps_control left written None None old new handled = handled
 keeps_control left written None (Some held) old new handled = absurd handled
 keeps_control left written (Some names) None old new handled = absurd handled
-keeps_control left written (Some names) (Some held) old new handled = keeps_of (IsUsed left written) old new held held handled.told handled.kept (unused_ends left written held)
+keeps_control left written (Some names) (Some held) old new handled =
+    keeps_of (IsUsed left written) (old (control_key true names)) (new (control_key true names)) held held handled.told handled.kept (unused_ends left written held)
 
 -- the ends of a session for which there was no memory are kept as they were
-live_keeps_all : {S K C : Type 0} (left : S → Option (List ℕ)) (written : K → Option (List ℕ)) (plan : Plan) (ready : Ready S K C) (sink : K) (old new : Book S K C) → HandledPlan plan ready ready sink sink old new → KeepsAll left written plan old new
+live_keeps_all : {S K C : Type 0} (left : S → Option (List ℕ)) (written : K → Option (List ℕ)) (plan : Plan) (ready : Ready S K C) (sink : K) (old new : Book S K C) → HandledPlan plan ready ready sink sink old new → KeepsAll true left written plan old new
 live_keeps_all {S} {K} {C} left written plan ready sink old new all = record {
   ports = λ k d inside.
       let held = ready.ports.items in
@@ -176,25 +191,25 @@ live_keeps_all {S} {K} {C} left written plan ready sink old new all = record {
       let sizes = numbers_len plan in
       let within : k < length held = omega (arith, sizes, planned, inside) in
       let e = element held k within in
-      subst (λ (n : ℕ). Keeps (IsUsed left written) (old.ports n) (new.ports n)) (sym (get_or_default (numbers_of plan.ports) k d 0 inside))
+      subst (λ (n : ℕ). Keeps (IsUsed left written) (ports_in plan old n) (ports_in plan new n)) (sym (get_or_default (numbers_of plan.ports) k d 0 inside))
       (keeps_of (IsUsed left written) _ _ (get_or held k e) (get_or held k e) (all.ports.told k e within) (all.ports.kept k e within) (unused_ends left written (get_or held k e)));
   control = keeps_control left written plan.control ready.control old.control new.control all.control;
   journal = keeps_of (λ told kept. TookMore (written told) (written kept)) _ _ sink sink all.journal.told all.journal.kept (unused_sink written sink);
 }
 
 -- the ports off the plan are none of those that were opened
-ports_off : {S K C : Type 0} (plan : Plan) (held back : List (Ends S K C)) (old new : ℕ → Place (Ends S K C)) → length held < suc (length plan.ports) → HandledPorts (numbers_of plan.ports) held back old new → (n : ℕ) → All (λ m. m ≢ n) (numbers_of plan.ports) → new n ≡ old n
-ports_off plan held back old new few handled n away = handled.others n (λ k inside same. away k 0 (omega (arith, numbers_len plan, few, inside)) same)
+ports_off : {S K C : Type 0} (plan : Plan) (count : ℕ) (old new : PortKey → Place (Ends S K C)) → count < suc (length plan.ports) → OthersSame (numbers_of plan.ports) count old new → (key : PortKey) → All (λ m. m ≢ key.number) (numbers_of plan.ports) → new key ≡ old key
+ports_off plan count old new few others key away = others key (λ k inside same. away k 0 (omega (arith, numbers_len plan, few, inside)) same)
 
 live_off_plan : {S K C : Type 0} (plan : Plan) (held back : Ready S K C) (sink sink' : K) (old new : Book S K C) → HandledPlan plan held back sink sink' old new → IsOffPlanSame plan old new
 live_off_plan {S} {K} {C} plan held back sink sink' old new all = record {
-  ports = ports_off plan held.ports.items back.ports.items old.ports new.ports (let planned = all.planned in omega (arith, planned)) all.ports;
+  ports = ports_off plan (length held.ports.items) old.ports new.ports (let planned = all.planned in omega (arith, planned)) all.others;
   control = λ none. control_off plan.control held.control back.control old.control new.control all.control none;
   outputs = all.journal.others;
 }
 
 -- where the ends of control that are held were served, those in their place were
-serves_control : {S K C : Type 0} (left : S → Option (List ℕ)) (written : K → Option (List ℕ)) (source_faults : S → ℕ) (sink_faults : K → ℕ) (readings : C → Option (List ℕ)) (plan : Plan) (past : List Row) (names : Option (List ℕ × List ℕ)) (held back : Option (Ends S K C)) (old new : Place (Ends S K C))
+serves_control : {S K C : Type 0} (left : S → Option (List ℕ)) (written : K → Option (List ℕ)) (source_faults : S → ℕ) (sink_faults : K → ℕ) (readings : C → Option (List ℕ)) (plan : Plan) (past : List Row) (names : Option (List ℕ × List ℕ)) (held back : Option (Ends S K C)) (old new : ControlKey → Place (Ends S K C))
     → HandledLive names held back old new → ControlOf left written source_faults sink_faults readings plan empty past held back
     → ServesControlAt left written source_faults sink_faults readings plan past names old new
 serves_control left written source_faults sink_faults readings plan past None None None old new handled served = (served, handled)
@@ -203,7 +218,7 @@ serves_control left written source_faults sink_faults readings plan past None (S
 serves_control left written source_faults sink_faults readings plan past (Some names) None back old new handled served = absurd handled
 serves_control left written source_faults sink_faults readings plan past (Some names) (Some held) None old new handled served = absurd handled
 serves_control left written source_faults sink_faults readings plan past (Some names) (Some held) (Some back) old new handled served =
-    keeps_of (ControlRow left written source_faults sink_faults readings plan empty past) old new held back handled.told handled.kept served
+    keeps_of (ControlRow left written source_faults sink_faults readings plan empty past) (old (control_key true names)) (new (control_key true names)) held back handled.told handled.kept served
 
 -- what a session was to the ends is what it was to the places
 serve_of : {S K C : Type 0} (left : S → Option (List ℕ)) (written : K → Option (List ℕ)) (source_faults : S → ℕ) (sink_faults : K → ℕ) (readings : C → Option (List ℕ)) (plan : Plan) (Says : List ℕ → Type 0) (held back : Ready S K C) (sink sink' : K) (past : List Row) (journal_written : Bool) (old new : Book S K C) (status : ℕ)
@@ -220,7 +235,7 @@ serve_of {S} {K} {C} left written source_faults sink_faults readings plan Says h
       let e = element held.ports.items k within in
       let p = get_or plan.ports k d in
       let Row : Ends S K C → Ends S K C → Type 0 = PortRow left written source_faults sink_faults readings plan empty past p in
-      subst (λ (n : ℕ). Keeps Row (old.ports n) (new.ports n)) (number_of_place plan k d inside)
+      subst (λ (n : ℕ). Keeps Row (ports_in plan old n) (ports_in plan new n)) (number_of_place plan k d inside)
       (keeps_of Row _ _ (get_or held.ports.items k e) (get_or back.ports.items k e) (all.ports.told k e within) (all.ports.kept k e within) (served.live.ports k d e inside));
   control = serves_control left written source_faults sink_faults readings plan past plan.control held.control back.control old.control new.control all.control served.live.control;
   ticker = keeps_of (TickerRow readings plan empty past) old.ticker new.ticker held.ticker back.ticker all.ticker.told all.ticker.kept served.live.ticker;
@@ -237,8 +252,8 @@ ports_kept plan held back old new planned handled = λ k d inside.
 
 -- an opening of a port failed, and what was open is kept
 pub live_port_unopened : {S K C : Type 0} (plan : Plan) (Says : List ℕ → Type 0) (held : List (Ends S K C)) (port : ℕ) (old new : Book S K C) → IsStrictlyIncreasing (numbers_of plan.ports) → IsNextOf (numbers_of plan.ports) (length held) port
-    → HandledPorts (numbers_of plan.ports) held held old.ports new.ports → new.control ≡ old.control → new.outputs ≡ old.outputs → Says (cannot_open_line (port_name port)) → IsPortUnopened plan Says old new
-live_port_unopened {S} {K} {C} plan Says held port old new rising (inside, here) handled control outputs told =
+    → HandledPorts (numbers_of plan.ports) held held (ports_in plan old) (ports_in plan new) → OthersSame (numbers_of plan.ports) (length held) old.ports new.ports → new.control ≡ old.control → new.outputs ≡ old.outputs → Says (cannot_open_line (port_name port)) → IsPortUnopened plan Says old new
+live_port_unopened {S} {K} {C} plan Says held port old new rising (inside, here) handled others control outputs told =
     let numbers = numbers_of plan.ports in
     let count = length held in
     let before = take count numbers in
@@ -254,16 +269,16 @@ live_port_unopened {S} {K} {C} plan Says held port old new rising (inside, here)
       kept = λ k d below.
           let within : k < count = omega (arith, size, below) in
           let e = element held k within in
-          subst (λ (n : ℕ). IsSome (new.ports n).stands) (sym (get_or-take count numbers k d within ∙ get_or_default numbers k d 0 (omega (arith, within, inside)))) (is_some_of _ _ (handled.kept k e within));
-      same = λ j d below. handled.others (get_or (port ∷ later) j d) (λ k within equal.
+          subst (λ (n : ℕ). IsSome (ports_in plan new n).stands) (sym (get_or-take count numbers k d within ∙ get_or_default numbers k d 0 (omega (arith, within, inside)))) (is_some_of _ _ (handled.kept k e within));
+      same = λ j d below key is. others key (λ k within equal.
           let there = ap (λ (l : List ℕ). get_or l (length before + j) d) whole ∙ get_or-append-add before (port ∷ later) j d in
           let apart = AllPairs-from_increasing numbers rising k (length before + j) d (omega (arith, size, within)) (omega (arith, sizes, below)) in
           let first = get_or_default numbers k d 0 (omega (arith, within, inside)) in
-          omega (arith, first, there, apart, equal));
+          omega (arith, first, there, apart, equal, is));
       control = control;
       outputs = outputs;
       elsewhere = record {
-        ports = ports_off plan held held old.ports new.ports (omega (arith, numbers_len plan, inside)) handled;
+        ports = ports_off plan (length held) old.ports new.ports (omega (arith, numbers_len plan, inside)) others;
         control = λ none. control;
         outputs = λ other apart. ap (λ (o : List ℕ → Place K). o other) outputs;
       };
@@ -272,14 +287,14 @@ live_port_unopened {S} {K} {C} plan Says held port old new rising (inside, here)
 
 -- the opening of control failed, and all ports are kept
 pub live_control_unopened : {S K C : Type 0} (plan : Plan) (Says : List ℕ → Type 0) (held : List (Ends S K C)) (old new : Book S K C) → IsSome plan.control → length held ≡ length plan.ports
-    → HandledPorts (numbers_of plan.ports) held held old.ports new.ports → new.control ≡ old.control → new.outputs ≡ old.outputs → Says (cannot_open_line control_word) → IsControlUnopened plan Says old new
-live_control_unopened {S} {K} {C} plan Says held old new named planned handled control outputs told = record {
+    → HandledPorts (numbers_of plan.ports) held held (ports_in plan old) (ports_in plan new) → OthersSame (numbers_of plan.ports) (length held) old.ports new.ports → new.control ≡ old.control → new.outputs ≡ old.outputs → Says (cannot_open_line control_word) → IsControlUnopened plan Says old new
+live_control_unopened {S} {K} {C} plan Says held old new named planned handled others control outputs told = record {
   named = named;
-  kept = ports_kept plan held held old.ports new.ports planned handled;
+  kept = ports_kept plan held held (ports_in plan old) (ports_in plan new) planned handled;
   control = control;
   outputs = outputs;
   elsewhere = record {
-    ports = ports_off plan held held old.ports new.ports (omega (arith, planned)) handled;
+    ports = ports_off plan (length held) old.ports new.ports (omega (arith, planned)) others;
     control = λ none. control;
     outputs = λ other apart. ap (λ (o : List ℕ → Place K). o other) outputs;
   };
@@ -288,13 +303,13 @@ live_control_unopened {S} {K} {C} plan Says held old new named planned handled c
 
 -- the opening of the journal failed, and all ports and control are kept
 pub live_journal_unopened : {S K C : Type 0} (plan : Plan) (Says : List ℕ → Type 0) (held : List (Ends S K C)) (control : Option (Ends S K C)) (old new : Book S K C) → length held ≡ length plan.ports
-    → HandledPorts (numbers_of plan.ports) held held old.ports new.ports → HandledLive plan.control control control old.control new.control → ((name : List ℕ) → new.outputs name ≡ old.outputs name) → Says (cannot_open_line journal_word) → IsJournalUnopened plan Says old new
-live_journal_unopened plan Says held control old new planned handled handled_control outputs told = record {
-  kept = ports_kept plan held held old.ports new.ports planned handled;
-  control = λ named. control_kept plan.control control control old.control new.control handled_control named;
+    → HandledPorts (numbers_of plan.ports) held held (ports_in plan old) (ports_in plan new) → OthersSame (numbers_of plan.ports) (length held) old.ports new.ports → HandledLive plan.control control control old.control new.control → ((name : List ℕ) → new.outputs name ≡ old.outputs name) → Says (cannot_open_line journal_word) → IsJournalUnopened true plan Says old new
+live_journal_unopened plan Says held control old new planned handled others handled_control outputs told = record {
+  kept = ports_kept plan held held (ports_in plan old) (ports_in plan new) planned handled;
+  control = control_kept plan.control control control old.control new.control handled_control;
   outputs = outputs;
   elsewhere = record {
-    ports = ports_off plan held held old.ports new.ports (omega (arith, planned)) handled;
+    ports = ports_off plan (length held) old.ports new.ports (omega (arith, planned)) others;
     control = λ none. control_off plan.control control control old.control new.control handled_control none;
     outputs = λ other apart. outputs other;
   };
@@ -302,17 +317,20 @@ live_journal_unopened plan Says held control old new planned handled handled_con
 }
 
 -- the ports that were opened came back as they were, and so did control, and neither the ticker nor an output was touched
-pub live_unused : {S K C : Type 0} (numbers : List ℕ) (held : List (Ends S K C)) (old new : Book S K C) → HandledPorts numbers held held old.ports new.ports → IsBack old.control new.control → new.ticker ≡ old.ticker → ((name : List ℕ) → new.outputs name ≡ old.outputs name) → IsUnused old new
-live_unused {S} {K} {C} numbers held old new handled control ticker same = record {
-  ports = live_ports_back numbers held old.ports new.ports handled;
+pub live_unused : {S K C : Type 0} (plan : Plan) (held : List (Ends S K C)) (old new : Book S K C) → length held < suc (length plan.ports) → HandledPorts (numbers_of plan.ports) held held (ports_in plan old) (ports_in plan new) → OthersSame (numbers_of plan.ports) (length held) old.ports new.ports
+    → IsControlBack true plan.control old.control new.control → new.ticker ≡ old.ticker → ((name : List ℕ) → new.outputs name ≡ old.outputs name) → IsUnusedOf true plan old new
+live_unused {S} {K} {C} plan held old new few handled others control ticker same = record {
+  ports = live_ports_back (numbers_of plan.ports) held (ports_in plan old) (ports_in plan new) handled;
+  others = ports_off plan (length held) old.ports new.ports few others;
   control = control;
   ticker = untouched_back old.ticker new.ticker ticker;
   outputs = λ name. untouched_back (old.outputs name) (new.outputs name) (same name);
 }
 
-unused_plan : {S K C : Type 0} (plan : Plan) (held : Ready S K C) (sink : K) (old new : Book S K C) → HandledPlan plan held held sink sink old new → IsUnused old new
+unused_plan : {S K C : Type 0} (plan : Plan) (held : Ready S K C) (sink : K) (old new : Book S K C) → HandledPlan plan held held sink sink old new → IsUnusedOf true plan old new
 unused_plan plan held sink old new all = record {
-  ports = live_ports_back (numbers_of plan.ports) held.ports.items old.ports new.ports all.ports;
+  ports = live_ports_back (numbers_of plan.ports) held.ports.items (ports_in plan old) (ports_in plan new) all.ports;
+  others = ports_off plan (length held.ports.items) old.ports new.ports (let planned = all.planned in omega (arith, planned)) all.others;
   control = live_control_back plan.control held.control old.control new.control all.control;
   ticker = both_told (λ told kept. kept ≡ told) old.ticker.stands new.ticker.stands held.ticker held.ticker all.ticker.told all.ticker.kept refl;
   outputs = output_back plan.journal sink old.outputs new.outputs all.journal;
@@ -320,24 +338,24 @@ unused_plan plan held sink old new all = record {
 
 live_closes_none : {S K C : Type 0} (left : S → Option (List ℕ)) (written : K → Option (List ℕ)) (plan : Plan) (Says : List ℕ → Type 0) (Session : Type 0) (held back : Ready S K C) (sink sink' : K) (old new : Book S K C) (status : ℕ)
     → HandledPlan plan held back sink sink' old new → back ≡ held → sink' ≡ sink → status ≡ 1 → Says memory_line → new.std Out ≡ old.std Out
-    → Closes left written plan Says Session old new status
+    → Closes true left written plan Says Session old new status
 live_closes_none {S} {K} {C} left written plan Says Session held back sink sink' old new status all same same' one told quiet =
     let unread : HandledPlan plan held held sink sink old new =
     subst (λ (k : K). HandledPlan plan held held sink k old new) same' (subst (λ (r : Ready S K C). HandledPlan plan held r sink sink' old new) same all) in
-    closes_unplayed left written plan Says Session old new status one told quiet (live_keeps_all left written plan held sink old new unread) (live_off_plan plan held held sink sink old new unread) (unused_plan plan held sink old new unread)
+    closes_unplayed true left written plan Says Session old new status one told quiet (live_keeps_all left written plan held sink old new unread) (live_off_plan plan held held sink sink old new unread) (unused_plan plan held sink old new unread)
 
 -- by whether there was an outcome
 pub live_closes : {S K C : Type 0} (left : S → Option (List ℕ)) (written : K → Option (List ℕ)) (source_faults : S → ℕ) (sink_faults : K → ℕ) (readings : C → Option (List ℕ)) (plan : Plan) (Says : List ℕ → Type 0) (held back : Ready S K C) (sink sink' : K) (outcome : Option Outcome) (old mid new : Book S K C) (status : ℕ)
     → HandledPlan plan held back sink sink' old new → mid.std ≡ old.std
     → IfNone outcome ((back ≡ held) × (sink' ≡ sink)) → IfSome outcome (λ o. IsLivePlayed left written source_faults sink_faults readings plan o.core.past held back sink sink' o.journal_written)
     → IfNone outcome ((status ≡ 1) × (Says memory_line × (new ≡ mid))) → IfSome outcome (λ o. IsSummed written sink_faults Says o.core.past o.journal_written (mid.std Out) (new.std Out) status)
-    → Closes left written plan Says (IsServeOf left written source_faults sink_faults readings plan Says old new status) old new status
+    → Closes true left written plan Says (IsServeOf left written source_faults sink_faults readings plan Says old new status) old new status
 live_closes {S} {K} {C} left written source_faults sink_faults readings plan Says held back sink sink' None old mid new status all same none served unserved concluded =
     live_closes_none left written plan Says _ held back sink sink' old new status all none.0 none.1 unserved.0 unserved.1.0
     (ap (λ (b : Book S K C). b.std Out) unserved.1.1 ∙ ap (λ (p : _ → Place K). p Out) same)
 live_closes {S} {K} {C} left written source_faults sink_faults readings plan Says held back sink sink' (Some o) old mid new status all same none served unserved concluded =
     let summed = subst (λ (p : Place K). IsSummed written sink_faults Says o.core.past o.journal_written p (new.std Out) status) (ap (λ (p : _ → Place K). p Out) same) concluded in
-    closes_played left written sink_faults plan Says _ o.core.past o.journal_written old new status summed
+    closes_played true left written sink_faults plan Says _ o.core.past o.journal_written old new status summed
     (serve_of left written source_faults sink_faults readings plan Says held back sink sink' o.core.past o.journal_written old new status all served summed)
 
 -- the place of the ticker's clock before its opening, behind that, and behind the keeping of the clock

@@ -42,6 +42,7 @@ moved_reported written sink_faults plan past Says Says' old new f f' i i' s s' s
   summed = moved_summed written sink_faults Says Says' past r.journal_written (old.std Out) (new.std Out) (s Out) (s' Out) status same same' says r.summed;
   guarded = r.guarded;
   access = r.access;
+  first_come = r.first_come;
 }
 
 moved_did : {S K C : Type 0} (left : S → Option (List ℕ)) (written : K → Option (List ℕ)) (source_faults : S → ℕ) (sink_faults : K → ℕ) (plan : Plan) (Says Says' : List ℕ → Type 0) (old new : Book S K C) (f f' : ℕ) (i i' : List ℕ → Place S) (s s' : Std → Place K) (status : ℕ)

@@ -8,21 +8,9 @@ use Rattle.savi_ends.specs.Places.{Place, Book, OthersStay}
 use Rattle.run_config.specs.declared.refusal.Refusal.{Refusal}
 use Rattle.run_config.specs.declared.refusal.Refusal.TheVariants as refusal
 use Rattle.run_config.specs.Configs.{EndHasFault, IsReadFrom, IsRefused}
-use Rattle.switch_run.specs.Causes.{IsBack, IsOneOf, IsUnserved, IsUnused, session_statuses}
+use Rattle.switch_run.specs.Causes.{IsOneOf, IsUnserved, session_statuses}
 use Rattle.switch_run.specs.Runs.{IsRunOf}
 use Rattle.switch_run.specs.Concluded.{refusal_line, refusal_status}
-
-back_from : {X : Type 0} (o : Option X) → IfSome o (λ told. IsSomeAnd o (λ kept. kept ≡ told))
-back_from None = tt
-back_from (Some x) = refl
-
-pub unused_same : {S K C : Type 0} (old new : Book S K C) → IsUnserved old new → IsUnused old new
-unused_same {S} {K} {C} old new unserved = record {
-  ports = λ port. subst (λ (x : ℕ → Place (Ends S K C)). IsBack (old.ports port) (x port)) (sym unserved.ports) (back_from (old.ports port).stands);
-  control = subst (λ (x : Place (Ends S K C)). IsBack old.control x) (sym unserved.control) (back_from old.control.stands);
-  ticker = subst (λ (x : Place C). IsBack old.ticker x) (sym unserved.ticker) (back_from old.ticker.stands);
-  outputs = λ name. subst (λ (x : List ℕ → Place K). IsBack (old.outputs name) (x name)) (sym unserved.outputs) (back_from (old.outputs name).stands);
-}
 
 not_session : (status n : ℕ) → status ≡ n → (IsOneOf session_statuses n → ⊥) → IsOneOf session_statuses status → ⊥
 not_session status n e never one_of = never (subst (λ (m : ℕ). IsOneOf session_statuses m) e one_of)
@@ -41,7 +29,7 @@ refuses replay left written source_faults file Says Session refusal.NoMemory old
   unopened = λ e. absurd (omega (arith, is, e));
   session = λ one_of. absurd (not_session status 1 is (λ e. let t : false ≡ true = e in cc) one_of);
   quiet = λ one_of. quiet;
-  unused = λ one_of. unused_same old new unserved;
+  unused = λ one_of. inl unserved;
   inputs = inputs;
 }
 refuses replay left written source_faults file Says Session refusal.CannotOpen old new status is told refused unopened unread place kept memory unserved quiet inputs = record {
@@ -54,7 +42,7 @@ refuses replay left written source_faults file Says Session refusal.CannotOpen o
   unopened = λ e. inl (record { errors = told; place = place refl; unserved = unserved });
   session = λ one_of. absurd (not_session status 7 is (λ e. let t : false ≡ true = e in cc) one_of);
   quiet = λ one_of. quiet;
-  unused = λ one_of. unused_same old new unserved;
+  unused = λ one_of. inl unserved;
   inputs = inputs;
 }
 refuses replay left written source_faults file Says Session refusal.ReadFailed old new status is told refused unopened unread place kept memory unserved quiet inputs = record {
@@ -67,7 +55,7 @@ refuses replay left written source_faults file Says Session refusal.ReadFailed o
   unopened = λ e. absurd (omega (arith, is, e));
   session = λ one_of. inl (record { status_is = is; fault = unread refl; input = kept (λ e. cc) (λ e. cc); errors = told; out = quiet; unserved = unserved });
   quiet = λ one_of. quiet;
-  unused = λ one_of. unused_same old new unserved;
+  unused = λ one_of. inl unserved;
   inputs = inputs;
 }
 refuses replay left written source_faults file Says Session (refusal.Refused fault) old new status is told refused unopened unread place kept memory unserved quiet inputs = record {
@@ -80,6 +68,6 @@ refuses replay left written source_faults file Says Session (refusal.Refused fau
   unopened = λ e. absurd (omega (arith, is, e));
   session = λ one_of. absurd (not_session status 3 is (λ e. let t : false ≡ true = e in cc) one_of);
   quiet = λ one_of. quiet;
-  unused = λ one_of. unused_same old new unserved;
+  unused = λ one_of. inl unserved;
   inputs = inputs;
 }

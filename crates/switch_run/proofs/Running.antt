@@ -1,14 +1,15 @@
 -- The books of a run, before and behind each of its steps.
-use Rattle.std.proofs.Common.{◌≡◌, ◌≢◌, ℕ, ◌⊎◌, inl, inr, List, refl, sym, ap, ◌∙◌, subst, arith, ◌∷◌, Bool, true, false, Option, Some, IfSome, IsSome}
+use Rattle.std.proofs.Common.{◌≡◌, ◌≢◌, ℕ, ◌⊎◌, inl, inr, List, refl, sym, ap, ◌∙◌, subst, arith, ◌∷◌, not, Bool, true, false, Option, Some, IfSome, IsSome}
 use Rattle.std.specs.Prelude.{All}
 use Rattle.savi_kinds.specs.declared.plan.Plan.{Plan}
 use Rattle.savi_kinds.specs.ValidPlan.{numbers_of}
 use Rattle.savi_ends.specs.declared.world.Std.TheVariants.{Out, Err}
 use Rattle.savi_ends.specs.declared.world.Ends.{Ends}
 use Rattle.savi_ends.specs.Faults.{Rose}
-use Rattle.savi_ends.specs.Places.{Place, Book, OthersStay}
-use Rattle.run_config.specs.Configs.{EndHasFault, IsConfigured, IsReadFrom, IsRefused}
-use Rattle.switch_run.specs.Causes.{IsBack, IsOffPlanSame, IsUnserved, IsUnused, IsUntouched, Keeps, KeepsAll, KeepsControl}
+use Rattle.savi_ends.specs.Places.{Place, Book, PortKey, ControlKey, OthersStay}
+use Rattle.run_config.specs.Configs.{EndHasFault, EndHasNoFault, IsConfigured, IsReadFrom, IsRefused}
+use Rattle.switch_ports.specs.Named.{control_key, named_by}
+use Rattle.switch_run.specs.Causes.{IsBack, IsControlBack, IsOffPlanSame, IsUnserved, IsUnused, IsUnusedOf, IsUntouched, Keeps, KeepsAll, KeepsControl}
 use Rattle.switch_run.specs.Runs.{IsRunOf}
 use Rattle.switch_run.specs.Live.{IsServeOf, IsServeSession}
 use Rattle.switch_run.specs.Session.{IsNoPlan, IsPartUnopened, IsSession, IsSessionOf, IsUnopened, IsUnplayed, IsFileUnread, WasTold, ToldBy}
@@ -85,16 +86,14 @@ read_before {S} {K} {C} b0 b1 rest = record {
   outputs = sym (ap (λ (b : Book S K C). b.outputs) rest);
 }
 
-pub moved_unused : {S K C : Type 0} (old new old' new' : Book S K C) → SamePlaces old old' → SamePlaces new new' → IsUnused old new → IsUnused old' new'
-moved_unused {S} {K} {C} old new old' new' o n unused = record {
-  ports = λ port. subst (λ (x : ℕ → Place (Ends S K C)). IsBack (old'.ports port) (x port)) (sym n.ports) (subst (λ (x : ℕ → Place (Ends S K C)). IsBack (x port) (new.ports port)) (sym o.ports) (unused.ports port));
-  control = subst (λ (x : Place (Ends S K C)). IsBack old'.control x) (sym n.control) (subst (λ (x : Place (Ends S K C)). IsBack x new.control) (sym o.control) unused.control);
+pub moved_unused : {S K C : Type 0} (live : Bool) (plan : Plan) (old new old' new' : Book S K C) → SamePlaces old old' → SamePlaces new new' → IsUnusedOf live plan old new → IsUnusedOf live plan old' new'
+moved_unused {S} {K} {C} live plan old new old' new' o n unused = record {
+  ports = λ port. subst (λ (x : PortKey → Place (Ends S K C)). IsBack (named_by plan.ports old'.ports port) (named_by plan.ports x port)) (sym n.ports) (subst (λ (x : PortKey → Place (Ends S K C)). IsBack (named_by plan.ports x port) (named_by plan.ports new.ports port)) (sym o.ports) (unused.ports port));
+  others = λ port away. ap (λ (x : PortKey → Place (Ends S K C)). x port) n.ports ∙ unused.others port away ∙ sym (ap (λ (x : PortKey → Place (Ends S K C)). x port) o.ports);
+  control = subst (λ (x : ControlKey → Place (Ends S K C)). IsControlBack live plan.control old'.control x) (sym n.control) (subst (λ (x : ControlKey → Place (Ends S K C)). IsControlBack live plan.control x new.control) (sym o.control) unused.control);
   ticker = subst (λ (x : Place C). IsBack old'.ticker x) (sym n.ticker) (subst (λ (x : Place C). IsBack x new.ticker) (sym o.ticker) unused.ticker);
   outputs = λ name. subst (λ (x : List ℕ → Place K). IsBack (old'.outputs name) (x name)) (sym n.outputs) (subst (λ (x : List ℕ → Place K). IsBack (x name) (new.outputs name)) (sym o.outputs) (unused.outputs name));
 }
-
-pub ran_unused : {S K C : Type 0} (b0 b1 b2 b3 : Book S K C) (e e' : K) → Ran b0 b1 b2 b3 e e' → IsUnused b1 b2 → IsUnused b0 b3
-ran_unused b0 b1 b2 b3 e e' ran unused = moved_unused b1 b2 b0 b3 (ran_before b0 b1 b2 b3 e e' ran) (ran_behind b0 b1 b2 b3 e e' ran) unused
 
 pub ran_ticker : {S K C : Type 0} (b0 b1 b2 b3 : Book S K C) (e e' : K) → Ran b0 b1 b2 b3 e e' → b2.ticker ≡ b1.ticker → b3.ticker ≡ b0.ticker
 ran_ticker {S} {K} {C} b0 b1 b2 b3 e e' ran same = ap (λ (b : Book S K C). b.ticker) ran.rest3 ∙ same ∙ ap (λ (b : Book S K C). b.ticker) ran.rest1
@@ -124,6 +123,15 @@ moved_unserved old new old' new' o n unserved = record {
 ran_unserved : {S K C : Type 0} (b0 b1 b2 b3 : Book S K C) (e e' : K) → Ran b0 b1 b2 b3 e e' → IsUnserved b1 b2 → IsUnserved b0 b3
 ran_unserved b0 b1 b2 b3 e e' ran unserved = moved_unserved b1 b2 b0 b3 (ran_before b0 b1 b2 b3 e e' ran) (ran_behind b0 b1 b2 b3 e e' ran) unserved
 
+pub ran_unused : {S K C : Type 0} (replay : Bool) (left : S → Option (List ℕ)) (b0 b1 b2 b3 : Book S K C) (e e' : K) (file : List ℕ) → Ran b0 b1 b2 b3 e e' → IsUnused replay left file b1 b2 → IsUnused replay left file b0 b3
+ran_unused replay left b0 b1 b2 b3 e e' file ran (inl unserved) = inl (ran_unserved b0 b1 b2 b3 e e' ran unserved)
+ran_unused {S} {K} {C} replay left b0 b1 b2 b3 e e' file ran (inr (plan, configured, unused)) =
+    inr (
+      plan,
+      subst (λ (p : Place S). IsConfigured replay left p plan) (inputs_first b0 b1 b2 b3 e e' file ran) configured,
+      moved_unused (not replay) plan b1 b2 b0 b3 (ran_before b0 b1 b2 b3 e e' ran) (ran_behind b0 b1 b2 b3 e e' ran) unused,
+    )
+
 pub ran_config : {S K C : Type 0} (replay : Bool) (left : S → Option (List ℕ)) (Says Says' : List ℕ → Type 0) (b0 b1 b2 b3 : Book S K C) (e e' : K) (file : List ℕ) → Ran b0 b1 b2 b3 e e' → ((lines : List ℕ) → Says lines → Says' lines) → IsNoPlan replay left file Says b1 b2 → IsNoPlan replay left file Says' b0 b3
 ran_config {S} {K} {C} replay left Says Says' b0 b1 b2 b3 e e' file ran says no_plan = record {
   fault = no_plan.fault;
@@ -137,48 +145,48 @@ ran_config {S} {K} {C} replay left Says Says' b0 b1 b2 b3 e e' file ran says no_
 
 pub moved_off : {S K C : Type 0} (plan : Plan) (old new old' new' : Book S K C) → SamePlaces old old' → SamePlaces new new' → IsOffPlanSame plan old new → IsOffPlanSame plan old' new'
 moved_off {S} {K} {C} plan old new old' new' o n off = record {
-  ports = λ port away. ap (λ (x : ℕ → Place (Ends S K C)). x port) n.ports ∙ off.ports port away ∙ sym (ap (λ (x : ℕ → Place (Ends S K C)). x port) o.ports);
+  ports = λ port away. ap (λ (x : PortKey → Place (Ends S K C)). x port) n.ports ∙ off.ports port away ∙ sym (ap (λ (x : PortKey → Place (Ends S K C)). x port) o.ports);
   control = λ none. n.control ∙ off.control none ∙ sym o.control;
   outputs = λ other apart. ap (λ (x : List ℕ → Place K). x other) n.outputs ∙ off.outputs other apart ∙ sym (ap (λ (x : List ℕ → Place K). x other) o.outputs);
 }
 
-pub moved_keeps : {S K C : Type 0} (left : S → Option (List ℕ)) (written : K → Option (List ℕ)) (plan : Plan) (old new old' new' : Book S K C) → SamePlaces old old' → SamePlaces new new'
-    → KeepsAll left written plan old new → KeepsAll left written plan old' new'
-moved_keeps {S} {K} {C} left written plan old new old' new' o n keeps = record {
-  ports = subst (λ (x : ℕ → Place (Ends S K C)). All (λ port. Keeps (IsUsed left written) (old'.ports port) (x port)) (numbers_of plan.ports)) (sym n.ports)
-      (subst (λ (x : ℕ → Place (Ends S K C)). All (λ port. Keeps (IsUsed left written) (x port) (new.ports port)) (numbers_of plan.ports)) (sym o.ports) keeps.ports);
-  control = subst (λ (x : Place (Ends S K C)). KeepsControl (IsUsed left written) plan.control old'.control x) (sym n.control)
-      (subst (λ (x : Place (Ends S K C)). KeepsControl (IsUsed left written) plan.control x new.control) (sym o.control) keeps.control);
+pub moved_keeps : {S K C : Type 0} (live : Bool) (left : S → Option (List ℕ)) (written : K → Option (List ℕ)) (plan : Plan) (old new old' new' : Book S K C) → SamePlaces old old' → SamePlaces new new'
+    → KeepsAll live left written plan old new → KeepsAll live left written plan old' new'
+moved_keeps {S} {K} {C} live left written plan old new old' new' o n keeps = record {
+  ports = subst (λ (x : PortKey → Place (Ends S K C)). All (λ port. Keeps (IsUsed left written) (named_by plan.ports old'.ports port) (named_by plan.ports x port)) (numbers_of plan.ports)) (sym n.ports)
+      (subst (λ (x : PortKey → Place (Ends S K C)). All (λ port. Keeps (IsUsed left written) (named_by plan.ports x port) (named_by plan.ports new.ports port)) (numbers_of plan.ports)) (sym o.ports) keeps.ports);
+  control = subst (λ (x : ControlKey → Place (Ends S K C)). KeepsControl (IsUsed left written) live plan.control old'.control x) (sym n.control)
+      (subst (λ (x : ControlKey → Place (Ends S K C)). KeepsControl (IsUsed left written) live plan.control x new.control) (sym o.control) keeps.control);
   journal = subst (λ (x : List ℕ → Place K). Keeps (λ told kept. TookMore (written told) (written kept)) (old'.outputs plan.journal) (x plan.journal)) (sym n.outputs)
       (subst (λ (x : List ℕ → Place K). Keeps (λ told kept. TookMore (written told) (written kept)) (x plan.journal) (new.outputs plan.journal)) (sym o.outputs) keeps.journal);
 }
 
 -- a part of a plan that could not be opened
-pub moved_part : {S K C : Type 0} (plan : Plan) (Says Says' : List ℕ → Type 0) (old new old' new' : Book S K C) → SamePlaces old old' → SamePlaces new new' → ((lines : List ℕ) → Says lines → Says' lines)
-    → IsPartUnopened plan Says old new → IsPartUnopened plan Says' old' new'
-moved_part {S} {K} {C} plan Says Says' old new old' new' o n says (inl part) = inl (record {
+pub moved_part : {S K C : Type 0} (live : Bool) (plan : Plan) (Says Says' : List ℕ → Type 0) (old new old' new' : Book S K C) → SamePlaces old old' → SamePlaces new new' → ((lines : List ℕ) → Says lines → Says' lines)
+    → IsPartUnopened live plan Says old new → IsPartUnopened live plan Says' old' new'
+moved_part {S} {K} {C} live plan Says Says' old new old' new' o n says (inl part) = inl (record {
   before = part.before;
   port = part.port;
   later = part.later;
   all = part.all;
-  kept = subst (λ (x : ℕ → Place (Ends S K C)). All (λ port. IsSome (x port).stands) part.before) (sym n.ports) part.kept;
-  same = subst (λ (x : ℕ → Place (Ends S K C)). All (λ port. x port ≡ old'.ports port) (part.port ∷ part.later)) (sym n.ports) (subst (λ (x : ℕ → Place (Ends S K C)). All (λ port. new.ports port ≡ x port) (part.port ∷ part.later)) (sym o.ports) part.same);
+  kept = subst (λ (x : PortKey → Place (Ends S K C)). All (λ port. IsSome (named_by plan.ports x port).stands) part.before) (sym n.ports) part.kept;
+  same = λ k d inside key is. ap (λ (x : PortKey → Place (Ends S K C)). x key) n.ports ∙ part.same k d inside key is ∙ sym (ap (λ (x : PortKey → Place (Ends S K C)). x key) o.ports);
   control = n.control ∙ part.control ∙ sym o.control;
   outputs = n.outputs ∙ part.outputs ∙ sym o.outputs;
   elsewhere = moved_off plan old new old' new' o n part.elsewhere;
   errors = says _ part.errors;
 })
-moved_part {S} {K} {C} plan Says Says' old new old' new' o n says (inr (inl part)) = inr (inl (record {
+moved_part {S} {K} {C} live plan Says Says' old new old' new' o n says (inr (inl part)) = inr (inl (record {
   named = part.named;
-  kept = subst (λ (x : ℕ → Place (Ends S K C)). All (λ port. IsSome (x port).stands) (numbers_of plan.ports)) (sym n.ports) part.kept;
+  kept = subst (λ (x : PortKey → Place (Ends S K C)). All (λ port. IsSome (named_by plan.ports x port).stands) (numbers_of plan.ports)) (sym n.ports) part.kept;
   control = n.control ∙ part.control ∙ sym o.control;
   outputs = n.outputs ∙ part.outputs ∙ sym o.outputs;
   elsewhere = moved_off plan old new old' new' o n part.elsewhere;
   errors = says _ part.errors;
 }))
-moved_part {S} {K} {C} plan Says Says' old new old' new' o n says (inr (inr part)) = inr (inr (record {
-  kept = subst (λ (x : ℕ → Place (Ends S K C)). All (λ port. IsSome (x port).stands) (numbers_of plan.ports)) (sym n.ports) part.kept;
-  control = λ named. subst (λ (x : Place (Ends S K C)). IsSome x.stands) (sym n.control) (part.control named);
+moved_part {S} {K} {C} live plan Says Says' old new old' new' o n says (inr (inr part)) = inr (inr (record {
+  kept = subst (λ (x : PortKey → Place (Ends S K C)). All (λ port. IsSome (named_by plan.ports x port).stands) (numbers_of plan.ports)) (sym n.ports) part.kept;
+  control = subst (λ (x : ControlKey → Place (Ends S K C)). IfSome plan.control (λ names. IsSome (x (control_key live names)).stands)) (sym n.control) part.control;
   outputs = λ name. ap (λ (x : List ℕ → Place K). x name) n.outputs ∙ part.outputs name ∙ sym (ap (λ (x : List ℕ → Place K). x name) o.outputs);
   elsewhere = moved_off plan old new old' new' o n part.elsewhere;
   errors = says _ part.errors;
@@ -196,7 +204,7 @@ ran_unopened {S} {K} {C} replay left Says Says' b0 b1 b2 b3 e e' file ran says (
       configured = subst (λ (p : Place S). IsConfigured replay left p unopened.plan) (inputs_first b0 b1 b2 b3 e e' file ran) unopened.configured;
       input = ran_input left b0 b1 b2 b3 e e' file ran unopened.input;
       ticker = ran_ticker b0 b1 b2 b3 e e' ran unopened.ticker;
-      part = moved_part unopened.plan Says Says' b1 b2 b0 b3 (ran_before b0 b1 b2 b3 e e' ran) (ran_behind b0 b1 b2 b3 e e' ran) says unopened.part;
+      part = moved_part (not replay) unopened.plan Says Says' b1 b2 b0 b3 (ran_before b0 b1 b2 b3 e e' ran) (ran_behind b0 b1 b2 b3 e e' ran) says unopened.part;
     })
 
 pub ran_unread : {S K C : Type 0} (left : S → Option (List ℕ)) (source_faults : S → ℕ) (Says Says' : List ℕ → Type 0) (b0 b1 b2 b3 : Book S K C) (e e' : K) (file : List ℕ) (status : ℕ) → Ran b0 b1 b2 b3 e e' → ((lines : List ℕ) → Says lines → Says' lines)
@@ -216,6 +224,7 @@ ran_session {S} {K} {C} left written source_faults sink_faults Says Says' b0 b1 
   plan = session.plan;
   configured = subst (λ (p : Place S). IsConfigured true left p session.plan) (inputs_first b0 b1 b2 b3 e e' file ran) session.configured;
   input = ran_input left b0 b1 b2 b3 e e' file ran session.input;
+  still = subst (λ (p : Place S). EndHasNoFault source_faults p) (sym (inputs_last b0 b1 b2 b3 e e' file ran)) session.still;
   session =
       subst (λ (b : Book S K C). IsSessionOf left written source_faults sink_faults session.plan Says' b0 b status) (sym ran.rest3)
       (subst (λ (b : Book S K C). IsSessionOf left written source_faults sink_faults session.plan Says' b (record b2 { std = b3.std }) status)
@@ -229,6 +238,7 @@ ran_served {S} {K} {C} left written source_faults sink_faults readings Says Says
   plan = session.plan;
   configured = subst (λ (p : Place S). IsConfigured false left p session.plan) (inputs_first b0 b1 b2 b3 e e' file ran) session.configured;
   input = ran_input left b0 b1 b2 b3 e e' file ran session.input;
+  still = subst (λ (p : Place S). EndHasNoFault source_faults p) (sym (inputs_last b0 b1 b2 b3 e e' file ran)) session.still;
   session =
       subst (λ (b : Book S K C). IsServeOf left written source_faults sink_faults readings session.plan Says' b0 b status) (sym ran.rest3)
       (subst (λ (b : Book S K C). IsServeOf left written source_faults sink_faults readings session.plan Says' b (record b2 { std = b3.std }) status)
@@ -253,14 +263,14 @@ configured_serve {S} {K} {C} left written source_faults sink_faults readings pla
 -- there was no memory
 
 moved_ends : {S K C : Type 0} (replay : Bool) (left : S → Option (List ℕ)) (written : K → Option (List ℕ)) (b0 b1 b2 b3 : Book S K C) (e e' : K) (file : List ℕ) → Ran b0 b1 b2 b3 e e'
-    → IsUnserved b1 b2 ⊎ ((plan : Plan) × IsConfigured replay left (b1.inputs file) plan × KeepsAll left written plan b1 b2 × IsOffPlanSame plan b1 b2)
-    → IsUnserved b0 b3 ⊎ ((plan : Plan) × IsConfigured replay left (b0.inputs file) plan × KeepsAll left written plan b0 b3 × IsOffPlanSame plan b0 b3)
+    → IsUnserved b1 b2 ⊎ ((plan : Plan) × IsConfigured replay left (b1.inputs file) plan × KeepsAll (not replay) left written plan b1 b2 × IsOffPlanSame plan b1 b2)
+    → IsUnserved b0 b3 ⊎ ((plan : Plan) × IsConfigured replay left (b0.inputs file) plan × KeepsAll (not replay) left written plan b0 b3 × IsOffPlanSame plan b0 b3)
 moved_ends replay left written b0 b1 b2 b3 e e' file ran (inl unserved) = inl (ran_unserved b0 b1 b2 b3 e e' ran unserved)
 moved_ends {S} {K} {C} replay left written b0 b1 b2 b3 e e' file ran (inr (plan, configured, keeps, off)) =
     inr (
       plan,
       subst (λ (p : Place S). IsConfigured replay left p plan) (inputs_first b0 b1 b2 b3 e e' file ran) configured,
-      moved_keeps left written plan b1 b2 b0 b3 (ran_before b0 b1 b2 b3 e e' ran) (ran_behind b0 b1 b2 b3 e e' ran) keeps,
+      moved_keeps (not replay) left written plan b1 b2 b0 b3 (ran_before b0 b1 b2 b3 e e' ran) (ran_behind b0 b1 b2 b3 e e' ran) keeps,
       moved_off plan b1 b2 b0 b3 (ran_before b0 b1 b2 b3 e e' ran) (ran_behind b0 b1 b2 b3 e e' ran) off,
     )
 
@@ -276,12 +286,12 @@ ran_unplayed replay left written b0 b1 b2 b3 e e' file ran unplayed = record {
 
 -- a session without memory behind the reading of its configuration
 pub configured_unplayed : {S K C : Type 0} (replay : Bool) (left : S → Option (List ℕ)) (written : K → Option (List ℕ)) (plan : Plan) (b0 b1 b2 : Book S K C) (file : List ℕ) → b1 ≡ record b0 { faults = b1.faults; inputs = b1.inputs } → IsConfigured replay left (b0.inputs file) plan
-    → IsUnserved b1 b2 ⊎ (KeepsAll left written plan b1 b2 × IsOffPlanSame plan b1 b2) → IsUnserved b0 b2 ⊎ ((p : Plan) × IsConfigured replay left (b0.inputs file) p × KeepsAll left written p b0 b2 × IsOffPlanSame p b0 b2)
+    → IsUnserved b1 b2 ⊎ (KeepsAll (not replay) left written plan b1 b2 × IsOffPlanSame plan b1 b2) → IsUnserved b0 b2 ⊎ ((p : Plan) × IsConfigured replay left (b0.inputs file) p × KeepsAll (not replay) left written p b0 b2 × IsOffPlanSame p b0 b2)
 configured_unplayed {S} {K} {C} replay left written plan b0 b1 b2 file rest configured (inl unserved) =
     inl (moved_unserved b1 b2 b0 b2 (read_before b0 b1 rest) (same_places b2) unserved)
 configured_unplayed {S} {K} {C} replay left written plan b0 b1 b2 file rest configured (inr (keeps, off)) =
     let before = read_before b0 b1 rest in
-    inr (plan, configured, moved_keeps left written plan b1 b2 b0 b2 before (same_places b2) keeps, moved_off plan b1 b2 b0 b2 before (same_places b2) off)
+    inr (plan, configured, moved_keeps (not replay) left written plan b1 b2 b0 b2 before (same_places b2) keeps, moved_off plan b1 b2 b0 b2 before (same_places b2) off)
 
 -- what was done with a configuration, once standard error is kept
 ran_either : {S K C : Type 0} (left : S → Option (List ℕ)) (source_faults : S → ℕ) (Says Says' : List ℕ → Type 0) (Session Session' : Type 0) (b0 b1 b2 b3 : Book S K C) (e e' : K) (file : List ℕ) (status : ℕ) → Ran b0 b1 b2 b3 e e' → ((lines : List ℕ) → Says lines → Says' lines) → (Session → Session')
@@ -301,6 +311,6 @@ ran_run replay left written source_faults Says Says' Session Session' b0 b1 b2 b
   unopened = λ seven. ran_unopened replay left Says Says' b0 b1 b2 b3 e e' file ran says (r.unopened seven);
   session = λ one_of. ran_either left source_faults Says Says' Session Session' b0 b1 b2 b3 e e' file status ran says session (r.session one_of);
   quiet = λ one_of. ran_quiet b0 b1 b2 b3 e e' ran (r.quiet one_of);
-  unused = λ one_of. ran_unused b0 b1 b2 b3 e e' ran (r.unused one_of);
+  unused = λ one_of. ran_unused replay left b0 b1 b2 b3 e e' file ran (r.unused one_of);
   inputs = ran_inputs b0 b1 b2 b3 e e' file ran r.inputs;
 }

@@ -19,7 +19,7 @@ use Rattle.savi_kinds.specs.ValidPlan.{numbers_of}
 use Rattle.savi_ends.specs.declared.world.Std.TheVariants.{Out}
 use Rattle.savi_ends.specs.declared.world.Ends.{Ends}
 use Rattle.savi_ends.specs.Octets.{behind, in_front}
-use Rattle.savi_ends.specs.Places.{Place, Book, OthersStay}
+use Rattle.savi_ends.specs.Places.{Place, Book, PortKey, ControlKey, OthersStay}
 use Rattle.cli_lang.specs.Arrivals as lines_of
 use Rattle.hist_store.specs.Rows.{Row}
 use Rattle.hist_store.specs.JournalTexts.{journal_text, address_text}
@@ -29,6 +29,7 @@ use Rattle.savi_history.specs.Legal.{IsLegal}
 use Rattle.savi_history.proofs.Guarded.{guarded}
 use Rattle.savi_history.proofs.Starting.{empty_within}
 use Rattle.savi_history.proofs.Telling.{passed_rightly}
+use Rattle.savi_history.proofs.CameFirst.{all_keep}
 use Rattle.savi_history.proofs.AddressTexts.{written-IsAddressText}
 use Rattle.savi_history.proofs.OneHistory.{journal_tells}
 use Rattle.port_worker.specs.declared.control_ends.ControlEnds.{ControlEnds}
@@ -39,9 +40,10 @@ use Rattle.port_worker.specs.SentFrames.{TookMore}
 use Rattle.port_worker.specs.ControlServed.{IsControlServed, ServesControl}
 use Rattle.port_worker.specs.Used.{IsUsed}
 use Rattle.port_worker.specs.Served.{IsServed, ServesPorts, ServesEnds}
+use Rattle.switch_ports.specs.Named.{control_key}
 use Rattle.switch_ports.specs.Openings.{ports_of, IsNextBehind, IsOff, IsReadAnew}
 use Rattle.switch_report.specs.RunLines.{cannot_open_line, control_word, journal_word, port_name}
-use Rattle.switch_run.specs.Causes.{IsBack, Keeps, KeepsAll, KeepsControl, IsOffPlanSame, TookOrPart}
+use Rattle.switch_run.specs.Causes.{IsBack, IsControlBack, Keeps, KeepsAll, KeepsControl, IsOffPlanSame, TookOrPart, ports_in}
 use Rattle.switch_run.specs.Session.{IsControlUnopened, IsJournalUnopened, IsPortUnopened, IsReported, IsSessionOf, IsSummed, ServesControlPlace}
 use Rattle.switch_run.specs.Played.{IsPlayed}
 
@@ -58,14 +60,14 @@ pub record HandledEnds {S K C : Type 0} (ends ends' : Ends S K C) (old new : Pla
   pub told : IfSome old.stands (λ t. ends ≡ t)
   pub kept : new.stands ≡ Some ends'
 
--- The same where the plan has names for them; else there are none, and their place stays.
-abbrev pub HandledControl : {S K C : Type 0} → Option (List ℕ × List ℕ) → Option (ControlEnds S K C) → Option (ControlEnds S K C) → Place (Ends S K C) → Place (Ends S K C) → Type 0
+-- The same where the plan has names for them; else there are none, and their places stay.
+abbrev pub HandledControl : {S K C : Type 0} → Option (List ℕ × List ℕ) → Option (ControlEnds S K C) → Option (ControlEnds S K C) → (ControlKey → Place (Ends S K C)) → (ControlKey → Place (Ends S K C)) → Type 0
 HandledControl None None None old new = new ≡ old
 HandledControl None None (Some back) old new = ⊥
 HandledControl None (Some held) back old new = ⊥
 HandledControl (Some names) None back old new = ⊥
 HandledControl (Some names) (Some held) None old new = ⊥
-HandledControl (Some names) (Some held) (Some back) old new = HandledEnds held.ends back.ends old new
+HandledControl (Some names) (Some held) (Some back) old new = HandledEnds held.ends back.ends (old (control_key false names)) (new (control_key false names))
 
 -- The same of the journal.
 pub record HandledOne {K : Type 0} (name : List ℕ) (sink sink' : K) (old new : List ℕ → Place K) : Type 0 where
@@ -76,7 +78,8 @@ pub record HandledOne {K : Type 0} (name : List ℕ) (sink sink' : K) (old new :
 -- The same of all ends of a plan.
 pub record HandledAll {S K C : Type 0} (plan : Plan) (held back : Ready S K C) (sink sink' : K) (old new : Book S K C) : Type 0 where
   pub planned : ports_held held.ports.items ≡ ports_of plan.ports
-  pub ports : Handled held.ports.items back.ports.items old.ports new.ports
+  pub ports : Handled held.ports.items back.ports.items (ports_in plan old) (ports_in plan new)
+  pub others : (key : PortKey) → IsOff held.ports.items key.number → new.ports key ≡ old.ports key
   pub control : HandledControl plan.control held.control back.control old.control new.control
   pub journal : HandledOne plan.journal sink sink' old.outputs new.outputs
 
@@ -152,25 +155,26 @@ port_back {S} {K} {C} held old new n handled (inr (k, inside, found)) =
 pub ports_back : {S K C : Type 0} (held : List (PortEnds S K C)) (old new : ℕ → Place (Ends S K C)) → Handled held held old new → (n : ℕ) → IsBack (old n) (new n)
 ports_back held old new handled n = port_back held old new n handled (off_or_in held n)
 
-pub control_back : {S K C : Type 0} (names : Option (List ℕ × List ℕ)) (held : Option (ControlEnds S K C)) (old new : Place (Ends S K C)) → HandledControl names held held old new → IsBack old new
-control_back {S} {K} {C} None None old new handled = subst (λ (x : Place (Ends S K C)). IsBack old x) (sym handled) (back_from old.stands)
+pub control_back : {S K C : Type 0} (names : Option (List ℕ × List ℕ)) (held : Option (ControlEnds S K C)) (old new : ControlKey → Place (Ends S K C)) → HandledControl names held held old new → IsControlBack false names old new
+control_back None None old new handled = handled
 control_back None (Some held) old new handled = absurd handled
 control_back (Some names) None old new handled = absurd handled
-control_back (Some names) (Some held) old new handled = both_told (λ told kept. kept ≡ told) old.stands new.stands held.ends held.ends handled.told handled.kept refl
+control_back (Some names) (Some held) old new handled =
+    both_told (λ told kept. kept ≡ told) (old (control_key false names)).stands (new (control_key false names)).stands held.ends held.ends handled.told handled.kept refl
 
 -- control whose place the plan doesn't name stays
-control_off : {S K C : Type 0} (names : Option (List ℕ × List ℕ)) (held back : Option (ControlEnds S K C)) (old new : Place (Ends S K C)) → HandledControl names held back old new → names ≡ None → new ≡ old
+control_off : {S K C : Type 0} (names : Option (List ℕ × List ℕ)) (held back : Option (ControlEnds S K C)) (old new : ControlKey → Place (Ends S K C)) → HandledControl names held back old new → names ≡ None → new ≡ old
 control_off None None None old new handled none = handled
 control_off None None (Some back) old new handled none = absurd handled
 control_off None (Some held) back old new handled none = absurd handled
 control_off (Some names) held back old new handled none = cc
 
 -- and else ends are kept there
-control_kept : {S K C : Type 0} (names : Option (List ℕ × List ℕ)) (held back : Option (ControlEnds S K C)) (old new : Place (Ends S K C)) → HandledControl names held back old new → IsSome names → IsSome new.stands
-control_kept None held back old new handled named = let t : false ≡ true = named in cc
-control_kept (Some names) None back old new handled named = absurd handled
-control_kept (Some names) (Some held) None old new handled named = absurd handled
-control_kept (Some names) (Some held) (Some back) old new handled named = is_some_of new.stands back.ends handled.kept
+control_kept : {S K C : Type 0} (names : Option (List ℕ × List ℕ)) (held back : Option (ControlEnds S K C)) (old new : ControlKey → Place (Ends S K C)) → HandledControl names held back old new → IfSome names (λ n. IsSome (new (control_key false n)).stands)
+control_kept None held back old new handled = tt
+control_kept (Some names) None back old new handled = absurd handled
+control_kept (Some names) (Some held) None old new handled = absurd handled
+control_kept (Some names) (Some held) (Some back) old new handled = is_some_of (new (control_key false names)).stands back.ends handled.kept
 
 cases_by : (a b : List ℕ) → (bytes_eq a b ≡ true) ⊎ (bytes_eq a b ≡ false) → (a ≡ b) ⊎ (a ≢ b)
 cases_by a b (inl same) = inl ((bytes_eq-Decides a b).0 same)
@@ -201,14 +205,15 @@ unused_ends left written ends = record { gave = ([], front_nothing (left ends.so
 pub unused_sink : {K : Type 0} (written : K → Option (List ℕ)) (sink : K) → TookMore (written sink) (written sink)
 unused_sink written sink = ([], behind_nothing (written sink))
 
-keeps_control : {S K C : Type 0} (left : S → Option (List ℕ)) (written : K → Option (List ℕ)) (names : Option (List ℕ × List ℕ)) (held : Option (ControlEnds S K C)) (old new : Place (Ends S K C)) → HandledControl names held held old new → KeepsControl (IsUsed left written) names old new
+keeps_control : {S K C : Type 0} (left : S → Option (List ℕ)) (written : K → Option (List ℕ)) (names : Option (List ℕ × List ℕ)) (held : Option (ControlEnds S K C)) (old new : ControlKey → Place (Ends S K C)) → HandledControl names held held old new → KeepsControl (IsUsed left written) false names old new
 keeps_control left written None None old new handled = handled
 keeps_control left written None (Some held) old new handled = absurd handled
 keeps_control left written (Some names) None old new handled = absurd handled
-keeps_control left written (Some names) (Some held) old new handled = keeps_of (IsUsed left written) old new held.ends held.ends handled.told handled.kept (unused_ends left written held.ends)
+keeps_control left written (Some names) (Some held) old new handled =
+    keeps_of (IsUsed left written) (old (control_key false names)) (new (control_key false names)) held.ends held.ends handled.told handled.kept (unused_ends left written held.ends)
 
 -- the ends of a session for which there was no memory are kept as they were
-pub keeps_all_of : {S K C : Type 0} (left : S → Option (List ℕ)) (written : K → Option (List ℕ)) (plan : Plan) (ready : Ready S K C) (sink : K) (old new : Book S K C) → HandledAll plan ready ready sink sink old new → KeepsAll left written plan old new
+pub keeps_all_of : {S K C : Type 0} (left : S → Option (List ℕ)) (written : K → Option (List ℕ)) (plan : Plan) (ready : Ready S K C) (sink : K) (old new : Book S K C) → HandledAll plan ready ready sink sink old new → KeepsAll false left written plan old new
 keeps_all_of {S} {K} {C} left written plan ready sink old new all = record {
   ports = λ k d inside.
       let held = ready.ports.items in
@@ -217,15 +222,15 @@ keeps_all_of {S} {K} {C} left written plan ready sink old new all = record {
       let sizes = length-map plan.ports (λ (p : PortPlan). number_of p.number) in
       let size = size_of held plan.ports ports in
       let e = element held k (omega (arith, sizes, size, inside)) in
-      subst (λ (n : ℕ). Keeps (IsUsed left written) (old.ports n) (new.ports n)) (sym (get_or_default (numbers_of plan.ports) k d 0 inside ∙ number_at held plan.ports k e ports (omega (arith, sizes, size, inside))))
-      (keeps_at (IsUsed left written) held held old.ports new.ports k e handled (omega (arith, sizes, size, inside)) (unused_ends left written (get_or held k e).ends));
+      subst (λ (n : ℕ). Keeps (IsUsed left written) (ports_in plan old n) (ports_in plan new n)) (sym (get_or_default (numbers_of plan.ports) k d 0 inside ∙ number_at held plan.ports k e ports (omega (arith, sizes, size, inside))))
+      (keeps_at (IsUsed left written) held held (ports_in plan old) (ports_in plan new) k e handled (omega (arith, sizes, size, inside)) (unused_ends left written (get_or held k e).ends));
   control = keeps_control left written plan.control ready.control old.control new.control all.control;
   journal = keeps_of (λ told kept. TookMore (written told) (written kept)) _ _ sink sink all.journal.told all.journal.kept (unused_sink written sink);
 }
 
 pub off_plan : {S K C : Type 0} (plan : Plan) (held back : Ready S K C) (sink sink' : K) (old new : Book S K C) → HandledAll plan held back sink sink' old new → IsOffPlanSame plan old new
 off_plan {S} {K} {C} plan held back sink sink' old new all = record {
-  ports = λ n away. all.ports.others n (λ k d inside same.
+  ports = λ key away. all.others key (λ k d inside same.
       let sizes = length-map plan.ports (λ (p : PortPlan). number_of p.number) in
       let size = size_of held.ports.items plan.ports all.planned in
       away k 0 (omega (arith, sizes, size, inside)) (number_at held.ports.items plan.ports k d all.planned inside ∙ same));
@@ -234,7 +239,7 @@ off_plan {S} {K} {C} plan held back sink sink' old new all = record {
 }
 
 -- where the ends of control that are held were served, those in their place were
-serves_control : {S K C : Type 0} (left : S → Option (List ℕ)) (written : K → Option (List ℕ)) (source_faults : S → ℕ) (sink_faults : K → ℕ) (plan : Plan) (past : List Row) (names : Option (List ℕ × List ℕ)) (held back : Option (ControlEnds S K C)) (lines : Option lines_of.Input) (stop : Option ℕ) (old new : Place (Ends S K C))
+serves_control : {S K C : Type 0} (left : S → Option (List ℕ)) (written : K → Option (List ℕ)) (source_faults : S → ℕ) (sink_faults : K → ℕ) (plan : Plan) (past : List Row) (names : Option (List ℕ × List ℕ)) (held back : Option (ControlEnds S K C)) (lines : Option lines_of.Input) (stop : Option ℕ) (old new : ControlKey → Place (Ends S K C))
     → HandledControl names held back old new → ServesControl left written source_faults sink_faults plan empty past held back lines stop
     → ServesControlPlace left written source_faults sink_faults plan past names lines stop old new
 serves_control left written source_faults sink_faults plan past None None None None stop old new handled serves = handled
@@ -245,10 +250,10 @@ serves_control left written source_faults sink_faults plan past (Some names) Non
 serves_control left written source_faults sink_faults plan past (Some names) (Some held) None lines stop old new handled serves = absurd handled
 serves_control left written source_faults sink_faults plan past (Some names) (Some held) (Some back) None stop old new handled serves = absurd serves
 serves_control left written source_faults sink_faults plan past (Some names) (Some held) (Some back) (Some input) stop old new handled serves =
-    keeps_of (IsControlServed left written source_faults sink_faults plan empty past input stop) old new held.ends back.ends handled.told handled.kept serves
+    keeps_of (IsControlServed left written source_faults sink_faults plan empty past input stop) (old (control_key false names)) (new (control_key false names)) held.ends back.ends handled.told handled.kept serves
 
 -- where the ends that are held were served, those in their places were
-serves_places : {S K C : Type 0} (left : S → Option (List ℕ)) (written : K → Option (List ℕ)) (source_faults : S → ℕ) (sink_faults : K → ℕ) (plan : Plan) (past : List Row) (control control' : Option (ControlEnds S K C)) (held back : List (PortEnds S K C)) (place place' : Place (Ends S K C)) (old new : ℕ → Place (Ends S K C))
+serves_places : {S K C : Type 0} (left : S → Option (List ℕ)) (written : K → Option (List ℕ)) (source_faults : S → ℕ) (sink_faults : K → ℕ) (plan : Plan) (past : List Row) (control control' : Option (ControlEnds S K C)) (held back : List (PortEnds S K C)) (place place' : ControlKey → Place (Ends S K C)) (old new : ℕ → Place (Ends S K C))
     → HandledControl plan.control control control' place place' → ports_held held ≡ ports_of plan.ports → Handled held back old new → All IsReadAnew held → ServesEnds left written source_faults sink_faults plan empty past control control' held back
     → ServesPorts plan empty past (λ lines stop. ServesControlPlace left written source_faults sink_faults plan past plan.control lines stop place place') (λ at port input stop. Keeps (IsServed left written source_faults sink_faults (Arrive classic_kinds) plan empty past port input stop) (old port) (new port))
 serves_places {S} {K} {C} left written source_faults sink_faults plan past control control' held back place place' old new handled_control ports handled anew serves = record {
@@ -283,6 +288,7 @@ reported_of written sink_faults plan Says sink sink' past journal_written old ne
   summed = summed;
   guarded = guarded plan empty past legal;
   access = λ on. passed_rightly plan tells.valid empty (empty_within plan tells.valid) on past legal tells.octets;
+  first_come = λ on. all_keep plan tells.valid empty (empty_within plan tells.valid) on past legal tells.octets;
 }
 
 -- what a session was to the ends is what it was to the places
@@ -295,7 +301,7 @@ session_of left written source_faults sink_faults plan Says held back sink sink'
   did = record {
     past = past;
     legal = played.legal;
-    serves = serves_places left written source_faults sink_faults plan past held.control back.control held.ports.items back.ports.items old.control new.control old.ports new.ports all.control all.planned all.ports anew played.serves;
+    serves = serves_places left written source_faults sink_faults plan past held.control back.control held.ports.items back.ports.items old.control new.control (ports_in plan old) (ports_in plan new) all.control all.planned all.ports anew played.serves;
     reported = reported_of written sink_faults plan Says sink sink' past journal_written old new status all.journal played.legal played.journal_was played.tells summed;
   };
 }
@@ -323,15 +329,15 @@ held_kept {S} {K} {C} held back old new handled = λ k d inside.
     subst (λ (n : ℕ). IsSome (new n).stands) (sym (held_number held k d e within)) (is_some_of _ _ (kept_at held back old new k e handled within))
 
 -- those that come behind them in the plan are none of them
-later_same : {S K C : Type 0} (held back : List (PortEnds S K C)) (old new : ℕ → Place (Ends S K C)) (numbers rest : List ℕ) → IsStrictlyIncreasing numbers → numbers ≡ map number_of (ports_held held) ++ rest → Handled held back old new → All (λ n. new n ≡ old n) rest
-later_same {S} {K} {C} held back old new numbers rest rising all handled = λ j d inside. handled.others (get_or rest j d) (λ k e within same.
+later_off : {S K C : Type 0} (held : List (PortEnds S K C)) (numbers rest : List ℕ) → IsStrictlyIncreasing numbers → numbers ≡ map number_of (ports_held held) ++ rest → All (λ n. IsOff held n) rest
+later_off {S} {K} {C} held numbers rest rising all = λ j d inside k e within same.
     let before = map number_of (ports_held held) in
     let size = held_size held in
     let sizes = ap length all ∙ length-append before rest in
     let here = ap (λ (l : List ℕ). get_or l (length before + j) d) all ∙ get_or-append-add before rest j d in
     let there = ap (λ (l : List ℕ). get_or l k d) all ∙ get_or_append_left before rest d k (omega (arith, size, within)) ∙ held_number held k d e within in
     let below = AllPairs-from_increasing numbers rising k (length before + j) d (omega (arith, size, within)) (omega (arith, sizes, inside)) in
-    omega (arith, here, there, below, same))
+    omega (arith, here, there, below, same)
 
 -- a port off the plan is none of those that were opened
 off_held : {S K C : Type 0} (held : List (PortEnds S K C)) (numbers rest : List ℕ) (n : ℕ) → numbers ≡ map number_of (ports_held held) ++ rest → All (λ m. m ≢ n) numbers → IsOff held n
@@ -344,20 +350,20 @@ off_held {S} {K} {C} held numbers rest n all away = λ k d inside same.
 
 -- an opening of a port failed, and what was open is kept
 pub port_unopened : {S K C : Type 0} (plan : Plan) (Says : List ℕ → Type 0) (held : List (PortEnds S K C)) (port : Port) (old new : Book S K C) → IsStrictlyIncreasing (numbers_of plan.ports) → IsNextBehind port (ports_held held) (ports_of plan.ports)
-    → Handled held held old.ports new.ports → new.control ≡ old.control → new.outputs ≡ old.outputs → Says (cannot_open_line (port_name (number_of port))) → IsPortUnopened plan Says old new
-port_unopened {S} {K} {C} plan Says held port old new rising (later, all) handled control outputs told =
+    → Handled held held (ports_in plan old) (ports_in plan new) → ((key : PortKey) → IsOff held key.number → new.ports key ≡ old.ports key) → new.control ≡ old.control → new.outputs ≡ old.outputs → Says (cannot_open_line (port_name (number_of port))) → IsPortUnopened plan Says old new
+port_unopened {S} {K} {C} plan Says held port old new rising (later, all) handled others control outputs told =
     let whole : numbers_of plan.ports ≡ map number_of (ports_held held) ++ number_of port ∷ map number_of later = numbers_are plan.ports ∙ ap (map number_of) all ∙ map-append number_of (ports_held held) (port ∷ later) in
     record {
       before = map number_of (ports_held held);
       port = number_of port;
       later = map number_of later;
       all = whole;
-      kept = held_kept held held old.ports new.ports handled;
-      same = later_same held held old.ports new.ports (numbers_of plan.ports) (number_of port ∷ map number_of later) rising whole handled;
+      kept = held_kept held held (ports_in plan old) (ports_in plan new) handled;
+      same = λ j d inside key is. others key (subst (λ (n : ℕ). IsOff held n) (sym is) (later_off held (numbers_of plan.ports) (number_of port ∷ map number_of later) rising whole j d inside));
       control = control;
       outputs = outputs;
       elsewhere = record {
-        ports = λ n away. handled.others n (off_held held (numbers_of plan.ports) (number_of port ∷ map number_of later) n whole away);
+        ports = λ key away. others key (off_held held (numbers_of plan.ports) (number_of port ∷ map number_of later) key.number whole away);
         control = λ none. control;
         outputs = λ other apart. ap (λ (o : List ℕ → Place K). o other) outputs;
       };
@@ -370,20 +376,25 @@ ports_kept : {S K C : Type 0} (plan : Plan) (held : List (PortEnds S K C)) (old 
 ports_kept plan held old new ports handled =
     subst (λ (l : List ℕ). All (λ n. IsSome (new n).stands) l) (sym (numbers_are plan.ports ∙ ap (map number_of) (sym ports))) (held_kept held held old new handled)
 
-ports_off : {S K C : Type 0} (plan : Plan) (held : List (PortEnds S K C)) (old new : ℕ → Place (Ends S K C)) → ports_held held ≡ ports_of plan.ports → Handled held held old new → (n : ℕ) → All (λ m. m ≢ n) (numbers_of plan.ports) → new n ≡ old n
-ports_off plan held old new ports handled n away =
-    handled.others n (off_held held (numbers_of plan.ports) [] n (numbers_are plan.ports ∙ ap (map number_of) (sym ports) ∙ sym (append-nil (map number_of (ports_held held)))) away)
+pub ports_off : {S K C : Type 0} (plan : Plan) (held : List (PortEnds S K C)) (old new : PortKey → Place (Ends S K C)) → ports_held held ≡ ports_of plan.ports → ((key : PortKey) → IsOff held key.number → new key ≡ old key) → (key : PortKey) → All (λ m. m ≢ key.number) (numbers_of plan.ports) → new key ≡ old key
+ports_off plan held old new ports others key away =
+    others key (off_held held (numbers_of plan.ports) [] key.number (numbers_are plan.ports ∙ ap (map number_of) (sym ports) ∙ sym (append-nil (map number_of (ports_held held)))) away)
+
+-- the ports off the plan, where the opening of one of its ports failed
+pub ports_off_next : {S K C : Type 0} (plan : Plan) (held : List (PortEnds S K C)) (port : Port) (old new : PortKey → Place (Ends S K C)) → IsNextBehind port (ports_held held) (ports_of plan.ports) → ((key : PortKey) → IsOff held key.number → new key ≡ old key) → (key : PortKey) → All (λ m. m ≢ key.number) (numbers_of plan.ports) → new key ≡ old key
+ports_off_next plan held port old new (later, all) others key away =
+    others key (off_held held (numbers_of plan.ports) (number_of port ∷ map number_of later) key.number (numbers_are plan.ports ∙ ap (map number_of) all ∙ map-append number_of (ports_held held) (port ∷ later)) away)
 
 -- the opening of control failed, and all ports are kept
 pub control_unopened : {S K C : Type 0} (plan : Plan) (Says : List ℕ → Type 0) (held : List (PortEnds S K C)) (old new : Book S K C) → IsSome plan.control → ports_held held ≡ ports_of plan.ports
-    → Handled held held old.ports new.ports → new.control ≡ old.control → new.outputs ≡ old.outputs → Says (cannot_open_line control_word) → IsControlUnopened plan Says old new
-control_unopened {S} {K} {C} plan Says held old new named ports handled control outputs told = record {
+    → Handled held held (ports_in plan old) (ports_in plan new) → ((key : PortKey) → IsOff held key.number → new.ports key ≡ old.ports key) → new.control ≡ old.control → new.outputs ≡ old.outputs → Says (cannot_open_line control_word) → IsControlUnopened plan Says old new
+control_unopened {S} {K} {C} plan Says held old new named ports handled others control outputs told = record {
   named = named;
-  kept = ports_kept plan held old.ports new.ports ports handled;
+  kept = ports_kept plan held (ports_in plan old) (ports_in plan new) ports handled;
   control = control;
   outputs = outputs;
   elsewhere = record {
-    ports = ports_off plan held old.ports new.ports ports handled;
+    ports = ports_off plan held old.ports new.ports ports others;
     control = λ none. control;
     outputs = λ other apart. ap (λ (o : List ℕ → Place K). o other) outputs;
   };
@@ -392,13 +403,13 @@ control_unopened {S} {K} {C} plan Says held old new named ports handled control 
 
 -- the opening of the journal failed, and all ports and control are kept
 pub journal_unopened : {S K C : Type 0} (plan : Plan) (Says : List ℕ → Type 0) (held : List (PortEnds S K C)) (control : Option (ControlEnds S K C)) (old new : Book S K C) → ports_held held ≡ ports_of plan.ports
-    → Handled held held old.ports new.ports → HandledControl plan.control control control old.control new.control → ((name : List ℕ) → new.outputs name ≡ old.outputs name) → Says (cannot_open_line journal_word) → IsJournalUnopened plan Says old new
-journal_unopened plan Says held control old new ports handled handled_control outputs told = record {
-  kept = ports_kept plan held old.ports new.ports ports handled;
-  control = λ named. control_kept plan.control control control old.control new.control handled_control named;
+    → Handled held held (ports_in plan old) (ports_in plan new) → ((key : PortKey) → IsOff held key.number → new.ports key ≡ old.ports key) → HandledControl plan.control control control old.control new.control → ((name : List ℕ) → new.outputs name ≡ old.outputs name) → Says (cannot_open_line journal_word) → IsJournalUnopened false plan Says old new
+journal_unopened plan Says held control old new ports handled others handled_control outputs told = record {
+  kept = ports_kept plan held (ports_in plan old) (ports_in plan new) ports handled;
+  control = control_kept plan.control control control old.control new.control handled_control;
   outputs = outputs;
   elsewhere = record {
-    ports = ports_off plan held old.ports new.ports ports handled;
+    ports = ports_off plan held old.ports new.ports ports others;
     control = λ none. control_off plan.control control control old.control new.control handled_control none;
     outputs = λ other apart. outputs other;
   };

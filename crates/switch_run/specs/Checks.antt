@@ -4,7 +4,7 @@ use Rattle.std.specs.Prelude.{◌≡◌, ◌≤◌, ◌⊎◌, ℕ, Bool, if◌t
 use Rattle.savi_ends.specs.declared.world.Std.TheVariants.{Out}
 use Rattle.savi_ends.specs.Faults.{Rose}
 use Rattle.savi_ends.specs.Places.{Book, OthersStay}
-use Rattle.run_config.specs.Configs.{EndHasFault, OfText}
+use Rattle.run_config.specs.Configs.{EndHasFault, EndHasNoFault, OfText}
 use Rattle.journal_check.specs.declared.answer.Checked.{Checked}
 use Rattle.journal_check.specs.declared.answer.Checked.TheVariants.{Good, Wrong, BadLine, Failed, NoMemory}
 use Rattle.journal_check.specs.Answers.{IsAnswer}
@@ -45,9 +45,10 @@ pub record IsCheckedUnopened {S K C : Type 0} (file : List ℕ) (Says : List ℕ
   pub place : new.inputs file ≡ old.inputs file
   pub out : new.std Out ≡ old.std Out
 
--- There was no memory, as standard error was told.
-pub record IsUnjudged {S K C : Type 0} (Says : List ℕ → Type 0) (old new : Book S K C) (status : ℕ) : Type 0 where
+-- There was no memory, as standard error was told, and no read of the file failed.
+pub record IsUnjudged {S K C : Type 0} (source_faults : S → ℕ) (file : List ℕ) (Says : List ℕ → Type 0) (old new : Book S K C) (status : ℕ) : Type 0 where
   pub status_is : status ≡ 1
+  pub still : EndHasNoFault source_faults (new.inputs file)
   pub errors : Says memory_line
   pub out : new.std Out ≡ old.std Out
 
@@ -59,11 +60,12 @@ pub record IsJournalUnread {S K C : Type 0} (source_faults : S → ℕ) (file : 
   pub out : new.std Out ≡ old.std Out
 
 -- Where the file tells its text, this is the one answer to it: `Good` exactly where the text is the journal of a finished
--- history. Standard output took its line, or a front of it where a write failed, and then the status says so; standard error
--- was told nothing.
-pub record IsAnswered {S K C : Type 0} (left : S → Option (List ℕ)) (written : K → Option (List ℕ)) (sink_faults : K → ℕ) (file : List ℕ) (Says : List ℕ → Type 0) (old new : Book S K C) (status : ℕ) : Type 0 where
+-- history. No read of the file failed. Standard output took its line, or a front of it where a write failed, and then the
+-- status says so; standard error was told nothing.
+pub record IsAnswered {S K C : Type 0} (left : S → Option (List ℕ)) (written : K → Option (List ℕ)) (source_faults : S → ℕ) (sink_faults : K → ℕ) (file : List ℕ) (Says : List ℕ → Type 0) (old new : Book S K C) (status : ℕ) : Type 0 where
   pub answer : Checked
   pub read : IsTextRead answer
+  pub still : EndHasNoFault source_faults (new.inputs file)
   pub is : OfText left (old.inputs file) (λ text. IsAnswer text answer)
   pub alone : OfText left (old.inputs file) (λ text. (other : Checked) → IsAnswer text other → answer ≡ other)
   pub good : (entries : ℕ) → answer ≡ Good entries → OfText left (old.inputs file) (λ text. IsFinishedJournal text entries)
@@ -81,7 +83,7 @@ IsKept source_faults file old new = Keeps (λ told kept. source_faults told ≤ 
 -- what came of a file that was opened
 abbrev pub IsJudged : {S K C : Type 0} → (S → Option (List ℕ)) → (K → Option (List ℕ)) → (S → ℕ) → (K → ℕ) → List ℕ → (List ℕ → Type 0) → Book S K C → Book S K C → ℕ → Type 0
 IsJudged left written source_faults sink_faults file Says old new status =
-    IsUnjudged Says old new status ⊎ (IsJournalUnread source_faults file Says old new status ⊎ IsAnswered left written sink_faults file Says old new status)
+    IsUnjudged source_faults file Says old new status ⊎ (IsJournalUnread source_faults file Says old new status ⊎ IsAnswered left written source_faults sink_faults file Says old new status)
 
 -- The file could not be opened, or it was checked, and its source is kept. No other input, no output, no port and no end of
 -- control was touched.

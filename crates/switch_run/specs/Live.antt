@@ -1,9 +1,9 @@
 -- What a live session has done: one history stands in all of it, and by it each end was served.
-use Rattle.std.specs.Prelude.{◌≡◌, ℕ, false, Bool, List, reverse, Option, Some, None, All}
+use Rattle.std.specs.Prelude.{◌≡◌, ℕ, true, false, Bool, List, reverse, Option, Some, None, All}
 use Rattle.savi_kinds.specs.declared.plan.Plan.{Plan}
 use Rattle.savi_kinds.specs.Ports.{number_of}
 use Rattle.savi_ends.specs.declared.world.Ends.{Ends}
-use Rattle.savi_ends.specs.Places.{Place, Book}
+use Rattle.savi_ends.specs.Places.{Place, Book, ControlKey}
 use Rattle.hist_store.specs.Rows.{Row}
 use Rattle.hist_store.specs.JournalTexts.{journal_text, address_text}
 use Rattle.savi_history.specs.Bases.{empty}
@@ -12,8 +12,9 @@ use Rattle.savi_history.specs.Legal.{IsLegal, IsFinished}
 use Rattle.live_session.specs.LiveRows.{ControlRow, NoControlRow, TickerRow}
 use Rattle.live_session.specs.LiveSession.{PortRow, IsLive}
 use Rattle.live_switch.specs.declared.ready.Ready.{Ready}
-use Rattle.run_config.specs.Configs.{IsConfigured, IsReadFrom}
-use Rattle.switch_run.specs.Causes.{IsOffPlanSame, Keeps, TookOrPart}
+use Rattle.run_config.specs.Configs.{EndHasNoFault, IsConfigured, IsReadFrom}
+use Rattle.switch_ports.specs.Named.{control_key}
+use Rattle.switch_run.specs.Causes.{IsOffPlanSame, Keeps, TookOrPart, ports_in}
 use Rattle.switch_run.specs.Session.{IsReported}
 
 module _ {S K C : Type 0} (left : S → Option (List ℕ)) (written : K → Option (List ℕ)) (source_faults : S → ℕ)
@@ -24,11 +25,12 @@ module _ {S K C : Type 0} (left : S → Option (List ℕ)) (written : K → Opti
     pub journal_was : TookOrPart sink_faults written journal_written (journal_text address_text plan (reverse past)) journal journal'
     pub tells : IsJournalOf address_text plan past (journal_text address_text plan (reverse past))
 
-  -- What a history was to the place of control, by the names of the plan. Where it names control's input and output, their
-  -- ends are kept there, and they were served; where it doesn't, the place wasn't touched, and no line was entered.
-  abbrev pub ServesControlAt : Plan → List Row → Option (List ℕ × List ℕ) → Place (Ends S K C) → Place (Ends S K C) → Type 0
+  -- What a history was to the place of live control, by the names of the plan. Where it names control's input and output,
+  -- their ends are kept there, and they were served; where it doesn't, no place of control was touched, and no line was
+  -- entered.
+  abbrev pub ServesControlAt : Plan → List Row → Option (List ℕ × List ℕ) → (ControlKey → Place (Ends S K C)) → (ControlKey → Place (Ends S K C)) → Type 0
   ServesControlAt plan past None old new = NoControlRow past × (new ≡ old)
-  ServesControlAt plan past (Some names) old new = Keeps (ControlRow left written source_faults sink_faults readings plan empty past) old new
+  ServesControlAt plan past (Some names) old new = Keeps (ControlRow left written source_faults sink_faults readings plan empty past) (old (control_key true names)) (new (control_key true names))
 
   -- A live session of this plan: one history is legal and finished; the ends of each port, of control, where the plan names
   -- it, and the ticker's clock are kept in their own place, and by the history they were served; it is reported; and no
@@ -37,15 +39,17 @@ module _ {S K C : Type 0} (left : S → Option (List ℕ)) (written : K → Opti
     pub past : List Row
     pub legal : IsLegal plan empty past
     pub finished : IsFinished plan empty past
-    pub ports : All (λ p. Keeps (PortRow left written source_faults sink_faults readings plan empty past p) (old.ports (number_of p.number)) (new.ports (number_of p.number))) plan.ports
+    pub ports : All (λ p. Keeps (PortRow left written source_faults sink_faults readings plan empty past p) (ports_in plan old (number_of p.number)) (ports_in plan new (number_of p.number))) plan.ports
     pub control : ServesControlAt plan past plan.control old.control new.control
     pub ticker : Keeps (TickerRow readings plan empty past) old.ticker new.ticker
     pub reported : IsReported written sink_faults plan past Says old new status
     pub elsewhere : IsOffPlanSame plan old new
 
-  -- A live session of the plan that the configuration says. The configuration's input is kept, and a front of it was read.
+  -- A live session of the plan that the configuration says. The configuration's input is kept, a front of it was read, and
+  -- no read of it failed.
   pub record IsServeSession (file : List ℕ) (Says : List ℕ → Type 0) (old new : Book S K C) (status : ℕ) : Type 0 where
     pub plan : Plan
     pub configured : IsConfigured false left (old.inputs file) plan
     pub input : IsReadFrom left (old.inputs file) (new.inputs file)
+    pub still : EndHasNoFault source_faults (new.inputs file)
     pub session : IsServeOf plan Says old new status

@@ -22,7 +22,7 @@ pub record IsRunOf {S K C : Type 0} (replay : Bool) (left : S → Option (List �
   pub unopened : status ≡ 7 → IsUnopened replay left file Says old new
   pub session : IsOneOf session_statuses status → IsFileUnread left source_faults file Says old new status ⊎ Session
   pub quiet : IsOneOf quiet_statuses status → new.std Out ≡ old.std Out
-  pub unused : IsOneOf unused_statuses status → IsUnused old new
+  pub unused : IsOneOf unused_statuses status → IsUnused replay left file old new
   pub inputs : OthersStay old.inputs new.inputs file
 
 -- a replay, which doesn't touch the ticker

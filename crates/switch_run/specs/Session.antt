@@ -1,11 +1,11 @@
 -- What a run has done whose session began: one history stands in all of it.
-use Rattle.std.specs.Prelude.{◌≡◌, ℕ, ◌<◌, ◌⊎◌, ◌&&◌, ◌||◌, not, Bool, true, false, if◌then◌else◌, List, [], ◌∷◌, ◌++◌, reverse, Option, None, Some, IsSome, All}
+use Rattle.std.specs.Prelude.{◌≡◌, ℕ, ◌<◌, ◌⊎◌, ◌&&◌, ◌||◌, not, Bool, true, false, if◌then◌else◌, List, [], ◌∷◌, ◌++◌, reverse, Option, None, Some, IfSome, IsSome, All}
 use Rattle.savi_kinds.specs.declared.plan.Plan.{Plan}
 use Rattle.savi_kinds.specs.ValidPlan.{numbers_of}
 use Rattle.savi_ends.specs.declared.world.Std.TheVariants.{Out, Err}
 use Rattle.savi_ends.specs.declared.world.Ends.{Ends}
 use Rattle.savi_ends.specs.Octets.{behind}
-use Rattle.savi_ends.specs.Places.{Place, Book}
+use Rattle.savi_ends.specs.Places.{Place, Book, PortKey, ControlKey}
 use Rattle.pcap_io.specs.Kinds.{classic_kinds}
 use Rattle.pcap_io.specs.Runs.{Arrive}
 use Rattle.cli_lang.specs.Arrivals as control
@@ -17,14 +17,16 @@ use Rattle.savi_history.specs.Endings.{has_failed, has_failed_write, has_malform
 use Rattle.savi_history.specs.EndLines.{end_lines}
 use Rattle.savi_history.specs.Adverts.{IsGuarded}
 use Rattle.savi_history.specs.Accesses.{AllPassedRightly}
+use Rattle.savi_history.specs.CameFirst.{AllKeepWhoCameFirst}
 use Rattle.savi_history.specs.Journals.{IsJournalOf, IsSame}
 use Rattle.savi_history.specs.Summary.{summary_of, summary_text}
 use Rattle.savi_conf.specs.declared.fault.ConfFault.{ConfFault}
-use Rattle.run_config.specs.Configs.{EndHasFault, IsConfigured, IsReadFrom, IsRefused}
+use Rattle.run_config.specs.Configs.{EndHasFault, EndHasNoFault, IsConfigured, IsReadFrom, IsRefused}
 use Rattle.switch_report.specs.RunLines.{cannot_open_line, config_line, write_failed_line, read_failed_line, port_name, control_word, journal_word}
 use Rattle.port_worker.specs.ControlServed.{IsControlServed}
 use Rattle.port_worker.specs.Served.{IsServed, ServesPorts}
-use Rattle.switch_run.specs.Causes.{IsUnserved, Keeps, KeepsAll, IsOffPlanSame, TookOrPart}
+use Rattle.switch_ports.specs.Named.{control_key}
+use Rattle.switch_run.specs.Causes.{IsUnserved, Keeps, KeepsAll, IsOffPlanSame, TookOrPart, ports_in}
 
 -- The status by a history, and by whether the journal and the summary were written: the first that applies of a failed
 -- read, a failed write, a malformed input and want of room.
@@ -54,20 +56,21 @@ pub record IsSummed {K : Type 0} (written : K → Option (List ℕ)) (faults : K
   pub errors : Says (end_lines past ++ journal_lines journal_written)
   pub cause : status ≡ status_of (journal_written && summary_written) past
 
--- What a history was to the place of control, by the names of the plan. Where it names control's input and output, their
--- ends are kept there, and they were served: control has an input. Where it doesn't, the place wasn't touched, and control
--- has none.
-abbrev pub ServesControlPlace : {S K C : Type 0} → (S → Option (List ℕ)) → (K → Option (List ℕ)) → (S → ℕ) → (K → ℕ) → Plan → List Row → Option (List ℕ × List ℕ) → Option control.Input → Option ℕ → Place (Ends S K C) → Place (Ends S K C) → Type 0
+-- What a history was to the place of control, by the names of the plan, in a run that isn't live. Where it names control's
+-- input and output, their ends are kept there, and they were served: control has an input. Where it doesn't, no place of
+-- control was touched, and control has none.
+abbrev pub ServesControlPlace : {S K C : Type 0} → (S → Option (List ℕ)) → (K → Option (List ℕ)) → (S → ℕ) → (K → ℕ) → Plan → List Row → Option (List ℕ × List ℕ) → Option control.Input → Option ℕ → (ControlKey → Place (Ends S K C)) → (ControlKey → Place (Ends S K C)) → Type 0
 ServesControlPlace left written source_faults sink_faults plan past None None stop old new = new ≡ old
 ServesControlPlace left written source_faults sink_faults plan past None (Some input) stop old new = ⊥
 ServesControlPlace left written source_faults sink_faults plan past (Some names) None stop old new = ⊥
 ServesControlPlace left written source_faults sink_faults plan past (Some names) (Some input) stop old new =
-    Keeps (IsControlServed left written source_faults sink_faults plan empty past input stop) old new
+    Keeps (IsControlServed left written source_faults sink_faults plan empty past input stop) (old (control_key false names)) (new (control_key false names))
 
 -- What a history of this plan leaves: the journal took its text, which is that of no other legal history, or a front of it
 -- where a write failed; it is summed up on the standard outputs and in the status; no advertisement and no hidden fragment
 -- passed the port of a host or a server; and where sources are validated, an IPv6 frame passed such a port exactly where no
--- rule on messages stopped it and its source was live there, or a named exception permitted it.
+-- rule on messages stopped it and its source was live there, or a named exception permitted it, and who came first kept an
+-- address: a frame passed another such port with that source only once the first port had lost it by one of three causes.
 pub record IsReported {S K C : Type 0} (written : K → Option (List ℕ)) (sink_faults : K → ℕ) (plan : Plan) (past : List Row) (Says : List ℕ → Type 0) (old new : Book S K C) (status : ℕ) : Type 0 where
   -- whether the journal was written
   pub journal_written : Bool
@@ -78,6 +81,7 @@ pub record IsReported {S K C : Type 0} (written : K → Option (List ℕ)) (sink
   pub guarded : IsGuarded plan past
   -- where sources are validated
   pub access : plan.savi ≡ true → AllPassedRightly plan empty past
+  pub first_come : plan.savi ≡ true → AllKeepWhoCameFirst plan empty past
 
 -- A replay with this plan: one history, legal and finished, is the replay of what the sources of control, where the plan
 -- names it, and of the plan's ports gave to sinks that stop so; the ends of control and of each port are kept in their own
@@ -87,7 +91,7 @@ pub record IsReplayOf {S K C : Type 0} (left : S → Option (List ℕ)) (written
   pub legal : IsLegal plan empty past
   pub serves : ServesPorts plan empty past
       (λ lines stop. ServesControlPlace left written source_faults sink_faults plan past plan.control lines stop old.control new.control)
-      (λ place port input stop. Keeps (IsServed left written source_faults sink_faults (Arrive classic_kinds) plan empty past port input stop) (old.ports port) (new.ports port))
+      (λ place port input stop. Keeps (IsServed left written source_faults sink_faults (Arrive classic_kinds) plan empty past port input stop) (ports_in plan old port) (ports_in plan new port))
   pub reported : IsReported written sink_faults plan past Says old new status
 
 -- A session of this plan: it was a replay, and no other port or output was touched, nor control where the plan names none.
@@ -95,11 +99,13 @@ pub record IsSessionOf {S K C : Type 0} (left : S → Option (List ℕ)) (writte
   pub elsewhere : IsOffPlanSame plan old new
   pub did : IsReplayOf left written source_faults sink_faults plan Says old new status
 
--- A session of the plan that the configuration says. The configuration's input is kept, and a front of it was read.
+-- A session of the plan that the configuration says. The configuration's input is kept, a front of it was read, and no read
+-- of it failed.
 pub record IsSession {S K C : Type 0} (left : S → Option (List ℕ)) (written : K → Option (List ℕ)) (source_faults : S → ℕ) (sink_faults : K → ℕ) (file : List ℕ) (Says : List ℕ → Type 0) (old new : Book S K C) (status : ℕ) : Type 0 where
   pub plan : Plan
   pub configured : IsConfigured true left (old.inputs file) plan
   pub input : IsReadFrom left (old.inputs file) (new.inputs file)
+  pub still : EndHasNoFault source_faults (new.inputs file)
   pub session : IsSessionOf left written source_faults sink_faults plan Says old new status
 
 -- A read of the configuration failed, before anything else was opened.
@@ -123,8 +129,8 @@ pub record IsPortUnopened {S K C : Type 0} (plan : Plan) (Says : List ℕ → Ty
   pub port : ℕ
   pub later : List ℕ
   pub all : numbers_of plan.ports ≡ before ++ port ∷ later
-  pub kept : All (λ n. IsSome (new.ports n).stands) before
-  pub same : All (λ n. new.ports n ≡ old.ports n) (port ∷ later)
+  pub kept : All (λ n. IsSome (ports_in plan new n).stands) before
+  pub same : All (λ n. (key : PortKey) → key.number ≡ n → new.ports key ≡ old.ports key) (port ∷ later)
   pub control : new.control ≡ old.control
   pub outputs : new.outputs ≡ old.outputs
   pub elsewhere : IsOffPlanSame plan old new
@@ -134,7 +140,7 @@ pub record IsPortUnopened {S K C : Type 0} (plan : Plan) (Says : List ℕ → Ty
 -- as they were.
 pub record IsControlUnopened {S K C : Type 0} (plan : Plan) (Says : List ℕ → Type 0) (old new : Book S K C) : Type 0 where
   pub named : IsSome plan.control
-  pub kept : All (λ n. IsSome (new.ports n).stands) (numbers_of plan.ports)
+  pub kept : All (λ n. IsSome (ports_in plan new n).stands) (numbers_of plan.ports)
   pub control : new.control ≡ old.control
   pub outputs : new.outputs ≡ old.outputs
   pub elsewhere : IsOffPlanSame plan old new
@@ -142,15 +148,16 @@ pub record IsControlUnopened {S K C : Type 0} (plan : Plan) (Says : List ℕ →
 
 -- The journal could not be opened: the ends of each port are kept, and those of control, where the plan names them, and each
 -- output is as it was.
-pub record IsJournalUnopened {S K C : Type 0} (plan : Plan) (Says : List ℕ → Type 0) (old new : Book S K C) : Type 0 where
-  pub kept : All (λ n. IsSome (new.ports n).stands) (numbers_of plan.ports)
-  pub control : IsSome plan.control → IsSome new.control.stands
+pub record IsJournalUnopened {S K C : Type 0} (live : Bool) (plan : Plan) (Says : List ℕ → Type 0) (old new : Book S K C) : Type 0 where
+  pub kept : All (λ n. IsSome (ports_in plan new n).stands) (numbers_of plan.ports)
+  pub control : IfSome plan.control (λ names. IsSome (new.control (control_key live names)).stands)
   pub outputs : (name : List ℕ) → new.outputs name ≡ old.outputs name
   pub elsewhere : IsOffPlanSame plan old new
   pub errors : Says (cannot_open_line journal_word)
 
-abbrev pub IsPartUnopened : {S K C : Type 0} → Plan → (List ℕ → Type 0) → Book S K C → Book S K C → Type 0
-IsPartUnopened plan Says old new = IsPortUnopened plan Says old new ⊎ (IsControlUnopened plan Says old new ⊎ IsJournalUnopened plan Says old new)
+abbrev pub IsPartUnopened : {S K C : Type 0} → Bool → Plan → (List ℕ → Type 0) → Book S K C → Book S K C → Type 0
+IsPartUnopened live plan Says old new =
+    IsPortUnopened plan Says old new ⊎ (IsControlUnopened plan Says old new ⊎ IsJournalUnopened live plan Says old new)
 
 -- A port, control or the journal of the plan that the configuration says could not be opened, and the ticker wasn't touched.
 pub record IsPlanUnopened {S K C : Type 0} (replay : Bool) (left : S → Option (List ℕ)) (file : List ℕ) (Says : List ℕ → Type 0) (old new : Book S K C) : Type 0 where
@@ -158,7 +165,7 @@ pub record IsPlanUnopened {S K C : Type 0} (replay : Bool) (left : S → Option 
   pub configured : IsConfigured replay left (old.inputs file) plan
   pub input : IsReadFrom left (old.inputs file) (new.inputs file)
   pub ticker : new.ticker ≡ old.ticker
-  pub part : IsPartUnopened plan Says old new
+  pub part : IsPartUnopened (not replay) plan Says old new
 
 -- Something that was to be opened could not be.
 abbrev pub IsUnopened : {S K C : Type 0} → Bool → (S → Option (List ℕ)) → List ℕ → (List ℕ → Type 0) → Book S K C → Book S K C → Type 0
@@ -177,4 +184,4 @@ pub record IsNoPlan {S K C : Type 0} (replay : Bool) (left : S → Option (List 
 -- of the journal are kept, and no others were touched.
 pub record IsUnplayed {S K C : Type 0} (replay : Bool) (left : S → Option (List ℕ)) (written : K → Option (List ℕ)) (file : List ℕ) (old new : Book S K C) : Type 0 where
   pub input : (new.inputs file ≡ old.inputs file) ⊎ IsReadFrom left (old.inputs file) (new.inputs file)
-  pub ends : IsUnserved old new ⊎ ((plan : Plan) × IsConfigured replay left (old.inputs file) plan × KeepsAll left written plan old new × IsOffPlanSame plan old new)
+  pub ends : IsUnserved old new ⊎ ((plan : Plan) × IsConfigured replay left (old.inputs file) plan × KeepsAll (not replay) left written plan old new × IsOffPlanSame plan old new)

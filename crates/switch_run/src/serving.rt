@@ -1,6 +1,6 @@
 //! The run of a live session: what a configuration names is opened, served, and kept again.
 
-ghost use Rattle.std.specs.Prelude.{◌≡◌, ◌⊎◌, ◌≤◌, false, IfOk, [], length, map, vec_capacity};
+ghost use Rattle.std.specs.Prelude.{◌≡◌, ◌⊎◌, ◌≤◌, true, false, IfOk, [], length, map, vec_capacity};
 ghost use Rattle.savi_kinds.specs.Ports.{number_of};
 ghost use Rattle.savi_kinds.specs.ValidPlan.{numbers_of};
 ghost use Rattle.savi_ends.specs.declared.world.Std.{Std};
@@ -8,7 +8,7 @@ ghost use Rattle.savi_ends.specs.Faults.{Rose};
 ghost use Rattle.savi_ends.specs.Places.{BothFresh, IsReady, OthersStay};
 ghost use Rattle.run_config.specs.Configs.{IsBuilt};
 ghost use Rattle.switch_report.specs.RunLines.{memory_line};
-ghost use Rattle.switch_run.specs.Causes.{IsOffPlanSame, IsOneOf, IsUnserved, IsUnused, KeepsAll, quiet_statuses, session_statuses, statuses, unused_statuses};
+ghost use Rattle.switch_run.specs.Causes.{IsOffPlanSame, IsOneOf, IsUnserved, IsUnusedOf, KeepsAll, quiet_statuses, session_statuses, statuses, unused_statuses};
 ghost use Rattle.switch_run.specs.Runs.{IsServeRun};
 ghost use Rattle.switch_run.specs.Live.{IsServeOf};
 ghost use Rattle.switch_run.specs.Session.{IsPartUnopened, ToldBy};
@@ -43,8 +43,8 @@ where
     W::C: Drop,
     requires inputs { (name : _) → IsReady (λ s. W.S.faults s ≡ 0) ((W.book world.old).inputs name) }
     requires outputs { (name : _) → IsReady (λ k. W.K.faults k ≡ 0) ((W.book world.old).outputs name) }
-    requires ports { (n : _) → IsReady (BothFresh W.S.faults W.K.faults) ((W.book world.old).ports n) }
-    requires control { IsReady (BothFresh W.S.faults W.K.faults) (W.book world.old).control }
+    requires ports { (key : _) → IsReady (BothFresh W.S.faults W.K.faults) ((W.book world.old).ports key) }
+    requires control { (key : _) → IsReady (BothFresh W.S.faults W.K.faults) ((W.book world.old).control key) }
     requires ticker { (W.book world.old).ticker.is_out ≡ false }
     requires out { IsReady (λ k. W.K.faults k ≡ 0) ((W.book world.old).std Std.Out) }
     ensures ran { IsServeRun W.S.left W.K.written W.S.faults W.K.faults W.C.readings file.now (ToldBy W.K.faults W.K.written errors.old errors.new) (W.book world.old) (W.book world.new) result }
@@ -71,21 +71,21 @@ where
     W::C: Drop,
     requires built { IsBuilt false plan }
     requires outputs { (name : _) → IsReady (λ k. W.K.faults k ≡ 0) ((W.book world.old).outputs name) }
-    requires ports { (n : _) → IsReady (BothFresh W.S.faults W.K.faults) ((W.book world.old).ports n) }
-    requires control { IsReady (BothFresh W.S.faults W.K.faults) (W.book world.old).control }
+    requires ports { (key : _) → IsReady (BothFresh W.S.faults W.K.faults) ((W.book world.old).ports key) }
+    requires control { (key : _) → IsReady (BothFresh W.S.faults W.K.faults) ((W.book world.old).control key) }
     requires ticker { (W.book world.old).ticker.is_out ≡ false }
     requires out { IsReady (λ k. W.K.faults k ≡ 0) ((W.book world.old).std Std.Out) }
     ensures status { IsOneOf statuses result }
     ensures usage { result ≡ 2 → ⊥ }
     ensures config { result ≡ 3 → ⊥ }
     ensures memory { result ≡ 1 → ToldBy W.K.faults W.K.written errors.old errors.new memory_line }
-    ensures unplayed { result ≡ 1 → IsUnserved (W.book world.old) (W.book world.new) ⊎ (KeepsAll W.S.left W.K.written plan (W.book world.old) (W.book world.new) × IsOffPlanSame plan (W.book world.old) (W.book world.new)) }
+    ensures unplayed { result ≡ 1 → IsUnserved (W.book world.old) (W.book world.new) ⊎ (KeepsAll true W.S.left W.K.written plan (W.book world.old) (W.book world.new) × IsOffPlanSame plan (W.book world.old) (W.book world.new)) }
     ensures open { result ≡ 7 → Rose (W.book world.old).faults (W.book world.new).faults }
-    ensures unopened { result ≡ 7 → IsPartUnopened plan (ToldBy W.K.faults W.K.written errors.old errors.new) (W.book world.old) (W.book world.new) }
+    ensures unopened { result ≡ 7 → IsPartUnopened true plan (ToldBy W.K.faults W.K.written errors.old errors.new) (W.book world.old) (W.book world.new) }
     ensures unticked { result ≡ 7 → (W.book world.new).ticker ≡ (W.book world.old).ticker }
     ensures session { IsOneOf session_statuses result → IsServeOf W.S.left W.K.written W.S.faults W.K.faults W.C.readings plan (ToldBy W.K.faults W.K.written errors.old errors.new) (W.book world.old) (W.book world.new) result }
     ensures quiet { IsOneOf quiet_statuses result → (W.book world.new).std Std.Out ≡ (W.book world.old).std Std.Out }
-    ensures unused { IsOneOf unused_statuses result → IsUnused (W.book world.old) (W.book world.new) }
+    ensures unused { IsOneOf unused_statuses result → IsUnusedOf true plan (W.book world.old) (W.book world.new) }
     ensures others { OthersStay (W.book world.old).std (W.book world.new).std Std.Out }
     ensures rest { W.book world.new ≡ record (W.book world.old) { faults = (W.book world.new).faults; outputs = (W.book world.new).outputs; ports = (W.book world.new).ports; control = (W.book world.new).control; ticker = (W.book world.new).ticker; std = (W.book world.new).std } }
 {

@@ -8,7 +8,7 @@ ghost use Rattle.savi_ends.specs.Places.{BothFresh, HandedNothing, IsReady, Othe
 ghost use Rattle.run_config.specs.Configs.{IsBuilt};
 ghost use Rattle.switch_report.specs.RunLines.{memory_line, usage_line};
 ghost use Rattle.run_config.specs.Words.{IsCheck, IsForm, IsGen, IsReplay, IsServe};
-ghost use Rattle.switch_run.specs.Causes.{HasSomeReadFault, HasSomeWriteFault, IsElsewhereSame, IsOffPlanSame, IsOneOf, IsUnserved, IsUnused, IsUntouched, KeepsAll, quiet_statuses, session_statuses, statuses, unused_statuses};
+ghost use Rattle.switch_run.specs.Causes.{HasSomeReadFault, HasSomeWriteFault, IsElsewhereSame, IsOffPlanSame, IsOneOf, IsUnserved, IsUnused, IsUnusedOf, IsUntouched, KeepsAll, quiet_statuses, session_statuses, statuses, unused_statuses};
 ghost use Rattle.switch_run.specs.Checks.{IsCheckRun};
 ghost use Rattle.switch_run.specs.Loads.{IsLoadRun};
 ghost use Rattle.switch_run.specs.Runs.{IsReplayRun, IsGenRun, IsServeRun};
@@ -83,7 +83,7 @@ where
     ensures read { (file : List ℕ) → IsReplay file (map string_bytes words.now) → result ≡ 5 → HasSomeReadFault W.S.faults file (W.book world.new) }
     ensures write { (file : List ℕ) → IsReplay file (map string_bytes words.now) → result ≡ 6 → HasSomeWriteFault W.K.faults (W.book world.new) }
     ensures quiet { IsOneOf quiet_statuses result → (W.book world.new).std Std.Out ≡ (W.book world.old).std Std.Out }
-    ensures unused { IsOneOf unused_statuses result → IsUnused (W.book world.old) (W.book world.new) }
+    ensures unused { (file : List ℕ) → IsReplay file (map string_bytes words.now) → IsOneOf unused_statuses result → IsUnused true W.S.left file (W.book world.old) (W.book world.new) }
     ensures elsewhere { (file : List ℕ) → IsReplay file (map string_bytes words.now) → IsElsewhereSame file (W.book world.old) (W.book world.new) }
     ensures serve { (file : List ℕ) → IsServe file (map string_bytes words.now) → IsServeRun W.S.left W.K.written W.S.faults W.K.faults W.C.readings file (WasTold W.K.faults W.K.written (W.book world.old) (W.book world.new)) (W.book world.old) (W.book world.new) result }
     ensures served_read { (file : List ℕ) → IsServe file (map string_bytes words.now) → result ≡ 5 → HasSomeReadFault W.S.faults file (W.book world.new) }
@@ -112,8 +112,8 @@ where
     W::C: Drop,
     requires inputs { (name : _) → IsReady (λ s. W.S.faults s ≡ 0) ((W.book world.old).inputs name) }
     requires outputs { (name : _) → IsReady (λ k. W.K.faults k ≡ 0) ((W.book world.old).outputs name) }
-    requires ports { (n : _) → IsReady (BothFresh W.S.faults W.K.faults) ((W.book world.old).ports n) }
-    requires control { IsReady (BothFresh W.S.faults W.K.faults) (W.book world.old).control }
+    requires ports { (key : _) → IsReady (BothFresh W.S.faults W.K.faults) ((W.book world.old).ports key) }
+    requires control { (key : _) → IsReady (BothFresh W.S.faults W.K.faults) ((W.book world.old).control key) }
     requires ticker { (W.book world.old).ticker.is_out ≡ false }
     requires out { IsReady (λ k. W.K.faults k ≡ 0) ((W.book world.old).std Std.Out) }
     ensures ran { IsGenRun W.S.left W.K.written W.S.faults W.K.faults W.C.readings (map string_bytes words.now) (ToldBy W.K.faults W.K.written errors.old errors.new) (W.book world.old) (W.book world.new) result }
@@ -135,8 +135,8 @@ where
 fn replay_file<W: World>(alloc: Global, file: &str, world: &mut W, errors: &mut W::K) -> u8
     requires inputs { (name : _) → IsReady (λ s. W.S.faults s ≡ 0) ((W.book world.old).inputs name) }
     requires outputs { (name : _) → IsReady (λ k. W.K.faults k ≡ 0) ((W.book world.old).outputs name) }
-    requires ports { (n : _) → IsReady (BothFresh W.S.faults W.K.faults) ((W.book world.old).ports n) }
-    requires control { IsReady (BothFresh W.S.faults W.K.faults) (W.book world.old).control }
+    requires ports { (key : _) → IsReady (BothFresh W.S.faults W.K.faults) ((W.book world.old).ports key) }
+    requires control { (key : _) → IsReady (BothFresh W.S.faults W.K.faults) ((W.book world.old).control key) }
     requires out { IsReady (λ k. W.K.faults k ≡ 0) ((W.book world.old).std Std.Out) }
     ensures ran { IsReplayRun W.S.left W.K.written W.S.faults W.K.faults file.now (ToldBy W.K.faults W.K.written errors.old errors.new) (W.book world.old) (W.book world.new) result }
     ensures others { OthersStay (W.book world.old).std (W.book world.new).std Std.Out }
@@ -151,19 +151,19 @@ fn replay_file<W: World>(alloc: Global, file: &str, world: &mut W, errors: &mut 
 fn replay_plan<W: World>(alloc: Global, plan: Plan, world: &mut W, errors: &mut W::K) -> u8
     requires built { IsBuilt true plan }
     requires outputs { (name : _) → IsReady (λ k. W.K.faults k ≡ 0) ((W.book world.old).outputs name) }
-    requires ports { (n : _) → IsReady (BothFresh W.S.faults W.K.faults) ((W.book world.old).ports n) }
-    requires control { IsReady (BothFresh W.S.faults W.K.faults) (W.book world.old).control }
+    requires ports { (key : _) → IsReady (BothFresh W.S.faults W.K.faults) ((W.book world.old).ports key) }
+    requires control { (key : _) → IsReady (BothFresh W.S.faults W.K.faults) ((W.book world.old).control key) }
     requires out { IsReady (λ k. W.K.faults k ≡ 0) ((W.book world.old).std Std.Out) }
     ensures status { IsOneOf statuses result }
     ensures usage { result ≡ 2 → ⊥ }
     ensures config { result ≡ 3 → ⊥ }
     ensures memory { result ≡ 1 → ToldBy W.K.faults W.K.written errors.old errors.new memory_line }
-    ensures unplayed { result ≡ 1 → IsUnserved (W.book world.old) (W.book world.new) ⊎ (KeepsAll W.S.left W.K.written plan (W.book world.old) (W.book world.new) × IsOffPlanSame plan (W.book world.old) (W.book world.new)) }
+    ensures unplayed { result ≡ 1 → IsUnserved (W.book world.old) (W.book world.new) ⊎ (KeepsAll false W.S.left W.K.written plan (W.book world.old) (W.book world.new) × IsOffPlanSame plan (W.book world.old) (W.book world.new)) }
     ensures open { result ≡ 7 → Rose (W.book world.old).faults (W.book world.new).faults }
-    ensures unopened { result ≡ 7 → IsPartUnopened plan (ToldBy W.K.faults W.K.written errors.old errors.new) (W.book world.old) (W.book world.new) }
+    ensures unopened { result ≡ 7 → IsPartUnopened false plan (ToldBy W.K.faults W.K.written errors.old errors.new) (W.book world.old) (W.book world.new) }
     ensures session { IsOneOf session_statuses result → IsSessionOf W.S.left W.K.written W.S.faults W.K.faults plan (ToldBy W.K.faults W.K.written errors.old errors.new) (W.book world.old) (W.book world.new) result }
     ensures quiet { IsOneOf quiet_statuses result → (W.book world.new).std Std.Out ≡ (W.book world.old).std Std.Out }
-    ensures unused { IsOneOf unused_statuses result → IsUnused (W.book world.old) (W.book world.new) }
+    ensures unused { IsOneOf unused_statuses result → IsUnusedOf false plan (W.book world.old) (W.book world.new) }
     ensures others { OthersStay (W.book world.old).std (W.book world.new).std Std.Out }
     ensures rest { W.book world.new ≡ record (W.book world.old) { faults = (W.book world.new).faults; outputs = (W.book world.new).outputs; ports = (W.book world.new).ports; control = (W.book world.new).control; std = (W.book world.new).std } }
 {

@@ -6,3 +6,4 @@ pub mod Passes
 pub mod Turns
 pub mod Lends
 pub mod Tallies
+pub mod Wakings

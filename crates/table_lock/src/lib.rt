@@ -14,7 +14,7 @@ mod tally;
 mod turn;
 
 pub use kept::Kept;
-pub use lock::{NotMade, TableLock};
+pub use lock::{NotMade, TableLock, Woken};
 pub use pass::Pass;
 pub use tally::Tally;
 pub use turn::Held;

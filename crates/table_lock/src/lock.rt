@@ -12,6 +12,8 @@ use std::sync::{Mutex, Wait};
 mod make;
 mod sleeping;
 
+pub use sleeping::Woken;
+
 /// A value under a lock that its passes take in turns, by ticket. `admission` is held by the pass that has a ticket.
 pub struct TableLock<V: Kept> {
     pub(crate) table: Board<V>,

@@ -3,10 +3,11 @@ use Rattle.std.proofs.Common.{◌≤◌, ◌+◌, ℕ, nat_lt, List, [], ◌∷�
 use Rattle.std.proofs.lemmas.Bool.{cases_Bool, ltb-true}
 use Rattle.mix_rules.specs.declared.state.AddrState.{AddrState}
 use Rattle.mix_rules.specs.States.{has_state}
-use Rattle.bind_table.specs.declared.row.Row.{Row}
+use Rattle.savi_access.specs.declared.row.Row.{Row}
 use Rattle.timer_wheel.specs.declared.armed.Armed.{Armed}
-use Rattle.timer_wheel.specs.Arms.{with_due, is_below as is_due_below, is_above as is_due_above}
-use Rattle.bind_table.specs.Rows.{address_of, is_below, is_above, rows_of, with_state}
+use Rattle.savi_kinds.specs.Orders.{is_below, is_above}
+use Rattle.timer_wheel.specs.Arms.{armed_address, with_due}
+use Rattle.savi_access.specs.Rows.{address_of, rows_of, with_state}
 
 -- no row is both below and above an address
 length_parts : {X : Type 0} (number : X → ℕ) (a : ℕ) (rows : List X) → length (filter (λ row. nat_lt (number row) a) rows) + length (filter (λ row. nat_lt a (number row)) rows) ≤ length rows
@@ -36,8 +37,8 @@ one_row a state =
 -- a renewal adds one row at most
 pub length-with_state : (a : ℕ) (state : AddrState) (rows : List Row) → length (with_state a state rows) ≤ length rows + 1
 length-with_state a state rows =
-    omega (arith, length-append (filter (is_below a) rows) (rows_of a state ++ filter (is_above a) rows), length-append (rows_of a state) (filter (is_above a) rows), length_parts address_of a rows, one_row a state)
+    omega (arith, length-append (filter (is_below address_of a) rows) (rows_of a state ++ filter (is_above address_of a) rows), length-append (rows_of a state) (filter (is_above address_of a) rows), length_parts address_of a rows, one_row a state)
 
 pub length-with_due : (a due : ℕ) (arms : List Armed) → length (with_due a (Some due) arms) ≤ length arms + 1
 length-with_due a due arms =
-    omega (arith, length-append (filter (is_due_below a) arms) (record { address = record { 0 = a }; due = due } ∷ filter (is_due_above a) arms), length_parts (λ (armed : Armed). armed.address.0) a arms)
+    omega (arith, length-append (filter (is_below armed_address a) arms) (record { address = record { 0 = a }; due = due } ∷ filter (is_above armed_address a) arms), length_parts (λ (armed : Armed). armed.address.0) a arms)

@@ -3,8 +3,8 @@ use Rattle.std.specs.Prelude.{List}
 use Rattle.std.specs.List.{fold}
 use Rattle.savi_kinds.specs.declared.address.Addr.{Addr}
 use Rattle.mix_rules.specs.declared.state.AddrState.{AddrState}
-use Rattle.bind_table.specs.declared.row.Row.{Row}
-use Rattle.bind_table.specs.Rows.{with_state}
+use Rattle.savi_access.specs.declared.row.Row.{Row}
+use Rattle.savi_access.specs.Rows.{with_state}
 
 -- the rows once each address was given this state, one after the other
 abbrev pub renewed_all : AddrState → List Row → List Addr → List Row

@@ -2,7 +2,7 @@
 
 ghost use Rattle.std.specs.Prelude.{◌≡◌, ◌≤◌, ◌+◌, true, count_by, length, fold};
 ghost use Rattle.mix_rules.specs.States.{has_state};
-ghost use Rattle.bind_table.specs.Rows.{state_in};
+ghost use Rattle.savi_access.specs.Rows.{state_in};
 ghost use Rattle.tables_bench.specs.Renewed.{renewed_all};
 
 use bind_table::BindTable;

@@ -76,7 +76,7 @@ fn index(alloc: Global, addresses: u32) -> Result<AddrIndex, AllocError>
     let mut index = AddrIndex::make(alloc, addresses)?;
     for n in 0..addresses {
         let a = address(n);
-        if !index.is_full() && index.get(a).is_none() {
+        if index.get(a).is_none() {
             index.insert(a, n);
         }
     }

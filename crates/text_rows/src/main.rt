@@ -15,6 +15,8 @@ mod outcomes;
 #[cfg(test)]
 mod pcap_io_rows;
 #[cfg(test)]
+mod port_ends_rows;
+#[cfg(test)]
 mod savi_ends_rows;
 #[cfg(test)]
 mod savi_kinds_rows;

@@ -1,8 +1,7 @@
 //! Sources, sinks and clocks in memory, and a world of them.
 
 ghost use Rattle.std.specs.Prelude.{◌≡◌, List, ℕ};
-ghost use Rattle.savi_ends.specs.Places.{BothFresh, HandedNothing, IsReady};
-ghost use Rattle.savi_kinds.specs.Ports.{number_of};
+ghost use Rattle.savi_ends.specs.Places.{BothFresh, ControlKey, HandedNothing, IsReady, port_key};
 
 use savi_ends::{
     Clock, CountSink, Ends, Filled, Got, MemClock, MemEnds, MemSink, MemSource, MemWorld, Put,
@@ -187,7 +186,7 @@ fn opens_output<W: World>(world: &mut W, name: &str) -> bool
 }
 
 fn opens_port<W: World>(world: &mut W, plan: &PortPlan) -> bool
-    requires { IsReady (BothFresh W.S.faults W.K.faults) ((W.book world.old).ports (number_of plan.now.number)) }
+    requires { IsReady (BothFresh W.S.faults W.K.faults) ((W.book world.old).ports (port_key plan.now)) }
     ensures { W.book world.new ≡ record (W.book world.old) { faults = (W.book world.new).faults; ports = (W.book world.new).ports } }
 {
     match world.port(plan.number, plan) {
@@ -200,7 +199,7 @@ fn opens_port<W: World>(world: &mut W, plan: &PortPlan) -> bool
 }
 
 fn opens_control<W: World>(world: &mut W) -> bool
-    requires { IsReady (BothFresh W.S.faults W.K.faults) (W.book world.old).control }
+    requires { (key : ControlKey) → IsReady (BothFresh W.S.faults W.K.faults) ((W.book world.old).control key) }
 {
     match world.control("in", "out", true) {
         Ok(ends) => {

@@ -7,7 +7,8 @@ use Rattle.std.proofs.lemmas.List.Sums.{sum_by-cons}
 use Rattle.slab.specs.Slab.{Slab, slab_len, Updates}
 use Rattle.addr_index.specs.Indexes.{Index, key_in}
 use Rattle.timer_wheel.specs.declared.armed.Armed.{Armed}
-use Rattle.timer_wheel.specs.Arms.{Wheel, is_below, is_above, due_in, with_due}
+use Rattle.savi_kinds.specs.Orders.{is_below, is_above}
+use Rattle.timer_wheel.specs.Arms.{armed_address, Wheel, due_in, with_due}
 use Rattle.timer_wheel.specs.Rows.{arms_in, armed_at}
 use Rattle.timer_wheel.specs.Rings.{is_node, slice_of}
 use Rattle.timer_wheel.specs.Kept.{HasRow, IsWired, IsIndexed, IsEarly, IsKept}
@@ -258,11 +259,11 @@ kept_renewed rows left rows' index later later' earlier earlier' cursor most key
 }
 
 -- how many pairs are lower and higher than an address that has none
-parted : (a : ℕ) (xs : List Armed) → due_in xs a ≡ None → length (filter (is_below a) xs) + length (filter (is_above a) xs) ≡ length xs
+parted : (a : ℕ) (xs : List Armed) → due_in xs a ≡ None → length (filter (is_below armed_address a) xs) + length (filter (is_above armed_address a) xs) ≡ length xs
 parted a [] none = refl
 parted a (x ∷ xs) none = go (cases_eq x.address.0 a) (cases_lt x.address.0 a) (parted a xs)
   where
-    go : (x.address.0 ≡ a) ⊎ (x.address.0 ≢ a) → (x.address.0 < a) ⊎ (a ≤ x.address.0) → (due_in xs a ≡ None → length (filter (is_below a) xs) + length (filter (is_above a) xs) ≡ length xs) → length (filter (is_below a) (x ∷ xs)) + length (filter (is_above a) (x ∷ xs)) ≡ length (x ∷ xs)
+    go : (x.address.0 ≡ a) ⊎ (x.address.0 ≢ a) → (x.address.0 < a) ⊎ (a ≤ x.address.0) → (due_in xs a ≡ None → length (filter (is_below armed_address a) xs) + length (filter (is_above armed_address a) xs) ≡ length xs) → length (filter (is_below armed_address a) (x ∷ xs)) + length (filter (is_above armed_address a) (x ∷ xs)) ≡ length (x ∷ xs)
     go (inl same) place rest = absurd (none-some (due_in (x ∷ xs) a) x.due none (rw (eq-eqb x.address.0 a same) refl))
     go (inr other) (inl low) rest =
         let behind : due_in xs a ≡ None = rw (is_of-other a x other) at none in
@@ -272,10 +273,10 @@ parted a (x ∷ xs) none = go (cases_eq x.address.0 a) (cases_lt x.address.0 a) 
         rw (le-ltb x.address.0 a high, lt-ltb a x.address.0 (omega (arith, high, other))) (omega (arith, rest behind))
 
 -- no more than there were
-pub length-parted_le : (a : ℕ) (xs : List Armed) → length (filter (is_below a) xs) + length (filter (is_above a) xs) ≤ length xs
+pub length-parted_le : (a : ℕ) (xs : List Armed) → length (filter (is_below armed_address a) xs) + length (filter (is_above armed_address a) xs) ≤ length xs
 length-parted_le a [] = omega arith
 length-parted_le a (x ∷ xs) =
-    let rest : length (filter (is_below a) xs) + length (filter (is_above a) xs) ≤ length xs = length-parted_le a xs in
+    let rest : length (filter (is_below armed_address a) xs) + length (filter (is_above armed_address a) xs) ≤ length xs = length-parted_le a xs in
     elim (cases_lt x.address.0 a) [
       | inl low ↦ rw (lt-ltb x.address.0 a low, le-ltb a x.address.0 (omega (arith, low))) (omega (arith, rest))
       | inr not_low ↦
@@ -286,7 +287,7 @@ length-parted_le a (x ∷ xs) =
     ]
 
 pub length-armed : (a d : ℕ) (xs : List Armed) → due_in xs a ≡ None → length (with_due a (Some d) xs) ≡ length xs + 1
-length-armed a d xs none = omega (arith, length-append (filter (is_below a) xs) (record { address = record { 0 = a }; due = d } ∷ filter (is_above a) xs), parted a xs none)
+length-armed a d xs none = omega (arith, length-append (filter (is_below armed_address a) xs) (record { address = record { 0 = a }; due = d } ∷ filter (is_above armed_address a) xs), parted a xs none)
 
 -- there are as many pairs as rows
 pub length-arms : (slots : List (Option Armed)) → IsOneEach slots → length (arms_in slots) ≡ count_by is_some slots
@@ -303,7 +304,7 @@ length-arms (Some x ∷ slots) each =
 
 -- arming makes no more than one pair more
 pub length-armed_le : (a d : ℕ) (xs : List Armed) → length (with_due a (Some d) xs) ≤ length xs + 1
-length-armed_le a d xs = omega (arith, length-append (filter (is_below a) xs) (record { address = record { 0 = a }; due = d } ∷ filter (is_above a) xs), length-parted_le a xs)
+length-armed_le a d xs = omega (arith, length-append (filter (is_below armed_address a) xs) (record { address = record { 0 = a }; due = d } ∷ filter (is_above armed_address a) xs), length-parted_le a xs)
 
 -- what a place that isn't empty has
 pub row_there : (o : Option Armed) → IsSome o → (x : Armed) × (o ≡ Some x)

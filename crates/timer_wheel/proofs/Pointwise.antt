@@ -4,8 +4,8 @@ use Rattle.std.proofs.lemmas.Bool.{cases_Bool, cases_eq, cases_lt, lt-ltb, le-lt
 use Rattle.std.proofs.lemmas.List.Elements.{All-head, All-tail, All-cons, All-weaker}
 use Rattle.savi_kinds.specs.declared.address.Addr.{Addr}
 use Rattle.timer_wheel.specs.declared.armed.Armed.{Armed}
-use Rattle.timer_wheel.specs.Arms.{is_of, is_below, is_above, IsRising, due_in, with_due, pair_for, sooner, first_armed, due_within}
-use Rattle.timer_wheel.specs.Laws.{IsNoLater}
+use Rattle.savi_kinds.specs.Orders.{is_below, is_above, IsRising}
+use Rattle.timer_wheel.specs.Arms.{armed_address, is_of, due_in, with_due, pair_for, sooner, first_armed, due_within}
 use Rattle.timer_wheel.proofs.Rising.{behind, rest_rising, is_of-other, due_in-none}
 
 -- the first of two that is there
@@ -61,23 +61,23 @@ due_in-stops p a (x ∷ xs) stops =
 
 -- what is due for an address once something was armed or canceled for it
 pub due_in-with_same : (a : ℕ) (o : Option ℕ) (xs : List Armed) → due_in (with_due a o xs) a ≡ o
-due_in-with_same a o xs = due_in-append (filter (is_below a) xs) (pair_for a o ++ filter (is_above a) xs) a ∙ rw front (mine o)
+due_in-with_same a o xs = due_in-append (filter (is_below armed_address a) xs) (pair_for a o ++ filter (is_above armed_address a) xs) a ∙ rw front (mine o)
   where
-    front : due_in (filter (is_below a) xs) a ≡ None
-    front = due_in-stops (is_below a) a xs (λ x same. le-ltb x.address.0 a (omega (arith, same)))
+    front : due_in (filter (is_below armed_address a) xs) a ≡ None
+    front = due_in-stops (is_below armed_address a) a xs (λ x same. le-ltb x.address.0 a (omega (arith, same)))
 
-    back : due_in (filter (is_above a) xs) a ≡ None
-    back = due_in-stops (is_above a) a xs (λ x same. le-ltb a x.address.0 (omega (arith, same)))
+    back : due_in (filter (is_above armed_address a) xs) a ≡ None
+    back = due_in-stops (is_above armed_address a) a xs (λ x same. le-ltb a x.address.0 (omega (arith, same)))
 
-    mine : (p : Option ℕ) → due_in (pair_for a p ++ filter (is_above a) xs) a ≡ p
+    mine : (p : Option ℕ) → due_in (pair_for a p ++ filter (is_above armed_address a) xs) a ≡ p
     mine None = back
     mine (Some d) = rw (eq-eqb a a refl) refl
 
 -- and for another one
 pub due_in-with_other : (a b : ℕ) (o : Option ℕ) (xs : List Armed) → b ≢ a → due_in (with_due a o xs) b ≡ due_in xs b
-due_in-with_other a b o xs other = due_in-append (filter (is_below a) xs) (pair_for a o ++ filter (is_above a) xs) b ∙ go (cases_lt b a)
+due_in-with_other a b o xs other = due_in-append (filter (is_below armed_address a) xs) (pair_for a o ++ filter (is_above armed_address a) xs) b ∙ go (cases_lt b a)
   where
-    past : (p : Option ℕ) → due_in (pair_for a p ++ filter (is_above a) xs) b ≡ due_in (filter (is_above a) xs) b
+    past : (p : Option ℕ) → due_in (pair_for a p ++ filter (is_above armed_address a) xs) b ≡ due_in (filter (is_above armed_address a) xs) b
     past None = refl
     past (Some d) = rw (is_of-other b (record { address = record { 0 = a }; due = d }) (λ same. other (sym same))) refl
 
@@ -85,17 +85,17 @@ due_in-with_other a b o xs other = due_in-append (filter (is_below a) xs) (pair_
     none_behind None = refl
     none_behind (Some x) = refl
 
-    go : (b < a) ⊎ (a ≤ b) → or_else (due_in (filter (is_below a) xs) b) (due_in (pair_for a o ++ filter (is_above a) xs) b) ≡ due_in xs b
+    go : (b < a) ⊎ (a ≤ b) → or_else (due_in (filter (is_below armed_address a) xs) b) (due_in (pair_for a o ++ filter (is_above armed_address a) xs) b) ≡ due_in xs b
     go (inl low) =
-        rw (past o, due_in-stops (is_above a) b xs (λ x same. le-ltb a x.address.0 (omega (arith, same, low))), due_in-passes (is_below a) b xs (λ x same. lt-ltb x.address.0 a (omega (arith, same, low))))
+        rw (past o, due_in-stops (is_above armed_address a) b xs (λ x same. le-ltb a x.address.0 (omega (arith, same, low))), due_in-passes (is_below armed_address a) b xs (λ x same. lt-ltb x.address.0 a (omega (arith, same, low))))
         (none_behind (due_in xs b))
     go (inr high) =
         let above : a < b = omega (arith, high, other) in
-        rw (past o, due_in-stops (is_below a) b xs (λ x same. le-ltb x.address.0 a (omega (arith, same, above))))
-        (due_in-passes (is_above a) b xs (λ x same. lt-ltb a x.address.0 (omega (arith, same, above))))
+        rw (past o, due_in-stops (is_below armed_address a) b xs (λ x same. le-ltb x.address.0 a (omega (arith, same, above))))
+        (due_in-passes (is_above armed_address a) b xs (λ x same. lt-ltb a x.address.0 (omega (arith, same, above))))
 
 -- what is due for an address that is higher than those of a list's head isn't at its head
-pub behind_head : (x : Armed) (xs : List Armed) (a d : ℕ) → IsRising (x ∷ xs) → due_in xs a ≡ Some d → x.address.0 < a
+pub behind_head : (x : Armed) (xs : List Armed) (a d : ℕ) → IsRising armed_address (x ∷ xs) → due_in xs a ≡ Some d → x.address.0 < a
 behind_head x xs a d rising found =
     elim (cases_lt x.address.0 a) [
       | inl lower ↦ lower
@@ -109,11 +109,11 @@ due_in-head x xs = rw (eq-eqb x.address.0 x.address.0 refl) refl
 pub due_in-behind : (x : Armed) (xs : List Armed) (a : ℕ) → x.address.0 ≢ a → due_in (x ∷ xs) a ≡ due_in xs a
 due_in-behind x xs a other = rw (is_of-other a x other) refl
 
-pub rest_none : (x : Armed) (xs : List Armed) → IsRising (x ∷ xs) → due_in xs x.address.0 ≡ None
+pub rest_none : (x : Armed) (xs : List Armed) → IsRising armed_address (x ∷ xs) → due_in xs x.address.0 ≡ None
 rest_none x xs rising = due_in-none x.address.0 xs (behind x xs rising)
 
 -- two rising lists in which the same is due for each address are one list
-pub one_list : (xs ys : List Armed) → IsRising xs → IsRising ys → ((a : ℕ) → due_in xs a ≡ due_in ys a) → xs ≡ ys
+pub one_list : (xs ys : List Armed) → IsRising armed_address xs → IsRising armed_address ys → ((a : ℕ) → due_in xs a ≡ due_in ys a) → xs ≡ ys
 one_list [] [] rx ry same = refl
 one_list [] (y ∷ ys) rx ry same = absurd (none-some (due_in (y ∷ ys) y.address.0) y.due (sym (same y.address.0)) (due_in-head y ys))
 one_list (x ∷ xs) [] rx ry same = absurd (none-some (due_in (x ∷ xs) x.address.0) x.due (same x.address.0) (due_in-head x xs))
@@ -144,7 +144,7 @@ one_list (x ∷ xs) (y ∷ ys) rx ry same = by_address (one_list xs ys (rest_ris
         ap (λ z. z ∷ xs) head ∙ ap (λ zs. y ∷ zs) (step (rest one))
 
 -- what holds of each address and its moment holds of each pair
-pub all_pairs : (P : ℕ → ℕ → Type 0) (xs : List Armed) → IsRising xs → ((a d : ℕ) → due_in xs a ≡ Some d → P a d) → All (λ y. P y.address.0 y.due) xs
+pub all_pairs : (P : ℕ → ℕ → Type 0) (xs : List Armed) → IsRising armed_address xs → ((a d : ℕ) → due_in xs a ≡ Some d → P a d) → All (λ y. P y.address.0 y.due) xs
 all_pairs P [] rising each = λ k d within. absurd (omega (arith, within))
 all_pairs P (x ∷ xs) rising each =
     All-cons (λ y. P y.address.0 y.due) x xs (each x.address.0 x.due (due_in-head x xs))
@@ -177,8 +177,12 @@ first_late t xs late = go (first_armed xs) refl
     go None is = refl
     go (Some f) is = let above : t + 1 ≤ f.0 = first_above (t + 1) xs f (All-weaker (λ y. t < y.due) (λ y. t + 1 ≤ y.due) (λ y h. omega (arith, h)) xs late) is in rw (lt-leb f.0 t (omega (arith, above))) refl
 
+-- one pair is due sooner than another one, or at the same moment and of no higher address
+abbrev pub IsNoLater : ℕ → ℕ → ℕ → ℕ → Type 0
+IsNoLater due a other_due other_a = (due < other_due) ⊎ ((due ≡ other_due) × (a ≤ other_a))
+
 -- the least pair is the first
-pub first_is : (a d : ℕ) (xs : List Armed) → IsRising xs → due_in xs a ≡ Some d → All (λ y. IsNoLater d a y.due y.address.0) xs → first_armed xs ≡ Some (d, record { 0 = a })
+pub first_is : (a d : ℕ) (xs : List Armed) → IsRising armed_address xs → due_in xs a ≡ Some d → All (λ y. IsNoLater d a y.due y.address.0) xs → first_armed xs ≡ Some (d, record { 0 = a })
 first_is a d [] rising found least = absurd (none-some (due_in [] a) d refl found)
 first_is a d (x ∷ xs) rising found least =
     go (λ there. first_is a d xs (rest_rising x xs rising) there (All-tail (λ y. IsNoLater d a y.due y.address.0) x xs least)) (cases_Bool (is_of a x))

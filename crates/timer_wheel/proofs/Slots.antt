@@ -2,7 +2,8 @@
 use Rattle.std.proofs.Common.{◌≡◌, ◌≢◌, ◌⊎◌, ℕ, zero, suc, List, [], ◌∷◌, Option, None, Some, refl, sym, ap, ◌∙◌, subst, arith, inl, inr}
 use Rattle.std.proofs.lemmas.Bool.{cases_eq}
 use Rattle.timer_wheel.specs.declared.armed.Armed.{Armed}
-use Rattle.timer_wheel.specs.Arms.{IsRising, due_in, with_due}
+use Rattle.savi_kinds.specs.Orders.{IsRising}
+use Rattle.timer_wheel.specs.Arms.{armed_address, due_in, with_due}
 use Rattle.timer_wheel.specs.Rows.{arms_in, armed_at}
 use Rattle.timer_wheel.proofs.Rising.{IsRising-with_due}
 use Rattle.timer_wheel.proofs.Pointwise.{none-some, some-same, due_in-with_same, due_in-with_other, one_list}
@@ -19,7 +20,7 @@ pub record Has (slots : List (Option Armed)) (a d : ℕ) : Type 0 where
   pub address : armed.address.0 ≡ a
   pub due : armed.due ≡ d
 
-pub arms_in-rising : (slots : List (Option Armed)) → IsRising (arms_in slots)
+pub arms_in-rising : (slots : List (Option Armed)) → IsRising armed_address (arms_in slots)
 arms_in-rising [] i j d before within = absurd (omega (arith, within))
 arms_in-rising (None ∷ slots) i j d before within = arms_in-rising slots i j d before within
 arms_in-rising (Some armed ∷ slots) i j d before within = IsRising-with_due armed.address.0 (Some armed.due) (arms_in slots) (arms_in-rising slots) i j d before within

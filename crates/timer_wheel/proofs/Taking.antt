@@ -6,8 +6,7 @@ use Rattle.timer_wheel.specs.Arms.{due_in, first_armed, due_within}
 use Rattle.timer_wheel.specs.Rows.{arms_in, armed_at}
 use Rattle.timer_wheel.specs.Rings.{slice_of, rank_of}
 use Rattle.timer_wheel.specs.Searches.{IsSoonestOf, LeastOf}
-use Rattle.timer_wheel.specs.Laws.{IsNoLater}
-use Rattle.timer_wheel.proofs.Pointwise.{all_pairs, first_is, first_late}
+use Rattle.timer_wheel.proofs.Pointwise.{all_pairs, IsNoLater, first_is, first_late}
 use Rattle.timer_wheel.proofs.Slots.{IsOneEach, Has, has_row, due_at, arms_in-rising}
 use Rattle.timer_wheel.proofs.Seeking.{Fit}
 

@@ -1,7 +1,7 @@
 -- What is armed: pairs of an address and the moment at which it is due, in rising order of address.
-use Rattle.std.specs.Prelude.{ℕ, ◌<◌, ◌==◌, nat_lt, nat_le, Bool, if◌then◌else◌, Option, None, Some, List, [], ◌∷◌, ◌++◌, filter}
-use Rattle.std.specs.List.{AllPairs}
+use Rattle.std.specs.Prelude.{ℕ, ◌==◌, nat_le, Bool, if◌then◌else◌, Option, None, Some, List, [], ◌∷◌, ◌++◌, filter}
 use Rattle.savi_kinds.specs.declared.address.Addr.{Addr}
+use Rattle.savi_kinds.specs.Orders.{is_below, is_above}
 use Rattle.timer_wheel.specs.declared.armed.Armed.{Armed}
 
 -- the pairs that are armed, in rising order of address, and how many there may be
@@ -9,21 +9,13 @@ pub record Wheel : Type 0 where
   pub arms : List Armed
   pub most : ℕ
 
+-- the address of a pair as a number
+abbrev pub armed_address : Armed → ℕ
+armed_address armed = armed.address.0
+
 -- whether a pair is that of an address
 abbrev pub is_of : ℕ → Armed → Bool
 is_of a armed = armed.address.0 == a
-
--- whether its address is lower
-abbrev pub is_below : ℕ → Armed → Bool
-is_below a armed = nat_lt armed.address.0 a
-
--- whether its address is higher
-abbrev pub is_above : ℕ → Armed → Bool
-is_above a armed = nat_lt a armed.address.0
-
--- each pair has a higher address than those before it
-abbrev pub IsRising : List Armed → Type 0
-IsRising arms = AllPairs (λ earlier later. earlier.address.0 < later.address.0) arms
 
 -- the moment at which an address is due
 abbrev pub due_in : List Armed → ℕ → Option ℕ
@@ -37,7 +29,7 @@ pair_for a (Some due) = record { address = record { 0 = a }; due = due } ∷ []
 
 -- the pairs once an address is due at this moment, or at none: the lower ones, its own, the higher ones
 abbrev pub with_due : ℕ → Option ℕ → List Armed → List Armed
-with_due a due arms = filter (is_below a) arms ++ (pair_for a due ++ filter (is_above a) arms)
+with_due a due arms = filter (is_below armed_address a) arms ++ (pair_for a due ++ filter (is_above armed_address a) arms)
 
 -- which is due sooner: this pair, whose address is the lower one, or the other
 abbrev pub sooner : Armed → Option (ℕ × Addr) → Option (ℕ × Addr)

@@ -1,6 +1,7 @@
 -- The buckets of a wheel, each a ring of nodes in rising order of moment, then address. A node below 1,024 is the end of a
 -- bucket's ring, and node 1,024 + key is the row under this key.
-use Rattle.std.specs.Prelude.{ℕ, ◌≡◌, ◌≢◌, ◌<◌, ◌+◌, ◌-◌, ◌*◌, ◌/◌, ◌%◌, ◌^◌, ◌==◌, nat_lt, Bool, true, false, ◌||◌, ◌&&◌, if◌then◌else◌, is_some, Option, None, Some, List, slice_index}
+use Rattle.std.specs.Prelude.{ℕ, ◌≡◌, ◌≢◌, ◌<◌, ◌+◌, ◌-◌, ◌*◌, ◌/◌, ◌%◌, ◌^◌, ◌==◌, nat_lt, Bool, true, false, ◌||◌, if◌then◌else◌, is_some, Option, None, Some, List, slice_index}
+use Rattle.savi_kinds.specs.Orders.{is_due_before}
 use Rattle.timer_wheel.specs.declared.armed.Armed.{Armed}
 use Rattle.timer_wheel.specs.Rows.{armed_at}
 
@@ -12,9 +13,9 @@ slice_of armed = armed.due / 64
 abbrev pub bucket_of : Armed → ℕ
 bucket_of armed = slice_of armed % 1024
 
--- whether a pair is due sooner than another one, or at the same moment and of a lower address
+-- whether a pair is due before another one, by moment and then by address
 abbrev pub is_sooner : Armed → Armed → Bool
-is_sooner x y = nat_lt x.due y.due || (x.due == y.due && nat_lt x.address.0 y.address.0)
+is_sooner x y = is_due_before x.due x.address.0 y.due y.address.0
 
 -- which of two is sooner, where there are any
 abbrev pub sooner_of : Option Armed → Option Armed → Option Armed

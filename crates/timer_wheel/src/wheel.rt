@@ -1,7 +1,8 @@
 //! The pairs that are armed.
 
 ghost use Rattle.std.specs.Prelude.{◌≡◌, ◌^◌, ◌≤◌, ◌<◌, ◌⊎◌, [], None, Some, IfOk, IsSome, is_some, length};
-ghost use Rattle.timer_wheel.specs.Arms.{IsRising, due_in, with_due, first_armed, due_within, without_taken};
+ghost use Rattle.savi_kinds.specs.Orders.{IsRising};
+ghost use Rattle.timer_wheel.specs.Arms.{armed_address, due_in, with_due, first_armed, due_within, without_taken};
 
 use crate::armed::{Armed, SLICE_MS};
 use crate::buckets::{BUCKETS, put_in, renew, seek, take_out};
@@ -94,7 +95,7 @@ impl TimerWheel {
     /// those of the time that has passed since the last call of this or of `is_due`, and those from the earliest moment
     /// armed since.
     pub fn next_due(&mut self, t: Moment) -> Option<(Moment, Addr)>
-        ensures rising { IsRising self.old.arms }
+        ensures rising { IsRising armed_address self.old.arms }
         ensures value { result ≡ due_within t (first_armed self.old.arms) }
         ensures arms { self.new ≡ record self.old { arms = without_taken result self.old.arms } }
     {
@@ -106,7 +107,7 @@ impl TimerWheel {
     /// Whether anything is due at or before `t` (ms). Its cost is that of the search of `next_due`, which need not pass the
     /// same buckets again: the cursor is moved on, and nothing else is changed.
     pub fn is_due(&mut self, t: Moment) -> bool
-        ensures rising { IsRising self.old.arms }
+        ensures rising { IsRising armed_address self.old.arms }
         ensures value { result ≡ is_some (due_within t (first_armed self.old.arms)) }
         ensures same { self.new ≡ self.old }
     {
@@ -115,7 +116,7 @@ impl TimerWheel {
 
     // What is due first, if its moment isn't after t.
     fn first_due(&mut self, t: Moment) -> Option<(Moment, Addr)>
-        ensures rising { IsRising self.old.arms }
+        ensures rising { IsRising armed_address self.old.arms }
         ensures value { result ≡ due_within t (first_armed self.old.arms) }
         ensures same { self.new ≡ self.old }
     {

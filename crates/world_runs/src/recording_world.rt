@@ -3,7 +3,7 @@
 ghost use Rattle.std.specs.Prelude.{◌≡◌, true, Some};
 ghost use Rattle.savi_kinds.specs.Ports.{number_of};
 ghost use Rattle.savi_ends.specs.MemWorlds.{book_of};
-ghost use Rattle.savi_ends.specs.Places.{OthersStay};
+ghost use Rattle.savi_ends.specs.Places.{OtherPortsStay, IsPortOut, IsPortKept, IsControlOut, IsControlKept};
 
 use arrayvec::ArrayVec;
 use savi_ends::{MemClock, MemEnds, MemSink, MemSource, MemWorld, OpenFailed, Std, World};
@@ -107,17 +107,17 @@ impl World for RecordingWorld {
     }
 
     fn keep_port(&mut self, n: Port, ends: MemEnds)
-        requires { ((book_of self.old.world).ports (number_of n)).is_out ≡ true }
-        ensures kept { ((book_of self.new.world).ports (number_of n)).stands ≡ Some ends }
-        ensures others { OthersStay (book_of self.old.world).ports (book_of self.new.world).ports (number_of n) }
+        requires { IsPortOut (book_of self.old.world).ports (number_of n) }
+        ensures kept { IsPortKept (book_of self.old.world).ports (book_of self.new.world).ports (number_of n) ends }
+        ensures others { OtherPortsStay (book_of self.old.world).ports (book_of self.new.world).ports (number_of n) }
         ensures rest { book_of self.new.world ≡ record (book_of self.old.world) { ports = (book_of self.new.world).ports } }
     {
         self.world.keep_port(n, ends);
     }
 
     fn keep_control(&mut self, ends: MemEnds)
-        requires { (book_of self.old.world).control.is_out ≡ true }
-        ensures kept { (book_of self.new.world).control.stands ≡ Some ends }
+        requires { IsControlOut (book_of self.old.world).control }
+        ensures kept { IsControlKept (book_of self.old.world).control (book_of self.new.world).control ends }
         ensures rest { book_of self.new.world ≡ record (book_of self.old.world) { control = (book_of self.new.world).control } }
     {
         self.world.keep_control(ends);

@@ -3,6 +3,8 @@
 //! A lock has places to sleep at, with numbers that its user gives a meaning. Nothing depends on them but time: a sleep has
 //! an end whether or not it is woken, and says nothing of the value.
 
+ghost use Rattle.std.specs.Prelude.{◌≡◌};
+
 use crate::kept::Kept;
 use crate::lock::TableLock;
 use std::alloc::{AllocError, Global};
@@ -86,7 +88,15 @@ pub(crate) fn places(alloc: Global) -> Result<Vec<Sleeper>, AllocError> {
     Ok(sleepers)
 }
 
+/// A place whose sleeper was woken.
+#[derive(Clone, Copy)]
+pub struct Woken {
+    place: u32,
+}
+
 impl<V: Kept> TableLock<V> {
+    ghost use Rattle.table_lock.specs.Wakings.{woken_place};
+
     /// Sleeps at a place from 0 to 33 until it is woken, for so long at most; or not at all where it was woken since its
     /// last sleep, or there is no such place. It may end early. One thread at a time may sleep at a place.
     ///
@@ -98,11 +108,14 @@ impl<V: Kept> TableLock<V> {
         }
     }
 
-    /// Wakes who sleeps at a place; where nobody does, the next sleep there ends at once. O(1), and a call of the system
-    /// only where somebody sleeps there.
-    pub fn wake(&self, place: u32) {
+    /// Wakes who sleeps at a place; where nobody does, the next sleep there ends at once. The answer is that place. O(1),
+    /// and a call of the system only where somebody sleeps there.
+    pub fn wake(&self, place: u32) -> Woken
+        ensures { woken_place result ≡ place }
+    {
         if let Some(sleeper) = self.sleepers.get(place as usize) {
             sleeper.wake();
         }
+        Woken { place }
     }
 }

@@ -1,7 +1,8 @@
 use Rattle.std.proofs.Common.{◌≡◌, ◌<◌, ◌+◌, ℕ, Some, None, length, sym, ◌∙◌, subst, arith}
 use Rattle.addr_index.specs.Homes.{home_of}
 use Rattle.addr_index.specs.Ways.{IsOnWay, IsOffWay, IsRound}
-use Rattle.addr_index.specs.Places.{in_place, ClosesGap}
+use Rattle.addr_index.specs.Places.{in_place}
+use Rattle.addr_index.proofs.Gaps.{ClosesGap}
 use Rattle.addr_index.proofs.Closing.{closing_begun, closing_done, closing_kept, closing_moved, none_unless}
 use Rattle.addr_index.proofs.Table.{read_place}
 use Rattle.addr_index.proofs.places.close_gap.Goals as goal

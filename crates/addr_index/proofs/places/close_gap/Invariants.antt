@@ -1,5 +1,5 @@
 use Rattle.std.proofs.Common.{length}
-use Rattle.addr_index.specs.Places.{ClosesGap}
+use Rattle.addr_index.proofs.Gaps.{ClosesGap}
 use Rattle.addr_index.proofs.places.close_gap.Given as goal
 
 abbrev pub invariant-loop-steps : goal.invariant-loop-steps

@@ -1,6 +1,7 @@
 use Rattle.std.proofs.Common.{ℕ, ◌<◌, ◌+◌, length}
-use Rattle.addr_index.specs.Places.{in_place, IsOther}
-use Rattle.addr_index.specs.Ways.{IsPassedPlace, IsRound}
+use Rattle.addr_index.specs.Places.{in_place}
+use Rattle.addr_index.specs.Ways.{IsRound}
+use Rattle.addr_index.proofs.Gaps.{IsOther, IsPassedPlace}
 use Rattle.addr_index.proofs.places.search.Given as goal
 
 abbrev pub invariant-loop : goal.invariant-loop

@@ -1,7 +1,8 @@
 use Rattle.std.proofs.Common.{◌≡◌, ◌≤◌, ◌<◌, ◌+◌, ◌-◌, ◌/◌, ℕ, length, get_or, List, ap, arith}
 use Rattle.slab.specs.Slab.{get}
-use Rattle.bind_table.specs.declared.row.Row.{Row}
-use Rattle.bind_table.specs.Rows.{address_of, is_below}
+use Rattle.savi_access.specs.declared.row.Row.{Row}
+use Rattle.savi_kinds.specs.Orders.{is_below}
+use Rattle.savi_access.specs.Rows.{address_of}
 use Rattle.bind_table.specs.Kept.{rows_under}
 use Rattle.bind_table.proofs.Keys.{keys_length, told_some, told_get}
 use Rattle.bind_table.proofs.Places.{lower_half, upper_half, length-filter_at}
@@ -34,5 +35,5 @@ returns c =
     let rows : List Row = rows_under c.args.rows.now c.args.keys.now in
     let size : length c.args.keys.now ≡ length rows = keys_length (get c.args.rows.now) c.args.keys.now rows c.requires.told in
     let same : c.loop-low.low ≡ c.loop-low.high = omega (arith, c.loop-low.invariant.0, c.loop-low-test.false) in
-    length-filter_at (is_below c.args.a.0) rows c.loop-low.low (omega (arith, same, c.loop-low.invariant.1, size)) c.loop-low.invariant.2
+    length-filter_at (is_below address_of c.args.a.0) rows c.loop-low.low (omega (arith, same, c.loop-low.invariant.1, size)) c.loop-low.invariant.2
     (λ k d from to. c.loop-low.invariant.3 k d (omega (arith, from, same)) (omega (arith, to, size)))

@@ -25,7 +25,7 @@ loop-octet-preserved g c =
     let written : take (n + 1) (set buf n octet) ≡ take n buf ++ (octet ∷ []) = take_more_set buf n octet inside in
     let octets = taken_more c.args.ahead.now was.taken.0 one.0 (take n buf) c.loop-octet.ahead (octet ∷ c.next.new.self) was.taken.2 one.2 in
     record {
-      later = omega (arith, was.later, c.in-Is.ensures.later);
+      still = c.in-Is.ensures.still (λ same. absurd cc) ∙ was.still;
       size = length-set buf n octet ∙ was.size;
       within = omega (arith, was.size, inside);
       apart = subst HasNoFeed (sym written) (no_feed_more (take n buf) octet was.apart c.if-octet-eq-LINE_FEED.false);

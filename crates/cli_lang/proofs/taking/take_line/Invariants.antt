@@ -6,7 +6,7 @@ use Rattle.cli_lang.proofs.taking.take_line.Given as goal
 -- what was taken so far are the octets in the buffer and those that are held
 abbrev pub invariant-loop-octet : goal.invariant-loop-octet
 invariant-loop-octet g l = record {
-  later : g.S.Source.faults l.initial.source ≤ g.S.Source.faults l.source;
+  still : g.S.Source.faults l.source ≡ g.S.Source.faults l.initial.source;
   size : length l.buf ≡ 120;
   within : l.n ≤ 120;
   apart : HasNoFeed (take l.n l.buf);

@@ -5,6 +5,7 @@ use Rattle.savi_ends.specs.Octets.{in_front}
 use Rattle.hist_store.specs.JournalTexts.{address_text, journal_header_text}
 use Rattle.journal_check.specs.Pieces.{to_come}
 use Rattle.journal_check.specs.Headers.{IsPlan}
+use Rattle.journal_check.specs.Judging.{checked_of}
 use Rattle.journal_check.proofs.Heading.{bad_lists, plan_is, told_header}
 use Rattle.journal_check.proofs.header.read_header.Goals as goal
 
@@ -26,4 +27,4 @@ returns-in_err-lists-clause-bad g c =
     let settings = c.in_ok-settings.ensures.settings in
     let whole = to_come c.args.lines.now (g.S.Source.left c.args.source.now) in
     let mid = to_come c.read_settings.new.lines (g.S.Source.left c.read_settings.new.source) in
-    rw (p.1, p.2) (bad_lists c.in_err-lists.field-0.0 c.in_ok-settings.settings whole mid settings.0 settings.1 c.in_err-lists.ensures.bad)
+    rw (p.1, p.2) (bad_lists (checked_of c.in_err-lists.field-0.0) c.in_ok-settings.settings whole mid settings.0 settings.1 c.in_err-lists.ensures.bad)

@@ -1,4 +1,4 @@
-use Rattle.std.proofs.Common.{◌≡◌, ◌+◌, ◌++◌, ℕ, List, IfSome, length, ap, sym, ◌∙◌, subst, arith}
+use Rattle.std.proofs.Common.{◌≡◌, ◌+◌, ◌++◌, ℕ, List, IfSome, length, refl, ap, sym, ◌∙◌, subst, arith}
 use Rattle.savi_ends.specs.Octets.{in_front}
 use Rattle.hist_store.specs.TextOfLines.{lines_text}
 use Rattle.journal_check.specs.declared.answer.Checked.{Checked}
@@ -8,6 +8,7 @@ use Rattle.journal_check.specs.Pieces.{to_come}
 use Rattle.journal_check.specs.SettingLines.{AreSettings, setting_lines}
 use Rattle.journal_check.specs.ListLines.{IsListed, IsNotListed, list_lines, Adds}
 use Rattle.journal_check.specs.declared.lists.Added.TheVariants as added
+use Rattle.journal_check.specs.Judging.{checked_of}
 use Rattle.journal_check.specs.Answers.{IfRead, IsBadHeader}
 use Rattle.journal_check.proofs.ListsRead.{are_empty, same_lists}
 use Rattle.journal_check.proofs.Heading.{none_told, list_more, all_taken, bad_list, none_listed, broken_next, same_number}
@@ -15,11 +16,11 @@ use Rattle.journal_check.proofs.header.read_lists.Goals as goal
 
 pub listed-init : goal.listed-init
 listed-init g c =
-    let made = c.in-Ok.ensures in
+    let made = c.requires in
     record {
-      later = omega arith;
-      are = are_empty c.in-Ok.lists.ports.items c.in-Ok.lists.prefixes.items made.0 made.1;
-      told = none_told c.in-Ok.lists.ports.items c.in-Ok.lists.prefixes.items (to_come c.args.lines.now (g.S.Source.left c.args.source.now)) made.0 made.1;
+      still = refl;
+      are = are_empty c.args.lists.ports.items c.args.lists.prefixes.items made.0 made.1;
+      told = none_told c.args.lists.ports.items c.args.lists.prefixes.items (to_come c.args.lines.now (g.S.Source.left c.args.source.now)) made.0 made.1;
     }
 
 pub listed-preserved : goal.listed-preserved
@@ -32,7 +33,7 @@ listed-preserved g c =
     let after = to_come c.next.new.self (g.S.Source.left c.next.new.source) in
     let add = subst (λ (t : List ℕ). IsListed t old.ports.items old.prefixes.items new.ports.items new.prefixes.items) c.as_slice.ensures.value c.in-Line-take.ensures in
     record {
-      later = omega (arith, was.later, c.next.ensures.later);
+      still = c.in-Line.ensures.still (λ same. cc) ∙ was.still;
       are = add.lists;
       told = list_more c.next.new.line.items old.ports.items old.prefixes.items new.ports.items new.prefixes.items whole mid after was.told c.in-Line.ensures.taken.1 add;
     }
@@ -83,7 +84,7 @@ returns-in-Bad-clause-bad g c =
     let after = to_come c.next.new.self (g.S.Source.left c.next.new.source) in
     let not = subst (λ (t : List ℕ). IsNotListed old.ports.items old.prefixes.items t) c.as_slice.ensures.value c.in-Bad.ensures.0 in
     let number = same_number old.ports.items old.prefixes.items new.ports.items new.prefixes.items c.in-Bad.ensures.1 c.in-Bad.ensures.2 in
-    let answer : c.bad_listed-in-Bad.result ≡ BadLine (length old.ports.items + length old.prefixes.items + 12) = c.bad_listed-in-Bad.ensures ∙ ap BadLine number in
+    let answer : checked_of c.bad_listed-in-Bad.result ≡ BadLine (length old.ports.items + length old.prefixes.items + 12) = c.bad_listed-in-Bad.ensures ∙ ap BadLine number in
     subst (λ (a : Checked). IfRead a ((s : Settings) → AreSettings s → IfSome (in_front (lines_text (setting_lines s)) whole) (λ octets. IsBadHeader octets a))) (sym answer)
     (bad_list old.ports.items old.prefixes.items whole mid was.are was.told
     (λ s. none_listed s old.ports.items old.prefixes.items line mid after c.in-Line.ensures.taken.0 was.are not c.in-Line.ensures.taken.1))

@@ -8,7 +8,7 @@ use Rattle.journal_check.proofs.header.read_lists.Given as goal
 -- the text begins with the lines of the lists
 abbrev pub invariant-listed : goal.invariant-listed
 invariant-listed g l = record {
-  later : g.S.Source.faults l.initial.source ≤ g.S.Source.faults l.source;
+  still : g.S.Source.faults l.source ≡ g.S.Source.faults l.initial.source;
   are : AreLists l.lists.ports.items l.lists.prefixes.items;
   told : to_come l.initial.lines (g.S.Source.left l.initial.source) ≡ in_front (lines_text (list_lines l.lists.ports.items l.lists.prefixes.items)) (to_come l.lines (g.S.Source.left l.source));
 }

@@ -1,4 +1,4 @@
-use Rattle.std.proofs.Common.{◌≡◌, ℕ, true, false, List, IfSome, ap, sym, ◌∙◌, subst, arith}
+use Rattle.std.proofs.Common.{◌≡◌, ℕ, true, false, List, IfSome, refl, ap, sym, ◌∙◌, subst, arith}
 use Rattle.savi_ends.specs.Octets.{in_front}
 use Rattle.hist_store.specs.TextOfLines.{lines_text}
 use Rattle.journal_check.specs.declared.answer.Checked.{Checked}
@@ -11,7 +11,7 @@ use Rattle.journal_check.proofs.header.read_settings.Goals as goal
 
 pub loop-number-init : goal.loop-number-init
 loop-number-init g c = record {
-  later = omega arith;
+  still = refl;
   settings = c.new-settings.ensures;
   told = sym (in_front_none (to_come c.args.lines.now (g.S.Source.left c.args.source.now)));
 }
@@ -27,7 +27,7 @@ loop-number-preserved g c =
     let yes : c.read.result ≡ true = grind (arith, c.if-not-read.false) in
     let read = subst (λ (t : List ℕ). IsRead n t old c.read.new.self) c.as_slice.ensures.value (c.read.ensures.read yes) in
     record {
-      later = omega (arith, was.later, c.next.ensures.later);
+      still = c.in-Line.ensures.still (λ same. cc) ∙ was.still;
       settings = read.settings;
       told = read_more n c.next.new.line.items old c.read.new.self whole mid after was.told c.in-Line.ensures.taken.1 read;
     }

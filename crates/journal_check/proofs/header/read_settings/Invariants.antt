@@ -8,7 +8,7 @@ use Rattle.journal_check.proofs.header.read_settings.Given as goal
 -- the text begins with the lines that were read
 abbrev pub invariant-loop-number : goal.invariant-loop-number
 invariant-loop-number g l = record {
-  later : g.S.Source.faults l.initial.source ≤ g.S.Source.faults l.source;
+  still : g.S.Source.faults l.source ≡ g.S.Source.faults l.initial.source;
   settings : AreSettings l.settings;
   told : to_come l.initial.lines (g.S.Source.left l.initial.source) ≡ in_front (lines_text (before l.number l.settings)) (to_come l.lines (g.S.Source.left l.source));
 }

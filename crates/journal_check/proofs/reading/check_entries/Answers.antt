@@ -12,6 +12,7 @@ use Rattle.journal_check.specs.Headers.{IsPlan}
 use Rattle.journal_check.specs.Pieces.{to_come}
 use Rattle.journal_check.specs.Answers.{past_text, Ends, IfRead, IsAnswerBehind, next_line}
 use Rattle.journal_check.specs.declared.turns.Turn.TheVariants.{Stands}
+use Rattle.journal_check.specs.Judging.{checked_of}
 use Rattle.journal_check.specs.Turns.{SaysWrong, SaysNothing, MadeTurn}
 use Rattle.journal_check.specs.declared.answer.Checked.{Checked}
 use Rattle.journal_check.specs.declared.answer.Checked.TheVariants.{Wrong, BadLine}
@@ -23,7 +24,7 @@ entries-init g c =
     let m = c.args.core.now in
     let rest = to_come c.args.lines.now (g.S.Source.left c.args.source.now) in
     record {
-      later = omega arith;
+      still = refl;
       plan = refl;
       legal = subst (λ (past : List Row). IsLegal m.plan empty past) (sym c.requires.start) tt;
       bytes = subst AreOctets (sym c.requires.start) (All-nil (λ (r : Row). IsBytes r.octets));
@@ -38,7 +39,7 @@ entries-preserved g c =
     let kept = kept_more c.entries.core c.take_turn.new.core c.next.new.line.items _ before after was.legal was.bytes was.told c.in-Line.ensures.taken.1
     (subst (λ (line : List ℕ). MadeTurn c.entries.core line c.take_turn.new.core Stands) c.as_slice.ensures.value c.in-Stands.ensures) in
     record {
-      later = omega (arith, was.later, c.next.ensures.later);
+      still = c.in-Line.ensures.still (λ same. cc) ∙ was.still;
       plan = kept.plan ∙ was.plan;
       legal = kept.legal;
       bytes = kept.bytes;
@@ -86,9 +87,9 @@ returns-in-Last-clause-answer g c =
     let after = to_come c.next.new.self (g.S.Source.left c.next.new.source) in
     let whole = in_front (journal_header_text address_text c.args.core.now.plan) (to_come c.args.lines.now (g.S.Source.left c.args.source.now)) in
     let plan_is = subst IsPlan (sym was.plan) c.requires.plan in
-    let ends = subst (λ (n : Machine). Ends n.plan n.past after c.finish.result) c.in-Last.ensures.2 c.finish.ensures.ends in
-    answered_if m.plan m.past whole before c.finish.result plan_is was.legal was.bytes was.told
-    (judged_last m.plan m.past c.next.new.line.items before after c.finish.result c.in-Line.ensures.taken.1 c.in-Last.ensures.0
+    let ends = subst (λ (n : Machine). Ends n.plan n.past after (checked_of c.finish.result)) c.in-Last.ensures.2 c.finish.ensures.ends in
+    answered_if m.plan m.past whole before (checked_of c.finish.result) plan_is was.legal was.bytes was.told
+    (judged_last m.plan m.past c.next.new.line.items before after (checked_of c.finish.result) c.in-Line.ensures.taken.1 c.in-Last.ensures.0
     (sym c.as_slice.ensures.value ∙ c.in-Last.ensures.1) ends)
 
 pub returns-in-Bad-clause-answer : goal.returns-in-Bad-clause-answer

@@ -11,7 +11,7 @@ use Rattle.journal_check.proofs.reading.check_entries.Given as goal
 -- the text begins with the header and the lines of the entries that stand, and the rest is to come
 abbrev pub invariant-entries : goal.invariant-entries
 invariant-entries g l = record {
-  later : g.S.Source.faults l.initial.source ≤ g.S.Source.faults l.source;
+  still : g.S.Source.faults l.source ≡ g.S.Source.faults l.initial.source;
   plan : l.core.plan ≡ l.initial.core.plan;
   legal : IsLegal l.core.plan empty l.core.past;
   bytes : AreOctets l.core.past;

@@ -18,7 +18,7 @@ pub loop-init : goal.loop-init
 loop-init g c = record {
   running = new_runs c.args.lock.now (Egress c.args.port) c.args.turns.pass c.requires;
   sending = sending_begins g.K.Sink.written g.K.Sink.faults (lock_plan c.args.lock.now) c.args.format c.args.port c.args.sink.now (past_seen c.args.turns.pass) c.begin.new.sink
-      c.requires.nothing c.in-Done.ensures.extends c.in-Done.ensures.later;
+      c.requires.nothing c.in-Done.ensures.extends (c.in-Done.ensures.still refl);
 }
 
 pub loop-preserved-in-Done-write_batch : goal.loop-preserved-in-Done-write_batch
@@ -30,7 +30,7 @@ loop-preserved-in-Done-write_batch g c =
     record {
       running = at_as c.args.lock.now (Egress c.args.port) next came drains.Took c.in-Took.is c.drain_turn-next.ensures.state;
       sending = sending_sends g.K.Sink.written g.K.Sink.faults (lock_plan c.args.lock.now) c.args.format c.args.port c.args.sink.now (past_seen c.loop.turns.pass) t.found t.legal t.later
-          batch (past_seen next) t.did.1 t.did.2 c.loop.sink c.write_batch.new.sink c.loop.invariant.sending c.in-Done-write_batch.ensures.extends c.in-Done-write_batch.ensures.later;
+          batch (past_seen next) t.did.1 t.did.2 c.loop.sink c.write_batch.new.sink c.loop.invariant.sending c.in-Done-write_batch.ensures.extends (c.in-Done-write_batch.ensures.still refl);
     }
 
 pub returns-in-Failed-write_batch-clause-row : goal.returns-in-Failed-write_batch-clause-row

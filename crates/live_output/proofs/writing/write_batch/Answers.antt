@@ -11,7 +11,7 @@ use Rattle.live_output.proofs.writing.write_batch.Goals as goal
 
 pub loop-i-init : goal.loop-i-init
 loop-i-init g c = record {
-  later = omega arith;
+  still = refl;
   holds = subst (λ (l : List ℕ). Holds (g.K.Sink.written c.args.sink.now) (g.K.Sink.written c.args.sink.now) l []) (sym c.clear.ensures) (holds_all (g.K.Sink.written c.args.sink.now) []);
 }
 
@@ -20,7 +20,7 @@ loop-i-preserved g c =
     let record_is = record_of c.args.format (item_with c.item-moment.result.0 c.item-moment.result.1.now) in
     let upto = records_upto c.args.format c.args.batch.now c.loop-i.i (item_with c.item-moment.result.0 c.item-moment.result.1.now) (omega arith) c.item-moment.ensures.item in
     record {
-      later = omega (arith, c.loop-i.invariant.later, c.in-Done.ensures.later);
+      still = c.in-Done.ensures.still refl ∙ c.loop-i.invariant.still;
       holds = subst (λ (l : List ℕ). Holds (g.K.Sink.written c.args.sink.now) (g.K.Sink.written c.write_record.new.sink) c.write_record.new.gathered.octets.items l) (sym upto)
           (holds_more (g.K.Sink.written c.args.sink.now) (g.K.Sink.written c.loop-i.sink) (g.K.Sink.written c.write_record.new.sink) c.loop-i.gathered.octets.items (records_of c.args.format (take c.loop-i.i c.args.batch.now)) c.loop-i.invariant.holds
           c.write_record.new.gathered.octets.items record_is (c.in-Done.ensures.done refl));

@@ -21,7 +21,9 @@ returns-clause-ends g c plan base before now old new legal goes_on row =
       source = row.source;
       sink = row.sink;
       broken = λ failed. row.broken (ended ∙ failed);
+      still = λ other. row.still (λ failed. other (sym ended ∙ failed));
       unwritten = λ failed. row.unwritten (ended ∙ failed);
+      still_out = λ other. row.still_out (λ failed. other (sym ended ∙ failed));
     }
 
 pub returns-clause-none : goal.returns-clause-none

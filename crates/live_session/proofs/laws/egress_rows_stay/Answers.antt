@@ -1,4 +1,4 @@
-use Rattle.std.proofs.Common.{◌≡◌, ℕ, List, Option, Some, subst, ap, ◌∙◌}
+use Rattle.std.proofs.Common.{◌≡◌, ℕ, List, Option, Some, subst, sym, ap, ◌∙◌}
 use Rattle.savi_kinds.specs.declared.entry.How.{How}
 use Rattle.savi_history.specs.PortOutputs.{FitsOutput}
 use Rattle.savi_history.specs.Queues.{Item}
@@ -15,4 +15,5 @@ returns g c plan base format port before now old new legal goes_on row =
       fits = subst (λ (x : List Item × List ℕ × Option How). FitsOutput (g.K.Sink.written old) (g.K.Sink.written new) (output_text format x.0) x.1 x.2) (λ i. (items i, sure i, ended i)) row.fits;
       later = row.later;
       broken = λ failed. row.broken (ended ∙ failed);
+      still = λ other. row.still (λ failed. other (sym ended ∙ failed));
     }

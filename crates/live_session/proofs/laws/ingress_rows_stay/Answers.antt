@@ -1,4 +1,4 @@
-use Rattle.std.proofs.Common.{◌≡◌, ℕ, List, Option, Some, subst, ◌∙◌}
+use Rattle.std.proofs.Common.{◌≡◌, ℕ, List, Option, Some, subst, sym, ◌∙◌}
 use Rattle.savi_kinds.specs.Arrivals.{Arrival}
 use Rattle.savi_kinds.specs.declared.entry.How.{How}
 use Rattle.live_session.specs.LiveInputs.{FitsInput, AreStamped}
@@ -15,4 +15,5 @@ returns g c plan base format port before now old new clock later legal goes_on r
       stamped = subst (λ (x : List Arrival × Option How). AreStamped format (g.C.Clock.readings clock) (g.C.Clock.readings later) x.0 x.1) (λ i. (arrivals i, ended i)) row.stamped;
       later = row.later;
       broken = λ failed. row.broken (ended ∙ failed);
+      still = λ other. row.still (λ failed. other (sym ended ∙ failed));
     }

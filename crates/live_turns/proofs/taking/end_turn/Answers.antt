@@ -7,6 +7,7 @@ use Rattle.core_keep.specs.Pasts.{coded}
 use Rattle.table_lock.specs.Passes.{pass_number, pass_seen}
 use Rattle.live_turns.specs.Seats.{kept_fixed}
 use Rattle.live_turns.specs.TurnKinds.{DidEnd}
+use Rattle.live_turns.specs.Wakes.{Wakes}
 use Rattle.live_turns.proofs.Entering.{end_one, end_state}
 use Rattle.live_turns.proofs.Turning.{Finds, finds, left_of, may_leave, stands, turned}
 use Rattle.live_turns.proofs.taking.end_turn.Goals as goal
@@ -41,8 +42,17 @@ returns-clause-turned g c =
     finds c.args.lock.now c.args.who c.args.turns.pass c.requires.running c.into_pass.result c.value.result.now c.enter-held.result.place.me.0.seen c.into_pass.ensures
     (ap (λ (k : KeptCore). coded k.core.value.past) c.value.ensures.value ∙ c.enter-held.ensures.seen) c.enter-held.ensures.extends c.enter-held.ensures.own
     (ap kept_fixed c.value.ensures.value ∙ c.enter-held.ensures.fixed) in
-    turned c.args.lock.now c.args.who c.args.turns.pass c.requires.running c.value.result.now c.end.new.kept c.after.result.pass found (ap pass_seen c.after.ensures ∙ c.leave-pass.ensures.seen)
+    turned c.args.lock.now c.args.who c.args.turns.pass c.requires.running c.value.result.now c.end.new.kept c.after.result.pass found (ap pass_seen c.after.ensures.pass ∙ c.leave-pass.ensures.seen)
     (DidEnd c.args.who c.args.how) c.end.ensures.legal c.end.ensures.did
+
+pub returns-clause-wakes : goal.returns-clause-wakes
+returns-clause-wakes g c =
+    let found : Finds c.args.lock.now c.args.who c.args.turns.pass c.value.result.now =
+    finds c.args.lock.now c.args.who c.args.turns.pass c.requires.running c.into_pass.result c.value.result.now c.enter-held.result.place.me.0.seen c.into_pass.ensures
+    (ap (λ (k : KeptCore). coded k.core.value.past) c.value.ensures.value ∙ c.enter-held.ensures.seen) c.enter-held.ensures.extends c.enter-held.ensures.own
+    (ap kept_fixed c.value.ensures.value ∙ c.enter-held.ensures.fixed) in
+    turned c.args.lock.now c.args.who c.args.turns.pass c.requires.running c.value.result.now c.end.new.kept c.after.result.pass found (ap pass_seen c.after.ensures.pass ∙ c.leave-pass.ensures.seen)
+    (Wakes (DidEnd c.args.who c.args.how) c.after.result.woken.items) c.end.ensures.legal (c.end.ensures.did, (λ to of grown. rw c.after.ensures.woken (c.wake_all-woken.ensures to)))
 
 pub returns-clause-ended : goal.returns-clause-ended
 returns-clause-ended g c =
@@ -50,6 +60,6 @@ returns-clause-ended g c =
     finds c.args.lock.now c.args.who c.args.turns.pass c.requires.running c.into_pass.result c.value.result.now c.enter-held.result.place.me.0.seen c.into_pass.ensures
     (ap (λ (k : KeptCore). coded k.core.value.past) c.value.ensures.value ∙ c.enter-held.ensures.seen) c.enter-held.ensures.extends c.enter-held.ensures.own
     (ap kept_fixed c.value.ensures.value ∙ c.enter-held.ensures.fixed) in
-    stands c.args.lock.now c.args.who c.args.turns.pass c.requires.running c.value.result.now c.end.new.kept c.after.result.pass found (ap pass_seen c.after.ensures ∙ c.leave-pass.ensures.seen)
-    c.into_pass.result c.enter-held.result.number true c.into_pass.ensures c.enter-held.ensures.number (left_of c.args.lock.now c.enter-held.result.lock.now c.leave-pass.result c.after.result.pass c.enter-held.ensures.lock c.after.ensures c.leave-pass.ensures.pass) (ap pass_number c.after.ensures ∙ c.leave-pass.ensures.number)
+    stands c.args.lock.now c.args.who c.args.turns.pass c.requires.running c.value.result.now c.end.new.kept c.after.result.pass found (ap pass_seen c.after.ensures.pass ∙ c.leave-pass.ensures.seen)
+    c.into_pass.result c.enter-held.result.number true c.into_pass.ensures c.enter-held.ensures.number (left_of c.args.lock.now c.enter-held.result.lock.now c.leave-pass.result c.after.result.pass c.enter-held.ensures.lock c.after.ensures.pass c.leave-pass.ensures.pass) (ap pass_number c.after.ensures.pass ∙ c.leave-pass.ensures.number)
     (end_state c.value.result.now.core.value.plan c.value.result.now.core.value.past c.end.new.kept.core.value.past c.args.who c.args.how c.end.ensures.did)

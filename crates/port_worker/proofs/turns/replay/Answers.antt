@@ -31,7 +31,7 @@ use Rattle.port_worker.proofs.Stepping.{turn_step, fits_step, smaller, turn_know
 use Rattle.port_worker.proofs.Later.{looked_later}
 use Rattle.port_worker.proofs.Starting.{opened, opened_machine, opened_plan, start, holds, control_open, planned_now, sound_now, quiet_now, input_open}
 use Rattle.port_worker.proofs.Ending.{inputs_ended, serves, done_at}
-use Rattle.port_worker.proofs.Fitting.{FitsSoFar, fits_started, fits_looked, fits_finished, broken_since}
+use Rattle.port_worker.proofs.Fitting.{FitsSoFar, fits_started, fits_looked, fits_finished, causes_finished}
 use Rattle.port_worker.proofs.turns.replay.Goals as goal
 
 nothing : {X : Type 0} (o : Option X) → ((x : X) → o ≡ Some x → ⊥) → o ≡ None
@@ -147,8 +147,8 @@ returns-in_default-clause-serves g c =
     (subst (λ (p : Plan). IsFinished p empty now) c.turns.invariant.same_plan c.finish.ensures.finished)
     (fits_finished g.S.Source.left g.S.Source.faults plan first ports past now fits
     (done_at g.S.Source.left g.K.Sink.written g.S.Source.faults g.K.Sink.faults plan ends_first ends first ports past c.requires.planned runs heard known none) finished)
-    (broken_since g.S.Source.left g.S.Source.faults first ports ports past now fits
-    refl (λ k d within. omega arith) (λ n. ap (λ (l : List Row). input_end n l) finished ∙ (same_finished plan empty past n).end_same))
+    (causes_finished g.S.Source.left g.S.Source.faults first ports past now fits
+    (done_at g.S.Source.left g.K.Sink.written g.S.Source.faults g.K.Sink.faults plan ends_first ends first ports past c.requires.planned runs heard known none) (λ n. ap (λ (l : List Row). input_end n l) finished ∙ (same_finished plan empty past n).end_same))
     c.requires.valid.ports
 
 pub advance_control-requires-clause-planned : goal.advance_control-requires-clause-planned

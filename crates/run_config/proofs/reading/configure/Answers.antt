@@ -1,9 +1,12 @@
-use Rattle.std.proofs.Common.{◌<◌, ◌≡◌, ◌∙◌, Err, arith, inr}
+use Rattle.std.proofs.Common.{◌<◌, ◌≡◌, ◌≢◌, ◌∙◌, Err, Result, arith, inr, sym}
+use Rattle.savi_kinds.specs.declared.plan.Plan.{Plan}
+use Rattle.run_config.specs.declared.refusal.Refusal.{Refusal}
+use Rattle.run_config.specs.declared.refusal.Refusal.TheVariants as refusal
 use Rattle.savi_conf.specs.Answers.{IsAnswer}
 use Rattle.savi_ends.specs.Places.{IsOnlyOut}
-use Rattle.run_config.specs.Configs.{IsReadFrom}
+use Rattle.run_config.specs.Configs.{EndHasNoFault, IsReadFrom}
 use Rattle.savi_ends.proofs.Ready.{opened_alone}
-use Rattle.run_config.proofs.Configured.{of_told, configured, kept_fault, read_from}
+use Rattle.run_config.proofs.Configured.{of_told, configured, kept_fault, kept_sound, read_from}
 use Rattle.run_config.proofs.reading.configure.Given as given
 use Rattle.run_config.proofs.reading.configure.Goals as goal
 
@@ -33,6 +36,19 @@ pub returns-clause-unread : goal.returns-clause-unread
 returns-clause-unread g c = λ is.
     let fault : 0 < g.W.S.Source.faults c.read_config-answer.new.source = omega (arith, c.read_config-answer.ensures.unread is, c.in-Ok-input.ensures.opens.fresh) in
     kept_fault g.W.S.Source.faults ((g.W.World.book c.keep_input.new.self).inputs c.args.file.now) c.read_config-answer.new.source (c.keep_input.ensures.kept c.args.file.now (only g c)) fault
+
+apart : ◌≡◌ {A = Result Plan Refusal} (Err refusal.NoMemory) (Err refusal.ReadFailed) → ⊥
+apart same = cc
+
+no_fault : (g : given.Over) (c : goal.After-drop-buffer-2 g) → c.read_config-answer.result ≢ Err refusal.ReadFailed → EndHasNoFault {X = g.row.W-S.Denot} g.W.S.Source.faults ((g.W.World.book c.keep_input.new.self).inputs c.args.file.now)
+no_fault g c = λ other.
+    kept_sound g.W.S.Source.faults ((g.W.World.book c.keep_input.new.self).inputs c.args.file.now) c.read_config-answer.new.source (c.keep_input.ensures.kept c.args.file.now (only g c)) (c.read_config-answer.ensures.still other ∙ c.in-Ok-input.ensures.opens.fresh)
+
+pub returns-clause-still : goal.returns-clause-still
+returns-clause-still g c = λ other opened memory. no_fault g c other
+
+pub returns-clause-still_memory : goal.returns-clause-still_memory
+returns-clause-still_memory g c = λ is. inr (no_fault g c (λ failed. apart (sym is ∙ failed)))
 
 pub returns-clause-others : goal.returns-clause-others
 returns-clause-others g c = λ other differs. c.keep_input.ensures.others c.args.file.now (only g c) other differs ∙ c.in-Ok-input.ensures.others other differs

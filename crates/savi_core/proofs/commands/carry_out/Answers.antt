@@ -1,9 +1,8 @@
-use Rattle.std.proofs.Common.{◌≡◌, Option, Some, None, Ok, List, subst, sym, ap, ◌∙◌}
+use Rattle.std.proofs.Common.{◌≡◌, true, false, Some, Ok, List, subst, sym, ap, ◌∙◌}
 use Rattle.savi_kinds.specs.declared.plan.Plan.{Plan}
-use Rattle.savi_kinds.specs.declared.port.Port.{Port}
 use Rattle.savi_kinds.specs.Ports.{number_of}
 use Rattle.cli_lang.specs.declared.kinds.Command.{Command}
-use Rattle.addr_table.specs.Rooms.{IsFixable}
+use Rattle.savi_access.specs.Rooms.{IsFixable}
 use Rattle.fcfs_states.specs.declared.event.Ev.TheVariants.{Fix}
 use Rattle.cli_lang.specs.declared.kinds.Command.TheVariants.{Static, Clear}
 use Rattle.savi_access.specs.Rules.{AccessBase}
@@ -11,8 +10,12 @@ use Rattle.savi_access.specs.Marks.{Mark}
 use Rattle.savi_access.specs.Plans.{rules_of, vlan_among, role_of}
 use Rattle.savi_access.proofs.PlanRules.{own_ports}
 use Rattle.access_table.specs.Kept.{Represents}
-use Rattle.savi_history.specs.Commands.{refusal_of, static_refusal, ordered}
+use Rattle.savi_history.specs.Commands.{refusal_of, ordered}
 use Rattle.savi_history.proofs.Commanding.{granted, fixable, not_trusted, some_port}
+use Rattle.std.proofs.Math.Path.{fun_ext}
+use Rattle.savi_history.specs.ShutPorts.{shut_by}
+use Rattle.savi_core.specs.Rings.{shut_in}
+use Rattle.savi_core.proofs.Shutting.{heard}
 use Rattle.savi_core.proofs.commands.carry_out.Goals as goal
 
 pub fix-requires-clause-vlan : goal.fix-requires-clause-vlan
@@ -40,3 +43,15 @@ pub returns-in-Clear-clause-told : goal.returns-in-Clear-clause-told
 returns-in-Clear-clause-told c = λ base past states.
     subst (λ (order : Command). Represents (rules_of c.args.ports.now) base (ordered c.args.ports.now base c.args.t (Ok order) past) c.args.t c.clear.new.self) (sym c.in-Clear.is)
     (subst (λ (p : Plan). (base : AccessBase) (past : List Mark) → Represents (rules_of p) base past c.args.t c.args.access.now → Represents (rules_of p) base (ordered p base c.args.t (Ok (Clear c.in-Clear.address)) past) c.args.t c.clear.new.self) c.plan-in-Clear.ensures.plan (c.clear.ensures.told some_port) base past states)
+
+pub returns-in-Shut-clause-shut : goal.returns-in-Shut-clause-shut
+returns-in-Shut-clause-shut c =
+    c.set_shut.ensures.shut
+    ∙ heard c.args.ports.now c.in-Shut.port true (shut_in c.args.queues.now.shut) (sym (ap (λ (order : Command). refusal_of c.args.ports.now c.args.access.now.addresses.rows (Ok order)) c.in-Shut.is) ∙ c.requires.granted)
+    ∙ fun_ext (λ number. ap (λ (order : Command). shut_by c.args.ports.now number (Ok order) (shut_in c.args.queues.now.shut number)) (sym c.in-Shut.is))
+
+pub returns-in-Reopen-clause-shut : goal.returns-in-Reopen-clause-shut
+returns-in-Reopen-clause-shut c =
+    c.set_shut-in-Reopen.ensures.shut
+    ∙ heard c.args.ports.now c.in-Reopen.port false (shut_in c.args.queues.now.shut) (sym (ap (λ (order : Command). refusal_of c.args.ports.now c.args.access.now.addresses.rows (Ok order)) c.in-Reopen.is) ∙ c.requires.granted)
+    ∙ fun_ext (λ number. ap (λ (order : Command). shut_by c.args.ports.now number (Ok order) (shut_in c.args.queues.now.shut number)) (sym c.in-Reopen.is))

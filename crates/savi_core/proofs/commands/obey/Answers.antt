@@ -1,4 +1,4 @@
-use Rattle.std.proofs.Common.{◌≡◌, Option, Some, Result, Ok, Err, refl, sym, ap, subst, ◌∙◌}
+use Rattle.std.proofs.Common.{Some, Result, refl, sym, ap, subst, ◌∙◌}
 use Rattle.cli_lang.specs.declared.kinds.Command.{Command}
 use Rattle.cli_lang.specs.declared.kinds.CmdFault.{CmdFault}
 use Rattle.control_replies.specs.declared.refusal.Refusal.{Refusal}

@@ -1,5 +1,5 @@
 use Rattle.std.proofs.Common.{ap, ◌∙◌, fold}
-use Rattle.addr_history.specs.Probes.{probes_between}
+use Rattle.savi_access.specs.Probes.{probes_between}
 use Rattle.savi_access.specs.Marks.{told}
 use Rattle.savi_access.specs.Plans.{rules_of}
 use Rattle.savi_history.specs.Vlans.{the_vlan}

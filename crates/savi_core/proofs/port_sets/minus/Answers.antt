@@ -1,4 +1,4 @@
-use Rattle.std.proofs.Common.{ℕ, ◌≡◌, ◌-◌, ◌<◌, ◌≤◌, ◌^◌, ◌==◌, ◌&&◌, not, arith}
+use Rattle.std.proofs.Common.{arith}
 use Rattle.savi_core.proofs.Members.{member_minus}
 use Rattle.savi_core.proofs.port_sets.minus.Goals as goal
 

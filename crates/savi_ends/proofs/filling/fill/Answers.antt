@@ -13,7 +13,7 @@ loop-at-preserved g c =
     let left = g.S.Source.left c.read.new.self in
     let fits : c.in-Bytes.n ≤ length piece = omega (arith, c.in-Bytes.ensures.count, c.read.auto.buf) in
     record {
-      later = omega (arith, was.later, c.read.ensures.later);
+      still = c.in-Bytes.ensures.still (λ same. absurd cc) ∙ was.still;
       within = within_over at c.in-Bytes.n buf piece _ was.within fits;
       taken = takes_more (take at buf) (take c.in-Bytes.n piece) _ _ _ was.taken c.in-Bytes.ensures.bytes
           ∙ ap (λ (l : List ℕ). in_front l left) (sym (take_over at c.in-Bytes.n buf piece _ was.within fits));

@@ -1,6 +1,6 @@
 use Rattle.std.proofs.Common.{Some}
 use Rattle.savi_kinds.specs.declared.plan.Method.TheVariants.{Mixed}
-use Rattle.addr_table.specs.Keeps.{AreSound}
+use Rattle.savi_access.specs.Keeps.{AreSound}
 use Rattle.state_rows.proofs.addr_table_rows.scripts_of_events.Given as goal
 
 abbrev pub invariant-loop-step : goal.invariant-loop-step

@@ -2,6 +2,7 @@ use Rattle.std.proofs.Common.{arith, [], ◌∷◌, Some, ◌≡◌}
 use Rattle.std.proofs.lemmas.List.{nil_from_length}
 use Rattle.std.proofs.lemmas.List.Elements.{All-same}
 use Rattle.savi_kinds.specs.Ports.{number_of}
+use Rattle.savi_ends.specs.Places.{IsPortKept}
 use Rattle.port_worker.specs.declared.port_ends.PortEnds.{PortEnds}
 use Rattle.switch_ports.proofs.Keeps.{keeps_none, next_out, keep_step, keeps_all}
 use Rattle.switch_ports.proofs.keeping.keep_all.Goals as goal
@@ -31,7 +32,7 @@ returns-clause-kept g c =
     let S = g.row.W-S.Denot in
     let K = g.row.W-K.Denot in
     let C = g.row.W-C.Denot in
-    let IsKept : PortEnds S K C → Type 0 = λ p. ((g.W.World.book c.loop-one.world).ports (number_of p.port)).stands ≡ Some p.ends in
+    let IsKept : PortEnds S K C → Type 0 = λ p. IsPortKept (g.W.World.book c.args.world.now).ports (g.W.World.book c.loop-one.world).ports (number_of p.port) p.ends in
     let gone = c.loop-one.invariant.0 in
     let none : c.loop-one.held.items ≡ [] = nil_from_length c.loop-one.held.items (omega (arith, c.in_default.ensures.cases.0, c.loop-one.held.ok.0)) in
     All-same IsKept c.args.held.items gone (keeps_all gone c.loop-one.held.items c.args.held.items _ _ none c.loop-one.invariant.1) c.loop-one.invariant.1.kept

@@ -32,8 +32,8 @@ returns-in-Good-clause-ran g c =
           kept = ap (λ (b : Book S K C). (b.inputs file).stands) c.write_answer.ensures.rest ∙ c.keep_input.ensures.kept file alone;
           holds = c.check-checked.ensures.later;
         },
-        inr (inr (answered_with g.W.S.Source.left g.W.K.Sink.written g.W.K.Sink.faults file c.args.errors.now c.in-Ok.source c.check-checked.result (Good c.in-Good.entries) _ b0 b3 (b2.std Out) c.write_answer.result 0
-            c.in-Ok.ensures.opens.told
+        inr (inr (answered_with g.W.S.Source.left g.W.K.Sink.written g.W.S.Source.faults g.W.K.Sink.faults file c.args.errors.now c.in-Ok.source c.check-checked.new.source c.check-checked.result (Good c.in-Good.entries) _ b0 b3 (b2.std Out) c.write_answer.result 0
+            c.in-Ok.ensures.opens.told c.in-Ok.ensures.opens.fresh (ap (λ (b : Book S K C). (b.inputs file).stands) c.write_answer.ensures.rest ∙ c.keep_input.ensures.kept file alone) c.check-checked.ensures.still
             (record { is = c.check-checked.ensures.answer; alone = c.check-checked.ensures.only; good = c.check-checked.ensures.good; journal = c.check-checked.ensures.journal })
             c.in-Good.is tt (c.put_good.ensures) refl
             (ap (λ (b : Book S K C). b.std Out) c.keep_input.ensures.rest ∙ ap (λ (b : Book S K C). b.std Out) c.in-Ok.ensures.rest)
@@ -62,8 +62,8 @@ returns-in-Wrong-clause-ran g c =
           kept = ap (λ (b : Book S K C). (b.inputs file).stands) c.write_answer-in-Wrong.ensures.rest ∙ c.keep_input.ensures.kept file alone;
           holds = c.check-checked.ensures.later;
         },
-        inr (inr (answered_with g.W.S.Source.left g.W.K.Sink.written g.W.K.Sink.faults file c.args.errors.now c.in-Ok.source c.check-checked.result (Wrong c.in-Wrong.entry c.in-Wrong.want c.in-Wrong.have) _ b0 b3 (b2.std Out) c.write_answer-in-Wrong.result 4
-            c.in-Ok.ensures.opens.told
+        inr (inr (answered_with g.W.S.Source.left g.W.K.Sink.written g.W.S.Source.faults g.W.K.Sink.faults file c.args.errors.now c.in-Ok.source c.check-checked.new.source c.check-checked.result (Wrong c.in-Wrong.entry c.in-Wrong.want c.in-Wrong.have) _ b0 b3 (b2.std Out) c.write_answer-in-Wrong.result 4
+            c.in-Ok.ensures.opens.told c.in-Ok.ensures.opens.fresh (ap (λ (b : Book S K C). (b.inputs file).stands) c.write_answer-in-Wrong.ensures.rest ∙ c.keep_input.ensures.kept file alone) c.check-checked.ensures.still
             (record { is = c.check-checked.ensures.answer; alone = c.check-checked.ensures.only; good = c.check-checked.ensures.good; journal = c.check-checked.ensures.journal })
             c.in-Wrong.is tt (c.put_wrong-line.ensures ∙ ap (λ (w : List ℕ). wrong_line c.in-Wrong.entry w c.as_str-in-Wrong.result.now) c.as_str.ensures.text ∙ ap (λ (h : List ℕ). wrong_line c.in-Wrong.entry c.in-Wrong.want h) c.as_str-in-Wrong.ensures.text) refl
             (ap (λ (b : Book S K C). b.std Out) c.keep_input.ensures.rest ∙ ap (λ (b : Book S K C). b.std Out) c.in-Ok.ensures.rest)
@@ -92,8 +92,8 @@ returns-in-BadLine-clause-ran g c =
           kept = ap (λ (b : Book S K C). (b.inputs file).stands) c.write_answer-in-BadLine.ensures.rest ∙ c.keep_input.ensures.kept file alone;
           holds = c.check-checked.ensures.later;
         },
-        inr (inr (answered_with g.W.S.Source.left g.W.K.Sink.written g.W.K.Sink.faults file c.args.errors.now c.in-Ok.source c.check-checked.result (BadLine c.in-BadLine.n) _ b0 b3 (b2.std Out) c.write_answer-in-BadLine.result 4
-            c.in-Ok.ensures.opens.told
+        inr (inr (answered_with g.W.S.Source.left g.W.K.Sink.written g.W.S.Source.faults g.W.K.Sink.faults file c.args.errors.now c.in-Ok.source c.check-checked.new.source c.check-checked.result (BadLine c.in-BadLine.n) _ b0 b3 (b2.std Out) c.write_answer-in-BadLine.result 4
+            c.in-Ok.ensures.opens.told c.in-Ok.ensures.opens.fresh (ap (λ (b : Book S K C). (b.inputs file).stands) c.write_answer-in-BadLine.ensures.rest ∙ c.keep_input.ensures.kept file alone) c.check-checked.ensures.still
             (record { is = c.check-checked.ensures.answer; alone = c.check-checked.ensures.only; good = c.check-checked.ensures.good; journal = c.check-checked.ensures.journal })
             c.in-BadLine.is tt (c.put_bad_line.ensures) refl
             (ap (λ (b : Book S K C). b.std Out) c.keep_input.ensures.rest ∙ ap (λ (b : Book S K C). b.std Out) c.in-Ok.ensures.rest)

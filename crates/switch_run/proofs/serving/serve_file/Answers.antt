@@ -1,10 +1,10 @@
-use Rattle.std.proofs.Common.{◌≡◌, Result, Err, false, ap, arith, sym, subst, ◌∙◌, inr, refl}
+use Rattle.std.proofs.Common.{◌≡◌, Result, Err, true, false, ap, arith, sym, subst, ◌∙◌, inr, refl}
 use Rattle.savi_kinds.specs.declared.plan.Plan.{Plan}
 use Rattle.savi_ends.specs.declared.world.Std.TheVariants.{Out}
 use Rattle.savi_ends.specs.Places.{Book, Place}
 use Rattle.run_config.specs.declared.refusal.Refusal.{Refusal}
 use Rattle.switch_run.proofs.Refusing.{refuses}
-use Rattle.run_config.specs.Configs.{IsReadFrom}
+use Rattle.run_config.specs.Configs.{EndHasNoFault, IsReadFrom}
 use Rattle.switch_run.proofs.Running.{configured_serve, configured_unplayed, moved_part, moved_unused, read_before, same_places}
 use Rattle.switch_run.proofs.serving.serve_file.Given as given
 use Rattle.switch_run.proofs.serving.serve_file.Goals as goal
@@ -15,6 +15,13 @@ input_still g c =
     let K = g.row.W-K.Denot in
     let C = g.row.W-C.Denot in
     subst (λ (p : Place S). IsReadFrom g.W.S.Source.left ((g.W.World.book c.args.world.now).inputs c.args.file.now) p) (sym (ap (λ (b : Book S K C). b.inputs c.args.file.now) c.serve_plan.ensures.rest)) (c.in-Ok.ensures.kept (λ e. cc) (λ e. cc))
+
+never_failed : (g : given.Over) (c : goal.After-serve_plan g) → EndHasNoFault {X = g.row.W-S.Denot} g.W.S.Source.faults ((g.W.World.book c.serve_plan.new.world).inputs c.args.file.now)
+never_failed g c =
+    let S = g.row.W-S.Denot in
+    let K = g.row.W-K.Denot in
+    let C = g.row.W-C.Denot in
+    subst (λ (p : Place S). EndHasNoFault g.W.S.Source.faults p) (sym (ap (λ (b : Book S K C). b.inputs c.args.file.now) c.serve_plan.ensures.rest)) (c.in-Ok.ensures.still (λ e. cc) (λ e. cc) (λ e. cc))
 
 pub returns-in-Ok-clause-ran : goal.returns-in-Ok-clause-ran
 returns-in-Ok-clause-ran g c =
@@ -37,16 +44,17 @@ returns-in-Ok-clause-ran g c =
         configured = c.in-Ok.ensures.configured;
         input = input_still g c;
         ticker = c.serve_plan.ensures.unticked seven ∙ ap (λ (b : Book S K C). b.ticker) c.in-Ok.ensures.rest;
-        part = moved_part c.in-Ok.plan _ _ _ _ _ _ before (same_places _) (λ lines told. told) (c.serve_plan.ensures.unopened seven);
+        part = moved_part true c.in-Ok.plan _ _ _ _ _ _ before (same_places _) (λ lines told. told) (c.serve_plan.ensures.unopened seven);
       });
       session = λ one_of. inr (record {
         plan = c.in-Ok.plan;
         configured = c.in-Ok.ensures.configured;
         input = input_still g c;
+        still = never_failed g c;
         session = configured_serve g.W.S.Source.left g.W.K.Sink.written g.W.S.Source.faults g.W.K.Sink.faults g.W.C.Clock.readings c.in-Ok.plan _ _ _ _ _ c.in-Ok.ensures.rest (c.serve_plan.ensures.session one_of);
       });
       quiet = λ one_of. c.serve_plan.ensures.quiet one_of ∙ ap (λ (b : Book S K C). b.std Out) c.in-Ok.ensures.rest;
-      unused = λ one_of. moved_unused _ _ _ _ before (same_places _) (c.serve_plan.ensures.unused one_of);
+      unused = λ one_of. inr (c.in-Ok.plan, c.in-Ok.ensures.configured, moved_unused true c.in-Ok.plan _ _ _ _ before (same_places _) (c.serve_plan.ensures.unused one_of));
       inputs = λ other apart. ap (λ (b : Book S K C). b.inputs other) c.serve_plan.ensures.rest ∙ c.in-Ok.ensures.others other apart;
     }
 

@@ -1,15 +1,17 @@
-use Rattle.std.proofs.Common.{◌≡◌, ℕ, List, ap, ◌∙◌, inl, inr, refl, subst}
+use Rattle.std.proofs.Common.{◌≡◌, ℕ, false, List, ap, ◌∙◌, inl, inr, refl, subst}
 use Rattle.savi_kinds.specs.declared.plan.PortPlan.{PortPlan}
 use Rattle.savi_ends.specs.declared.world.Std.{Std}
 use Rattle.savi_ends.specs.declared.world.Ends.{Ends}
-use Rattle.savi_ends.specs.Places.{Book, Place, BothFresh}
+use Rattle.savi_ends.specs.Places.{Book, Place, PortKey, ControlKey, BothFresh}
+use Rattle.switch_ports.specs.Openings.{IsOff}
 use Rattle.port_worker.specs.Replays.{ports_held}
 use Rattle.switch_ports.specs.Openings.{ports_of, IsNextBehind}
 use Rattle.switch_report.specs.RunLines.{cannot_open_line, control_word, journal_word}
+use Rattle.switch_run.specs.Causes.{ports_in}
 use Rattle.switch_run.specs.Session.{IsSessionOf, ToldBy}
-use Rattle.switch_run.proofs.Ending.{Closes, closes, stays_all, untouched_back, unused_by}
-use Rattle.switch_run.proofs.Through.{Handled, HandledAll, HandledControl, control_back, control_unopened, journal_unopened, port_unopened}
-use Rattle.switch_run.proofs.Handling.{apart_all, apart_back, apart_first, control_by, control_out, handled_by, handled_one, out_back, same_ports}
+use Rattle.switch_run.proofs.Ending.{Closes, closes, control_same, stays_all, unused_by, unused_still}
+use Rattle.switch_run.proofs.Through.{Handled, HandledAll, HandledControl, control_back, control_unopened, journal_unopened, port_unopened, ports_off, ports_off_next}
+use Rattle.switch_run.proofs.Handling.{apart_all, apart_back, apart_first, control_by, control_out, handled_by, handled_one, opened_as, others_by, out_back, same_ports}
 use Rattle.switch_run.proofs.Recast.{told_by}
 use Rattle.switch_run.proofs.top.replay_plan.Given as given
 use Rattle.switch_run.proofs.top.replay_plan.Goals as goal
@@ -23,7 +25,7 @@ keep_all-requires-clause-apart g c κs within =
 
 pub keep_all-requires-clause-out : goal.keep_all-requires-clause-out
 keep_all-requires-clause-out g c κs within =
-    out_back (BothFresh g.W.S.Source.faults g.W.K.Sink.faults) c.open_all.new.held.items c.open_all.new.held.items (g.W.World.book c.args.world.now).ports (g.W.World.book c.open_all.new.world).ports _ c.open_all.ensures.opened (same_ports _) refl
+    out_back (BothFresh g.W.S.Source.faults g.W.K.Sink.faults) _ c.open_all.new.held.items c.open_all.new.held.items (g.W.World.book c.args.world.now).ports (g.W.World.book c.open_all.new.world).ports _ c.open_all.ensures.opened (same_ports _) refl
 
 pub returns-in-Some-open_all-clause-unopened : goal.returns-in-Some-open_all-clause-unopened
 returns-in-Some-open_all-clause-unopened g c = λ seven.
@@ -32,7 +34,8 @@ returns-in-Some-open_all-clause-unopened g c = λ seven.
     let C = g.row.W-C.Denot in
     inl (port_unopened c.args.plan _ c.open_all.new.held.items c.in-Some-open_all.port _ _ c.requires.built.valid.ports
     (subst (λ (l : List PortPlan). IsNextBehind c.in-Some-open_all.port (ports_held c.open_all.new.held.items) (ports_of l)) c.as_slice.ensures c.in-Some-open_all.ensures.failed)
-    (handled_by (BothFresh g.W.S.Source.faults g.W.K.Sink.faults) _ _ _ (g.W.World.book c.open_all.new.world).ports _ (g.W.World.book c.keep_all.new.world).ports _ c.open_all.ensures.opened c.open_all.ensures.others refl (same_ports _) c.keep_all.ensures.kept c.keep_all.ensures.others refl)
+    (handled_by (BothFresh g.W.S.Source.faults g.W.K.Sink.faults) c.args.plan.ports _ _ _ (g.W.World.book c.open_all.new.world).ports _ (g.W.World.book c.keep_all.new.world).ports _ (opened_as (BothFresh g.W.S.Source.faults g.W.K.Sink.faults) _ c.args.plan.ports c.open_all.new.held.items (g.W.World.book c.args.world.now).ports (g.W.World.book c.open_all.new.world).ports c.as_slice.ensures c.open_all.ensures.opened) c.open_all.ensures.others refl (same_ports _) c.keep_all.ensures.kept c.keep_all.ensures.others refl)
+    (others_by c.open_all.new.held.items c.open_all.new.held.items _ (g.W.World.book c.open_all.new.world).ports _ (g.W.World.book c.keep_all.new.world).ports _ c.open_all.ensures.others refl (same_ports _) c.keep_all.ensures.others refl)
     (ap (λ (b : Book S K C). b.control) c.keep_all.ensures.rest ∙ ap (λ (b : Book S K C). b.control) c.open_all.ensures.rest)
     (ap (λ (b : Book S K C). b.outputs) c.keep_all.ensures.rest ∙ ap (λ (b : Book S K C). b.outputs) c.open_all.ensures.rest)
     (subst (λ (name : List ℕ). ToldBy g.W.K.Sink.faults g.W.K.Sink.written c.args.errors.now c.tell_unopened-put.new.sink (cannot_open_line name)) (c.as_str.ensures.value ∙ c.port_name.ensures)
@@ -43,9 +46,10 @@ returns-in-Some-open_all-clause-unused g c = λ one_of.
     let S = g.row.W-S.Denot in
     let K = g.row.W-K.Denot in
     let C = g.row.W-C.Denot in
-    unused_by c.open_all.new.held.items _ _
-    (handled_by (BothFresh g.W.S.Source.faults g.W.K.Sink.faults) _ _ _ (g.W.World.book c.open_all.new.world).ports _ (g.W.World.book c.keep_all.new.world).ports _ c.open_all.ensures.opened c.open_all.ensures.others refl (same_ports _) c.keep_all.ensures.kept c.keep_all.ensures.others refl)
-    (untouched_back _ _ (ap (λ (b : Book S K C). b.control) c.keep_all.ensures.rest ∙ ap (λ (b : Book S K C). b.control) c.open_all.ensures.rest))
+    unused_by c.args.plan c.open_all.new.held.items _ _
+    (handled_by (BothFresh g.W.S.Source.faults g.W.K.Sink.faults) c.args.plan.ports _ _ _ (g.W.World.book c.open_all.new.world).ports _ (g.W.World.book c.keep_all.new.world).ports _ (opened_as (BothFresh g.W.S.Source.faults g.W.K.Sink.faults) _ c.args.plan.ports c.open_all.new.held.items (g.W.World.book c.args.world.now).ports (g.W.World.book c.open_all.new.world).ports c.as_slice.ensures c.open_all.ensures.opened) c.open_all.ensures.others refl (same_ports _) c.keep_all.ensures.kept c.keep_all.ensures.others refl)
+    (ports_off_next c.args.plan c.open_all.new.held.items c.in-Some-open_all.port _ _ (subst (λ (l : List PortPlan). IsNextBehind c.in-Some-open_all.port (ports_held c.open_all.new.held.items) (ports_of l)) c.as_slice.ensures c.in-Some-open_all.ensures.failed) (others_by c.open_all.new.held.items c.open_all.new.held.items _ (g.W.World.book c.open_all.new.world).ports _ (g.W.World.book c.keep_all.new.world).ports _ c.open_all.ensures.others refl (same_ports _) c.keep_all.ensures.others refl))
+    (control_same false c.args.plan.control _ _ (ap (λ (b : Book S K C). b.control) c.keep_all.ensures.rest ∙ ap (λ (b : Book S K C). b.control) c.open_all.ensures.rest))
     (ap (λ (b : Book S K C). b.ticker) c.keep_all.ensures.rest ∙ ap (λ (b : Book S K C). b.ticker) c.open_all.ensures.rest)
     (λ name. ap (λ (b : Book S K C). b.outputs name) c.keep_all.ensures.rest ∙ ap (λ (b : Book S K C). b.outputs name) c.open_all.ensures.rest)
 
@@ -60,7 +64,7 @@ keep_all-requires-in-Err-clause-out g c κs within =
     let S = g.row.W-S.Denot in
     let K = g.row.W-K.Denot in
     let C = g.row.W-C.Denot in
-    out_back (BothFresh g.W.S.Source.faults g.W.K.Sink.faults) c.open_all.new.held.items c.open_all.new.held.items (g.W.World.book c.args.world.now).ports (g.W.World.book c.open_all.new.world).ports _ c.open_all.ensures.opened (same_ports _) (ap (λ (b : Book S K C). b.ports) c.open_control.ensures.rest)
+    out_back (BothFresh g.W.S.Source.faults g.W.K.Sink.faults) _ c.open_all.new.held.items c.open_all.new.held.items (g.W.World.book c.args.world.now).ports (g.W.World.book c.open_all.new.world).ports _ c.open_all.ensures.opened (same_ports _) (ap (λ (b : Book S K C). b.ports) c.open_control.ensures.rest)
 
 pub returns-in-Err-clause-unopened : goal.returns-in-Err-clause-unopened
 returns-in-Err-clause-unopened g c = λ seven.
@@ -68,7 +72,8 @@ returns-in-Err-clause-unopened g c = λ seven.
     let K = g.row.W-K.Denot in
     let C = g.row.W-C.Denot in
     inr (inl (control_unopened c.args.plan _ c.open_all.new.held.items _ _ c.in-Err.ensures.named (c.open_all.ensures.all c.in_default-open_all.is ∙ ap ports_of c.as_slice.ensures)
-    (handled_by (BothFresh g.W.S.Source.faults g.W.K.Sink.faults) _ _ _ (g.W.World.book c.open_all.new.world).ports (g.W.World.book c.open_control.new.world).ports (g.W.World.book c.keep_all-in-Err.new.world).ports _ c.open_all.ensures.opened c.open_all.ensures.others (ap (λ (b : Book S K C). b.ports) c.open_control.ensures.rest) (same_ports _) c.keep_all-in-Err.ensures.kept c.keep_all-in-Err.ensures.others refl)
+    (handled_by (BothFresh g.W.S.Source.faults g.W.K.Sink.faults) c.args.plan.ports _ _ _ (g.W.World.book c.open_all.new.world).ports (g.W.World.book c.open_control.new.world).ports (g.W.World.book c.keep_all-in-Err.new.world).ports _ (opened_as (BothFresh g.W.S.Source.faults g.W.K.Sink.faults) _ c.args.plan.ports c.open_all.new.held.items (g.W.World.book c.args.world.now).ports (g.W.World.book c.open_all.new.world).ports c.as_slice.ensures c.open_all.ensures.opened) c.open_all.ensures.others (ap (λ (b : Book S K C). b.ports) c.open_control.ensures.rest) (same_ports _) c.keep_all-in-Err.ensures.kept c.keep_all-in-Err.ensures.others refl)
+    (others_by c.open_all.new.held.items c.open_all.new.held.items _ (g.W.World.book c.open_all.new.world).ports (g.W.World.book c.open_control.new.world).ports (g.W.World.book c.keep_all-in-Err.new.world).ports _ c.open_all.ensures.others (ap (λ (b : Book S K C). b.ports) c.open_control.ensures.rest) (same_ports _) c.keep_all-in-Err.ensures.others refl)
     (ap (λ (b : Book S K C). b.control) c.keep_all-in-Err.ensures.rest ∙ c.in-Err.ensures.as_it_was ∙ ap (λ (b : Book S K C). b.control) c.open_all.ensures.rest)
     (ap (λ (b : Book S K C). b.outputs) c.keep_all-in-Err.ensures.rest ∙ ap (λ (b : Book S K C). b.outputs) c.open_control.ensures.rest ∙ ap (λ (b : Book S K C). b.outputs) c.open_all.ensures.rest)
     (told_by g.W.K.Sink.faults g.W.K.Sink.written c.tell_unopened-put-in-Err.result _ _ (cannot_open_line control_word) c.tell_unopened-put-in-Err.ensures.extends c.tell_unopened-put-in-Err.ensures.cause)))
@@ -78,9 +83,10 @@ returns-in-Err-clause-unused g c = λ one_of.
     let S = g.row.W-S.Denot in
     let K = g.row.W-K.Denot in
     let C = g.row.W-C.Denot in
-    unused_by c.open_all.new.held.items _ _
-    (handled_by (BothFresh g.W.S.Source.faults g.W.K.Sink.faults) _ _ _ (g.W.World.book c.open_all.new.world).ports (g.W.World.book c.open_control.new.world).ports (g.W.World.book c.keep_all-in-Err.new.world).ports _ c.open_all.ensures.opened c.open_all.ensures.others (ap (λ (b : Book S K C). b.ports) c.open_control.ensures.rest) (same_ports _) c.keep_all-in-Err.ensures.kept c.keep_all-in-Err.ensures.others refl)
-    (untouched_back _ _ (ap (λ (b : Book S K C). b.control) c.keep_all-in-Err.ensures.rest ∙ c.in-Err.ensures.as_it_was ∙ ap (λ (b : Book S K C). b.control) c.open_all.ensures.rest))
+    unused_by c.args.plan c.open_all.new.held.items _ _
+    (handled_by (BothFresh g.W.S.Source.faults g.W.K.Sink.faults) c.args.plan.ports _ _ _ (g.W.World.book c.open_all.new.world).ports (g.W.World.book c.open_control.new.world).ports (g.W.World.book c.keep_all-in-Err.new.world).ports _ (opened_as (BothFresh g.W.S.Source.faults g.W.K.Sink.faults) _ c.args.plan.ports c.open_all.new.held.items (g.W.World.book c.args.world.now).ports (g.W.World.book c.open_all.new.world).ports c.as_slice.ensures c.open_all.ensures.opened) c.open_all.ensures.others (ap (λ (b : Book S K C). b.ports) c.open_control.ensures.rest) (same_ports _) c.keep_all-in-Err.ensures.kept c.keep_all-in-Err.ensures.others refl)
+    (ports_off c.args.plan c.open_all.new.held.items _ _ (c.open_all.ensures.all c.in_default-open_all.is ∙ ap ports_of c.as_slice.ensures) (others_by c.open_all.new.held.items c.open_all.new.held.items _ (g.W.World.book c.open_all.new.world).ports (g.W.World.book c.open_control.new.world).ports (g.W.World.book c.keep_all-in-Err.new.world).ports _ c.open_all.ensures.others (ap (λ (b : Book S K C). b.ports) c.open_control.ensures.rest) (same_ports _) c.keep_all-in-Err.ensures.others refl))
+    (control_same false c.args.plan.control _ _ (ap (λ (b : Book S K C). b.control) c.keep_all-in-Err.ensures.rest ∙ c.in-Err.ensures.as_it_was ∙ ap (λ (b : Book S K C). b.control) c.open_all.ensures.rest))
     (ap (λ (b : Book S K C). b.ticker) c.keep_all-in-Err.ensures.rest ∙ ap (λ (b : Book S K C). b.ticker) c.open_control.ensures.rest ∙ ap (λ (b : Book S K C). b.ticker) c.open_all.ensures.rest)
     (λ name. ap (λ (b : Book S K C). b.outputs name) c.keep_all-in-Err.ensures.rest ∙ ap (λ (b : Book S K C). b.outputs name) c.open_control.ensures.rest ∙ ap (λ (b : Book S K C). b.outputs name) c.open_all.ensures.rest)
 
@@ -95,7 +101,7 @@ keep_all-requires-in-Err-output-clause-out g c κs within =
     let S = g.row.W-S.Denot in
     let K = g.row.W-K.Denot in
     let C = g.row.W-C.Denot in
-    out_back (BothFresh g.W.S.Source.faults g.W.K.Sink.faults) c.open_all.new.held.items c.open_all.new.held.items (g.W.World.book c.args.world.now).ports (g.W.World.book c.open_all.new.world).ports _ c.open_all.ensures.opened (same_ports _)
+    out_back (BothFresh g.W.S.Source.faults g.W.K.Sink.faults) _ c.open_all.new.held.items c.open_all.new.held.items (g.W.World.book c.args.world.now).ports (g.W.World.book c.open_all.new.world).ports _ c.open_all.ensures.opened (same_ports _)
     (ap (λ (b : Book S K C). b.ports) c.output.ensures.rest ∙ ap (λ (b : Book S K C). b.ports) c.open_control.ensures.rest)
 
 pub keep_control-requires-clause-out : goal.keep_control-requires-clause-out
@@ -106,21 +112,30 @@ keep_control-requires-clause-out g c κs within =
     control_out (BothFresh g.W.S.Source.faults g.W.K.Sink.faults) c.args.plan.control c.in-Ok.control c.in-Ok.control _ (g.W.World.book c.open_control.new.world).control _ c.in-Ok.ensures.opened refl
     (ap (λ (b : Book S K C). b.control) c.keep_all-in-Err-output.ensures.rest ∙ ap (λ (b : Book S K C). b.control) c.output.ensures.rest)
 
-unopened_ports : (g : given.Over) (c : goal.After-drop-plan-in-Err-output-5 g) → Handled c.open_all.new.held.items c.open_all.new.held.items (g.W.World.book c.args.world.now).ports (g.W.World.book c.keep_control.new.world).ports
+unopened_ports : (g : given.Over) (c : goal.After-drop-plan-in-Err-output-5 g) → Handled c.open_all.new.held.items c.open_all.new.held.items (ports_in c.args.plan (g.W.World.book c.args.world.now)) (ports_in c.args.plan (g.W.World.book c.keep_control.new.world))
 unopened_ports g c =
     let S = g.row.W-S.Denot in
     let K = g.row.W-K.Denot in
     let C = g.row.W-C.Denot in
-    let ports : Book S K C → ℕ → Place (Ends S K C) = λ b. b.ports in
-    handled_by (BothFresh g.W.S.Source.faults g.W.K.Sink.faults) _ _ _ (ports (g.W.World.book c.open_all.new.world)) (ports (g.W.World.book c.output.new.self)) (ports (g.W.World.book c.keep_all-in-Err-output.new.world)) _ c.open_all.ensures.opened c.open_all.ensures.others
+    let ports : Book S K C → PortKey → Place (Ends S K C) = λ b. b.ports in
+    handled_by (BothFresh g.W.S.Source.faults g.W.K.Sink.faults) c.args.plan.ports _ _ _ (ports (g.W.World.book c.open_all.new.world)) (ports (g.W.World.book c.output.new.self)) (ports (g.W.World.book c.keep_all-in-Err-output.new.world)) _ (opened_as (BothFresh g.W.S.Source.faults g.W.K.Sink.faults) _ c.args.plan.ports c.open_all.new.held.items (g.W.World.book c.args.world.now).ports (g.W.World.book c.open_all.new.world).ports c.as_slice.ensures c.open_all.ensures.opened) c.open_all.ensures.others
     (ap ports c.output.ensures.rest ∙ ap ports c.open_control.ensures.rest) (same_ports _) c.keep_all-in-Err-output.ensures.kept c.keep_all-in-Err-output.ensures.others (ap ports c.keep_control.ensures.rest)
+
+unopened_others : (g : given.Over) (c : goal.After-drop-plan-in-Err-output-5 g) → (key : PortKey) → IsOff c.open_all.new.held.items key.number → (g.W.World.book c.keep_control.new.world).ports key ≡ (g.W.World.book c.args.world.now).ports key
+unopened_others g c =
+    let S = g.row.W-S.Denot in
+    let K = g.row.W-K.Denot in
+    let C = g.row.W-C.Denot in
+    let ports : Book S K C → PortKey → Place (Ends S K C) = λ b. b.ports in
+    others_by c.open_all.new.held.items c.open_all.new.held.items _ (ports (g.W.World.book c.open_all.new.world)) (ports (g.W.World.book c.output.new.self)) (ports (g.W.World.book c.keep_all-in-Err-output.new.world)) _ c.open_all.ensures.others
+    (ap ports c.output.ensures.rest ∙ ap ports c.open_control.ensures.rest) (same_ports _) c.keep_all-in-Err-output.ensures.others (ap ports c.keep_control.ensures.rest)
 
 unopened_control : (g : given.Over) (c : goal.After-drop-plan-in-Err-output-5 g) → HandledControl c.args.plan.control c.in-Ok.control c.in-Ok.control (g.W.World.book c.args.world.now).control (g.W.World.book c.keep_control.new.world).control
 unopened_control g c =
     let S = g.row.W-S.Denot in
     let K = g.row.W-K.Denot in
     let C = g.row.W-C.Denot in
-    let control : Book S K C → Place (Ends S K C) = λ b. b.control in
+    let control : Book S K C → ControlKey → Place (Ends S K C) = λ b. b.control in
     control_by (BothFresh g.W.S.Source.faults g.W.K.Sink.faults) c.args.plan.control c.in-Ok.control c.in-Ok.control _ (control (g.W.World.book c.open_all.new.world)) (control (g.W.World.book c.open_control.new.world)) (control (g.W.World.book c.keep_all-in-Err-output.new.world)) _ _
     (ap control c.open_all.ensures.rest) c.in-Ok.ensures.opened refl (ap control c.keep_all-in-Err-output.ensures.rest ∙ ap control c.output.ensures.rest)
     c.keep_control.ensures.kept c.keep_control.ensures.none refl
@@ -138,7 +153,7 @@ unopened_outputs g c name =
 pub returns-in-Err-output-clause-unopened : goal.returns-in-Err-output-clause-unopened
 returns-in-Err-output-clause-unopened g c = λ seven.
     inr (inr (journal_unopened c.args.plan _ c.open_all.new.held.items c.in-Ok.control _ _ (c.open_all.ensures.all c.in_default-open_all.is ∙ ap ports_of c.as_slice.ensures)
-    (unopened_ports g c) (unopened_control g c) (unopened_outputs g c)
+    (unopened_ports g c) (unopened_others g c) (unopened_control g c) (unopened_outputs g c)
     (told_by g.W.K.Sink.faults g.W.K.Sink.written c.tell_unopened-put-in-Err-output.result _ _ (cannot_open_line journal_word) c.tell_unopened-put-in-Err-output.ensures.extends c.tell_unopened-put-in-Err-output.ensures.cause)))
 
 pub returns-in-Err-output-clause-unused : goal.returns-in-Err-output-clause-unused
@@ -147,7 +162,7 @@ returns-in-Err-output-clause-unused g c = λ one_of.
     let K = g.row.W-K.Denot in
     let C = g.row.W-C.Denot in
     let ticker : Book S K C → Place C = λ b. b.ticker in
-    unused_by c.open_all.new.held.items _ _ (unopened_ports g c) (control_back c.args.plan.control c.in-Ok.control _ _ (unopened_control g c))
+    unused_by c.args.plan c.open_all.new.held.items _ _ (unopened_ports g c) (ports_off c.args.plan c.open_all.new.held.items _ _ (c.open_all.ensures.all c.in_default-open_all.is ∙ ap ports_of c.as_slice.ensures) (unopened_others g c)) (control_back c.args.plan.control c.in-Ok.control _ _ (unopened_control g c))
     (ap ticker c.keep_control.ensures.rest ∙ ap ticker c.keep_all-in-Err-output.ensures.rest ∙ ap ticker c.output.ensures.rest ∙ ap ticker c.open_control.ensures.rest ∙ ap ticker c.open_all.ensures.rest)
     (unopened_outputs g c)
 
@@ -163,7 +178,7 @@ keep_all-requires-2-clause-out g c κs within =
     let S = g.row.W-S.Denot in
     let K = g.row.W-K.Denot in
     let C = g.row.W-C.Denot in
-    out_back (BothFresh g.W.S.Source.faults g.W.K.Sink.faults) c.open_all.new.held.items c.play-ready.result.ready.ports.items (g.W.World.book c.args.world.now).ports (g.W.World.book c.open_all.new.world).ports _ c.open_all.ensures.opened c.play-ready.ensures.ports
+    out_back (BothFresh g.W.S.Source.faults g.W.K.Sink.faults) _ c.open_all.new.held.items c.play-ready.result.ready.ports.items (g.W.World.book c.args.world.now).ports (g.W.World.book c.open_all.new.world).ports _ c.open_all.ensures.opened c.play-ready.ensures.ports
     (ap (λ (b : Book S K C). b.ports) c.output.ensures.rest ∙ ap (λ (b : Book S K C). b.ports) c.open_control.ensures.rest)
 
 pub keep_control-requires-2-clause-out : goal.keep_control-requires-2-clause-out
@@ -195,13 +210,16 @@ handled_all g c =
     let S = g.row.W-S.Denot in
     let K = g.row.W-K.Denot in
     let C = g.row.W-C.Denot in
-    let ports : Book S K C → ℕ → Place (Ends S K C) = λ b. b.ports in
-    let control : Book S K C → Place (Ends S K C) = λ b. b.control in
+    let ports : Book S K C → PortKey → Place (Ends S K C) = λ b. b.ports in
+    let control : Book S K C → ControlKey → Place (Ends S K C) = λ b. b.control in
     let outputs : Book S K C → List ℕ → Place K = λ b. b.outputs in
     record {
       planned = c.open_all.ensures.all c.in_default-open_all.is ∙ ap ports_of c.as_slice.ensures;
-      ports = handled_by (BothFresh g.W.S.Source.faults g.W.K.Sink.faults) _ _ _ (ports (g.W.World.book c.open_all.new.world)) (ports (g.W.World.book c.output.new.self)) (ports (g.W.World.book c.keep_all-2.new.world)) _ c.open_all.ensures.opened c.open_all.ensures.others
+      ports = handled_by (BothFresh g.W.S.Source.faults g.W.K.Sink.faults) c.args.plan.ports _ _ _ (ports (g.W.World.book c.open_all.new.world)) (ports (g.W.World.book c.output.new.self)) (ports (g.W.World.book c.keep_all-2.new.world)) _ (opened_as (BothFresh g.W.S.Source.faults g.W.K.Sink.faults) _ c.args.plan.ports c.open_all.new.held.items (g.W.World.book c.args.world.now).ports (g.W.World.book c.open_all.new.world).ports c.as_slice.ensures c.open_all.ensures.opened) c.open_all.ensures.others
           (ap ports c.output.ensures.rest ∙ ap ports c.open_control.ensures.rest) c.play-ready.ensures.ports c.keep_all-2.ensures.kept c.keep_all-2.ensures.others
+          (ap ports c.conclude.ensures.rest ∙ ap ports c.keep_output.ensures.rest ∙ ap ports c.keep_control-2.ensures.rest);
+      others = others_by c.open_all.new.held.items _ _ (ports (g.W.World.book c.open_all.new.world)) (ports (g.W.World.book c.output.new.self)) (ports (g.W.World.book c.keep_all-2.new.world)) _ c.open_all.ensures.others
+          (ap ports c.output.ensures.rest ∙ ap ports c.open_control.ensures.rest) c.play-ready.ensures.ports c.keep_all-2.ensures.others
           (ap ports c.conclude.ensures.rest ∙ ap ports c.keep_output.ensures.rest ∙ ap ports c.keep_control-2.ensures.rest);
       control = control_by (BothFresh g.W.S.Source.faults g.W.K.Sink.faults) c.args.plan.control c.in-Ok.control c.play-ready.result.ready.control _ (control (g.W.World.book c.open_all.new.world)) (control (g.W.World.book c.open_control.new.world)) (control (g.W.World.book c.keep_all-2.new.world)) (control (g.W.World.book c.keep_control-2.new.world)) _
           (ap control c.open_all.ensures.rest) c.in-Ok.ensures.opened c.play-ready.ensures.control (ap control c.keep_all-2.ensures.rest ∙ ap control c.output.ensures.rest)
@@ -212,7 +230,7 @@ handled_all g c =
           (ap outputs c.keep_control-2.ensures.rest ∙ ap outputs c.keep_all-2.ensures.rest) c.keep_output.ensures.kept c.keep_output.ensures.others (ap outputs c.conclude.ensures.rest);
     }
 
-final : (g : given.Over) (c : goal.After-drop-journal-inside-2 g) → Closes g.W.S.Source.left g.W.K.Sink.written c.args.plan (ToldBy g.W.K.Sink.faults g.W.K.Sink.written c.args.errors.now c.conclude.new.errors)
+final : (g : given.Over) (c : goal.After-drop-journal-inside-2 g) → Closes false g.W.S.Source.left g.W.K.Sink.written c.args.plan (ToldBy g.W.K.Sink.faults g.W.K.Sink.written c.args.errors.now c.conclude.new.errors)
     (IsSessionOf g.W.S.Source.left g.W.K.Sink.written g.W.S.Source.faults g.W.K.Sink.faults c.args.plan (ToldBy g.W.K.Sink.faults g.W.K.Sink.written c.args.errors.now c.conclude.new.errors) (g.W.World.book c.args.world.now) (g.W.World.book c.conclude.new.world) c.conclude.result)
     (g.W.World.book c.args.world.now) (g.W.World.book c.conclude.new.world) c.conclude.result
 final g c =

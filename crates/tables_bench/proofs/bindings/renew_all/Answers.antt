@@ -1,9 +1,9 @@
 use Rattle.std.proofs.Common.{◌≡◌, ◌≤◌, ◌+◌, List, get_or, ap, sym, ◌∙◌, inr, arith, length}
 use Rattle.std.proofs.lemmas.List.Sums.{fold_more}
 use Rattle.savi_kinds.specs.declared.address.Addr.{Addr}
-use Rattle.bind_table.specs.declared.row.Row.{Row}
+use Rattle.savi_access.specs.declared.row.Row.{Row}
 use Rattle.bind_table.specs.Bindings.{Bindings}
-use Rattle.bind_table.specs.Rows.{with_state}
+use Rattle.savi_access.specs.Rows.{with_state}
 use Rattle.tables_bench.proofs.Lengths.{length-with_state}
 use Rattle.tables_bench.proofs.bindings.renew_all.Goals as goal
 

@@ -1,7 +1,7 @@
 use Rattle.std.proofs.Common.{◌≡◌, ℕ, ◌≤◌, List, fold, refl, ap, ◌∙◌, subst}
 use Rattle.savi_access.specs.Rules.{AccessRules, AccessBase}
 use Rattle.savi_access.specs.Marks.{Mark, told}
-use Rattle.addr_history.specs.Probes.{probes_between}
+use Rattle.savi_access.specs.Probes.{probes_between}
 use Rattle.access_table.specs.Kept.{Kept, Represents}
 use Rattle.access_table.proofs.Standing.{aged_stands, sent_between}
 use Rattle.access_table.proofs.table.AccessTable.age_to.Goals as goal

@@ -1,4 +1,4 @@
-use Rattle.bind_table.specs.Rows.{state_in}
+use Rattle.savi_access.specs.Rows.{state_in}
 use Rattle.fcfs_states.specs.declared.event.Ev.TheVariants.{Clear}
 use Rattle.savi_access.specs.Plans.{rules_of, method_in}
 use Rattle.access_table.proofs.Commands.{told_on_link, on_link_by_state}

@@ -1,5 +1,5 @@
 use Rattle.std.proofs.Common.{◌≡◌, Some, is_some, refl, ap, sym, ◌∙◌, subst}
-use Rattle.addr_table.specs.Rooms.{IsFixable}
+use Rattle.savi_access.specs.Rooms.{IsFixable}
 use Rattle.savi_access.specs.Rules.{AccessRules}
 use Rattle.savi_access.specs.Plans.{rules_of, method_in}
 use Rattle.access_table.specs.Kept.{Kept, IsAgedTo}

@@ -1,7 +1,7 @@
 use Rattle.std.proofs.Common.{◌≡◌, fold, length}
-use Rattle.addr_table.specs.Ages.{aged_rows}
-use Rattle.addr_table.specs.Sends.{sends}
-use Rattle.addr_table.specs.Keeps.{StaySound}
+use Rattle.savi_access.specs.Ages.{aged_rows}
+use Rattle.savi_access.specs.Sends.{sends}
+use Rattle.savi_access.specs.Keeps.{StaySound}
 use Rattle.addr_table.proofs.table.AddrTable.age_to.Given as goal
 
 abbrev pub invariant-loop-sent : goal.invariant-loop-sent

@@ -1,7 +1,7 @@
 use Rattle.std.proofs.Common.{◌≡◌, ◌≢◌, sym, subst}
 use Rattle.std.proofs.lemmas.Bool.{both_ways}
 use Rattle.bind_table.specs.Bindings.{Bindings}
-use Rattle.addr_table.specs.Keeps.{IsWithinRules}
+use Rattle.savi_access.specs.Keeps.{IsWithinRules}
 use Rattle.addr_table.proofs.Turning.{kept_event, event_row, event_pair, event_still, event_sound, event_same, armed_with}
 use Rattle.addr_table.proofs.table.AddrTable.event.Goals as goal
 

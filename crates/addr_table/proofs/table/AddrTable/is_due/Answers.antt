@@ -1,7 +1,8 @@
 use Rattle.std.proofs.Common.{◌≡◌, ◌≢◌, ◌↔◌, true, false, is_some, subst, ap, ◌∙◌}
 use Rattle.timer_wheel.specs.Arms.{due_within, first_armed}
+use Rattle.addr_table.proofs.Firsts.{first_due}
 use Rattle.addr_table.specs.Addresses.{Addresses}
-use Rattle.addr_table.specs.Ages.{aged_rows, first_due}
+use Rattle.savi_access.specs.Ages.{aged_rows}
 use Rattle.addr_table.specs.OneTurn.{IsQuiet}
 use Rattle.addr_table.proofs.Quiet.{quiet_by, changes_by}
 use Rattle.addr_table.proofs.table.AddrTable.is_due.Goals as goal

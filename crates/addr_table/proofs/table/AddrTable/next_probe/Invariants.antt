@@ -1,7 +1,7 @@
 use Rattle.std.proofs.Common.{◌≡◌}
-use Rattle.addr_table.specs.Ages.{aged_rows}
-use Rattle.addr_table.specs.Sends.{sends}
-use Rattle.addr_table.specs.Keeps.{StaySound}
+use Rattle.savi_access.specs.Ages.{aged_rows}
+use Rattle.savi_access.specs.Sends.{sends}
+use Rattle.savi_access.specs.Keeps.{StaySound}
 use Rattle.addr_table.specs.Turns.{turns_left}
 use Rattle.addr_table.proofs.table.AddrTable.next_probe.Given as goal
 

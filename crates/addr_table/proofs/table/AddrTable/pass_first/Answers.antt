@@ -1,10 +1,10 @@
 use Rattle.std.proofs.Common.{◌≡◌, [], ap, sym, ◌∙◌, subst}
 use Rattle.fcfs_states.specs.Ageing.{probes_behind}
 use Rattle.mix_rules.specs.Ageing.{due_next, aged_state}
-use Rattle.bind_table.specs.Rows.{state_in}
+use Rattle.savi_access.specs.Rows.{state_in}
 use Rattle.bind_table.specs.Bindings.{Bindings}
 use Rattle.addr_table.specs.Addresses.{Addresses}
-use Rattle.addr_table.specs.Keeps.{IsWithinRules, StaySound}
+use Rattle.savi_access.specs.Keeps.{IsWithinRules, StaySound}
 use Rattle.addr_table.specs.OneTurn.{IsQuiet, TurnsOnce}
 use Rattle.addr_table.proofs.Turning.{no_turn, own_due, turn_row, turn_pair, kept_turn, turn_sound, turn, armed_again, view_of}
 use Rattle.addr_table.proofs.table.AddrTable.pass_first.Goals as goal

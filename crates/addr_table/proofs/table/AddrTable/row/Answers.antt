@@ -1,6 +1,6 @@
 use Rattle.std.proofs.Common.{subst}
 use Rattle.addr_table.specs.Addresses.{Addresses}
-use Rattle.addr_table.specs.Keeps.{IsWithinRules}
+use Rattle.savi_access.specs.Keeps.{IsWithinRules}
 use Rattle.addr_table.proofs.table.AddrTable.row.Goals as goal
 
 pub returns-clause-kept : goal.returns-clause-kept

@@ -1,6 +1,6 @@
 use Rattle.std.proofs.Common.{◌≡◌, List, Some, refl, ap, sym, ◌∙◌}
-use Rattle.bind_table.specs.declared.row.Row.{Row}
-use Rattle.bind_table.specs.Rows.{state_in, address_row}
+use Rattle.savi_access.specs.declared.row.Row.{Row}
+use Rattle.savi_access.specs.Rows.{state_in, address_row}
 use Rattle.bind_table.specs.Bindings.{Bindings}
 use Rattle.bind_table.specs.Kept.{rows_under}
 use Rattle.bind_table.proofs.KeptChanges.{row_by_key, belongs_without_key}

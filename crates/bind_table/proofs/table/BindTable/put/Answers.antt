@@ -4,8 +4,8 @@ use Rattle.slab.specs.Slab.{Slab, get, Updates}
 use Rattle.addr_index.specs.Indexes.{key_in}
 use Rattle.savi_kinds.specs.PortSets.{no_ports}
 use Rattle.mix_rules.specs.States.{nobody}
-use Rattle.bind_table.specs.declared.row.Row.{Row}
-use Rattle.bind_table.specs.Rows.{state_in, address_row, with_state}
+use Rattle.savi_access.specs.declared.row.Row.{Row}
+use Rattle.savi_access.specs.Rows.{state_in, address_row, with_state}
 use Rattle.bind_table.specs.Places.{count_below}
 use Rattle.bind_table.specs.Counts.{AreHolders}
 use Rattle.bind_table.specs.Kept.{rows_under, IsKept, HasRoom, HasPorts, HasHolders}

@@ -3,8 +3,8 @@ use Rattle.slab.specs.Slab.{get, slab_len}
 use Rattle.addr_index.specs.Indexes.{key_in}
 use Rattle.savi_kinds.specs.PortSets.{no_ports}
 use Rattle.mix_rules.specs.States.{nobody}
-use Rattle.bind_table.specs.declared.row.Row.{Row}
-use Rattle.bind_table.specs.Rows.{state_in, with_state, address_row}
+use Rattle.savi_access.specs.declared.row.Row.{Row}
+use Rattle.savi_access.specs.Rows.{state_in, with_state, address_row}
 use Rattle.bind_table.specs.Places.{count_below}
 use Rattle.bind_table.specs.Bindings.{Bindings}
 use Rattle.bind_table.specs.Counts.{AreHolders}

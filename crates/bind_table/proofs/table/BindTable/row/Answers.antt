@@ -2,8 +2,8 @@ use Rattle.std.proofs.Common.{◌≡◌, ◌≤◌, ◌<◌, ℕ, List, Some, le
 use Rattle.std.specs.Option.{option_map}
 use Rattle.std.proofs.lemmas.Option.{slice_get_past, slice_get_read}
 use Rattle.slab.specs.Slab.{get}
-use Rattle.bind_table.specs.declared.row.Row.{Row}
-use Rattle.bind_table.specs.Rows.{pair_of}
+use Rattle.savi_access.specs.declared.row.Row.{Row}
+use Rattle.savi_access.specs.Rows.{pair_of}
 use Rattle.bind_table.specs.Kept.{rows_under}
 use Rattle.bind_table.proofs.Keys.{keys_length, told_some, told_get}
 use Rattle.bind_table.proofs.table.BindTable.row.Goals as goal

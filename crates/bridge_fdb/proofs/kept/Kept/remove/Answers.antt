@@ -2,7 +2,8 @@ use Rattle.std.proofs.Common.{◌≡◌, ◌<◌, List, [], ◌∷◌, ◌++◌,
 use Rattle.bridge_fdb.specs.declared.station.Station.{Station}
 use Rattle.bridge_fdb.specs.Kept.{IsTied, in_slot, listed}
 use Rattle.std.proofs.Math.ListN.{set}
-use Rattle.bridge_fdb.specs.Limits.{IsRising}
+use Rattle.savi_kinds.specs.Orders.{IsRising}
+use Rattle.bridge_fdb.specs.Stations.{station_number}
 use Rattle.bridge_fdb.proofs.Slots.{slot_at, slot_bound, IsTied-remove, listed_is}
 use Rattle.bridge_fdb.proofs.kept.Kept.remove.Goals as goal
 
@@ -16,7 +17,7 @@ tied c =
     let slot : c.from.result ≡ get_or c.args.self.now.slots.items c.args.at 0 = c.from.ensures ∙ slot_at c.args.self.now.stations.items c.args.self.now.slots.items c.args.self.now.numbers.items (listed c.args.self.now) c.args.at c.remove-slot.result c.requires.kept.tied c.requires.within c.remove-slot.ensures.value in
     rw (slot, c.remove-slot.ensures.items, c.remove.ensures.items) (go (listed c.args.self.now) c.requires.kept.tied c.requires.rising c.requires.within)
   where
-    go : (xs : List Station) → IsTied c.args.self.now.stations.items c.args.self.now.slots.items c.args.self.now.numbers.items xs → IsRising xs → c.args.at < length xs → IsTied (set c.args.self.now.stations.items (get_or c.args.self.now.slots.items c.args.at 0) None) (take c.args.at c.args.self.now.slots.items ++ drop (suc c.args.at) c.args.self.now.slots.items) (take c.args.at c.args.self.now.numbers.items ++ drop (suc c.args.at) c.args.self.now.numbers.items) (take c.args.at xs ++ drop (suc c.args.at) xs)
+    go : (xs : List Station) → IsTied c.args.self.now.stations.items c.args.self.now.slots.items c.args.self.now.numbers.items xs → IsRising station_number xs → c.args.at < length xs → IsTied (set c.args.self.now.stations.items (get_or c.args.self.now.slots.items c.args.at 0) None) (take c.args.at c.args.self.now.slots.items ++ drop (suc c.args.at) c.args.self.now.slots.items) (take c.args.at c.args.self.now.numbers.items ++ drop (suc c.args.at) c.args.self.now.numbers.items) (take c.args.at xs ++ drop (suc c.args.at) xs)
     go [] t rising within = absurd (omega (arith, within))
     go (x ∷ xs) t rising within = IsTied-remove c.args.self.now.stations.items c.args.self.now.slots.items c.args.self.now.numbers.items (x ∷ xs) c.args.at x t rising within
 

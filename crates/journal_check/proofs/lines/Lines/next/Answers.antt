@@ -7,7 +7,7 @@ use Rattle.journal_check.proofs.lines.Lines.next.Goals as goal
 
 pub pieces-init : goal.pieces-init
 pieces-init g c = record {
-  later = omega arith;
+  still = refl;
   plain = subst HasNoFeed (sym c.clear.ensures) tt;
   told = sym (ap (λ (l : List ℕ). in_front l (to_come c.args.self.now (g.S.Source.left c.args.source.now))) c.clear.ensures ∙ in_front_none (to_come c.args.self.now (g.S.Source.left c.args.source.now)));
 }
@@ -18,7 +18,7 @@ pieces-preserved g c =
     let cut = c.in-Part.ensures in
     let left = g.S.Source.left c.fill.new.source in
     record {
-      later = omega (arith, was.later, c.fill.ensures.later);
+      still = c.in-More.ensures.still (λ same. cc) ∙ was.still;
       plain = subst HasNoFeed (sym cut.2) (plain_append c.pieces.line.items (held_octets c.fill.new.self) was.plain cut.1);
       told = told_part c.pieces.line.items (held_octets c.fill.new.self) (held_octets c.cut.new.self) c.cut.new.line.items (to_come c.args.self.now (g.S.Source.left c.args.source.now)) (to_come c.pieces.self (g.S.Source.left c.pieces.source)) left was.told c.fill.ensures.same cut.2 cut.3;
     }

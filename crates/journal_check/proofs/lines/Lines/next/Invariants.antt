@@ -7,7 +7,7 @@ use Rattle.journal_check.proofs.lines.Lines.next.Given as goal
 -- what was taken so far is in the buffer, in front of what is to come
 abbrev pub invariant-pieces : goal.invariant-pieces
 invariant-pieces g l = record {
-  later : g.S.Source.faults l.initial.source ≤ g.S.Source.faults l.source;
+  still : g.S.Source.faults l.source ≡ g.S.Source.faults l.initial.source;
   plain : HasNoFeed l.line.items;
   told : to_come l.initial.self (g.S.Source.left l.initial.source) ≡ in_front l.line.items (to_come l.self (g.S.Source.left l.source));
 }

@@ -28,7 +28,7 @@ use Rattle.savi_core.specs.Steps.{entry_of}
 use Rattle.savi_core.proofs.FrameEntries.{command_entry_is}
 use Rattle.savi_core.proofs.Knowing.{knows_command}
 use Rattle.savi_core.proofs.Telling.{command_offers, tells_command}
-use Rattle.savi_core.proofs.AgedAndJudged.{early_now, aged_here, states_aged, shows_aged, counts_aged}
+use Rattle.savi_core.proofs.AgedAndJudged.{early_now, aged_here, shows_aged, counts_aged}
 use Rattle.savi_core.proofs.Remembering.{room_for, held-reverse}
 use Rattle.savi_core.proofs.Stepping.{row, may_command, remembers_command, stepped_view}
 use Rattle.savi_core.proofs.Shutting.{shut_aged}
@@ -102,8 +102,8 @@ refusal_is c =
 still_shut : (c : After-append) → c.age.new.queues.shut ≡ c.self.inside.queues.shut
 still_shut c = shut_aged _ _ _ _ c.self.inside.queues c.age.new.queues _ _ (ages c)
 
-shut_is : (c : After-append) → shut_in c.obey-self-inside.new.queues.shut ≡ (λ number. shut_by number (command_of c.args.line.now) (shut_in c.self.inside.queues.shut number))
-shut_is c = (obeyed c).shut ∙ fun_ext (λ number. ap (λ (set : PortSet). shut_by number (command_of c.args.line.now) (shut_in set number)) (still_shut c))
+shut_is : (c : After-append) → shut_in c.obey-self-inside.new.queues.shut ≡ (λ number. shut_by c.self.inside.ports number (command_of c.args.line.now) (shut_in c.self.inside.queues.shut number))
+shut_is c = (obeyed c).shut ∙ fun_ext (λ number. ap (λ (set : PortSet). shut_by c.self.inside.ports number (command_of c.args.line.now) (shut_in set number)) (still_shut c))
 
 pub append-requires-clause-bytes : goal.append-requires-clause-bytes
 append-requires-clause-bytes c =

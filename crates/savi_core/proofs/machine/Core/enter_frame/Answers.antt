@@ -92,7 +92,7 @@ may c =
 still_shut : (c : goal.After-append) → c.judge-verdict.new.queues.shut ≡ c.self.inside.queues.shut
 still_shut c = shut_judged _ _ _ _ _ _ _ c.self.inside.queues c.judge-verdict.new.queues _ _ _ (judges c)
 
-shut_now : (c : goal.After-append) → shut_in c.judge-verdict.new.queues.shut ≡ (λ number. is_shut empty number (reverse c.self.inside.hist.rows))
+shut_now : (c : goal.After-append) → shut_in c.judge-verdict.new.queues.shut ≡ (λ number. is_shut c.self.inside.ports empty number (reverse c.self.inside.hist.rows))
 shut_now c = ap shut_in (still_shut c) ∙ c.self.invariant.0.shut_ports
 
 -- the entry is that of the frame's row, by what the core keeps

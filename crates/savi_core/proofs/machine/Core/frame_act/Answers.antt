@@ -1,4 +1,4 @@
-use Rattle.std.proofs.Common.{ℕ, length, reverse, ap, sym, ◌∙◌}
+use Rattle.std.proofs.Common.{ℕ, length, ap, sym, ◌∙◌}
 use Rattle.savi_kinds.specs.declared.entry.Act.TheVariants as acts
 use Rattle.savi_history.specs.Events as events
 use Rattle.savi_core.specs.Machines.{Machine}

@@ -56,7 +56,7 @@ stored c = record c.plain_entry.result { verdict = Some c.judge_long.result; pro
 still_shut : (c : goal.After-append) → c.age.new.queues.shut ≡ c.self.inside.queues.shut
 still_shut c = shut_aged _ _ _ _ c.self.inside.queues c.age.new.queues _ _ (ages c)
 
-verdict_is : (c : goal.After-append) → c.judge_long.result ≡ judged_long empty (reverse c.self.inside.hist.rows) c.args.port
+verdict_is : (c : goal.After-append) → c.judge_long.result ≡ judged_long c.self.inside.ports empty (reverse c.self.inside.hist.rows) c.args.port
 verdict_is c =
     c.judge_long.ensures
     ∙ ap (λ (set : PortSet). long_by (shut_in set (number_of c.args.port))) (still_shut c)

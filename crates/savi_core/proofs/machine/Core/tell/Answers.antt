@@ -1,14 +1,13 @@
 use Rattle.std.proofs.Common.{◌≡◌, List, ℕ, Result, Ok, rules, refl, ap, sym, ◌∙◌}
 use Rattle.std.specs.Prelude.{reverse}
 use Rattle.cli_lang.specs.declared.kinds.Command.{Command}
-use Rattle.cli_lang.specs.declared.kinds.Command.TheVariants.{ShowBindings, ShowPorts, ShowCounters, ShowStations}
+use Rattle.cli_lang.specs.declared.kinds.Command.TheVariants.{ShowPorts, ShowCounters, ShowStations}
 use Rattle.cli_lang.specs.declared.kinds.CmdFault.{CmdFault}
-use Rattle.savi_history.specs.Bases.{empty}
 use Rattle.savi_history.specs.Moments.{last_moment}
 use Rattle.savi_history.specs.Shown.{reply_to}
 use Rattle.savi_core.specs.Machines.{Machine, base_of}
 use Rattle.savi_core.proofs.Showing.{lane_count}
-use Rattle.savi_core.proofs.Answering.{bindings_are, ports_are, stations_are, counters_are}
+use Rattle.savi_core.proofs.Answering.{ports_are, stations_are, counters_are}
 use Rattle.savi_core.proofs.machine.Core.tell.Goals as goal
 
 -- what is said of what the core keeps, as contracts see it

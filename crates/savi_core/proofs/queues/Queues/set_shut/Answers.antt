@@ -1,5 +1,4 @@
-use Rattle.std.proofs.Common.{ℕ, ◌≡◌, Bool, true, false, sym, ap, ◌∙◌}
-use Rattle.savi_kinds.specs.declared.port.PortSet.{PortSet}
+use Rattle.std.proofs.Common.{Bool, sym, ap, ◌∙◌}
 use Rattle.savi_kinds.specs.Ports.{number_of}
 use Rattle.savi_core.specs.Rings.{Rings, shut_in, with_shut}
 use Rattle.savi_core.proofs.Shutting.{with_port, without_port}

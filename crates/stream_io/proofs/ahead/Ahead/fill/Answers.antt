@@ -18,7 +18,7 @@ loop-at-preserved g c =
     let part : length (take n piece) ≡ n = length-take-le n piece fits in
     let written = take_over at n buf piece _ was.within fits in
     record {
-      later = omega (arith, was.later, c.hold.ensures.later);
+      still = c.in-Bytes.ensures.still (λ same. absurd cc) ∙ was.still;
       within = within_over at n buf piece _ was.within fits;
       taken = (
         was.taken.0 ++ took.0,

@@ -6,7 +6,7 @@ use Rattle.stream_io.proofs.ahead.Ahead.fill.Given as goal
 -- what was held at first and taken since is the front of the buffer and what is held
 abbrev pub invariant-loop-at : goal.invariant-loop-at
 invariant-loop-at g l = record {
-  later : g.S.Source.faults l.initial.source ≤ g.S.Source.faults l.source;
+  still : g.S.Source.faults l.source ≡ g.S.Source.faults l.initial.source;
   within : l.at ≤ length l.buf;
   taken : (gave : List ℕ) × Takes (g.S.Source.left l.initial.source) (g.S.Source.left l.source) gave × (l.initial.self ++ gave ≡ take l.at l.buf ++ l.self);
   unread : Unread l.source l.initial.source l.initial.self (take l.at l.buf) l.self;

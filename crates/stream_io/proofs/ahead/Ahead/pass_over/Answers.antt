@@ -15,7 +15,7 @@ loop-missing-preserved g c =
     let used : now ≡ take n now ++ c.skip.new.self = sym (take-append-drop n now) ∙ ap (λ (l : List ℕ). take n now ++ l) (sym c.skip.ensures) in
     let part : length (take n now) ≡ n = length-take-le n now fits in
     record {
-      later = omega (arith, was.later, c.hold.ensures.later);
+      still = c.in-Bytes.ensures.still (λ same. absurd cc) ∙ was.still;
       taken = (
         front ++ take n now,
         was.taken.1 ++ took.0,
@@ -28,7 +28,7 @@ loop-missing-preserved g c =
 
 pub loop-missing-init : goal.loop-missing-init
 loop-missing-init g c = record {
-  later = omega arith;
+  still = refl;
   taken = ([], [], omega arith, takes_none (g.S.Source.left c.args.source.now), append-nil c.args.self.now, inl (refl, refl));
 }
 

@@ -1,5 +1,6 @@
 use Rattle.std.proofs.Common.{◌≤◌, ◌/◌, sym, subst, ap, ◌∙◌}
-use Rattle.timer_wheel.specs.Arms.{Wheel, IsRising, first_armed, due_within}
+use Rattle.savi_kinds.specs.Orders.{IsRising}
+use Rattle.timer_wheel.specs.Arms.{armed_address, Wheel, first_armed, due_within}
 use Rattle.timer_wheel.proofs.Slots.{arms_in-rising}
 use Rattle.timer_wheel.specs.Rings.{slice_of}
 use Rattle.timer_wheel.specs.Searches.{LeastOf}
@@ -29,10 +30,10 @@ returns-clause-value c =
     (subst (LeastOf c.self.inside.rows.slots (λ armed. slice_of armed ≤ c.args.t / 64)) c.in_ok-armed.was c.seek-found.ensures.least) c.if-armed-t.false)
 
 pub returns-in_err-armed-clause-rising : goal.returns-in_err-armed-clause-rising
-returns-in_err-armed-clause-rising c = subst (λ (w : Wheel). IsRising w.arms) c.self.view_is (arms_in-rising c.self.inside.rows.slots)
+returns-in_err-armed-clause-rising c = subst (λ (w : Wheel). IsRising armed_address w.arms) c.self.view_is (arms_in-rising c.self.inside.rows.slots)
 
 pub returns-then-armed-t-clause-rising : goal.returns-then-armed-t-clause-rising
-returns-then-armed-t-clause-rising c = subst (λ (w : Wheel). IsRising w.arms) c.self.view_is (arms_in-rising c.self.inside.rows.slots)
+returns-then-armed-t-clause-rising c = subst (λ (w : Wheel). IsRising armed_address w.arms) c.self.view_is (arms_in-rising c.self.inside.rows.slots)
 
 pub returns-clause-rising : goal.returns-clause-rising
-returns-clause-rising c = subst (λ (w : Wheel). IsRising w.arms) c.self.view_is (arms_in-rising c.self.inside.rows.slots)
+returns-clause-rising c = subst (λ (w : Wheel). IsRising armed_address w.arms) c.self.view_is (arms_in-rising c.self.inside.rows.slots)

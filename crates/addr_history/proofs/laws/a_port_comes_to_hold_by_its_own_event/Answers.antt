@@ -1,8 +1,0 @@
-use Rattle.addr_history.proofs.Holding.{more-held, held-later}
-use Rattle.addr_history.proofs.laws.a_port_comes_to_hold_by_its_own_event.Goals as goal
-
-pub returns : goal.returns
-returns c = record {
-  marks = λ r base past named port times tables more. more-held r base times tables named past port more;
-  ageing = λ r base past t u port times tables after. held-later r base times tables past t u port after;
-}

@@ -1,6 +1,0 @@
-use Rattle.addr_history.proofs.StatesKept.{base_times, base_tables, base_within}
-use Rattle.addr_history.proofs.Holding.{held-within}
-use Rattle.addr_history.proofs.laws.no_port_holds_too_many.Goals as goal
-
-pub returns : goal.returns
-returns c = λ r base past t port is right after. held-within r base (base_times r base is) (base_tables r base is) (base_within r base is) past t port right after
