@@ -1,0 +1,16 @@
+-- The advertisement of a packet, by the outcome of its header chain.
+use Rattle.std.proofs.Common.{◌≡◌, ℕ, true, List, ap, subst}
+use Rattle.v6_chain.specs.declared.packet.Ip.{Ip}
+use Rattle.v6_chain.specs.declared.outcome.Chain.{Chain}
+use Rattle.v6_chain.specs.Packet.{IsPacket}
+use Rattle.v6_chain.specs.ChainOf.{chain_of}
+use Rattle.frame_class.specs.ClassOf.{is_packet}
+use Rattle.frame_class.proofs.ClassIs.{packet_decided}
+use Rattle.ra_learn.specs.Carried.{carried_by, carried_in}
+
+pub carried_is : (payload : List ℕ) (ip : Ip) (outcome : Chain) → IsPacket payload ip → chain_of ip payload ≡ outcome → carried_in payload ≡ carried_by ip payload outcome
+carried_is payload ip outcome packet chain =
+    let P : Ip → Type 0 = λ header. IsPacket payload header in
+    let Q : Ip → Type 0 = λ header. carried_by header payload (chain_of header payload) ≡ carried_by ip payload outcome in
+    let holds : is_packet payload ≡ true = (packet_decided payload).1 (subst P packet.header packet) in
+    rw holds (subst Q packet.header (ap (carried_by ip payload) chain))

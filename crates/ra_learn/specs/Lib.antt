@@ -1,0 +1,12 @@
+pub mod PrefixOptions
+pub mod RouterAdverts
+pub mod Carried
+pub mod Ordered
+pub mod Sightings
+pub mod Guarding
+pub mod Tables
+pub mod Learned
+pub mod Printed
+pub mod Reports
+pub mod Comings
+pub mod Laws

@@ -1,0 +1,26 @@
+-- What is known of learning while it goes on, and what a sink took of what is printed.
+use Rattle.std.specs.Prelude.{◌≡◌, ℕ, ◌≤◌, List, Option}
+use Rattle.savi_kinds.specs.declared.plan.Plan.{Plan}
+use Rattle.savi_ends.specs.declared.sink.Put.{Put}
+use Rattle.savi_ends.specs.declared.sink.Put.TheVariants as put
+use Rattle.savi_ends.specs.Faults.{Rose}
+use Rattle.savi_ends.specs.Writes.{Extends}
+use Rattle.ra_learn.specs.Learned.{Learned, HasLearned}
+use Rattle.ra_learn.specs.Printed.{PortArrival, seen_of, last_moment}
+
+-- what was learned, the last moment, and whether a write failed
+pub record Reported : Type 0 where
+  pub learned : Learned
+  pub moment : ℕ
+  pub put : Put
+
+-- it stands with these arrivals, the newest first
+pub record HasReported (plan : Plan) (window : ℕ) (arrivals : List PortArrival) (reported : Reported) : Type 0 where
+  pub knows : HasLearned plan window (seen_of arrivals) reported.learned
+  pub moment : reported.moment ≡ last_moment arrivals
+
+-- A sink took a text since some time, or a front of it where a write failed; then its count of faults rose.
+pub record Wrote (text : List ℕ) (answer : Put) (before now : Option (List ℕ)) (faults_before faults_now : ℕ) : Type 0 where
+  pub took : Extends answer before now text
+  pub later : faults_before ≤ faults_now
+  pub cause : answer ≡ put.Failed → Rose faults_before faults_now
