@@ -1,0 +1,162 @@
+use Rattle.std.proofs.Common.{◌≡◌, ◌≤◌, ◌+◌, [], ◌++◌, length, Option, Some, None, refl, sym, ap, subst, ◌∙◌, arith}
+use Rattle.savi_kinds.specs.declared.entry.How.TheVariants as how
+use Rattle.savi_ends.proofs.Octets.{takes_more}
+use Rattle.pcap_io.proofs.CallsJoined.{takes_none}
+use Rattle.pcapng_io.specs.Blocks.{Standing}
+use Rattle.pcapng_io.specs.Readers.{State, Reading, Ended, block_place}
+use Rattle.pcapng_io.proofs.Readings.{has_read_none}
+use Rattle.pcap_split.specs.declared.split.SplitGot.{SplitGot}
+use Rattle.pcap_split.specs.Splits.{tally}
+use Rattle.pcap_split.specs.Counts.{interfaces_of, tally_of, counted}
+use Rattle.pcap_split.specs.Going.{HasBegun, Tells, split_behind}
+use Rattle.pcap_split.specs.States.{Splitting}
+use Rattle.pcap_split.specs.Steps.{Does}
+use Rattle.pcap_split.proofs.Goings.{SoFar, TellsEvent, none_yet, differ_still, rose_since, counted_within, may_take, place_within, goes_on, stops_at, rose_at, failed_by}
+use Rattle.pcap_split.proofs.splitter.Splitter.go_on.Goals as goal
+
+pub loop-got-init : goal.loop-got-init
+loop-got-init g c = record {
+  later = omega arith;
+  within = c.self.invariant;
+  failed = λ is. is;
+  split = ([], [], takes_none (g.S.Source.left c.args.source.now), has_read_none c.self.inside.reader, none_yet g.K.Sink.written g.K.Sink.faults c.args.outputs.now, refl);
+}
+
+pub take_answer-requires-clause-room : goal.take_answer-requires-clause-room
+take_answer-requires-clause-room g c =
+    let W = g.K.Sink.written in
+    let F = g.K.Sink.faults in
+    let was = c.loop-got.invariant in
+    let w = was.split in
+    let first = c.self.inside.reader in
+    let mid = c.loop-got.self-inside.reader in
+    let counts = c.loop-got.self-inside.counts in
+    let one = c.next-answer.ensures.octets in
+    let new = c.next-answer.new.self in
+    let buf = c.next-answer.new.buf in
+    let left = g.S.Source.left c.next-answer.new.source in
+    let answer = c.next-answer.result in
+    let inside : TellsEvent answer → counted counts ≤ block_place mid = λ event. counted_within mid counts answer
+    (λ a. (answer ≡ a) × (new ≡ mid) × (c.next-answer.new.source ≡ c.loop-got.source) × (buf ≡ c.loop-got.buf)) (λ a x. x.0) was.within c.next-answer.ensures.again event in
+    may_take mid new one.0 buf left counts answer one.2 c.next-answer.ensures.placed inside
+
+pub take_answer-requires-clause-differ : goal.take_answer-requires-clause-differ
+take_answer-requires-clause-differ g c =
+    let w = c.loop-got.invariant.split in
+    differ_still g.K.Sink.written g.K.Sink.faults w.1 c.args.outputs.now c.loop-got.outputs w.4 c.requires
+
+reading_fails_not : (state : State) (s : Standing) → state ≡ Reading s → state ≡ Ended how.Failed → ⊥
+reading_fails_not state s is failed = absurd (cc)
+
+pub loop-got-preserved : goal.loop-got-preserved
+loop-got-preserved g c =
+    let W = g.K.Sink.written in
+    let F = g.K.Sink.faults in
+    let was = c.loop-got.invariant in
+    let w = was.split in
+    let first = c.self.inside.reader in
+    let mid = c.loop-got.self-inside.reader in
+    let counts = c.loop-got.self-inside.counts in
+    let one = c.next-answer.ensures.octets in
+    let new = c.next-answer.new.self in
+    let buf = c.next-answer.new.buf in
+    let left = g.S.Source.left c.next-answer.new.source in
+    let answer = c.next-answer.result in
+    let inside : TellsEvent answer → counted counts ≤ block_place mid = λ event. counted_within mid counts answer
+    (λ a. (answer ≡ a) × (new ≡ mid) × (c.next-answer.new.source ≡ c.loop-got.source) × (buf ≡ c.loop-got.buf)) (λ a x. x.0) was.within c.next-answer.ensures.again event in
+    let sofar : SoFar W F first mid c.self.inside.counts counts c.args.outputs.now c.loop-got.outputs w.0 w.1 = record { read = w.3; each = w.4; tallied_is = w.5 } in
+    let does : Does W F answer buf counts c.take_answer.new.counts c.loop-got.outputs c.take_answer.new.outputs None =
+    subst (λ (r : Option SplitGot). Does W F answer buf counts c.take_answer.new.counts c.loop-got.outputs c.take_answer.new.outputs r) c.in_default.is c.take_answer.ensures in
+    let on = goes_on W F first mid new c.self.inside.counts counts c.take_answer.new.counts c.args.outputs.now c.loop-got.outputs c.take_answer.new.outputs w.0 one.0 buf left w.1 answer sofar one.2 c.next-answer.ensures.placed inside does in
+    record {
+      later = omega (arith, was.later, c.next-answer.ensures.later);
+      within = on.within;
+      failed = λ is. absurd (reading_fails_not new on.reading.0 on.reading.1 is);
+      split = (w.0 ++ one.0, on.events, takes_more w.0 one.0 _ _ _ w.2 one.1, on.sofar.read, on.sofar.each, on.sofar.tallied_is);
+    }
+
+pub loop-got-smaller : goal.loop-got-smaller
+loop-got-smaller g c =
+    let W = g.K.Sink.written in
+    let F = g.K.Sink.faults in
+    let was = c.loop-got.invariant in
+    let w = was.split in
+    let first = c.self.inside.reader in
+    let mid = c.loop-got.self-inside.reader in
+    let counts = c.loop-got.self-inside.counts in
+    let one = c.next-answer.ensures.octets in
+    let new = c.next-answer.new.self in
+    let buf = c.next-answer.new.buf in
+    let left = g.S.Source.left c.next-answer.new.source in
+    let answer = c.next-answer.result in
+    let inside : TellsEvent answer → counted counts ≤ block_place mid = λ event. counted_within mid counts answer
+    (λ a. (answer ≡ a) × (new ≡ mid) × (c.next-answer.new.source ≡ c.loop-got.source) × (buf ≡ c.loop-got.buf)) (λ a x. x.0) was.within c.next-answer.ensures.again event in
+    let sofar : SoFar W F first mid c.self.inside.counts counts c.args.outputs.now c.loop-got.outputs w.0 w.1 = record { read = w.3; each = w.4; tallied_is = w.5 } in
+    let does : Does W F answer buf counts c.take_answer.new.counts c.loop-got.outputs c.take_answer.new.outputs None =
+    subst (λ (r : Option SplitGot). Does W F answer buf counts c.take_answer.new.counts c.loop-got.outputs c.take_answer.new.outputs r) c.in_default.is c.take_answer.ensures in
+    let on = goes_on W F first mid new c.self.inside.counts counts c.take_answer.new.counts c.args.outputs.now c.loop-got.outputs c.take_answer.new.outputs w.0 one.0 buf left w.1 answer sofar one.2 c.next-answer.ensures.placed inside does in
+    let r = on.reading in
+    omega (arith, ap block_place r.1, r.2, on.some, place_within new (block_place mid + length one.0) c.next-answer.ensures.placed r)
+
+pub returns-in-Some-clause-split : goal.returns-in-Some-clause-split
+returns-in-Some-clause-split g c =
+    let W = g.K.Sink.written in
+    let F = g.K.Sink.faults in
+    let was = c.loop-got.invariant in
+    let w = was.split in
+    let first = c.self.inside.reader in
+    let mid = c.loop-got.self-inside.reader in
+    let counts = c.loop-got.self-inside.counts in
+    let one = c.next-answer.ensures.octets in
+    let new = c.next-answer.new.self in
+    let buf = c.next-answer.new.buf in
+    let left = g.S.Source.left c.next-answer.new.source in
+    let answer = c.next-answer.result in
+    let sofar : SoFar W F first mid c.self.inside.counts counts c.args.outputs.now c.loop-got.outputs w.0 w.1 = record { read = w.3; each = w.4; tallied_is = w.5 } in
+    let does : Does W F answer buf counts c.take_answer.new.counts c.loop-got.outputs c.take_answer.new.outputs (Some c.in-Some.got) =
+    subst (λ (r : Option SplitGot). Does W F answer buf counts c.take_answer.new.counts c.loop-got.outputs c.take_answer.new.outputs r) c.in-Some.is c.take_answer.ensures in
+    let at = stops_at W F first mid new c.self.inside.counts counts c.take_answer.new.counts c.args.outputs.now c.loop-got.outputs c.take_answer.new.outputs w.0 one.0 buf left w.1 answer c.in-Some.got sofar one.2 does in (
+      w.0 ++ one.0,
+      at.events,
+      takes_more w.0 one.0 _ _ _ w.2 one.1,
+      subst (λ (v : Splitting). Tells c.in-Some.got v.reading new (w.0 ++ one.0) left at.events) c.self.view_is at.tells,
+      subst (λ (v : Splitting). HasBegun c.in-Some.got (tally_of v.counts (interfaces_of c.args.outputs.now)) at.events) c.self.view_is at.begun,
+      at.writes,
+      subst (λ (v : Splitting). tally_of c.take_answer.new.counts (split_behind c.in-Some.got (interfaces_of c.args.outputs.now)) ≡ tally (tally_of v.counts (interfaces_of c.args.outputs.now)) at.events) c.self.view_is at.tallied_is,
+    )
+
+pub returns-in-Some-clause-unwritten : goal.returns-in-Some-clause-unwritten
+returns-in-Some-clause-unwritten g c =
+    let W = g.K.Sink.written in
+    let F = g.K.Sink.faults in
+    let was = c.loop-got.invariant in
+    let w = was.split in
+    let first = c.self.inside.reader in
+    let mid = c.loop-got.self-inside.reader in
+    let counts = c.loop-got.self-inside.counts in
+    let one = c.next-answer.ensures.octets in
+    let new = c.next-answer.new.self in
+    let buf = c.next-answer.new.buf in
+    let left = g.S.Source.left c.next-answer.new.source in
+    let answer = c.next-answer.result in
+    let does : Does W F answer buf counts c.take_answer.new.counts c.loop-got.outputs c.take_answer.new.outputs (Some c.in-Some.got) =
+    subst (λ (r : Option SplitGot). Does W F answer buf counts c.take_answer.new.counts c.loop-got.outputs c.take_answer.new.outputs r) c.in-Some.is c.take_answer.ensures in
+    rose_at W F w.1 answer buf counts c.take_answer.new.counts c.args.outputs.now c.loop-got.outputs c.take_answer.new.outputs c.in-Some.got w.4 does
+
+pub returns-in-Some-clause-cause : goal.returns-in-Some-clause-cause
+returns-in-Some-clause-cause g c =
+    let W = g.K.Sink.written in
+    let F = g.K.Sink.faults in
+    let was = c.loop-got.invariant in
+    let w = was.split in
+    let first = c.self.inside.reader in
+    let mid = c.loop-got.self-inside.reader in
+    let counts = c.loop-got.self-inside.counts in
+    let one = c.next-answer.ensures.octets in
+    let new = c.next-answer.new.self in
+    let buf = c.next-answer.new.buf in
+    let left = g.S.Source.left c.next-answer.new.source in
+    let answer = c.next-answer.result in
+    let does : Does W F answer buf counts c.take_answer.new.counts c.loop-got.outputs c.take_answer.new.outputs (Some c.in-Some.got) =
+    subst (λ (r : Option SplitGot). Does W F answer buf counts c.take_answer.new.counts c.loop-got.outputs c.take_answer.new.outputs r) c.in-Some.is c.take_answer.ensures in
+    λ is first_time. rose_since _ _ _ was.later (c.next-answer.ensures.cause (failed_by W F answer buf counts c.take_answer.new.counts c.loop-got.outputs c.take_answer.new.outputs c.in-Some.got does is) (λ failed. first_time (ap (λ (v : Splitting). v.reading) (sym c.self.view_is) ∙ was.failed failed)))

@@ -1,0 +1,95 @@
+-- What one call of a splitter did: what was told, and what each output was given.
+use Rattle.std.specs.Prelude.{◌≡◌, ℕ, ◌<◌, ◌≤◌, List, [], ◌∷◌, ◌++◌, length, slice_index_or, Option, IfSome}
+use Rattle.savi_kinds.specs.declared.entry.How.{How}
+use Rattle.savi_kinds.specs.declared.entry.How.TheVariants as how
+use Rattle.savi_ends.specs.Octets.{behind, IsFront}
+use Rattle.savi_ends.specs.Faults.{Rose}
+use Rattle.pcap_io.specs.Captures.{records_text}
+use Rattle.pcapng_io.specs.Runs.{Event, Begins}
+use Rattle.pcapng_io.specs.Readers.{State, Ended, Comes, HasRead}
+use Rattle.pcap_split.specs.declared.split.SplitGot.{SplitGot}
+use Rattle.pcap_split.specs.declared.split.SplitGot.TheVariants as got
+use Rattle.pcap_split.specs.declared.output.Output.{Output}
+use Rattle.pcap_split.specs.Splits.{frames_of, Tally, tally}
+
+-- The capture has ended so: what was taken, alone and with what is left behind it, where that is told, tells these events
+-- and has this ending.
+pub record HasTold (old new : State) (gave : List ℕ) (left : Option (List ℕ)) (events : List Event) (ending : How) : Type 0 where
+  pub state : new ≡ Ended ending
+  pub taken : Comes old gave (record { events = events; ending = ending })
+  pub whole : IfSome left (λ rest. Comes old (gave ++ rest) (record { events = events; ending = ending }))
+
+-- A read failed: what was taken tells these events.
+pub record HasBroken (old new : State) (gave : List ℕ) (events : List Event) : Type 0 where
+  pub state : new ≡ Ended how.Failed
+  pub taken : (ending : How) × Comes old gave (record { events = events; ending = ending })
+
+-- what the octets that a call took tell
+abbrev pub Tells : SplitGot → State → State → List ℕ → Option (List ℕ) → List Event → Type 0
+Tells (got.Opens interface) old new gave left events = HasRead old new gave events
+Tells (got.Unwritten interface) old new gave left events = HasRead old new gave events
+Tells got.End old new gave left events = HasTold old new gave left events how.End
+Tells (got.Malformed at) old new gave left events = HasTold old new gave left events (how.Malformed at)
+Tells got.Failed old new gave left events = HasBroken old new gave events
+
+-- Where an interface is to be opened it has just begun, behind these other events.
+abbrev pub HasBegun : SplitGot → Tally → List Event → Type 0
+HasBegun (got.Opens interface) t events = (earlier : List Event) × (events ≡ earlier ++ Begins 1 ∷ []) × (interface ≡ (tally t earlier).interfaces)
+HasBegun (got.Unwritten interface) t events = Unit {0}
+HasBegun got.End t events = Unit {0}
+HasBegun (got.Malformed at) t events = Unit {0}
+HasBegun got.Failed t events = Unit {0}
+
+-- an output was given the records of its interface's frames
+pub record HasTaken {K : Type 0} (written : K → Option (List ℕ)) (faults : K → ℕ) (events : List Event) (old new : Output K) : Type 0 where
+  pub same : new.interface ≡ old.interface
+  pub later : faults old.sink ≤ faults new.sink
+  pub text : written new.sink ≡ behind (written old.sink) (records_text (frames_of old.interface events))
+
+-- a write failed: an output was given a front of the records of its interface's frames
+pub record HasTakenFront {K : Type 0} (written : K → Option (List ℕ)) (faults : K → ℕ) (events : List Event) (old new : Output K) : Type 0 where
+  pub same : new.interface ≡ old.interface
+  pub later : faults old.sink ≤ faults new.sink
+  pub text : (front : List ℕ) × IsFront front (records_text (frames_of old.interface events)) × (written new.sink ≡ behind (written old.sink) front)
+
+-- each output as it was and as it is now
+abbrev pub EachOutput : {K : Type 0} → (Output K → Output K → Type 0) → List (Output K) → List (Output K) → Type 0
+EachOutput {K} R old new = (length new ≡ length old) × ((k : ℕ) (d : Output K) → k < length old → R (slice_index_or old k d) (slice_index_or new k d))
+
+-- what the outputs were given
+abbrev pub Writes : {K : Type 0} → (K → Option (List ℕ)) → (K → ℕ) → SplitGot → List Event → List (Output K) → List (Output K) → Type 0
+Writes written faults (got.Opens interface) events old new = EachOutput (HasTaken written faults events) old new
+Writes written faults (got.Unwritten interface) events old new = EachOutput (HasTakenFront written faults events) old new
+Writes written faults got.End events old new = EachOutput (HasTaken written faults events) old new
+Writes written faults (got.Malformed at) events old new = EachOutput (HasTaken written faults events) old new
+Writes written faults got.Failed events old new = EachOutput (HasTaken written faults events) old new
+
+-- the output of this interface stands at this place
+abbrev pub IsOutputOf : {K : Type 0} → List (Output K) → ℕ → ℕ → Type 0
+IsOutputOf {K} outputs place interface = (place < length outputs) × ((d : Output K) → (slice_index_or outputs place d).interface ≡ interface)
+
+-- no two outputs are of one interface
+abbrev pub Differ : {K : Type 0} → List (Output K) → Type 0
+Differ {K} outputs =
+    (j k : ℕ) (d : Output K) → j < length outputs → k < length outputs → (slice_index_or outputs j d).interface ≡ (slice_index_or outputs k d).interface → j ≡ k
+
+-- the faults of that output's sink rose
+abbrev pub HasRisen : {K : Type 0} → (K → ℕ) → ℕ → List (Output K) → List (Output K) → Type 0
+HasRisen {K} faults interface old new =
+    (place : ℕ) × IsOutputOf old place interface × ((d : Output K) → Rose (faults (slice_index_or old place d).sink) (faults (slice_index_or new place d).sink))
+
+-- a write fails only where the faults of its output rose
+abbrev pub WriteRose : {K : Type 0} → (K → ℕ) → SplitGot → List (Output K) → List (Output K) → Type 0
+WriteRose faults (got.Opens interface) old new = Unit {0}
+WriteRose faults (got.Unwritten interface) old new = HasRisen faults interface old new
+WriteRose faults got.End old new = Unit {0}
+WriteRose faults (got.Malformed at) old new = Unit {0}
+WriteRose faults got.Failed old new = Unit {0}
+
+-- the interfaces with a capture behind this answer: where one more is to be opened it is among them
+abbrev pub split_behind : SplitGot → List ℕ → List ℕ
+split_behind (got.Opens interface) split = split ++ interface ∷ []
+split_behind (got.Unwritten interface) split = split
+split_behind got.End split = split
+split_behind (got.Malformed at) split = split
+split_behind got.Failed split = split

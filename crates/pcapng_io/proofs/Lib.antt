@@ -1,0 +1,14 @@
+pub mod Parts
+pub mod Fronts
+pub mod Walks
+pub mod OptionParts
+pub mod Rests
+pub mod BlockParts
+pub mod Sections
+pub mod Interfaces
+pub mod Others
+pub mod Packets
+pub mod Readings
+pub mod Once
+pub mod Existence
+pub mod WholeRuns

@@ -1,0 +1,9 @@
+pub mod Numbers
+pub mod Options
+pub mod Blocks
+pub mod Runs
+pub mod Readers
+pub mod ReaderStates
+pub mod Pieces
+pub mod Answers
+pub mod Calls
