@@ -1,0 +1,36 @@
+-- What the verdict on an address rests on: what was told of it, the moment, and the room of the port.
+use Rattle.std.specs.Prelude.{ℕ, Bool, List}
+use Rattle.savi_kinds.specs.declared.port.Port.{Port}
+use Rattle.savi_kinds.specs.declared.plan.Plan.{Plan}
+use Rattle.savi_kinds.specs.declared.verdict.Rule.TheVariants.{OffLink}
+use Rattle.fcfs_states.specs.declared.event.Ev.TheVariants.{Sent}
+use Rattle.fcfs_states.specs.FirstCome.{TimedEvent}
+use Rattle.mix_rules.specs.declared.state.AddrState.{AddrState}
+use Rattle.hist_store.specs.Rows.{Row}
+use Rattle.savi_access.specs.Rooms.{may_hold_more}
+use Rattle.savi_access.specs.NamedMarks.{marks_on}
+use Rattle.savi_access.specs.States.{state_at}
+use Rattle.savi_access.specs.Tables.{rows_at}
+use Rattle.savi_access.specs.Marks.{told}
+use Rattle.savi_access.specs.Judged.{Judged, answered_or}
+use Rattle.savi_access.specs.Plans.{rules_of}
+use Rattle.savi_history.specs.Bases.{Base, access_of}
+use Rattle.savi_history.specs.Marks.{marks}
+
+-- what the entries of a history tell of one address of a VLAN, the newest first: the events that name it, with their
+-- moments and whether their port had room
+abbrev pub told_on : Plan → Base → List Row → ℕ → ℕ → List TimedEvent
+told_on plan base past vlan a = marks_on vlan a (told (marks plan base past))
+
+-- the state of an address at t
+abbrev pub address_at : Plan → Base → List Row → ℕ → ℕ → ℕ → AddrState
+address_at plan base past t vlan a = state_at (rules_of plan).addresses (access_of base).addresses (told (marks plan base past)) t vlan a
+
+-- whether a port may hold one more address at t
+abbrev pub port_has_room : Plan → Base → List Row → ℕ → ℕ → Port → Bool
+port_has_room plan base past t vlan port =
+    may_hold_more (rules_of plan).addresses.per_port (rows_at (rules_of plan).addresses (access_of base).addresses (told (marks plan base past)) t vlan) port
+
+-- what a packet from an address at a port comes to by its source alone (RFC 6620 section 3.2, RFC 7513 section 5)
+abbrev pub source_step : Plan → Base → List Row → ℕ → ℕ → Port → ℕ → Judged
+source_step plan base past t vlan port a = answered_or (rules_of plan) (access_of base) vlan port t OffLink (marks plan base past) a (Sent port)

@@ -1,0 +1,6 @@
+pub mod Rebuilt
+pub mod Answered
+pub mod Addresses
+pub mod Raised
+pub mod VlanMarks
+pub mod Budgets

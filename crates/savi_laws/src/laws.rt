@@ -1,0 +1,108 @@
+// The laws on what verdicts depend on. Each function does nothing: its contract is the law.
+
+ghost use Rattle.std.specs.Prelude.{◌≡◌, ◌<◌, ◌≤◌, ℕ, false, List, length, Option, All};
+ghost use Rattle.savi_kinds.specs.Arrivals.{Input};
+ghost use Rattle.savi_kinds.specs.ValidPlan.{IsValidPlan};
+ghost use Rattle.savi_kinds.specs.declared.plan.Plan.{Plan};
+ghost use Rattle.savi_kinds.specs.declared.port.Port.{Port};
+ghost use Rattle.savi_kinds.specs.Ports.{number_of};
+ghost use Rattle.frame_class.specs.declared.classes.Class.{Class};
+ghost use Rattle.fcfs_states.specs.States.{Same};
+ghost use Rattle.cli_lang.specs.Arrivals as control;
+ghost use Rattle.hist_store.specs.Rows.{Row, held};
+ghost use Rattle.savi_access.specs.Rows.{state_in};
+ghost use Rattle.savi_access.specs.Rules.{AccessRules, AccessBase};
+ghost use Rattle.savi_access.specs.Marks.{Mark};
+ghost use Rattle.savi_access.specs.Judged.{judged};
+ghost use Rattle.savi_history.specs.Bases.{Base, access_of, empty};
+ghost use Rattle.savi_history.specs.Endings.{has_full};
+ghost use Rattle.savi_history.specs.Readable.{IsInput, IsControl};
+ghost use Rattle.savi_history.specs.Replay.{Stops, replayed};
+ghost use Rattle.savi_history.specs.Events.{Event, judged_of, the_vlan};
+ghost use Rattle.savi_history.specs.Legal.{IsLegal};
+ghost use Rattle.savi_history.specs.Limits.{IsWithinLimits};
+ghost use Rattle.savi_history.specs.Marks.{marks};
+ghost use Rattle.savi_history.specs.Moments.{last_moment, moment_at};
+ghost use Rattle.savi_history.specs.Ticks.{IsSameFrom};
+ghost use Rattle.savi_laws.specs.Rebuilt.{rows_by, AreRows, ComesFirst, with_tick};
+ghost use Rattle.savi_laws.specs.Answered.{came, answered};
+ghost use Rattle.savi_laws.specs.Addresses.{told_on, address_at, port_has_room, source_step};
+ghost use Rattle.savi_laws.specs.Raised.{held_after, GivesLease};
+ghost use Rattle.savi_laws.specs.Budgets.{input_count, replay_entries, SufficesForReplay};
+ghost use Rattle.savi_laws.specs.VlanMarks.{in_vlan, IsSameIn};
+
+/// Frames, longer frames and lines with their moments decide all verdicts, and to which ports frames go: ticks, drains and
+/// ends between them don't. The same is known from the later last moment on. It holds of any rows of events; a legal
+/// history has such rows.
+pub fn verdicts_follow_from_what_came_in()
+    ensures answers { (plan : Plan) (base : Base) (past other : List Row)
+        → AreRows plan base past → AreRows plan base other → came past ≡ came other
+        → answered past ≡ answered other }
+    ensures later { (plan : Plan) (base : Base) (past other : List Row)
+        → AreRows plan base past → AreRows plan base other → came past ≡ came other
+        → last_moment base other ≤ last_moment base past
+        → IsSameFrom plan base (last_moment base past) past other }
+    ensures legal { (plan : Plan) (base : Base) (past : List Row) → IsLegal plan base past → AreRows plan base past }
+{}
+
+/// A tick that comes no later than the next event with a stamp can be put in or left out: no moment of an input, verdict or
+/// set of outs changes, and no state, request, station or shut port behind it.
+pub fn ticks_can_be_left_out()
+    ensures answers { (plan : Plan) (base : Base) (past : List Row) (stamp : ℕ) (events : List Event)
+        → ComesFirst base past stamp events
+        → answered (with_tick plan base past stamp events) ≡ answered (rows_by plan base past events) }
+    ensures later { (plan : Plan) (base : Base) (past : List Row) (stamp : ℕ) (events : List Event)
+        → ComesFirst base past stamp events
+        → IsSameFrom plan base (last_moment base (with_tick plan base past stamp events))
+        (with_tick plan base past stamp events) (rows_by plan base past events) }
+{}
+
+/// The state of an address follows from where it began, and from the events that name it with their moments and whether
+/// their ports had room; whatever else came. What a packet from it comes to by its source follows from these, the moment and
+/// whether its port has room.
+pub fn an_address_follows_from_its_own_marks()
+    ensures state { (plan : Plan) (base other_base : Base) (past other : List Row) (t vlan a : ℕ)
+        → state_in (base.rows vlan) a ≡ state_in (other_base.rows vlan) a
+        → told_on plan base past vlan a ≡ told_on plan other_base other vlan a
+        → address_at plan base past t vlan a ≡ address_at plan other_base other t vlan a }
+    ensures verdict { (plan : Plan) (base other_base : Base) (past other : List Row) (t vlan : ℕ) (port : Port) (a : ℕ)
+        → state_in (base.rows vlan) a ≡ state_in (other_base.rows vlan) a
+        → told_on plan base past vlan a ≡ told_on plan other_base other vlan a
+        → port_has_room plan base past t vlan port ≡ port_has_room plan other_base other t vlan port
+        → (source_step plan base past t vlan port a).verdict ≡ (source_step plan other_base other t vlan port a).verdict }
+    ensures probe { (plan : Plan) (base other_base : Base) (past other : List Row) (t vlan : ℕ) (port : Port) (a : ℕ)
+        → state_in (base.rows vlan) a ≡ state_in (other_base.rows vlan) a
+        → told_on plan base past vlan a ≡ told_on plan other_base other vlan a
+        → port_has_room plan base past t vlan port ≡ port_has_room plan other_base other t vlan port
+        → (source_step plan base past t vlan port a).probe ≡ (source_step plan other_base other t vlan port a).probe }
+{}
+
+/// A frame at a port makes another port hold more addresses only by a lease: it meets an open request of that port, and
+/// gives it an address (RFC 7513 section 6).
+pub fn a_frame_fills_no_other_port()
+    ensures { (plan : Plan) (base : Base) (past : List Row) (port q : Port) (stamp : ℕ) (octets : List ℕ)
+        → IsWithinLimits plan base → ¬ Same port q
+        → let t = moment_at base past stamp in let after = (judged_of plan base past port stamp octets).marks in
+        held_after plan base (marks plan base past) t (number_of q) < held_after plan base after t (number_of q)
+        → GivesLease (access_of base) the_vlan t q (marks plan base past) after }
+{}
+
+/// What a frame in a VLAN comes to follows from the marks of that VLAN: its verdict, its probe, and what it tells there.
+pub fn a_frame_reads_its_own_vlan()
+    ensures { (r : AccessRules) (base : AccessBase) (vlan : ℕ) (port : Port) (t : ℕ) (past other : List Mark) (class : Class)
+        → in_vlan vlan past ≡ in_vlan vlan other
+        → IsSameIn vlan (judged r base vlan port t past class) (judged r base vlan port t other class) }
+{}
+
+/// A replay comes to at most 34 entries and, for each frame, longer frame and line that went in, one more than the plan has
+/// ports: its own, and a drain of each port. With room for so many beside the 4,130 entries that stay free, and for the
+/// octets that came in beside those of the longest frame, no input ends for want of room.
+pub fn a_budget_suffices_for_a_replay()
+    ensures entries { (plan : Plan) (lines : Option control.Input) (inputs : List Input) (stops : Stops)
+        → IsValidPlan plan → length inputs ≡ length plan.ports → IsControl lines → All IsInput inputs
+        → let past = replayed plan empty lines inputs stops in length past ≤ replay_entries plan (input_count past) }
+    ensures room { (plan : Plan) (lines : Option control.Input) (inputs : List Input) (stops : Stops)
+        → IsValidPlan plan → length inputs ≡ length plan.ports → IsControl lines → All IsInput inputs
+        → let past = replayed plan empty lines inputs stops in
+        SufficesForReplay plan (input_count past) (held past) → has_full past ≡ false }
+{}
