@@ -1,9 +1,9 @@
 # The switch, its demonstration and its benchmark. Each needs the Rattle toolchain (`rt` on the path) and no network.
 
-.PHONY: build look demo plan bench lab check install uninstall clean FORCE
+.PHONY: build look demo plan bench lab check install uninstall dist deb clean FORCE
 
-# The proved program. The first build proves each crate, up to 40 minutes on 4 cores; where the program was built from these
-# very sources, by `make` or by the gate, it is taken as it is.
+# The proved program. The first build proves each crate (README.md says how long that takes); where the program was built
+# from these very sources, by `make` or by the gate, it is taken as it is.
 build: build/savi_switch
 
 build/%: FORCE
@@ -18,10 +18,11 @@ look:
 demo: build
 	@tools/demo
 
-# Reads a configuration, and prints its plan or what is wrong with it: make plan PLAN=FILE.
-PLAN = examples/shared-network/plan.toml
-plan: build/plan_check
-	build/plan_check "$(PLAN)"
+# Reads a configuration, and prints its plan or what is wrong with it and what to write instead: make plan PLAN=FILE. It
+# takes Python 3.11 and no build. Names of files are relative to the folder of the plan.
+PLAN = examples/validation-spoofed-data/plan.toml
+plan:
+	@tools/plan --folder "$(dir $(PLAN))" "$(PLAN)"
 
 # The program beside a C program that does the same octet work without judging, with 2 ports and with 5; live, beside a hub
 # in C; its own load; the check of a journal beside the replay that wrote it; the reader of captures beside tcpdump; the pass
@@ -43,46 +44,82 @@ bench: build build/capture_bench build/lock_bench build/fdb_bench build/tables_b
 lab:
 	lab/lab
 
-# The merge gate: `rt ci`, then the examples, and the program beside the second implementation. From nothing it takes about
-# 40 minutes on 4 cores.
+# The merge gate: `rt ci`, then the examples, and the program beside the second implementation. docs/BENCHMARK.md says how
+# long it takes.
 check:
 	.ci/run
 
-# Installs the program with its manual, its documents, three configurations to begin with, the tools that read journals and
-# the shim that joins an interface to a live port (by Python 3.11 or later), and a systemd unit: make install PREFIX=/usr
-# DESTDIR=DIR. Nothing is built here: `make build` comes before.
+# Installs the program with its stamp, the tools and what they read by (Python 3.11 or later), manual pages, documents, the
+# examples, and units of systemd: make install PREFIX=/usr DESTDIR=DIR. Nothing is built here: `make build` comes before, and
+# a program that isn't proved is refused. It is installed where it is named: make install
+# UNPROVED=build/unproved/savi_switch.
 PREFIX = /usr/local
 DESTDIR =
 PROGRAM = build/savi_switch
+UNPROVED =
+VERSION := $(shell cat VERSION)
 bin = $(DESTDIR)$(PREFIX)/bin
 lib = $(DESTDIR)$(PREFIX)/lib/savi_switch
 doc = $(DESTDIR)$(PREFIX)/share/doc/savi_switch
-man = $(DESTDIR)$(PREFIX)/share/man/man8
+man = $(DESTDIR)$(PREFIX)/share/man
 units = $(DESTDIR)$(PREFIX)/lib/systemd/system
 users = $(DESTDIR)$(PREFIX)/lib/sysusers.d
-TOOLS = journal-table journal-picture tell-journal
+folders = $(DESTDIR)$(PREFIX)/lib/tmpfiles.d
+
+# The tools, of tools/ and of lab/; a tool NAME is run as savi-NAME. Of the second implementation the parts that only checks
+# and replays read stay here.
+TOOLS = $(notdir $(wildcard $(addprefix tools/,plan journal-table journal-picture tell-journal journal-keep panel ctl)))
+PACKAGES = $(notdir $(wildcard tools/switch_reading tools/switch_panel))
+KEPT = worked%.py conf_runs.py core_runs.py line_runs.py live.py load.py making.py plan_cases.py session.py toml_cases.py
+UNITS = $(notdir $(wildcard packaging/*.service packaging/*.socket packaging/*.target packaging/*.timer packaging/*.path))
+PAGES = $(notdir $(wildcard docs/*.1 docs/*.5 docs/*.8))
+# Tools whose manual page has another name.
+SAME_PAGE = savi-journal-picture savi-tell-journal
+
+# Puts the folder and the version into a text: $(call put,FROM,TO)
+put = sed 's|/usr/local|$(PREFIX)|g; s|@VERSION@|$(VERSION)|g' "$(1)" > "$(2)" && chmod 644 "$(2)"
 
 install:
-	@test -x "$(PROGRAM)" || { echo "$(PROGRAM) isn't there: run 'make build' first, which proves and builds it" >&2; exit 1; }
-	install -d "$(bin)" "$(lib)/switch_reading" "$(doc)/examples" "$(man)" "$(units)" "$(users)"
-	install -m 755 "$(PROGRAM)" "$(bin)/savi_switch"
+	@mkdir -p build && tools/program-stamp $(if $(UNPROVED),"$(UNPROVED)" --unproved,"$(PROGRAM)") > build/stamp
+	install -d "$(bin)" "$(lib)" "$(doc)" "$(units)" "$(users)" "$(man)/man1" "$(man)/man5" "$(man)/man8"
+	install -m 755 $(if $(UNPROVED),"$(UNPROVED)","$(PROGRAM)") "$(bin)/savi_switch"
+	install -m 644 build/stamp VERSION "$(lib)"
 	install -m 755 $(TOOLS:%=tools/%) lab/shim "$(lib)"
-	install -m 644 tools/switch_reading/*.py tools/switch_reading/picture.html "$(lib)/switch_reading"
+	for package in $(PACKAGES); do install -d "$(lib)/$$package" || exit 1; done
+	install -m 644 $(filter-out $(KEPT:%=tools/switch_reading/%),$(wildcard tools/switch_reading/*.py)) \
+		tools/switch_reading/picture.html "$(lib)/switch_reading"
+	$(if $(wildcard tools/switch_panel),install -m 644 $(wildcard tools/switch_panel/*.py) "$(lib)/switch_panel")
 	for tool in $(TOOLS) shim; do ln -sf "../lib/savi_switch/$$tool" "$(bin)/savi-$$tool" || exit 1; done
-	install -m 644 docs/COMMANDS.md docs/CONFIGURATION.md docs/FORMATS.md docs/OPERATIONS.md docs/RULES.md "$(doc)"
-	install -m 644 examples/commented.toml "$(doc)/examples/commented.toml"
-	install -m 644 examples/shared-network/plan.toml "$(doc)/examples/shared-network.toml"
-	install -m 644 examples/serve/plan.toml "$(doc)/examples/serve.toml"
-	sed 's|/usr/local|$(PREFIX)|' packaging/savi_switch@.service > "$(units)/savi_switch@.service"
+	tools/install-documents "$(doc)"
+	$(foreach unit,$(UNITS),$(call put,packaging/$(unit),$(units)/$(unit)) &&) true
+	$(foreach page,$(PAGES),$(call put,docs/$(page),$(man)/man$(subst .,,$(suffix $(page)))/$(page)) &&) true
+	for page in $(SAME_PAGE); do ln -sf savi-journal-table.1 "$(man)/man1/$$page.1" || exit 1; done
 	install -m 644 packaging/savi_switch.sysusers "$(users)/savi_switch.conf"
-	sed 's|/usr/local|$(PREFIX)|' docs/savi_switch.8 > "$(man)/savi_switch.8"
-	chmod 644 "$(man)/savi_switch.8" "$(units)/savi_switch@.service"
+	$(if $(wildcard packaging/*.tmpfiles),install -D -m 644 packaging/savi_switch.tmpfiles "$(folders)/savi_switch.conf")
+	@echo "savi_switch $(VERSION) is installed in $(DESTDIR)$(PREFIX)$(if $(UNPROVED),. IT ISN'T PROVED: $(UNPROVED))"
+	@cat "$(lib)/stamp"
 
-# Removes what `make install` put there, by the same PREFIX and DESTDIR.
+# Removes what `make install` put there, by the same PREFIX and DESTDIR, and below DESTDIR the folders that are left empty.
 uninstall:
-	rm -f "$(bin)/savi_switch" $(TOOLS:%="$(bin)/savi-%") "$(bin)/savi-shim" "$(man)/savi_switch.8"
-	rm -f "$(units)/savi_switch@.service" "$(users)/savi_switch.conf"
+	rm -f "$(bin)/savi_switch" $(TOOLS:%="$(bin)/savi-%") "$(bin)/savi-shim"
+	rm -f "$(users)/savi_switch.conf" "$(folders)/savi_switch.conf"
+	rm -f $(UNITS:%="$(units)/%") $(foreach page,$(PAGES),"$(man)/man$(subst .,,$(suffix $(page)))/$(page)")
+	rm -f $(SAME_PAGE:%="$(man)/man1/%.1")
 	rm -rf "$(lib)" "$(doc)"
+	@test -z "$(DESTDIR)" || { cd "$(DESTDIR)" && \
+		rmdir -p --ignore-fail-on-non-empty $(FOLDERS:%=".$(PREFIX)/%"); } 2> /dev/null || true
+
+FOLDERS = bin lib/systemd/system lib/sysusers.d lib/tmpfiles.d share/man/man1 share/man/man5 share/man/man8 share/doc
+
+# An archive of the sources as they are committed, build/savi_switch-VERSION.tar.gz: the same commit gives the same octets.
+dist:
+	@mkdir -p build
+	git archive --format=tar --prefix=savi_switch-$(VERSION)/ HEAD | gzip -9n > build/savi_switch-$(VERSION).tar.gz
+	@sha256sum build/savi_switch-$(VERSION).tar.gz
+
+# A Debian package of the program that is there, in the folder above: packaging/debian/README.source. It takes debhelper.
+deb:
+	SAVI_UNPROVED="$(UNPROVED)" dpkg-buildpackage -b -us -uc
 
 clean:
 	rm -rf build

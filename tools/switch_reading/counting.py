@@ -1,5 +1,6 @@
-"""What a journal tells of frames and of addresses: counts by port, who was refused what, and who had which address."""
-import collections
+"""What a journal tells of frames and of addresses, from its entries one by one: counts by port, who was refused what, and
+how often addresses came and went. What is kept doesn't grow with the length of the journal: of the sources of refused frames
+those with the most frames are named, and the others counted together."""
 import datetime
 from dataclasses import dataclass, field
 
@@ -9,18 +10,65 @@ from .frame import ETHERTYPE_IPV6, number
 from .journal import Fault, Journal
 from .plan import Plan, address_text, mac_text
 
+# How many sources of one port and rule are named. Twice as many are kept before the others are put together.
+SOURCES = 2048
+
 
 @dataclass(slots=True)
-class Refusal:
-    """A frame that was dropped, and what it was sent from."""
+class Span:
+    """Frames: how many, and the entries and moments of the first and the last one."""
+
+    count: int
+    entry: int
+    moment: int
+    last_entry: int
+    last_moment: int
+
+    def join(self, other):
+        if other.entry < self.entry:
+            self.entry, self.moment = other.entry, other.moment
+        if other.last_entry > self.last_entry:
+            self.last_entry, self.last_moment = other.last_entry, other.last_moment
+        self.count += other.count
+
+
+def span_of(entry):
+    return Span(1, entry.number, entry.moment, entry.number, entry.moment)
+
+
+@dataclass
+class Refused:
+    """The frames of one port that one rule dropped: in all, by their sources, and those of sources that aren't named, with
+    how many times a source was put there."""
 
     port: int
     rule: str
-    moment: int
-    entry: int
-    source: bytes
-    octets: bytes
-    length: int
+    all: Span | None = None
+    sources: dict = field(default_factory=dict)
+    others: Span | None = None
+    put_aside: int = 0
+
+    def take(self, entry, source):
+        span = span_of(entry)
+        if self.all is None:
+            self.all = span_of(entry)
+        else:
+            self.all.join(span)
+        if source in self.sources:
+            self.sources[source].join(span)
+            return
+        self.sources[source] = span
+        if len(self.sources) > 2 * SOURCES:
+            named = self.ranked()
+            self.sources = dict(named[:SOURCES])
+            for _, span in named[SOURCES:]:
+                self.put_aside += 1
+                self.others = self.others or Span(0, span.entry, span.moment, span.last_entry, span.last_moment)
+                self.others.join(span)
+
+    def ranked(self):
+        """The sources that are named, those with the most frames first."""
+        return sorted(self.sources.items(), key=lambda item: (-item[1].count, item[1].entry))
 
 
 @dataclass
@@ -52,18 +100,20 @@ class BindingCount:
 
 @dataclass
 class Telling:
-    """What a journal tells, up to its fault if it has one."""
+    """What a journal tells, up to its fault if it has one. `refused` is by port and rule, and `bindings` by the number of
+    each validated port."""
 
     plan: Plan
     ports: dict
+    bindings: dict
     entries: int = 0
     probes: int = 0
     lost: int = 0
     first: int | None = None
     last: int = 0
-    refusals: list = field(default_factory=list)
-    tracks: dict = field(default_factory=dict)
-    others: list = field(default_factory=list)
+    refused: dict = field(default_factory=dict)
+    others: int = 0
+    other: int | None = None
     fault: Fault | None = None
 
     def total(self, what):
@@ -72,6 +122,10 @@ class Telling:
     def seconds(self, moment):
         """From the first frame."""
         return (moment - (self.first or 0)) / 1000
+
+    def by_port_and_rule(self):
+        """What was refused, in the order of the ports and of the rules."""
+        return sorted(self.refused.values(), key=lambda refused: (refused.port, RULES.index(refused.rule)))
 
 
 def moment_text(ms):
@@ -93,23 +147,35 @@ def source_text(source):
     return {16: address_text, 6: mac_text, 0: lambda _: "-"}[len(source)](number(source))
 
 
-def tell(lines):
-    """What the lines of a journal tell. Raises Fault where its head is at fault."""
+def tell(lines, watcher=None):
+    """What the lines of a journal tell. Raises Fault where its head is at fault. Each refused frame and each change of an
+    address is told to `watcher` too, by `refused(told, entry, source)` and `changed(address, old, change)`."""
     journal = Journal(lines)
-    told = Telling(journal.plan, {port.number: PortCount(port.role) for port in journal.plan.ports})
-    follower = Follower(journal.plan)
-    told.tracks, told.others = follower.tracks, follower.others
+    ports = {port.number: PortCount(port.role) for port in journal.plan.ports}
+    bindings = {number: BindingCount() for number, count in ports.items() if count.role != "trusted"}
+    told = Telling(journal.plan, ports, bindings)
+
+    def changed(address, old, change):
+        count_change(bindings, old, change.binding)
+        if watcher:
+            watcher.changed(address, old, change)
+
+    follower = Follower(journal.plan, changed)
     try:
         for entry in journal.entries():
-            take(told, entry)
+            take(told, entry, watcher)
             if journal.plan.savi:
                 follower.take(entry)
     except Fault as fault:
         told.fault = fault
+    for binding in follower.bindings.values():
+        if binding.port in bindings:
+            bindings[binding.port].last += 1
+    told.others, told.other = follower.others, follower.other
     return told
 
 
-def take(told, entry):
+def take(told, entry, watcher):
     told.entries, told.last = entry.number + 1, entry.moment
     told.probes, told.lost = told.probes + entry.probes, told.lost + entry.lost
     if entry.kind not in "FL":
@@ -119,36 +185,20 @@ def take(told, entry):
     count.frames += 1
     for port in entry.cuts:
         told.ports[port].cut += 1
-    if entry.rule:
+    rule = entry.rule
+    if rule:
         count.dropped += 1
         source = source_of(entry.octets)
-        told.refusals.append(Refusal(entry.port, entry.rule, entry.moment, entry.number, source, entry.octets, entry.length))
+        if (entry.port, rule) not in told.refused:
+            told.refused[entry.port, rule] = Refused(entry.port, rule)
+        told.refused[entry.port, rule].take(entry, source)
+        if watcher:
+            watcher.refused(told, entry, source)
 
 
 def others_text(told):
-    return (f"Frames that the second implementation would have judged otherwise: {len(told.others)}, the first in entry "
-            f"{told.others[0]}. Who has which address may be wrong here.")
-
-
-def by_port_and_rule(told):
-    """The refusals of each port and rule, in the order of the ports and of the rules."""
-    groups = collections.defaultdict(list)
-    for refusal in told.refusals:
-        groups[refusal.port, refusal.rule].append(refusal)
-    return sorted(groups.items(), key=lambda item: (item[0][0], RULES.index(item[0][1])))
-
-
-def count_bindings(told):
-    """The counts of each validated port, by its number."""
-    counts = {number: BindingCount() for number, count in told.ports.items() if count.role != "trusted"}
-    for track in told.tracks.values():
-        before = None
-        for change in track:
-            count_change(counts, before, change.binding)
-            before = change.binding
-        if before and before.port in counts:
-            counts[before.port].last += 1
-    return counts
+    return (f"Frames that the second implementation would have judged otherwise: {told.others}, the first in entry "
+            f"{told.other}. Who has which address may be wrong here.")
 
 
 def count_change(counts, old, new):

@@ -51,12 +51,15 @@ def next_due(state, times):
 
 
 class Follower(Switch):
-    """`tracks` has the changes of each address that was ever held. `others` are the entries that this reading would have
-    judged otherwise. Its work for an entry doesn't grow with the number of addresses."""
+    """Each change of an address is told to `told(address, old, change)`, with its binding before; without it `tracks` has
+    the changes of each address that was ever held. Of the entries that this reading would have judged otherwise `others` is
+    the number, and `other` the first one. Its work for an entry doesn't grow with the number of addresses, and what it keeps
+    not with the length of the journal."""
 
-    def __init__(self, plan):
+    def __init__(self, plan, told=None):
         super().__init__(plan)
-        self.tracks, self.others, self.entry = {}, [], 0
+        self.told, self.tracks, self.bindings = told or self.keep_track, {}, {}
+        self.others, self.other, self.entry = 0, None, 0
         # What is due, earliest first, and of each address the earliest moment that stands there.
         self.dues, self.awaited, self.request_due = [], {}, 0
         # The ports that hold each address, and how many addresses each port holds.
@@ -71,7 +74,8 @@ class Follower(Switch):
         if entry.kind == "F":
             verdict = self.judge(self.ports[entry.port], read_frame(entry.octets))
             if verdict_text(verdict) != entry.verdict:
-                self.others.append(entry.number)
+                self.others += 1
+                self.other = entry.number if self.other is None else self.other
         elif entry.kind == "C":
             commands.command(self, entry.octets)()
             for address in [*self.holders, *self.addresses]:
@@ -106,9 +110,13 @@ class Follower(Switch):
 
     def note(self, address, moment, by_time):
         state = self.addresses.get(address)
-        binding, track = binding_of(state), self.tracks.get(address, [])
-        if binding != (track[-1].binding if track else None):
-            self.tracks.setdefault(address, track).append(Change(moment, binding, self.entry, by_time))
+        binding, old = binding_of(state), self.bindings.get(address)
+        if binding != old:
+            if binding is None:
+                del self.bindings[address]
+            else:
+                self.bindings[address] = binding
+            self.told(address, old, Change(moment, binding, self.entry, by_time))
         ports = {port for port in self.ports if state.holds(port)} if state else set()
         self.counts.update(ports)
         self.counts.subtract(self.holders.pop(address, ()))
@@ -116,6 +124,9 @@ class Follower(Switch):
             self.holders[address] = ports
         if state and (due := next_due(state, self.plan)) is not None:
             self.wait_for(address, due)
+
+    def keep_track(self, address, _, change):
+        self.tracks.setdefault(address, []).append(change)
 
     # What the switch does otherwise: it looks at each address for each frame, and queues probes.
 

@@ -1,7 +1,8 @@
 """The configuration of a switch, and the texts of addresses (docs/CONFIGURATION.md)."""
 import re
-import tomllib
 from dataclasses import dataclass, field
+
+from .toml_text import TomlFault, read_toml
 
 # The longest configuration, in octets.
 LONGEST = 65536
@@ -233,8 +234,8 @@ def read_plan(octets, streams=False):
     if len(octets) > LONGEST:
         raise ConfigFault("config fault 1")
     try:
-        document = tomllib.loads(octets.decode("utf-8-sig"))
-    except (UnicodeDecodeError, tomllib.TOMLDecodeError):
+        document = read_toml(octets)
+    except TomlFault:
         raise ConfigFault("config is not TOML") from None
     top = DEFAULTS | document
     fault = shape_fault(document) or key_fault(top)

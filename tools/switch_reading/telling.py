@@ -14,6 +14,20 @@ DHCP_NAMES = {
     1: "solicit", 2: "advertise", 3: "request", 4: "confirm", 5: "renew", 6: "rebind", 7: "reply", 8: "release",
     9: "decline", RELAY_FORW: "relay-forward", RELAY_REPL: "relay-reply",
 }
+# What each rule refuses (docs/RULES.md).
+RULE_WORDS = {
+    "PortDown": "a frame at a port that is shut", "Malformed": "fewer than 14 octets or more than 1,518",
+    "ReservedGroup": "a group of bridges", "SourceMac": "a group as sender", "Tagged": "a VLAN tag",
+    "BadIpv6": "a malformed IPv6 packet", "HiddenUpper": "a first fragment without its whole header chain",
+    "UnknownNextHeader": "a next header that isn't known", "RouterAdvert": "a router advertisement",
+    "FragmentedNd": "fragmented neighbor discovery", "BadNd": "malformed neighbor discovery", "Redirect": "a redirect",
+    "DhcpServer": "a message of a DHCPv6 server", "UnspecifiedSource": "a packet from ::",
+    "OffLink": "a source in no prefix of the link", "NotAssigned": "a source that no server leased",
+    "PortFull": "a further address at a full port", "WrongPort": "a source that is live at another port",
+    "Unverified": "a source that isn't valid yet", "Contested": "a source that another port has claimed",
+    "NaTarget": "an advertisement of an address that isn't its own", "PendingFull": "a DHCPv6 request beyond 16 open ones",
+    "DhcpContested": "a DHCPv6 request that another port has open",
+}
 UPPER_NAMES = {6: "TCP", 17: "UDP", 59: "no next header"}
 
 
