@@ -200,6 +200,15 @@ def why_not():
     return None
 
 
+def panel_lacks():
+    """Why no panel can be tried here, or None."""
+    if not shutil.which("qemu-system-x86_64"):
+        return "there is no `qemu-system-x86_64` (7.2 or later) for the panel"
+    if not os.path.exists("/dev/net/tun"):
+        return "there is no /dev/net/tun for the panel's tap"
+    return None
+
+
 def wait_until(holds, seconds, pause=0.02):
     """Whether something holds within so many seconds."""
     deadline = time.monotonic() + seconds

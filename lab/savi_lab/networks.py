@@ -1,4 +1,6 @@
-"""What the stations' cables end in: a Linux bridge, an Open vSwitch, or a program with stream ports behind shims."""
+"""What the stations' cables end in: a Linux bridge, an Open vSwitch, or a program with stream ports behind shims or a
+panel."""
+import json
 import os
 import shlex
 import subprocess
@@ -35,9 +37,10 @@ def make_switch_space():
 class Network:
     """`journal` is the name of the file into which verdicts are written, or None. A peer is tried for its own sake: what it
     lets through, or stops, is no fault of the lab. `is_plain` says whether it forwards all frames, so that honest traffic can
-    fail there only for the machine's sake. `joins_hosts` says whether hosts may speak to each other."""
+    fail there only for the machine's sake. `joins_hosts` says whether hosts may speak to each other, and `goes_away` whether
+    host 1's cable can be taken out and put in again."""
 
-    journal, is_peer, is_plain, joins_hosts = None, False, False, True
+    journal, is_peer, is_plain, joins_hosts, goes_away = None, False, False, True, False
 
     def __init__(self, title, space, folder):
         self.title, self.space, self.folder, self.started = title, space, folder, []
@@ -168,10 +171,14 @@ class Streams(Network):
 
         there = wait_until(lambda: ended() or holds(), PATIENCE)
         if ended():
-            said = [self.log(name) for name in ("program.log", *(f"shim{port}.log" for port in ROLES)) if self.has_log(name)]
+            said = self.said()
             raise LabFault(f"it ended before its time: {' '.join(filter(None, said)) or 'no word of it'}")
         if not there:
             raise Late(f"it {lacks} within {PATIENCE} s")
+
+    def said(self):
+        """What its processes said."""
+        return [self.log(name) for name in ("program.log", *(f"shim{port}.log" for port in ROLES)) if self.has_log(name)]
 
     def close(self):
         """Lets the shims leave; the program, whose inputs end by that, must end of itself, and then the shims do."""
@@ -213,8 +220,9 @@ class Switch(Streams):
             plan.write(self.plan())
         return [*self.words, name]
 
-    def plan(self):
+    def plan(self, *more):
         lines = [f'mac = "{SWITCH_MAC}"', f'journal = "{self.journal}"', f"test_ms = {TEST}", f"probe_gap_ms = {PROBE_GAP}"]
+        lines += more
         for port, role in ROLES.items():
             lines += ["[[port]]", f"number = {port}", f'role = "{role}"', 'format = "stream"']
             lines += [f'input = "{self.path(port)}"', f'output = "{self.path(port)}"']
@@ -227,3 +235,124 @@ class Switch(Streams):
             return None
         done = subprocess.run([*shlex.split(self.checker), self.journal], capture_output=True, text=True)
         return (done.stdout + done.stderr).strip()
+
+
+# What the panel plugs the hosts' ports into: sockets, to which their cables are joined by shims.
+GUESTS = [port for port, role in ROLES.items() if role == "host"]
+
+
+class Panel(Switch):
+    """The same switch behind a panel (tools/panel), which the lab starts for a switch that runs. Hosts come to the panel's
+    sockets; the router's cable is joined to a tap by a small bridge, and the server's has a macvtap where it can be made."""
+
+    goes_away = True
+
+    def __init__(self, title, space, folder, command, checker):
+        super().__init__(title, space, folder, command, checker)
+        self.inner = os.path.join(folder, "switch")
+        self.operators = os.path.join(folder, "operators.sock")
+
+    def path(self, port):
+        return os.path.join(self.inner, f"{port}.sock")
+
+    def guest_path(self, port):
+        return os.path.join(self.folder, f"guest{port}.sock")
+
+    def plan(self):
+        path = os.path.join(self.inner, "control.sock")
+        return super().plan(f'control = "{path}"', f'control_out = "{path}"')
+
+    def make_interfaces(self):
+        """Answers what the panel's file says of the router's and the server's ports."""
+        ip = self.space.ip
+        for port in (port for port in ROLES if port not in GUESTS):
+            try:
+                if ROLES[port] == "trusted":
+                    raise LabFault("the router's is a tap")
+                ip("link", "add", "link", f"p{port}", "name", f"mv{port}", "type", "macvtap", "mode", "passthru")
+                ip("link", "set", f"mv{port}", "up", "promisc", "on")
+                if not wait_until(lambda: os.path.exists(f"/dev/tap{self.index(port)}"), 2):
+                    ip("link", "del", f"mv{port}")
+                    raise LabFault("there is no device of a macvtap here")
+                yield port, f'macvtap = "mv{port}"'
+            except LabFault:
+                ip("tuntap", "add", "dev", f"tap{port}", "mode", "tap")
+                ip("link", "add", f"br{port}", "type", "bridge", "mcast_snooping", "0")
+                for name in (f"p{port}", f"tap{port}"):
+                    ip("link", "set", name, "master", f"br{port}")
+                for name in (f"br{port}", f"tap{port}"):
+                    ip("link", "set", name, "up")
+                yield port, f'tap = "tap{port}"'
+
+    def index(self, port):
+        return json.loads(self.space.ip("-j", "link", "show", f"mv{port}"))[0]["ifindex"]
+
+    def panel_file(self):
+        lines = ["[control]", f'socket = "{self.operators}"']
+        plugs = {port: f'socket = "{self.guest_path(port)}"' for port in GUESTS} | dict(self.make_interfaces())
+        for port, plug in sorted(plugs.items()):
+            lines += ["[[port]]", f"number = {port}", f'name = "p{port}"', plug]
+        return "".join(f"{line}\n" for line in lines)
+
+    def up(self):
+        Network.up(self)
+        os.mkdir(self.inner, mode=0o700)
+        name = os.path.join(self.folder, "panel.toml")
+        with open(name, "w", encoding="ascii") as file:
+            file.write(self.panel_file())
+        program = self.start(*self.command(), log="program.log")
+        words = [os.path.join(os.path.dirname(HERE), "tools", "panel"), os.path.join(self.folder, "plan.toml"), name]
+        words += ["--folder", self.inner, "--wait", str(PATIENCE)]
+        panel = self.start(sys.executable, *words, log="panel.log")
+        self.wait_for([program, panel], lambda: "ready:" in self.log("panel.log"), "has no panel")
+        for port in GUESTS:
+            self.join(port)
+        self.wait_for(self.started, lambda: self.guests() == len(GUESTS), "isn't joined")
+
+    def said(self):
+        return [self.log(name) for name in ("program.log", "panel.log") if self.has_log(name)]
+
+    def guests(self):
+        return self.log("panel.log").count("a guest came")
+
+    def join(self, port):
+        shim = [sys.executable, os.path.join(HERE, "shim"), f"p{port}", self.guest_path(port)]
+        self.shims.append(self.start(*shim, log=f"shim{port}.log"))
+
+    def ask(self, *words):
+        """An operator comes, asks, and leaves. Answers what is shown."""
+        tool = os.path.join(os.path.dirname(HERE), "tools", "ctl")
+        return json.loads(call(sys.executable, tool, "--socket", self.operators, "--json", *words) or "null")
+
+    def go_away(self):
+        """Host 1's guest is killed, and comes again; two operators come one behind the other."""
+        bound = {row["address"] for row in self.ask("show", "bindings") if row["port"] == GUESTS[0]}
+        gone = self.shims[0]
+        gone.kill()
+        gone.wait()
+        self.started.remove(gone)
+        self.shims.remove(gone)
+        if not wait_until(lambda: "(p1): a guest went away" in self.log("panel.log"), PATIENCE):
+            raise Late(f"the panel notices no guest that goes within {PATIENCE} s")
+        before = self.guests()
+        self.join(GUESTS[0])
+        self.wait_for(self.started, lambda: self.guests() > before, "isn't joined again")
+        after = {row["address"] for row in self.ask("show", "bindings") if row["port"] == GUESTS[0]}
+        if not bound or not bound <= after:
+            raise LabFault(f"host 1 had {sorted(bound)}, and behind its return has {sorted(after)}")
+
+    def close(self):
+        """Stops the panel, by which the switch ends in order."""
+        program, panel, told = *self.started[:2], []
+        panel.terminate()
+        for process, name in ((panel, "panel"), (program, "program")):
+            try:
+                if process.wait(END) != 0:
+                    told.append(f"the {name} ended with status {process.returncode}: {self.log(f'{name}.log')}")
+            except subprocess.TimeoutExpired:
+                told.append(f"the {name} didn't end within {END} s behind SIGTERM: {self.log(f'{name}.log')}")
+        if not os.path.exists(self.journal):
+            told.append("it wrote no journal")
+            self.journal = None
+        Network.close(self)
+        return told

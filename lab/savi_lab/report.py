@@ -48,9 +48,9 @@ def rows_of(trials):
     for title in trials[0].results:
         row = [title] + [harm(trial.results[title]) for trial in trials]
         yield row + [rule(trial.results[title], found) for trial, found in zip(journals, verdicts)]
-    for title in trials[0].honest:
+    for title in dict.fromkeys(title for trial in trials for title in trial.honest):
         words = {True: "comes through", False: "FAILS", None: "not tried"}
-        yield [title] + [words[trial.honest[title]] for trial in trials] + ["" for _ in journals]
+        yield [title] + [words[trial.honest.get(title)] for trial in trials] + ["" for _ in journals]
 
 
 def heads_of(trials):

@@ -94,6 +94,9 @@ def try_honest(ground, is_server):
     honest["host 1 gets a DHCPv6 lease"] = bool(address) if is_server else None
     honest["host 1 to the outside and back, from the leased address"] = (
         reaches_from(host1, router, address) if address else False if is_server else None)
+    if ground.network.goes_away:
+        ground.network.go_away()
+        honest["host 1 to host 2 and back, when it has left and come again"] = reaches(host1, host2, host2.address)
     return honest
 
 
