@@ -6,7 +6,7 @@ use Rattle.savi_ends.specs.Places.{Place, Book}
 use Rattle.run_config.specs.Configs.{EndHasFault, EndHasNoFault, OfText}
 use Rattle.journal_check.specs.declared.answer.Checked.{Checked}
 use Rattle.journal_check.specs.declared.answer.Checked.TheVariants.{Good, Wrong, BadLine, Failed, NoMemory}
-use Rattle.journal_check.specs.Answers.{IfRead, IsAnswer}
+use Rattle.journal_check.specs.Answers.{HasReadHeader, IfRead, IsAnswer}
 use Rattle.journal_check.specs.Laws.{IsFinishedJournal}
 use Rattle.switch_report.specs.RunLines.{cannot_open_line, memory_line, read_failed_line}
 use Rattle.switch_run.specs.Causes.{IsOneOf, IsUnserved, Keeps, TookOrPart, quiet_statuses, statuses}
@@ -98,10 +98,17 @@ module _ {S K C : Type 0} (left : S → Option (List ℕ)) (written : K → Opti
   of_first : (Holds : List ℕ → Type 0) → OfText left (b1.inputs file) Holds → OfText left (b0.inputs file) Holds
   of_first Holds is = subst (λ (p : Place S). OfText left p Holds) first is
 
+  -- what is said of the source that was handed out and kept is said of it before standard error was opened
+  moved_source : (Holds : S → S → Type 0) → Keeps Holds (b1.inputs file) (b2.inputs file) → Keeps Holds (b0.inputs file) (b3.inputs file)
+  moved_source Holds keeps =
+      subst (λ (p : Place S). Keeps Holds p (b3.inputs file)) first
+      (subst (λ (p : Place S). Keeps Holds (b1.inputs file) p) (sym last) keeps)
+
   moved_judged : IsJudged left written source_faults sink_faults file (ToldBy sink_faults written e e') b1 b2 status → IsJudged left written source_faults sink_faults file (WasTold sink_faults written b0 b3) b0 b3 status
   moved_judged (inl unjudged) = inl (record {
     status_is = unjudged.status_is;
     still = subst (λ (p : Place S). EndHasNoFault source_faults p) (sym last) unjudged.still;
+    memory = moved_source (λ told kept. (kept ≡ told) ⊎ HasReadHeader (left told) (left kept)) unjudged.memory;
     errors = ran_told sink_faults written b0 b1 b2 b3 e e' memory_line ran unjudged.errors;
     out = ran_quiet b0 b1 b2 b3 e e' ran unjudged.out;
   })
@@ -126,9 +133,7 @@ module _ {S K C : Type 0} (left : S → Option (List ℕ)) (written : K → Opti
   }))
 
   moved_kept : IsKept source_faults file b1 b2 → IsKept source_faults file b0 b3
-  moved_kept kept =
-      subst (λ (p : Place S). Keeps (λ told back. source_faults told ≤ source_faults back) p (b3.inputs file)) first
-      (subst (λ (p : Place S). Keeps (λ told back. source_faults told ≤ source_faults back) (b1.inputs file) p) (sym last) kept)
+  moved_kept kept = moved_source (λ told back. source_faults told ≤ source_faults back) kept
 
   moved_check : IsCheckedUnopened file (ToldBy sink_faults written e e') b1 b2 status ⊎ (IsKept source_faults file b1 b2 × IsJudged left written source_faults sink_faults file (ToldBy sink_faults written e e') b1 b2 status)
       → IsCheckedUnopened file (WasTold sink_faults written b0 b3) b0 b3 status ⊎ (IsKept source_faults file b0 b3 × IsJudged left written source_faults sink_faults file (WasTold sink_faults written b0 b3) b0 b3 status)

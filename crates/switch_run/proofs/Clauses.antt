@@ -24,10 +24,10 @@ pub record Clauses {S K C : Type 0} (left : S → Option (List ℕ)) (written : 
   pub usage : (status ≡ 2) ↔ (IsForm words → ⊥)
   pub untouched : status ≡ 2 → IsUntouched old new × WasTold sink_faults written old new usage_line
   pub memory : status ≡ 1 → WasTold sink_faults written old new memory_line
-  pub unplayed : (file : List ℕ) → IsReplay file words → status ≡ 1 → IsUnplayed true left written file old new
-  pub config : (file : List ℕ) → IsReplay file words → status ≡ 3 → IsNoPlan true left file (WasTold sink_faults written old new) old new
+  pub unplayed : (file : List ℕ) → IsReplay file words → status ≡ 1 → IsUnplayed true left written source_faults file old new
+  pub config : (file : List ℕ) → IsReplay file words → status ≡ 3 → IsNoPlan true left source_faults file (WasTold sink_faults written old new) old new
   pub opening : status ≡ 7 → Rose old.faults new.faults
-  pub unopened : (file : List ℕ) → IsReplay file words → status ≡ 7 → IsUnopened true left file (WasTold sink_faults written old new) old new
+  pub unopened : (file : List ℕ) → IsReplay file words → status ≡ 7 → IsUnopened true left source_faults file (WasTold sink_faults written old new) old new
   pub session : (file : List ℕ) → IsReplay file words → IsOneOf session_statuses status
       → IsFileUnread left source_faults file (WasTold sink_faults written old new) old new status ⊎ IsSession left written source_faults sink_faults file (WasTold sink_faults written old new) old new status
   pub read : (file : List ℕ) → IsReplay file words → status ≡ 5 → HasSomeReadFault source_faults file new

@@ -112,6 +112,9 @@ ran_input {S} {K} {C} left b0 b1 b2 b3 e e' file ran read =
     subst (λ (p : Place S). IsReadFrom left p (b3.inputs file)) (inputs_first b0 b1 b2 b3 e e' file ran)
     (subst (λ (p : Place S). IsReadFrom left (b1.inputs file) p) (sym (inputs_last b0 b1 b2 b3 e e' file ran)) read)
 
+ran_still : {S K C : Type 0} (source_faults : S → ℕ) (b0 b1 b2 b3 : Book S K C) (e e' : K) (file : List ℕ) → Ran b0 b1 b2 b3 e e' → EndHasNoFault source_faults (b2.inputs file) → EndHasNoFault source_faults (b3.inputs file)
+ran_still {S} {K} {C} source_faults b0 b1 b2 b3 e e' file ran still = subst (λ (p : Place S). EndHasNoFault source_faults p) (sym (inputs_last b0 b1 b2 b3 e e' file ran)) still
+
 moved_unserved : {S K C : Type 0} (old new old' new' : Book S K C) → SamePlaces old old' → SamePlaces new new' → IsUnserved old new → IsUnserved old' new'
 moved_unserved old new old' new' o n unserved = record {
   ports = n.ports ∙ unserved.ports ∙ sym o.ports;
@@ -132,11 +135,12 @@ ran_unused {S} {K} {C} replay left b0 b1 b2 b3 e e' file ran (inr (plan, configu
       moved_unused (not replay) plan b1 b2 b0 b3 (ran_before b0 b1 b2 b3 e e' ran) (ran_behind b0 b1 b2 b3 e e' ran) unused,
     )
 
-pub ran_config : {S K C : Type 0} (replay : Bool) (left : S → Option (List ℕ)) (Says Says' : List ℕ → Type 0) (b0 b1 b2 b3 : Book S K C) (e e' : K) (file : List ℕ) → Ran b0 b1 b2 b3 e e' → ((lines : List ℕ) → Says lines → Says' lines) → IsNoPlan replay left file Says b1 b2 → IsNoPlan replay left file Says' b0 b3
-ran_config {S} {K} {C} replay left Says Says' b0 b1 b2 b3 e e' file ran says no_plan = record {
+pub ran_config : {S K C : Type 0} (replay : Bool) (left : S → Option (List ℕ)) (source_faults : S → ℕ) (Says Says' : List ℕ → Type 0) (b0 b1 b2 b3 : Book S K C) (e e' : K) (file : List ℕ) → Ran b0 b1 b2 b3 e e' → ((lines : List ℕ) → Says lines → Says' lines) → IsNoPlan replay left source_faults file Says b1 b2 → IsNoPlan replay left source_faults file Says' b0 b3
+ran_config {S} {K} {C} replay left source_faults Says Says' b0 b1 b2 b3 e e' file ran says no_plan = record {
   fault = no_plan.fault;
   refused = subst (λ (p : Place S). IsRefused replay left p no_plan.fault) (inputs_first b0 b1 b2 b3 e e' file ran) no_plan.refused;
   input = ran_input left b0 b1 b2 b3 e e' file ran no_plan.input;
+  still = ran_still source_faults b0 b1 b2 b3 e e' file ran no_plan.still;
   unserved = ran_unserved b0 b1 b2 b3 e e' ran no_plan.unserved;
   errors = says _ no_plan.errors;
 }
@@ -192,17 +196,18 @@ moved_part {S} {K} {C} live plan Says Says' old new old' new' o n says (inr (inr
   errors = says _ part.errors;
 }))
 
-pub ran_unopened : {S K C : Type 0} (replay : Bool) (left : S → Option (List ℕ)) (Says Says' : List ℕ → Type 0) (b0 b1 b2 b3 : Book S K C) (e e' : K) (file : List ℕ) → Ran b0 b1 b2 b3 e e' → ((lines : List ℕ) → Says lines → Says' lines) → IsUnopened replay left file Says b1 b2 → IsUnopened replay left file Says' b0 b3
-ran_unopened replay left Says Says' b0 b1 b2 b3 e e' file ran says (inl unopened) = inl (record {
+pub ran_unopened : {S K C : Type 0} (replay : Bool) (left : S → Option (List ℕ)) (source_faults : S → ℕ) (Says Says' : List ℕ → Type 0) (b0 b1 b2 b3 : Book S K C) (e e' : K) (file : List ℕ) → Ran b0 b1 b2 b3 e e' → ((lines : List ℕ) → Says lines → Says' lines) → IsUnopened replay left source_faults file Says b1 b2 → IsUnopened replay left source_faults file Says' b0 b3
+ran_unopened replay left source_faults Says Says' b0 b1 b2 b3 e e' file ran says (inl unopened) = inl (record {
   errors = says _ unopened.errors;
   place = inputs_last b0 b1 b2 b3 e e' file ran ∙ unopened.place ∙ inputs_first b0 b1 b2 b3 e e' file ran;
   unserved = ran_unserved b0 b1 b2 b3 e e' ran unopened.unserved;
 })
-ran_unopened {S} {K} {C} replay left Says Says' b0 b1 b2 b3 e e' file ran says (inr unopened) =
+ran_unopened {S} {K} {C} replay left source_faults Says Says' b0 b1 b2 b3 e e' file ran says (inr unopened) =
     inr (record {
       plan = unopened.plan;
       configured = subst (λ (p : Place S). IsConfigured replay left p unopened.plan) (inputs_first b0 b1 b2 b3 e e' file ran) unopened.configured;
       input = ran_input left b0 b1 b2 b3 e e' file ran unopened.input;
+      still = ran_still source_faults b0 b1 b2 b3 e e' file ran unopened.still;
       ticker = ran_ticker b0 b1 b2 b3 e e' ran unopened.ticker;
       part = moved_part (not replay) unopened.plan Says Says' b1 b2 b0 b3 (ran_before b0 b1 b2 b3 e e' ran) (ran_behind b0 b1 b2 b3 e e' ran) says unopened.part;
     })
@@ -224,7 +229,7 @@ ran_session {S} {K} {C} left written source_faults sink_faults Says Says' b0 b1 
   plan = session.plan;
   configured = subst (λ (p : Place S). IsConfigured true left p session.plan) (inputs_first b0 b1 b2 b3 e e' file ran) session.configured;
   input = ran_input left b0 b1 b2 b3 e e' file ran session.input;
-  still = subst (λ (p : Place S). EndHasNoFault source_faults p) (sym (inputs_last b0 b1 b2 b3 e e' file ran)) session.still;
+  still = ran_still source_faults b0 b1 b2 b3 e e' file ran session.still;
   session =
       subst (λ (b : Book S K C). IsSessionOf left written source_faults sink_faults session.plan Says' b0 b status) (sym ran.rest3)
       (subst (λ (b : Book S K C). IsSessionOf left written source_faults sink_faults session.plan Says' b (record b2 { std = b3.std }) status)
@@ -238,7 +243,7 @@ ran_served {S} {K} {C} left written source_faults sink_faults readings Says Says
   plan = session.plan;
   configured = subst (λ (p : Place S). IsConfigured false left p session.plan) (inputs_first b0 b1 b2 b3 e e' file ran) session.configured;
   input = ran_input left b0 b1 b2 b3 e e' file ran session.input;
-  still = subst (λ (p : Place S). EndHasNoFault source_faults p) (sym (inputs_last b0 b1 b2 b3 e e' file ran)) session.still;
+  still = ran_still source_faults b0 b1 b2 b3 e e' file ran session.still;
   session =
       subst (λ (b : Book S K C). IsServeOf left written source_faults sink_faults readings session.plan Says' b0 b status) (sym ran.rest3)
       (subst (λ (b : Book S K C). IsServeOf left written source_faults sink_faults readings session.plan Says' b (record b2 { std = b3.std }) status)
@@ -274,13 +279,14 @@ moved_ends {S} {K} {C} replay left written b0 b1 b2 b3 e e' file ran (inr (plan,
       moved_off plan b1 b2 b0 b3 (ran_before b0 b1 b2 b3 e e' ran) (ran_behind b0 b1 b2 b3 e e' ran) off,
     )
 
-moved_place : {S K C : Type 0} (left : S → Option (List ℕ)) (b0 b1 b2 b3 : Book S K C) (e e' : K) (file : List ℕ) → Ran b0 b1 b2 b3 e e' → (b2.inputs file ≡ b1.inputs file) ⊎ IsReadFrom left (b1.inputs file) (b2.inputs file) → (b3.inputs file ≡ b0.inputs file) ⊎ IsReadFrom left (b0.inputs file) (b3.inputs file)
-moved_place left b0 b1 b2 b3 e e' file ran (inl same) = inl (inputs_last b0 b1 b2 b3 e e' file ran ∙ same ∙ inputs_first b0 b1 b2 b3 e e' file ran)
-moved_place left b0 b1 b2 b3 e e' file ran (inr read) = inr (ran_input left b0 b1 b2 b3 e e' file ran read)
+moved_place : {S K C : Type 0} (left : S → Option (List ℕ)) (source_faults : S → ℕ) (b0 b1 b2 b3 : Book S K C) (e e' : K) (file : List ℕ) → Ran b0 b1 b2 b3 e e' → (b2.inputs file ≡ b1.inputs file) ⊎ (IsReadFrom left (b1.inputs file) (b2.inputs file) × EndHasNoFault source_faults (b2.inputs file))
+    → (b3.inputs file ≡ b0.inputs file) ⊎ (IsReadFrom left (b0.inputs file) (b3.inputs file) × EndHasNoFault source_faults (b3.inputs file))
+moved_place left source_faults b0 b1 b2 b3 e e' file ran (inl same) = inl (inputs_last b0 b1 b2 b3 e e' file ran ∙ same ∙ inputs_first b0 b1 b2 b3 e e' file ran)
+moved_place left source_faults b0 b1 b2 b3 e e' file ran (inr (read, still)) = inr (ran_input left b0 b1 b2 b3 e e' file ran read, ran_still source_faults b0 b1 b2 b3 e e' file ran still)
 
-pub ran_unplayed : {S K C : Type 0} (replay : Bool) (left : S → Option (List ℕ)) (written : K → Option (List ℕ)) (b0 b1 b2 b3 : Book S K C) (e e' : K) (file : List ℕ) → Ran b0 b1 b2 b3 e e' → IsUnplayed replay left written file b1 b2 → IsUnplayed replay left written file b0 b3
-ran_unplayed replay left written b0 b1 b2 b3 e e' file ran unplayed = record {
-  input = moved_place left b0 b1 b2 b3 e e' file ran unplayed.input;
+pub ran_unplayed : {S K C : Type 0} (replay : Bool) (left : S → Option (List ℕ)) (written : K → Option (List ℕ)) (source_faults : S → ℕ) (b0 b1 b2 b3 : Book S K C) (e e' : K) (file : List ℕ) → Ran b0 b1 b2 b3 e e' → IsUnplayed replay left written source_faults file b1 b2 → IsUnplayed replay left written source_faults file b0 b3
+ran_unplayed replay left written source_faults b0 b1 b2 b3 e e' file ran unplayed = record {
+  input = moved_place left source_faults b0 b1 b2 b3 e e' file ran unplayed.input;
   ends = moved_ends replay left written b0 b1 b2 b3 e e' file ran unplayed.ends;
 }
 
@@ -305,10 +311,10 @@ ran_run replay left written source_faults Says Says' Session Session' b0 b1 b2 b
   one_of = r.one_of;
   usage = r.usage;
   memory = λ one. says _ (r.memory one);
-  unplayed = λ one. ran_unplayed replay left written b0 b1 b2 b3 e e' file ran (r.unplayed one);
-  config = λ three. ran_config replay left Says Says' b0 b1 b2 b3 e e' file ran says (r.config three);
+  unplayed = λ one. ran_unplayed replay left written source_faults b0 b1 b2 b3 e e' file ran (r.unplayed one);
+  config = λ three. ran_config replay left source_faults Says Says' b0 b1 b2 b3 e e' file ran says (r.config three);
   opening = λ seven. ran_open b0 b1 b2 b3 e e' ran (r.opening seven);
-  unopened = λ seven. ran_unopened replay left Says Says' b0 b1 b2 b3 e e' file ran says (r.unopened seven);
+  unopened = λ seven. ran_unopened replay left source_faults Says Says' b0 b1 b2 b3 e e' file ran says (r.unopened seven);
   session = λ one_of. ran_either left source_faults Says Says' Session Session' b0 b1 b2 b3 e e' file status ran says session (r.session one_of);
   quiet = λ one_of. ran_quiet b0 b1 b2 b3 e e' ran (r.quiet one_of);
   unused = λ one_of. ran_unused replay left b0 b1 b2 b3 e e' file ran (r.unused one_of);

@@ -7,7 +7,7 @@ use Rattle.savi_ends.specs.Places.{Book, OthersStay}
 use Rattle.run_config.specs.Configs.{EndHasFault, EndHasNoFault, OfText}
 use Rattle.journal_check.specs.declared.answer.Checked.{Checked}
 use Rattle.journal_check.specs.declared.answer.Checked.TheVariants.{Good, Wrong, BadLine, Failed, NoMemory}
-use Rattle.journal_check.specs.Answers.{IsAnswer}
+use Rattle.journal_check.specs.Answers.{HasReadHeader, IsAnswer}
 use Rattle.journal_check.specs.Laws.{IsFinishedJournal}
 use Rattle.switch_report.specs.CheckLines.{bad_line, good_line, wrong_line}
 use Rattle.switch_report.specs.RunLines.{cannot_open_line, memory_line, read_failed_line}
@@ -45,10 +45,12 @@ pub record IsCheckedUnopened {S K C : Type 0} (file : List ℕ) (Says : List ℕ
   pub place : new.inputs file ≡ old.inputs file
   pub out : new.std Out ≡ old.std Out
 
--- There was no memory, as standard error was told, and no read of the file failed.
-pub record IsUnjudged {S K C : Type 0} (source_faults : S → ℕ) (file : List ℕ) (Says : List ℕ → Type 0) (old new : Book S K C) (status : ℕ) : Type 0 where
+-- There was no memory, as standard error was told: nothing of the file had been read, or its header and at most one piece
+-- behind it. No read of it failed.
+pub record IsUnjudged {S K C : Type 0} (left : S → Option (List ℕ)) (source_faults : S → ℕ) (file : List ℕ) (Says : List ℕ → Type 0) (old new : Book S K C) (status : ℕ) : Type 0 where
   pub status_is : status ≡ 1
   pub still : EndHasNoFault source_faults (new.inputs file)
+  pub memory : Keeps (λ told kept. (kept ≡ told) ⊎ HasReadHeader (left told) (left kept)) (old.inputs file) (new.inputs file)
   pub errors : Says memory_line
   pub out : new.std Out ≡ old.std Out
 
@@ -83,7 +85,7 @@ IsKept source_faults file old new = Keeps (λ told kept. source_faults told ≤ 
 -- what came of a file that was opened
 abbrev pub IsJudged : {S K C : Type 0} → (S → Option (List ℕ)) → (K → Option (List ℕ)) → (S → ℕ) → (K → ℕ) → List ℕ → (List ℕ → Type 0) → Book S K C → Book S K C → ℕ → Type 0
 IsJudged left written source_faults sink_faults file Says old new status =
-    IsUnjudged source_faults file Says old new status ⊎ (IsJournalUnread source_faults file Says old new status ⊎ IsAnswered left written source_faults sink_faults file Says old new status)
+    IsUnjudged left source_faults file Says old new status ⊎ (IsJournalUnread source_faults file Says old new status ⊎ IsAnswered left written source_faults sink_faults file Says old new status)
 
 -- The file could not be opened, or it was checked, and its source is kept. No other input, no output, no port and no end of
 -- control was touched.

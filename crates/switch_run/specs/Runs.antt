@@ -16,10 +16,10 @@ pub record IsRunOf {S K C : Type 0} (replay : Bool) (left : S → Option (List �
   pub one_of : IsOneOf statuses status
   pub usage : status ≢ 2
   pub memory : status ≡ 1 → Says memory_line
-  pub unplayed : status ≡ 1 → IsUnplayed replay left written file old new
-  pub config : status ≡ 3 → IsNoPlan replay left file Says old new
+  pub unplayed : status ≡ 1 → IsUnplayed replay left written source_faults file old new
+  pub config : status ≡ 3 → IsNoPlan replay left source_faults file Says old new
   pub opening : status ≡ 7 → Rose old.faults new.faults
-  pub unopened : status ≡ 7 → IsUnopened replay left file Says old new
+  pub unopened : status ≡ 7 → IsUnopened replay left source_faults file Says old new
   pub session : IsOneOf session_statuses status → IsFileUnread left source_faults file Says old new status ⊎ Session
   pub quiet : IsOneOf quiet_statuses status → new.std Out ≡ old.std Out
   pub unused : IsOneOf unused_statuses status → IsUnused replay left file old new

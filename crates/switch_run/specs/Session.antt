@@ -160,28 +160,31 @@ IsPartUnopened live plan Says old new =
     IsPortUnopened plan Says old new ⊎ (IsControlUnopened plan Says old new ⊎ IsJournalUnopened live plan Says old new)
 
 -- A port, control or the journal of the plan that the configuration says could not be opened, and the ticker wasn't touched.
-pub record IsPlanUnopened {S K C : Type 0} (replay : Bool) (left : S → Option (List ℕ)) (file : List ℕ) (Says : List ℕ → Type 0) (old new : Book S K C) : Type 0 where
+-- No read of the configuration failed.
+pub record IsPlanUnopened {S K C : Type 0} (replay : Bool) (left : S → Option (List ℕ)) (source_faults : S → ℕ) (file : List ℕ) (Says : List ℕ → Type 0) (old new : Book S K C) : Type 0 where
   pub plan : Plan
   pub configured : IsConfigured replay left (old.inputs file) plan
   pub input : IsReadFrom left (old.inputs file) (new.inputs file)
+  pub still : EndHasNoFault source_faults (new.inputs file)
   pub ticker : new.ticker ≡ old.ticker
   pub part : IsPartUnopened (not replay) plan Says old new
 
 -- Something that was to be opened could not be.
-abbrev pub IsUnopened : {S K C : Type 0} → Bool → (S → Option (List ℕ)) → List ℕ → (List ℕ → Type 0) → Book S K C → Book S K C → Type 0
-IsUnopened replay left file Says old new = IsFileUnopened file Says old new ⊎ IsPlanUnopened replay left file Says old new
+abbrev pub IsUnopened : {S K C : Type 0} → Bool → (S → Option (List ℕ)) → (S → ℕ) → List ℕ → (List ℕ → Type 0) → Book S K C → Book S K C → Type 0
+IsUnopened replay left source_faults file Says old new = IsFileUnopened file Says old new ⊎ IsPlanUnopened replay left source_faults file Says old new
 
--- The configuration, whose input is kept, says no plan, and nothing else was opened.
-pub record IsNoPlan {S K C : Type 0} (replay : Bool) (left : S → Option (List ℕ)) (file : List ℕ) (Says : List ℕ → Type 0) (old new : Book S K C) : Type 0 where
+-- The configuration, whose input is kept, says no plan, and nothing else was opened. No read of it failed.
+pub record IsNoPlan {S K C : Type 0} (replay : Bool) (left : S → Option (List ℕ)) (source_faults : S → ℕ) (file : List ℕ) (Says : List ℕ → Type 0) (old new : Book S K C) : Type 0 where
   pub fault : ConfFault
   pub refused : IsRefused replay left (old.inputs file) fault
   pub input : IsReadFrom left (old.inputs file) (new.inputs file)
+  pub still : EndHasNoFault source_faults (new.inputs file)
   pub unserved : IsUnserved old new
   pub errors : Says (config_line fault)
 
--- There was no memory. The input of the configuration is as it was, or kept, and a front of it was read. Either no port, no
--- output and no ends of control were touched, or the ends of all ports of the plan, of control, where the plan names it, and
--- of the journal are kept, and no others were touched.
-pub record IsUnplayed {S K C : Type 0} (replay : Bool) (left : S → Option (List ℕ)) (written : K → Option (List ℕ)) (file : List ℕ) (old new : Book S K C) : Type 0 where
-  pub input : (new.inputs file ≡ old.inputs file) ⊎ IsReadFrom left (old.inputs file) (new.inputs file)
+-- There was no memory. The input of the configuration is as it was, or kept, and a front of it was read, where no read
+-- failed. Either no port, no output and no ends of control were touched, or the ends of all ports of the plan, of control,
+-- where the plan names it, and of the journal are kept, and no others were touched.
+pub record IsUnplayed {S K C : Type 0} (replay : Bool) (left : S → Option (List ℕ)) (written : K → Option (List ℕ)) (source_faults : S → ℕ) (file : List ℕ) (old new : Book S K C) : Type 0 where
+  pub input : (new.inputs file ≡ old.inputs file) ⊎ (IsReadFrom left (old.inputs file) (new.inputs file) × EndHasNoFault source_faults (new.inputs file))
   pub ends : IsUnserved old new ⊎ ((plan : Plan) × IsConfigured replay left (old.inputs file) plan × KeepsAll (not replay) left written plan old new × IsOffPlanSame plan old new)

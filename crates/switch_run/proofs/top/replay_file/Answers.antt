@@ -40,7 +40,7 @@ returns-in-Ok-clause-ran g c =
       usage = c.replay_plan.ensures.usage;
       memory = c.replay_plan.ensures.memory;
       unplayed = λ one. record {
-        input = inr (input_still g c);
+        input = inr (input_still g c, never_failed g c);
         ends = configured_unplayed true g.W.S.Source.left g.W.K.Sink.written c.in-Ok.plan _ _ _ c.args.file.now c.in-Ok.ensures.rest c.in-Ok.ensures.configured (c.replay_plan.ensures.unplayed one);
       };
       config = λ three. absurd (c.replay_plan.ensures.config three);
@@ -49,6 +49,7 @@ returns-in-Ok-clause-ran g c =
         plan = c.in-Ok.plan;
         configured = c.in-Ok.ensures.configured;
         input = input_still g c;
+        still = never_failed g c;
         ticker = ticker;
         part = moved_part false c.in-Ok.plan _ _ _ _ _ _ before (same_places _) (λ lines told. told) (c.replay_plan.ensures.unopened seven);
       });
@@ -83,6 +84,8 @@ returns-in-Err-clause-ran g c =
     (λ fault e. c.in-Err.ensures.refused fault (err_of _ _ e))
     (λ e. c.in-Err.ensures.unopened (err_of _ _ e))
     (λ e. c.in-Err.ensures.unread (err_of _ _ e))
+    (λ read opened memory. c.in-Err.ensures.still (λ e. read (of_err _ _ e)) (λ e. opened (of_err _ _ e)) (λ e. memory (of_err _ _ e)))
+    (λ e. c.in-Err.ensures.still_memory (err_of _ _ e))
     (λ e. c.in-Err.ensures.as_it_was (err_of _ _ e))
     (λ apart other. c.in-Err.ensures.kept (λ e. apart (of_err _ _ e)) (λ e. other (of_err _ _ e)))
     (λ e. c.in-Err.ensures.memory (err_of _ _ e))
