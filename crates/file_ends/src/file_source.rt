@@ -35,8 +35,12 @@ impl FileSource {
 }
 
 impl FileSource {
+    ghost use Rattle.file_ends.specs.Ends.{source_file};
+
     /// Which file it is; `None` where it isn't a regular one.
-    pub fn id(&self) -> Option<FileId> {
+    pub fn id(&self) -> Option<FileId>
+        ensures { result ≡ source_file self.now }
+    {
         self.id
     }
 }

@@ -1,1 +1,2 @@
 pub mod RealWorlds
+pub mod Openings

@@ -8,7 +8,6 @@
 
 ghost use Rattle.std.specs.Prelude.{◌≡◌};
 
-mod open_files;
 mod opener;
 mod real_world;
 

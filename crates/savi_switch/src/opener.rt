@@ -1,13 +1,14 @@
 //! What opens the files and sockets of a run.
 
-ghost use Rattle.std.specs.Prelude.{◌≡◌, IfSome};
+ghost use Rattle.std.specs.Prelude.{◌≡◌, IfSome, IfOk, IfErr, OnErr};
+ghost use Rattle.file_ends.specs.Opened.{is_written, is_open, IsReason};
+ghost use Rattle.savi_switch.specs.Openings.{IsSourceNoted, IsSinkNoted, AreEndsNoted};
 
-use crate::open_files::OpenFiles;
-use file_ends::{FileSink, FileSource};
+use file_ends::{FileId, FileSink, FileSource, NotOpened, OpenFiles};
 use port_ends::{ClockStart, MachineClock, PortSink, PortSource};
 use savi_ends::{Ends, Sink, Source};
 use socket_ends::{SocketSink, SocketSource, open_sockets};
-use std::alloc::{AllocError, Global};
+use std::alloc::Global;
 use std::fs::Files;
 use std::net::Net;
 use std::sync::Wait;
@@ -38,15 +39,17 @@ pub struct Opener<R: Files + Net + Wait + Copy + Drop> {
 }
 
 impl<R: Files + Net + Wait + Copy + Drop> Opener<R> {
-    /// With no file open. `Err` is want of memory.
-    pub fn make(host: HostRuntime, rt: R, alloc: Global) -> Result<Opener<R>, AllocError> {
-        Ok(Opener {
+    /// With no file open but those that standard output and standard error are sent to.
+    pub fn new(host: HostRuntime, rt: R, alloc: Global) -> Opener<R> {
+        let out = FileId::of_standard_output(&host);
+        let err = FileId::of_standard_error(&host);
+        Opener {
             host,
             rt,
             alloc,
-            files: OpenFiles::make(alloc)?,
+            files: OpenFiles::at_start(out, err),
             start: ClockStart::read(&host),
-        })
+        }
     }
 
     /// A clock of this run.
@@ -58,6 +61,7 @@ impl<R: Files + Net + Wait + Copy + Drop> Opener<R> {
     pub fn ends(&mut self, input: &str, output: &str, live: bool) -> Option<RealEnds<R>>
         ensures source { IfSome result (λ ends. ⟦<RealSource<R> as Source>⟧.faults ends.source ≡ 0) }
         ensures sink { IfSome result (λ ends. ⟦<RealSink<R> as Sink>⟧.faults ends.sink ≡ 0) }
+        ensures noted { IfSome result (λ ends. AreEndsNoted self.old.files self.new.files ends.source ends.sink) }
     {
         let (source, sink) = if live {
             self.sockets(input, output)?
@@ -75,34 +79,40 @@ impl<R: Files + Net + Wait + Copy + Drop> Opener<R> {
     fn files(&mut self, input: &str, output: &str) -> Option<(RealSource<R>, RealSink<R>)>
         ensures source { IfSome result (λ ends. ⟦<RealSource<R> as Source>⟧.faults ends.0 ≡ 0) }
         ensures sink { IfSome result (λ ends. ⟦<RealSink<R> as Sink>⟧.faults ends.1 ≡ 0) }
+        ensures noted { IfSome result (λ ends. AreEndsNoted self.old.files self.new.files ends.0 ends.1) }
     {
-        let source = self.source(input)?;
-        let sink = self.sink(output)?;
+        let source = self.source(input).ok()?;
+        let sink = self.sink(output).ok()?;
         Some((source, sink))
     }
 
-    /// The file of this name as a source. `None` where it can't be opened, or is open to be written.
-    pub fn source(&mut self, name: &str) -> Option<RealSource<R>>
-        ensures { IfSome result (λ source. ⟦<RealSource<R> as Source>⟧.faults source ≡ 0) }
+    /// The file of this name as a source.
+    pub fn source(&mut self, name: &str) -> Result<RealSource<R>, NotOpened>
+        ensures fresh { IfOk result (λ source. ⟦<RealSource<R> as Source>⟧.faults source ≡ 0) }
+        ensures noted { IfOk result (λ source. IsSourceNoted self.old.files self.new.files source) }
+        ensures refused { IfErr result (IsReason (is_written self.old.files) self.old.files.read) }
+        ensures same { OnErr result (self.new.files ≡ self.old.files) }
     {
-        let source = FileSource::open(&self.host, self.alloc, name).ok()?;
-        self.files.add_read(source.id())?;
-        Some(PortSource::File(source))
+        let source = self.files.open_source(&self.host, self.alloc, name)?;
+        Ok(PortSource::File(source))
     }
 
-    /// The file of this name as a sink. `None` where it can't be opened, or is open already.
-    pub fn sink(&mut self, name: &str) -> Option<RealSink<R>>
-        ensures { IfSome result (λ sink. ⟦<RealSink<R> as Sink>⟧.faults sink ≡ 0) }
+    /// The file of this name as a sink.
+    pub fn sink(&mut self, name: &str) -> Result<RealSink<R>, NotOpened>
+        ensures fresh { IfOk result (λ sink. ⟦<RealSink<R> as Sink>⟧.faults sink ≡ 0) }
+        ensures noted { IfOk result (λ sink. IsSinkNoted self.old.files self.new.files sink) }
+        ensures refused { IfErr result (IsReason (is_open self.old.files) self.old.files.written) }
+        ensures same { OnErr result (self.new.files ≡ self.old.files) }
     {
-        let sink = FileSink::open(&self.host, name).ok()?;
-        self.files.add_written(sink.id())?;
-        Some(PortSink::File(sink))
+        let sink = self.files.open_sink(&self.host, name)?;
+        Ok(PortSink::File(sink))
     }
 
     // The ends over the sockets at these two paths.
     fn sockets(&self, input: &str, output: &str) -> Option<(RealSource<R>, RealSink<R>)>
         ensures source { IfSome result (λ ends. ⟦<RealSource<R> as Source>⟧.faults ends.0 ≡ 0) }
         ensures sink { IfSome result (λ ends. ⟦<RealSink<R> as Sink>⟧.faults ends.1 ≡ 0) }
+        ensures noted { IfSome result (λ ends. AreEndsNoted self.now.files self.now.files ends.0 ends.1) }
     {
         let (source, sink) = open_sockets(self.rt, &self.host, self.alloc, input, output).ok()?;
         Some((PortSource::Socket(source), PortSink::Socket(sink)))

@@ -1,6 +1,6 @@
 //! The real world: files, Unix stream sockets, the standard outputs and the machine's clock.
 
-ghost use Rattle.std.specs.Prelude.{◌≡◌, ◌≤◌, ℕ, List, true, false, Some, IfOk, IfSome};
+ghost use Rattle.std.specs.Prelude.{◌≡◌, ◌≤◌, ℕ, List, true, false, Some, IfOk, IfSome, OnErr};
 ghost use Rattle.savi_kinds.specs.Ports.{number_of};
 ghost use Rattle.savi_ends.specs.Faults.{Rose};
 
@@ -50,7 +50,7 @@ impl<R: Files + Net + Wait + Copy + Drop> RealWorld<R> {
             host,
             alloc,
             faults: 0,
-            opener: Opener::make(host, rt, alloc)?,
+            opener: Opener::new(host, rt, alloc),
             has_written: false,
             input: NamedSpot::new(),
             output: NamedSpot::new(),
@@ -92,6 +92,7 @@ fn fault(faults: &mut u64) -> OpenFailed
 impl<R: Files + Net + Wait + Copy + Send + Sync + Drop> World for RealWorld<R> {
     ghost use Rattle.savi_ends.specs.Places.{Book, ControlKey, HandsOut, IsReady, Opens, OthersStay, OtherPortsStay, IsOnlyOut, IsPortOut, IsPortKept, IsControlOut, IsControlKept, BothFresh, port_key};
     ghost use Rattle.savi_switch.specs.RealWorlds.{book_of};
+    ghost use Rattle.savi_switch.specs.Openings.{IsSourceNoted, IsSinkNoted, AreEndsNoted};
 
     type S = RealSource<R>;
 
@@ -105,7 +106,13 @@ impl<R: Files + Net + Wait + Copy + Send + Sync + Drop> World for RealWorld<R> {
         self.faults
     }
 
-    fn input(&mut self, name: &str) -> Result<RealSource<R>, OpenFailed> {
+    fn input(&mut self, name: &str) -> Result<RealSource<R>, OpenFailed>
+        requires { IsReady (λ s. ⟦<RealSource<R> as Source>⟧.faults s ≡ 0) ((book_of self.old).inputs name.now) }
+        ensures opens { Opens (λ s. ⟦<RealSource<R> as Source>⟧.faults s ≡ 0) (book_of self.old).faults (book_of self.new).faults ((book_of self.old).inputs name.now) ((book_of self.new).inputs name.now) result }
+        ensures others { OthersStay (book_of self.old).inputs (book_of self.new).inputs name.now }
+        ensures rest { book_of self.new ≡ record (book_of self.old) { faults = (book_of self.new).faults; inputs = (book_of self.new).inputs } }
+        ensures noted { IfOk result (λ source. IsSourceNoted self.old.opener.files self.new.opener.files source) }
+    {
         if !self.input.is_free() {
             return Err(fault(&mut self.faults));
         }
@@ -113,15 +120,21 @@ impl<R: Files + Net + Wait + Copy + Send + Sync + Drop> World for RealWorld<R> {
             return Err(fault(&mut self.faults));
         };
         match self.opener.source(name) {
-            Some(source) => {
+            Ok(source) => {
                 self.input.hand_out(Text::new(copy));
                 Ok(source)
             }
-            None => Err(fault(&mut self.faults)),
+            Err(_) => Err(fault(&mut self.faults)),
         }
     }
 
-    fn output(&mut self, name: &str) -> Result<RealSink<R>, OpenFailed> {
+    fn output(&mut self, name: &str) -> Result<RealSink<R>, OpenFailed>
+        requires { IsReady (λ k. ⟦<RealSink<R> as Sink>⟧.faults k ≡ 0) ((book_of self.old).outputs name.now) }
+        ensures opens { Opens (λ k. ⟦<RealSink<R> as Sink>⟧.faults k ≡ 0) (book_of self.old).faults (book_of self.new).faults ((book_of self.old).outputs name.now) ((book_of self.new).outputs name.now) result }
+        ensures others { OthersStay (book_of self.old).outputs (book_of self.new).outputs name.now }
+        ensures rest { book_of self.new ≡ record (book_of self.old) { faults = (book_of self.new).faults; outputs = (book_of self.new).outputs } }
+        ensures noted { IfOk result (λ sink. IsSinkNoted self.old.opener.files self.new.opener.files sink) }
+    {
         if !self.output.is_free() {
             return Err(fault(&mut self.faults));
         }
@@ -129,15 +142,23 @@ impl<R: Files + Net + Wait + Copy + Send + Sync + Drop> World for RealWorld<R> {
             return Err(fault(&mut self.faults));
         };
         match self.opener.sink(name) {
-            Some(sink) => {
+            Ok(sink) => {
                 self.output.hand_out(Text::new(copy));
                 Ok(sink)
             }
-            None => Err(fault(&mut self.faults)),
+            Err(_) => Err(fault(&mut self.faults)),
         }
     }
 
-    fn port(&mut self, n: Port, plan: &PortPlan) -> Result<RealEnds<R>, OpenFailed> {
+    fn port(&mut self, n: Port, plan: &PortPlan) -> Result<RealEnds<R>, OpenFailed>
+        requires planned { number_of plan.now.number ≡ number_of n }
+        requires ready { IsReady (BothFresh ⟦<RealSource<R> as Source>⟧.faults ⟦<RealSink<R> as Sink>⟧.faults) ((book_of self.old).ports (port_key plan.now)) }
+        ensures opens { Opens (BothFresh ⟦<RealSource<R> as Source>⟧.faults ⟦<RealSink<R> as Sink>⟧.faults) (book_of self.old).faults (book_of self.new).faults ((book_of self.old).ports (port_key plan.now)) ((book_of self.new).ports (port_key plan.now)) result }
+        ensures others { OtherPortsStay (book_of self.old).ports (book_of self.new).ports (number_of n) }
+        ensures unopened { OnErr result ((book_of self.new).ports ≡ (book_of self.old).ports) }
+        ensures rest { book_of self.new ≡ record (book_of self.old) { faults = (book_of self.new).faults; ports = (book_of self.new).ports } }
+        ensures noted { IfOk result (λ ends. AreEndsNoted self.old.opener.files self.new.opener.files ends.source ends.sink) }
+    {
         let live = match plan.format {
             Format::Pcap => false,
             Format::Stream => true,
@@ -154,7 +175,13 @@ impl<R: Files + Net + Wait + Copy + Send + Sync + Drop> World for RealWorld<R> {
         }
     }
 
-    fn control(&mut self, source: &str, sink: &str, live: bool) -> Result<RealEnds<R>, OpenFailed> {
+    fn control(&mut self, source: &str, sink: &str, live: bool) -> Result<RealEnds<R>, OpenFailed>
+        requires { IsReady (BothFresh ⟦<RealSource<R> as Source>⟧.faults ⟦<RealSink<R> as Sink>⟧.faults) ((book_of self.old).control (record { source = source.now; sink = sink.now; live = live })) }
+        ensures opens { Opens (BothFresh ⟦<RealSource<R> as Source>⟧.faults ⟦<RealSink<R> as Sink>⟧.faults) (book_of self.old).faults (book_of self.new).faults ((book_of self.old).control (record { source = source.now; sink = sink.now; live = live })) ((book_of self.new).control (record { source = source.now; sink = sink.now; live = live })) result }
+        ensures unopened { OnErr result ((book_of self.new).control ≡ (book_of self.old).control) }
+        ensures rest { book_of self.new ≡ record (book_of self.old) { faults = (book_of self.new).faults; control = (book_of self.new).control } }
+        ensures noted { IfOk result (λ ends. AreEndsNoted self.old.opener.files self.new.opener.files ends.source ends.sink) }
+    {
         match self.opener.ends(source, sink, live) {
             Some(ends) => {
                 self.control.hand_out();
