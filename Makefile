@@ -68,7 +68,7 @@ folders = $(DESTDIR)$(PREFIX)/lib/tmpfiles.d
 
 # The tools, of tools/ and of lab/; a tool NAME is run as savi-NAME. Of the second implementation the parts that only checks
 # and replays read stay here.
-TOOLS = $(notdir $(wildcard $(addprefix tools/,plan journal-table journal-picture tell-journal journal-keep panel ctl)))
+TOOLS = $(notdir $(wildcard $(addprefix tools/,plan journal-table journal-picture tell-journal panel ctl)))
 PACKAGES = $(notdir $(wildcard tools/switch_reading tools/switch_panel))
 KEPT = worked%.py conf_runs.py core_runs.py line_runs.py live.py load.py making.py plan_cases.py session.py toml_cases.py
 UNITS = $(notdir $(wildcard packaging/*.service packaging/*.socket packaging/*.target packaging/*.timer packaging/*.path))

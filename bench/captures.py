@@ -14,6 +14,11 @@ import sys
 import tempfile
 import time
 
+sys.dont_write_bytecode = True
+sys.path.append(os.path.join(os.path.dirname(os.path.realpath(__file__)), "..", "tools"))
+
+from switch_reading import options
+
 FRAMES = 200_000
 HEADER = bytes.fromhex("d4c3b2a1020004000000000000000000ffff000001000000")
 
@@ -69,4 +74,4 @@ def main(program, rounds):
 
 
 if __name__ == "__main__":
-    main(os.path.realpath(sys.argv[1]), int(sys.argv[2]) if len(sys.argv) > 2 else 7)
+    main(*options.of_measurement(__doc__, 7))

@@ -14,6 +14,11 @@ import subprocess
 import sys
 import tempfile
 
+sys.dont_write_bytecode = True
+sys.path.append(os.path.join(os.path.dirname(os.path.realpath(__file__)), "..", "tools"))
+
+from switch_reading import options
+
 FRAMES = 200_000
 
 
@@ -63,4 +68,4 @@ def main(program, rounds):
 
 
 if __name__ == "__main__":
-    main(os.path.realpath(sys.argv[1]), int(sys.argv[2]) if len(sys.argv) > 2 else 7)
+    main(*options.of_measurement(__doc__, 7))

@@ -5,8 +5,14 @@ too, but the host of a port has 24 addresses: the first frame of each claims it,
 
 usage: make_captures.py FOLDER [PORTS [known|bound]]
 """
+import os
 import struct
 import sys
+
+sys.dont_write_bytecode = True
+sys.path.append(os.path.join(os.path.dirname(os.path.realpath(__file__)), "..", "tools"))
+
+from switch_reading import options
 
 FRAMES = 120_000
 
@@ -45,4 +51,9 @@ def main(folder, ports, word):
 
 
 if __name__ == "__main__":
-    main(sys.argv[1], int(sys.argv[2]) if len(sys.argv) > 2 else 2, sys.argv[3] if len(sys.argv) > 3 else "")
+    words = options.parser(__doc__)
+    words.add_argument("folder", metavar="FOLDER", type=options.folder, help="where they are written")
+    words.add_argument("ports", metavar="PORTS", nargs="?", type=options.whole(1, 16), default=2, help="2 if not given")
+    words.add_argument("word", metavar="known|bound", nargs="?", choices=("known", "bound"), help="see above")
+    given = words.parse_args()
+    main(given.folder, given.ports, given.word or "")

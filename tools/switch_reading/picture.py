@@ -23,8 +23,9 @@ ADDRESSES, CHANGES = 500, 200
 # Refusals are shown first where there are so many.
 MANY = 50
 
-# How many sources of each port and rule are named, and of how many the headline tells.
-NAMED, LEADING = 3, 3
+# How many sources of each port and rule are named; of more than these each has at least one frame in so many. And of how many
+# ports and rules the headline tells.
+NAMED, SHARE, LEADING = 3, 100, 3
 
 
 class Bins:
@@ -181,19 +182,21 @@ def headline(told, names):
         f"<b>{refused.rule}</b>, {html.escape(telling.RULE_WORDS[refused.rule])}; {html.escape(sources_text(refused))}</li>"
         for refused in rows)
     rest = len(told.refused) - len(rows)
-    more = f"<li>and {rest} more of ports and rules, below</li>" if rest else ""
+    more = f"<li>and {rest} more {'rows' if rest > 1 else 'row'} below</li>" if rest else ""
     return (f'<div class="note"><p>{dropped:,} of {frames:,} frames were refused ({100 * dropped / frames:.0f}%), most of them '
             f"at:</p><ul>{items}{more}</ul></div>")
 
 
 def sources_text(refused):
-    """The sources with the most frames."""
-    named = refused.ranked()
-    texts = [f"{counting.source_text(source)} ({span.count:,})" for source, span in named[:NAMED]]
-    rest = len(named) - len(texts)
-    if rest or refused.others:
-        frames = refused.all.count - sum(span.count for _, span in named[:NAMED])
-        texts.append(f"{'more than ' if refused.others else ''}{rest:,} more sources ({frames:,})")
+    """The sources with the most frames. Where there are many a source with few frames tells nothing."""
+    ranked, frames = refused.ranked(), refused.all.count
+    is_few = len(ranked) <= NAMED and not refused.others
+    named = ranked[:NAMED] if is_few else [(source, span) for source, span in ranked[:NAMED] if SHARE * span.count >= frames]
+    texts = [f"{counting.source_text(source)} ({span.count:,})" for source, span in named]
+    if rest := len(ranked) - len(named):
+        left = frames - sum(span.count for _, span in named)
+        count = f"{'more than ' if refused.others else ''}{rest:,}{' more' if named else ''} source{'s' if rest > 1 else ''}"
+        texts.append(f"{count} ({left:,})" if named else count)
     return "from " + ", ".join(texts)
 
 

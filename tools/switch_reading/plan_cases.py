@@ -198,3 +198,76 @@ WARNINGS = (
     (BASE[:BASE.index("[[port]]\nnumber = 2")], MAC + "\n" + JOURNAL + "\n\n", (None, CAPTURE), ()),
     (BASE, BASE[:BASE.index("[[prefix]]")].replace('"host"', '"trusted"'), (CAPTURE, CAPTURE), ()),
 )
+
+# Plans, and what tools/plan prints of them.
+SHOWN = (
+    (BASE, """plan.toml: a plan for replay and for serve
+mac       02:00:00:00:00:01
+journal   journal.txt
+control   -
+sources   validated
+unknown   next headers are dropped
+room      32 addresses a port, 256 frames waiting at one, 262,144 entries, 67,108,864 octets
+times     probe gap 250 ms, test 500 ms, binding 300 s
+
+Port  Role     Format  Input   Output  Name
+   1  host     pcap    1.pcap  1.out
+   2  trusted  pcap    2.pcap  2.out
+
+Prefix           Method
+2001:db8:1::/64  fcfs
+
+"""),
+    (MAC + "\n" + JOURNAL + """
+savi = "off"
+unknown = "pass"
+per_port = 64
+depth = 1
+entries = 1000000
+bytes = 1518
+probe_gap_ms = 59999
+test_ms = 60000
+binding_s = 86400
+control = "control.sock"
+control_out = "replies.sock"
+
+# The router. It may advertise.
+[[port]]
+number = 16
+role = "trusted"
+input = "16.pcap"
+output = "16.out"
+
+[[port]]
+number = 3 # Room 3
+role = "server"
+format = "stream"
+input = "3.in.sock"
+output = "3.out.sock"
+
+[[prefix]]
+prefix = "2001:DB8:2:0::/64"
+method = "mixed"
+
+[[prefix]]
+prefix = "2001:db8:1::/64"
+method = "dhcp"
+""", """plan.toml: a plan for serve alone, since a replay reads captures
+mac       02:00:00:00:00:01
+journal   journal.txt
+control   control.sock, replies to replies.sock
+sources   not validated: messages alone are guarded
+unknown   next headers are passed
+room      64 addresses a port, 1 frames waiting at one, 1,000,000 entries, 1,518 octets
+times     probe gap 59,999 ms, test 60,000 ms, binding 86,400 s
+
+Port  Role     Format  Input      Output      Name
+   3  server   stream  3.in.sock  3.out.sock  Room 3
+  16  trusted  pcap    16.pcap    16.out      The router
+
+Prefix           Method
+2001:db8:1::/64  dhcp
+2001:db8:2::/64  mixed
+
+"""),
+)
