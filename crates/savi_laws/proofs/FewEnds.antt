@@ -41,7 +41,7 @@ module _ (plan : Plan) where
       let low : place_among (numbers_of plan.ports) q < length (numbers_of plan.ports) = place_in (numbers_of plan.ports) q is in
       omega (arith, size, low)
 
-  pass_low : (who : Who) → has_pass plan who ≡ true → pass_of plan who < pass_count plan
+  pub pass_low : (who : Who) → has_pass plan who ≡ true → pass_of plan who < pass_count plan
   pass_low (passes.Ingress p) known = let low : place_of plan (number_of p) < length plan.ports = place_low (number_of p) known in omega (arith, low)
   pass_low passes.Control known = omega arith
   pass_low passes.Ticker known = omega arith

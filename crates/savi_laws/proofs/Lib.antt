@@ -5,4 +5,10 @@ pub mod Raising
 pub mod OwnVlan
 pub mod FewEnds
 pub mod ReplayBudget
+pub mod Weights
+pub mod FewLeases
+pub mod FrameWeight
+pub mod Budget
+pub mod Enough
 pub mod Example
+pub mod Worked

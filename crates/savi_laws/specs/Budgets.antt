@@ -2,6 +2,8 @@
 use Rattle.std.specs.Prelude.{ℕ, ◌+◌, ◌*◌, ◌≤◌, List, length}
 use Rattle.savi_kinds.specs.declared.plan.Plan.{Plan}
 use Rattle.hist_store.specs.Rows.{Row}
+use Rattle.savi_history.specs.Bases.{Base}
+use Rattle.savi_history.specs.Vlans.{the_vlan}
 use Rattle.savi_laws.specs.Answered.{inputs}
 
 -- how many frames, longer frames and lines came in
@@ -16,4 +18,18 @@ replay_entries plan count = 34 + (length plan.ports + 1) * count
 -- 1,518 octets for the longest frame
 pub record SufficesForReplay (plan : Plan) (count octets : ℕ) : Type 0 where
   pub entries : 4130 + replay_entries plan count ≤ plan.entries
+  pub bytes : 1518 + octets ≤ plan.bytes
+
+-- what may bring entries about: frames, longer frames and lines that came in, and addresses that had a state before
+abbrev pub causes : Base → List Row → ℕ
+causes base past = input_count past + length (base.rows the_vlan)
+
+-- as many entries as any history with so many causes comes to at most: the ends of all passes, and 256 for each cause
+abbrev pub entries_most : ℕ → ℕ
+entries_most count = 34 + 256 * count
+
+-- the plan has room for any history with so many causes, of so many octets: 4,130 entries stay free for drains and ends,
+-- and 1,518 octets for the longest frame
+pub record Suffices (plan : Plan) (count octets : ℕ) : Type 0 where
+  pub entries : 4130 + entries_most count ≤ plan.entries
   pub bytes : 1518 + octets ≤ plan.bytes

@@ -4,3 +4,4 @@ pub mod Addresses
 pub mod Raised
 pub mod VlanMarks
 pub mod Budgets
+pub mod LateTicks

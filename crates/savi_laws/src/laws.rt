@@ -1,10 +1,11 @@
 // The laws on what verdicts depend on. Each function does nothing: its contract is the law.
 
-ghost use Rattle.std.specs.Prelude.{◌≡◌, ◌<◌, ◌≤◌, ℕ, false, List, length, Option, All};
+ghost use Rattle.std.specs.Prelude.{◌≡◌, ◌<◌, ◌≤◌, ℕ, true, false, List, length, Option, All};
 ghost use Rattle.savi_kinds.specs.Arrivals.{Input};
 ghost use Rattle.savi_kinds.specs.ValidPlan.{IsValidPlan};
 ghost use Rattle.savi_kinds.specs.declared.plan.Plan.{Plan};
 ghost use Rattle.savi_kinds.specs.declared.port.Port.{Port};
+ghost use Rattle.savi_kinds.specs.declared.entry.Who.{Who};
 ghost use Rattle.savi_kinds.specs.Ports.{number_of};
 ghost use Rattle.frame_class.specs.declared.classes.Class.{Class};
 ghost use Rattle.fcfs_states.specs.States.{Same};
@@ -19,16 +20,17 @@ ghost use Rattle.savi_history.specs.Endings.{has_full};
 ghost use Rattle.savi_history.specs.Readable.{IsInput, IsControl};
 ghost use Rattle.savi_history.specs.Replay.{Stops, replayed};
 ghost use Rattle.savi_history.specs.Events.{Event, judged_of, the_vlan};
-ghost use Rattle.savi_history.specs.Legal.{IsLegal};
-ghost use Rattle.savi_history.specs.Limits.{IsWithinLimits};
+ghost use Rattle.savi_history.specs.Legal.{IsLegal, IsOpen};
+ghost use Rattle.savi_history.specs.Limits.{IsWithinLimits, has_room};
 ghost use Rattle.savi_history.specs.Marks.{marks};
 ghost use Rattle.savi_history.specs.Moments.{last_moment, moment_at};
 ghost use Rattle.savi_history.specs.Ticks.{IsSameFrom};
 ghost use Rattle.savi_laws.specs.Rebuilt.{rows_by, AreRows, ComesFirst, with_tick};
 ghost use Rattle.savi_laws.specs.Answered.{came, answered};
+ghost use Rattle.savi_laws.specs.LateTicks.{LateTick};
 ghost use Rattle.savi_laws.specs.Addresses.{told_on, address_at, port_has_room, source_step};
 ghost use Rattle.savi_laws.specs.Raised.{held_after, GivesLease};
-ghost use Rattle.savi_laws.specs.Budgets.{input_count, replay_entries, SufficesForReplay};
+ghost use Rattle.savi_laws.specs.Budgets.{input_count, replay_entries, SufficesForReplay, causes, entries_most, Suffices};
 ghost use Rattle.savi_laws.specs.VlanMarks.{in_vlan, IsSameIn};
 
 /// Frames, longer frames and lines with their moments decide all verdicts, and to which ports frames go: ticks, drains and
@@ -55,6 +57,12 @@ pub fn ticks_can_be_left_out()
         → ComesFirst base past stamp events
         → IsSameFrom plan base (last_moment base (with_tick plan base past stamp events))
         (with_tick plan base past stamp events) (rows_by plan base past events) }
+{}
+
+/// A tick that comes later than the next event with a stamp may change a verdict, in legal histories too: the premise above
+/// can't go.
+pub fn a_late_tick_may_change_a_verdict()
+    ensures { LateTick }
 {}
 
 /// The state of an address follows from where it began, and from the events that name it with their moments and whether
@@ -105,4 +113,20 @@ pub fn a_budget_suffices_for_a_replay()
         → IsValidPlan plan → length inputs ≡ length plan.ports → IsControl lines → All IsInput inputs
         → let past = replayed plan empty lines inputs stops in
         SufficesForReplay plan (input_count past) (held past) → has_full past ≡ false }
+{}
+
+/// A legal history comes to at most 34 entries, and 256 for each frame, longer frame and line that came in, and for each
+/// address that had a state before: ticks, drains and ends among them. With room for so many beside the 4,130 entries that
+/// stay free, and for the octets that came in beside those of the longest frame, an input may come as long as its pass is
+/// open, and no pass ends for want of room.
+pub fn a_budget_always_suffices()
+    ensures entries { (plan : Plan) (base : Base) (past : List Row)
+        → IsValidPlan plan → IsWithinLimits plan base → IsLegal plan base past
+        → length past ≤ entries_most (causes base past) }
+    ensures room { (plan : Plan) (base : Base) (past : List Row) (who : Who)
+        → IsValidPlan plan → IsWithinLimits plan base → IsLegal plan base past → IsOpen plan base past who
+        → Suffices plan (causes base past) (held past) → has_room plan past ≡ true }
+    ensures ends { (plan : Plan) (base : Base) (past : List Row)
+        → IsValidPlan plan → IsWithinLimits plan base → IsLegal plan base past
+        → Suffices plan (causes base past) (held past) → has_full past ≡ false }
 {}

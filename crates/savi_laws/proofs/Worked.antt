@@ -1,0 +1,133 @@
+-- More worked histories, computed: what an address comes to beside other ones, what a lease gives, and what a history costs.
+use Rattle.std.proofs.Common.{◌≡◌, ℕ, ◌*◌, ◌^◌, List, [], ◌∷◌, refl, ap, lit≤, true, false, None, arith}
+use Rattle.savi_kinds.specs.declared.plan.Plan.{Plan}
+use Rattle.savi_kinds.specs.declared.plan.Method.TheVariants.{Dhcp}
+use Rattle.v6_chain.specs.Kinds.{kind_of}
+use Rattle.nd_read.specs.Messages.{named}
+use Rattle.nd_read.specs.NdOf.{nd_of, passes as message_passes}
+use Rattle.dhcp6_read.specs.Levels.{lease_of}
+use Rattle.dhcp6_read.specs.Message.{tid_of}
+use Rattle.dhcp6_read.specs.DhcpOf.{option_row, dhcp_of}
+use Rattle.frame_class.specs.ClassOf.{class_of}
+use Rattle.ra_guard.specs.GuardOf.{guard_of}
+use Rattle.fcfs_states.specs.declared.event.Ev.TheVariants.{Sent}
+use Rattle.fcfs_states.specs.declared.state.Fcfs.TheVariants.{Tentative}
+use Rattle.fcfs_states.specs.Aged.{aged, aged_by}
+use Rattle.fcfs_states.proofs.AgeingLemmas.{rank}
+use Rattle.mix_rules.specs.declared.state.AddrState.{AddrState}
+use Rattle.mix_rules.specs.States.{nobody}
+use Rattle.hist_store.specs.Rows.{Row, held}
+use Rattle.savi_access.specs.Judged.{judged}
+use Rattle.savi_access.specs.Marks.{Met}
+use Rattle.savi_history.specs.Bases.{empty}
+use Rattle.savi_history.specs.Marks.{marks}
+use Rattle.savi_history.specs.Judged.{judged_of}
+use Rattle.savi_history.specs.Offers.{offers}
+use Rattle.savi_history.specs.Queues.{probes, lost}
+use Rattle.savi_history.specs.Replay.{replayed}
+use Rattle.savi_history.specs.Legal.{IsLegal}
+use Rattle.savi_history.specs.Events.{Frame, Tick, Drain}
+use Rattle.savi_history.proofs.Example.{port_one, port_two, packet, inputs, no_failure, plan as guarding}
+use Rattle.savi_laws.specs.Rebuilt.{rows_by}
+use Rattle.savi_laws.specs.Addresses.{told_on, address_at}
+use Rattle.savi_laws.specs.Raised.{held_after}
+use Rattle.savi_laws.specs.VlanMarks.{in_vlan}
+use Rattle.savi_laws.specs.Budgets.{input_count, SufficesForReplay, causes, Suffices}
+use Rattle.savi_laws.proofs.Example.{plan, first_address, claimed}
+
+-- a packet from fe80::12
+abbrev other_packet : List ℕ
+other_packet = 2 ∷ 0 ∷ 0 ∷ 0 ∷ 0 ∷ 254 ∷ 2 ∷ 0 ∷ 0 ∷ 0 ∷ 0 ∷ 18 ∷ 134 ∷ 221 ∷ 96 ∷ 0 ∷ 0 ∷ 0 ∷ 0 ∷ 0 ∷ 59 ∷ 64 ∷ 254 ∷ 128 ∷ 0 ∷ 0 ∷ 0 ∷ 0 ∷ 0 ∷ 0 ∷ 0 ∷ 0 ∷ 0 ∷ 0 ∷ 0 ∷ 0 ∷ 0 ∷ 18 ∷ 254 ∷ 128 ∷ 0 ∷ 0 ∷ 0 ∷ 0 ∷ 0 ∷ 0 ∷ 0 ∷ 0 ∷ 0 ∷ 0 ∷ 0 ∷ 0 ∷ 0 ∷ 254 ∷ []
+
+-- fe80::12 is claimed at the same port before fe80::11 is
+abbrev both_claimed : Plan → List Row
+both_claimed plan = rows_by plan empty [] (Frame port_one 1000 packet ∷ Frame port_one 900 other_packet ∷ [])
+
+-- the same is told of fe80::11
+pub same_told : told_on plan empty (both_claimed plan) 1 first_address ≡ told_on plan empty claimed 1 first_address
+unfolding class_of nd_of named message_passes kind_of guard_of judged aged aged_by
+same_told = refl
+
+-- where a port may hold one address alone, its room is told otherwise, and so is its state another one
+abbrev narrow : Plan
+narrow = record plan { per_port = 1 }
+
+pub no_room_told : told_on narrow empty (both_claimed narrow) 1 first_address ≡ record { moment = 1000; event = Sent port_one; room = false } ∷ []
+unfolding class_of nd_of named message_passes kind_of guard_of judged aged aged_by
+no_room_told = refl
+
+pub no_state : address_at narrow empty (both_claimed narrow) 1000 1 first_address ≡ nobody
+unfolding class_of nd_of named message_passes kind_of guard_of judged aged aged_by
+no_state = refl
+
+pub a_state : address_at narrow empty (rows_by narrow empty [] (Frame port_one 1000 packet ∷ [])) 1000 1 first_address ≡ record { fixed = None; fcfs = Tentative port_one 1000 true; dhcp = None }
+unfolding class_of nd_of named message_passes kind_of guard_of judged aged aged_by
+a_state = refl
+
+-- addresses of 2001:db8::/64 are assigned by DHCP
+abbrev assigning : Plan
+assigning = record plan { prefixes = record { prefix = record { net = record { 0 = 0x20010db8 * 2 ^ 96 }; len = 64 }; method = Dhcp } ∷ [] }
+
+-- the client at fe80::11 requests, and is given 2001:db8::5 for 100 s (RFC 8415 sections 16.4, 16.10)
+abbrev request : List ℕ
+request = 2 ∷ 0 ∷ 0 ∷ 0 ∷ 0 ∷ 254 ∷ 2 ∷ 0 ∷ 0 ∷ 0 ∷ 0 ∷ 17 ∷ 134 ∷ 221 ∷ 96 ∷ 0 ∷ 0 ∷ 0 ∷ 0 ∷ 19 ∷ 17 ∷ 64 ∷ 254 ∷ 128 ∷ 0 ∷ 0 ∷ 0 ∷ 0 ∷ 0 ∷ 0 ∷ 0 ∷ 0 ∷ 0 ∷ 0 ∷ 0 ∷ 0 ∷ 0 ∷ 17 ∷ 254 ∷ 128 ∷ 0 ∷ 0 ∷ 0 ∷ 0 ∷ 0 ∷ 0 ∷ 0 ∷ 0 ∷ 0 ∷ 0 ∷ 0 ∷ 0 ∷ 0 ∷ 254 ∷ 2 ∷ 34 ∷ 2 ∷ 35 ∷ 0 ∷ 19 ∷ 0 ∷ 0 ∷ 3 ∷ 1 ∷ 2 ∷ 3 ∷ 0 ∷ 1 ∷ 0 ∷ 3 ∷ 7 ∷ 7 ∷ 7 ∷ []
+
+abbrev reply : List ℕ
+reply = 2 ∷ 0 ∷ 0 ∷ 0 ∷ 0 ∷ 17 ∷ 2 ∷ 0 ∷ 0 ∷ 0 ∷ 0 ∷ 254 ∷ 134 ∷ 221 ∷ 96 ∷ 0 ∷ 0 ∷ 0 ∷ 0 ∷ 63 ∷ 17 ∷ 64 ∷ 254 ∷ 128 ∷ 0 ∷ 0 ∷ 0 ∷ 0 ∷ 0 ∷ 0 ∷ 0 ∷ 0 ∷ 0 ∷ 0 ∷ 0 ∷ 0 ∷ 0 ∷ 254 ∷ 254 ∷ 128 ∷ 0 ∷ 0 ∷ 0 ∷ 0 ∷ 0 ∷ 0 ∷ 0 ∷ 0 ∷ 0 ∷ 0 ∷ 0 ∷ 0 ∷ 0 ∷ 17 ∷ 2 ∷ 35 ∷ 2 ∷ 34 ∷ 0 ∷ 63 ∷ 0 ∷ 0 ∷ 7 ∷ 1 ∷ 2 ∷ 3 ∷ 0 ∷ 1 ∷ 0 ∷ 3 ∷ 7 ∷ 7 ∷ 7 ∷ 0 ∷ 3 ∷ 0 ∷ 40 ∷ 0 ∷ 0 ∷ 0 ∷ 1 ∷ 0 ∷ 0 ∷ 0 ∷ 0 ∷ 0 ∷ 0 ∷ 0 ∷ 0 ∷ 0 ∷ 5 ∷ 0 ∷ 24 ∷ 32 ∷ 1 ∷ 13 ∷ 184 ∷ 0 ∷ 0 ∷ 0 ∷ 0 ∷ 0 ∷ 0 ∷ 0 ∷ 0 ∷ 0 ∷ 0 ∷ 0 ∷ 5 ∷ 0 ∷ 0 ∷ 0 ∷ 60 ∷ 0 ∷ 0 ∷ 0 ∷ 100 ∷ []
+
+-- the address is claimed at 1000, and once its test has ended its client requests
+abbrev requested : List Row
+requested = rows_by assigning empty [] (Frame port_one 2000 request ∷ Frame port_one 1000 packet ∷ [])
+
+-- the reply comes in at port 2: port 1 holds two addresses then, in place of one
+pub one_before : held_after assigning empty (marks assigning empty requested) 2100 1 ≡ 1
+unfolding class_of nd_of named message_passes kind_of guard_of judged aged aged_by dhcp_of option_row lease_of tid_of
+one_before = refl
+
+pub two_behind_it : held_after assigning empty (judged_of assigning empty requested port_two 2100 reply).marks 2100 1 ≡ 2
+unfolding class_of nd_of named message_passes kind_of guard_of judged aged aged_by dhcp_of option_row lease_of tid_of
+two_behind_it = refl
+
+-- without a request it gives nothing
+pub none_unasked : held_after assigning empty (judged_of assigning empty claimed port_two 2100 reply).marks 2100 1 ≡ 1
+unfolding class_of nd_of named message_passes kind_of guard_of judged aged aged_by dhcp_of option_row lease_of tid_of
+none_unasked = refl
+
+-- what was told of VLAN 2 is nothing to VLAN 1
+pub other_vlan_aside : in_vlan 1 (Met 2 500 7 [] ∷ marks plan empty claimed) ≡ in_vlan 1 (marks plan empty claimed)
+unfolding class_of nd_of named message_passes kind_of guard_of judged aged aged_by
+other_vlan_aside = refl
+
+-- the probe of the first packet is taken out, a tick comes, and the second probe is taken out
+abbrev ticked : List Row
+ticked = rows_by plan empty [] (Drain port_two 1 ∷ Tick 1500 ∷ Drain port_two 1 ∷ Frame port_one 1000 packet ∷ [])
+
+-- one frame has brought all of it about
+pub one_cause : causes empty ticked ≡ 1
+one_cause = refl
+
+-- and it is legal
+pub ticked_is_legal : IsLegal plan empty ticked
+unfolding class_of nd_of named message_passes kind_of guard_of judged aged aged_by offers
+ticked_is_legal = (
+  (Drain port_two 1, (record { known = refl; running = refl }, lit≤ tt, lit≤ tt), refl),
+  (
+    (Tick 1500, record { open_pass = record { known = refl; running = refl }; room = refl; fits = lit≤ tt; changed = (first_address, λ same. let ranks : 3 ≡ 5 = ap (λ (s : AddrState). rank s.fcfs) same in absurd (omega (arith, ranks))) }, refl),
+    (
+      (Drain port_two 1, (record { known = refl; running = refl }, lit≤ tt, lit≤ tt), refl),
+      ((Frame port_one 1000 packet, (record { open_pass = record { known = refl; running = refl }; room = refl; fits = lit≤ tt }, lit≤ tt), refl), tt),
+    ),
+  ),
+)
+
+pub room_enough : Suffices plan (causes empty ticked) (held ticked)
+room_enough = record { entries = lit≤ tt; bytes = lit≤ tt }
+
+-- the replay of two captures has three inputs, for which its plan has room
+pub three_inputs : input_count (replayed guarding empty None inputs no_failure) ≡ 3
+unfolding class_of nd_of named message_passes kind_of guard_of judged offers probes lost
+three_inputs = refl
+
+pub room_for_three : SufficesForReplay guarding (input_count (replayed guarding empty None inputs no_failure)) (held (replayed guarding empty None inputs no_failure))
+unfolding class_of nd_of named message_passes kind_of guard_of judged offers probes lost
+room_for_three = record { entries = lit≤ tt; bytes = lit≤ tt }
