@@ -1,18 +1,18 @@
 //! The worker of an output.
 
-ghost use Rattle.std.specs.Prelude.{◌≡◌};
+ghost use Rattle.std.specs.Prelude.{◌≡◌, []};
 ghost use Rattle.savi_kinds.specs.Ports.{number_of};
 ghost use Rattle.savi_kinds.specs.declared.entry.Who.TheVariants.{Egress};
 ghost use Rattle.savi_history.specs.Bases.{empty};
 ghost use Rattle.core_keep.specs.Seen.{past_seen};
 ghost use Rattle.live_session.specs.LiveRows.{EgressRow};
-ghost use Rattle.live_turns.specs.Seats.{IsEndedPass, IsNewPass, lock_plan};
+ghost use Rattle.live_turns.specs.Seats.{IsEndedPass, IsNewPass, IsRunning, lock_plan};
 
 use crate::gathered::Gathered;
 use crate::records::begin;
 use crate::writing::write_batch;
 use core_keep::KeptCore;
-use live_turns::{DrainTurn, Gate, Turns, drain_turn, end_turn, sleep_at_port};
+use live_turns::{DrainTurn, Gate, Turns, drain_turn, end_turn, place_at_port, sleep_until_woken};
 use savi_core::Batch;
 use savi_ends::{Put, Sink};
 use savi_kinds::{Format, How, Port, Who};
@@ -53,9 +53,9 @@ impl<K: Sink> Output<K> {
     /// fails, for which the egress ends: what waits there is given up then, and nothing more is written.
     ///
     /// A capture is begun at once. Then the worker takes turns: in each it takes all that waits at the port, and writes that
-    /// behind the turn, in pieces of up to 65,536 octets. Then it sleeps until a turn of another worker may have queued
-    /// something there, for 100 ms at most, or not at all where one did in between. It takes no memory. Nothing is promised
-    /// of how long it runs.
+    /// behind the turn, in pieces of up to 65,536 octets. Then it sleeps at the place of the port until a turn of another
+    /// worker may have queued something there, for 100 ms at most, or not at all where one did in between. It takes no
+    /// memory. Nothing is promised of how long it runs.
     pub fn run<R: Wait, G: Gate>(self, rt: &R, lock: &TableLock<KeptCore>, gate: &G) -> Output<K>
         requires { IsNewPass lock.now (Egress self.port) self.pass }
         ensures port { result.port ≡ self.port }
@@ -74,7 +74,7 @@ impl<K: Sink> Output<K> {
             rt,
             lock,
             gate,
-            Turns::new(pass),
+            Turns::new(place_at_port(pass, port)),
             port,
             format,
             &mut sink,
@@ -101,7 +101,8 @@ fn write_sent<K: Sink, R: Wait, G: Gate>(
     sink: &mut K,
     room: &mut OutputRoom,
 ) -> Turns
-    requires { IsNewPass lock.now (Egress port) turns.pass }
+    requires running { IsRunning lock.now (Egress port) turns.pass }
+    requires nothing { past_seen turns.pass ≡ [] }
     ensures ended { IsEndedPass lock.now (Egress port) result.pass }
     ensures row { EgressRow K.written K.faults format (lock_plan lock.now) empty (number_of port) (past_seen result.pass) sink.old sink.new }
 {
@@ -116,13 +117,13 @@ fn write_sent<K: Sink, R: Wait, G: Gate>(
         match came {
             DrainTurn::Took => match write_batch(format, sink, &room.batch, &mut room.gathered) {
                 Put::Done => {
-                    sleep_at_port(rt, lock, port);
+                    sleep_until_woken(rt, lock, &next.pass);
                     turns = next;
                 }
                 Put::Failed => return end_turn(rt, lock, gate, next, who, How::Failed),
             },
             DrainTurn::Idle => {
-                sleep_at_port(rt, lock, port);
+                sleep_until_woken(rt, lock, &next.pass);
                 turns = next;
             }
             DrainTurn::Ended => return next,

@@ -1,5 +1,5 @@
 -- The passes of the workers of so many ports, as they are dealt, and with those of one port fewer.
-use Rattle.std.proofs.Common.{◌≡◌, ℕ, zero, suc, ◌+◌, ◌*◌, ◌<◌, true, List, [], ◌∷◌, ◌++◌, length, get_or, slice_index_or, refl, sym, ap, subst, ◌∙◌, length-append, arith}
+use Rattle.std.proofs.Common.{◌≡◌, ℕ, zero, suc, ◌+◌, ◌*◌, ◌<◌, true, List, [], ◌∷◌, ◌++◌, length, get_or, slice_index_or, refl, sym, ap, subst, ◌∙◌, length-append, arith, None}
 use Rattle.std.specs.List.{SameBelow, ShiftedDown}
 use Rattle.std.proofs.lemmas.List.{get_or_append_left}
 use Rattle.std.proofs.Math.Seq.{get_or-append_seam}
@@ -10,7 +10,7 @@ use Rattle.savi_kinds.specs.Ports.{number_of}
 use Rattle.savi_kinds.specs.ValidPlan.{IsValidPlan, numbers_of}
 use Rattle.savi_history.specs.Passes.{has_port, place_of, pass_count}
 use Rattle.savi_history.proofs.PassNumbers.{number_at, place_at, known_at}
-use Rattle.table_lock.specs.Passes.{AreAll, AreDealt, IsPassOf, lock_seats, pass_number, pass_seen}
+use Rattle.table_lock.specs.Passes.{AreAll, AreDealt, IsPassOf, lock_seats, pass_number, pass_seen, pass_sleeps_at}
 use Rattle.table_lock.specs.declared.lock.TableLock.{TableLock}
 use Rattle.table_lock.specs.declared.pass.Pass.{Pass}
 use Rattle.core_keep.specs.declared.keep.KeptCore.{KeptCore}
@@ -32,8 +32,8 @@ number_here (x ∷ xs) zero n within is = is x
 number_here (x ∷ xs) (suc k) n within is = number_here xs k n (omega arith) is
 
 module _ (lock : TableLock KeptCore) where
-  fresh_at : (number : ℕ) (passes : List Pass) (d : Pass) → IsPassOf kept_fixed lock (slice_index_or passes number d) → (pass_number (slice_index_or passes number d) ≡ number) × (pass_seen (slice_index_or passes number d) ≡ []) → IsFresh lock number (slice_index_or passes number d)
-  fresh_at number passes d of new = record { of = of; number_is = new.0; nothing = ap decoded new.1 }
+  fresh_at : (number : ℕ) (passes : List Pass) (d : Pass) → IsPassOf kept_fixed lock (slice_index_or passes number d) → (pass_number (slice_index_or passes number d) ≡ number) × (pass_seen (slice_index_or passes number d) ≡ []) × (pass_sleeps_at (slice_index_or passes number d) ≡ None) → IsFresh lock number (slice_index_or passes number d)
+  fresh_at number passes d of new = record { of = of; number_is = new.0; nothing = ap decoded new.1; placeless = new.2 }
 
   -- all passes of a lock, as they are dealt
   pub all_dealt : (passes : List Pass) → AreAll kept_fixed lock passes → AreDealt passes → lock_seats lock ≡ pass_count (lock_plan lock) → AreFor lock (length (lock_plan lock).ports) passes
@@ -97,7 +97,7 @@ module _ (lock : TableLock KeptCore) where
         subst (IsFresh lock (length (lock_plan lock).ports + 1))
         (ap (λ (ps : List Pass). slice_index_or ps (0 + 1) ticker) last ∙ at_end most ticker (0 + 1) ticker (let s = sizes in omega arith))
         (dealt.others 1 ticker (omega arith)) in
-        record { of = fresh.of; known = refl; number_is = fresh.number_is; nothing = fresh.nothing }
+        record { of = fresh.of; known = refl; number_is = fresh.number_is; nothing = fresh.nothing; placeless = fresh.placeless }
 
     pub control_new : IsNewPass lock Control control
     control_new =
@@ -106,7 +106,7 @@ module _ (lock : TableLock KeptCore) where
         (ap (λ (ps : List Pass). slice_index_or ps (0 + 0) control) last ∙ at_front most ticker (0 + 0) control (let s = sizes in omega arith)
         ∙ ap (λ (ps : List Pass). slice_index_or ps (0 + 0) control) first ∙ at_end bare control (0 + 0) control (let s = sizes in omega arith))
         (dealt.others 0 control (omega arith)) in
-        record { of = fresh.of; known = refl; number_is = let n = fresh.number_is in omega arith; nothing = fresh.nothing }
+        record { of = fresh.of; known = refl; number_is = let n = fresh.number_is in omega arith; nothing = fresh.nothing; placeless = fresh.placeless }
 
   -- a fresh pass is that of a port's input, or output, at its place of the plan
   module _ (place : ℕ) (port : Port) (valid : IsValidPlan (lock_plan lock)) (within : place < length (lock_plan lock).ports)
@@ -121,7 +121,7 @@ module _ (lock : TableLock KeptCore) where
     is_placed = ap (λ (n : ℕ). place_of (lock_plan lock) n) port_number ∙ place_at (lock_plan lock) place valid.ports within
 
     pub input_new : (pass : Pass) → IsFresh lock place pass → IsNewPass lock (Ingress port) pass
-    input_new pass fresh = record { of = fresh.of; known = is_known; number_is = fresh.number_is ∙ sym is_placed; nothing = fresh.nothing }
+    input_new pass fresh = record { of = fresh.of; known = is_known; number_is = fresh.number_is ∙ sym is_placed; nothing = fresh.nothing; placeless = fresh.placeless }
 
     pub output_new : (pass : Pass) → IsFresh lock (length (lock_plan lock).ports + (2 + place)) pass → IsNewPass lock (Egress port) pass
     output_new pass fresh = record {
@@ -129,4 +129,5 @@ module _ (lock : TableLock KeptCore) where
       known = is_known;
       number_is = let a = fresh.number_is in let b = is_placed in omega arith;
       nothing = fresh.nothing;
+      placeless = fresh.placeless;
     }

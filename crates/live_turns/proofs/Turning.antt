@@ -5,7 +5,7 @@ use Rattle.savi_kinds.specs.declared.entry.Who.{Who}
 use Rattle.table_lock.specs.declared.lock.TableLock.{TableLock}
 use Rattle.table_lock.specs.declared.pass.Pass.{Pass}
 use Rattle.table_lock.specs.Entries.{EntryList, StartsWith, mine}
-use Rattle.table_lock.specs.Passes.{IsPassOf, lock_first, pass_number, pass_own, pass_seen}
+use Rattle.table_lock.specs.Passes.{IsPassOf, lock_first, pass_number, pass_own, pass_seen, pass_sleeps_at}
 use Rattle.table_lock.specs.Turns.{IsOrGrowsBy}
 use Rattle.hist_store.specs.Rows.{Row}
 use Rattle.savi_history.specs.Bases.{empty}
@@ -95,12 +95,13 @@ module _ (lock : TableLock KeptCore) (who : Who) (before : Pass) (running : IsRu
     }
 
     pub stands : (pass : Pass) (number : ℕ) (ended : Bool) → pass ≡ before → number ≡ pass_number pass
-        → IsPassOf kept_fixed lock after → pass_number after ≡ number
+        → IsPassOf kept_fixed lock after → pass_number after ≡ number → pass_sleeps_at after ≡ pass_sleeps_at pass
         → has_ended empty (pass_of kept.core.value.plan who) new.core.value.past ≡ ended → IsAt lock who ended after
-    stands pass number ended same numbered of after_number state = record {
+    stands pass number ended same numbered of after_number placed state = record {
       of = of;
       known = running.known;
       number_is = after_number ∙ numbered ∙ ap pass_number same ∙ running.number_is;
+      sleeps = placed ∙ ap pass_sleeps_at same ∙ running.sleeps;
       state = ap (has_ended empty (pass_of (lock_plan lock) who)) now_is
           ∙ ap (λ (p : Plan). has_ended empty (pass_of p who) new.core.value.past) (sym found.plan_is) ∙ state;
     }

@@ -1,16 +1,23 @@
--- The ports that are woken one after another, in order of number, are all that are to be woken.
+-- The ports that are woken one after another, in order of number, are all that are to be woken; and all are woken behind the
+-- turn.
 use Rattle.std.proofs.Common.{◌≡◌, ◌<◌, ◌≤◌, ◌+◌, ◌-◌, ◌==◌, ◌||◌, ◌++◌, ◌∷◌, [], List, ℕ, Bool, true, false, Option, Some, refl, sym, subst, ap, ◌∙◌, inl, inr, arith}
 use Rattle.std.proofs.lemmas.Bool.{cases_Bool}
 use Rattle.std.proofs.lemmas.Bool.Decides.{Decides-eqb}
 use Rattle.std.proofs.lemmas.List.Folds.{list_any-append}
 use Rattle.std.proofs.lemmas.Nat.Bits.{bit_at_ones}
+use Rattle.std.proofs.lemmas.List.Elements.{All-nil, All-push}
 use Rattle.savi_kinds.specs.declared.port.Port.{Port}
 use Rattle.savi_kinds.specs.declared.port.PortSet.{PortSet}
 use Rattle.savi_kinds.specs.Ports.{number_of}
 use Rattle.savi_kinds.specs.PortSets.{is_member}
 use Rattle.table_lock.specs.declared.lock.sleeping.Woken.{Woken}
-use Rattle.table_lock.specs.Wakings.{woken_place}
-use Rattle.live_turns.specs.Wakes.{HasAll, is_wake_at, was_woken}
+use Rattle.table_lock.specs.Wakings.{woken_place, woken_seen}
+use Rattle.arrayvec.specs.ArrayVec.{ArrayVec}
+use Rattle.hist_store.specs.Rows.{Row}
+use Rattle.table_lock.specs.Entries.{EntryList}
+use Rattle.core_keep.specs.Pasts.{coded, decoded}
+use Rattle.core_keep.proofs.PastsRead.{past_again}
+use Rattle.live_turns.specs.Wakes.{AreBehind, HasAll, IsBehind, is_wake_at, was_woken}
 
 -- the set with all bits has every port
 pub every_port : (port : Port) → is_member (record { 0 = 65535 }) (number_of port) ≡ true
@@ -54,3 +61,19 @@ woken_below_next n ports old new kept here below = λ port less to.
 
 pub woken_below_all : (n : ℕ) (ports : PortSet) (woken : List (Option Woken)) → 17 ≤ n → WokenBelow n ports woken → HasAll ports woken
 woken_below_all n ports woken last below = λ port to. let high = port.high in below port (omega (arith, last, high)) to
+
+-- no wake is behind whatever history, and a wake more is by one that had seen it
+pub none_behind : (now : List Row) (woken : List (Option Woken)) → woken ≡ [] → AreBehind now woken
+none_behind now woken none = subst (λ (l : List (Option Woken)). AreBehind now l) (sym none) (All-nil (IsBehind now))
+
+pub behind_more : (seen : EntryList) (woken new : List (Option Woken)) (wake : Woken) → woken_seen wake ≡ seen → new ≡ woken ++ Some wake ∷ []
+    → AreBehind (decoded seen) woken → AreBehind (decoded seen) new
+behind_more seen woken new wake by more so_far =
+    subst (λ (l : List (Option Woken)). AreBehind (decoded seen) l) (sym more) (All-push (IsBehind (decoded seen)) woken (Some wake) so_far (ap decoded by))
+
+-- the wakes behind a turn are behind the history that it left
+pub behind_turn : (seen : EntryList) (past : List Row) (woken kept : ArrayVec (Option Woken)) → kept ≡ woken → seen ≡ coded past
+    → AreBehind (decoded seen) woken.items → AreBehind past kept.items
+behind_turn seen past woken kept same left behind =
+    subst (λ (l : ArrayVec (Option Woken)). AreBehind past l.items) (sym same)
+    (subst (λ (rows : List Row). AreBehind rows woken.items) (ap decoded left ∙ past_again past) behind)

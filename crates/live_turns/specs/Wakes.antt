@@ -1,6 +1,6 @@
--- Which outputs a turn wakes: those of the ports whose queues have grown in it.
+-- Which outputs a turn wakes, and when: those of the ports whose queues have grown in it, behind it.
 use Rattle.std.specs.Prelude.{◌≡◌, ◌<◌, ◌==◌, ◌⊎◌, ℕ, Bool, true, false, List, Option, None, Some, length}
-use Rattle.std.specs.List.{list_any}
+use Rattle.std.specs.List.{All, list_any}
 use Rattle.savi_kinds.specs.declared.port.Port.{Port}
 use Rattle.savi_kinds.specs.declared.port.PortSet.{PortSet}
 use Rattle.savi_kinds.specs.declared.entry.Entry.{Entry}
@@ -9,12 +9,13 @@ use Rattle.savi_kinds.specs.Ports.{number_of}
 use Rattle.savi_kinds.specs.PortSets.{is_member}
 use Rattle.hist_store.specs.Rows.{Row}
 use Rattle.table_lock.specs.declared.lock.sleeping.Woken.{Woken}
-use Rattle.table_lock.specs.Wakings.{woken_place}
+use Rattle.table_lock.specs.Wakings.{woken_place, woken_seen}
 use Rattle.savi_history.specs.Bases.{empty}
 use Rattle.savi_history.specs.Passes.{has_port}
 use Rattle.savi_history.specs.Queues.{queue}
+use Rattle.core_keep.specs.Pasts.{decoded}
 
--- a wake at the place of this number, which is that of the egress of the port of this number
+-- a wake at the place of this number, which is that where the egress of the port of this number sleeps (`sleeps_at`)
 abbrev pub is_wake_at : ℕ → Option Woken → Bool
 is_wake_at number None = false
 is_wake_at number (Some wake) = woken_place wake == number
@@ -47,6 +48,15 @@ abbrev pub WokeGrown : List (Option Woken) → Plan → List Row → List Row �
 WokeGrown woken plan found now =
     (port : Port) → has_port plan (number_of port) ≡ true → HasGrown plan found now port → was_woken woken (number_of port) ≡ true
 
--- a turn did this, and by these wakes the egress of each port whose queue has grown in it was woken
+-- a wake by a pass that had seen this history
+abbrev pub IsBehind : List Row → Option Woken → Type 0
+IsBehind now None = Unit {0}
+IsBehind now (Some wake) = decoded (woken_seen wake) ≡ now
+
+-- Each of these wakes was by a pass that had seen this history: none was made in front of its last entry.
+abbrev pub AreBehind : List Row → List (Option Woken) → Type 0
+AreBehind now woken = All (IsBehind now) woken
+
+-- A turn did this, and by these wakes, each behind the turn, the egress of each port whose queue has grown in it was woken.
 abbrev pub Wakes : (Plan → List Row → List Row → Type 0) → List (Option Woken) → Plan → List Row → List Row → Type 0
-Wakes Did woken plan found now = Did plan found now × WokeGrown woken plan found now
+Wakes Did woken plan found now = Did plan found now × WokeGrown woken plan found now × AreBehind now woken

@@ -17,4 +17,4 @@ pub use gate::{Gate, NoGate};
 pub use kinds::{DrainTurn, TickTurn};
 pub use taking::{drain_turn, end_turn, frame_turn, line_turn, tick_turn};
 pub use turns::Turns;
-pub use waking::{Wakes, sleep_at_port};
+pub use waking::{Wakes, place_at_port, sleep_until_woken};

@@ -47,7 +47,7 @@ pub fn frame_turn<R: Wait, G: Gate>(
     let mut held = lock.enter(rt, turns.into_pass());
     let (entered, queued) = enter_frame(held.value(), event);
     let pass = held.leave();
-    let woken = wake_outputs(lock, queued);
+    let woken = wake_outputs(lock, &pass, queued);
     (Turns::after(pass, turn, woken), entered)
 }
 
@@ -73,7 +73,7 @@ pub fn line_turn<R: Wait, G: Gate>(
     let mut held = lock.enter(rt, turns.into_pass());
     let entered = enter_line(held.value(), stamp, line, reply);
     let pass = held.leave();
-    let woken = wake_all(lock);
+    let woken = wake_all(lock, &pass);
     (Turns::after(pass, turn, woken), entered)
 }
 
@@ -97,7 +97,7 @@ pub fn end_turn<R: Wait, G: Gate>(
     let mut held = lock.enter(rt, turns.into_pass());
     end(held.value(), who, how);
     let pass = held.leave();
-    let woken = wake_all(lock);
+    let woken = wake_all(lock, &pass);
     Turns::after(pass, turn, woken)
 }
 
@@ -120,7 +120,7 @@ pub fn tick_turn<R: Wait, G: Gate>(
     let mut held = lock.enter(rt, turns.into_pass());
     let came = tick(held.value(), stamp);
     let pass = held.leave();
-    let woken = wake_after(lock, came);
+    let woken = wake_after(lock, &pass, came);
     (Turns::after(pass, turn, woken), came)
 }
 

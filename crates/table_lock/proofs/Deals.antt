@@ -1,5 +1,5 @@
 -- The passes as they are dealt, and as they come in at the end.
-use Rattle.std.proofs.Common.{◌≡◌, ℕ, zero, suc, ◌+◌, ◌<◌, ◌≤◌, ◌⊎◌, inl, inr, ⊎_elim, List, [], ◌∷◌, ◌++◌, length, get_or, sym, refl, ap, ◌∙◌, subst, arith, append_assoc, length-append, Option, Some}
+use Rattle.std.proofs.Common.{◌≡◌, ℕ, zero, suc, ◌+◌, ◌<◌, ◌≤◌, ◌⊎◌, inl, inr, ⊎_elim, List, [], ◌∷◌, ◌++◌, length, get_or, sym, refl, ap, ◌∙◌, subst, arith, append_assoc, length-append, Option, Some, None}
 use Rattle.std.specs.List.{slice_get, insert, All}
 use mathlib.Core.Logic.{dite}
 use mathlib.Core.Option.{some, some-injective, some-ne-none}
@@ -14,7 +14,7 @@ use Rattle.table_lock.specs.Entries.{EntryList, mine, StartsWith}
 use Rattle.table_lock.specs.Rule.{Map, Has}
 use Rattle.table_lock.specs.Plays.{both, newcomer}
 use Rattle.table_lock.specs.Views.{at_turn, view_of}
-use Rattle.table_lock.specs.Passes.{pass_number, pass_table, pass_seen, pass_own, pass_fixed, AreNumbered}
+use Rattle.table_lock.specs.Passes.{pass_number, pass_table, pass_seen, pass_sleeps_at, pass_own, pass_fixed, AreNumbered}
 use Rattle.table_lock.proofs.Seats.{Ended}
 use Rattle.table_lock.proofs.Maps.{has_left, has_right, has_either, has_only}
 
@@ -53,6 +53,7 @@ pub record IsDealt (z : Rattle.atomic_table.specs.Seated.TableId) (F : List ℕ)
   pub seen : pass_seen p ≡ []
   pub table : pass_table p ≡ z
   pub fixed : pass_fixed p ≡ F
+  pub sleeps : pass_sleeps_at p ≡ None
 
 -- each pass is the one that its place and a first number say
 abbrev pub AllDealt : Rattle.atomic_table.specs.Seated.TableId → List ℕ → ℕ → List Pass → Type 0

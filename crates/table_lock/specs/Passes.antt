@@ -1,5 +1,5 @@
 -- What clauses see of a lock and of its passes.
-use Rattle.std.specs.Prelude.{◌≡◌, ℕ, ◌<◌, List, [], length, slice_get, slice_index_or, Some}
+use Rattle.std.specs.Prelude.{◌≡◌, ℕ, ◌<◌, List, [], length, slice_get, slice_index_or, Option, Some, None}
 use Rattle.std.specs.List.{All}
 use Rattle.atomic_table.specs.Seated.{TableId}
 use Rattle.table_lock.specs.Entries.{EntryList, mine}
@@ -20,6 +20,10 @@ pass_seen p = (view_of p.badge.views).seen
 -- the entries that the pass made
 abbrev pub pass_own : Pass → EntryList
 pass_own p = mine p.number (pass_seen p)
+
+-- the place at which the pass sleeps, if it was given one
+abbrev pub pass_sleeps_at : Pass → Option ℕ
+pass_sleeps_at p = p.sleeps_at
 
 -- the fixed part of the value that its lock was made with
 abbrev pub pass_fixed : Pass → List ℕ
@@ -46,9 +50,10 @@ module _ {V : Type 0} where
     abbrev pub AreAll : TableLock V → List Pass → Type 0
     AreAll l passes = (length passes ≡ lock_seats l) × All (IsPassOf l) passes
 
--- the passes as they are dealt: numbered in their order from 0, and each has seen nothing
+-- the passes as they are dealt: numbered in their order from 0, and each has seen nothing and has no place to sleep at
 abbrev pub AreDealt : List Pass → Type 0
-AreDealt passes = (k : ℕ) (d : Pass) → k < length passes → (pass_number (slice_index_or passes k d) ≡ k) × (pass_seen (slice_index_or passes k d) ≡ [])
+AreDealt passes = (k : ℕ) (d : Pass) → k < length passes →
+    (pass_number (slice_index_or passes k d) ≡ k) × (pass_seen (slice_index_or passes k d) ≡ []) × (pass_sleeps_at (slice_index_or passes k d) ≡ None)
 
 -- each number below n is the number of one of the passes
 abbrev pub AreNumbered : ℕ → List Pass → Type 0

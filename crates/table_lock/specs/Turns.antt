@@ -1,5 +1,5 @@
 -- What clauses see of a turn: the lock, the pass's number, the value, and the history as it was entered.
-use Rattle.std.specs.Prelude.{◌≡◌, ℕ, ◌^◌, ◌<◌, List, [], ◌∷◌, ◌++◌, ◌⊎◌, length, None, Bool, true, false}
+use Rattle.std.specs.Prelude.{◌≡◌, ℕ, ◌^◌, ◌<◌, List, [], ◌∷◌, ◌++◌, ◌⊎◌, length, Option, None, Bool, true, false}
 use Rattle.table_lock.specs.Entries.{Entry, EntryList}
 use Rattle.table_lock.specs.Passes.{lock_table, lock_first}
 use Rattle.table_lock.specs.Views.{at_turn}
@@ -13,6 +13,10 @@ module _ {V : Type 0} where
 
   abbrev pub held_number : Held V → ℕ
   held_number h = h.number
+
+  -- where the pass sleeps between its turns
+  abbrev pub held_sleeps_at : Held V → Option ℕ
+  held_sleeps_at h = h.sleeps_at
 
   abbrev pub held_value : Held V → V
   held_value h = h.value

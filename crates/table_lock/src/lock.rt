@@ -37,8 +37,9 @@ impl<V: Kept> TableLock<V> {
     ghost use Rattle.table_lock.specs.Views.{at_turn};
     ghost use Rattle.table_lock.specs.Passes.{AreAll, AreNumbered, IsPassOf};
     ghost use Rattle.table_lock.specs.Passes.{lock_first, lock_seats, lock_table};
-    ghost use Rattle.table_lock.specs.Passes.{pass_fixed, pass_number, pass_own, pass_seen, pass_table};
-    ghost use Rattle.table_lock.specs.Turns.{IsGrown, IsTurn, held_lock, held_number, held_seen, held_value};
+    ghost use Rattle.table_lock.specs.Passes.{pass_fixed, pass_number, pass_own, pass_seen, pass_sleeps_at, pass_table};
+    ghost use Rattle.table_lock.specs.Turns.{IsGrown, IsTurn};
+    ghost use Rattle.table_lock.specs.Turns.{held_lock, held_number, held_seen, held_sleeps_at, held_value};
     ghost use Rattle.table_lock.specs.declared.board.Stage.TheVariants.{Out, Waiting};
 
     /// Waits for the pass's turn, and takes the value out of the lock. It takes no memory.
@@ -51,13 +52,18 @@ impl<V: Kept> TableLock<V> {
         ensures turn { IsTurn V.fixed result }
         ensures lock { held_lock result ≡ self.now }
         ensures number { held_number result ≡ pass_number pass }
+        ensures sleeps { held_sleeps_at result ≡ pass_sleeps_at pass }
         ensures seen { V.history (held_value result) ≡ held_seen result }
         ensures extends { StartsWith (held_seen result) (pass_seen pass) }
         ensures own { mine (pass_number pass) (held_seen result) ≡ pass_own pass }
         ensures fixed { V.fixed (held_value result) ≡ V.fixed (lock_first self.now) }
     {
         let admitted = self.admission.lock(rt);
-        let Pass { number, badge } = pass;
+        let Pass {
+            number,
+            sleeps_at,
+            badge,
+        } = pass;
         let mut place: Place<V> = badge.into_seat();
         let ticket = self.table.shared.fetch_add::<Draw>(&mut place, TICKET, 1);
         self.wait_turn(rt, &mut place, ticket);
@@ -66,6 +72,7 @@ impl<V: Kept> TableLock<V> {
         Held {
             lock: self,
             number,
+            sleeps_at,
             place,
             value,
             entered,
@@ -138,7 +145,11 @@ impl<V: Kept> TableLock<V> {
         let last = passes.pop().unwrap();
         let mut place: Place<V> = last.badge.into_seat();
         while let Some(pass) = passes.pop() {
-            let Pass { number: _, badge } = pass;
+            let Pass {
+                number: _,
+                sleeps_at: _,
+                badge,
+            } = pass;
             self.table
                 .shared
                 .join_seat::<Together>(&mut place, badge.into_seat());

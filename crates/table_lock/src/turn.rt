@@ -11,6 +11,7 @@ use std::sync::MutexGuard;
 pub struct Held<'a, V: Kept> {
     pub(crate) lock: &'a TableLock<V>,
     pub(crate) number: u32,
+    pub(crate) sleeps_at: Option<u32>,
     pub(crate) place: Place<V>,
     pub(crate) value: V,
     pub(crate) entered: u64,
@@ -18,9 +19,9 @@ pub struct Held<'a, V: Kept> {
 }
 
 impl<'a, V: Kept> Held<'a, V> {
-    ghost use Rattle.table_lock.specs.Passes.{IsPassOf, pass_number, pass_seen, lock_first};
+    ghost use Rattle.table_lock.specs.Passes.{IsPassOf, pass_number, pass_seen, pass_sleeps_at, lock_first};
     ghost use Rattle.table_lock.specs.Turns.{IsTurn, IsOrGrowsBy};
-    ghost use Rattle.table_lock.specs.Turns.{held_lock, held_number, held_seen, held_value};
+    ghost use Rattle.table_lock.specs.Turns.{held_lock, held_number, held_seen, held_sleeps_at, held_value};
     ghost use Rattle.table_lock.specs.Lends.{lends_value};
 
     /// The value, to read and to change. O(1).
@@ -41,11 +42,13 @@ impl<'a, V: Kept> Held<'a, V> {
         requires fixed { V.fixed (held_value self) ≡ V.fixed (lock_first (held_lock self)) }
         ensures pass { IsPassOf V.fixed (held_lock self.entry) result }
         ensures number { pass_number result ≡ held_number self.entry }
+        ensures sleeps { pass_sleeps_at result ≡ held_sleeps_at self.entry }
         ensures seen { pass_seen result ≡ V.history (held_value self.entry) }
     {
         let Held {
             lock,
             number,
+            sleeps_at,
             mut place,
             value,
             entered,
@@ -55,7 +58,8 @@ impl<'a, V: Kept> Held<'a, V> {
         let nothing = lock.table.shared.exchange(&mut place, 0, Some(value));
         let None = nothing else { unreachable!() };
         lock.settle(&mut place, number, grew);
-        let pass = lock.pass_on(number, place);
+        let mut pass = lock.pass_on(number, place);
+        pass.sleeps_at = sleeps_at;
         drop(admitted);
         pass
     }

@@ -3,7 +3,6 @@ use Rattle.savi_kinds.specs.declared.entry.Who.TheVariants.{Egress}
 use Rattle.core_keep.specs.Seen.{past_seen}
 use Rattle.live_turns.specs.declared.kinds.DrainTurn.TheVariants as drains
 use Rattle.live_turns.specs.Seats.{lock_plan}
-use Rattle.live_turns.proofs.Seating.{new_runs}
 use Rattle.live_output.proofs.Sending.{sending_begins, sending_sends, sending_idles, sending_ends, unbegun_fails, unsent_fails}
 use Rattle.live_output.proofs.Turning.{turned_as, at_as}
 use Rattle.live_output.proofs.output.write_sent.Goals as goal
@@ -16,7 +15,7 @@ returns-in-Failed-clause-row g c =
 
 pub loop-init : goal.loop-init
 loop-init g c = record {
-  running = new_runs c.args.lock.now (Egress c.args.port) c.args.turns.pass c.requires;
+  running = c.requires.running;
   sending = sending_begins g.K.Sink.written g.K.Sink.faults (lock_plan c.args.lock.now) c.args.format c.args.port c.args.sink.now (past_seen c.args.turns.pass) c.begin.new.sink
       c.requires.nothing c.in-Done.ensures.extends (c.in-Done.ensures.still refl);
 }

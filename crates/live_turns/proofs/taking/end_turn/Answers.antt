@@ -1,14 +1,15 @@
-use Rattle.std.proofs.Common.{◌∙◌, true, sym, ap, subst}
+use Rattle.std.proofs.Common.{◌∙◌, true, refl, sym, ap, subst}
 use Rattle.savi_kinds.specs.declared.plan.Plan.{Plan}
 use Rattle.savi_history.specs.Bases.{empty}
 use Rattle.savi_history.specs.Legal.{MayEnd}
 use Rattle.core_keep.specs.declared.keep.KeptCore.{KeptCore}
 use Rattle.core_keep.specs.Pasts.{coded}
-use Rattle.table_lock.specs.Passes.{pass_number, pass_seen}
+use Rattle.table_lock.specs.Passes.{pass_number, pass_seen, pass_sleeps_at}
 use Rattle.live_turns.specs.Seats.{kept_fixed}
 use Rattle.live_turns.specs.TurnKinds.{DidEnd}
 use Rattle.live_turns.specs.Wakes.{Wakes}
 use Rattle.live_turns.proofs.Entering.{end_one, end_state}
+use Rattle.live_turns.proofs.WokenPorts.{behind_turn}
 use Rattle.live_turns.proofs.Turning.{Finds, finds, left_of, may_leave, stands, turned}
 use Rattle.live_turns.proofs.taking.end_turn.Goals as goal
 
@@ -36,6 +37,9 @@ leave-pass-requires-clause-history g c =
     (ap (λ (k : KeptCore). coded k.core.value.past) c.value.ensures.value ∙ c.enter-held.ensures.seen)
     (end_one c.value.result.now.core.value.plan c.value.result.now.core.value.past c.end.new.kept.core.value.past c.args.who c.args.how c.end.ensures.did)
 
+pub wake_all-woken-requires : goal.wake_all-woken-requires
+wake_all-woken-requires g c = left_of c.args.lock.now c.enter-held.result.lock.now c.leave-pass.result c.leave-pass.result c.enter-held.ensures.lock refl c.leave-pass.ensures.pass
+
 pub returns-clause-turned : goal.returns-clause-turned
 returns-clause-turned g c =
     let found : Finds c.args.lock.now c.args.who c.args.turns.pass c.value.result.now =
@@ -52,7 +56,7 @@ returns-clause-wakes g c =
     (ap (λ (k : KeptCore). coded k.core.value.past) c.value.ensures.value ∙ c.enter-held.ensures.seen) c.enter-held.ensures.extends c.enter-held.ensures.own
     (ap kept_fixed c.value.ensures.value ∙ c.enter-held.ensures.fixed) in
     turned c.args.lock.now c.args.who c.args.turns.pass c.requires.running c.value.result.now c.end.new.kept c.after.result.pass found (ap pass_seen c.after.ensures.pass ∙ c.leave-pass.ensures.seen)
-    (Wakes (DidEnd c.args.who c.args.how) c.after.result.woken.items) c.end.ensures.legal (c.end.ensures.did, (λ to of grown. rw c.after.ensures.woken (c.wake_all-woken.ensures to)))
+    (Wakes (DidEnd c.args.who c.args.how) c.after.result.woken.items) c.end.ensures.legal (c.end.ensures.did, (λ to of grown. rw c.after.ensures.woken (c.wake_all-woken.ensures.all to)), (behind_turn (pass_seen c.leave-pass.result) c.end.new.kept.core.value.past c.wake_all-woken.result c.after.result.woken c.after.ensures.woken c.leave-pass.ensures.seen c.wake_all-woken.ensures.behind))
 
 pub returns-clause-ended : goal.returns-clause-ended
 returns-clause-ended g c =
@@ -61,5 +65,5 @@ returns-clause-ended g c =
     (ap (λ (k : KeptCore). coded k.core.value.past) c.value.ensures.value ∙ c.enter-held.ensures.seen) c.enter-held.ensures.extends c.enter-held.ensures.own
     (ap kept_fixed c.value.ensures.value ∙ c.enter-held.ensures.fixed) in
     stands c.args.lock.now c.args.who c.args.turns.pass c.requires.running c.value.result.now c.end.new.kept c.after.result.pass found (ap pass_seen c.after.ensures.pass ∙ c.leave-pass.ensures.seen)
-    c.into_pass.result c.enter-held.result.number true c.into_pass.ensures c.enter-held.ensures.number (left_of c.args.lock.now c.enter-held.result.lock.now c.leave-pass.result c.after.result.pass c.enter-held.ensures.lock c.after.ensures.pass c.leave-pass.ensures.pass) (ap pass_number c.after.ensures.pass ∙ c.leave-pass.ensures.number)
+    c.into_pass.result c.enter-held.result.number true c.into_pass.ensures c.enter-held.ensures.number (left_of c.args.lock.now c.enter-held.result.lock.now c.leave-pass.result c.after.result.pass c.enter-held.ensures.lock c.after.ensures.pass c.leave-pass.ensures.pass) (ap pass_number c.after.ensures.pass ∙ c.leave-pass.ensures.number) (ap pass_sleeps_at c.after.ensures.pass ∙ c.leave-pass.ensures.sleeps ∙ c.enter-held.ensures.sleeps)
     (end_state c.value.result.now.core.value.plan c.value.result.now.core.value.past c.end.new.kept.core.value.past c.args.who c.args.how c.end.ensures.did)

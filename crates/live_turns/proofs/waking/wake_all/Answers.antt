@@ -1,5 +1,5 @@
 use Rattle.live_turns.proofs.WokenPorts.{every_port}
 use Rattle.live_turns.proofs.waking.wake_all.Goals as goal
 
-pub returns : goal.returns
-returns c = λ port. c.wake_outputs.ensures port (every_port port)
+pub returns-clause-all : goal.returns-clause-all
+returns-clause-all c = λ port. c.wake_outputs.ensures.all port (every_port port)

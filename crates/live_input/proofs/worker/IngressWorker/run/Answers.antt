@@ -14,7 +14,7 @@ pub loop-init : goal.loop-init
 loop-init g c =
     let worker = c.args.self in
     record {
-      running = subst (λ (pass : Pass). IsRunning c.args.lock.now (Ingress worker.port) pass) (sym c.new-turns.ensures) (new_runs c.args.lock.now (Ingress worker.port) worker.pass c.requires);
+      running = subst (λ (pass : Pass). IsRunning c.args.lock.now (Ingress worker.port) pass) (sym c.new-turns.ensures) (new_runs c.args.lock.now (Ingress worker.port) worker.pass refl c.requires);
       goes = subst (λ (past : List Row). GoesOn g.S.Source.left g.S.Source.faults g.C.Clock.readings worker.format (number_of worker.port) worker.source worker.clock c.new-input.result past)
           (sym (ap past_seen c.new-turns.ensures ∙ c.requires.nothing))
           (goes_first g.S.Source.left g.S.Source.faults g.C.Clock.readings worker.format (number_of worker.port) worker.source worker.clock c.new-input.result c.new-input.ensures.source c.new-input.ensures.clock c.new-input.ensures.reader);

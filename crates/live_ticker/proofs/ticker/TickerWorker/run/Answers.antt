@@ -1,4 +1,4 @@
-use Rattle.std.proofs.Common.{sym, subst}
+use Rattle.std.proofs.Common.{refl, sym, subst}
 use Rattle.savi_kinds.specs.declared.entry.Who.TheVariants.{Ticker}
 use Rattle.core_keep.specs.Seen.{past_seen}
 use Rattle.live_turns.specs.Seats.{IsNewPass, lock_plan}
@@ -11,7 +11,7 @@ pub loop-init : goal.loop-init
 loop-init g c =
     let new : IsNewPass c.args.lock.now Ticker c.new-turns.result.pass = subst (IsNewPass c.args.lock.now Ticker) (sym c.new-turns.ensures) c.requires in
     record {
-      running = new_runs c.args.lock.now Ticker c.new-turns.result.pass new;
+      running = new_runs c.args.lock.now Ticker c.new-turns.result.pass refl new;
       ticked = nothing_yet (lock_plan c.args.lock.now) (past_seen c.new-turns.result.pass) (g.C.Clock.readings c.args.self.clock) new.nothing;
     }
 

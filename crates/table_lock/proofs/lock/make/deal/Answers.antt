@@ -64,6 +64,7 @@ loop-number-preserved g c =
             seen = c.of.ensures.seen ∙ ap (λ (m : Sat g.row.V.Denot). m.0.seen) split.4;
             table = c.of.ensures.table ∙ (split.3 ∙ i.table);
             fixed = c.of.ensures.fixed ∙ (ap (λ (m : Sat g.row.V.Denot). m.0.fixed) split.4 ∙ ap (λ (m : Sat g.row.V.Denot). m.0.fixed) i.view);
+            sleeps = c.of.ensures.sleeps;
           });
     }
 
@@ -86,6 +87,7 @@ returns-clause-all g c =
       seen = c.of-2.ensures.seen ∙ ap (λ (x : View). x.seen) view;
       table = c.of-2.ensures.table ∙ i.table;
       fixed = c.of-2.ensures.fixed ∙ ap (λ (x : View). x.fixed) view;
+      sleeps = c.of-2.ensures.sleeps;
     } in (
       (let count = i.count in let long = ap length (c.in-Ok.ensures.items ∙ insert_front c.loop-number.passes.items c.of-2.result) in let n = c.requires.number.1 in let done = c.loop-number-test.false in
           let within = c.loop-number.auto.number-end in let some_pass = c.requires.number.0 in omega arith),
@@ -101,5 +103,6 @@ returns-clause-new g c =
       seen = c.of-2.ensures.seen ∙ ap (λ (x : View). x.seen) view;
       table = c.of-2.ensures.table ∙ i.table;
       fixed = c.of-2.ensures.fixed ∙ ap (λ (x : View). x.fixed) view;
+      sleeps = c.of-2.ensures.sleeps;
     } in
-    λ k d h. let t = all k d h in (subst (λ (n : ℕ). pass_number (get_or c.insert.new.self.items k d) ≡ n) (omega arith) t.number, t.seen)
+    λ k d h. let t = all k d h in (subst (λ (n : ℕ). pass_number (get_or c.insert.new.self.items k d) ≡ n) (omega arith) t.number, t.seen, t.sleeps)
