@@ -1,6 +1,11 @@
 -- The machine's clock.
 use Rattle.std.specs.Prelude.{ℕ}
+use Rattle.port_ends.specs.declared.machine_clock.ClockStart.{ClockStart}
 use Rattle.port_ends.specs.declared.machine_clock.MachineClock.{MachineClock}
+
+-- the time of day from which the clocks of a run go on, in ms
+abbrev pub began_at : ClockStart → ℕ
+began_at start = start.time_of_day
 
 -- what it read last, in ms
 abbrev pub last_of : {R : Type 0} → MachineClock R → ℕ

@@ -51,7 +51,7 @@ fn whole_millis(length: Duration) -> u64 {
 
 /// The machine's clock, in ms since 1970, over std's clocks. It takes the time of day from its start and adds what the
 /// monotonic clock tells, so that a time of day that is set back or forward meanwhile changes nothing. It never goes back,
-/// and stands still where the monotonic clock can't be read. It tells nothing of its readings.
+/// and stands still where the monotonic clock can't be read: at that time of day, if it never could. It tells nothing of its readings.
 #[derive(Clone, Copy)]
 pub struct MachineClock<R: Copy> {
     rt: R,
@@ -60,13 +60,17 @@ pub struct MachineClock<R: Copy> {
 }
 
 impl<R: Timer + Copy> MachineClock<R> {
-    ghost use Rattle.port_ends.specs.MachineClocks.{last_of};
+    ghost use Rattle.port_ends.specs.MachineClocks.{began_at, last_of};
 
     /// A clock that began then.
     pub fn new(rt: R, start: ClockStart) -> MachineClock<R>
-        ensures { last_of result ≡ 0 }
+        ensures { last_of result ≡ began_at start }
     {
-        MachineClock { rt, start, last: 0 }
+        MachineClock {
+            rt,
+            start,
+            last: start.time_of_day,
+        }
     }
 }
 

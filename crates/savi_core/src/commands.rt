@@ -31,7 +31,6 @@ pub(crate) fn obey(
 ) -> Option<Refusal>
     requires moment { t ≤ 2 ^ 62 }
     requires ready { IsAgedTo (rules_of ports.now) t access.old }
-    requires per_port { access.old.addresses.per_port ≡ ports.now.per_port }
     ensures ready { IsAgedTo (rules_of ports.now) t access.new }
     ensures obeyed { (base : AccessBase) (past : List Mark) → Represents (rules_of ports.now) base past t access.old
         → Obeys ports.now t (command_of line.now) access.new queues.old queues.new result base past }
@@ -52,7 +51,6 @@ fn obey_order(
 ) -> Option<Refusal>
     requires moment { t ≤ 2 ^ 62 }
     requires ready { IsAgedTo (rules_of ports.now) t access.old }
-    requires per_port { access.old.addresses.per_port ≡ ports.now.per_port }
     ensures ready { IsAgedTo (rules_of ports.now) t access.new }
     ensures obeyed { (base : AccessBase) (past : List Mark) → Represents (rules_of ports.now) base past t access.old
         → Obeys ports.now t (Ok order) access.new queues.old queues.new result base past }
@@ -144,7 +142,6 @@ fn carry_out(
 )
     requires moment { t ≤ 2 ^ 62 }
     requires ready { IsAgedTo (rules_of ports.now) t access.old }
-    requires per_port { access.old.addresses.per_port ≡ ports.now.per_port }
     requires granted { refusal_of ports.now access.old.addresses.rows (Ok order) ≡ None }
     ensures ready { IsAgedTo (rules_of ports.now) t access.new }
     ensures told { Moves (rules_of ports.now) t access.old access.new (λ base past. ordered ports.now base t (Ok order) past) }

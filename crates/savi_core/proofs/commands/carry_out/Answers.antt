@@ -31,7 +31,7 @@ fix-requires-clause-fixable c =
     let plan = c.args.ports.now in
     let port = c.in-Static.port in
     let given = granted plan c.args.access.now.addresses.rows c.in-Static.address.0 port (sym (ap (λ (order : Command). refusal_of c.args.ports.now c.args.access.now.addresses.rows (Ok order)) c.in-Static.is) ∙ c.requires.granted) in
-    subst (λ per_port. IsFixable per_port c.args.access.now.addresses.rows c.in-Static.address.0 (Fix c.in-Static.port)) (sym c.requires.per_port)
+    subst (λ per_port. IsFixable per_port c.args.access.now.addresses.rows c.in-Static.address.0 (Fix c.in-Static.port)) (sym c.requires.ready.made.per_port)
     (fixable plan c.args.access.now.addresses.rows c.in-Static.address.0 port given.fits)
 
 pub returns-in-Static-clause-told : goal.returns-in-Static-clause-told
