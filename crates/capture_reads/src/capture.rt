@@ -1,6 +1,6 @@
 // The frames of a capture.
 
-ghost use Rattle.std.specs.Prelude.{IfOk};
+ghost use Rattle.std.specs.Prelude.{true, IfOk};
 ghost use Rattle.pcap_io.specs.Kinds.{classic_kinds};
 ghost use Rattle.pcap_io.specs.Runs.{Arrive};
 ghost use Rattle.capture_reads.specs.Frames.{input_of};
@@ -28,7 +28,7 @@ pub fn frames_of<R: Files + AllocGlobal>(rt: &R, name: &str) -> io::Result<Vec<F
 /// The frames of a capture with one of the four classic headers, in order. The error is `InvalidData`
 /// for a capture that is malformed or has a frame of more than 1,518 octets.
 fn frames_in(alloc: Global, octets: Vec<u8>) -> io::Result<Vec<Frame>>
-    ensures { IfOk result (λ frames. Arrive classic_kinds octets.items (input_of frames.items)) }
+    ensures { IfOk result (λ frames. Arrive classic_kinds true octets.items (input_of frames.items)) }
 {
     let mut source = SureSource::new(octets);
     let mut clock = MemClock::new(Vec::new(alloc));

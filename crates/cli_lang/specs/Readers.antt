@@ -1,5 +1,5 @@
 -- What a reader of lines is ready for, and what each of its answers says.
-use Rattle.std.specs.Prelude.{◌≡◌, ℕ, ◌^◌, ◌≤◌, Bool, true, false, List, [], ◌∷◌, ◌++◌, take, Option, Some, None, ◌⊎◌}
+use Rattle.std.specs.Prelude.{◌≡◌, ℕ, ◌+◌, ◌^◌, ◌≤◌, Bool, true, false, List, [], ◌∷◌, ◌++◌, length, take, Option, Some, None, ◌⊎◌}
 use Rattle.savi_kinds.specs.declared.entry.How.{How}
 use Rattle.savi_kinds.specs.declared.entry.How.TheVariants as how
 use Rattle.savi_ends.specs.Octets.{NothingLeft}
@@ -26,6 +26,33 @@ abbrev pub Comes : Bool → Bool → State → List ℕ → Input → Type 0
 Comes live seen (Running place held) octets input = IsRun live seen place input.arrivals input.ending (held ++ octets)
 Comes live seen (Ended ending) octets input = input ≡ ended ending
 
+-- how many octets were taken so far
+abbrev pub octets_taken : State → ℕ
+octets_taken (Running place held) = place + length held
+octets_taken (Ended ending) = 0
+
+-- the octets of the longest line: those that it may have, and the one that ends it or makes it too long
+abbrev pub longest_line : ℕ
+longest_line = 120 + 1
+
+-- the most octets that are taken from a source at once
+abbrev pub longest_piece : ℕ
+longest_piece = 512
+
+-- the most octets that are taken from the front of a line on, before it is known how that line is
+abbrev pub longest_reach : ℕ
+longest_reach = longest_line + longest_piece
+
+-- the input ends at this place, by a line that is malformed or too long
+abbrev pub IsFaultAt : How → ℕ → Type 0
+IsFaultAt how.End at = ⊥
+IsFaultAt how.Quit at = ⊥
+IsFaultAt (how.Malformed place) at = place ≡ at
+IsFaultAt (how.Overlong place) at = place ≡ at
+IsFaultAt how.Failed at = ⊥
+IsFaultAt how.Unwritten at = ⊥
+IsFaultAt (how.Full len) at = ⊥
+
 -- the state holds no place past 2^62
 abbrev pub IsPlaced : State → Type 0
 IsPlaced (Running place held) = place ≤ 2 ^ 62
@@ -42,15 +69,17 @@ HasRead live first now gave lines =
 -- one line was read, and the reader stands behind it; or it was the last one, without a line feed
 abbrev pub HasReadOne : Bool → State → State → List ℕ → Option (List ℕ) → Line → Type 0
 HasReadOne live old new gave left line =
-    (((place : ℕ) × (held : List ℕ) × (new ≡ Running place held)) × HasRead live old new gave (line ∷ []))
+    (((place : ℕ) × (held : List ℕ) × (new ≡ Running place held)) × HasRead live old new gave (line ∷ []) × (octets_taken new ≡ octets_taken old + length gave))
     ⊎ ((new ≡ Ended how.End) × NothingLeft left × Comes live true old gave (only line))
 
--- The input ends so, whatever is left behind what was taken; or since nothing is left.
+-- The input ends so, whatever is left behind what was taken; or since nothing is left. From the place of a line at fault on
+-- no more was taken than the longest line and one piece have.
 abbrev pub HasEnded : Bool → State → State → List ℕ → Option (List ℕ) → How → Type 0
 HasEnded live old new gave left ending =
     (new ≡ Ended ending)
     × (((seen : Bool) (rest : List ℕ) → Comes live seen old (gave ++ rest) (ended ending))
     ⊎ (NothingLeft left × Comes live true old gave (ended ending)))
+    × ((at : ℕ) → IsFaultAt ending at → octets_taken old + length gave ≤ at + longest_reach)
 
 -- What an answer says of the octets that were taken for it, of the buffer, and of what is left.
 abbrev pub Answers : Bool → State → State → List ℕ → List ℕ → Option (List ℕ) → LineGot → Type 0

@@ -38,6 +38,7 @@ impl Model for Ahead {
 
 impl Ahead {
     ghost use Rattle.savi_ends.specs.declared.source.Got.TheVariants as got;
+    ghost use Rattle.cli_lang.specs.Readers.{longest_piece};
     ghost use Rattle.cli_lang.specs.Takings.{GivesOctet};
 
     pub fn new() -> Ahead
@@ -48,6 +49,14 @@ impl Ahead {
             at: 0,
             end: 0,
         }
+    }
+
+    /// How many octets are held: no more than are taken from a source at once.
+    pub fn held(&self) -> usize
+        ensures count { result ≡ length self.now }
+        ensures few { result ≤ longest_piece }
+    {
+        self.end - self.at
     }
 
     /// The next octet, from a new piece of the source where none is held.

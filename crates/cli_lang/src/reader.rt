@@ -46,7 +46,7 @@ impl Model for Lines {
 impl Lines {
     ghost use Rattle.savi_kinds.specs.declared.entry.How.TheVariants as how;
     ghost use Rattle.cli_lang.specs.Takings.{DecideLine};
-    ghost use Rattle.cli_lang.specs.Readers.{Running, Ended, Answers, Stamps, KeepsBuffer, last_answer, IsPlaced};
+    ghost use Rattle.cli_lang.specs.Readers.{Running, Ended, Answers, Stamps, KeepsBuffer, last_answer, longest_piece, IsPlaced};
 
     /// A reader at the beginning of its input.
     pub fn new() -> Lines
@@ -147,6 +147,8 @@ impl Lines {
                 if place + CONTROL_LINE_OCTETS as u64 + 1 > LAST_PLACE {
                     return self.malformed(place);
                 }
+                // for the contract: no more is held than one piece
+                self.ahead.held();
                 self.state = State::Overlong { at: place };
                 LineGot::Overlong { at: place }
             }
@@ -157,11 +159,13 @@ impl Lines {
         }
     }
 
-    // The line at this place is malformed.
+    // The line at this place is malformed. No more is held than one piece.
     fn malformed(&mut self, place: u64) -> LineGot
         ensures answer { result ≡ LineGot.Malformed place }
         ensures state { self.new ≡ Ended (how.Malformed place) }
+        ensures few { (at : ℕ) (held : List ℕ) → self.old ≡ Running at held → length held ≤ longest_piece }
     {
+        self.ahead.held();
         self.state = State::Malformed { at: place };
         LineGot::Malformed { at: place }
     }

@@ -1,17 +1,17 @@
 -- What was read of control's input, from a new reader on.
-use Rattle.std.proofs.Common.{◌≡◌, ◌≢◌, ℕ, true, false, List, [], ◌∷◌, ◌++◌, refl, sym, ap, ◌∙◌, subst, inl, inr, append-nil, append_assoc, Option, Some, None, IfSome}
+use Rattle.std.proofs.Common.{◌≡◌, ◌≢◌, ◌≤◌, ℕ, ◌+◌, true, false, List, [], ◌∷◌, ◌++◌, length, length-append, arith, refl, sym, ap, ◌∙◌, subst, inl, inr, append-nil, append_assoc, Option, Some, None, IfSome}
 use Rattle.savi_kinds.specs.declared.entry.How.{How}
 use Rattle.savi_kinds.specs.declared.entry.How.TheVariants as hows
 use Rattle.savi_ends.specs.Octets.{Takes, NothingLeft, in_front}
 use Rattle.cli_lang.specs.Arrivals.{Line, Input}
-use Rattle.cli_lang.specs.Readers.{State, Running, Ended, Comes, HasReadOne, HasEnded, ended}
+use Rattle.cli_lang.specs.Readers.{State, Running, Ended, Comes, HasReadOne, HasEnded, IsFaultAt, longest_reach, ended}
 use Rattle.cli_lang.proofs.Existence.{some_later}
 use Rattle.savi_history.specs.ControlFits.{AreBeforeRefusal, AreFirst}
 use Rattle.live_session.specs.LiveControl.{AreLiveLines}
 use Rattle.live_control.specs.Heard.{HasHeard, of_lines, start}
 
 pub heard_none : (left : Option (List ℕ)) → HasHeard start [] left []
-heard_none left = inl ((0, [], refl), λ seen rest later ending comes. comes)
+heard_none left = inl ((0, [], refl), (λ seen rest later ending comes. comes), refl)
 
 no_lines : (line : Line) (lines : List Line) (ending how : How) → of_lines (line ∷ lines) ending ≡ ended how → ⊥
 no_lines line lines ending how same = let e = ap (λ (i : Input). i.arrivals) same in cc
@@ -38,10 +38,11 @@ module _ (old new : State) (gave more : List ℕ) (left_old left : Option (List 
   pub heard_line : (line : Line) → HasHeard old gave left_old before → HasReadOne true old new more left line → HasHeard new (gave ++ more) left (before ++ line ∷ [])
   heard_line line (inl behind) (inl one) = inl (
     one.0,
-    λ seen rest later ending comes.
+    (λ seen rest later ending comes.
         subst (λ (l : List ℕ). Comes true seen start l (of_lines ((before ++ line ∷ []) ++ later) ending)) (sym (append_assoc gave more rest))
         (subst (λ (ls : List Line). Comes true seen start (gave ++ (more ++ rest)) (of_lines ls ending)) (sym (append_assoc before (line ∷ []) later))
-        (behind.1 seen (more ++ rest) (line ∷ later) ending (one.1 seen rest later ending comes))),
+        (behind.1 seen (more ++ rest) (line ∷ later) ending (one.1 seen rest later ending comes)))),
+    omega (arith, one.2, behind.2, length-append gave more),
   )
   heard_line line (inl behind) (inr one) = inr (one.0, one.1, behind.1 true more (line ∷ []) hows.End one.2)
   heard_line line (inr over) one = absurd (no_more old new more left line over.0 one)
@@ -74,6 +75,21 @@ module _ (old new : State) (gave more : List ℕ) (left_old : Option (List ℕ))
   pub heard_end : (first left : Option (List ℕ)) → HasHeard old gave left_old before → HasEnded true old new more left ending → Takes first left_old gave → Takes left_old left more → IfSome first (λ octets. AreLiveLines true octets before ending)
   heard_end first left heard has took takes =
       subst (λ (o : Option (List ℕ)). IfSome o (λ octets. AreLiveLines true octets before ending)) (sym (took ∙ ap (in_front gave) takes)) (whole_at left heard has takes)
+
+-- Behind the end of the input nothing but that end comes.
+over_ends : (old new : State) (more : List ℕ) (left : Option (List ℕ)) (ending : How) → old ≡ Ended hows.End → HasEnded true old new more left ending → ending ≡ hows.End
+over_ends old new more left ending is has = elim has.1 [
+  | inl whatever ↦ same_ending ending hows.End (subst (λ (s : State). Comes true true s (more ++ []) (ended ending)) is (whatever true []))
+  | inr nothing ↦ same_ending ending hows.End (subst (λ (s : State). Comes true true s more (ended ending)) is nothing.1)
+]
+
+-- From the place of a line at fault on no more was taken than the longest line and one piece have.
+pub heard_near : (old new : State) (gave more : List ℕ) (left_old left : Option (List ℕ)) (before : List Line) (ending : How) (at : ℕ) → HasHeard old gave left_old before → HasEnded true old new more left ending → IsFaultAt ending at → length (gave ++ more) ≤ at + longest_reach
+heard_near old new gave more left_old left before ending at (inl behind) has fault =
+    let bound = has.2 at fault in
+    omega (arith, bound, behind.2, length-append gave more)
+heard_near old new gave more left_old left before ending at (inr over) has fault =
+    absurd (subst (λ (h : How). IsFaultAt h at) (over_ends old new more left ending over.0 has) fault)
 
 module _ (state : State) (gave : List ℕ) (lines : List Line) where
   first_at : (left : Option (List ℕ)) → HasHeard state gave left lines → AreFirst (AreLiveLines true) (in_front gave left) lines

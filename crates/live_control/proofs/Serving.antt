@@ -1,5 +1,5 @@
 -- The ends of control between two lines, and once control has ended.
-use Rattle.std.proofs.Common.{◌≡◌, ◌≢◌, ◌≤◌, ℕ, Bool, true, false, List, [], ◌∷◌, ◌++◌, refl, sym, ap, ◌∙◌, subst, arith, inl, inr, append-nil, Option, Some, None, IfSome}
+use Rattle.std.proofs.Common.{◌≡◌, ◌≢◌, ◌≤◌, ℕ, ◌+◌, Bool, true, false, List, [], ◌∷◌, ◌++◌, length, refl, sym, ap, ◌∙◌, subst, arith, inl, inr, append-nil, Option, Some, None, IfSome}
 use Rattle.std.specs.List.{All, concat}
 use Rattle.std.proofs.lemmas.List.{map-append}
 use Rattle.std.proofs.lemmas.List.Elements.{All-cons, All-head, All-nil, All-tail}
@@ -15,7 +15,7 @@ use Rattle.savi_ends.proofs.Octets.{behind_again, takes_more}
 use Rattle.stream_io.specs.Calls.{AddsReadings}
 use Rattle.stream_io.proofs.ClockReadings.{adds_none, adds_more}
 use Rattle.cli_lang.specs.Arrivals.{Line}
-use Rattle.cli_lang.specs.Readers.{State, Comes, HasReadOne, HasEnded, ended}
+use Rattle.cli_lang.specs.Readers.{State, Comes, HasReadOne, HasEnded, IsFaultAt, longest_reach, ended}
 use Rattle.hist_store.specs.Rows.{Row}
 use Rattle.savi_history.specs.Bases.{empty}
 use Rattle.savi_history.specs.ControlFits.{AreFirst, FitsControl, HasNoQuit}
@@ -27,7 +27,7 @@ use Rattle.live_session.specs.LiveRows.{ControlRow}
 use Rattle.live_control.specs.LineTurns.{AnswersLine, IsAnswered, IsRefused}
 use Rattle.live_control.specs.Heard.{HasHeard, start}
 use Rattle.live_control.specs.Progress.{GoesOnOrEnds, Serves}
-use Rattle.live_control.proofs.Hearing.{goes_on, heard_end, heard_failed, heard_first, heard_line, heard_none, heard_refused}
+use Rattle.live_control.proofs.Hearing.{goes_on, heard_end, heard_failed, heard_first, heard_line, heard_near, heard_none, heard_refused}
 use Rattle.live_control.proofs.LineViews.{Shows}
 
 -- lists
@@ -101,6 +101,7 @@ module _ {S K C : Type 0} (left : S → Option (List ℕ)) (written : K → Opti
     pub shows : Shows plan past lines told (Some how)
     pub gave : (octets : List ℕ) × Takes (left first.source) (left now.source) octets
     pub fits : FitsControl AreLiveLines (left first.source) (left now.source) lines (Some how)
+    pub near : (at : ℕ) → IsFaultAt how at → length gave.0 ≤ at + longest_reach
     pub stamped : AreReadings (readings first.clock) (readings now.clock) (line_stamps lines) (Some how)
     pub fits_out : FitsReplies (written first.sink) (written now.sink) told (Some how)
     pub source : source_faults first.source ≤ source_faults now.source
@@ -115,6 +116,7 @@ module _ {S K C : Type 0} (left : S → Option (List ℕ)) (written : K → Opti
     gave = served.gave;
     fits = subst (λ (ls : List Line). FitsControl AreLiveLines (left first.source) (left now.source) ls (control_end past)) (sym served.shows.lines)
         (subst (λ (o : Option How). FitsControl AreLiveLines (left first.source) (left now.source) lines o) (sym served.shows.ending) served.fits);
+    near = λ h at is fault. served.near at (subst (λ (x : How). IsFaultAt x at) (some_same (sym is ∙ served.shows.ending)) fault);
     stamped = subst (λ (ls : List Line). AreReadings (readings first.clock) (readings now.clock) (line_stamps ls) (control_end past)) (sym served.shows.lines)
         (subst (λ (o : Option How). AreReadings (readings first.clock) (readings now.clock) (line_stamps lines) o) (sym served.shows.ending) served.stamped);
     fits_out = subst (λ (ts : List (List ℕ)). FitsReplies (written first.sink) (written now.sink) ts (control_end past)) (sym served.shows.told)
@@ -179,6 +181,7 @@ module _ {S K C : Type 0} (left : S → Option (List ℕ)) (written : K → Opti
         shows = record { lines = refused.lines; told = refused.replied; ending = refused.ending };
         gave = (gave_more, took_all);
         fits = (heard_refused later gave_more (left first.source) (left new.source) (entered_lines past) line heard_now took_all, serves.none);
+        near = λ at fault. absurd fault;
         stamped = (line.stamp, stamped_now);
         fits_out = subst (λ (k : K). written k ≡ behind (written first.sink) (concat (replies plan empty past))) (sym refused.same) serves.took;
         source = source_later;
@@ -200,6 +203,7 @@ module _ {S K C : Type 0} (left : S → Option (List ℕ)) (written : K → Opti
         shows = record { lines = answered.lines; told = answered.replied; ending = answered.ending };
         gave = (gave_more, took_all);
         fits = (all_first, record { front = entered_lines past; last = line; all = refl; none = serves.none; quit = answered.took.0 });
+        near = λ at fault. absurd fault;
         stamped = stamped_lines;
         fits_out = took_more (written first.sink) (written old.sink) (written new.sink) (replies plan empty past) answered.reply serves.took answered.took.1;
         source = source_later;
@@ -213,6 +217,7 @@ module _ {S K C : Type 0} (left : S → Option (List ℕ)) (written : K → Opti
         shows = record { lines = answered.lines; told = answered.replied; ending = answered.ending };
         gave = (gave_more, took_all);
         fits = (all_first, record { front = entered_lines past; last = line; all = refl; none = serves.none });
+        near = λ at fault. absurd fault;
         stamped = stamped_lines;
         fits_out = took_front (written first.sink) (written old.sink) (written new.sink) (replies plan empty past) answered.reply answered.took.0 serves.took answered.took.1 answered.took.2;
         source = source_later;
@@ -263,6 +268,7 @@ module _ {S K C : Type 0} (left : S → Option (List ℕ)) (written : K → Opti
         shows = shows;
         gave = (gave_more, took_all);
         fits = (whole hows.End has, serves.none);
+        near = λ at fault. absurd fault;
         stamped = stamped_same;
         fits_out = took_same;
         source = source_later;
@@ -278,6 +284,7 @@ module _ {S K C : Type 0} (left : S → Option (List ℕ)) (written : K → Opti
         shows = shows;
         gave = (gave_more, took_all);
         fits = (whole (hows.Malformed at) has, serves.none);
+        near = λ place fault. heard_near state later serves.gave more (left old.source) (left new.source) (entered_lines past) (hows.Malformed at) place serves.heard has fault;
         stamped = stamped_same;
         fits_out = took_same;
         source = source_later;
@@ -293,6 +300,7 @@ module _ {S K C : Type 0} (left : S → Option (List ℕ)) (written : K → Opti
         shows = shows;
         gave = (gave_more, took_all);
         fits = (whole (hows.Overlong at) has, serves.none);
+        near = λ place fault. heard_near state later serves.gave more (left old.source) (left new.source) (entered_lines past) (hows.Overlong at) place serves.heard has fault;
         stamped = stamped_same;
         fits_out = took_same;
         source = source_later;
@@ -316,6 +324,7 @@ module _ {S K C : Type 0} (left : S → Option (List ℕ)) (written : K → Opti
           },
           serves.none,
         );
+        near = λ at fault. absurd fault;
         stamped = stamped_same;
         fits_out = took_same;
         source = source_later;

@@ -1,5 +1,5 @@
 -- One read of an input and one turn for it.
-use Rattle.std.proofs.Common.{◌≡◌, ◌≢◌, ℕ, ◌+◌, ◌≤◌, Bool, true, false, List, [], ◌∷◌, ◌++◌, refl, sym, subst, ap, ◌∙◌, Option, Some, take, arith}
+use Rattle.std.proofs.Common.{◌≡◌, ◌≢◌, ℕ, ◌+◌, ◌≤◌, Bool, true, false, List, [], ◌∷◌, ◌++◌, length, length-append, refl, sym, subst, ap, ◌∙◌, Option, Some, take, arith}
 use Rattle.savi_kinds.specs.declared.plan.Format.{Format}
 use Rattle.savi_kinds.specs.declared.plan.Format.TheVariants as forms
 use Rattle.savi_kinds.specs.declared.entry.How.{How}
@@ -21,11 +21,11 @@ use Rattle.input_read.specs.declared.reader.InputReader.{InputReader}
 use Rattle.input_read.specs.declared.reader.InputReader.TheVariants as readers
 use Rattle.hist_store.specs.Rows.{Row}
 use Rattle.savi_history.specs.PortInputs.{arrived, input_end}
-use Rattle.live_session.specs.LiveInputs.{AreStamped, FitsInput}
+use Rattle.live_session.specs.LiveInputs.{AreStamped, FitsInput, longest_reach}
 use Rattle.live_session.specs.LiveRows.{IngressRow}
 use Rattle.live_input.specs.Entered.{EndsInput, Enters}
-use Rattle.live_input.specs.Progress.{GoesOn, HasRead, HasStamped, GoesOnOrEnds, reader_form}
-use Rattle.live_input.proofs.Telling.{IsOne, fits_end, fits_failed, fits_full, fits_malformed, new_form, new_unbroken, one_form, one_frame, one_long, one_unbroken, read_more, read_none}
+use Rattle.live_input.specs.Progress.{GoesOn, HasRead, HasStamped, GoesOnOrEnds, octets_taken, reader_form}
+use Rattle.live_input.proofs.Telling.{IsOne, fault_near, new_taken, one_taken, fits_end, fits_failed, fits_full, fits_malformed, new_form, new_unbroken, one_form, one_frame, one_long, one_unbroken, read_more, read_none}
 
 -- stamps
 
@@ -98,6 +98,7 @@ module _ {S C : Type 0} (left : S → Option (List ℕ)) (faults : S → ℕ) (r
     gave = [];
     takes = subst (λ (s : S). Takes (left source) (left s) []) (sym same_source) (takes_none (left source));
     read = read_none format input.reader new;
+    taken = new_taken format input.reader new;
     stamped = subst (λ (c : C). HasStamped input.reader (readings clock) (readings c) []) (sym same_clock) (stamped_first input.reader (readings clock));
     still = ap faults same_source;
     unbroken = new_unbroken format input.reader new;
@@ -120,6 +121,10 @@ module _ {S C : Type 0} (left : S → Option (List ℕ)) (faults : S → ℕ) (r
       read = subst (λ (l : List Arrival). HasRead new.reader (goes.gave ++ gave) l) (sym entered) (read_more old.reader new.reader goes.gave gave (arrived port before) x goes.read one);
       stamped = subst (λ (l : List Arrival). HasStamped new.reader (readings clock) (readings new.clock) l) (sym entered)
           (stamped_more old.reader new.reader gave x (readings clock) (readings old.clock) (readings new.clock) (arrived port before) one goes.stamped stamp);
+      taken =
+          let one_more = one_taken old.reader new.reader gave x one in
+          let before_it = goes.taken in
+          omega (arith, one_more, before_it, length-append goes.gave gave);
       still = still ∙ goes.still;
       unbroken = one_unbroken old.reader new.reader gave x one;
     }
@@ -130,13 +135,17 @@ module _ {S C : Type 0} (left : S → Option (List ℕ)) (faults : S → ℕ) (r
         → AreStamped (reader_form old.reader) (readings clock) (readings new.clock) (arrived port before) (Some how)
         → (how ≡ hows.Failed → Rose (faults old.source) (faults new.source))
         → (how ≢ hows.Failed → faults new.source ≡ faults old.source)
+        → ((at : ℕ) → how ≡ hows.Malformed at → octets_taken old.reader + length gave ≤ at + longest_reach (reader_form old.reader))
         → IngressRow left faults readings format port after source new.source clock new.clock
-    ended_at how gave takes later ends fits stamped cause stays = record {
+    ended_at how gave takes later ends fits stamped cause stays near = record {
       gave = (goes.gave ++ gave, takes_more goes.gave gave (left source) (left old.source) (left new.source) goes.takes takes);
       fits = subst (λ (t : Format × List Arrival × Option How). FitsInput t.0 (left source) (left new.source) t.1 t.2)
           (λ i. (goes.form i, sym ends.arrivals_same i, sym ends.ended_so i)) fits;
       stamped = subst (λ (t : Format × List Arrival × Option How). AreStamped t.0 (readings clock) (readings new.clock) t.1 t.2)
           (λ i. (goes.form i, sym ends.arrivals_same i, sym ends.ended_so i)) stamped;
+      near = λ at is.
+          subst (λ (f : Format). length (goes.gave ++ gave) ≤ at + longest_reach f) goes.form
+          (let bound = near at (same_how how at (sym ends.ended_so ∙ is)) in let before_it = goes.taken in omega (arith, bound, before_it, length-append goes.gave gave));
       later = let first = goes.still in omega arith;
       broken = λ failed. rose_since (faults source) (faults old.source) (faults new.source) goes.still (cause (some_how how (sym ends.ended_so ∙ failed)));
       still = λ other. stays (λ failed. other (ends.ended_so ∙ ap (λ (h : How). Some h) failed)) ∙ goes.still;
@@ -144,6 +153,9 @@ module _ {S C : Type 0} (left : S → Option (List ℕ)) (faults : S → ℕ) (r
       where
         some_how : (how : How) → Some how ≡ Some hows.Failed → how ≡ hows.Failed
         some_how how e = cc
+
+        same_how : (how : How) (at : ℕ) → Some how ≡ Some (hows.Malformed at) → how ≡ hows.Malformed at
+        same_how how at e = cc
 
     -- there was no room for an arrival
     full_at : (x : Arrival) (gave : List ℕ) → Takes (left old.source) (left new.source) gave → IsOne old.reader new.reader gave x → HasStampedOne old.reader (readings old.clock) (readings new.clock) (stamp_of x) → faults new.source ≡ faults old.source
@@ -154,6 +166,7 @@ module _ {S C : Type 0} (left : S → Option (List ℕ)) (faults : S → ℕ) (r
         (stamped_full refused.1.0 old.reader x (readings clock) (readings old.clock) (readings new.clock) (arrived port before) goes.stamped stamp)
         (λ e. cc)
         (λ other. still)
+        (λ at same. cc)
 
     arrival_at : (x : Arrival) (gave : List ℕ) (entered : Bool) → Takes (left old.source) (left new.source) gave → IsOne old.reader new.reader gave x → HasStampedOne old.reader (readings old.clock) (readings new.clock) (stamp_of x) → faults new.source ≡ faults old.source
         → Enters port x entered before after → GoesOnOrEnds left faults readings format port source clock new after entered
@@ -178,6 +191,7 @@ module _ {S C : Type 0} (left : S → Option (List ℕ)) (faults : S → ℕ) (r
         (stamped_end old.reader (readings clock) (readings old.clock) (arrived port before) goes.stamped))
         (λ e. cc)
         (λ other. reads.still (λ e. cc))
+        (λ at same. cc)
 
     pub left_malformed : (at : ℕ) → Reads left faults readings old new (next.Malformed at) → EndsInput port (hows.Malformed at) before after → IngressRow left faults readings format port after source new.source clock new.clock
     left_malformed at reads ends =
@@ -187,6 +201,7 @@ module _ {S C : Type 0} (left : S → Option (List ℕ)) (faults : S → ℕ) (r
         (stamped_malformed at old.reader (readings clock) (readings old.clock) (arrived port before) goes.stamped))
         (λ e. cc)
         (λ other. reads.still (λ e. cc))
+        (λ place same. fault_near at place old.reader new.reader reads.octets.0 new.buf (left new.source) reads.octets.2 same)
 
     pub left_failed : Reads left faults readings old new next.Failed → EndsInput port hows.Failed before after → IngressRow left faults readings format port after source new.source clock new.clock
     left_failed reads ends =
@@ -196,3 +211,4 @@ module _ {S C : Type 0} (left : S → Option (List ℕ)) (faults : S → ℕ) (r
         (stamped_failed old.reader (readings clock) (readings old.clock) (arrived port before) goes.stamped))
         (λ e. reads.cause refl goes.unbroken)
         (λ other. absurd (other refl))
+        (λ at same. cc)

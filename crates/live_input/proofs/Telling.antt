@@ -1,5 +1,5 @@
 -- What a reader took, arrival after arrival, and how that fits the history once its input has ended.
-use Rattle.std.proofs.Common.{◌≡◌, ◌⊎◌, ℕ, ◌<◌, ◌≤◌, ◌^◌, Bool, true, false, List, [], ◌∷◌, ◌++◌, refl, sym, subst, ap, ◌∙◌, append-nil, append_assoc, Option, Some, None, IfSome, inl, inr, take}
+use Rattle.std.proofs.Common.{◌≡◌, ◌⊎◌, ℕ, ◌+◌, ◌<◌, ◌≤◌, ◌^◌, length, Bool, true, false, List, [], ◌∷◌, ◌++◌, refl, sym, subst, ap, ◌∙◌, append-nil, append_assoc, Option, Some, None, IfSome, inl, inr, take}
 use Rattle.savi_kinds.specs.declared.plan.Format.{Format}
 use Rattle.savi_kinds.specs.declared.plan.Format.TheVariants as forms
 use Rattle.savi_kinds.specs.declared.entry.How.{How}
@@ -19,8 +19,8 @@ use Rattle.savi_history.specs.Fits.{IsWhole}
 use Rattle.input_read.specs.Readers.{Answers, HasFailed, IsNew}
 use Rattle.input_read.specs.declared.reader.InputReader.{InputReader}
 use Rattle.input_read.specs.declared.reader.InputReader.TheVariants as readers
-use Rattle.live_session.specs.LiveInputs.{AreCapture, AreStream, FitsInput, IsBrokenStream, IsCutStream}
-use Rattle.live_input.specs.Progress.{HasRead, reader_form}
+use Rattle.live_session.specs.LiveInputs.{AreCapture, AreStream, FitsInput, IsBrokenStream, IsCutStream, longest_reach}
+use Rattle.live_input.specs.Progress.{HasRead, octets_taken, reader_form}
 
 -- one arrival was read
 abbrev pub IsOne : InputReader → InputReader → List ℕ → Arrival → Type 0
@@ -66,6 +66,26 @@ one_unbroken (readers.Pcap old) (readers.Pcap new) gave arrival one failed = let
 one_unbroken (readers.Stream old) (readers.Stream new) gave arrival one failed = let e = one.running in cc
 one_unbroken (readers.Pcap old) (readers.Stream new) gave arrival one failed = one
 one_unbroken (readers.Stream old) (readers.Pcap new) gave arrival one failed = one
+
+-- how many octets were taken
+pub one_taken : (old new : InputReader) (gave : List ℕ) (arrival : Arrival) → IsOne old new gave arrival → octets_taken new ≡ octets_taken old + length gave
+one_taken (readers.Pcap old) (readers.Pcap new) gave arrival one = ap captures.record_place one.running.1
+one_taken (readers.Stream old) (readers.Stream new) gave arrival one = one.all
+one_taken (readers.Pcap old) (readers.Stream new) gave arrival one = absurd one
+one_taken (readers.Stream old) (readers.Pcap new) gave arrival one = absurd one
+
+pub new_taken : (format : Format) (reader : InputReader) → IsNew format reader → octets_taken reader ≡ 0
+new_taken forms.Pcap (readers.Pcap state) new = ap captures.record_place new
+new_taken forms.Pcap (readers.Stream state) new = absurd new
+new_taken forms.Stream (readers.Pcap state) new = absurd new
+new_taken forms.Stream (readers.Stream state) new = ap streams.octets_taken new
+
+-- and no more from a place at fault on than of one record
+pub fault_near : (at place : ℕ) (old new : InputReader) (gave buf : List ℕ) (left : Option (List ℕ)) → Answers old new gave buf left (next.Malformed at) → hows.Malformed at ≡ hows.Malformed place → octets_taken old + length gave ≤ place + longest_reach (reader_form old)
+fault_near at place (readers.Pcap old) (readers.Pcap new) gave buf left answers same = answers.near place same
+fault_near at place (readers.Stream old) (readers.Stream new) gave buf left answers same = answers.2 place same
+fault_near at place (readers.Pcap old) (readers.Stream new) gave buf left answers same = absurd answers
+fault_near at place (readers.Stream old) (readers.Pcap new) gave buf left answers same = absurd answers
 
 -- at the beginning nothing was read
 pub read_none : (format : Format) (reader : InputReader) → IsNew format reader → HasRead reader [] []
@@ -161,8 +181,11 @@ module _ (before mid now : Option (List ℕ)) (gave more buf : List ℕ) (arriva
   -- or a read failed behind them
   pub fits_failed : (old new : InputReader) → HasRead old gave arrivals → Answers old new more buf now next.Failed → FitsInput (reader_form old) before now arrivals (Some hows.Failed)
   fits_failed (readers.Pcap old) (readers.Pcap new) read answers =
-      let failed = joined.failed_input (captures.Fresh classic_kinds) old new gave more arrivals read answers in
-      record { gave = gave ++ more; takes = takes_more gave more _ _ _ took takes; ending = failed.0; read = failed.1 }
+      record {
+        gave = gave ++ more;
+        takes = takes_more gave more _ _ _ took takes;
+        read = joined.failed_input (captures.Fresh classic_kinds) old new gave more arrivals read answers;
+      }
   fits_failed (readers.Stream old) (readers.Stream new) read answers = stream_broken before mid now old arrivals gave more took read takes answers.1
   fits_failed (readers.Pcap old) (readers.Stream new) read answers = absurd answers
   fits_failed (readers.Stream old) (readers.Pcap new) read answers = absurd answers
@@ -171,14 +194,14 @@ module _ (before mid now : Option (List ℕ)) (gave more buf : List ℕ) (arriva
   pub fits_full : (len : ℕ) (x : Arrival) (old new : InputReader) → HasRead old gave arrivals → IsOne old new more x → FitsInput (reader_form old) before now arrivals (Some (hows.Full len))
   fits_full len x (readers.Pcap old) (readers.Pcap new) read one =
       let both = joined.has_read_more (captures.Fresh classic_kinds) old new gave more arrivals (x ∷ []) read one.read in
-      let rest : captures.Comes new [] (record { arrivals = []; ending = hows.End }) =
-      subst (λ (s : captures.State). captures.Comes s [] (record { arrivals = []; ending = hows.End })) (sym one.running.1) refl in
+      let rest : captures.Comes new true [] (record { arrivals = []; ending = hows.End }) =
+      subst (λ (s : captures.State). captures.Comes s true [] (record { arrivals = []; ending = hows.End })) (sym one.running.1) (refl, refl) in
       record {
         gave = gave ++ more;
         takes = takes_more gave more _ _ _ took takes;
         refused = x;
-        read = subst (λ (t : List ℕ × List Arrival). AreCapture t.0 t.1 hows.End)
-            (λ i. (append-nil (gave ++ more) i, append-nil (arrivals ++ x ∷ []) i)) (both [] [] hows.End rest);
+        read = subst (λ (t : List ℕ × List Arrival). AreCapture true t.0 t.1 hows.End)
+            (λ i. (append-nil (gave ++ more) i, append-nil (arrivals ++ x ∷ []) i)) (both true [] [] hows.End rest);
       }
   fits_full len x (readers.Stream old) (readers.Stream new) read one =
       stream_cut before now new arrivals x (gave ++ more) (takes_more gave more _ _ _ took takes) (stream_more old new gave more arrivals x read one)

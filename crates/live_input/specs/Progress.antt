@@ -1,5 +1,5 @@
 -- What the history holds of an input while its worker reads on.
-use Rattle.std.specs.Prelude.{◌≡◌, ℕ, Bool, true, false, List, [], Option}
+use Rattle.std.specs.Prelude.{◌≡◌, ℕ, Bool, true, false, List, [], length, Option}
 use Rattle.savi_kinds.specs.declared.plan.Format.{Format}
 use Rattle.savi_kinds.specs.declared.plan.Format.TheVariants as forms
 use Rattle.savi_kinds.specs.Arrivals.{Arrival}
@@ -31,6 +31,11 @@ abbrev pub HasStamped : InputReader → Option (List ℕ) → Option (List ℕ) 
 HasStamped (readers.Pcap state) read read_more arrivals = read_more ≡ read
 HasStamped (readers.Stream state) read read_more arrivals = AddsReadings read read_more (stamps_in arrivals)
 
+-- how many octets a reader has taken so far
+abbrev pub octets_taken : InputReader → ℕ
+octets_taken (readers.Pcap state) = captures.record_place state
+octets_taken (readers.Stream state) = streams.octets_taken state
+
 module _ {S C : Type 0} (left : S → Option (List ℕ)) (faults : S → ℕ) (readings : C → Option (List ℕ)) where
   -- what was read of an input of this form, from its first source and clock on, is what the history holds of it, and no read
   -- has failed
@@ -39,6 +44,7 @@ module _ {S C : Type 0} (left : S → Option (List ℕ)) (faults : S → ℕ) (r
     pub gave : List ℕ
     pub takes : Takes (left source) (left input.source) gave
     pub read : HasRead input.reader gave (arrived port past)
+    pub taken : octets_taken input.reader ≡ length gave
     pub stamped : HasStamped input.reader (readings clock) (readings input.clock) (arrived port past)
     pub still : faults input.source ≡ faults source
     pub unbroken : ¬ HasFailed input.reader

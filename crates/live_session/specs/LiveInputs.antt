@@ -1,6 +1,6 @@
 -- What the source and the clock of a live port are to the history, by how the input ended there. `before` and `after` are
 -- what the source had left, `read` and `read_more` what the clock had read, where they tell that.
-use Rattle.std.specs.Prelude.{◌≡◌, ℕ, true, false, List, [], ◌∷◌, ◌++◌, Option, Some, None}
+use Rattle.std.specs.Prelude.{◌≡◌, ℕ, Bool, true, false, List, [], ◌∷◌, ◌++◌, Option, Some, None}
 use Rattle.savi_kinds.specs.declared.plan.Format.{Format}
 use Rattle.savi_kinds.specs.declared.plan.Format.TheVariants.{Pcap, Stream}
 use Rattle.savi_kinds.specs.declared.entry.How.{How}
@@ -9,13 +9,15 @@ use Rattle.savi_kinds.specs.Arrivals.{Arrival}
 use Rattle.savi_ends.specs.Octets.{Takes}
 use Rattle.pcap_io.specs.Kinds.{classic_kinds}
 use Rattle.pcap_io.specs.Runs.{Arrive}
+use Rattle.pcap_io.specs.Readers as captures
+use Rattle.stream_io.specs.Readers as streams
 use Rattle.stream_io.specs.Streams.{IsRun}
 use Rattle.stream_io.specs.Calls.{stamps_in, AddsReadings}
 use Rattle.savi_history.specs.Fits.{Fits, IsWhole}
 
--- these octets are a capture of these arrivals, and end so
-abbrev pub AreCapture : List ℕ → List Arrival → How → Type 0
-AreCapture octets arrivals ending = Arrive classic_kinds octets (record { arrivals = arrivals; ending = ending })
+-- these octets are a capture of these arrivals, and end so, where the input was seen to end or not
+abbrev pub AreCapture : Bool → List ℕ → List Arrival → How → Type 0
+AreCapture seen octets arrivals ending = Arrive classic_kinds seen octets (record { arrivals = arrivals; ending = ending })
 
 -- all octets of a stream are these arrivals, each whole, and end so
 abbrev pub AreStream : List ℕ → List Arrival → How → Type 0
@@ -52,6 +54,11 @@ FitsStream before after arrivals None = ⊥
 abbrev pub FitsInput : Format → Option (List ℕ) → Option (List ℕ) → List Arrival → Option How → Type 0
 FitsInput Pcap before after arrivals ended_so = Fits AreCapture before after arrivals ended_so
 FitsInput Stream before after arrivals ended_so = FitsStream before after arrivals ended_so
+
+-- how many octets the reader of a form takes of one record at most, and with it of those behind
+abbrev pub longest_reach : Format → ℕ
+longest_reach Pcap = captures.longest_record
+longest_reach Stream = streams.longest_reach
 
 -- The readings of the clock are these stamps, one after the other; and behind them that of one more, where there was no room
 -- for what carried it.

@@ -34,6 +34,7 @@ module _ {S K C : Type 0} (left : S → Option (List ℕ)) (written : K → Opti
         gave = row.gave;
         fits = subst (λ (x : List Arrival × Option How). FitsInput format (left old) (left new) x.0 x.1) (λ i. (arrivals i, ended i)) row.fits;
         stamped = subst (λ (x : List Arrival × Option How). AreStamped format (readings clock) (readings later) x.0 x.1) (λ i. (arrivals i, ended i)) row.stamped;
+        near = λ at is. row.near at (ended ∙ is);
         later = row.later;
         broken = λ failed. row.broken (ended ∙ failed);
         still = λ other. row.still (λ failed. other (sym ended ∙ failed));
@@ -65,6 +66,7 @@ module _ {S K C : Type 0} (left : S → Option (List ℕ)) (written : K → Opti
         sink = row.sink;
         broken = λ failed. row.broken (ended ∙ failed);
         still = λ other. row.still (λ failed. other (sym ended ∙ failed));
+        near = λ how at is. row.near how at (ended ∙ is);
         unwritten = λ failed. row.unwritten (ended ∙ failed);
         still_out = λ other. row.still_out (λ failed. other (sym ended ∙ failed));
       }

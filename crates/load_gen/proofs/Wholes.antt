@@ -1,5 +1,5 @@
 -- The captures of a load as inputs.
-use Rattle.std.proofs.Common.{◌≡◌, ℕ, Bool, ◌+◌, ◌*◌, ◌%◌, ◌^◌, ◌<◌, ◌≤◌, ◌==◌, List, [], ◌∷◌, length, map, filter, All, refl, ap, ◌∙◌, arith, subst, get_or, length-append, lit<}
+use Rattle.std.proofs.Common.{◌≡◌, ℕ, Bool, true, ◌+◌, ◌*◌, ◌%◌, ◌^◌, ◌<◌, ◌≤◌, ◌==◌, List, [], ◌∷◌, length, map, filter, All, refl, ap, ◌∙◌, arith, subst, get_or, length-append, lit<}
 use Rattle.std.specs.List.{range_with_len}
 use Rattle.std.proofs.lemmas.List.{length-map}
 use Rattle.std.proofs.lemmas.List.Sums.{length-filter, count_by-le-length}
@@ -83,7 +83,7 @@ loads_are_inputs seed frames port within =
     let few : length items ≤ frames + 3 = omega (arith, sent_at_most port all, length-map-range_with_len (drawn_packet seed) 0 frames) in
     let short : length (capture_text items) ≤ 2 ^ 62 = omega (arith, within, few, records_short items fit) in
     let frames_short : AreFrames items = All-weaker IsFit (λ (item : Sent). length item.frame ≤ 1518) (λ item f. omega (arith, f.frame)) items fit in
-    subst (λ (arrivals : List Arrival). Arrive classic_kinds (capture_text items) (record { arrivals = arrivals; ending = how.End }))
+    subst (λ (arrivals : List Arrival). Arrive classic_kinds true (capture_text items) (record { arrivals = arrivals; ending = how.End }))
     (arrive_as_sent items fit)
     (written_arrives classic_kinds items (0, lit< tt, refl) frames_short short)
 

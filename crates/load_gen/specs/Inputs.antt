@@ -1,5 +1,5 @@
 -- What a load is to the readers of its captures: the frames that were sent, each with its moment, and then the end.
-use Rattle.std.specs.Prelude.{ℕ, ◌≤◌, ◌^◌, List, map}
+use Rattle.std.specs.Prelude.{ℕ, ◌≤◌, ◌^◌, true, List, map}
 use Rattle.savi_kinds.specs.declared.entry.How.TheVariants as how
 use Rattle.savi_kinds.specs.Arrivals.{Arrival, Frame}
 use Rattle.pcap_io.specs.Captures.{Sent, capture_text}
@@ -14,11 +14,11 @@ arrival_with item = Frame item.moment item.frame
 
 -- these octets are a whole input, which ends by its end
 abbrev pub IsWhole : List ℕ → Type 0
-IsWhole octets = (arrivals : List Arrival) × Arrive classic_kinds octets (record { arrivals = arrivals; ending = how.End })
+IsWhole octets = (arrivals : List Arrival) × Arrive classic_kinds true octets (record { arrivals = arrivals; ending = how.End })
 
 -- The capture of any port is, to a reader of classic captures, what was sent there and then its end.
 abbrev pub LoadsArrive : Type 0
 LoadsArrive =
     (seed frames port : ℕ) → frames ≤ 2 ^ 32
-    → Arrive classic_kinds (capture_text (sent_at port (sendings seed frames)))
+    → Arrive classic_kinds true (capture_text (sent_at port (sendings seed frames)))
     (record { arrivals = map arrival_with (sent_at port (sendings seed frames)); ending = how.End })

@@ -48,10 +48,10 @@ not_true true never = absurd (never refl)
 not_true false never = refl
 
 -- these octets are one input, and no read of them failed
-input_of : (octets : List ℕ) (after : Option (List ℕ)) (ended_so : Option How) (want : Input) (arrivals : List Arrival) (ending : How) → Arrive classic_kinds octets want → (ended_so ≡ Some hows.Failed → ⊥)
+input_of : (octets : List ℕ) (after : Option (List ℕ)) (ended_so : Option How) (want : Input) (arrivals : List Arrival) (ending : How) → Arrive classic_kinds true octets want → (ended_so ≡ Some hows.Failed → ⊥)
     → IsInputOf (Arrive classic_kinds) (Some octets) after ended_so arrivals ending → record { arrivals = arrivals; ending = ending } ≡ want
-input_of octets after ended_so want arrivals hows.End arrive never gave = one_input classic_kinds octets (record { arrivals = arrivals; ending = hows.End }) want gave arrive
-input_of octets after ended_so want arrivals (hows.Malformed at) arrive never gave = one_input classic_kinds octets (record { arrivals = arrivals; ending = hows.Malformed at }) want gave arrive
+input_of octets after ended_so want arrivals hows.End arrive never gave = one_input classic_kinds true octets (record { arrivals = arrivals; ending = hows.End }) want gave arrive
+input_of octets after ended_so want arrivals (hows.Malformed at) arrive never gave = one_input classic_kinds true octets (record { arrivals = arrivals; ending = hows.Malformed at }) want gave arrive
 input_of octets after ended_so want arrivals hows.Failed arrive never gave = absurd (never gave.0)
 input_of octets after ended_so want arrivals hows.Quit arrive never gave = absurd gave
 input_of octets after ended_so want arrivals (hows.Overlong at) arrive never gave = absurd gave
@@ -120,8 +120,8 @@ module _ (plan : Plan) (seed frames : ℕ) (past : List Row) (control_new : Opti
       let after : Option (List ℕ) = Some (sure_left (get_or new k some_ends).ends.source) in
       let gave : IsInputOf (Arrive classic_kinds) (Some (octets_at p)) after ended_so got.arrivals got.ending =
       subst (λ (r : State). IsInputOf (Comes r) (Some (octets_at p)) after ended_so got.arrivals got.ending) anew one.gave in
-      let arrive : Arrive classic_kinds (octets_at p) (input_at port (sendings seed frames)) =
-      subst (λ (o : List ℕ). Arrive classic_kinds o (input_at port (sendings seed frames))) (sym (capture_at k some_ends inside)) (loads_are_inputs seed frames port within) in
+      let arrive : Arrive classic_kinds true (octets_at p) (input_at port (sendings seed frames)) =
+      subst (λ (o : List ℕ). Arrive classic_kinds true o (input_at port (sendings seed frames))) (sym (capture_at k some_ends inside)) (loads_are_inputs seed frames port within) in
       input_of (octets_at p) after ended_so (input_at port (sendings seed frames)) got.arrivals got.ending arrive (λ failed. never_rose (one.broken failed)) gave
 
   inputs_are : served.inputs ≡ load_inputs seed frames

@@ -12,7 +12,7 @@ use Rattle.pcap_io.specs.declared.kind.HeaderKind.{HeaderKind}
 use Rattle.pcap_io.specs.Numbers.{octets_of}
 use Rattle.pcap_io.specs.Kinds.{magic_of, IsHeader}
 use Rattle.pcap_io.specs.Records.{captured_of, stamp_of, IsRecordOf}
-use Rattle.pcap_io.specs.Runs.{BeginsRecord, IsRun, Arrive, ended}
+use Rattle.pcap_io.specs.Runs.{IsAtFault, IsCut, IsRun, Arrive, ended}
 use Rattle.pcap_io.specs.Readers.{State, Fresh, Running, Ended, Comes}
 use Rattle.pcap_io.proofs.Fronts.{captured_of-append}
 
@@ -60,16 +60,19 @@ kind_or_none (k ∷ kinds) header =
       ]
     ]
 
--- a record begins here or not
-record_or_not : (kind : HeaderKind) (place : ℕ) (octets : List ℕ) → BeginsRecord kind place octets ⊎ (BeginsRecord kind place octets → ⊥)
-record_or_not kind place octets =
-    elim (cases_lt (length octets) (16 + captured_of kind octets)) [
-      | inl cut ↦ inr (λ begins. absurd (omega (arith, cut, begins.whole)))
-      | inr whole ↦ elim (cases_lt 262144 (captured_of kind octets)) [
-        | inl long ↦ inr (λ begins. absurd (omega (arith, long, begins.bounded)))
+-- the record at a place is at fault or not
+fault_or_not : (kind : HeaderKind) (place : ℕ) (octets : List ℕ) → IsAtFault kind place octets ⊎ (IsAtFault kind place octets → ⊥)
+fault_or_not kind place octets =
+    elim (cases_lt (length octets) 16) [
+      | inl short ↦ inr (λ at_fault. absurd (omega (arith, short, at_fault.counted)))
+      | inr counted ↦ elim (cases_lt 262144 (captured_of kind octets)) [
+        | inl long ↦ inl (record { counted = counted; fault = inl long })
         | inr bounded ↦ elim (cases_lt (2 ^ 62) (place + (16 + captured_of kind octets))) [
-          | inl past ↦ inr (λ begins. absurd (omega (arith, past, begins.placed)))
-          | inr placed ↦ inl (record { whole = whole; bounded = bounded; placed = placed })
+          | inl past ↦ inl (record { counted = counted; fault = inr past })
+          | inr placed ↦ inr (λ at_fault. elim at_fault.fault [
+            | inl long ↦ absurd (omega (arith, long, bounded))
+            | inr past ↦ absurd (omega (arith, past, placed))
+          ])
         ]
       ]
     ]
@@ -86,38 +89,79 @@ some_arrival kind octets len size captured bounded =
       )
     ]
 
--- what is left at a place is some run; at most so many octets are left
-some_run : (most : ℕ) (kind : HeaderKind) (place : ℕ) (octets : List ℕ) → length octets ≤ most → (arrivals : List Arrival) × (ending : How) × IsRun kind place arrivals ending octets
-some_run most kind place [] within = ([], how.End, refl)
-some_run zero kind place (x ∷ octets) within = absurd (omega arith)
-some_run (suc most) kind place (x ∷ octets) within =
-    elim (record_or_not kind place (x ∷ octets)) [
-      | inr none ↦ ([], how.Malformed place, (refl, λ empty. absurd (omega (arith, ap length empty)), none))
-      | inl begins ↦
-          let len = captured_of kind (x ∷ octets) in
-          let first = take (16 + len) (x ∷ octets) in
-          let rest = drop (16 + len) (x ∷ octets) in
-          let size : length first ≡ 16 + len = length-take-le (16 + len) (x ∷ octets) begins.whole in
-          let split : first ++ rest ≡ x ∷ octets = take-append-drop (16 + len) (x ∷ octets) in
-          let captured : captured_of kind first ≡ len = sym (captured_of-append kind first rest (omega arith)) ∙ ap (λ (l : List ℕ). captured_of kind l) split in
-          let one = some_arrival kind first len size captured begins.bounded in
-          let later = some_run most kind (place + length first) rest (omega (arith, length-drop (16 + len) (x ∷ octets))) in
-          (one.0 ∷ later.0, later.1, (first, rest, sym split, one.1, omega (arith, begins.placed), later.2))
+-- a rest that is cut short ends the input
+some_ending : (kind : HeaderKind) (seen : Bool) (place : ℕ) (octets : List ℕ) → IsCut kind octets → (IsAtFault kind place octets → ⊥) → (ending : How) × IsRun kind seen place [] ending octets
+some_ending kind true place [] cut sound = (how.End, (refl, refl))
+some_ending kind true place (x ∷ octets) cut sound = (how.Malformed place, (refl, inr (refl, λ none. cc, cut)))
+some_ending kind false place octets cut sound = (how.Failed, (refl, cut, sound))
+
+abbrev Run : HeaderKind → Bool → ℕ → List ℕ → Type 0
+Run kind seen place octets = (arrivals : List Arrival) × (ending : How) × IsRun kind seen place arrivals ending octets
+
+-- the input ends at a place, or a whole record stands there
+run_or_whole : (kind : HeaderKind) (seen : Bool) (place : ℕ) (octets : List ℕ) → Run kind seen place octets ⊎ ((IsAtFault kind place octets → ⊥) × (16 + captured_of kind octets ≤ length octets))
+run_or_whole kind seen place octets =
+    elim (fault_or_not kind place octets) [
+      | inl at_fault ↦ inl ([], how.Malformed place, (refl, inl at_fault))
+      | inr sound ↦ elim (cases_lt (length octets) (16 + captured_of kind octets)) [
+        | inl cut ↦ let last = some_ending kind seen place octets cut sound in inl ([], last.0, last.1)
+        | inr whole ↦ inr (sound, whole)
+      ]
     ]
 
-pub some_input : (kinds : List HeaderKind) (octets : List ℕ) → (input : Input) × Arrive kinds octets input
-some_input kinds octets =
+-- a whole record, where what is behind it is some run
+whole_run : (kind : HeaderKind) (seen : Bool) (place : ℕ) (octets : List ℕ) → (IsAtFault kind place octets → ⊥) → 16 + captured_of kind octets ≤ length octets → ((next : ℕ) (rest : List ℕ) → length rest < length octets → Run kind seen next rest) → Run kind seen place octets
+whole_run kind seen place octets sound whole behind =
+    let len = captured_of kind octets in
+    let first = take (16 + len) octets in
+    let rest = drop (16 + len) octets in
+    let size : length first ≡ 16 + len = length-take-le (16 + len) octets whole in
+    let split : first ++ rest ≡ octets = take-append-drop (16 + len) octets in
+    let captured : captured_of kind first ≡ len = sym (captured_of-append kind first rest (omega arith)) ∙ ap (λ (l : List ℕ). captured_of kind l) split in
+    let bounded : len ≤ 262144 = elim (cases_lt 262144 len) [
+      | inl long ↦ absurd (sound (record { counted = omega (arith, whole); fault = inl long }))
+      | inr bounded ↦ bounded
+    ] in
+    let placed : place + (16 + len) ≤ 2 ^ 62 = elim (cases_lt (2 ^ 62) (place + (16 + len))) [
+      | inl past ↦ absurd (sound (record { counted = omega (arith, whole); fault = inr past }))
+      | inr placed ↦ placed
+    ] in
+    let one = some_arrival kind first len size captured bounded in
+    let later = behind (place + length first) rest (omega (arith, whole, length-drop (16 + len) octets)) in
+    (one.0 ∷ later.0, later.1, (first, rest, sym split, one.1, omega (arith, size, placed), later.2))
+
+-- what is left at a place is some run; at most so many octets are left
+some_run : (most : ℕ) (kind : HeaderKind) (seen : Bool) (place : ℕ) (octets : List ℕ) → length octets ≤ most → Run kind seen place octets
+some_run zero kind seen place octets within = elim (run_or_whole kind seen place octets) [
+  | inl run ↦ run
+  | inr whole ↦ absurd (omega (arith, within, whole.1))
+]
+some_run (suc most) kind seen place octets within = elim (run_or_whole kind seen place octets) [
+  | inl run ↦ run
+  | inr whole ↦ whole_run kind seen place octets whole.0 whole.1 (λ next rest shorter. some_run most kind seen next rest (omega (arith, within, shorter)))
+]
+
+-- an input without a header of one of these kinds
+some_none : (kinds : List HeaderKind) (seen : Bool) (octets : List ℕ) → ((kind : HeaderKind) → Contains kinds kind → IsHeader kind (take 24 octets) → ⊥) → (input : Input) × Arrive kinds seen octets input
+some_none kinds true octets none = (ended (how.Malformed 0), inr (inl (record { read = inr refl; none = none; malformed = refl })))
+some_none kinds false octets none = elim (cases_lt (length octets) 24) [
+  | inl cut ↦ (ended how.Failed, inr (inr (record { unseen = refl; cut = cut; failed = refl })))
+  | inr read ↦ (ended (how.Malformed 0), inr (inl (record { read = inl read; none = none; malformed = refl })))
+]
+
+pub some_input : (kinds : List HeaderKind) (seen : Bool) (octets : List ℕ) → (input : Input) × Arrive kinds seen octets input
+some_input kinds seen octets =
     elim (kind_or_none kinds (take 24 octets)) [
       | inl found ↦
-          let run = some_run (length (drop 24 octets)) found.0 24 (drop 24 octets) (omega arith) in
+          let run = some_run (length (drop 24 octets)) found.0 seen 24 (drop 24 octets) (omega arith) in
           (record { arrivals = run.0; ending = run.1 }, inl (record { kind = found.0; accepted = found.1; header = found.2; run = run.2 }))
-      | inr none ↦ (ended (how.Malformed 0), inr (record { none = none; malformed = refl }))
+      | inr none ↦ some_none kinds seen octets none
     ]
 
 -- what a reader in any state will give of any octets
-pub some_later : (state : State) (octets : List ℕ) → (input : Input) × Comes state octets input
-some_later (Fresh kinds) octets = some_input kinds octets
-some_later (Running kind place) octets =
-    let run = some_run (length octets) kind place octets (omega arith) in
+pub some_later : (seen : Bool) (state : State) (octets : List ℕ) → (input : Input) × Comes state seen octets input
+some_later seen (Fresh kinds) octets = some_input kinds seen octets
+some_later seen (Running kind place) octets =
+    let run = some_run (length octets) kind seen place octets (omega arith) in
     (record { arrivals = run.0; ending = run.1 }, run.2)
-some_later (Ended ending) octets = (ended ending, refl)
+some_later seen (Ended ending) octets = (ended ending, refl)

@@ -1,11 +1,11 @@
 -- A record that was read: 16 octets, and then the captured ones.
-use Rattle.std.proofs.Common.{◌≡◌, ℕ, ◌+◌, ◌^◌, ◌<◌, ◌≤◌, List, ◌++◌, length, take, Option, refl, sym, ap, subst, ◌∙◌, arith, length-append}
+use Rattle.std.proofs.Common.{◌≡◌, ℕ, ◌+◌, ◌^◌, ◌<◌, ◌≤◌, List, ◌++◌, length, take, Option, inl, inr, refl, sym, ap, subst, ◌∙◌, arith, length-append}
 use Rattle.savi_ends.specs.Octets.{NothingLeft}
 use Rattle.savi_kinds.specs.declared.entry.How.TheVariants as how
 use Rattle.savi_kinds.specs.Arrivals.{Arrival, Frame, Long}
 use Rattle.pcap_io.specs.declared.kind.HeaderKind.{HeaderKind}
 use Rattle.pcap_io.specs.Records.{captured_of, stamp_of, IsRecordOf}
-use Rattle.pcap_io.specs.Runs.{IsRun}
+use Rattle.pcap_io.specs.Runs.{IsAtFault, IsRun}
 use Rattle.pcap_io.specs.Readers.{Running, Ended, HasReadOne, HasEnded, HasFailed}
 use Rattle.pcap_io.proofs.Fronts.{take_front, drop_front, captured_of-append, stamp_of-append}
 use Rattle.pcap_io.proofs.Endings.{ended_cut, failed_cut}
@@ -13,13 +13,13 @@ use Rattle.pcap_io.proofs.Endings.{ended_cut, failed_cut}
 -- the octets of the record of an arrival were read
 read_one : (kind : HeaderKind) (place len : ℕ) (gave : List ℕ) (a : Arrival) → length gave ≡ 16 + len → place + (16 + len) ≤ 2 ^ 62 → IsRecordOf kind gave a → HasReadOne (Running kind place) (Running kind (place + (16 + len))) gave a
 read_one kind place len gave a size within is = record {
-  read = λ rest later ending comes. (
+  read = λ seen rest later ending comes. (
     gave,
     rest,
     refl,
     is,
     omega arith,
-    subst (λ (n : ℕ). IsRun kind (place + n) later ending rest) (sym size) comes,
+    subst (λ (n : ℕ). IsRun kind seen (place + n) later ending rest) (sym size) comes,
   );
   running = (kind, ap (λ (n : ℕ). Running kind (place + n)) (sym size));
   some = omega arith;
@@ -59,10 +59,19 @@ cut_body : (kind : HeaderKind) (len : ℕ) (front body : List ℕ) → length fr
 cut_body kind len front body size short captured =
     omega (arith, length-append front body, captured_of-append kind front body (omega arith))
 
-pub ended_in_body : (kind : HeaderKind) (place len : ℕ) (front body : List ℕ) (left : Option (List ℕ)) → length front ≡ 16 → length body < len → len ≡ captured_of kind front → NothingLeft left → HasEnded (Running kind place) (Ended (how.Malformed place)) (front ++ body) left (how.Malformed place)
-ended_in_body kind place len front body left size short captured nothing =
-    ended_cut kind place (front ++ body) left (omega (arith, length-append front body)) (cut_body kind len front body size short captured) nothing
+pub ended_in_body : (kind : HeaderKind) (place len : ℕ) (front body : List ℕ) (left : Option (List ℕ)) → length front ≡ 16 → length body < len → len ≡ captured_of kind front → len ≤ 262144 → NothingLeft left → HasEnded (Running kind place) (Ended (how.Malformed place)) (front ++ body) left (how.Malformed place)
+ended_in_body kind place len front body left size short captured bounded nothing =
+    ended_cut kind place (front ++ body) left (omega (arith, length-append front body)) (cut_body kind len front body size short captured) (omega (arith, length-append front body, size, short, bounded)) nothing
 
-pub failed_in_body : (kind : HeaderKind) (place len : ℕ) (front body : List ℕ) → length front ≡ 16 → length body < len → len ≡ captured_of kind front → HasFailed (Running kind place) (Ended how.Failed) (front ++ body)
-failed_in_body kind place len front body size short captured =
-    failed_cut kind place (front ++ body) (cut_body kind len front body size short captured)
+-- a whole header that may be a record's is no fault, whatever is behind it
+sound_body : (kind : HeaderKind) (place len : ℕ) (front body : List ℕ) → length front ≡ 16 → len ≡ captured_of kind front → len ≤ 262144 → place + (16 + len) ≤ 2 ^ 62 → IsAtFault kind place (front ++ body) → ⊥
+sound_body kind place len front body size captured bounded placed at_fault =
+    let same = captured_of-append kind front body (omega arith) in
+    elim at_fault.fault [
+      | inl long ↦ absurd (omega (arith, long, same, captured, bounded))
+      | inr past ↦ absurd (omega (arith, past, same, captured, placed))
+    ]
+
+pub failed_in_body : (kind : HeaderKind) (place len : ℕ) (front body : List ℕ) → length front ≡ 16 → length body < len → len ≡ captured_of kind front → len ≤ 262144 → place + (16 + len) ≤ 2 ^ 62 → HasFailed (Running kind place) (Ended how.Failed) (front ++ body)
+failed_in_body kind place len front body size short captured bounded placed =
+    failed_cut kind place (front ++ body) (cut_body kind len front body size short captured) (sound_body kind place len front body size captured bounded placed)

@@ -1,14 +1,14 @@
 -- The answers of call after call are one input.
-use Rattle.std.proofs.Common.{◌≡◌, ℕ, List, [], ◌∷◌, ◌++◌, refl, sym, subst, Option, Some, None, IfSome, take}
+use Rattle.std.proofs.Common.{◌≡◌, ℕ, true, List, [], ◌∷◌, ◌++◌, refl, sym, subst, Option, Some, None, IfSome, take}
 use Rattle.savi_kinds.specs.declared.entry.How.{How}
 use Rattle.savi_kinds.specs.declared.entry.How.TheVariants as how
 use Rattle.savi_kinds.specs.declared.arrival.Next.{Next}
 use Rattle.savi_kinds.specs.declared.arrival.Next.TheVariants as next
-use Rattle.savi_kinds.specs.Arrivals.{Arrival, Frame, Long, Input}
+use Rattle.savi_kinds.specs.Arrivals.{Frame, Long, Input}
 use Rattle.savi_ends.specs.Octets.{Takes}
 use Rattle.pcap_io.specs.Runs.{ended}
 use Rattle.pcap_io.specs.Readers.{State, Fresh, Ended, Comes, Answers, answer_of}
-use Rattle.pcap_io.specs.Calls.{Told, AreCalls, AllAnswer, Tells, AnswersAre, CallsGiveInput}
+use Rattle.pcap_io.specs.Calls.{Told, AreCalls, AllAnswer, AnswersAre, CallsGiveInput}
 use Rattle.pcap_io.proofs.Existence.{some_later}
 
 -- a reader that has ended answers the same
@@ -22,7 +22,7 @@ ended_stays ending last (told ∷ later) before after new is calls_are =
 -- what the calls from here on give
 record Gives (state : State) (octets : List ℕ) (calls : List Told) : Type 0 where
   input : Input
-  comes : Comes state octets input
+  comes : Comes state true octets input
   are : AnswersAre calls input.arrivals input.ending
 
 -- one call in front of others
@@ -30,12 +30,12 @@ one_call : (state mid : State) (gave rest buf : List ℕ) (answer : Next) (later
     → Gives state (gave ++ rest) (record { answer = answer; buf = buf } ∷ later)
 one_call state mid gave rest buf (next.Frame stamp len) later new after answers calls_are others = record {
   input = record { arrivals = Frame stamp (take len buf) ∷ others.input.arrivals; ending = others.input.ending };
-  comes = answers.1.read rest others.input.arrivals others.input.ending others.comes;
+  comes = answers.1.read true rest others.input.arrivals others.input.ending others.comes;
   are = (refl, others.are);
 }
 one_call state mid gave rest buf (next.Long stamp len) later new after answers calls_are others = record {
   input = record { arrivals = Long stamp len ∷ others.input.arrivals; ending = others.input.ending };
-  comes = answers.2.read rest others.input.arrivals others.input.ending others.comes;
+  comes = answers.2.read true rest others.input.arrivals others.input.ending others.comes;
   are = (refl, others.are);
 }
 one_call state mid gave rest buf next.End later new after answers calls_are others = record {
@@ -49,7 +49,7 @@ one_call state mid gave rest buf (next.Malformed at) later new after answers cal
   are = (refl, ended_stays (how.Malformed at) (next.Malformed at) later (Some rest) after new refl (subst (λ (s : State). AreCalls s (Some rest) later new after) answers.state calls_are));
 }
 one_call state mid gave rest buf next.Failed later new after answers calls_are others =
-    let some = some_later state (gave ++ rest) in
+    let some = some_later true state (gave ++ rest) in
     record {
       input = some.0;
       comes = some.1;
@@ -62,7 +62,7 @@ taken octets gave None takes = cc
 taken octets gave (Some rest) takes = (rest, refl, cc)
 
 calls_give : (calls : List Told) (state : State) (octets : List ℕ) (new : State) (after : Option (List ℕ)) → AreCalls state (Some octets) calls new after → Gives state octets calls
-calls_give [] state octets new after calls_are = let some = some_later state octets in record { input = some.0; comes = some.1; are = tt }
+calls_give [] state octets new after calls_are = let some = some_later true state octets in record { input = some.0; comes = some.1; are = tt }
 calls_give (told ∷ later) state octets new after calls_are =
     let call = calls_are.2.octets in
     let left = taken octets call.0 calls_are.1 call.1 in

@@ -1,5 +1,5 @@
 -- What is written is read again.
-use Rattle.std.proofs.Common.{◌≡◌, ℕ, suc, ◌+◌, ◌*◌, ◌/◌, ◌%◌, ◌^◌, ◌<◌, ◌≤◌, List, [], ◌∷◌, ◌++◌, length, map, Contains, inl, refl, arith, length-append}
+use Rattle.std.proofs.Common.{◌≡◌, ℕ, suc, ◌+◌, ◌*◌, ◌/◌, ◌%◌, ◌^◌, ◌<◌, ◌≤◌, true, List, [], ◌∷◌, ◌++◌, length, map, Contains, inl, refl, arith, length-append}
 use Rattle.std.proofs.lemmas.Nat.{from_le_bytes-to_le_bytes_4}
 use Rattle.std.specs.Int.{w32, to_le_bytes, from_le_bytes}
 use Rattle.savi_kinds.specs.declared.entry.How.TheVariants as how
@@ -40,15 +40,15 @@ record_is item short = (
   refl,
 )
 
-run_is : (items : List Sent) (place : ℕ) → AreFrames items → place + length (records_text items) ≤ 2 ^ 62 → IsRun little_microseconds place (map arrival_of items) how.End (records_text items)
-run_is [] place frames within = refl
+run_is : (items : List Sent) (place : ℕ) → AreFrames items → place + length (records_text items) ≤ 2 ^ 62 → IsRun little_microseconds true place (map arrival_of items) how.End (records_text items)
+run_is [] place frames within = (refl, refl)
 run_is (item ∷ items) place frames within =
     let first = record_text item.moment item.frame in
     let rest = records_text items in
     let size : length (first ++ rest) ≡ length first + length rest = length-append first rest in
     (first, rest, refl, record_is item (frames 0 item (omega arith)), omega (arith, size), run_is items (place + length first) (λ k d more. frames (suc k) d (omega arith)) (omega (arith, size)))
 
-pub written_arrives : (kinds : List HeaderKind) (items : List Sent) → Contains kinds little_microseconds → AreFrames items → length (capture_text items) ≤ 2 ^ 62 → Arrive kinds (capture_text items) (record { arrivals = map arrival_of items; ending = how.End })
+pub written_arrives : (kinds : List HeaderKind) (items : List Sent) → Contains kinds little_microseconds → AreFrames items → length (capture_text items) ≤ 2 ^ 62 → Arrive kinds true (capture_text items) (record { arrivals = map arrival_of items; ending = how.End })
 written_arrives kinds items accepted frames within = inl (record {
   kind = little_microseconds;
   accepted = accepted;

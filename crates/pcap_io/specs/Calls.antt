@@ -1,5 +1,5 @@
 -- Call after call of a reader, over one source.
-use Rattle.std.specs.Prelude.{◌≡◌, ℕ, List, [], ◌∷◌, take, Option, Some, IfSome}
+use Rattle.std.specs.Prelude.{◌≡◌, ℕ, true, List, [], ◌∷◌, take, Option, Some, IfSome}
 use Rattle.savi_kinds.specs.declared.entry.How.{How}
 use Rattle.savi_kinds.specs.declared.entry.How.TheVariants as how
 use Rattle.savi_kinds.specs.declared.arrival.Next.{Next}
@@ -53,4 +53,4 @@ AnswersAre (told ∷ later) arrivals ending = Tells told.answer told.buf (λ res
 abbrev pub CallsGiveInput : Type 0
 CallsGiveInput =
     (kinds : List HeaderKind) (octets : List ℕ) (calls : List Told) (new : State) (after : Option (List ℕ)) → AreCalls (Fresh kinds) (Some octets) calls new after
-    → (input : Input) × Arrive kinds octets input × AnswersAre calls input.arrivals input.ending
+    → (input : Input) × Arrive kinds true octets input × AnswersAre calls input.arrivals input.ending

@@ -1,5 +1,5 @@
 -- What a reader of a capture is ready for, and what each of its answers says.
-use Rattle.std.specs.Prelude.{◌≡◌, ℕ, ◌+◌, ◌^◌, ◌<◌, ◌≤◌, List, [], ◌∷◌, ◌++◌, length, take, Option, Some, None, IfSome}
+use Rattle.std.specs.Prelude.{◌≡◌, ℕ, ◌+◌, ◌^◌, ◌<◌, ◌≤◌, Bool, true, false, List, [], ◌∷◌, ◌++◌, length, take, Option, Some, None, IfSome}
 use Rattle.savi_kinds.specs.declared.entry.How.{How}
 use Rattle.savi_kinds.specs.declared.entry.How.TheVariants as how
 use Rattle.savi_kinds.specs.declared.arrival.Next.{Next}
@@ -16,17 +16,22 @@ pub data State : Type 0 where
   -- the input has ended so, or a read has failed
   Ended : (ending : How) → State
 
--- A reader in this state, with these octets left in its source, will give this input.
-abbrev pub Comes : State → List ℕ → Input → Type 0
-Comes (Fresh kinds) octets input = Arrive kinds octets input
-Comes (Running kind place) octets input = IsRun kind place input.arrivals input.ending octets
-Comes (Ended ending) octets input = input ≡ ended ending
+-- A reader in this state will give this input, where these octets are left in its source and it is seen to end behind them
+-- or not.
+abbrev pub Comes : State → Bool → List ℕ → Input → Type 0
+Comes (Fresh kinds) seen octets input = Arrive kinds seen octets input
+Comes (Running kind place) seen octets input = IsRun kind seen place input.arrivals input.ending octets
+Comes (Ended ending) seen octets input = input ≡ ended ending
 
 -- where the next record begins: how many octets were read so far
 abbrev pub record_place : State → ℕ
 record_place (Fresh kinds) = 0
 record_place (Running kind place) = place
 record_place (Ended ending) = 0
+
+-- the octets of the longest record: its header, and what it may have captured
+abbrev pub longest_record : ℕ
+longest_record = 16 + 262144
 
 -- the state holds no place past 2^62
 abbrev pub IsPlaced : State → Type 0
@@ -36,9 +41,9 @@ IsPlaced state = record_place state ≤ 2 ^ 62
 -- behind them, they come before it.
 abbrev pub HasRead : State → State → List ℕ → List Arrival → Type 0
 HasRead first now gave arrivals =
-    (rest : List ℕ) (later : List Arrival) (ending : How)
-    → Comes now rest (record { arrivals = later; ending = ending })
-    → Comes first (gave ++ rest) (record { arrivals = arrivals ++ later; ending = ending })
+    (seen : Bool) (rest : List ℕ) (later : List Arrival) (ending : How)
+    → Comes now seen rest (record { arrivals = later; ending = ending })
+    → Comes first seen (gave ++ rest) (record { arrivals = arrivals ++ later; ending = ending })
 
 -- One arrival was read, a record of at least 16 octets, and the reader stands behind it.
 pub record HasReadOne (old new : State) (gave : List ℕ) (arrival : Arrival) : Type 0 where
@@ -48,16 +53,18 @@ pub record HasReadOne (old new : State) (gave : List ℕ) (arrival : Arrival) : 
   pub placed : record_place old + length gave ≤ 2 ^ 62
 
 -- Nothing comes any more, and the input ends so: what was taken, alone and with what is left behind it,
--- where that is told, is no arrival and this ending.
+-- where that is told, is no arrival and this ending. From a place at fault on no more was read than the
+-- longest record has.
 pub record HasEnded (old new : State) (gave : List ℕ) (left : Option (List ℕ)) (ending : How) : Type 0 where
   pub state : new ≡ Ended ending
-  pub taken : Comes old gave (ended ending)
-  pub whole : IfSome left (λ rest. Comes old (gave ++ rest) (ended ending))
+  pub taken : Comes old true gave (ended ending)
+  pub whole : IfSome left (λ rest. Comes old true (gave ++ rest) (ended ending))
+  pub near : (at : ℕ) → ending ≡ how.Malformed at → record_place old + length gave ≤ at + longest_record
 
--- A read failed: what was taken for this answer is no whole arrival.
+-- A read failed: what was taken for this answer is no whole arrival, nor one that is at fault.
 pub record HasFailed (old new : State) (gave : List ℕ) : Type 0 where
   pub state : new ≡ Ended how.Failed
-  pub taken : (ending : How) × Comes old gave (ended ending)
+  pub taken : Comes old false gave (ended how.Failed)
 
 -- What an answer says of the octets that were taken for it, of the buffer, and of what is left.
 abbrev pub Answers : State → State → List ℕ → List ℕ → Option (List ℕ) → Next → Type 0

@@ -85,6 +85,7 @@ impl PcapReader {
         ensures later { S.faults source.old ≤ S.faults source.new }
         ensures cause { result ≡ Next.Failed → self.old ≢ Ended how.Failed → Rose (S.faults source.old) (S.faults source.new) }
         ensures still { result ≢ Next.Failed → S.faults source.new ≡ S.faults source.old }
+        ensures kept { result ≡ Next.End → buf.new ≡ buf.old }
 
         // There are octets that the source gave in this call, and the answer is what they are.
         ensures octets { (gave : List ℕ) × Takes (S.left source.old) (S.left source.new) gave × Answers self.old self.new gave buf.new (S.left source.new) result }
@@ -125,6 +126,7 @@ impl PcapReader {
         ensures later { S.faults source.old ≤ S.faults source.new }
         ensures cause { result ≡ Next.Failed → Rose (S.faults source.old) (S.faults source.new) }
         ensures still { result ≢ Next.Failed → S.faults source.new ≡ S.faults source.old }
+        ensures kept { result ≡ Next.End → buf.new ≡ buf.old }
         ensures octets { (gave : List ℕ) × Takes (S.left source.old) (S.left source.new) gave × Answers (Running kind place) self.new gave buf.new (S.left source.new) result }
         ensures placed { IsPlaced self.new }
     {

@@ -29,6 +29,7 @@ pub(crate) fn read_record<S: Source>(
     ensures later { S.faults source.old ≤ S.faults source.new }
     ensures cause { result ≡ Next.Failed → Rose (S.faults source.old) (S.faults source.new) }
     ensures still { result ≢ Next.Failed → S.faults source.new ≡ S.faults source.old }
+    ensures kept { result ≡ Next.End → buf.new ≡ buf.old }
     ensures octets { (gave : List ℕ) × Takes (S.left source.old) (S.left source.new) gave × Answers (Running kind place) (state_after kind place result) gave buf.new (S.left source.new) result }
 {
     let mut head = [0; RECORD_HEADER_OCTETS];

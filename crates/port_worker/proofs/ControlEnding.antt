@@ -86,6 +86,7 @@ module _ {S K C : Type 0} (left : S → Option (List ℕ)) (written : K → Opti
           gave = came;
           fits = fits_control (left start.ends.source) (left c.ends.source) out.input (entered_lines now) (control_end now) entered came
               (λ len full. subst (λ (ls : List Line). AreBeforeRefusal AreLines (left start.ends.source) (left c.ends.source) ls) (sym same.lines_same) (out.cut len (sym same.end_same ∙ full)));
+          near = λ how at is. out.near how at (sym same.end_same ∙ is);
           took = took;
           fits_out = subst (λ (l : List Row). FitsRepliesAt plan empty (written start.ends.sink) (written c.ends.sink) l) (sym now_is)
               (all_replies_fit plan (Some out.input) inputs stops (written start.ends.sink) (written c.ends.sink) rising size out.readable took_so);

@@ -1,5 +1,5 @@
 -- How far control's input was read and entered.
-use Rattle.std.proofs.Common.{◌≡◌, ◌≢◌, ℕ, Bool, true, false, List, [], ◌∷◌, ◌++◌, map, refl, sym, ap, ◌∙◌, subst, append-nil, append_assoc, Option, Some, None, IfSome}
+use Rattle.std.proofs.Common.{◌≡◌, ◌≢◌, ℕ, ◌+◌, ◌≤◌, Bool, true, false, List, [], ◌∷◌, ◌++◌, length, map, refl, sym, ap, ◌∙◌, subst, append-nil, append_assoc, Option, Some, None, IfSome}
 use Rattle.std.specs.List.{All}
 use Rattle.std.proofs.lemmas.List.{map-append}
 use Rattle.savi_kinds.specs.declared.plan.Plan.{Plan}
@@ -8,7 +8,7 @@ use Rattle.savi_kinds.specs.declared.entry.How.{How}
 use Rattle.savi_kinds.specs.declared.entry.How.TheVariants as hows
 use Rattle.savi_ends.specs.Octets.{Takes}
 use Rattle.cli_lang.specs.Arrivals.{Line, Input}
-use Rattle.cli_lang.specs.Readers.{State, Comes}
+use Rattle.cli_lang.specs.Readers.{State, Comes, IsFaultAt, longest_reach}
 use Rattle.hist_store.specs.Rows.{Row}
 use Rattle.savi_history.specs.ControlFits.{AreBeforeRefusal}
 use Rattle.savi_history.specs.Readable.{IsLineInRange, IsControlEnding, IsControlInput}
@@ -21,9 +21,10 @@ use Rattle.savi_history.proofs.Reaching as reaching
 use Rattle.port_worker.specs.declared.control_ends.LineAhead.{LineAhead}
 use Rattle.port_worker.specs.declared.control_ends.LineAhead.TheVariants as ahead
 use Rattle.port_worker.specs.declared.control_ends.ControlEnds.{ControlEnds}
+use Rattle.port_worker.specs.Used.{GaveFew}
 use Rattle.port_worker.specs.ControlServed.{AreLines, IsControlInputOf}
 use Rattle.port_worker.specs.LineInputs.{IsHeard, IsHeardAs, control_moment, line_moment_ahead, line_read}
-use Rattle.port_worker.proofs.Hearing.{start, of_lines, HasHeard, heard_line, heard_end, heard_failed, IsSeenEnd, some_whole, holds_at, heard_lines}
+use Rattle.port_worker.proofs.Hearing.{start, of_lines, HasHeard, heard_line, heard_end, heard_failed, heard_near, IsSeenEnd, some_whole, holds_at, heard_lines}
 use Rattle.port_worker.proofs.Joining.{takes_twice}
 
 -- control's place among the heads of the inputs
@@ -53,13 +54,13 @@ pub head_moment : {S K C : Type 0} (control : Option (ControlEnds S K C)) → re
 head_moment None = refl
 head_moment (Some c) = line_moment c.buf c.ahead
 
--- what was read behind these lines, of the octets that the source gave
+-- what was read behind these lines, of the octets that the source gave; from a line at fault on no more than a reader reaches
 abbrev pub HeardAhead : Option (List ℕ) → Option (List ℕ) → State → List ℕ → List ℕ → List Line → LineAhead → Type 0
 HeardAhead first left state gave buf before ahead.Unread = HasHeard state gave left before
 HeardAhead first left state gave buf before (ahead.Line stamp len) = HasHeard state gave left (before ++ line_read stamp len buf ∷ [])
 HeardAhead first left state gave buf before ahead.End = IfSome first (λ octets. Comes false true start octets (of_lines before hows.End))
-HeardAhead first left state gave buf before (ahead.Malformed at) = IfSome first (λ octets. Comes false true start octets (of_lines before (hows.Malformed at)))
-HeardAhead first left state gave buf before (ahead.Overlong at) = IfSome first (λ octets. Comes false true start octets (of_lines before (hows.Overlong at)))
+HeardAhead first left state gave buf before (ahead.Malformed at) = IfSome first (λ octets. Comes false true start octets (of_lines before (hows.Malformed at))) × (length gave ≤ at + longest_reach)
+HeardAhead first left state gave buf before (ahead.Overlong at) = IfSome first (λ octets. Comes false true start octets (of_lines before (hows.Overlong at))) × (length gave ≤ at + longest_reach)
 HeardAhead first left state gave buf before ahead.Failed = Comes false false start gave (of_lines before hows.Failed)
 HeardAhead first left state gave buf before ahead.Done = ⊥
 
@@ -83,6 +84,7 @@ pub record HeardOut {S K C : Type 0} (left : S → Option (List ℕ)) (plan : Pl
   pub of : AreOf plan (control_pass plan) rest
   pub split : taken ++ rest ≡ control_turns (Some input)
   pub came : IsControlInputOf (left first.ends.source) (left now.ends.source) (control_end past) input.arrivals input.ending
+  pub near : (how : How) (at : ℕ) → control_end past ≡ Some how → IsFaultAt how at → GaveFew (left first.ends.source) (left now.ends.source) (at + longest_reach)
   pub cut : (len : ℕ) → control_end past ≡ Some (hows.Full len) → AreBeforeRefusal AreLines (left first.ends.source) (left now.ends.source) (entered_lines past)
 
 -- octets that come from a new reader are an input
@@ -99,8 +101,10 @@ ahead_of : (first mid left : Option (List ℕ)) (old new : State) (gave more buf
 ahead_of first mid left old new gave more buf before ahead.Unread heard took takes answers = absurd answers
 ahead_of first mid left old new gave more buf before (ahead.Line stamp len) heard took takes answers = heard_line old new gave more mid left before (line_read stamp len buf) heard answers
 ahead_of first mid left old new gave more buf before ahead.End heard took takes answers = heard_end old new gave more mid before hows.End first left heard answers took takes
-ahead_of first mid left old new gave more buf before (ahead.Malformed at) heard took takes answers = heard_end old new gave more mid before (hows.Malformed at) first left heard answers took takes
-ahead_of first mid left old new gave more buf before (ahead.Overlong at) heard took takes answers = heard_end old new gave more mid before (hows.Overlong at) first left heard answers took takes
+ahead_of first mid left old new gave more buf before (ahead.Malformed at) heard took takes answers =
+    (heard_end old new gave more mid before (hows.Malformed at) first left heard answers took takes, heard_near old new gave more mid left before (hows.Malformed at) at heard answers refl)
+ahead_of first mid left old new gave more buf before (ahead.Overlong at) heard took takes answers =
+    (heard_end old new gave more mid before (hows.Overlong at) first left heard answers took takes, heard_near old new gave more mid left before (hows.Overlong at) at heard answers refl)
 ahead_of first mid left old new gave more buf before ahead.Failed heard took takes answers = heard_failed old new gave more mid left before heard answers.1
 ahead_of first mid left old new gave more buf before ahead.Done heard took takes answers = absurd answers
 
@@ -139,6 +143,9 @@ of_turns plan (line ∷ lines) ending = (refl, of_turns plan lines ending)
 some_same : (one other : How) → Some one ≡ Some other → one ≡ other
 some_same one other same = cc
 
+pub at_fault_as : (one other : How) (at : ℕ) → Some one ≡ Some other → IsFaultAt other at → IsFaultAt one at
+at_fault_as one other at same fault = subst (λ (h : How). IsFaultAt h at) (sym (some_same one other same)) fault
+
 module _ {S K C : Type 0} (left : S → Option (List ℕ)) (plan : Plan) (past now : List Row) (first old new : ControlEnds S K C) (taken : List Turn) (so_far : HeardSoFar left past first old taken)
     (source : new.ends.source ≡ old.ends.source) (reader : new.reader ≡ old.reader) where
   takes_new : Takes (left first.ends.source) (left new.ends.source) so_far.gave
@@ -174,8 +181,8 @@ module _ {S K C : Type 0} (left : S → Option (List ℕ)) (plan : Plan) (past n
     }
 
     -- control has ended behind a line, or for want of room for it
-    pub line_out : ((len : ℕ) → control_end now ≡ Some (hows.Full len) → entered_lines now ≡ entered_lines past) → control_end now ≢ Some hows.Failed → HeardOut left plan now first new (taken ++ Commands line ∷ [])
-    line_out kept other =
+    pub line_out : ((len : ℕ) → control_end now ≡ Some (hows.Full len) → entered_lines now ≡ entered_lines past) → control_end now ≢ Some hows.Failed → ((how : How) (at : ℕ) → control_end now ≡ Some how → IsFaultAt how at → ⊥) → HeardOut left plan now first new (taken ++ Commands line ∷ [])
+    line_out kept other sound =
         let whole = some_whole old.reader so_far.gave more (left first.ends.source) (left old.ends.source) heard so_far.takes in
         let held = holds_at old.reader so_far.gave (left first.ends.source) (left old.ends.source) more heard so_far.takes in
         let ends = Ends Control whole.ending ∷ [] in
@@ -189,6 +196,7 @@ module _ {S K C : Type 0} (left : S → Option (List ℕ)) (plan : Plan) (past n
               ∙ ap (λ (l : List Turn). l ++ ends) (sym (map-append (λ l. Commands l) more whole.behind));
           came = came_whole (left first.ends.source) (left new.ends.source) (control_end now) (more ++ whole.behind) whole.ending whole.seen
               (are_whole (left first.ends.source) (more ++ whole.behind) whole.ending whole.whole);
+          near = λ how at is fault. absurd (sound how at is fault);
           cut = λ len full. record {
             gave = so_far.gave;
             takes = takes_new;
@@ -204,14 +212,15 @@ module _ {S K C : Type 0} (left : S → Option (List ℕ)) (plan : Plan) (past n
         }
 
   -- the input has ended
-  pub end_out : (ending : How) → IsSeenEnd ending → IsControlEnding ending → control_end now ≡ Some ending → IfSome (left first.ends.source) (λ octets. Comes false true start octets (of_lines so_far.before ending)) → HeardOut left plan now first new (taken ++ Ends Control ending ∷ [])
-  end_out ending seen fine now_ends whole = record {
+  pub end_out : (ending : How) → IsSeenEnd ending → IsControlEnding ending → control_end now ≡ Some ending → IfSome (left first.ends.source) (λ octets. Comes false true start octets (of_lines so_far.before ending)) → ((at : ℕ) → IsFaultAt ending at → length so_far.gave ≤ at + longest_reach) → HeardOut left plan now first new (taken ++ Ends Control ending ∷ [])
+  end_out ending seen fine now_ends whole few = record {
     input = of_lines so_far.before ending;
     readable = record { arrivals = so_far.lines; ending = fine };
     rest = [];
     of = tt;
     split = append-nil (taken ++ Ends Control ending ∷ []) ∙ ap (λ (l : List Turn). l ++ Ends Control ending ∷ []) so_far.taken_is;
     came = came_whole (left first.ends.source) (left new.ends.source) (control_end now) so_far.before ending seen (are_whole (left first.ends.source) so_far.before ending whole);
+    near = λ how at is fault. (so_far.gave, takes_new, few at (at_fault_as ending how at (sym now_ends ∙ is) fault));
     cut = λ len full. absurd (not_full ending len seen (some_same ending (hows.Full len) (sym now_ends ∙ full)));
   }
 
@@ -224,5 +233,6 @@ module _ {S K C : Type 0} (left : S → Option (List ℕ)) (plan : Plan) (past n
     of = tt;
     split = append-nil (taken ++ Ends Control hows.Failed ∷ []) ∙ ap (λ (l : List Turn). l ++ Ends Control hows.Failed ∷ []) so_far.taken_is;
     came = (now_ends, so_far.gave, takes_new, are_lines false so_far.gave so_far.before hows.Failed comes);
+    near = λ how at is fault. absurd (at_fault_as hows.Failed how at (sym now_ends ∙ is) fault);
     cut = λ len full. let e : hows.Failed ≡ hows.Full len = some_same hows.Failed (hows.Full len) (sym now_ends ∙ full) in cc;
   }

@@ -252,6 +252,7 @@ module _ {S K C : Type 0} (left : S → Option (List ℕ)) (written : K → Opti
     of = out.of;
     split = out.split;
     came = subst (λ (e : Option How). IsControlInputOf (left first.ends.source) (left c.ends.source) e out.input.arrivals out.input.ending) (sym same.end_same) out.came;
+    near = λ how at is. out.near how at (sym same.end_same ∙ is);
     cut = λ len full. subst (λ (ls : List Line). AreBeforeRefusal AreLines (left first.ends.source) (left c.ends.source) ls) (sym same.lines_same) (out.cut len (sym same.end_same ∙ full));
   }
 

@@ -1,5 +1,5 @@
 -- The turn of control, and how control stands behind it.
-use Rattle.std.proofs.Common.{◌≡◌, ◌≢◌, ℕ, ◌≤◌, Bool, true, false, List, [], ◌∷◌, ◌++◌, length, refl, sym, ap, ◌∙◌, subst, arith, ◌⊎◌, inl, inr, append-nil, Option, Some, None, IfSome}
+use Rattle.std.proofs.Common.{◌≡◌, ◌≢◌, ℕ, ◌+◌, ◌≤◌, Bool, true, false, List, [], ◌∷◌, ◌++◌, length, refl, sym, ap, ◌∙◌, subst, arith, ◌⊎◌, inl, inr, append-nil, Option, Some, None, IfSome}
 use Rattle.savi_kinds.specs.declared.plan.Plan.{Plan}
 use Rattle.savi_kinds.specs.declared.entry.Who.TheVariants.{Control}
 use Rattle.savi_kinds.specs.declared.entry.Who.TheVariants as passes
@@ -8,7 +8,7 @@ use Rattle.savi_kinds.specs.declared.entry.How.TheVariants as hows
 use Rattle.savi_ends.specs.Faults.{Rose}
 use Rattle.savi_ends.specs.Octets.{Takes}
 use Rattle.cli_lang.specs.Arrivals.{Line}
-use Rattle.cli_lang.specs.Readers.{State, Comes}
+use Rattle.cli_lang.specs.Readers.{State, Comes, IsFaultAt, longest_reach}
 use Rattle.hist_store.specs.Rows.{Row}
 use Rattle.savi_history.specs.Bases.{empty}
 use Rattle.savi_history.specs.ControlInputs.{control_end, entered_lines}
@@ -28,7 +28,7 @@ use Rattle.port_worker.specs.declared.control_ends.LineAhead.TheVariants as ahea
 use Rattle.port_worker.specs.ControlOutputs.{AreReplies}
 use Rattle.port_worker.specs.LineInputs.{IsHearing, IsLineSound, control_turn_of, line_moment_ahead, line_read, line_turn_ahead}
 use Rattle.port_worker.specs.LineSteps.{IsControlStepped, line_ahead_after}
-use Rattle.port_worker.proofs.ControlProgress.{HeardAhead, HeardOut, HeardSoFar, end_out, fail_out, line_head, line_on, line_out}
+use Rattle.port_worker.proofs.ControlProgress.{HeardAhead, HeardOut, HeardSoFar, at_fault_as, end_out, fail_out, line_head, line_on, line_out}
 use Rattle.port_worker.proofs.ControlRunning.{ControlRuns, LineProgress}
 use Rattle.port_worker.proofs.Hearing.{IsSeenEnd, of_lines, start}
 use Rattle.port_worker.proofs.Later.{took_again}
@@ -84,6 +84,7 @@ pub record IsOver (plan : Plan) (past now : List Row) : Type 0 where
   pub ended : has_ended empty (control_pass plan) now ≡ true
   pub kept : (len : ℕ) → control_end now ≡ Some (hows.Full len) → entered_lines now ≡ entered_lines past
   pub other : control_end now ≢ Some hows.Failed
+  pub apart : (how : How) (at : ℕ) → control_end now ≡ Some how → IsFaultAt how at → ⊥
 
 abbrev pub LineMakes : Plan → Line → List Row → List Row → Type 0
 LineMakes plan line past now = GoesOn plan line past now ⊎ IsOver plan past now
@@ -96,6 +97,10 @@ no_failure : (how : How) → (how ≡ hows.Unwritten) ⊎ (how ≡ hows.Quit) �
 no_failure how (inl is) same = cc
 no_failure how (inr is) same = cc
 
+no_fault : (how : How) → (how ≡ hows.Unwritten) ⊎ (how ≡ hows.Quit) → (at : ℕ) → IsFaultAt how at → ⊥
+no_fault how (inl is) at fault = subst (λ (h : How). IsFaultAt h at) is fault
+no_fault how (inr is) at fault = subst (λ (h : How). IsFaultAt h at) is fault
+
 module _ (plan : Plan) (stops : Stops) (line : Line) (past : List Row) where
   abbrev mid : List Row
   mid = with_event plan empty past (Command line.stamp line.command)
@@ -106,6 +111,7 @@ module _ (plan : Plan) (stops : Stops) (line : Line) (past : List Row) where
     ended = same.ended_same ∙ over.ended;
     kept = λ len full. same.lines_same ∙ over.kept len (sym same.end_same ∙ full);
     other = λ failed. over.other (sym same.end_same ∙ failed);
+    apart = λ how at is. over.apart how at (sym same.end_same ∙ is);
   })
 
   ends_so : (how : How) → (how ≡ hows.Unwritten) ⊎ (how ≡ hows.Quit) → LineMakes plan line past (with_event plan empty mid (End Control how))
@@ -113,6 +119,7 @@ module _ (plan : Plan) (stops : Stops) (line : Line) (past : List Row) where
     ended = ended_now plan empty mid Control how;
     kept = λ len full. absurd (no_full how len which full);
     other = λ failed. no_failure how which failed;
+    apart = λ ending at is fault. no_fault how which at (at_fault_as how ending at is fault);
   })
 
   makes_at : (b : Bool) → has_room plan past ≡ b → has_ended empty (control_pass plan) past ≡ false → control_end past ≡ None → LineMakes plan line past (entered plan empty stops (Commands line) past)
@@ -125,6 +132,7 @@ module _ (plan : Plan) (stops : Stops) (line : Line) (past : List Row) where
     ended = ended_now plan empty past Control (hows.Full (length past));
     kept = λ len full. append-nil (entered_lines past);
     other = λ failed. cc;
+    apart = λ ending at is fault. absurd (at_fault_as (hows.Full (length past)) ending at is fault);
   }))
 
   pub line_makes : has_ended empty (control_pass plan) past ≡ false → control_end past ≡ None → LineMakes plan line past (entered plan empty stops (Commands line) past)
@@ -217,7 +225,7 @@ module _ {S K C : Type 0} (left : S → Option (List ℕ)) (written : K → Opti
         (λ others. line_quiet)
     line_by (inr over) =
         runs_by true over.ended tt
-        (subst (λ (t : Turn). HeardOut left plan now first new (taken ++ t ∷ [])) (sym is_commands) (line_out left plan past now first old new taken so_far source_is reader_is stamp len is over.kept over.other))
+        (subst (λ (t : Turn). HeardOut left plan now first new (taken ++ t ∷ [])) (sym is_commands) (line_out left plan past now first old new taken so_far source_is reader_is stamp len is over.kept over.other over.apart))
         (λ failed. absurd (over.other failed))
         (λ others. line_quiet)
 
@@ -239,10 +247,10 @@ module _ {S K C : Type 0} (left : S → Option (List ℕ)) (written : K → Opti
     some_other : ending ≢ hows.Failed → control_end now ≡ Some hows.Failed → ⊥
     some_other other failed = let e : Some ending ≡ Some hows.Failed = sym ends_as ∙ failed in other cc
 
-    end_stepped : IsSeenEnd ending → IsControlEnding ending → ending ≢ hows.Failed → old.ahead ≢ ahead.Failed → (so_far : HeardSoFar left past first old taken) → IfSome (left first.ends.source) (λ octets. Comes false true start octets (of_lines so_far.before ending)) → Now
-    end_stepped seen fine other apart so_far whole =
+    end_stepped : IsSeenEnd ending → IsControlEnding ending → ending ≢ hows.Failed → old.ahead ≢ ahead.Failed → (so_far : HeardSoFar left past first old taken) → IfSome (left first.ends.source) (λ octets. Comes false true start octets (of_lines so_far.before ending)) → ((at : ℕ) → IsFaultAt ending at → length so_far.gave ≤ at + longest_reach) → Now
+    end_stepped seen fine other apart so_far whole few =
         runs_by true ended tt
-        (subst (λ (t : Turn). HeardOut left plan now first new (taken ++ t ∷ [])) (sym is_end) (end_out left plan past now first old new taken so_far source_is reader_is ending seen fine ends_as whole))
+        (subst (λ (t : Turn). HeardOut left plan now first new (taken ++ t ∷ [])) (sym is_end) (end_out left plan past now first old new taken so_far source_is reader_is ending seen fine ends_as whole few))
         (λ failed. absurd (some_other other failed))
         (λ others. quiet apart so_far)
 
@@ -258,23 +266,23 @@ module _ {S K C : Type 0} (left : S → Option (List ℕ)) (written : K → Opti
       (λ others. absurd (others (ends_as hows.Failed is_end)))
 
   whole_stepped : (a : LineAhead) (ending : How) → old.ahead ≡ a → Some (Ends Control ending) ≡ line_turn_ahead old.buf a → IsSeenEnd ending → IsControlEnding ending → ending ≢ hows.Failed
-      → ((so_far : HeardSoFar left past first old taken) → HeardAhead (left first.ends.source) (left old.ends.source) old.reader so_far.gave old.buf so_far.before a → IfSome (left first.ends.source) (λ octets. Comes false true start octets (of_lines so_far.before ending)))
+      → ((so_far : HeardSoFar left past first old taken) → HeardAhead (left first.ends.source) (left old.ends.source) old.reader so_far.gave old.buf so_far.before a → IfSome (left first.ends.source) (λ octets. Comes false true start octets (of_lines so_far.before ending)) × ((at : ℕ) → IsFaultAt ending at → length so_far.gave ≤ at + longest_reach))
       → (LineProgress left plan past first old taken a → HeardSoFar left past first old taken) → Now
   whole_stepped a ending is which seen fine other whole goes =
       let so_far : HeardSoFar left past first old taken = goes (subst (λ (b : LineAhead). LineProgress left plan past first old taken b) is runs.progress) in
       let is_end : turn ≡ Ends Control ending = same_turn (Ends Control ending) turn (which ∙ subst (λ (b : LineAhead). line_turn_ahead old.buf b ≡ Some turn) is turn_is) in
       let apart : old.ahead ≢ ahead.Failed = λ failed. other (let e : Some (Ends Control ending) ≡ Some (Ends Control hows.Failed) = which ∙ ap (line_turn_ahead old.buf) (sym is ∙ failed) in cc) in
-      end_stepped ending is_end seen fine other apart so_far
-      (whole so_far (subst (λ (b : LineAhead). HeardAhead (left first.ends.source) (left old.ends.source) old.reader so_far.gave old.buf so_far.before b) is so_far.heard))
+      let here = whole so_far (subst (λ (b : LineAhead). HeardAhead (left first.ends.source) (left old.ends.source) old.reader so_far.gave old.buf so_far.before b) is so_far.heard) in
+      end_stepped ending is_end seen fine other apart so_far here.0 here.1
 
   stepped_at : (a : LineAhead) → old.ahead ≡ a → line_turn_ahead old.buf a ≡ Some turn → Now
   stepped_at ahead.Unread is there = cc
   stepped_at (ahead.Line stamp len) is there = line_stepped stamp len is
-  stepped_at ahead.End is there = whole_stepped ahead.End hows.End is refl tt tt (λ same. cc) (λ so_far heard. heard) (λ so_far. so_far)
+  stepped_at ahead.End is there = whole_stepped ahead.End hows.End is refl tt tt (λ same. cc) (λ so_far heard. (heard, λ place fault. absurd fault)) (λ so_far. so_far)
   stepped_at (ahead.Malformed at) is there =
-      whole_stepped (ahead.Malformed at) (hows.Malformed at) is refl tt (subst (λ (a : LineAhead). IsLineSound old.reader a) is runs.sound) (λ same. cc) (λ so_far heard. heard) (λ so_far. so_far)
+      whole_stepped (ahead.Malformed at) (hows.Malformed at) is refl tt (subst (λ (a : LineAhead). IsLineSound old.reader a) is runs.sound) (λ same. cc) (λ so_far heard. (heard.0, λ place fault. omega (arith, heard.1, fault))) (λ so_far. so_far)
   stepped_at (ahead.Overlong at) is there =
-      whole_stepped (ahead.Overlong at) (hows.Overlong at) is refl tt (subst (λ (a : LineAhead). IsLineSound old.reader a) is runs.sound) (λ same. cc) (λ so_far heard. heard) (λ so_far. so_far)
+      whole_stepped (ahead.Overlong at) (hows.Overlong at) is refl tt (subst (λ (a : LineAhead). IsLineSound old.reader a) is runs.sound) (λ same. cc) (λ so_far heard. (heard.0, λ place fault. omega (arith, heard.1, fault))) (λ so_far. so_far)
   stepped_at ahead.Failed is there = fail_stepped is
   stepped_at ahead.Done is there = cc
 

@@ -249,7 +249,7 @@ module _ {S K C : Type 0} (left : S → Option (List ℕ)) (written : K → Opti
     ended_output : (k : ℕ) (d : PortEnds S K C) → k < length first → IsOutputEnded plan past now (number_of (get_or first k d).port)
     ended_output k d inside = subst (λ (p : Port). IsOutputEnded plan past now (number_of p)) (r.outputs.each k d inside).port (outputs k d (omega (arith, r.outputs.size, inside)))
 
-    module _ (finishes : IsFinished plan empty now) (fits : EachPair (IsFit left now) first ports) (causes : EachPair (HasCause source_faults now) first ports) where
+    module _ (finishes : IsFinished plan empty now) (fits : EachPair (IsFit left now) first ports) (causes : EachPair (HasCause left source_faults now) first ports) where
       served_at : (k : ℕ) (d : PortEnds S K C) (i : Input) → k < length first
           → let n = number_of (get_or first k d).port in IsServed left written source_faults sink_faults (Comes (get_or first k d).reader) plan empty now n (get_or inputs_of k i) (r.known.ports n) (get_or first k d).ends (get_or ports k d).ends
       served_at k d i inside =
@@ -268,6 +268,7 @@ module _ {S K C : Type 0} (left : S → Option (List ℕ)) (written : K → Opti
             sink = later.sink;
             broken = (causes.each k d inside).broken;
             still = (causes.each k d inside).still;
+            near = (causes.each k d inside).near;
             still_out = still_of written sink_faults plan past now n p.ends.sink q.ends.sink (r.known.ports n) (output_at k d inside) (ended_output k d inside);
             broken_out = broken_of written sink_faults plan past now n p.ends.sink q.ends.sink (r.known.ports n) (output_at k d inside) (ended_output k d inside);
           }

@@ -1,5 +1,5 @@
 -- What the sources gave up fits the history between two turns.
-use Rattle.std.proofs.Common.{◌≡◌, ◌≢◌, ℕ, ◌+◌, ◌<◌, ◌≤◌, Bool, true, false, not, List, [], ◌∷◌, ◌++◌, length, take, get_or, refl, sym, ap, ◌∙◌, subst, arith, append-nil, ◌⊎◌, inl, inr, Option, Some, None, IfSome}
+use Rattle.std.proofs.Common.{◌≡◌, ◌≢◌, ℕ, ◌+◌, ◌<◌, ◌≤◌, Bool, true, false, not, List, [], ◌∷◌, ◌++◌, length, length-append, take, get_or, refl, sym, ap, ◌∙◌, subst, arith, append-nil, ◌⊎◌, inl, inr, Option, Some, None, IfSome}
 use Rattle.std.proofs.lemmas.Bool.{cases_eq}
 use Rattle.std.specs.List.{All}
 use Rattle.savi_kinds.specs.declared.port.Port.{Port}
@@ -12,7 +12,7 @@ use Rattle.savi_kinds.specs.Arrivals.{Arrival}
 use Rattle.savi_kinds.specs.Arrivals as arrivals
 use Rattle.savi_ends.specs.Faults.{Rose}
 use Rattle.savi_ends.specs.Octets.{Takes}
-use Rattle.pcap_io.specs.Readers.{State, Comes, HasRead, record_place}
+use Rattle.pcap_io.specs.Readers.{State, Comes, HasRead, longest_record, record_place}
 use Rattle.pcap_io.specs.Runs.{ended}
 use Rattle.hist_store.specs.Rows.{Row}
 use Rattle.savi_history.specs.Bases.{empty}
@@ -31,6 +31,7 @@ use Rattle.port_worker.specs.SentFrames.{OnlySink}
 use Rattle.port_worker.specs.Steps.{IsStepped, ends_input, ahead_after}
 use Rattle.port_worker.specs.Replays.{IsUnread}
 use Rattle.port_worker.specs.Served.{AreInput}
+use Rattle.port_worker.specs.Used.{GaveFew}
 use Rattle.port_worker.specs.Pairs.{EachPair}
 use Rattle.port_worker.proofs.Joining.{IsRunning, front_none, takes_twice, read_twice, read_behind}
 use Rattle.port_worker.proofs.FaultCounts.{rose_later, rose_before}
@@ -40,15 +41,26 @@ abbrev pub FitsAhead : State → State → List ℕ → List ℕ → Option (Lis
 FitsAhead first now gave buf before after entered_so ending ahead.Unread = (ending ≡ None) × HasRead first now gave entered_so
 FitsAhead first now gave buf before after entered_so ending (ahead.Frame stamp len) = (ending ≡ None) × HasRead first now gave (entered_so ++ arrivals.Frame stamp (take len buf) ∷ []) × IsRunning now
 FitsAhead first now gave buf before after entered_so ending (ahead.Long stamp len) = (ending ≡ None) × HasRead first now gave (entered_so ++ arrivals.Long stamp len ∷ []) × IsRunning now
-FitsAhead first now gave buf before after entered_so ending ahead.End = (ending ≡ None) × IsWhole (AreInput (Comes first)) before entered_so hows.End
-FitsAhead first now gave buf before after entered_so ending (ahead.Malformed at) = (ending ≡ None) × IsWhole (AreInput (Comes first)) before entered_so (hows.Malformed at)
-FitsAhead first now gave buf before after entered_so ending ahead.Failed = (ending ≡ None) × IsBroken (AreInput (Comes first)) before after entered_so
+FitsAhead first now gave buf before after entered_so ending ahead.End = (ending ≡ None) × IsWhole (AreInput (Comes first) true) before entered_so hows.End
+FitsAhead first now gave buf before after entered_so ending (ahead.Malformed at) = (ending ≡ None) × IsWhole (AreInput (Comes first) true) before entered_so (hows.Malformed at)
+FitsAhead first now gave buf before after entered_so ending ahead.Failed = (ending ≡ None) × IsBroken (AreInput (Comes first) false) before after entered_so
 FitsAhead first now gave buf before after entered_so ending ahead.Done = Fits (AreInput (Comes first)) before after entered_so ending
+
+-- How many octets were taken while the input goes on; from a place at fault on no more than one record has.
+abbrev pub IsNear : State → State → List ℕ → Option How → Ahead → Type 0
+IsNear first now gave ending ahead.Unread = record_place now ≡ record_place first + length gave
+IsNear first now gave ending (ahead.Frame stamp len) = record_place now ≡ record_place first + length gave
+IsNear first now gave ending (ahead.Long stamp len) = record_place now ≡ record_place first + length gave
+IsNear first now gave ending ahead.End = Unit {0}
+IsNear first now gave ending (ahead.Malformed at) = length gave ≤ at + longest_record
+IsNear first now gave ending ahead.Failed = Unit {0}
+IsNear first now gave ending ahead.Done = (at : ℕ) → ending ≡ Some (hows.Malformed at) → length gave ≤ at + longest_record
 
 pub record FitsSoFar {S K C : Type 0} (left : S → Option (List ℕ)) (source_faults : S → ℕ) (past : List Row) (old new : PortEnds S K C) : Type 0 where
   pub gave : List ℕ
   pub takes : Takes (left old.ends.source) (left new.ends.source) gave
   pub fits : FitsAhead old.reader new.reader gave new.buf (left old.ends.source) (left new.ends.source) (arrived (number_of old.port) past) (input_end (number_of old.port) past) new.ahead
+  pub near : IsNear old.reader new.reader gave (input_end (number_of old.port) past) new.ahead
   -- a read that failed, entered or not, was a fault of the source
   pub later : source_faults old.ends.source ≤ source_faults new.ends.source
   pub failed : new.ahead ≡ ahead.Failed → Rose (source_faults old.ends.source) (source_faults new.ends.source)
@@ -58,11 +70,11 @@ pub record FitsSoFar {S K C : Type 0} (left : S → Option (List ℕ)) (source_f
 
 -- the input ends behind what was read
 whole_at : (first mid : State) (one two : List ℕ) (front : List Arrival) (how : How) (a b c : Option (List ℕ)) → Takes a b one → Takes b c two → HasRead first mid one front
-    → IfSome c (λ rest. Comes mid (two ++ rest) (ended how)) → IsWhole (AreInput (Comes first)) a front how
+    → IfSome c (λ rest. Comes mid true (two ++ rest) (ended how)) → IsWhole (AreInput (Comes first) true) a front how
 whole_at first mid one two front how a b None take_one take_two read_one is =
     rw (take_one, take_two) tt
 whole_at first mid one two front how a b (Some rest) take_one take_two read_one is =
-    rw (take_one, take_two) (read_behind first mid one (two ++ rest) front how read_one is)
+    rw (take_one, take_two) (read_behind first mid true one (two ++ rest) front how read_one is)
 
 -- a read of what comes next
 
@@ -85,14 +97,24 @@ read_more left past first old new one two ahead.Failed a_is take_one take_two no
   record {
     gave = one ++ two;
     takes = takes_twice (left first.ends.source) (left old.ends.source) (left new.ends.source) one two take_one take_two;
-    ending = is.taken.0;
-    read = read_behind first.reader old.reader one two (arrived (number_of first.port) past) is.taken.0 read is.taken.1;
+    read = read_behind first.reader old.reader false one two (arrived (number_of first.port) past) hows.Failed read is.taken;
   },
 )
 read_more left past first old new one two ahead.Done a_is take_one take_two none read is = absurd is
 
 known_same : {S K C : Type 0} (left : S → Option (List ℕ)) (source_faults : S → ℕ) (past : List Row) (first old new : PortEnds S K C) (a : Ahead) → old.ahead ≡ a → IsReadAhead a → (IsReadAhead old.ahead → new ≡ old) → FitsSoFar left source_faults past first old → FitsSoFar left source_faults past first new
 known_same {S} {K} {C} left source_faults past first old new a is known same so_far = subst (λ (p : PortEnds S K C). FitsSoFar left source_faults past first p) (sym (same (subst IsReadAhead (sym is) known))) so_far
+
+near_more : (first old new : State) (one two buf : List ℕ) (left : Option (List ℕ)) (ending : Option How) (a : Ahead) → record_place old ≡ record_place first + length one → IsReadAs old new two buf left a → IsNear first new (one ++ two) ending a
+near_more first old new one two buf left ending ahead.Unread taken is = absurd is
+near_more first old new one two buf left ending (ahead.Frame stamp len) taken is =
+    let now : record_place new ≡ record_place old + length two = ap record_place is.running.1 in omega (arith, now, taken, length-append one two)
+near_more first old new one two buf left ending (ahead.Long stamp len) taken is =
+    let now : record_place new ≡ record_place old + length two = ap record_place is.running.1 in omega (arith, now, taken, length-append one two)
+near_more first old new one two buf left ending ahead.End taken is = tt
+near_more first old new one two buf left ending (ahead.Malformed at) taken is = let few = is.near at refl in omega (arith, few, taken, length-append one two)
+near_more first old new one two buf left ending ahead.Failed taken is = tt
+near_more first old new one two buf left ending ahead.Done taken is = absurd is
 
 unread_still : (a : Ahead) → a ≡ ahead.Unread → a ≡ ahead.Failed → ⊥
 unread_still a unread failed = cc
@@ -106,6 +128,8 @@ look_one left source_faults past first old new ahead.Unread is looked so_far =
       gave = so_far.gave ++ more.0;
       takes = takes_twice (left first.ends.source) (left old.ends.source) (left new.ends.source) so_far.gave more.0 so_far.takes more.1;
       fits = read_more left past first old new so_far.gave more.0 new.ahead refl so_far.takes more.1 fits.0 fits.1 more.2;
+      near = near_more first.reader old.reader new.reader so_far.gave more.0 new.buf (left new.ends.source) (input_end (number_of first.port) past) new.ahead
+          (subst (λ (b : Ahead). IsNear first.reader old.reader so_far.gave (input_end (number_of first.port) past) b) is so_far.near) more.2;
       later = omega (arith, so_far.later, looked.later);
       failed = λ failed. rose_later (source_faults first.ends.source) (source_faults old.ends.source) (source_faults new.ends.source) so_far.later (looked.failed is failed);
       broken = λ ended_so. rose_before (source_faults first.ends.source) (source_faults old.ends.source) (source_faults new.ends.source) (so_far.broken ended_so) looked.later;
@@ -136,7 +160,8 @@ start_one {S} {K} {C} left written source_faults faults past old new holds unrea
     record {
       gave = [];
       takes = sym (front_none (left old.ends.source));
-      fits = rw (unread.0, holds.arrivals_same, holds.end_same) (refl, λ rest later ending comes. comes);
+      fits = rw (unread.0, holds.arrivals_same, holds.end_same) (refl, λ seen rest later ending comes. comes);
+      near = subst (λ (a : Ahead). IsNear old.reader old.reader [] (input_end (number_of old.port) past) a) (sym unread.0) (omega arith);
       later = omega arith;
       failed = λ failed. absurd (unread_still old.ahead unread.0 failed);
       still = λ other others. refl;
@@ -160,6 +185,7 @@ same_one {S} {K} {C} left written source_faults faults past now first old new st
       gave = so_far.gave;
       takes = so_far.takes;
       fits = rw (holds.arrivals_same, holds.end_same) so_far.fits;
+      near = subst (λ (e : Option How). IsNear first.reader old.reader so_far.gave e old.ahead) (sym holds.end_same) so_far.near;
       later = so_far.later;
       failed = so_far.failed;
       broken = λ ended_so. so_far.broken (sym holds.end_same ∙ ended_so);
@@ -184,14 +210,14 @@ fits_sunk left written source_faults faults past now first old new so_far steppe
 same_turn : (t u : Turn) → Some t ≡ Some u → u ≡ t
 same_turn t u is = cc
 
-nothing_more : (state : State) → IsRunning state → Comes state [] (record { arrivals = []; ending = hows.End })
-nothing_more state running = rw running.2 refl
+nothing_more : (state : State) → IsRunning state → Comes state true [] (record { arrivals = []; ending = hows.End })
+nothing_more state running = rw running.2 (refl, refl)
 
 -- what was read alone, with nothing behind it
-read_alone : (first reader : State) (gave : List ℕ) (front : List Arrival) → HasRead first reader gave front → IsRunning reader → Comes first gave (record { arrivals = front; ending = hows.End })
+read_alone : (first reader : State) (gave : List ℕ) (front : List Arrival) → HasRead first reader gave front → IsRunning reader → Comes first true gave (record { arrivals = front; ending = hows.End })
 read_alone first reader gave front read running =
-    subst (λ (octets : List ℕ). Comes first octets (record { arrivals = front; ending = hows.End })) (append-nil gave)
-    (subst (λ (list : List Arrival). Comes first (gave ++ []) (record { arrivals = list; ending = hows.End })) (append-nil front) (read [] [] hows.End (nothing_more reader running)))
+    subst (λ (octets : List ℕ). Comes first true octets (record { arrivals = front; ending = hows.End })) (append-nil gave)
+    (subst (λ (list : List Arrival). Comes first true (gave ++ []) (record { arrivals = list; ending = hows.End })) (append-nil front) (read true [] [] hows.End (nothing_more reader running)))
 
 arrival_fits : (first reader : State) (gave buf : List ℕ) (before after : Option (List ℕ)) (plan : Plan) (stops : Stops) (past : List Row) (port : Port) (arrival : Arrival) (room : Bool) → Takes before after gave → has_room plan past ≡ room
     → input_end (number_of port) past ≡ None → HasRead first reader gave (arrived (number_of port) past ++ arrival ∷ []) → IsRunning reader
@@ -205,7 +231,7 @@ arrival_fits first reader gave buf before after plan stops past port arrival fal
       gave = gave;
       takes = takes;
       refused = arrival;
-      read = subst (λ (list : List Arrival). Comes first gave (record { arrivals = list ++ arrival ∷ []; ending = hows.End })) (sym full.arrivals_same) (read_alone first reader gave (arrived (number_of port) past ++ arrival ∷ []) read running);
+      read = subst (λ (list : List Arrival). Comes first true gave (record { arrivals = list ++ arrival ∷ []; ending = hows.End })) (sym full.arrivals_same) (read_alone first reader gave (arrived (number_of port) past ++ arrival ∷ []) read running);
     })
 
 arrival_turn : (first reader : State) (gave buf : List ℕ) (before after : Option (List ℕ)) (plan : Plan) (stops : Stops) (past : List Row) (port : Port) (arrival : Arrival) (b : Ahead) (turn : Turn) → Takes before after gave → turn ≡ Arrives port arrival
@@ -285,6 +311,49 @@ never_failed : (b : Bool) (a : Ahead) → a ≡ ahead_after b → a ≡ ahead.Fa
 never_failed true a is failed = cc
 never_failed false a is failed = cc
 
+-- behind a turn
+
+near_room : (first reader : State) (gave : List ℕ) (plan : Plan) (stops : Stops) (past : List Row) (port : Port) (arrival : Arrival) (room : Bool) → has_room plan past ≡ room → record_place reader ≡ record_place first + length gave
+    → IsNear first reader gave (input_end (number_of port) (entered plan empty stops (Arrives port arrival) past)) (ahead_after (not room))
+near_room first reader gave plan stops past port arrival true room taken = taken
+near_room first reader gave plan stops past port arrival false room taken = λ at is.
+    let e : Some (hows.Full (length past)) ≡ Some (hows.Malformed at) = sym (full_entered plan empty stops past port arrival room).ended_so ∙ is in cc
+
+near_arrival : (first reader : State) (gave : List ℕ) (plan : Plan) (stops : Stops) (past : List Row) (port : Port) (arrival : Arrival) (b : Ahead) (turn : Turn) → turn ≡ Arrives port arrival → b ≡ ahead_after (ends_input plan past turn) → record_place reader ≡ record_place first + length gave
+    → IsNear first reader gave (input_end (number_of port) (entered plan empty stops turn past)) b
+near_arrival first reader gave plan stops past port arrival b turn turn_is b_is taken =
+    let b_now : b ≡ ahead_after (not (has_room plan past)) = b_is ∙ ap (λ (t : Turn). ahead_after (ends_input plan past t)) turn_is in
+    subst (λ (t : Turn). IsNear first reader gave (input_end (number_of port) (entered plan empty stops t past)) b) (sym turn_is)
+    (subst (λ (c : Ahead). IsNear first reader gave (input_end (number_of port) (entered plan empty stops (Arrives port arrival) past)) c) (sym b_now)
+    (near_room first reader gave plan stops past port arrival (has_room plan past) refl taken))
+
+near_end : (first reader : State) (gave : List ℕ) (plan : Plan) (stops : Stops) (past : List Row) (port : Port) (how : How) (b : Ahead) (turn : Turn) → turn ≡ Ends (Ingress port) how → b ≡ ahead_after (ends_input plan past turn) → ((at : ℕ) → how ≡ hows.Malformed at → length gave ≤ at + longest_record)
+    → IsNear first reader gave (input_end (number_of port) (entered plan empty stops turn past)) b
+near_end first reader gave plan stops past port how b turn turn_is b_is few =
+    let b_now : b ≡ ahead.Done = b_is ∙ ap (λ (t : Turn). ahead_after (ends_input plan past t)) turn_is in
+    subst (λ (t : Turn). IsNear first reader gave (input_end (number_of port) (entered plan empty stops t past)) b) (sym turn_is)
+    (subst (λ (c : Ahead). IsNear first reader gave (input_end (number_of port) (entered plan empty stops (Ends (Ingress port) how) past)) c) (sym b_now)
+    (λ at is. few at (same_end how at (sym (end_entered plan empty past port how).ended_so ∙ is))))
+  where
+    same_end : (how : How) (at : ℕ) → Some how ≡ Some (hows.Malformed at) → how ≡ hows.Malformed at
+    same_end how at e = cc
+
+near_entered : (first reader : State) (gave : List ℕ) (plan : Plan) (stops : Stops) (past : List Row) (port : Port) (buf : List ℕ) (a b : Ahead) (turn : Turn) → turn_ahead port buf a ≡ Some turn → b ≡ ahead_after (ends_input plan past turn)
+    → IsNear first reader gave (input_end (number_of port) past) a → IsNear first reader gave (input_end (number_of port) (entered plan empty stops turn past)) b
+near_entered first reader gave plan stops past port buf ahead.Unread b turn is b_is near = cc
+near_entered first reader gave plan stops past port buf (ahead.Frame stamp len) b turn is b_is near =
+    let arrival = arrivals.Frame stamp (take len buf) in near_arrival first reader gave plan stops past port arrival b turn (same_turn (Arrives port arrival) turn is) b_is near
+near_entered first reader gave plan stops past port buf (ahead.Long stamp len) b turn is b_is near =
+    let arrival = arrivals.Long stamp len in near_arrival first reader gave plan stops past port arrival b turn (same_turn (Arrives port arrival) turn is) b_is near
+near_entered first reader gave plan stops past port buf ahead.End b turn is b_is near =
+    near_end first reader gave plan stops past port hows.End b turn (same_turn (Ends (Ingress port) hows.End) turn is) b_is (λ at same. cc)
+near_entered first reader gave plan stops past port buf (ahead.Malformed at) b turn is b_is near =
+    near_end first reader gave plan stops past port (hows.Malformed at) b turn (same_turn (Ends (Ingress port) (hows.Malformed at)) turn is) b_is
+    (λ place same. let e : at ≡ place = cc in omega (arith, near, e))
+near_entered first reader gave plan stops past port buf ahead.Failed b turn is b_is near =
+    near_end first reader gave plan stops past port hows.Failed b turn (same_turn (Ends (Ingress port) hows.Failed) turn is) b_is (λ at same. cc)
+near_entered first reader gave plan stops past port buf ahead.Done b turn is b_is near = cc
+
 -- the end of an input at a failed read that was read
 fails_there : (plan : Plan) (stops : Stops) (past : List Row) (port : Port) (buf : List ℕ) (a : Ahead) (turn : Turn) → turn_ahead port buf a ≡ Some turn → a ≡ ahead.Failed → input_end (number_of port) (entered plan empty stops turn past) ≡ Some hows.Failed
 fails_there plan stops past port buf a turn is failed =
@@ -311,6 +380,7 @@ here_one {S} {K} {C} left written source_faults faults plan stops past now first
       gave = so_far.gave;
       takes = so_far.takes;
       fits = entered_fits first.reader old.reader so_far.gave old.buf (left first.ends.source) (left old.ends.source) plan stops past first.port old.ahead new.ahead turn so_far.takes turn_first ahead_is so_far.fits;
+      near = near_entered first.reader old.reader so_far.gave plan stops past first.port old.buf old.ahead new.ahead turn turn_first ahead_is so_far.near;
       later = so_far.later;
       failed = λ failed. absurd (never_failed (ends_input plan past turn) new.ahead ahead_is failed);
       broken = entered_broken (Rose (source_faults first.ends.source) (source_faults old.ends.source)) plan stops past first.port old.buf old.ahead turn turn_first so_far.failed so_far.broken;
@@ -354,10 +424,12 @@ abbrev pub IsFit : {S K C : Type 0} → (S → Option (List ℕ)) → List Row �
 IsFit left past old new =
     Fits (AreInput (Comes old.reader)) (left old.ends.source) (left new.ends.source) (arrived (number_of old.port) past) (input_end (number_of old.port) past)
 
--- the source has a fault exactly where the history tells of a failed read
-pub record HasCause {S K C : Type 0} (source_faults : S → ℕ) (past : List Row) (old new : PortEnds S K C) : Type 0 where
+-- the source has a fault exactly where the history tells of a failed read, and gave up no more than one record behind a
+-- place at fault
+pub record HasCause {S K C : Type 0} (left : S → Option (List ℕ)) (source_faults : S → ℕ) (past : List Row) (old new : PortEnds S K C) : Type 0 where
   pub broken : input_end (number_of old.port) past ≡ Some hows.Failed → Rose (source_faults old.ends.source) (source_faults new.ends.source)
   pub still : input_end (number_of old.port) past ≢ Some hows.Failed → source_faults new.ends.source ≡ source_faults old.ends.source
+  pub near : (at : ℕ) → input_end (number_of old.port) past ≡ Some (hows.Malformed at) → GaveFew (left old.ends.source) (left new.ends.source) (at + longest_record)
 
 pub fits_finished : {S K C : Type 0} (left : S → Option (List ℕ)) (source_faults : S → ℕ) (plan : Plan) (first old : List (PortEnds S K C)) (past now : List Row) → EachPair (FitsSoFar left source_faults past) first old → ((k : ℕ) (d : PortEnds S K C) → k < length old → (get_or old k d).ahead ≡ ahead.Done)
     → now ≡ egress_ended plan empty plan.ports (with_event plan empty past (End Ticker hows.End)) → EachPair (IsFit left now) first old
@@ -377,7 +449,7 @@ done_apart a done failed = cc
 
 -- a fault came exactly where the history tells of a failed read, also where it holds no more of the inputs since
 pub causes_finished : {S K C : Type 0} (left : S → Option (List ℕ)) (source_faults : S → ℕ) (first old : List (PortEnds S K C)) (past now : List Row) → EachPair (FitsSoFar left source_faults past) first old
-    → ((k : ℕ) (d : PortEnds S K C) → k < length old → (get_or old k d).ahead ≡ ahead.Done) → ((n : ℕ) → input_end n now ≡ input_end n past) → EachPair (HasCause source_faults now) first old
+    → ((k : ℕ) (d : PortEnds S K C) → k < length old → (get_or old k d).ahead ≡ ahead.Done) → ((n : ℕ) → input_end n now ≡ input_end n past) → EachPair (HasCause left source_faults now) first old
 causes_finished left source_faults first old past now so_far done same = record {
   size = so_far.size;
   each = λ k d within.
@@ -386,5 +458,10 @@ causes_finished left source_faults first old past now so_far done same = record 
       record {
         broken = λ ended_so. one.broken (sym (same n) ∙ ended_so);
         still = λ others. one.still (done_apart (get_or old k d).ahead (done k d (omega (arith, so_far.size)))) (λ ended_so. others (same n ∙ ended_so));
+        near = λ at ended_so. (
+          one.gave,
+          one.takes,
+          subst (λ (a : Ahead). IsNear (get_or first k d).reader (get_or old k d).reader one.gave (input_end n past) a) (done k d (omega (arith, so_far.size))) one.near at (sym (same n) ∙ ended_so),
+        );
       };
 }

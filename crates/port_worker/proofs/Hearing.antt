@@ -9,7 +9,7 @@ use Rattle.savi_kinds.specs.declared.entry.How.TheVariants as hows
 use Rattle.savi_kinds.specs.Characters.{space}
 use Rattle.savi_ends.specs.Octets.{Takes, NothingLeft, in_front}
 use Rattle.cli_lang.specs.Arrivals.{Line, Input, Says, IsRun, EndsAs}
-use Rattle.cli_lang.specs.Readers.{State, Running, Ended, Comes, HasRead, HasReadOne, HasEnded, ended}
+use Rattle.cli_lang.specs.Readers.{State, Running, Ended, Comes, HasRead, HasReadOne, HasEnded, IsFaultAt, longest_reach, octets_taken, ended}
 use Rattle.cli_lang.proofs.Existence.{some_later}
 use Rattle.savi_history.specs.Readable.{IsControlEnding}
 use Rattle.savi_history.specs.Readable.{IsLineInRange as IsReadableLine}
@@ -24,14 +24,14 @@ IsRunning state = (place : ℕ) × (held : List ℕ) × (state ≡ Running place
 abbrev pub of_lines : List Line → How → Input
 of_lines lines ending = record { arrivals = lines; ending = ending }
 
--- These lines were read: whatever comes behind them, they come before it; or the last one had no line feed, and nothing is
--- left.
+-- These lines were read: whatever comes behind them, they come before it, and the reader took so many octets; or the last one
+-- had no line feed, and nothing is left.
 abbrev pub HasHeard : State → List ℕ → Option (List ℕ) → List Line → Type 0
 HasHeard state gave left lines =
-    (IsRunning state × HasRead false start state gave lines) ⊎ ((state ≡ Ended hows.End) × NothingLeft left × Comes false true start gave (of_lines lines hows.End))
+    (IsRunning state × HasRead false start state gave lines × (octets_taken state ≡ length gave)) ⊎ ((state ≡ Ended hows.End) × NothingLeft left × Comes false true start gave (of_lines lines hows.End))
 
 pub heard_none : (left : Option (List ℕ)) → HasHeard start [] left []
-heard_none left = inl ((0, [], refl), λ seen rest later ending comes. comes)
+heard_none left = inl ((0, [], refl), (λ seen rest later ending comes. comes), refl)
 
 no_lines : (line : Line) (lines : List Line) (ending how : How) → of_lines (line ∷ lines) ending ≡ ended how → ⊥
 no_lines line lines ending how same = let e = ap (λ (i : Input). i.arrivals) same in cc
@@ -53,10 +53,11 @@ module _ (old new : State) (gave more : List ℕ) (left_old left : Option (List 
   pub heard_line : (line : Line) → HasHeard old gave left_old before → HasReadOne false old new more left line → HasHeard new (gave ++ more) left (before ++ line ∷ [])
   heard_line line (inl behind) (inl one) = inl (
     one.0,
-    λ seen rest later ending comes.
+    (λ seen rest later ending comes.
         subst (λ (l : List ℕ). Comes false seen start l (of_lines ((before ++ line ∷ []) ++ later) ending)) (sym (append_assoc gave more rest))
         (subst (λ (ls : List Line). Comes false seen start (gave ++ (more ++ rest)) (of_lines ls ending)) (sym (append_assoc before (line ∷ []) later))
-        (behind.1 seen (more ++ rest) (line ∷ later) ending (one.1 seen rest later ending comes))),
+        (behind.1 seen (more ++ rest) (line ∷ later) ending (one.1 seen rest later ending comes)))),
+    omega (arith, one.2, behind.2, length-append gave more),
   )
   heard_line line (inl behind) (inr one) = inr (one.0, one.1, behind.1 true more (line ∷ []) hows.End one.2)
   heard_line line (inr over) one = absurd (no_more old new more left line over.0 one)
@@ -89,6 +90,21 @@ module _ (old new : State) (gave more : List ℕ) (left_old : Option (List ℕ))
   pub heard_end : (first left : Option (List ℕ)) → HasHeard old gave left_old before → HasEnded false old new more left ending → Takes first left_old gave → Takes left_old left more → IfSome first (λ octets. Comes false true start octets (of_lines before ending))
   heard_end first left heard has took takes =
       subst (λ (o : Option (List ℕ)). IfSome o (λ octets. Comes false true start octets (of_lines before ending))) (sym (took ∙ ap (in_front gave) takes)) (whole_at left heard has takes)
+
+-- Behind the end of the input nothing but that end comes.
+over_ends : (old new : State) (more : List ℕ) (left : Option (List ℕ)) (ending : How) → old ≡ Ended hows.End → HasEnded false old new more left ending → ending ≡ hows.End
+over_ends old new more left ending is has = elim has.1 [
+  | inl whatever ↦ same_ending ending hows.End (subst (λ (s : State). Comes false true s (more ++ []) (ended ending)) is (whatever true []))
+  | inr nothing ↦ same_ending ending hows.End (subst (λ (s : State). Comes false true s more (ended ending)) is nothing.1)
+]
+
+-- From the place of a line at fault on no more was taken than the longest line and one piece have.
+pub heard_near : (old new : State) (gave more : List ℕ) (left_old left : Option (List ℕ)) (before : List Line) (ending : How) (at : ℕ) → HasHeard old gave left_old before → HasEnded false old new more left ending → IsFaultAt ending at → length (gave ++ more) ≤ at + longest_reach
+heard_near old new gave more left_old left before ending at (inl behind) has fault =
+    let bound = has.2 at fault in
+    omega (arith, bound, behind.2, length-append gave more)
+heard_near old new gave more left_old left before ending at (inr over) has fault =
+    absurd (subst (λ (h : How). IsFaultAt h at) (over_ends old new more left ending over.0 has) fault)
 
 -- how an input ends that was seen to end
 abbrev pub IsSeenEnd : How → Type 0

@@ -1,5 +1,5 @@
 -- One read behind another.
-use Rattle.std.proofs.Common.{◌≡◌, ℕ, List, [], ◌++◌, refl, sym, ap, ◌∙◌, subst, append_assoc, append-nil, Option, Some, None}
+use Rattle.std.proofs.Common.{◌≡◌, ℕ, Bool, List, [], ◌++◌, refl, sym, ap, ◌∙◌, subst, append_assoc, append-nil, Option, Some, None}
 use Rattle.savi_kinds.specs.declared.entry.How.{How}
 use Rattle.savi_kinds.specs.Arrivals.{Arrival}
 use Rattle.savi_ends.specs.Octets.{in_front, Takes}
@@ -24,12 +24,12 @@ takes_twice a b c one two first next = first ∙ ap (in_front one) next ∙ fron
 
 -- the arrivals of both
 pub read_twice : (first mid now : State) (one two : List ℕ) (front back : List Arrival) → HasRead first mid one front → HasRead mid now two back → HasRead first now (one ++ two) (front ++ back)
-read_twice first mid now one two front back read_one read_two rest later ending comes =
-    subst (λ (octets : List ℕ). Comes first octets (record { arrivals = (front ++ back) ++ later; ending = ending })) (sym (append_assoc one two rest))
-    (subst (λ (list : List Arrival). Comes first (one ++ (two ++ rest)) (record { arrivals = list; ending = ending })) (sym (append_assoc front back later))
-    (read_one (two ++ rest) (back ++ later) ending (read_two rest later ending comes)))
+read_twice first mid now one two front back read_one read_two seen rest later ending comes =
+    subst (λ (octets : List ℕ). Comes first seen octets (record { arrivals = (front ++ back) ++ later; ending = ending })) (sym (append_assoc one two rest))
+    (subst (λ (list : List Arrival). Comes first seen (one ++ (two ++ rest)) (record { arrivals = list; ending = ending })) (sym (append_assoc front back later))
+    (read_one seen (two ++ rest) (back ++ later) ending (read_two seen rest later ending comes)))
 
 -- no whole arrival behind those that were read
-pub read_behind : (first mid : State) (one two : List ℕ) (front : List Arrival) (ending : How) → HasRead first mid one front → Comes mid two (ended ending) → Comes first (one ++ two) (record { arrivals = front; ending = ending })
-read_behind first mid one two front ending read_one comes =
-    subst (λ (list : List Arrival). Comes first (one ++ two) (record { arrivals = list; ending = ending })) (append-nil front) (read_one two [] ending comes)
+pub read_behind : (first mid : State) (seen : Bool) (one two : List ℕ) (front : List Arrival) (ending : How) → HasRead first mid one front → Comes mid seen two (ended ending) → Comes first seen (one ++ two) (record { arrivals = front; ending = ending })
+read_behind first mid seen one two front ending read_one comes =
+    subst (λ (list : List Arrival). Comes first seen (one ++ two) (record { arrivals = list; ending = ending })) (append-nil front) (read_one seen two [] ending comes)

@@ -1,5 +1,5 @@
 -- What was taken of the input of one port, and what may still come.
-use Rattle.std.proofs.Common.{◌≡◌, ℕ, ◌+◌, List, [], ◌∷◌, ◌++◌, map, length, take, refl, sym, ap, ◌∙◌, subst, append_assoc, append-nil, ◌⊎◌, inl, inr, Option, Some, None, IfSome}
+use Rattle.std.proofs.Common.{◌≡◌, ℕ, ◌+◌, Bool, true, false, List, [], ◌∷◌, ◌++◌, map, length, take, refl, sym, ap, ◌∙◌, subst, append_assoc, append-nil, ◌⊎◌, inl, inr, Option, Some, None, IfSome}
 use Rattle.std.proofs.lemmas.List.{map-append}
 use Rattle.savi_kinds.specs.declared.port.Port.{Port}
 use Rattle.savi_kinds.specs.declared.plan.Plan.{Plan}
@@ -92,15 +92,15 @@ IsWholeEnd (hows.Overlong at) = ⊥
 IsWholeEnd hows.Unwritten = ⊥
 IsWholeEnd (hows.Full len) = ⊥
 
--- What was taken from a source is these arrivals and the one that is known, or these and no whole one in front of a read
--- that failed.
+-- What was taken from a source is these arrivals and the one that is known, or these and no whole one, nor one at fault, in
+-- front of a read that failed.
 abbrev pub HasReadAhead : State → State → List ℕ → List ℕ → List Arrival → Ahead → Type 0
 HasReadAhead first now gave buf before ahead.Unread = HasRead first now gave before
 HasReadAhead first now gave buf before (ahead.Frame stamp len) = HasRead first now gave (before ++ arrivals.Frame stamp (take len buf) ∷ []) × IsRunning now
 HasReadAhead first now gave buf before (ahead.Long stamp len) = HasRead first now gave (before ++ arrivals.Long stamp len ∷ []) × IsRunning now
 HasReadAhead first now gave buf before ahead.End = Unit {0}
 HasReadAhead first now gave buf before (ahead.Malformed at) = Unit {0}
-HasReadAhead first now gave buf before ahead.Failed = (ending : How) × Comes first gave (record { arrivals = before; ending = ending })
+HasReadAhead first now gave buf before ahead.Failed = Comes first false gave (record { arrivals = before; ending = hows.Failed })
 HasReadAhead first now gave buf before ahead.Done = Unit {0}
 
 -- the turn is an arrival, behind which the rest comes
@@ -108,7 +108,7 @@ pub record AtArrival (left : Option (List ℕ)) (port : Port) (state : State) (b
   pub arrival : Arrival
   pub is_turn : t ≡ Arrives port arrival
   pub read : (first : State) (gave : List ℕ) (before : List Arrival) → HasReadAhead first state gave buf before a → HasRead first state gave (before ++ arrival ∷ []) × IsRunning state
-  pub gives : (later : Input) → IfSome left (λ octets. Comes state octets later) → IfSome left (λ octets. WillGive state buf a octets (with_arrival arrival later))
+  pub gives : (later : Input) → IfSome left (λ octets. Comes state true octets later) → IfSome left (λ octets. WillGive state buf a octets (with_arrival arrival later))
 
 -- the turn is the ending of a whole capture
 pub record AtEnding (left : Option (List ℕ)) (port : Port) (state : State) (buf : List ℕ) (a : Ahead) (t : Turn) : Type 0 where
@@ -144,7 +144,7 @@ at_turn left port state buf (ahead.Frame stamp len) t is =
       arrival = arrival;
       is_turn = same_turn (Arrives port arrival) t is;
       read = λ first gave before read. read;
-      gives = λ later. if_more left (λ octets. Comes state octets later) (λ octets. WillGive state buf (ahead.Frame stamp len) octets (with_arrival arrival later)) (λ octets comes. (later, refl, comes));
+      gives = λ later. if_more left (λ octets. Comes state true octets later) (λ octets. WillGive state buf (ahead.Frame stamp len) octets (with_arrival arrival later)) (λ octets comes. (later, refl, comes));
     })
 at_turn left port state buf (ahead.Long stamp len) t is =
     let arrival = arrivals.Long stamp len in
@@ -152,7 +152,7 @@ at_turn left port state buf (ahead.Long stamp len) t is =
       arrival = arrival;
       is_turn = same_turn (Arrives port arrival) t is;
       read = λ first gave before read. read;
-      gives = λ later. if_more left (λ octets. Comes state octets later) (λ octets. WillGive state buf (ahead.Long stamp len) octets (with_arrival arrival later)) (λ octets comes. (later, refl, comes));
+      gives = λ later. if_more left (λ octets. Comes state true octets later) (λ octets. WillGive state buf (ahead.Long stamp len) octets (with_arrival arrival later)) (λ octets comes. (later, refl, comes));
     })
 at_turn left port state buf ahead.End t is =
     inr (inl (record {
@@ -178,12 +178,12 @@ read_ahead first mid now one two front buf left (ahead.Frame stamp len) read is 
 read_ahead first mid now one two front buf left (ahead.Long stamp len) read is = (read_twice first mid now one two front (arrivals.Long stamp len ∷ []) read is.read, (is.running.0, record_place mid + length two, is.running.1))
 read_ahead first mid now one two front buf left ahead.End read is = tt
 read_ahead first mid now one two front buf left (ahead.Malformed at) read is = tt
-read_ahead first mid now one two front buf left ahead.Failed read is = (is.taken.0, read_behind first mid one two front is.taken.0 read is.taken.1)
+read_ahead first mid now one two front buf left ahead.Failed read is = read_behind first mid false one two front hows.Failed read is.taken
 read_ahead first mid now one two front buf left ahead.Done read is = absurd is
 
 -- this input comes at first, where the source told its octets
 abbrev pub CameFirst : {S K C : Type 0} → (S → Option (List ℕ)) → PortEnds S K C → Input → Type 0
-CameFirst left old input = IfSome (left old.ends.source) (λ octets. Comes old.reader octets input)
+CameFirst left old input = IfSome (left old.ends.source) (λ octets. Comes old.reader true octets input)
 
 -- These arrivals were taken, and with whatever comes now behind them they come at first.
 pub record Goes {S K C : Type 0} (left : S → Option (List ℕ)) (old new : PortEnds S K C) (taken : List Turn) : Type 0 where
@@ -266,28 +266,28 @@ turns_front port before input =
 
 -- how the octets of a whole capture end
 
-run_end : (kind : HeaderKind) (place : ℕ) (ending : How) (octets : List ℕ) → EndsAs kind place ending octets → IsWholeEnd ending
+run_end : (kind : HeaderKind) (place : ℕ) (ending : How) (octets : List ℕ) → EndsAs kind true place ending octets → IsWholeEnd ending
 run_end kind place hows.End octets ends = tt
 run_end kind place (hows.Malformed at) octets ends = tt
 run_end kind place hows.Quit octets ends = ends
 run_end kind place (hows.Overlong at) octets ends = ends
-run_end kind place hows.Failed octets ends = ends
+run_end kind place hows.Failed octets ends = let unseen = ends.0 in cc
 run_end kind place hows.Unwritten octets ends = ends
 run_end kind place (hows.Full len) octets ends = ends
 
-run_ends : (kind : HeaderKind) (arrivals : List Arrival) (place : ℕ) (ending : How) (octets : List ℕ) → IsRun kind place arrivals ending octets → IsWholeEnd ending
+run_ends : (kind : HeaderKind) (arrivals : List Arrival) (place : ℕ) (ending : How) (octets : List ℕ) → IsRun kind true place arrivals ending octets → IsWholeEnd ending
 run_ends kind [] place ending octets run = run_end kind place ending octets run
 run_ends kind (a ∷ arrivals) place ending octets run = run_ends kind arrivals (place + length run.0) ending run.1 run.5
 
-some_input : (left : Option (List ℕ)) (state : State) → IsRunning state → (input : Input) × IfSome left (λ octets. Comes state octets input) × IsWholeEnd input.ending
+some_input : (left : Option (List ℕ)) (state : State) → IsRunning state → (input : Input) × IfSome left (λ octets. Comes state true octets input) × IsWholeEnd input.ending
 some_input None state running = (ended hows.End, tt, tt)
 some_input (Some octets) state running =
-    let some = some_later state octets in
-    (some.0, some.1, run_ends running.0 some.0.arrivals running.1 some.0.ending octets (subst (λ (s : State). Comes s octets some.0) running.2 some.1))
+    let some = some_later true state octets in
+    (some.0, some.1, run_ends running.0 some.0.arrivals running.1 some.0.ending octets (subst (λ (s : State). Comes s true octets some.0) running.2 some.1))
 
 -- the whole octets of a source are the input
-whole_as : (Reads : List ℕ → Input → Type 0) (before after : Option (List ℕ)) (ended_so : Option How) (arrivals : List Arrival) (ending : How) → IsWholeEnd ending
-    → IfSome before (λ octets. Reads octets (record { arrivals = arrivals; ending = ending })) → IsInputOf Reads before after ended_so arrivals ending
+whole_as : (Reads : Bool → List ℕ → Input → Type 0) (before after : Option (List ℕ)) (ended_so : Option How) (arrivals : List Arrival) (ending : How) → IsWholeEnd ending
+    → IfSome before (λ octets. Reads true octets (record { arrivals = arrivals; ending = ending })) → IsInputOf Reads before after ended_so arrivals ending
 whole_as Reads before after ended_so arrivals hows.End ends whole = whole
 whole_as Reads before after ended_so arrivals (hows.Malformed at) ends whole = whole
 whole_as Reads before after ended_so arrivals hows.Failed ends whole = absurd ends
@@ -333,9 +333,9 @@ module _ {S K C : Type 0} (left : S → Option (List ℕ)) (plan : Plan) (k : �
         takes = takes_new;
         read = read_new;
         comes = λ later will.
-            let at_new : IfSome (left new.ends.source) (λ octets. Comes new.reader octets later) = will in
-            let at_now : IfSome (left now.ends.source) (λ octets. Comes now.reader octets later) =
-            subst (λ (s : S). IfSome (left s) (λ octets. Comes now.reader octets later)) source (subst (λ (r : State). IfSome (left new.ends.source) (λ octets. Comes r octets later)) reader at_new) in
+            let at_new : IfSome (left new.ends.source) (λ octets. Comes new.reader true octets later) = will in
+            let at_now : IfSome (left now.ends.source) (λ octets. Comes now.reader true octets later) =
+            subst (λ (s : S). IfSome (left s) (λ octets. Comes now.reader true octets later)) source (subst (λ (r : State). IfSome (left new.ends.source) (λ octets. Comes r true octets later)) reader at_new) in
             subst (λ (i : Input). CameFirst left old i) (front_again at.arrival later) (goes.comes (with_arrival at.arrival later) (at.gives later at_now));
       })
 
@@ -371,5 +371,5 @@ module _ {S K C : Type 0} (left : S → Option (List ℕ)) (plan : Plan) (k : �
         rest = [];
         of = tt;
         split = taken_ended hows.Failed at.is_turn;
-        came = (ended_so, record { gave = goes.gave; takes = takes_new; ending = read.0; read = read.1 });
+        came = (ended_so, record { gave = goes.gave; takes = takes_new; read = read });
       })

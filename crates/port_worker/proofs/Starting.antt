@@ -204,7 +204,7 @@ module _ {S K C : Type 0} (left : S → Option (List ℕ)) (written : K → Opti
       taken_is = refl;
       gave = [];
       takes = ap left (source_is k d inside) ∙ sym (front_none (left (get_or ports k d).ends.source));
-      read = rw (ahead_is k d inside, sym (reader_is k d inside)) (λ rest later ending comes. comes);
+      read = rw (ahead_is k d inside, sym (reader_is k d inside)) (λ seen rest later ending comes. comes);
       comes = λ input will.
           subst (λ (a : Ahead). IfSome (left (get_or first k d).ends.source) (λ octets. WillGive (get_or first k d).reader (get_or first k d).buf a octets input)) (unread k d inside).0
           (subst (λ (p : PortEnds S K C). WillCome left p input) (only.each k d inside).same will);

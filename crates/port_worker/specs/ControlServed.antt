@@ -1,5 +1,5 @@
 -- What a replay was to the ends of control: what its source gave up, and what its sink took.
-use Rattle.std.specs.Prelude.{◌≡◌, ◌≢◌, ℕ, ◌≤◌, Bool, true, false, List, [], Option, Some, None}
+use Rattle.std.specs.Prelude.{◌≡◌, ◌≢◌, ℕ, ◌+◌, ◌≤◌, Bool, true, false, List, [], Option, Some, None}
 use Rattle.savi_kinds.specs.declared.plan.Plan.{Plan}
 use Rattle.savi_kinds.specs.declared.entry.How.{How}
 use Rattle.savi_kinds.specs.declared.entry.How.TheVariants as hows
@@ -8,6 +8,7 @@ use Rattle.savi_ends.specs.Faults.{Rose}
 use Rattle.savi_ends.specs.Octets.{Takes}
 use Rattle.cli_lang.specs.Arrivals.{Line, Arrive}
 use Rattle.cli_lang.specs.Arrivals as control
+use Rattle.cli_lang.specs.Readers.{IsFaultAt, longest_reach}
 use Rattle.hist_store.specs.Rows.{Row}
 use Rattle.savi_history.specs.Bases.{Base}
 use Rattle.savi_history.specs.ControlFits.{FitsControl}
@@ -16,7 +17,7 @@ use Rattle.savi_history.specs.ControlOutputs.{replies, FitsRepliesAt}
 use Rattle.savi_history.specs.Fits.{IsWhole}
 use Rattle.savi_history.specs.PortOutputs.{TookPieces}
 use Rattle.port_worker.specs.declared.control_ends.ControlEnds.{ControlEnds}
-use Rattle.port_worker.specs.Used.{IsUsed}
+use Rattle.port_worker.specs.Used.{GaveFew, IsUsed}
 
 -- these octets, seen to end or not, are the input of these lines that ends so, each line with its stamp in it
 abbrev pub AreLines : Bool → List ℕ → List Line → How → Type 0
@@ -36,13 +37,15 @@ IsControlInputOf before after ended_so lines hows.Unwritten = ⊥
 IsControlInputOf before after ended_so lines (hows.Full len) = ⊥
 
 -- What a history was to the ends of control. The octets of the source are this input, and what it gave up fits what the
--- history holds of it. The sink took the replies as this stop says, each one piece, and they fit how the history says that
--- control ended. No count of faults fell; control ended by a failed read exactly where that of its source rose, by a
--- reply that could not be written exactly where that of its sink did.
+-- history holds of it; from the place of a line at fault on it gave up no more than the reader of lines reaches. The sink
+-- took the replies as this stop says, each one piece, and they fit how the history says that control ended. No count of
+-- faults fell; control ended by a failed read exactly where that of its source rose, by a reply that could not be written
+-- exactly where that of its sink did.
 pub record IsControlServed {S K C : Type 0} (left : S → Option (List ℕ)) (written : K → Option (List ℕ)) (source_faults : S → ℕ) (sink_faults : K → ℕ) (plan : Plan) (base : Base) (past : List Row) (input : control.Input) (stop : Option ℕ) (old new : Ends S K C) : Type 0 where
   pub used : IsUsed left written old new
   pub gave : IsControlInputOf (left old.source) (left new.source) (control_end past) input.arrivals input.ending
   pub fits : FitsControl AreLines (left old.source) (left new.source) (entered_lines past) (control_end past)
+  pub near : (how : How) (at : ℕ) → control_end past ≡ Some how → IsFaultAt how at → GaveFew (left old.source) (left new.source) (at + longest_reach)
   pub took : TookPieces (written old.sink) (written new.sink) (replies plan base past) stop
   pub fits_out : FitsRepliesAt plan base (written old.sink) (written new.sink) past
   pub source : source_faults old.source ≤ source_faults new.source

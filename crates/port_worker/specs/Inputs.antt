@@ -1,5 +1,5 @@
 -- The input of a port: what is known of it, and what the octets that are left will still give.
-use Rattle.std.specs.Prelude.{◌≡◌, ◌≢◌, ℕ, suc, ◌<◌, ◌≤◌, ◌^◌, List, ◌∷◌, take, Option, Some, None, IfSome}
+use Rattle.std.specs.Prelude.{◌≡◌, ◌≢◌, ℕ, suc, ◌<◌, ◌≤◌, ◌^◌, true, List, ◌∷◌, take, Option, Some, None, IfSome}
 use Rattle.savi_kinds.specs.declared.port.Port.{Port}
 use Rattle.savi_kinds.specs.declared.entry.Who.TheVariants.{Ingress}
 use Rattle.savi_kinds.specs.declared.entry.How.TheVariants as hows
@@ -72,9 +72,9 @@ IsReadAhead ahead.Done = Unit {0}
 -- With these octets left in the source this input comes, what was read of it in front. Behind a read that failed none
 -- comes, whatever is left.
 abbrev pub WillGive : State → List ℕ → Ahead → List ℕ → Input → Type 0
-WillGive state buf ahead.Unread octets input = Comes state octets input
-WillGive state buf (ahead.Frame stamp len) octets input = (later : Input) × (input ≡ with_arrival (arrivals.Frame stamp (take len buf)) later) × Comes state octets later
-WillGive state buf (ahead.Long stamp len) octets input = (later : Input) × (input ≡ with_arrival (arrivals.Long stamp len) later) × Comes state octets later
+WillGive state buf ahead.Unread octets input = Comes state true octets input
+WillGive state buf (ahead.Frame stamp len) octets input = (later : Input) × (input ≡ with_arrival (arrivals.Frame stamp (take len buf)) later) × Comes state true octets later
+WillGive state buf (ahead.Long stamp len) octets input = (later : Input) × (input ≡ with_arrival (arrivals.Long stamp len) later) × Comes state true octets later
 WillGive state buf ahead.End octets input = input ≡ ended hows.End
 WillGive state buf (ahead.Malformed at) octets input = input ≡ ended (hows.Malformed at)
 WillGive state buf ahead.Failed octets input = ⊥

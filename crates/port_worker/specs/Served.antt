@@ -1,6 +1,6 @@
 -- What a replay was to the ends of control and of the ports: one history, and at each port what it says of its ends, before
 -- and after.
-use Rattle.std.specs.Prelude.{◌≡◌, ◌≢◌, ℕ, ◌<◌, ◌≤◌, List, length, slice_index_or, Option, Some}
+use Rattle.std.specs.Prelude.{◌≡◌, ◌≢◌, ℕ, ◌+◌, ◌<◌, ◌≤◌, Bool, true, false, List, length, slice_index_or, Option, Some}
 use Rattle.savi_kinds.specs.declared.plan.Plan.{Plan}
 use Rattle.savi_kinds.specs.declared.entry.How.{How}
 use Rattle.savi_kinds.specs.declared.entry.How.TheVariants as hows
@@ -8,7 +8,7 @@ use Rattle.savi_kinds.specs.Arrivals.{Arrival, Input}
 use Rattle.cli_lang.specs.Arrivals as control
 use Rattle.savi_ends.specs.declared.world.Ends.{Ends}
 use Rattle.savi_ends.specs.Faults.{Rose}
-use Rattle.pcap_io.specs.Readers.{Comes}
+use Rattle.pcap_io.specs.Readers.{Comes, longest_record}
 use Rattle.hist_store.specs.Rows.{Row}
 use Rattle.savi_history.specs.Bases.{Base}
 use Rattle.savi_history.specs.Fits.{Fits, IsWhole, IsBroken}
@@ -21,33 +21,35 @@ use Rattle.savi_core.specs.Machines.{port_number_at}
 use Rattle.port_worker.specs.declared.control_ends.ControlEnds.{ControlEnds}
 use Rattle.port_worker.specs.declared.port_ends.PortEnds.{PortEnds}
 use Rattle.port_worker.specs.ControlServed.{ServesControl}
-use Rattle.port_worker.specs.Used.{IsUsed}
+use Rattle.port_worker.specs.Used.{GaveFew, IsUsed}
 
--- these octets are the input of these arrivals that ends so
-abbrev pub AreInput : (List ℕ → Input → Type 0) → List ℕ → List Arrival → How → Type 0
-AreInput Arrives octets arrivals ending = Arrives octets (record { arrivals = arrivals; ending = ending })
+-- these octets are the input of these arrivals that ends so, where it was seen to end or not
+abbrev pub AreInput : (Bool → List ℕ → Input → Type 0) → Bool → List ℕ → List Arrival → How → Type 0
+AreInput Arrives seen octets arrivals ending = Arrives seen octets (record { arrivals = arrivals; ending = ending })
 
 -- What the octets of a port's source are to its input, by how the input ends; `ended_so` is how it ended in the history.
 -- At its end or at a place at fault: they are all that the source had left, read to the end or not. At a read that failed:
--- the history says so, and they are what the source gave up, with no whole arrival behind the input's. The input of a
--- capture ends in no other way.
-abbrev pub IsInputOf : (List ℕ → Input → Type 0) → Option (List ℕ) → Option (List ℕ) → Option How → List Arrival → How → Type 0
-IsInputOf Arrives before after ended_so arrivals hows.End = IsWhole (AreInput Arrives) before arrivals hows.End
-IsInputOf Arrives before after ended_so arrivals (hows.Malformed at) = IsWhole (AreInput Arrives) before arrivals (hows.Malformed at)
-IsInputOf Arrives before after ended_so arrivals hows.Failed = (ended_so ≡ Some hows.Failed) × IsBroken (AreInput Arrives) before after arrivals
+-- the history says so, and they are what the source gave up, with no whole arrival behind the input's, nor one at fault.
+-- The input of a capture ends in no other way.
+abbrev pub IsInputOf : (Bool → List ℕ → Input → Type 0) → Option (List ℕ) → Option (List ℕ) → Option How → List Arrival → How → Type 0
+IsInputOf Arrives before after ended_so arrivals hows.End = IsWhole (AreInput Arrives true) before arrivals hows.End
+IsInputOf Arrives before after ended_so arrivals (hows.Malformed at) = IsWhole (AreInput Arrives true) before arrivals (hows.Malformed at)
+IsInputOf Arrives before after ended_so arrivals hows.Failed = (ended_so ≡ Some hows.Failed) × IsBroken (AreInput Arrives false) before after arrivals
 IsInputOf Arrives before after ended_so arrivals hows.Quit = ⊥
 IsInputOf Arrives before after ended_so arrivals (hows.Overlong at) = ⊥
 IsInputOf Arrives before after ended_so arrivals hows.Unwritten = ⊥
 IsInputOf Arrives before after ended_so arrivals (hows.Full len) = ⊥
 
 -- What a history was to the ends of the port of this number. The octets of the source are this input, and what it gave up
--- fits what the history holds of it; the sink took the pieces of the capture of what the history sends there, as this stop
--- says, and they fit how the history says that the output ended. No count of faults fell; an input ended by a failed read
--- exactly where that of its own source rose, an output by a failed write exactly where that of its own sink did.
-pub record IsServed {S K C : Type 0} (left : S → Option (List ℕ)) (written : K → Option (List ℕ)) (source_faults : S → ℕ) (sink_faults : K → ℕ) (Arrives : List ℕ → Input → Type 0) (plan : Plan) (base : Base) (past : List Row) (port : ℕ) (input : Input) (stop : Option ℕ) (old new : Ends S K C) : Type 0 where
+-- fits what the history holds of it; from a place at fault on it gave up no more than one record may have. The sink took the
+-- pieces of the capture of what the history sends there, as this stop says, and they fit how the history says that the
+-- output ended. No count of faults fell; an input ended by a failed read exactly where that of its own source rose, an
+-- output by a failed write exactly where that of its own sink did.
+pub record IsServed {S K C : Type 0} (left : S → Option (List ℕ)) (written : K → Option (List ℕ)) (source_faults : S → ℕ) (sink_faults : K → ℕ) (Arrives : Bool → List ℕ → Input → Type 0) (plan : Plan) (base : Base) (past : List Row) (port : ℕ) (input : Input) (stop : Option ℕ) (old new : Ends S K C) : Type 0 where
   pub used : IsUsed left written old new
   pub gave : IsInputOf Arrives (left old.source) (left new.source) (input_end port past) input.arrivals input.ending
   pub fits : Fits (AreInput Arrives) (left old.source) (left new.source) (arrived port past) (input_end port past)
+  pub near : (at : ℕ) → input_end port past ≡ Some (hows.Malformed at) → GaveFew (left old.source) (left new.source) (at + longest_record)
   pub took : TookPieces (written old.sink) (written new.sink) (pieces (sent plan base port past)) stop
   pub fits_out : FitsOutputAt plan base (written old.sink) (written new.sink) port past
   pub source : source_faults old.source ≤ source_faults new.source

@@ -1,8 +1,12 @@
 -- What became of three ends, as far as they tell.
-use Rattle.std.specs.Prelude.{◌≡◌, ℕ, List, Option}
+use Rattle.std.specs.Prelude.{◌≡◌, ℕ, ◌≤◌, List, length, Option}
 use Rattle.savi_ends.specs.declared.world.Ends.{Ends}
 use Rattle.savi_ends.specs.Octets.{Takes}
 use Rattle.port_worker.specs.SentFrames.{TookMore}
+
+-- a source gave up at most so many octets
+abbrev pub GaveFew : Option (List ℕ) → Option (List ℕ) → ℕ → Type 0
+GaveFew before after most = (octets : List ℕ) × Takes before after octets × (length octets ≤ most)
 
 -- The ends of a port or of control, before and after: the source gave up octets from its front, the sink took octets behind
 -- what it held, and the clock wasn't read.

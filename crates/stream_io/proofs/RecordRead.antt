@@ -9,7 +9,7 @@ use Rattle.stream_io.specs.declared.reader.State.{State as Kept}
 use Rattle.stream_io.specs.declared.reader.State.TheVariants as kept
 use Rattle.stream_io.specs.Records.{length_in, IsRecordOf}
 use Rattle.stream_io.specs.Streams.{IsAtFault, IsCut, IsRun}
-use Rattle.stream_io.specs.Readers.{State, Running, Ended, Comes, HasRead, HasReadOne, HasEnded, DecideRecord, ended}
+use Rattle.stream_io.specs.Readers.{State, Running, Ended, Comes, HasRead, HasReadOne, HasEnded, DecideRecord, ended, longest_reach}
 use Rattle.stream_io.specs.ReaderStates.{state_of}
 use Rattle.stream_io.specs.Takings.{TakesWhole}
 
@@ -47,6 +47,7 @@ read_one place len held gave later buf a old is whole of =
       running = refl;
       some = omega arith;
       placed = whole.placed;
+      all = omega (arith, size, ap length whole.split, length-append held gave, length-append whole.first later);
     })
 
 pub frame_read : (place len stamp : ℕ) (held gave later buf : List ℕ) (old : State) → Running place held ≡ old → TakesWhole place len (held ++ gave) later buf → len ≤ 1518 → HasReadOne old (Running (place + (4 + len)) later) gave (Frame stamp (take len buf))
@@ -65,7 +66,7 @@ long_read place len stamp held gave later buf old is whole long =
 
 pub end_read : (place : ℕ) (held gave : List ℕ) (left : Option (List ℕ)) (old : State) → Running place held ≡ old → held ++ gave ≡ [] → NothingLeft left → HasEnded old (Ended how.End) gave left how.End
 end_read place held gave left old is none nothing =
-    subst (λ (s : State). HasEnded s (Ended how.End) gave left how.End) is (refl, inr (nothing, (refl, none)))
+    subst (λ (s : State). HasEnded s (Ended how.End) gave left how.End) is (refl, inr (nothing, (refl, none)), λ at same. cc)
 
 -- a record at fault is so whatever stands behind what was taken
 pub fault_behind : (place : ℕ) (octets rest : List ℕ) → IsAtFault place octets → IsAtFault place (octets ++ rest)
@@ -76,14 +77,15 @@ fault_behind place octets rest at_fault =
       fault = elim at_fault.fault [ inl long ↦ inl (omega (arith, long, same)) | inr past ↦ inr (omega (arith, past, same)) ];
     }
 
-pub malformed_read : (place : ℕ) (held gave : List ℕ) (left : Option (List ℕ)) (old : State) → Running place held ≡ old → IsAtFault place (held ++ gave) ⊎ ((held ++ gave ≢ []) × IsCut (held ++ gave) × NothingLeft left) → HasEnded old (Ended (how.Malformed place)) gave left (how.Malformed place)
-malformed_read place held gave left old is why =
+pub malformed_read : (place : ℕ) (held gave : List ℕ) (left : Option (List ℕ)) (old : State) → Running place held ≡ old → IsAtFault place (held ++ gave) ⊎ ((held ++ gave ≢ []) × IsCut (held ++ gave) × NothingLeft left) → length (held ++ gave) ≤ longest_reach → HasEnded old (Ended (how.Malformed place)) gave left (how.Malformed place)
+malformed_read place held gave left old is why few =
     subst (λ (s : State). HasEnded s (Ended (how.Malformed place)) gave left (how.Malformed place)) is (
       refl,
       elim why [
         | inl at_fault ↦ inl (λ seen rest. (refl, inl (subst (λ (l : List ℕ). IsAtFault place l) (append_assoc held gave rest) (fault_behind place (held ++ gave) rest at_fault))))
         | inr cut ↦ inr (cut.2, (refl, inr (refl, cut.0, cut.1)))
       ],
+      λ at same. let e : place ≡ at = cc in omega (arith, few, length-append held gave, e),
     )
 
 pub failed_read : (place : ℕ) (held gave : List ℕ) (old : State) → Running place held ≡ old → IsCut (held ++ gave) → (IsAtFault place (held ++ gave) → ⊥) → Comes false old gave (ended how.Failed)

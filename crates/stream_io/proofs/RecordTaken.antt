@@ -5,6 +5,7 @@ use Rattle.std.proofs.Math.Seq.{drop-append_seam}
 use Rattle.std.specs.Int.{w32, from_be_bytes}
 use Rattle.stream_io.specs.Records.{length_in}
 use Rattle.stream_io.specs.Streams.{IsAtFault, IsCut}
+use Rattle.stream_io.specs.Readers.{longest_record}
 use Rattle.stream_io.specs.Takings.{TakesWhole}
 use Rattle.stream_io.proofs.AheadHeld.{used_more}
 
@@ -58,3 +59,8 @@ sound_behind place len front body size counted bounded placed at_fault =
 pub sound_taken : (place len : ℕ) (initial gave front held more : List ℕ) → length front ≡ 4 → len ≡ from_be_bytes w32 front → initial ++ gave ≡ front ++ held → len ≤ 262144 → place + (4 + len) ≤ 2 ^ 62 → IsAtFault place (initial ++ (gave ++ more)) → ⊥
 sound_taken place len initial gave front held more size counted was bounded placed at_fault =
     sound_behind place len front (held ++ more) size counted bounded placed (subst (λ (l : List ℕ). IsAtFault place l) (split_all initial gave front held more was) at_fault)
+
+-- a record that is cut short is shorter than the longest one
+pub few_taken : (initial gave front held more : List ℕ) (len rest : ℕ) → length front ≡ 4 → initial ++ gave ≡ front ++ held → length (held ++ more) < len → len ≤ 262144 → length (initial ++ (gave ++ more)) ≤ longest_record + rest
+few_taken initial gave front held more len rest size was short bounded =
+    omega (arith, ap length (split_all initial gave front held more was), length-append front (held ++ more), size, short, bounded)

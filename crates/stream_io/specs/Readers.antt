@@ -30,6 +30,23 @@ abbrev pub record_place : State → ℕ
 record_place (Running place held) = place
 record_place (Ended ending) = 0
 
+-- how many octets were taken so far
+abbrev pub octets_taken : State → ℕ
+octets_taken (Running place held) = place + length held
+octets_taken (Ended ending) = 0
+
+-- the octets of the longest record: its length, and what that may count
+abbrev pub longest_record : ℕ
+longest_record = 4 + 262144
+
+-- the most octets that are taken from a source at once
+abbrev pub longest_piece : ℕ
+longest_piece = 4096
+
+-- the most octets that are taken from the front of a record on, before it is known how that record is
+abbrev pub longest_reach : ℕ
+longest_reach = longest_record + longest_piece
+
 -- the state holds no place past 2^62
 abbrev pub IsPlaced : State → Type 0
 IsPlaced state = record_place state ≤ 2 ^ 62
@@ -50,13 +67,16 @@ pub record HasReadOne (old new : State) (gave : List ℕ) (arrival : Arrival) : 
   pub running : new ≡ Running (record_place old + size) held
   pub some : 4 ≤ size
   pub placed : record_place old + size ≤ 2 ^ 62
+  pub all : octets_taken new ≡ octets_taken old + length gave
 
--- The input ends so, whatever is left behind what was taken; or since nothing is left.
+-- The input ends so, whatever is left behind what was taken; or since nothing is left. From a place at fault on no more was
+-- taken than the longest record and one piece have.
 abbrev pub HasEnded : State → State → List ℕ → Option (List ℕ) → How → Type 0
 HasEnded old new gave left ending =
     (new ≡ Ended ending)
     × (((seen : Bool) (rest : List ℕ) → Comes seen old (gave ++ rest) (ended ending))
     ⊎ (NothingLeft left × Comes true old gave (ended ending)))
+    × ((at : ℕ) → ending ≡ how.Malformed at → octets_taken old + length gave ≤ at + longest_reach)
 
 -- What an answer says of the octets that were taken for it, of the buffer, and of what is left.
 abbrev pub Answers : State → State → List ℕ → List ℕ → Option (List ℕ) → Next → Type 0

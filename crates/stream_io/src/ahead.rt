@@ -1,6 +1,7 @@
 ghost use Rattle.std.specs.Prelude.{◌≡◌, ◌≢◌, ◌≤◌, ℕ, List, [], ◌++◌, length, take, drop, min};
 ghost use Rattle.savi_ends.specs.Octets.{Takes};
 ghost use Rattle.savi_ends.specs.Faults.{Rose};
+ghost use Rattle.stream_io.specs.Readers.{longest_piece};
 ghost use Rattle.stream_io.specs.Takings.{HoldsAhead, FillsFrom, PassesOver};
 
 use savi_ends::{Filled, Got, Source};
@@ -36,6 +37,14 @@ impl Ahead {
             at: 0,
             end: 0,
         }
+    }
+
+    /// How many octets are held: no more than are taken from a source at once.
+    pub fn held(&self) -> usize
+        ensures count { result ≡ length self.now }
+        ensures few { result ≤ longest_piece }
+    {
+        self.end - self.at
     }
 
     /// Fills a buffer, and reads the source only where no octet is held. O(n) in the octets of the buffer.

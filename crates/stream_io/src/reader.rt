@@ -73,6 +73,7 @@ impl StreamReader {
         ensures later { S.faults source.old ≤ S.faults source.new }
         ensures cause { result ≡ Next.Failed → self.old ≢ Ended how.Failed → Rose (S.faults source.old) (S.faults source.new) }
         ensures still { result ≢ Next.Failed → S.faults source.new ≡ S.faults source.old }
+        ensures kept { result ≡ Next.End → buf.new ≡ buf.old }
 
         // There are octets that the source gave in this call, and the answer is what they are behind those that were held.
         ensures octets { (gave : List ℕ) × Takes (S.left source.old) (S.left source.new) gave × Answers self.old self.new gave buf.new (S.left source.new) result }
@@ -106,6 +107,7 @@ impl StreamReader {
         ensures later { S.faults source.old ≤ S.faults source.new }
         ensures cause { result ≡ Next.Failed → Rose (S.faults source.old) (S.faults source.new) }
         ensures still { result ≢ Next.Failed → S.faults source.new ≡ S.faults source.old }
+        ensures kept { result ≡ Next.End → buf.new ≡ buf.old }
         ensures octets { (gave : List ℕ) × Takes (S.left source.old) (S.left source.new) gave × Answers self.old self.new gave buf.new (S.left source.new) result }
         ensures unread { (at : ℕ) (held : List ℕ) → self.old ≡ Running at held → DecideRecord at held → source.new ≡ source.old }
         ensures stamps { Stamps C.readings clock.old clock.new result }
@@ -127,6 +129,8 @@ impl StreamReader {
                 Next::End
             }
             Taken::Malformed => {
+                // for the contract: no more is held than one piece
+                self.ahead.held();
                 self.state = State::Malformed { at: place };
                 Next::Malformed { at: place }
             }

@@ -22,6 +22,7 @@ returns-clause-ends g c plan base before now old new legal goes_on row =
       sink = row.sink;
       broken = λ failed. row.broken (ended ∙ failed);
       still = λ other. row.still (λ failed. other (sym ended ∙ failed));
+      near = λ how at is. row.near how at (ended ∙ is);
       unwritten = λ failed. row.unwritten (ended ∙ failed);
       still_out = λ other. row.still_out (λ failed. other (sym ended ∙ failed));
     }

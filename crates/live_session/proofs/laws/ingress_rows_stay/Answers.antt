@@ -13,6 +13,7 @@ returns g c plan base format port before now old new clock later legal goes_on r
       gave = row.gave;
       fits = subst (λ (x : List Arrival × Option How). FitsInput format (g.S.Source.left old) (g.S.Source.left new) x.0 x.1) (λ i. (arrivals i, ended i)) row.fits;
       stamped = subst (λ (x : List Arrival × Option How). AreStamped format (g.C.Clock.readings clock) (g.C.Clock.readings later) x.0 x.1) (λ i. (arrivals i, ended i)) row.stamped;
+      near = λ at is. row.near at (ended ∙ is);
       later = row.later;
       broken = λ failed. row.broken (ended ∙ failed);
       still = λ other. row.still (λ failed. other (sym ended ∙ failed));

@@ -11,7 +11,7 @@ pub returns-in-Failed-clause-octets : goal.returns-in-Failed-clause-octets
 returns-in-Failed-clause-octets g c =
     let took = c.in-Failed.ensures.octets in
     let room : length c.fill.new.buf ≡ 16 = grind (arith, common_steps, c.fill.auto.buf) in
-    (took.0, took.1, failed_cut c.args.kind c.args.place took.0 (omega (arith, took.2.0)))
+    (took.0, took.1, failed_cut c.args.kind c.args.place took.0 (omega (arith, took.2.0)) (λ at_fault. absurd (omega (arith, room, took.2.0, at_fault.counted))))
 
 pub returns-then-len-gt-CAPTURED_OCTETS_MOST-clause-octets :
     goal.returns-then-len-gt-CAPTURED_OCTETS_MOST-clause-octets
@@ -52,7 +52,7 @@ returns-in-Short-pass_over-clause-octets g c =
     let body = c.in-Short-pass_over.ensures.octets in (
       front ++ body.0,
       takes_more front body.0 _ _ _ first body.1,
-      ended_in_body c.args.kind c.args.place c.number_at-len.result front body.0 (g.S.Source.left c.pass_over.new.source) room body.2.0 c.number_at-len.ensures body.2.1,
+      ended_in_body c.args.kind c.args.place c.number_at-len.result front body.0 (g.S.Source.left c.pass_over.new.source) room body.2.0 c.number_at-len.ensures (omega arith) body.2.1,
     )
 
 pub returns-in-Failed-pass_over-clause-octets : goal.returns-in-Failed-pass_over-clause-octets
@@ -64,7 +64,7 @@ returns-in-Failed-pass_over-clause-octets g c =
     let body = c.in-Failed-pass_over.ensures.octets in (
       front ++ body.0,
       takes_more front body.0 _ _ _ first body.1,
-      failed_in_body c.args.kind c.args.place c.number_at-len.result front body.0 room body.2 c.number_at-len.ensures,
+      failed_in_body c.args.kind c.args.place c.number_at-len.result front body.0 room body.2 c.number_at-len.ensures (omega arith) (omega arith),
     )
 
 pub returns-in-Whole-fill-clause-octets : goal.returns-in-Whole-fill-clause-octets
@@ -94,7 +94,7 @@ returns-in-Short-fill-clause-octets g c =
     let short : length body.0 < c.number_at-len.result = omega (arith, piece, body.2.0, ap length body.2.1, length-take c.in-Short-fill.field-0 c.fill-2.new.buf) in (
       front ++ body.0,
       takes_more front body.0 _ _ _ first body.1,
-      ended_in_body c.args.kind c.args.place c.number_at-len.result front body.0 (g.S.Source.left c.fill-2.new.source) room short c.number_at-len.ensures body.2.2,
+      ended_in_body c.args.kind c.args.place c.number_at-len.result front body.0 (g.S.Source.left c.fill-2.new.source) room short c.number_at-len.ensures (omega arith) body.2.2,
     )
 
 pub returns-in-Failed-fill-clause-octets : goal.returns-in-Failed-fill-clause-octets
@@ -107,5 +107,5 @@ returns-in-Failed-fill-clause-octets g c =
     let piece : length c.fill-2.new.buf ≡ c.number_at-len.result = omega (arith, c.fill-2.auto.buf, length-take c.number_at-len.result c.args.buf.now) in (
       front ++ body.0,
       takes_more front body.0 _ _ _ first body.1,
-      failed_in_body c.args.kind c.args.place c.number_at-len.result front body.0 room (omega (arith, piece, body.2.0)) c.number_at-len.ensures,
+      failed_in_body c.args.kind c.args.place c.number_at-len.result front body.0 room (omega (arith, piece, body.2.0)) c.number_at-len.ensures (omega arith) (omega arith),
     )

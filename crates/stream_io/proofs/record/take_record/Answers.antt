@@ -1,7 +1,7 @@
 use Rattle.std.proofs.Common.{◌≡◌, ◌+◌, ◌^◌, ◌≤◌, ◌++◌, length, inr, arith}
 use Rattle.std.proofs.lemmas.Grind.{common_steps}
 use Rattle.savi_ends.proofs.Octets.{takes_more}
-use Rattle.stream_io.proofs.RecordTaken.{whole_taken, cut_taken, some_taken, sound_taken}
+use Rattle.stream_io.proofs.RecordTaken.{whole_taken, cut_taken, few_taken, some_taken, sound_taken}
 use Rattle.stream_io.proofs.record.take_record.Goals as goal
 
 pub returns-in-Whole-take_body-clause-octets : goal.returns-in-Whole-take_body-clause-octets
@@ -26,10 +26,13 @@ returns-in-Short-take_body-clause-octets g c =
     let rest = c.in-Short-take_body.ensures.octets in (
       took.0 ++ rest.0,
       takes_more took.0 rest.0 _ _ _ took.1 rest.1,
-      inr (
-        some_taken c.args.ahead.now took.0 front c.fill.new.self rest.0 size took.2,
-        cut_taken c.args.ahead.now took.0 front c.fill.new.self rest.0 c.from_be_bytes-len.result size c.from_be_bytes-len.ensures took.2 rest.2.0,
-        rest.2.1,
+      (
+        inr (
+          some_taken c.args.ahead.now took.0 front c.fill.new.self rest.0 size took.2,
+          cut_taken c.args.ahead.now took.0 front c.fill.new.self rest.0 c.from_be_bytes-len.result size c.from_be_bytes-len.ensures took.2 rest.2.0,
+          rest.2.1,
+        ),
+        few_taken c.args.ahead.now took.0 front c.fill.new.self rest.0 c.from_be_bytes-len.result (length c.take_body.new.ahead) size took.2 rest.2.0 (omega arith),
       ),
     )
 

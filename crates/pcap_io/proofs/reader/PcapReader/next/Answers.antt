@@ -22,7 +22,7 @@ returns-in-Of-clause-octets g c =
     )
 
 failed_again : (state : State) → Ended how.Failed ≡ state → HasFailed state state []
-failed_again state is = subst (λ (s : State). HasFailed s s []) is (record { state = refl; taken = (how.Failed, refl) })
+failed_again state is = subst (λ (s : State). HasFailed s s []) is (record { state = refl; taken = refl })
 
 pub returns-in-Failed-clause-octets : goal.returns-in-Failed-clause-octets
 returns-in-Failed-clause-octets g c =

@@ -1,4 +1,4 @@
-use Rattle.std.proofs.Common.{ℕ, ◌≡◌, ◌+◌, take, refl, subst, sym, ap}
+use Rattle.std.proofs.Common.{ℕ, ◌≡◌, ◌+◌, take, refl, subst, sym, ap, arith}
 use Rattle.savi_kinds.specs.declared.arrival.Next.{Next}
 use Rattle.stream_io.specs.Readers.{State, Running, Answers, HasReadOne}
 use Rattle.savi_kinds.specs.Arrivals.{Frame, Long}
@@ -39,7 +39,7 @@ pub returns-in-Malformed-clause-octets : goal.returns-in-Malformed-clause-octets
 returns-in-Malformed-clause-octets g c =
     let is = running_is c.self.inside.state c.self.inside.ahead c.requires.running.0 c.args.place c.args.self.now c.self.view_is c.requires.running.1 in
     let took = c.in-Malformed.ensures.octets in
-    (took.0, took.1, malformed_read c.args.place c.self.inside.ahead took.0 (g.S.Source.left c.take_record.new.source) c.args.self.now is took.2)
+    (took.0, took.1, malformed_read c.args.place c.self.inside.ahead took.0 (g.S.Source.left c.take_record.new.source) c.args.self.now is took.2.0 (omega (arith, took.2.1, c.held.ensures.count, c.held.ensures.few)))
 
 pub returns-in-Malformed-clause-unread : goal.returns-in-Malformed-clause-unread
 returns-in-Malformed-clause-unread g c =
