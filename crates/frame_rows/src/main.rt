@@ -17,8 +17,6 @@ mod probe_write_rows;
 #[cfg(test)]
 mod ra_guard_rows;
 #[cfg(test)]
-mod ra_learn_rows;
-#[cfg(test)]
 mod v6_chain_rows;
 #[cfg(test)]
 mod v6_sum_rows;

@@ -87,7 +87,7 @@ no_frames (Frame interface stamp octets ∷ events) t i d within =
 no_frames (Long interface ∷ events) t i d within =
     no_frames events (tallied t (Long interface)) i (subst (λ (n : ℕ). Declared n events) (sym (long_count t interface)) d.1) within
 
-each_more : {K : Type 0} (R : Output K → Output K → Type 0) (old new : List (Output K)) (o n : Output K) → EachOutput R old new → R o n → EachOutput R (old ++ o ∷ []) (new ++ n ∷ [])
+pub each_more : {K : Type 0} (R : Output K → Output K → Type 0) (old new : List (Output K)) (o n : Output K) → EachOutput R old new → R o n → EachOutput R (old ++ o ∷ []) (new ++ n ∷ [])
 each_more {K} R old new o n each one = (
   omega (arith, each.0, length-append old (o ∷ []), length-append new (n ∷ [])),
   λ k d within. by k d within (cases_lt k (length old)),
@@ -103,16 +103,16 @@ each_more {K} R old new o n each one = (
         subst (λ (x : Output K). R x (get_or (new ++ n ∷ []) k d)) (sym (ap (λ (j : ℕ). get_or (old ++ o ∷ []) j d) at ∙ get_or-append_seam old o [] d))
         (subst (λ (x : Output K). R o x) (sym (ap (λ (j : ℕ). get_or (new ++ n ∷ []) j d) at_new ∙ get_or-append_seam new n [] d)) one)
 
-interfaces_more : {K : Type 0} (outputs : List (Output K)) (o : Output K) → interfaces_of (outputs ++ o ∷ []) ≡ interfaces_of outputs ++ o.interface ∷ []
+pub interfaces_more : {K : Type 0} (outputs : List (Output K)) (o : Output K) → interfaces_of (outputs ++ o ∷ []) ≡ interfaces_of outputs ++ o.interface ∷ []
 interfaces_more [] o = refl
 interfaces_more (x ∷ outputs) o = ap (λ (l : List ℕ). x.interface ∷ l) (interfaces_more outputs o)
 
-split_more : (k : ℕ) (a b : List Event) → split_text k a ++ records_text (frames_of k b) ≡ split_text k (a ++ b)
+pub split_more : (k : ℕ) (a b : List Event) → split_text k a ++ records_text (frames_of k b) ≡ split_text k (a ++ b)
 split_more k a b =
     append_assoc header_text (records_text (frames_of k a)) (records_text (frames_of k b))
     ∙ ap (λ (l : List ℕ). header_text ++ l) (sym (sent_more (frames_of k a) (frames_of k b)) ∙ ap (λ (l : List Sent). records_text l) (sym (frames_more k a b)))
 
-capture_more : {K : Type 0} (written : K → Option (List ℕ)) (faults : K → ℕ) (a b : List Event) (o m n : Output K) → HasCapture written a o m → HasTaken written faults b m n → HasCapture written (a ++ b) o n
+pub capture_more : {K : Type 0} (written : K → Option (List ℕ)) (faults : K → ℕ) (a b : List Event) (o m n : Output K) → HasCapture written a o m → HasTaken written faults b m n → HasCapture written (a ++ b) o n
 capture_more written faults a b o m n first second = record {
   same = second.same ∙ first.same;
   text = second.text
@@ -122,7 +122,7 @@ capture_more written faults a b o m n first second = record {
       ∙ ap (behind (written o.sink)) (split_more o.interface a b);
 }
 
-each_capture : {K : Type 0} (written : K → Option (List ℕ)) (faults : K → ℕ) (a b : List Event) (old mid new : List (Output K)) → EachOutput (HasCapture written a) old mid → EachOutput (HasTaken written faults b) mid new → EachOutput (HasCapture written (a ++ b)) old new
+pub each_capture : {K : Type 0} (written : K → Option (List ℕ)) (faults : K → ℕ) (a b : List Event) (old mid new : List (Output K)) → EachOutput (HasCapture written a) old mid → EachOutput (HasTaken written faults b) mid new → EachOutput (HasCapture written (a ++ b)) old new
 each_capture written faults a b old mid new first second = (
   second.0 ∙ first.0,
   λ k d within. capture_more written faults a b (get_or old k d) (get_or mid k d) (get_or new k d) (first.1 k d within) (second.1 k d (omega (arith, within, first.0))),
@@ -132,7 +132,7 @@ pub split_start : {K : Type 0} (written : K → Option (List ℕ)) → IsSplit w
 split_start written = record { read = has_read_none (Reading at_start); counted_is = refl; captures = (refl, λ k d within. absurd (omega (arith, within))) }
 
 -- what the counts are behind one call more
-count_more : {K : Type 0} (written : K → Option (List ℕ)) (state : State) (counts : Counts) (handed now : List (Output K)) (gave : List ℕ) (events later : List Event) → IsSplit written state counts handed now gave events → tally (tally_of counts (interfaces_of now)) later ≡ tally no_tally (events ++ later)
+pub count_more : {K : Type 0} (written : K → Option (List ℕ)) (state : State) (counts : Counts) (handed now : List (Output K)) (gave : List ℕ) (events later : List Event) → IsSplit written state counts handed now gave events → tally (tally_of counts (interfaces_of now)) later ≡ tally no_tally (events ++ later)
 count_more written state counts handed now gave events later was =
     let stay = same_interfaces handed now was.captures.0 (λ k d within. (was.captures.1 k d within).same) in
     ap (λ (l : List ℕ). tally (tally_of counts l) later) stay ∙ ap (λ (t : Tally). tally t later) was.counted_is ∙ sym (tally_more events later no_tally)

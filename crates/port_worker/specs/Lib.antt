@@ -1,5 +1,6 @@
 pub mod Pairs
 pub mod Inputs
+pub mod PortTurns
 pub mod LineInputs
 pub mod Steps
 pub mod SentFrames

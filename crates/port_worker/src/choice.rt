@@ -11,7 +11,7 @@ use crate::port_ends::PortEnds;
 
 /// The place of the input whose turn comes first, of equals the first one, or None where no turn is known. Control has the
 /// first place, with or without ends, and behind it the ports have theirs.
-pub(crate) fn next_of<S, K, C>(
+pub fn next_of<S, K, C>(
     control: &Option<ControlEnds<S, K, C>>,
     ports: &[PortEnds<S, K, C>],
 ) -> Option<usize>

@@ -5,6 +5,9 @@
 //! ends of control, the lines of its input stand in that history, and each is answered. Its contract says so of the octets
 //! that the sources tell and of those that the sinks hold, also where reads or writes fail (`specs/Served.antt`,
 //! `specs/ControlServed.antt`). `replay_session` takes the memory for it and makes the switch.
+//!
+//! The order of a replay is there for others too, who keep no history: `look_all` reads ahead, `next_of` says whose turn it
+//! is, `PortEnds::turn` tells that turn and `PortEnds::pass` goes on behind it.
 #![tactic(auto)]
 
 mod choice;
@@ -15,7 +18,9 @@ mod port_ends;
 mod session;
 mod turns;
 
+pub use choice::next_of;
 pub use control_ends::ControlEnds;
-pub use port_ends::PortEnds;
+pub use looking::look_all;
+pub use port_ends::{PortEnds, PortTurn};
 pub use session::{Closed, Ready, replay_session};
 pub use turns::replay;

@@ -10,7 +10,7 @@ use crate::port_ends::PortEnds;
 use savi_ends::{Clock, Source};
 
 /// Reads the next input of each port where it isn't known, in order.
-pub(crate) fn look_all<S: Source, K, C: Clock>(ports: &mut [PortEnds<S, K, C>])
+pub fn look_all<S: Source, K, C: Clock>(ports: &mut [PortEnds<S, K, C>])
     requires { All (λ p. IsSoundAhead p.reader p.ahead) ports.old }
     ensures looked { EachPair (IsLooked S.left S.faults) ports.old ports.new }
     ensures known { All (λ p. IsReadAhead p.ahead) ports.new }

@@ -37,8 +37,20 @@ enum Ahead {
     Done,
 }
 
+/// The turn of a port: what comes next of its input.
+#[derive(Clone, Copy)]
+pub enum PortTurn<'a> {
+    /// A frame of at most 1,518 octets, with its stamp (ms).
+    Frame { stamp: u64, octets: &'a [u8] },
+    /// A longer frame, whose octets aren't kept.
+    Long { stamp: u64, len: u32 },
+    /// The end of the input.
+    Ends(How),
+}
+
 impl<S, K, C> PortEnds<S, K, C> {
-    ghost use Rattle.port_worker.specs.Inputs.{turn_moment, IsReadable};
+    ghost use Rattle.port_worker.specs.Inputs.{turn_moment, turn_of, IsReadable, IsSoundAhead};
+    ghost use Rattle.port_worker.specs.PortTurns.{ahead_passed, turn_told, IsShortTurn};
     ghost use Rattle.port_worker.specs.Replays.{IsUnread};
 
     /// The ends of a port, of which nothing was read yet, and the reader of its input.
@@ -84,6 +96,39 @@ impl<S, K, C> PortEnds<S, K, C> {
             }
             Ahead::End | Ahead::Malformed { at: _ } | Ahead::Failed => Some(0),
         }
+    }
+
+    /// The turn that was read, for one that keeps no history.
+    pub fn turn(&self) -> PortTurn<'_>
+        requires known { IsSome (turn_of self.now) }
+        requires sound { IsSoundAhead self.now.reader self.now.ahead }
+        ensures turn { turn_of self.now ≡ Some (turn_told self.now.port result) }
+        ensures short { IsShortTurn result }
+    {
+        match self.ahead {
+            Ahead::Frame { stamp, len } => PortTurn::Frame {
+                stamp,
+                octets: &self.buf[..len as usize],
+            },
+            Ahead::Long { stamp, len } => PortTurn::Long { stamp, len },
+            Ahead::End => PortTurn::Ends(How::End),
+            Ahead::Malformed { at } => PortTurn::Ends(How::Malformed(at)),
+            Ahead::Failed => PortTurn::Ends(How::Failed),
+            Ahead::Unread | Ahead::Done => unreachable!(),
+        }
+    }
+
+    /// Goes on behind the turn that was read: behind an arrival what comes next isn't known, and behind the end nothing
+    /// comes.
+    pub fn pass(&mut self)
+        ensures ahead { self.new.ahead ≡ ahead_passed self.old.ahead }
+        ensures rest { self.new ≡ record self.old { ahead = self.new.ahead } }
+    {
+        self.ahead = match self.ahead {
+            Ahead::Unread | Ahead::Frame { stamp: _, len: _ } | Ahead::Long { stamp: _, len: _ } =>
+                Ahead::Unread,
+            Ahead::End | Ahead::Malformed { at: _ } | Ahead::Failed | Ahead::Done => Ahead::Done,
+        };
     }
 }
 

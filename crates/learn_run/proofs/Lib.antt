@@ -1,0 +1,5 @@
+pub mod Taking
+pub mod Telling
+pub mod Measuring
+pub mod Hearing
+pub mod Running

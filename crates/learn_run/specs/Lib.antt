@@ -1,0 +1,4 @@
+pub mod Turns
+pub mod Begun
+pub mod TakenTurns
+pub mod Learning

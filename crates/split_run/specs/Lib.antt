@@ -1,0 +1,4 @@
+pub mod Names
+pub mod CountsLines
+pub mod Runs
+pub mod Steps

@@ -1,0 +1,107 @@
+-- What a run has done with a capture that was to be split: which outputs it opened, and what each of them holds.
+use Rattle.std.specs.Prelude.{◌≡◌, ◌≢◌, ◌<◌, ◌≤◌, ℕ, List, ◌∷◌, [], ◌++◌, Option, Some, IfSome, IsSomeAnd, All}
+use Rattle.savi_kinds.specs.declared.entry.How.{How}
+use Rattle.savi_kinds.specs.declared.entry.How.TheVariants as how
+use Rattle.savi_ends.specs.Faults.{Rose}
+use Rattle.savi_ends.specs.Octets.{behind, IsFront, Takes}
+use Rattle.savi_ends.specs.Places.{Place, Book, OthersStay}
+use Rattle.pcapng_io.specs.Runs.{Event, Input, Arrive}
+use Rattle.pcap_split.specs.declared.counts.Counts.{Counts}
+use Rattle.pcap_split.specs.Counts.{tally_of}
+use Rattle.pcap_split.specs.Splits.{split_text, no_tally, tally}
+use Rattle.split_run.specs.declared.outcome.Outcome.{Outcome}
+use Rattle.split_run.specs.declared.outcome.Outcome.TheVariants as outcome
+use Rattle.split_run.specs.Names.{output_name}
+
+-- The end that was handed out of a place is the one that is told there, where one is; one is kept there again, and this
+-- holds of both.
+pub record Keeps {X : Type 0} (Holds : X → X → Type 0) (old new : Place X) : Type 0 where
+  pub handed : X
+  pub back : X
+  pub told : IfSome old.stands (λ told. handed ≡ told)
+  pub kept : new.stands ≡ Some back
+  pub holds : Holds handed back
+
+-- the text of a capture is one for which this holds, where the world tells it
+abbrev pub OfTold : {S : Type 0} → (S → Option (List ℕ)) → Place S → (List ℕ → Type 0) → Type 0
+OfTold left capture Holds = IfSome capture.stands (λ told. IfSome (left told) Holds)
+
+-- the end that is kept in a place has a fault; it had none when it was handed out
+abbrev pub IsFaulty : {X : Type 0} → (X → ℕ) → Place X → Type 0
+IsFaulty faults place = IsSomeAnd place.stands (λ x. 0 < faults x)
+
+-- a sink took these octets
+abbrev pub AddedAll : {K : Type 0} → (K → Option (List ℕ)) → List ℕ → K → K → Type 0
+AddedAll written octets old new = written new ≡ behind (written old) octets
+
+-- a sink took a front of these octets, perhaps none or all
+abbrev pub AddedSome : {K : Type 0} → (K → Option (List ℕ)) → List ℕ → K → K → Type 0
+AddedSome written octets old new = (front : List ℕ) × IsFront front octets × (written new ≡ behind (written old) front)
+
+-- a source gave some octets
+abbrev pub GaveSome : {S : Type 0} → (S → Option (List ℕ)) → S → S → Type 0
+GaveSome left old new = (gave : List ℕ) × Takes (left old) (left new) gave
+
+-- The text of a capture tells these events first.
+abbrev pub TellsFirst : List Event → List ℕ → Type 0
+TellsFirst events text = (input : Input) → Arrive text input → (later : List Event) × (input.events ≡ events ++ later)
+
+-- the outputs of these interfaces were opened and are kept; in each of them this holds of the octets that are the classic
+-- capture of its interface; and no other output was touched
+pub record AreCaptures {K : Type 0} (Holds : List ℕ → K → K → Type 0) (file : List ℕ) (opened : List ℕ) (events : List Event) (old new : List ℕ → Place K) : Type 0 where
+  pub captures : All (λ k. Keeps (Holds (split_text k events)) (old (output_name file k)) (new (output_name file k))) opened
+  pub others : (name : List ℕ) → All (λ k. output_name file k ≢ name) opened → new name ≡ old name
+
+-- The capture tells these events and ends so, where it tells its text. They are counted; each interface that has a capture
+-- of its own has an output, which took the whole of it.
+pub record IsSplitToEnd {S K : Type 0} (left : S → Option (List ℕ)) (written : K → Option (List ℕ)) (file : List ℕ) (counts : Counts) (ending : How) (capture : Place S) (old new : List ℕ → Place K) : Type 0 where
+  pub events : List Event
+  pub tells : OfTold left capture (λ text. Arrive text (record { events = events; ending = ending }))
+  pub counted_is : tally_of counts (tally no_tally events).split ≡ tally no_tally events
+  pub outputs : AreCaptures (AddedAll written) file (tally no_tally events).split events old new
+
+-- The capture tells these events first, where it tells its text. Some of the interfaces that have a capture of their own by
+-- then, in their order, have an output, which took a front of it.
+pub record IsSplitInPart {S K : Type 0} (left : S → Option (List ℕ)) (written : K → Option (List ℕ)) (file : List ℕ) (capture : Place S) (old new : List ℕ → Place K) : Type 0 where
+  pub events : List Event
+  pub tells : OfTold left capture (TellsFirst events)
+  pub opened : List ℕ
+  pub among : IsFront opened (tally no_tally events).split
+  pub outputs : AreCaptures (AddedSome written) file opened events old new
+
+-- the capture's source was handed out, gave some octets, and is kept again
+abbrev pub KeepsSource : {S : Type 0} → (S → Option (List ℕ)) → (S → ℕ) → Place S → Place S → Type 0
+KeepsSource left faults old new = Keeps (λ handed back. GaveSome left handed back × (faults handed ≤ faults back)) old new
+
+-- the output of an interface from 0 to 15
+abbrev pub IsNamed : Outcome → Type 0
+IsNamed (outcome.Split counts) = Unit {0}
+IsNamed (outcome.Malformed at counts) = Unit {0}
+IsNamed outcome.Unread = Unit {0}
+IsNamed (outcome.Unwritten interface) = interface < 16
+IsNamed (outcome.NoOutput interface) = interface < 16
+IsNamed outcome.NoInput = Unit {0}
+
+-- what came of a capture, and why
+abbrev pub CameTo : {S K C : Type 0} → (S → Option (List ℕ)) → (K → Option (List ℕ)) → (S → ℕ) → (K → ℕ) → List ℕ → Book S K C → Book S K C → Outcome → Type 0
+CameTo left written source_faults sink_faults file old new (outcome.Split counts) =
+    KeepsSource left source_faults (old.inputs file) (new.inputs file) × IsSplitToEnd left written file counts how.End (old.inputs file) old.outputs new.outputs
+CameTo left written source_faults sink_faults file old new (outcome.Malformed at counts) =
+    KeepsSource left source_faults (old.inputs file) (new.inputs file) × IsSplitToEnd left written file counts (how.Malformed at) (old.inputs file) old.outputs new.outputs
+CameTo left written source_faults sink_faults file old new outcome.Unread =
+    KeepsSource left source_faults (old.inputs file) (new.inputs file) × IsSplitInPart left written file (old.inputs file) old.outputs new.outputs
+    × IsFaulty source_faults (new.inputs file)
+CameTo left written source_faults sink_faults file old new (outcome.Unwritten interface) =
+    KeepsSource left source_faults (old.inputs file) (new.inputs file) × IsSplitInPart left written file (old.inputs file) old.outputs new.outputs
+    × IsFaulty sink_faults (new.outputs (output_name file interface))
+CameTo left written source_faults sink_faults file old new (outcome.NoOutput interface) =
+    KeepsSource left source_faults (old.inputs file) (new.inputs file) × IsSplitInPart left written file (old.inputs file) old.outputs new.outputs
+    × Rose old.faults new.faults × (new.outputs (output_name file interface) ≡ old.outputs (output_name file interface))
+CameTo left written source_faults sink_faults file old new outcome.NoInput =
+    Rose old.faults new.faults × (new.inputs file ≡ old.inputs file) × (new.outputs ≡ old.outputs)
+
+-- A run that splits the capture of this name came to this. No other input was touched, nor anything but inputs and outputs.
+pub record IsSplitRun {S K C : Type 0} (left : S → Option (List ℕ)) (written : K → Option (List ℕ)) (source_faults : S → ℕ) (sink_faults : K → ℕ) (file : List ℕ) (old new : Book S K C) (result : Outcome) : Type 0 where
+  pub came : CameTo left written source_faults sink_faults file old new result
+  pub inputs : OthersStay old.inputs new.inputs file
+  pub rest : new ≡ record old { faults = new.faults; inputs = new.inputs; outputs = new.outputs }

@@ -1,0 +1,89 @@
+-- Words of private contracts: what is held while a capture is split.
+use Rattle.std.specs.Prelude.{◌≡◌, ◌≢◌, ◌<◌, ◌≤◌, ℕ, true, List, [], ◌∷◌, ◌++◌, length, slice_index_or, Option, Some, None, IfSome, All, AllPairs}
+use Rattle.savi_kinds.specs.declared.entry.How.{How}
+use Rattle.savi_kinds.specs.declared.entry.How.TheVariants as how
+use Rattle.savi_ends.specs.Faults.{Rose}
+use Rattle.savi_ends.specs.Octets.{IsFront, Takes}
+use Rattle.savi_ends.specs.Places.{Place, Book}
+use Rattle.pcap_io.specs.Captures.{header_text}
+use Rattle.pcapng_io.specs.Runs.{Event}
+use Rattle.pcap_split.specs.declared.counts.Counts.{Counts}
+use Rattle.pcap_split.specs.declared.output.Output.{Output}
+use Rattle.pcap_split.specs.Counts.{interfaces_of}
+use Rattle.pcap_split.specs.Going.{EachOutput, IsOutputOf}
+use Rattle.pcap_split.specs.Splits.{split_text, no_tally, tally}
+use Rattle.pcap_split.specs.Wholes.{IsSplitWhole}
+use Rattle.split_run.specs.declared.outcome.Outcome.{Outcome}
+use Rattle.split_run.specs.declared.outcome.Outcome.TheVariants as outcome
+use Rattle.split_run.specs.Runs.{TellsFirst, AddedAll, AddedSome}
+
+-- no two of these outputs are of one interface
+abbrev pub HaveOwnInterfaces : {K : Type 0} → List (Output K) → Type 0
+HaveOwnInterfaces held = AllPairs (λ a b. a.interface ≢ b.interface) held
+
+-- what was told of a place is handed out of it
+pub record IsOut {X : Type 0} (old new : Place X) (x : X) : Type 0 where
+  pub out : new.is_out ≡ true
+  pub told : IfSome old.stands (λ told. x ≡ told)
+
+-- An output more is held: the sink that was handed out of its place, of which this holds.
+abbrev pub IsHeldMore : {K : Type 0} → (K → K → Type 0) → ℕ → Place K → Place K → List (Output K) → List (Output K) → Type 0
+IsHeldMore {K} Holds interface old new held held' =
+    (sink : K) × (begun : K) × IsOut old new sink × (held' ≡ held ++ record { interface = interface; sink = begun } ∷ []) × Holds sink begun
+
+-- What came of an output that was to be opened and begun.
+abbrev pub HasTried : {K : Type 0} → (K → Option (List ℕ)) → (K → ℕ) → ℕ → ℕ → ℕ → Place K → Place K → List (Output K) → List (Output K) → Option Outcome → Type 0
+HasTried written faults interface before after old new held held' None = IsHeldMore (AddedAll written header_text) interface old new held held'
+HasTried written faults interface before after old new held held' (Some (outcome.Unwritten k)) =
+    (k ≡ interface) × IsHeldMore (λ sink begun. AddedSome written header_text sink begun × Rose (faults sink) (faults begun)) interface old new held held'
+HasTried written faults interface before after old new held held' (Some (outcome.NoOutput k)) =
+    (k ≡ interface) × Rose before after × (new ≡ old) × (held' ≡ held)
+HasTried written faults interface before after old new held held' (Some (outcome.Split counts)) = ⊥
+HasTried written faults interface before after old new held held' (Some (outcome.Malformed at counts)) = ⊥
+HasTried written faults interface before after old new held held' (Some outcome.Unread) = ⊥
+HasTried written faults interface before after old new held held' (Some outcome.NoInput) = ⊥
+
+-- These outputs were handed out, each of its own place, and no other place of an output was touched.
+pub record AreOut {S K C : Type 0} (name : ℕ → List ℕ) (handed : List (Output K)) (old new : Book S K C) : Type 0 where
+  pub each : All (λ o. IsOut (old.outputs (name o.interface)) (new.outputs (name o.interface)) o.sink) handed
+  pub others : (other : List ℕ) → All (λ o. name o.interface ≢ other) handed → new.outputs other ≡ old.outputs other
+  pub later : old.faults ≤ new.faults
+  pub rest : new ≡ record old { faults = new.faults; outputs = new.outputs }
+
+-- what an output took, by what its sink was when it was handed out
+abbrev pub HasSomeOf : {K : Type 0} → (K → Option (List ℕ)) → List Event → Output K → Output K → Type 0
+HasSomeOf written events handed now = (now.interface ≡ handed.interface) × AddedSome written (split_text handed.interface events) handed.sink now.sink
+
+-- These octets tell these events first, whatever comes behind them; some of the interfaces that have a capture by then have
+-- an output, which took a front of it.
+pub record IsSplitPart {K : Type 0} (written : K → Option (List ℕ)) (handed held : List (Output K)) (gave : List ℕ) : Type 0 where
+  pub events : List Event
+  pub first : (rest : List ℕ) → TellsFirst events (gave ++ rest)
+  pub among : IsFront (interfaces_of handed) (tally no_tally events).split
+  pub each : EachOutput (HasSomeOf written events) handed held
+
+-- the sink of this interface's output has a fault
+abbrev pub HasSinkFault : {K : Type 0} → (K → ℕ) → ℕ → List (Output K) → Type 0
+HasSinkFault {K} faults interface held = (place : ℕ) × IsOutputOf held place interface × ((d : Output K) → 0 < faults (slice_index_or held place d).sink)
+
+-- what came of the octets that a source gave
+abbrev pub EndsSplit : {K : Type 0} → (K → Option (List ℕ)) → (K → ℕ) → ℕ → ℕ → ℕ → ℕ → List (Output K) → List (Output K) → List ℕ → Option (List ℕ) → Outcome → Type 0
+EndsSplit written faults world world' source source' handed held gave left (outcome.Split counts) = (events : List Event) × IsSplitWhole written counts handed held gave left events how.End
+EndsSplit written faults world world' source source' handed held gave left (outcome.Malformed at counts) = (events : List Event) × IsSplitWhole written counts handed held gave left events (how.Malformed at)
+EndsSplit written faults world world' source source' handed held gave left outcome.Unread = IsSplitPart written handed held gave × Rose source source'
+EndsSplit written faults world world' source source' handed held gave left (outcome.Unwritten interface) = IsSplitPart written handed held gave × (interface < 16) × HasSinkFault faults interface held
+EndsSplit written faults world world' source source' handed held gave left (outcome.NoOutput interface) =
+    IsSplitPart written handed held gave × Rose world world' × (interface < 16) × All (λ o. o.interface ≢ interface) handed
+EndsSplit written faults world world' source source' handed held gave left outcome.NoInput = ⊥
+
+-- What a source had left was split, the outputs are held, and it came to this.
+pub record HasSplit {S K C : Type 0} (left : S → Option (List ℕ)) (written : K → Option (List ℕ)) (source_faults : S → ℕ) (sink_faults : K → ℕ) (name : ℕ → List ℕ) (source source' : S) (old new : Book S K C) (held : List (Output K)) (result : Outcome) : Type 0 where
+  pub later : source_faults source ≤ source_faults source'
+  pub gave : List ℕ
+  pub takes : Takes (left source) (left source') gave
+  pub handed : List (Output K)
+  pub out : AreOut name handed old new
+  pub own : HaveOwnInterfaces held
+  pub within : All (λ o. o.interface < 16) handed
+  pub same : interfaces_of held ≡ interfaces_of handed
+  pub ends : EndsSplit written sink_faults old.faults new.faults (source_faults source) (source_faults source') handed held gave (left source') result
