@@ -3,7 +3,7 @@
 /// How many octets a record of a stream has here: 4 for its length, and those of its frame.
 pub(crate) const RECORD_OCTETS: usize = 19;
 
-/// The frames of ports 1 and 2: to all stations, from one each, of an EtherType for local experiments and with an octet of
+/// The frames of the ports: to all stations, from one each, of an EtherType for local experiments and with an octet of
 /// their own; behind their lengths.
 pub const FIRST_OF_1: [u8; RECORD_OCTETS] = [
     0, 0, 0, 15, 255, 255, 255, 255, 255, 255, 2, 0, 0, 0, 0, 0x11, 0x88, 0xb5, 0x11,
@@ -19,4 +19,12 @@ pub const FIRST_OF_2: [u8; RECORD_OCTETS] = [
 
 pub const SECOND_OF_2: [u8; RECORD_OCTETS] = [
     0, 0, 0, 15, 255, 255, 255, 255, 255, 255, 2, 0, 0, 0, 0, 0x22, 0x88, 0xb5, 0x22,
+];
+
+pub const FIRST_OF_3: [u8; RECORD_OCTETS] = [
+    0, 0, 0, 15, 255, 255, 255, 255, 255, 255, 2, 0, 0, 0, 0, 0x33, 0x88, 0xb5, 0x31,
+];
+
+pub const SECOND_OF_3: [u8; RECORD_OCTETS] = [
+    0, 0, 0, 15, 255, 255, 255, 255, 255, 255, 2, 0, 0, 0, 0, 0x33, 0x88, 0xb5, 0x32,
 ];

@@ -4,10 +4,10 @@ ghost use Rattle.std.specs.Prelude.{◌≡◌, ◌≤◌, ℕ, List, true, false
 ghost use Rattle.savi_kinds.specs.Ports.{number_of};
 ghost use Rattle.savi_ends.specs.Faults.{Rose};
 
-use crate::frames::{FIRST_OF_1, FIRST_OF_2, SECOND_OF_1, SECOND_OF_2};
+use crate::frames::{FIRST_OF_1, FIRST_OF_2, FIRST_OF_3, SECOND_OF_1, SECOND_OF_2, SECOND_OF_3};
 use crate::held_clock::HeldClock;
 use crate::held_sink::{HeldSink, Hold};
-use crate::held_source::HeldSource;
+use crate::held_source::{HeldSource, Note};
 use crate::marks::Marks;
 use end_places::{NamedSpot, PortSpots, Spot};
 use savi_ends::{Ends, MemClock, MemSink, OpenFailed, Sink, Source, Std, World};
@@ -29,6 +29,15 @@ const FILE_ROOM: usize = 8_192;
 /// Room for what standard output and standard error are told.
 const TEXT_ROOM: usize = 256;
 
+/// What the ends of a world wait for.
+#[derive(Clone, Copy)]
+pub enum Waits {
+    /// They wait for one another, and port 3 brings nothing.
+    ForOneAnother,
+    /// They wait for nothing, each port brings two frames, and each source notes that it has answered that nothing is left.
+    ForNothing,
+}
+
 /// The ends of a port, or of control.
 pub type HeldEnds<'a> = Ends<HeldSource<'a>, HeldSink<'a>, HeldClock<'a>>;
 
@@ -38,6 +47,7 @@ pub struct HeldWorld<'a> {
     alloc: Global,
     rt: HostRuntime,
     marks: &'a Marks,
+    waits: Waits,
     plan: String,
     faults: u64,
     input: NamedSpot<HeldSource<'a>>,
@@ -59,22 +69,28 @@ impl<'a> HeldWorld<'a> {
         rt: HostRuntime,
         plan: String,
         marks: &'a Marks,
+        waits: Waits,
     ) -> Result<HeldWorld<'a>, AllocError>
         ensures { IfOk result (λ w. HandedNothing ⟦<HeldSource<'a> as Source>⟧.faults ⟦<HeldSink<'a> as Sink>⟧.faults (book_of w)) }
     {
         let out = MemSink::make(alloc, TEXT_ROOM, Vec::new(alloc))?;
         let err = MemSink::make(alloc, TEXT_ROOM, Vec::new(alloc))?;
+        let waited = match waits {
+            Waits::ForOneAnother => Some(marks),
+            Waits::ForNothing => None,
+        };
         Ok(HeldWorld {
             alloc,
             rt,
             marks,
+            waits,
             plan,
             faults: 0,
             input: NamedSpot::new(),
             output: NamedSpot::new(),
             ports: PortSpots::make(alloc)?,
             control: Spot::new(),
-            ticker: Some(HeldClock::new(rt, MemClock::new(Vec::new(alloc)), Some(marks))),
+            ticker: Some(HeldClock::new(rt, MemClock::new(Vec::new(alloc)), waited)),
             out: Some(HeldSink::new(rt, out, Hold::Nothing)),
             err: Some(HeldSink::new(rt, err, Hold::Nothing)),
         })
@@ -85,7 +101,7 @@ impl<'a> HeldWorld<'a> {
         ensures { IfOk result (λ s. ⟦<HeldSource<'a> as Source>⟧.faults s ≡ 0) }
     {
         let octets = self.plan.as_bytes().to_vec(self.alloc)?;
-        Ok(HeldSource::new(self.alloc, self.rt, octets, None))
+        Ok(HeldSource::new(self.alloc, self.rt, octets, Note::Nothing))
     }
 
     // A sink in which nothing is written yet.
@@ -101,29 +117,41 @@ impl<'a> HeldWorld<'a> {
         ensures source { IfOk result (λ ends. ⟦<HeldSource<'a> as Source>⟧.faults ends.source ≡ 0) }
         ensures sink { IfOk result (λ ends. ⟦<HeldSink<'a> as Sink>⟧.faults ends.sink ≡ 0) }
     {
+        let note = match (self.waits, number) {
+            (Waits::ForOneAnother, 1) => Note::Reads(self.marks),
+            (Waits::ForOneAnother, _) => Note::Nothing,
+            (Waits::ForNothing, _) => Note::End(self.marks.end_of(number)),
+        };
+        let hold = match (self.waits, number) {
+            (Waits::ForOneAnother, 3) => Hold::FirstOf2(self.marks),
+            (Waits::ForOneAnother | Waits::ForNothing, _) => Hold::Nothing,
+        };
+        Ok(Ends {
+            source: HeldSource::new(self.alloc, self.rt, self.records_of(number)?, note),
+            sink: self.file_sink(hold)?,
+            clock: self.clock(),
+        })
+    }
+
+    // What a port brings.
+    fn records_of(&self, number: u8) -> Result<Vec<u8>, AllocError> {
         let mut octets = Vec::new(self.alloc);
-        match number {
-            1 => {
+        match (self.waits, number) {
+            (_, 1) => {
                 octets.extend_from_slice(&FIRST_OF_1)?;
                 octets.extend_from_slice(&SECOND_OF_1)?;
             }
-            2 => {
+            (_, 2) => {
                 octets.extend_from_slice(&FIRST_OF_2)?;
                 octets.extend_from_slice(&SECOND_OF_2)?;
             }
-            _ => {}
+            (Waits::ForNothing, _) => {
+                octets.extend_from_slice(&FIRST_OF_3)?;
+                octets.extend_from_slice(&SECOND_OF_3)?;
+            }
+            (Waits::ForOneAnother, _) => {}
         }
-        let reads = if number == 1 { Some(self.marks) } else { None };
-        let writes = if number == 3 {
-            Hold::FirstOf2(self.marks)
-        } else {
-            Hold::Nothing
-        };
-        Ok(Ends {
-            source: HeldSource::new(self.alloc, self.rt, octets, reads),
-            sink: self.file_sink(writes)?,
-            clock: self.clock(),
-        })
+        Ok(octets)
     }
 
     // The ends of control, which brings one line.
@@ -132,9 +160,13 @@ impl<'a> HeldWorld<'a> {
         ensures sink { IfOk result (λ ends. ⟦<HeldSink<'a> as Sink>⟧.faults ends.sink ≡ 0) }
     {
         let line = b"quit\n".to_vec(self.alloc)?;
+        let hold = match self.waits {
+            Waits::ForOneAnother => Hold::Reply(self.marks),
+            Waits::ForNothing => Hold::Nothing,
+        };
         Ok(Ends {
-            source: HeldSource::new(self.alloc, self.rt, line, None),
-            sink: self.file_sink(Hold::Reply(self.marks))?,
+            source: HeldSource::new(self.alloc, self.rt, line, Note::Nothing),
+            sink: self.file_sink(hold)?,
             clock: self.clock(),
         })
     }

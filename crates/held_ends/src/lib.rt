@@ -7,6 +7,9 @@
 //! reply, like the wait of the ticker's clock, returns only once the pass of port 1's input has come by for its third turn.
 //! So a switch that reads, writes or waits while it holds its lock, or sends only at the end, can't go on; each wait gives up
 //! after 20 s then, and is told (`Marks::has_given_up`).
+//!
+//! In another world of the same ports (`Waits::ForNothing`) no end waits, port 3 brings two frames too, and each source notes
+//! that it has answered that nothing is left (`Marks::end_of`). So a gate can hold one input back until the others are read.
 #![tactic(auto)]
 
 mod frames;
@@ -16,9 +19,9 @@ mod held_source;
 mod held_world;
 mod marks;
 
-pub use frames::{FIRST_OF_1, FIRST_OF_2, SECOND_OF_1, SECOND_OF_2};
+pub use frames::{FIRST_OF_1, FIRST_OF_2, FIRST_OF_3, SECOND_OF_1, SECOND_OF_2, SECOND_OF_3};
 pub use held_clock::HeldClock;
 pub use held_sink::{HeldSink, Hold};
-pub use held_source::HeldSource;
-pub use held_world::{COMMANDS, HeldEnds, HeldWorld, JOURNAL, PLAN, REPLIES};
+pub use held_source::{HeldSource, Note};
+pub use held_world::{COMMANDS, HeldEnds, HeldWorld, JOURNAL, PLAN, REPLIES, Waits};
 pub use marks::Marks;

@@ -26,6 +26,10 @@ pub struct Marks {
     pub replied: AtomicU64,
     /// 1 once the ticker's clock was told to wait.
     pub waited: AtomicU64,
+    // 1 each once the source of the port has answered that nothing is left.
+    end_of_1: AtomicU64,
+    end_of_2: AtomicU64,
+    end_of_3: AtomicU64,
     // 1 once a wait has given up.
     given_up: AtomicU64,
 }
@@ -40,7 +44,19 @@ impl Marks {
             given: AtomicU64::new(0),
             replied: AtomicU64::new(0),
             waited: AtomicU64::new(0),
+            end_of_1: AtomicU64::new(0),
+            end_of_2: AtomicU64::new(0),
+            end_of_3: AtomicU64::new(0),
             given_up: AtomicU64::new(0),
+        }
+    }
+
+    /// What is 1 once the source of this port has answered that nothing is left. It is noted where `Note::End` says so.
+    pub fn end_of(&self, number: u8) -> &AtomicU64 {
+        match number {
+            1 => &self.end_of_1,
+            2 => &self.end_of_2,
+            _ => &self.end_of_3,
         }
     }
 

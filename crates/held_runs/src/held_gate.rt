@@ -1,4 +1,4 @@
-//! The gate of the session.
+//! The gate of the session whose ends wait for one another.
 
 use held_ends::Marks;
 use live_turns::Gate;

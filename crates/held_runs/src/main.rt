@@ -1,45 +1,103 @@
-//! A live session of the whole program whose workers must run side by side, over ends that wait for one another
-//! (`held_ends`).
+//! Live sessions of the whole program whose workers must run side by side: one over ends that wait for one another
+//! (`held_ends`), and for each port one in which its input is held back until the other two have been read to their ends.
 //!
 //! The input is the configuration, of three trusted ports over streams. What is printed is the same whatever the order in
 //! which the workers come to the switch: the status, what standard error was told, the frames that were written at each
-//! port, the replies, what a check says of the journal, how many turns the inputs of ports 1 and 2 took, and whether a wait was in vain.
-//! It was worked out by hand.
+//! port, the replies, what a check says of the journal, and whether a wait was in vain; of the first session also how many
+//! turns the inputs of ports 1 and 2 took. Where the input of a port is held back, the frames of the others come in any order
+//! at that port, so that only their number is printed; at each other port its own frames come last. It was worked out by hand.
 #![tactic(auto)]
 
+mod end_gate;
 mod held_gate;
 
-use held_ends::{FIRST_OF_1, FIRST_OF_2, HeldWorld, Marks, PLAN, SECOND_OF_1, SECOND_OF_2};
+use end_gate::EndGate;
+use held_ends::{
+    FIRST_OF_1, FIRST_OF_2, FIRST_OF_3, HeldWorld, Marks, PLAN, SECOND_OF_1, SECOND_OF_2,
+    SECOND_OF_3, Waits,
+};
 use held_gate::HeldGate;
 use journal_check::{Checked, check};
 use savi_ends::{MemSource, Std};
 use savi_kinds::Port;
 use std::alloc::{AllocError, Global};
+use std::sync::Wait;
 use std::sync::atomic::Ordering;
+use std::thread::Threads;
 use switch_run::run;
 
 /// The number of ports.
 const PORTS: u8 = 3;
+
+/// Each port whose input is held back, and the other two.
+const HELD_PORTS: [(u8, [u8; 2]); 3] = [(1, [2, 3]), (2, [1, 3]), (3, [1, 2])];
 
 /// The octets of a record.
 const RECORD_OCTETS: usize = FIRST_OF_1.len();
 
 fn main(rt: HostRuntime) -> anyhow::Result<()> {
     let alloc = rt.alloc();
-    let marks = Marks::new();
-    let gate = HeldGate { rt, marks: &marks };
     let mut plan = String::new(alloc);
     for line in rt.lines(alloc) {
         plan.push_str(line?.as_str())?;
         plan.push('\n')?;
     }
-    let mut world = HeldWorld::make(alloc, rt, plan, &marks)?;
-    let status = run(&rt, alloc, words_of(alloc)?.as_slice(), &mut world, &gate);
+    run_side_by_side(&rt, rt, plan.clone()?)?;
+    for (held, others) in HELD_PORTS {
+        println!(rt; "the input of port {held} is held back")?;
+        run_behind(&rt, rt, plan.clone()?, held, others)?;
+    }
+    Ok(())
+}
+
+// Runs the session whose ends wait for one another.
+fn run_side_by_side<R: Print + Threads + Wait + Sync>(
+    rt: &R,
+    host: HostRuntime,
+    plan: String,
+) -> anyhow::Result<()> {
+    let alloc = host.alloc();
+    let marks = Marks::new();
+    let gate = HeldGate {
+        rt: host,
+        marks: &marks,
+    };
+    let mut world = HeldWorld::make(alloc, host, plan, &marks, Waits::ForOneAnother)?;
+    let status = run(rt, alloc, words_of(alloc)?.as_slice(), &mut world, &gate);
     println!(rt; "status {status}")?;
-    print_left(&rt, alloc, &world)?;
+    print_left(rt, alloc, &world, None)?;
     let turns_of_1 = marks.turn_of_1.load(Ordering::SeqCst);
     let turns_of_2 = marks.turn_of_2.load(Ordering::SeqCst);
     println!(rt; "turns of the inputs of ports 1 and 2: {turns_of_1} and {turns_of_2}")?;
+    print_whether_given_up(rt, &marks)
+}
+
+// Runs a session in which the input of one port is held back until the sources of the others have answered that nothing is
+// left.
+fn run_behind<R: Print + Threads + Wait + Sync>(
+    rt: &R,
+    host: HostRuntime,
+    plan: String,
+    held: u8,
+    others: [u8; 2],
+) -> anyhow::Result<()> {
+    let alloc = host.alloc();
+    let marks = Marks::new();
+    let gate = EndGate {
+        rt: host,
+        marks: &marks,
+        held,
+        others,
+    };
+    let mut world = HeldWorld::make(alloc, host, plan, &marks, Waits::ForNothing)?;
+    let status = run(rt, alloc, words_of(alloc)?.as_slice(), &mut world, &gate);
+    println!(rt; "status {status}")?;
+    print_left(rt, alloc, &world, Some(held))?;
+    print_whether_given_up(rt, &marks)
+}
+
+// Says it where a wait was in vain.
+fn print_whether_given_up(rt: &impl Print, marks: &Marks) -> anyhow::Result<()> {
     if marks.has_given_up() {
         println!(rt; "a wait was given up after 20 s")?;
     }
@@ -54,16 +112,20 @@ fn words_of(alloc: Global) -> Result<Vec<String>, AllocError> {
     Ok(words)
 }
 
-// Prints what standard error was told, the frames of each port, the replies, and what a check says of the journal.
-fn print_left(rt: &impl Print, alloc: Global, world: &HeldWorld<'_>) -> anyhow::Result<()> {
+// Prints what standard error was told, the frames of each port, the replies, and what a check says of the journal. Of a port
+// whose input was held back it prints how many frames were written.
+fn print_left(
+    rt: &impl Print,
+    alloc: Global,
+    world: &HeldWorld<'_>,
+    held: Option<u8>,
+) -> anyhow::Result<()> {
     let errors = String::from_utf8_lossy(alloc, world.told(Std::Err).unwrap_or(&[]))?;
     print!(rt; "standard error:\n{errors}")?;
     for number in 1..=PORTS {
         if let Some(port) = Port::new(number) {
-            println!(rt; "port {number}:")?;
-            for record in world.sent(port).unwrap_or(&[]).chunks(RECORD_OCTETS) {
-                println!(rt; "{}", name_of(record))?;
-            }
+            let records = world.sent(port).unwrap_or(&[]);
+            print_records(rt, number, records, held == Some(number))?;
         }
     }
     let replies = String::from_utf8_lossy(alloc, world.replies().unwrap_or(&[]))?;
@@ -73,6 +135,24 @@ fn print_left(rt: &impl Print, alloc: Global, world: &HeldWorld<'_>) -> anyhow::
     match check(alloc, &mut source) {
         Checked::Good { entries: _ } => println!(rt; "check: good")?,
         _ => println!(rt; "check: not good")?,
+    }
+    Ok(())
+}
+
+// Prints the records that were written at a port, or only how many they are.
+fn print_records(
+    rt: &impl Print,
+    number: u8,
+    records: &[u8],
+    is_counted: bool,
+) -> anyhow::Result<()> {
+    if is_counted {
+        let count = records.len() / RECORD_OCTETS;
+        return Ok(println!(rt; "port {number}: {count} records in any order")?);
+    }
+    println!(rt; "port {number}:")?;
+    for record in records.chunks(RECORD_OCTETS) {
+        println!(rt; "{}", name_of(record))?;
     }
     Ok(())
 }
@@ -87,6 +167,10 @@ fn name_of(record: &[u8]) -> &'static str {
         "second of port 1"
     } else if record == SECOND_OF_2.as_slice() {
         "second of port 2"
+    } else if record == FIRST_OF_3.as_slice() {
+        "first of port 3"
+    } else if record == SECOND_OF_3.as_slice() {
+        "second of port 3"
     } else {
         "another record"
     }
