@@ -68,7 +68,7 @@ folders = $(DESTDIR)$(PREFIX)/lib/tmpfiles.d
 
 # The tools, of tools/ and of lab/; a tool NAME is run as savi-NAME. Of the second implementation the parts that only checks
 # and replays read stay here.
-TOOLS = $(notdir $(wildcard $(addprefix tools/,plan journal-table journal-picture tell-journal panel ctl)))
+TOOLS = $(notdir $(wildcard $(addprefix tools/,plan plan-from-learn journal-table journal-picture tell-journal panel ctl)))
 PACKAGES = $(notdir $(wildcard tools/switch_reading tools/switch_panel))
 KEPT = worked%.py conf_runs.py core_runs.py learn.py line_runs.py live.py load.py making.py plan_cases.py random_learn.py \
 	session.py toml_cases.py
@@ -95,6 +95,7 @@ install:
 	$(foreach unit,$(UNITS),$(call put,packaging/$(unit),$(units)/$(unit)) &&) true
 	$(foreach page,$(PAGES),$(call put,docs/$(page),$(man)/man$(subst .,,$(suffix $(page)))/$(page)) &&) true
 	for page in $(SAME_PAGE); do ln -sf savi-journal-table.1 "$(man)/man1/$$page.1" || exit 1; done
+	ln -sf savi-plan.1 "$(man)/man1/savi-plan-from-learn.1"
 	install -m 644 packaging/savi_switch.sysusers "$(users)/savi_switch.conf"
 	$(if $(wildcard packaging/*.tmpfiles),install -D -m 644 packaging/savi_switch.tmpfiles "$(folders)/savi_switch.conf")
 	@echo "savi_switch $(VERSION) is installed in $(DESTDIR)$(PREFIX)$(if $(UNPROVED),. IT ISN'T PROVED: $(UNPROVED))"
@@ -105,7 +106,7 @@ uninstall:
 	rm -f "$(bin)/savi_switch" $(TOOLS:%="$(bin)/savi-%") "$(bin)/savi-shim"
 	rm -f "$(users)/savi_switch.conf" "$(folders)/savi_switch.conf"
 	rm -f $(UNITS:%="$(units)/%") $(foreach page,$(PAGES),"$(man)/man$(subst .,,$(suffix $(page)))/$(page)")
-	rm -f $(SAME_PAGE:%="$(man)/man1/%.1")
+	rm -f $(SAME_PAGE:%="$(man)/man1/%.1") "$(man)/man1/savi-plan-from-learn.1"
 	rm -rf "$(lib)" "$(doc)"
 	@test -z "$(DESTDIR)" || { cd "$(DESTDIR)" && \
 		rmdir -p --ignore-fail-on-non-empty $(FOLDERS:%=".$(PREFIX)/%"); } 2> /dev/null || true

@@ -191,23 +191,18 @@ fn any_read_write_or_opening_may_fail(rt: HostRuntime) -> Result<(), Fail> {
     let file: [&[u8]; 5] = [&SECTION, &INTERFACE, &PACKET, &FRAME, &PACKET_END];
     let whole: [&[u8]; 3] = [&HEADER, &RECORD, &FRAME];
     // With pieces of 20 octets there are 14 reads: six to the interface's end, and the last one behind the packet.
-    for read in 1..=14 {
-        let faults = Faults { read, ..NO_FAULTS };
-        let taken = match read {
-            1..=6 => &whole[..0],
-            7..=13 => &whole[..1],
-            _ => &whole[..],
-        };
-        let got = split(alloc, file_of(alloc, &file)?, 20, faults)?;
-        assert_eq!(rt;
-            got,
-            Some((Outcome::Unread, file_of(alloc, taken)?)),
-            "read {read}"
-        );
+    let reads: [(u64, u64, &[&[u8]]); 3] = [(1, 6, &[]), (7, 13, &[&HEADER]), (14, 14, &whole)];
+    for (first, last, taken) in reads {
+        for read in first..=last {
+            let faults = Faults { read, ..NO_FAULTS };
+            let got = split(alloc, file_of(alloc, &file)?, 20, faults)?;
+            let want = Some((Outcome::Unread, file_of(alloc, taken)?));
+            assert_eq!(rt; got, want, "read {read}");
+        }
     }
-    for write in 1..=2 {
+    let writes: [(u64, &[&[u8]]); 2] = [(1, &[]), (2, &[&HEADER])];
+    for (write, taken) in writes {
         let faults = Faults { write, ..NO_FAULTS };
-        let taken = if write == 1 { &whole[..0] } else { &whole[..1] };
         let got = split(alloc, file_of(alloc, &file)?, 20, faults)?;
         let want = Some((Outcome::Unwritten { interface: 0 }, file_of(alloc, taken)?));
         assert_eq!(rt; got, want, "write {write}");

@@ -1,3 +1,4 @@
 pub mod Spots
 pub mod NamedSpots
 pub mod PortPlaces
+pub mod ManySpots

@@ -2,7 +2,7 @@
 
 ghost use Rattle.std.specs.Prelude.{◌≡◌, ℕ, List, [], ◌∷◌, IfSome, IfNone, map};
 ghost use Rattle.std.specs.String.{string_bytes};
-ghost use Rattle.run_config.specs.Words.{Asks, IsGen};
+ghost use Rattle.run_config.specs.Words.{Asks, IsGen, IsLearn};
 
 use savi_kinds::read_decimal;
 
@@ -14,10 +14,16 @@ const SERVE: &str = "serve";
 const CHECK: &str = "check";
 // The word that asks for a load.
 const GENERATE: &str = "gen";
+// The word that asks for the split of a capture.
+const SPLIT: &str = "split";
+// The word that asks for learning from captures.
+const LEARN: &str = "learn";
 // The greatest seed of a load.
 const SEED_MOST: u64 = 2_147_483_647;
 // The most packets of a load.
 const FRAMES_MOST: u64 = 100_000;
+// The longest window of learning, in ms.
+const WINDOW_MOST: u64 = 3_600_000;
 
 /// What the words of the command line ask for.
 #[derive(Clone, Copy, PartialEq, Eq, Debug)]
@@ -30,12 +36,16 @@ pub enum Asked<'a> {
     Check(&'a str),
     /// The replay of a load, by its seed and the number of its packets: `gen SEED FRAMES`.
     Generate { seed: u32, frames: u32 },
+    /// The split of a capture, by the name of its file: `split FILE`.
+    Split(&'a str),
+    /// Learning from captures, by the name of a configuration and the length of the window in ms: `learn FILE MS`.
+    Learn { file: &'a str, window: u64 },
     /// The words are none of the forms.
     NoForm,
 }
 
-/// What the words behind the program's name ask for. FILE is any word; SEED is at most 2,147,483,647 and FRAMES at most
-/// 100,000, both in decimal without a leading zero.
+/// What the words behind the program's name ask for. FILE is any word; SEED is at most 2,147,483,647, FRAMES at most 100,000
+/// and MS at most 3,600,000, each in decimal without a leading zero.
 pub fn asked_by(words: &[String]) -> Asked<'_>
     ensures { Asks (map string_bytes words.now) result }
 {
@@ -47,6 +57,12 @@ pub fn asked_by(words: &[String]) -> Asked<'_>
     }
     if let Some(file) = file_behind(CHECK, words) {
         return Asked::Check(file);
+    }
+    if let Some(file) = file_behind(SPLIT, words) {
+        return Asked::Split(file);
+    }
+    if let Some((file, window)) = learning_of(words) {
+        return Asked::Learn { file, window };
     }
     match load_of(words) {
         Some((seed, frames)) => Asked::Generate { seed, frames },
@@ -75,6 +91,20 @@ fn load_of(words: &[String]) -> Option<(u32, u32)>
             let seed = read_decimal(seed.as_bytes(), SEED_MOST)?;
             let frames = read_decimal(frames.as_bytes(), FRAMES_MOST)?;
             Some((seed as u32, frames as u32))
+        }
+        _ => None,
+    }
+}
+
+// The name of a configuration and the length of a window, where the words are `learn FILE MS`.
+fn learning_of(words: &[String]) -> Option<(&str, u64)>
+    ensures some { IfSome result (λ found. IsLearn found.0.now found.1 (map string_bytes words.now)) }
+    ensures none { IfNone result ((file : List ℕ) (window : ℕ) → IsLearn file window (map string_bytes words.now) → ⊥) }
+{
+    match words {
+        [form, file, window] if form.as_str() == LEARN => {
+            let window = read_decimal(window.as_bytes(), WINDOW_MOST)?;
+            Some((file.as_str(), window))
         }
         _ => None,
     }

@@ -12,6 +12,7 @@ use Rattle.std.specs.declared.rt.LibcRuntime.{LibcRuntime}
 use Rattle.port_ends.specs.declared.machine_clock.MachineClock.{MachineClock}
 use Rattle.savi_switch.specs.declared.real_world.RealWorld.{RealWorld}
 use Rattle.end_places.specs.Spots.{spot_place}
+use Rattle.end_places.specs.ManySpots.{spot_named}
 use Rattle.end_places.specs.NamedSpots.{named_place}
 use Rattle.end_places.specs.PortPlaces.{port_place}
 
@@ -24,7 +25,7 @@ abbrev pub book_of : {R A B C D : Type 0} → RealWorld R A B C D →
 book_of w = record {
   faults = w.faults;
   inputs = named_place w.input;
-  outputs = named_place w.output;
+  outputs = spot_named w.outputs;
   ports = λ key. port_place w.ports key.number;
   control = λ key. spot_place w.control;
   ticker = spot_place w.ticker;

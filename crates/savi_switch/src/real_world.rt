@@ -5,7 +5,7 @@ ghost use Rattle.savi_kinds.specs.Ports.{number_of};
 ghost use Rattle.savi_ends.specs.Faults.{Rose};
 
 use crate::opener::{Opener, RealClock, RealEnds, RealSink, RealSource};
-use end_places::{NamedSpot, PortSpots, Spot};
+use end_places::{NamedSpot, NamedSpots, PortSpots, Spot};
 use file_ends::FileSink;
 use port_ends::PortSink;
 use savi_ends::{OpenFailed, Sink, Source, Std, World};
@@ -16,7 +16,7 @@ use std::net::Net;
 use std::sync::Wait;
 
 /// Files and sockets by name, the standard outputs, and the machine's clock. It tells nothing of what they hold, and keeps
-/// each end in a fixed place: one input and one output by name, and the ends of sixteen ports.
+/// each end in a fixed place: one input and sixteen outputs by name, and the ends of sixteen ports.
 ///
 /// A port whose format is pcap is over files, and one whose format is stream over Unix sockets; so is control where it is
 /// live, and else it is over files. A file that is written holds what it did before until the first octet is written; that of
@@ -30,7 +30,7 @@ pub struct RealWorld<R: Files + Net + Wait + Copy + Drop> {
     // whether the output of a port was a file that was written
     has_written: bool,
     input: NamedSpot<RealSource<R>>,
-    output: NamedSpot<RealSink<R>>,
+    outputs: NamedSpots<RealSink<R>>,
     ports: PortSpots<RealEnds<R>>,
     control: Spot<RealEnds<R>>,
     ticker: Spot<RealClock>,
@@ -53,7 +53,7 @@ impl<R: Files + Net + Wait + Copy + Drop> RealWorld<R> {
             opener: Opener::new(host, rt, alloc),
             has_written: false,
             input: NamedSpot::new(),
-            output: NamedSpot::new(),
+            outputs: NamedSpots::make(alloc)?,
             ports: PortSpots::make(alloc)?,
             control: Spot::new(),
             ticker: Spot::new(),
@@ -135,7 +135,7 @@ impl<R: Files + Net + Wait + Copy + Send + Sync + Drop> World for RealWorld<R> {
         ensures rest { book_of self.new ≡ record (book_of self.old) { faults = (book_of self.new).faults; outputs = (book_of self.new).outputs } }
         ensures noted { IfOk result (λ sink. IsSinkNoted self.old.opener.files self.new.opener.files sink) }
     {
-        if !self.output.is_free() {
+        if self.outputs.is_full() {
             return Err(fault(&mut self.faults));
         }
         let Ok(copy) = String::from_str(self.alloc, name) else {
@@ -143,7 +143,7 @@ impl<R: Files + Net + Wait + Copy + Send + Sync + Drop> World for RealWorld<R> {
         };
         match self.opener.sink(name) {
             Ok(sink) => {
-                self.output.hand_out(Text::new(copy));
+                self.outputs.hand_out(Text::new(copy));
                 Ok(sink)
             }
             Err(_) => Err(fault(&mut self.faults)),
@@ -233,8 +233,7 @@ impl<R: Files + Net + Wait + Copy + Send + Sync + Drop> World for RealWorld<R> {
     }
 
     fn keep_output(&mut self, name: &str, sink: RealSink<R>) {
-        let _ = name;
-        self.output.keep(sink);
+        self.outputs.keep(name, sink);
     }
 
     fn keep_ticker(&mut self, clock: RealClock) {

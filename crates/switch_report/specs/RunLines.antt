@@ -10,7 +10,7 @@ abbrev pub memory_line : List ℕ
 memory_line = line (codes "out of memory")
 
 abbrev pub usage_line : List ℕ
-usage_line = line (codes "usage: savi_switch replay FILE, serve FILE, check FILE, gen SEED FRAMES")
+usage_line = line (codes "usage: savi_switch replay FILE, serve FILE, check FILE, gen SEED FRAMES, split FILE, learn FILE MS")
 
 -- why a configuration gives no plan
 abbrev pub config_line : ConfFault → List ℕ
@@ -34,3 +34,6 @@ read_failed_line name = line (name ++ codes ": read failed")
 
 abbrev pub write_failed_line : List ℕ → List ℕ
 write_failed_line name = line (name ++ codes ": write failed")
+
+abbrev pub malformed_line : List ℕ → ℕ → List ℕ
+malformed_line name at = line (name ++ (codes ": malformed at " ++ decimal at))

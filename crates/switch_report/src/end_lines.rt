@@ -3,11 +3,12 @@
 ghost use Rattle.std.specs.Prelude.{◌≡◌, ◌≤◌, ◌<◌, IsSomeAnd, length, reverse, slice_get};
 ghost use Rattle.savi_ends.specs.Faults.{Rose};
 ghost use Rattle.savi_ends.specs.Writes.{Extends};
-ghost use Rattle.savi_history.specs.EndLines.{end_lines, entry_line};
+ghost use Rattle.savi_history.specs.EndLines.{end_line, end_lines, entry_line};
 
 use crate::end_line::{EndLine, put_entry_line};
 use hist_store::Hist;
 use savi_ends::{Put, Sink};
+use savi_kinds::{Act, How, Who};
 
 /// Writes the lines of a history's ends in order, one write a line, until all are written or a write fails.
 ///
@@ -26,6 +27,17 @@ pub fn tell_ends<K: Sink>(hist: &Hist, sink: &mut K) -> Put
         }
     }
     Put::Done
+}
+
+/// Writes the line of one end, unless it is an ordinary one or one by `quit`, which have none.
+pub fn tell_end<K: Sink>(who: Who, how: How, sink: &mut K) -> Put
+    ensures extends { Extends result (K.written sink.old) (K.written sink.new) (end_line who how) }
+    ensures later { K.faults sink.old ≤ K.faults sink.new }
+    ensures cause { result ≡ Put.Failed → Rose (K.faults sink.old) (K.faults sink.new) }
+{
+    let mut line = EndLine::new();
+    put_entry_line(Act::End { who, how }, &mut line);
+    tell_line(sink, line.as_slice())
 }
 
 // Puts the line for the entry with this number, counted from 0, in place of what the buffer held: nothing, unless it is an

@@ -20,11 +20,12 @@ pub use buffer::Buffer;
 pub use check_line::{
     CHECK_LINE_OCTETS, CheckLine, FIELD_TEXT_OCTETS, put_bad_line, put_good, put_wrong,
 };
-pub use end_lines::tell_ends;
+pub use end_lines::{tell_end, tell_ends};
 pub use ending::{has_failed, has_failed_write, has_full, has_malformed};
 pub use journal::write_journal;
 pub use run_lines::{
-    port_name, tell_config, tell_memory, tell_unopened, tell_unread, tell_unwritten, tell_usage,
+    port_name, tell_config, tell_malformed, tell_memory, tell_unopened, tell_unread,
+    tell_unwritten, tell_usage,
 };
 pub use summary::{Summary, sum_up};
 pub use summary_text::{SUMMARY_OCTETS, put_summary};

@@ -1,12 +1,12 @@
 //! The lines of standard error that a run has to say itself.
 
-ghost use Rattle.std.specs.Prelude.{◌≡◌, ◌≤◌, ◌<◌, ◌+◌, ◌++◌, IfSome, IfNone, length};
+ghost use Rattle.std.specs.Prelude.{◌≡◌, ◌≤◌, ◌<◌, ◌+◌, ◌++◌, ◌∷◌, [], IfSome, IfNone, codes, decimal, length};
 ghost use Rattle.arrayvec.specs.ArrayVec.{array_vec_len};
 ghost use Rattle.savi_conf.specs.declared.fault.ConfFault.{ConfFault};
 ghost use Rattle.savi_ends.specs.Faults.{Rose};
 ghost use Rattle.savi_ends.specs.Writes.{Extends};
 ghost use Rattle.savi_kinds.specs.Ports.{number_of};
-ghost use Rattle.switch_report.specs.RunLines.{cannot_open_line, config_line, memory_line, port_name as name_of_port, read_failed_line, usage_line, write_failed_line};
+ghost use Rattle.switch_report.specs.RunLines.{cannot_open_line, config_line, malformed_line, memory_line, port_name as name_of_port, read_failed_line, usage_line, write_failed_line};
 
 use arrayvec::{ArrayString, ArrayVec};
 use itoa::Buffer;
@@ -17,7 +17,11 @@ use savi_kinds::Port;
 // The octets of a line that is written at once. Only one with a name that is longer than a screen's line is longer.
 const LINE_OCTETS: usize = 256;
 
-const USAGE: &str = "usage: savi_switch replay FILE, serve FILE, check FILE, gen SEED FRAMES\n";
+// The most octets of what is said behind a name of a malformed input: 15, a number of at most 20 digits and the line feed.
+const MALFORMED_OCTETS: usize = 36;
+
+const USAGE: &str =
+    "usage: savi_switch replay FILE, serve FILE, check FILE, gen SEED FRAMES, split FILE, learn FILE MS\n";
 
 /// The name that stands for a port in a line, as `port 7`.
 pub fn port_name(port: Port) -> ArrayString<8>
@@ -91,6 +95,27 @@ pub fn tell_unwritten<K: Sink>(sink: &mut K, name: &str) -> Put
     ensures cause { result ≡ Put.Failed → Rose (K.faults sink.old) (K.faults sink.new) }
 {
     write_line(sink, "", name, ": write failed\n")
+}
+
+/// Writes that what has this name is malformed at this place (octets from its start).
+pub fn tell_malformed<K: Sink>(sink: &mut K, name: &str, at: u64) -> Put
+    ensures extends { Extends result (K.written sink.old) (K.written sink.new) (malformed_line name.now at) }
+    ensures later { K.faults sink.old ≤ K.faults sink.new }
+    ensures cause { result ≡ Put.Failed → Rose (K.faults sink.old) (K.faults sink.new) }
+{
+    write_line(sink, "", name, malformed_text(at).as_str())
+}
+
+// What is said behind the name of what is malformed at this place.
+fn malformed_text(at: u64) -> ArrayString<MALFORMED_OCTETS>
+    ensures { result.bytes ≡ codes ": malformed at " ++ (decimal at ++ 10 ∷ []) }
+{
+    let mut digits = Buffer::new();
+    let mut text = ArrayString::new();
+    text.push_str(": malformed at ");
+    text.push_str(digits.format(at));
+    text.push_str("\n");
+    text
 }
 
 // Writes a line whose name has this before it and that after it, at once where it is short.

@@ -4,18 +4,20 @@ use Rattle.std.specs.Prelude.{◌↔◌}
 use Rattle.savi_ends.specs.declared.world.Std.TheVariants.{Out}
 use Rattle.savi_ends.specs.Faults.{Rose}
 use Rattle.savi_ends.specs.Places.{Book}
-use Rattle.run_config.specs.Words.{IsCheck, IsForm, IsGen, IsReplay, IsServe}
+use Rattle.run_config.specs.Words.{IsCheck, IsForm, IsGen, IsReplay, IsServe, IsSplitWords}
 use Rattle.switch_report.specs.RunLines.{memory_line, usage_line}
 use Rattle.switch_run.specs.Causes.{HasSomeReadFault, HasSomeWriteFault, IsElsewhereSame, IsOneOf, IsUntouched, IsUnused, quiet_statuses, session_statuses, statuses, unused_statuses}
 use Rattle.switch_run.specs.Checks.{IsCheckRun}
 use Rattle.switch_run.specs.Loads.{IsLoadRun}
 use Rattle.switch_run.specs.Runs.{IsGenRun, IsServeRun}
 use Rattle.switch_run.specs.Live.{IsServeSession}
+use Rattle.switch_run.specs.Splits.{IsCaptureRun}
 use Rattle.switch_run.specs.Session.{IsFileUnread, IsNoPlan, IsSession, IsUnopened, IsUnplayed, WasTold, ToldBy}
 use Rattle.switch_run.proofs.Checking.{check_is, check_memory, check_opening, check_out, check_unserved, never_two, ran_check}
 use Rattle.switch_run.proofs.Faulting.{live_read_fault, live_write_fault, read_fault_of, write_fault_of}
-use Rattle.switch_run.proofs.Forms.{same_file, same_journal, same_load, same_served, not_both, not_checked, not_judged, not_live, not_loaded, not_served}
+use Rattle.switch_run.proofs.Forms.{same_capture, same_file, same_journal, same_load, same_served, not_split_check, not_split_load, not_split_replay, not_split_serve, not_both, not_checked, not_judged, not_live, not_loaded, not_served}
 use Rattle.switch_run.proofs.Loading.{load_is, load_memory, load_out, load_unserved, not_two, not_seven, ran_load}
+use Rattle.switch_run.proofs.Splitting.{capture_is, capture_memory, capture_not_two, capture_opening, capture_out, ran_capture}
 use Rattle.switch_run.proofs.Running.{Ran, ran_told, ran_open, ran_quiet, ran_run, ran_served, ran_session, ran_ticker, ran_untouched, ran_unused}
 
 -- what the contract of a run says
@@ -40,6 +42,7 @@ pub record Clauses {S K C : Type 0} (left : S → Option (List ℕ)) (written : 
   pub served_write : (file : List ℕ) → IsServe file words → status ≡ 6 → HasSomeWriteFault sink_faults new
   pub check : (file : List ℕ) → IsCheck file words → IsCheckRun left written source_faults sink_faults file (WasTold sink_faults written old new) old new status
   pub load : (seed frames : ℕ) → IsGen seed frames words → IsLoadRun written sink_faults seed frames (WasTold sink_faults written old new) old new status
+  pub split : (file : List ℕ) → IsSplitWords file words → IsCaptureRun left written source_faults sink_faults file (WasTold sink_faults written old new) old new status
 
 pub clauses_of : {S K C : Type 0} (left : S → Option (List ℕ)) (written : K → Option (List ℕ)) (source_faults : S → ℕ) (sink_faults : K → ℕ) (readings : C → Option (List ℕ)) (words : List (List ℕ)) (b0 b1 b2 b3 : Book S K C) (e e' : K) (status : ℕ) → Ran b0 b1 b2 b3 e e'
     → IsGenRun left written source_faults sink_faults readings words (ToldBy sink_faults written e e') b1 b2 status → Clauses left written source_faults sink_faults readings words b0 b3 status
@@ -64,7 +67,8 @@ clauses_of {S} {K} {C} left written source_faults sink_faults readings words b0 
       served_read = λ file form. absurd (none (inr (inl (file, form))));
       served_write = λ file form. absurd (none (inr (inl (file, form))));
       check = λ file form. absurd (none (inr (inr (inl (file, form)))));
-      load = λ seed frames form. absurd (none (inr (inr (inr (seed, frames, form)))));
+      load = λ seed frames form. absurd (none (inr (inr (inr (inl (seed, frames, form))))));
+      split = λ file form. absurd (none (inr (inr (inr (inr (inl (file, form)))))));
     }
 clauses_of {S} {K} {C} left written source_faults sink_faults readings words b0 b1 b2 b3 e e' status ran (inr (inl (file, form, r))) =
     let says : (lines : List ℕ) → ToldBy sink_faults written e e' lines → WasTold sink_faults written b0 b3 lines = λ lines told. ran_told sink_faults written b0 b1 b2 b3 e e' lines ran told in
@@ -91,6 +95,7 @@ clauses_of {S} {K} {C} left written source_faults sink_faults readings words b0 
       served_write = λ f is. absurd (serves f is);
       check = λ f is. absurd (not_checked words file f form is);
       load = λ seed frames is. absurd (not_both words file seed frames form is);
+      split = λ f is. absurd (not_split_replay words file f form is);
     }
 clauses_of {S} {K} {C} left written source_faults sink_faults readings words b0 b1 b2 b3 e e' status ran (inr (inr (inl (file, form, r)))) =
     let says : (lines : List ℕ) → ToldBy sink_faults written e e' lines → WasTold sink_faults written b0 b3 lines = λ lines told. ran_told sink_faults written b0 b1 b2 b3 e e' lines ran told in
@@ -117,6 +122,7 @@ clauses_of {S} {K} {C} left written source_faults sink_faults readings words b0 
       served_write = λ f is six. live_write_fault left written source_faults sink_faults readings _ b0 b3 file status six (did.session (subst (λ (n : ℕ). IsOneOf session_statuses n) (sym six) refl));
       check = λ f is. absurd (not_live words file f form is);
       load = λ seed frames is. absurd (not_loaded words file seed frames form is);
+      split = λ f is. absurd (not_split_serve words file f form is);
     }
 clauses_of {S} {K} {C} left written source_faults sink_faults readings words b0 b1 b2 b3 e e' status ran (inr (inr (inr (inl (file, form, r))))) =
     let replays : (f : List ℕ) → IsReplay f words → ⊥ = λ f is. not_checked words f file is form in
@@ -141,13 +147,14 @@ clauses_of {S} {K} {C} left written source_faults sink_faults readings words b0 
       served_write = λ f is. absurd (not_live words f file is form);
       check = λ f is. rw (same_journal words f file is form) (ran_check left written source_faults sink_faults file b0 b1 b2 b3 e e' status ran r);
       load = λ seed frames is. absurd (not_judged words file seed frames form is);
+      split = λ f is. absurd (not_split_check words file f form is);
     }
-clauses_of {S} {K} {C} left written source_faults sink_faults readings words b0 b1 b2 b3 e e' status ran (inr (inr (inr (inr (seed, frames, form, r))))) =
+clauses_of {S} {K} {C} left written source_faults sink_faults readings words b0 b1 b2 b3 e e' status ran (inr (inr (inr (inr (inl (seed, frames, form, r)))))) =
     let replays : (file : List ℕ) → IsReplay file words → ⊥ = λ file is. not_both words file seed frames is form in
     let Says : List ℕ → Type 0 = ToldBy sink_faults written e e' in
     record {
       one_of = load_is written sink_faults seed frames Says b1 b2 status r;
-      usage = (λ two. absurd (not_two written sink_faults seed frames Says b1 b2 status r two), λ none. absurd (none (inr (inr (inr (seed, frames, form))))));
+      usage = (λ two. absurd (not_two written sink_faults seed frames Says b1 b2 status r two), λ none. absurd (none (inr (inr (inr (inl (seed, frames, form)))))));
       untouched = λ two. absurd (not_two written sink_faults seed frames Says b1 b2 status r two);
       memory = λ one. ran_told sink_faults written b0 b1 b2 b3 e e' memory_line ran (load_memory written sink_faults seed frames Says b1 b2 status r one).0;
       unplayed = λ file is. absurd (replays file is);
@@ -167,4 +174,30 @@ clauses_of {S} {K} {C} left written source_faults sink_faults readings words b0 
       load = λ seed' frames' is.
           let same = same_load words seed' frames' seed frames is form in
           rw (same.0, same.1) (ran_load written sink_faults seed frames b0 b1 b2 b3 e e' status ran r);
+      split = λ f is. absurd (not_split_load words f seed frames form is);
+    }
+clauses_of {S} {K} {C} left written source_faults sink_faults readings words b0 b1 b2 b3 e e' status ran (inr (inr (inr (inr (inr (file, form, r)))))) =
+    let replays : (f : List ℕ) → IsReplay f words → ⊥ = λ f is. not_split_replay words f file is form in
+    let Says : List ℕ → Type 0 = ToldBy sink_faults written e e' in
+    record {
+      one_of = capture_is left written source_faults sink_faults file Says b1 b2 status r;
+      usage = (λ two. absurd (capture_not_two left written source_faults sink_faults file Says b1 b2 status r two), λ none. absurd (none (inr (inr (inr (inr (inl (file, form))))))));
+      untouched = λ two. absurd (capture_not_two left written source_faults sink_faults file Says b1 b2 status r two);
+      memory = λ one. ran_told sink_faults written b0 b1 b2 b3 e e' memory_line ran (capture_memory left written source_faults sink_faults file Says b1 b2 status r one);
+      unplayed = λ f is. absurd (replays f is);
+      config = λ f is. absurd (replays f is);
+      opening = λ seven. ran_open b0 b1 b2 b3 e e' ran (capture_opening left written source_faults sink_faults file Says b1 b2 status r seven);
+      unopened = λ f is. absurd (replays f is);
+      session = λ f is. absurd (replays f is);
+      read = λ f is. absurd (replays f is);
+      write = λ f is. absurd (replays f is);
+      quiet = λ quiet. ran_quiet b0 b1 b2 b3 e e' ran (capture_out left written source_faults sink_faults file Says b1 b2 status r quiet);
+      unused = λ f is. absurd (replays f is);
+      elsewhere = λ f is. absurd (replays f is);
+      serve = λ f is. absurd (not_split_serve words f file is form);
+      served_read = λ f is. absurd (not_split_serve words f file is form);
+      served_write = λ f is. absurd (not_split_serve words f file is form);
+      check = λ f is. absurd (not_split_check words f file is form);
+      load = λ seed frames is. absurd (not_split_load words file seed frames is form);
+      split = λ f is. rw (same_capture words f file is form) (ran_capture left written source_faults sink_faults file b0 b1 b2 b3 e e' status ran r);
     }

@@ -1,8 +1,8 @@
--- The words of the command line name one file to be replayed, served or checked, or one load.
+-- The words of the command line name one file to be replayed, served, checked or split, or one load.
 use Rattle.std.proofs.Common.{◌≡◌, ◌<◌, ◌^◌, ℕ, List, [], ◌∷◌, get_or, sym, ap, ◌∙◌, codes, decimal, arith}
 use Rattle.std.proofs.lemmas.Fmt.{decimal_is_IsNumeral}
 use Rattle.std.specs.Str.Parse.{digits_value}
-use Rattle.run_config.specs.Words.{IsCheck, IsGen, IsReplay, IsServe}
+use Rattle.run_config.specs.Words.{IsCheck, IsGen, IsReplay, IsServe, IsSplitWords}
 
 pub same_file : (words : List (List ℕ)) (a b : List ℕ) → IsReplay a words → IsReplay b words → a ≡ b
 same_file words a b first second =
@@ -68,4 +68,34 @@ not_judged words file seed frames check gen =
 pub not_both : (words : List (List ℕ)) (file : List ℕ) (seed frames : ℕ) → IsReplay file words → IsGen seed frames words → ⊥
 not_both words file seed frames replay gen =
     let both : codes "replay" ∷ file ∷ [] ≡ codes "gen" ∷ decimal seed ∷ decimal frames ∷ [] = sym replay ∙ gen.spelled in
+    cc
+
+pub same_capture : (words : List (List ℕ)) (a b : List ℕ) → IsSplitWords a words → IsSplitWords b words → a ≡ b
+same_capture words a b first second =
+    let both : codes "split" ∷ a ∷ [] ≡ codes "split" ∷ b ∷ [] = sym first ∙ second in
+    cc
+
+-- what is to be split isn't to be replayed, served or checked
+pub not_split_replay : (words : List (List ℕ)) (a b : List ℕ) → IsReplay a words → IsSplitWords b words → ⊥
+not_split_replay words a b replay split =
+    let both : codes "replay" ∷ a ∷ [] ≡ codes "split" ∷ b ∷ [] = sym replay ∙ split in
+    let first : 114 ≡ 115 = ap (λ (ws : List (List ℕ)). get_or (get_or ws 0 []) 0 0) both in
+    omega (arith, first)
+
+pub not_split_serve : (words : List (List ℕ)) (a b : List ℕ) → IsServe a words → IsSplitWords b words → ⊥
+not_split_serve words a b serve split =
+    let both : codes "serve" ∷ a ∷ [] ≡ codes "split" ∷ b ∷ [] = sym serve ∙ split in
+    let second : 101 ≡ 112 = ap (λ (ws : List (List ℕ)). get_or (get_or ws 0 []) 1 0) both in
+    omega (arith, second)
+
+pub not_split_check : (words : List (List ℕ)) (a b : List ℕ) → IsCheck a words → IsSplitWords b words → ⊥
+not_split_check words a b check split =
+    let both : codes "check" ∷ a ∷ [] ≡ codes "split" ∷ b ∷ [] = sym check ∙ split in
+    let first : 99 ≡ 115 = ap (λ (ws : List (List ℕ)). get_or (get_or ws 0 []) 0 0) both in
+    omega (arith, first)
+
+-- nor is it a load: there are two or three words
+pub not_split_load : (words : List (List ℕ)) (file : List ℕ) (seed frames : ℕ) → IsGen seed frames words → IsSplitWords file words → ⊥
+not_split_load words file seed frames gen split =
+    let both : codes "split" ∷ file ∷ [] ≡ codes "gen" ∷ decimal seed ∷ decimal frames ∷ [] = sym split ∙ gen.spelled in
     cc

@@ -12,4 +12,9 @@ pub mod Numbers
 pub mod Forms
 pub mod Loading
 pub mod Checking
-mod Clauses
+pub mod Splitting
+pub mod LearnThrough
+pub mod Clauses
+pub mod LearnFaults
+pub mod LearnClauses
+pub mod LearnRuns

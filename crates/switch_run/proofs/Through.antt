@@ -104,7 +104,7 @@ back_from None = tt
 back_from (Some x) = refl
 
 -- the numbers of what is held are those of the plan
-number_at : {S K C : Type 0} (held : List (PortEnds S K C)) (plans : List PortPlan) (k : ℕ) (d : PortEnds S K C) → ports_held held ≡ ports_of plans → k < length held → slice_index (numbers_of plans) k ≡ number_of (get_or held k d).port
+pub number_at : {S K C : Type 0} (held : List (PortEnds S K C)) (plans : List PortPlan) (k : ℕ) (d : PortEnds S K C) → ports_held held ≡ ports_of plans → k < length held → slice_index (numbers_of plans) k ≡ number_of (get_or held k d).port
 number_at {S} {K} {C} held plans k d ports inside =
     let first = length-map held (λ (p : PortEnds S K C). p.port) in
     let second = length-map plans (λ (p : PortPlan). p.number) in
@@ -115,7 +115,7 @@ number_at {S} {K} {C} held plans k d ports inside =
     ∙ ap (λ (l : List Port). get_or l k d.port) (sym ports)
     ∙ get_or-map (λ (p : PortEnds S K C). p.port) held k d d.port inside)
 
-size_of : {S K C : Type 0} (held : List (PortEnds S K C)) (plans : List PortPlan) → ports_held held ≡ ports_of plans → length held ≡ length plans
+pub size_of : {S K C : Type 0} (held : List (PortEnds S K C)) (plans : List PortPlan) → ports_held held ≡ ports_of plans → length held ≡ length plans
 size_of {S} {K} {C} held plans ports = sym (length-map held (λ (p : PortEnds S K C). p.port)) ∙ ap length ports ∙ length-map plans (λ (p : PortPlan). p.number)
 
 -- a port is held, or it is none of those
@@ -141,7 +141,7 @@ at_port {S} {K} {C} P held back old new k d handled inside holds =
     both_told (P (number_of (get_or held k d).port)) _ _ (get_or held k d).ends (get_or back k d).ends (handled.told k d inside) (kept_at held back old new k d handled inside) holds
 
 -- the same, of a place that is kept
-keeps_at : {S K C : Type 0} (P : Ends S K C → Ends S K C → Type 0) (held back : List (PortEnds S K C)) (old new : ℕ → Place (Ends S K C)) (k : ℕ) (d : PortEnds S K C) → Handled held back old new → k < length held
+pub keeps_at : {S K C : Type 0} (P : Ends S K C → Ends S K C → Type 0) (held back : List (PortEnds S K C)) (old new : ℕ → Place (Ends S K C)) (k : ℕ) (d : PortEnds S K C) → Handled held back old new → k < length held
     → P (get_or held k d).ends (get_or back k d).ends → Keeps P (old (number_of (get_or held k d).port)) (new (number_of (get_or held k d).port))
 keeps_at P held back old new k d handled inside holds = keeps_of P _ _ (get_or held k d).ends (get_or back k d).ends (handled.told k d inside) (kept_at held back old new k d handled inside) holds
 

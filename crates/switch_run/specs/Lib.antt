@@ -5,4 +5,7 @@ pub mod Live
 pub mod Concluded
 pub mod Loads
 pub mod Checks
+pub mod Splits
 pub mod Runs
+pub mod Learnings
+pub mod AnyRun

@@ -8,15 +8,20 @@
 //! served side by side, has one legal and finished history too, by which each end was served (`specs/Live.antt`). Where a
 //! load is asked for, its history, a plain definition of the seed and the number of packets, is summed up, and nothing is
 //! opened (`specs/Loads.antt`). Where a journal is to be checked, the line on standard output is the one answer to its text,
-//! `good` exactly where the text is the journal of a finished history (`specs/Checks.antt`).
+//! `good` exactly where the text is the journal of a finished history (`specs/Checks.antt`). Where a capture of several
+//! interfaces is to be split, each output holds the classic capture of its interface, or a front of it where the work stopped
+//! (`specs/Splits.antt`). Where captures are to be learned from, what is printed is a plain function of the plan, the window
+//! and whole inputs (`specs/Learnings.antt`).
 #![tactic(auto)]
 
 mod checks;
 mod ends_told;
+mod learning;
 mod live;
 mod loads;
 mod serving;
 mod session;
+mod splits;
 mod summing;
 mod top;
 

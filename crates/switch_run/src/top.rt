@@ -5,20 +5,25 @@ ghost use Rattle.std.specs.String.{string_bytes};
 ghost use Rattle.savi_ends.specs.declared.world.Std.{Std};
 ghost use Rattle.savi_ends.specs.Faults.{Rose};
 ghost use Rattle.savi_ends.specs.Places.{BothFresh, HandedNothing, IsReady, OthersStay};
-ghost use Rattle.run_config.specs.Configs.{IsBuilt};
+ghost use Rattle.run_config.specs.Configs.{EndHasFault, IsBuilt};
 ghost use Rattle.switch_report.specs.RunLines.{memory_line, usage_line};
-ghost use Rattle.run_config.specs.Words.{IsCheck, IsForm, IsGen, IsReplay, IsServe};
+ghost use Rattle.run_config.specs.Words.{IsCheck, IsForm, IsGen, IsLearn, IsReplay, IsServe, IsSplitWords};
 ghost use Rattle.switch_run.specs.Causes.{HasSomeReadFault, HasSomeWriteFault, IsElsewhereSame, IsOffPlanSame, IsOneOf, IsUnserved, IsUnused, IsUnusedOf, IsUntouched, KeepsAll, quiet_statuses, session_statuses, statuses, unused_statuses};
 ghost use Rattle.switch_run.specs.Checks.{IsCheckRun};
 ghost use Rattle.switch_run.specs.Loads.{IsLoadRun};
-ghost use Rattle.switch_run.specs.Runs.{IsReplayRun, IsGenRun, IsServeRun};
+ghost use Rattle.switch_run.specs.AnyRun.{IsAnyRun};
+ghost use Rattle.switch_run.specs.Learnings.{IsLearnRun};
+ghost use Rattle.switch_run.specs.Runs.{IsReplayRun, IsServeRun};
+ghost use Rattle.switch_run.specs.Splits.{IsCaptureRun};
 ghost use Rattle.switch_run.specs.Session.{IsNoPlan, IsPartUnopened, IsSession, IsSessionOf, IsUnopened, IsUnplayed, IsFileUnread, WasTold, ToldBy};
 
 use crate::checks::check_file;
 use crate::ends_told::refuse;
+use crate::learning::learn_file;
 use crate::loads::generate;
 use crate::serving::serve_file;
 use crate::session::{Played, play};
+use crate::splits::split_capture;
 use crate::summing::conclude;
 use live_turns::Gate;
 use port_worker::{PortEnds, Ready};
@@ -54,7 +59,10 @@ pub const TOO_LONG: u8 = 8;
 /// control, where the plan names it. Statuses 0, 4, 6 and 8 say that the session began, and 5 too, unless a read of the
 /// configuration failed; the other statuses have their causes. `check FILE` writes what the text of FILE is, as a journal:
 /// the status is 0 where it is the journal of a finished history, 4 where it isn't, and 1, 5, 6 or 7 by its cause.
-/// `gen SEED FRAMES` replays a load in memory, and sums it up: the status is 0, 1 or 6.
+/// `gen SEED FRAMES` replays a load in memory, and sums it up: the status is 0, 1 or 6. `split FILE` splits a capture of
+/// several interfaces into one for each: the status is 0, or 4 where FILE is malformed, and 1, 5, 6 or 7 by its cause.
+/// `learn FILE MS` reads the captures as a replay does, and writes what they say of routers, with a window of MS: its statuses
+/// are those of `replay`, but for 8.
 ///
 /// `serve FILE` runs a live session over the ports, the control and the ticker of the plan that FILE says, and its statuses
 /// are those of `replay`. It may go on for good; nothing else waits. The gate sees each turn of its workers.
@@ -89,7 +97,11 @@ where
     ensures served_read { (file : List ℕ) → IsServe file (map string_bytes words.now) → result ≡ 5 → HasSomeReadFault W.S.faults file (W.book world.new) }
     ensures served_write { (file : List ℕ) → IsServe file (map string_bytes words.now) → result ≡ 6 → HasSomeWriteFault W.K.faults (W.book world.new) }
     ensures check { (file : List ℕ) → IsCheck file (map string_bytes words.now) → IsCheckRun W.S.left W.K.written W.S.faults W.K.faults file (WasTold W.K.faults W.K.written (W.book world.old) (W.book world.new)) (W.book world.old) (W.book world.new) result }
+    ensures learn { (file : List ℕ) (window : ℕ) → IsLearn file window (map string_bytes words.now) → IsLearnRun W.S.left W.K.written W.S.faults W.K.faults file window (WasTold W.K.faults W.K.written (W.book world.old) (W.book world.new)) (W.book world.old) (W.book world.new) result }
+    ensures learned_read { (file : List ℕ) (window : ℕ) → IsLearn file window (map string_bytes words.now) → result ≡ 5 → HasSomeReadFault W.S.faults file (W.book world.new) }
+    ensures learned_write { (file : List ℕ) (window : ℕ) → IsLearn file window (map string_bytes words.now) → result ≡ 6 → EndHasFault W.K.faults ((W.book world.new).std Std.Out) }
     ensures load { (seed frames : ℕ) → IsGen seed frames (map string_bytes words.now) → IsLoadRun W.K.written W.K.faults seed frames (WasTold W.K.faults W.K.written (W.book world.old) (W.book world.new)) (W.book world.old) (W.book world.new) result }
+    ensures split { (file : List ℕ) → IsSplitWords file (map string_bytes words.now) → IsCaptureRun W.S.left W.K.written W.S.faults W.K.faults file (WasTold W.K.faults W.K.written (W.book world.old) (W.book world.new)) (W.book world.old) (W.book world.new) result }
 {
     let mut errors = world.std(Std::Err);
     let status = perform(rt, alloc, words, world, &mut errors, gate);
@@ -116,7 +128,7 @@ where
     requires control { (key : _) → IsReady (BothFresh W.S.faults W.K.faults) ((W.book world.old).control key) }
     requires ticker { (W.book world.old).ticker.is_out ≡ false }
     requires out { IsReady (λ k. W.K.faults k ≡ 0) ((W.book world.old).std Std.Out) }
-    ensures ran { IsGenRun W.S.left W.K.written W.S.faults W.K.faults W.C.readings (map string_bytes words.now) (ToldBy W.K.faults W.K.written errors.old errors.new) (W.book world.old) (W.book world.new) result }
+    ensures ran { IsAnyRun W.S.left W.K.written W.S.faults W.K.faults W.C.readings (map string_bytes words.now) (ToldBy W.K.faults W.K.written errors.old errors.new) (W.book world.old) (W.book world.new) result }
     ensures others { OthersStay (W.book world.old).std (W.book world.new).std Std.Out }
 {
     match asked_by(words) {
@@ -124,6 +136,8 @@ where
         Asked::Serve(file) => serve_file(rt, alloc, file, world, errors, gate),
         Asked::Check(file) => check_file(alloc, file, world, errors),
         Asked::Generate { seed, frames } => generate(alloc, seed, frames, world, errors),
+        Asked::Split(file) => split_capture(alloc, file, world, errors),
+        Asked::Learn { file, window } => learn_file(alloc, file, window, world, errors),
         Asked::NoForm => {
             let _put = tell_usage(errors);
             USAGE

@@ -51,7 +51,7 @@ fn a_line_is_one_write(rt: HostRuntime) -> Result<(), Fail> {
     assert_eq!(rt; tell_config(&mut sink, ConfFault::NotToml), Put::Done);
     assert_eq!(rt;
         sink.written(),
-        b"usage: savi_switch replay FILE, serve FILE, check FILE, gen SEED FRAMES
+        b"usage: savi_switch replay FILE, serve FILE, check FILE, gen SEED FRAMES, split FILE, learn FILE MS
 out of memory
 out of memory
 cannot open port 16

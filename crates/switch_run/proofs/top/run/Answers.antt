@@ -1,6 +1,7 @@
 use Rattle.std.specs.Prelude.{map}
 use Rattle.std.specs.String.{string_bytes}
-use Rattle.switch_run.proofs.Clauses.{Clauses, clauses_of}
+use Rattle.switch_run.proofs.Clauses.{Clauses}
+use Rattle.switch_run.proofs.LearnClauses.{AllClauses, all_clauses}
 use Rattle.switch_run.proofs.Running.{Ran}
 use Rattle.switch_run.proofs.top.run.Given as given
 use Rattle.switch_run.proofs.top.run.Goals as goal
@@ -16,8 +17,11 @@ ran g c = record {
   rest3 = c.keep_std.ensures.rest;
 }
 
+ran_all : (g : given.Over) (c : goal.After-keep_std g) → AllClauses g.W.S.Source.left g.W.K.Sink.written g.W.S.Source.faults g.W.K.Sink.faults g.W.C.Clock.readings (map string_bytes c.args.words.now) (g.W.World.book c.args.world.now) (g.W.World.book c.keep_std.new.self) c.perform-status.result
+ran_all g c = all_clauses g.W.S.Source.left g.W.K.Sink.written g.W.S.Source.faults g.W.K.Sink.faults g.W.C.Clock.readings _ _ _ _ _ _ _ _ (ran g c) c.perform-status.ensures.ran
+
 ran_so : (g : given.Over) (c : goal.After-keep_std g) → Clauses g.W.S.Source.left g.W.K.Sink.written g.W.S.Source.faults g.W.K.Sink.faults g.W.C.Clock.readings (map string_bytes c.args.words.now) (g.W.World.book c.args.world.now) (g.W.World.book c.keep_std.new.self) c.perform-status.result
-ran_so g c = clauses_of g.W.S.Source.left g.W.K.Sink.written g.W.S.Source.faults g.W.K.Sink.faults g.W.C.Clock.readings _ _ _ _ _ _ _ _ (ran g c) c.perform-status.ensures.ran
+ran_so g c = (ran_all g c).others
 
 pub returns-clause-status : goal.returns-clause-status
 returns-clause-status g c = (ran_so g c).one_of
@@ -75,3 +79,15 @@ returns-clause-load g c = (ran_so g c).load
 
 pub returns-clause-check : goal.returns-clause-check
 returns-clause-check g c = (ran_so g c).check
+
+pub returns-clause-split : goal.returns-clause-split
+returns-clause-split g c = (ran_so g c).split
+
+pub returns-clause-learn : goal.returns-clause-learn
+returns-clause-learn g c = (ran_all g c).learn
+
+pub returns-clause-learned_read : goal.returns-clause-learned_read
+returns-clause-learned_read g c = (ran_all g c).learned_read
+
+pub returns-clause-learned_write : goal.returns-clause-learned_write
+returns-clause-learned_write g c = (ran_all g c).learned_write
