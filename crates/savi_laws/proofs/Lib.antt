@@ -4,6 +4,7 @@ pub mod OwnMarks
 pub mod Raising
 pub mod OwnVlan
 pub mod FewEnds
+pub mod Given
 pub mod ReplayBudget
 pub mod Weights
 pub mod FewLeases

@@ -1,6 +1,15 @@
--- What an address comes to by its own marks, from two bases.
-use Rattle.std.proofs.Common.{◌≡◌, ℕ, Bool, true, false, List, Option, is_some, option_map, unwrap_or, if◌then◌else◌, refl, sym, ap, ◌∙◌}
+-- What an address comes to by its own marks, from two bases. And that a frame which comes to its source is judged so.
+use Rattle.std.proofs.Common.{◌≡◌, ◌≢◌, ℕ, Bool, true, false, List, Option, is_some, option_map, unwrap_or, if◌then◌else◌, refl, sym, ap, ◌∙◌}
+use Rattle.std.proofs.lemmas.Bool.{ne_eqb}
 use Rattle.savi_kinds.specs.declared.plan.Plan.{Plan}
+use Rattle.savi_kinds.specs.declared.plan.Role.{Role}
+use Rattle.savi_kinds.specs.declared.plan.Role.TheVariants as roles
+use Rattle.savi_kinds.specs.Ports.{number_of}
+use Rattle.savi_kinds.specs.declared.verdict.Rule.{Rule}
+use Rattle.v6_chain.specs.declared.packet.Ip.{Ip}
+use Rattle.frame_class.specs.declared.classes.Class.{Class}
+use Rattle.frame_class.specs.declared.classes.Read.{Read}
+use Rattle.frame_class.specs.ClassOf.{class_of}
 use Rattle.savi_kinds.specs.declared.port.Port.{Port}
 use Rattle.savi_kinds.specs.declared.verdict.Rule.TheVariants.{OffLink, Unverified}
 use Rattle.savi_kinds.specs.declared.verdict.Verdict.TheVariants.{Drop}
@@ -13,13 +22,17 @@ use Rattle.hist_store.specs.Rows.{Row}
 use Rattle.savi_access.specs.declared.sent.SentProbe.{SentProbe}
 use Rattle.savi_access.specs.Rows.{state_in}
 use Rattle.savi_access.specs.States.{outcome_by, state_of}
-use Rattle.savi_access.specs.Marks.{told}
-use Rattle.savi_access.specs.Judged.{Judged, answer_to, answered, drops}
-use Rattle.savi_access.specs.Plans.{rules_of}
+use Rattle.savi_access.specs.Rules.{AccessRules, AccessBase}
+use Rattle.savi_access.specs.Marks.{Mark, told}
+use Rattle.savi_access.specs.Judged.{Judged, answer_to, answered, drops, passes, from_unspecified, followed, sourced, validated, judged_for, judged_by, judged}
+use Rattle.savi_access.specs.Plans.{rules_of, role_of}
 use Rattle.savi_access.proofs.MarksOn.{moved_by, own_marks}
 use Rattle.savi_history.specs.Bases.{Base, access_of}
-use Rattle.savi_history.specs.Marks.{marks}
-use Rattle.savi_laws.specs.Addresses.{told_on, address_at, port_has_room, source_step}
+use Rattle.savi_history.specs.Vlans.{the_vlan}
+use Rattle.savi_history.specs.Moments.{moment_at}
+use Rattle.savi_history.specs.Marks.{marks, judged_at}
+use Rattle.savi_history.specs.Judged.{judged_of}
+use Rattle.savi_laws.specs.Addresses.{told_on, address_at, port_has_room, source_step, ComesToSource}
 
 either_verdict : (b : Bool) (one two one_other two_other : Judged) → one.verdict ≡ one_other.verdict → two.verdict ≡ two_other.verdict
     → (if b then one else two).verdict ≡ (if b then one_other else two_other).verdict
@@ -75,3 +88,36 @@ module _ (plan : Plan) (base other_base : Base) (past other : List Row) (vlan a 
         (drops OffLink (marks plan other_base other))
         (ap (λ (x : Answer). sent_by t a x) answer_same)
         refl
+
+-- the sources of a port that isn't trusted are validated
+as_validated : (r : AccessRules) (base : AccessBase) (vlan : ℕ) (port : Port) (t : ℕ) (past : List Mark) (class : Class) (role : Role) → role ≢ roles.Trusted
+    → judged_for r base vlan port t past class role ≡ validated r base vlan port t past class
+as_validated r base vlan port t past class roles.Host other = refl
+as_validated r base vlan port t past class roles.Server other = refl
+as_validated r base vlan port t past class roles.Trusted other = absurd (other refl)
+
+module _ (plan : Plan) (base : Base) (past : List Row) (port : Port) (stamp : ℕ) (octets : List ℕ) (ip : Ip) (read : Read) (comes : ComesToSource plan base past port octets ip read) where
+  abbrev rules : AccessRules
+  rules = rules_of plan
+
+  abbrev before : List Mark
+  before = marks plan base past
+
+  abbrev now : ℕ
+  now = moment_at base past stamp
+
+  by_source : sourced rules (access_of base) the_vlan port now before ip read ≡ followed rules (access_of base) the_vlan port now (source_step plan base past now the_vlan port ip.src.0) read
+  by_source = refl
+
+  pub frame_step : judged_of plan base past port stamp octets
+      ≡ followed (rules_of plan) (access_of base) the_vlan port (moment_at base past stamp) (source_step plan base past (moment_at base past stamp) the_vlan port ip.src.0) read
+  unfolding judged
+  frame_step =
+      ap (λ (shut : Bool). judged_at rules (access_of base) shut before port now (class_of octets)) comes.up
+      ∙ ap (λ (g : Option Rule). judged_by rules (access_of base) the_vlan port now before (class_of octets) g) comes.clear
+      ∙ ap (λ (on : Bool). if on then judged_for rules (access_of base) the_vlan port now before (class_of octets) (role_of plan (number_of port)) else passes before) comes.validates
+      ∙ as_validated rules (access_of base) the_vlan port now before (class_of octets) (role_of plan (number_of port)) comes.role
+      ∙ ap (validated rules (access_of base) the_vlan port now before) comes.packet
+      ∙ ap (λ (b : Bool). if b then from_unspecified rules (access_of base) the_vlan port now before ip read else sourced rules (access_of base) the_vlan port now before ip read)
+      (ne_eqb ip.src.0 0 comes.source)
+      ∙ by_source

@@ -1,9 +1,10 @@
--- A frame of one port makes another port hold more only by a lease.
-use Rattle.std.proofs.Common.{◌≡◌, ℕ, ◌<◌, ◌≤◌, ◌==◌, ◌||◌, Bool, true, false, Option, Some, None, if◌then◌else◌, List, [], ◌∷◌, ◌++◌, refl, sym, ap, ◌∙◌, inl, inr, ◌⊎◌, arith}
-use Rattle.std.proofs.lemmas.Bool.{cases_lt}
+-- A frame of one port makes another port hold an address only by a lease of it.
+use Rattle.std.proofs.Common.{◌≡◌, ℕ, ◌<◌, ◌≤◌, ◌==◌, ◌||◌, Bool, true, false, Option, Some, None, if◌then◌else◌, List, [], ◌∷◌, ◌++◌, refl, sym, ap, subst, ◌∙◌, inl, inr, ◌⊎◌, arith}
+use Rattle.std.proofs.lemmas.Bool.{cases_Bool, cases_lt, false≢true, and_parts, eqb-true}
 use Rattle.arrayvec.specs.ArrayVec.{ArrayVec}
 use Rattle.savi_kinds.specs.declared.plan.Plan.{Plan}
 use Rattle.savi_kinds.specs.declared.port.Port.{Port}
+use Rattle.savi_kinds.specs.declared.plan.Method.{Method}
 use Rattle.savi_kinds.specs.declared.plan.Role.{Role}
 use Rattle.savi_kinds.specs.declared.plan.Role.TheVariants as roles
 use Rattle.savi_kinds.specs.declared.verdict.Rule.{Rule}
@@ -25,12 +26,17 @@ use Rattle.fcfs_states.specs.declared.event.Ev.{Ev}
 use Rattle.fcfs_states.specs.declared.event.Ev.TheVariants.{Sent, Dad, Na, TpDad, TpNa, Lease, Release}
 use Rattle.dhcp_states.specs.declared.request.Request.{Request}
 use Rattle.dhcp_states.specs.Requests.{request_of, refusal, asker}
+use Rattle.mix_rules.specs.declared.state.AddrState.{AddrState}
+use Rattle.mix_rules.specs.States.{nobody, IsHeldAt, is_held_at}
+use Rattle.mix_rules.specs.Ageing.{aged_state}
 use Rattle.mix_rules.specs.Holders.{MakesHolder}
+use Rattle.mix_rules.proofs.HolderLemmas.{next-held, aged-held}
 use Rattle.hist_store.specs.Rows.{Row}
 use Rattle.savi_access.specs.Bases.{AddrRules, AddrBase, AreTables}
 use Rattle.savi_access.specs.Keeps.{IsWithinRules}
 use Rattle.savi_access.specs.Limits.{IsAddrBase}
-use Rattle.savi_access.specs.NamedMarks.{Named}
+use Rattle.savi_access.specs.NamedMarks.{Named, mark_of, names}
+use Rattle.savi_access.specs.States.{outcome_by, state_of, state_at}
 use Rattle.savi_access.specs.Tables.{held_at}
 use Rattle.savi_access.specs.Probes.{IsAmong}
 use Rattle.savi_access.specs.Rules.{AccessRules, AccessBase}
@@ -38,7 +44,9 @@ use Rattle.savi_access.specs.Marks.{Mark, Told, Asked, Met, told, named_for, ope
 use Rattle.savi_access.specs.Frames.{dad_target, advertised, dhcp_to, is_router_solicitation, is_listener_message, asking_duid, answered_duid, gives_up}
 use Rattle.savi_access.specs.Judged.{Judged, judged, judged_by, judged_for, validated, trusted, heard_or, from_unspecified, unspecified_by, sourced, message, message_by, dhcp_or_other, to_server_by, to_client_or_other, replied, replied_by, asked, asked_by, answered, answered_or, with_event, with_events, is_on_link, is_passed, comes_to, passes, drops}
 use Rattle.savi_access.specs.Plans.{rules_of}
-use Rattle.savi_access.proofs.Holding.{more-held}
+use Rattle.savi_access.proofs.Held.{held_once}
+use Rattle.savi_access.proofs.Holding.{held-told, told-held, more-held}
+use Rattle.savi_access.proofs.MarksOn.{state_of-own, state_of-other}
 use Rattle.savi_history.specs.Bases.{Base, access_of}
 use Rattle.savi_history.specs.Vlans.{the_vlan}
 use Rattle.savi_history.specs.ShutPorts.{is_shut}
@@ -46,21 +54,78 @@ use Rattle.savi_history.specs.Moments.{moment_at}
 use Rattle.savi_history.specs.Limits.{IsWithinLimits}
 use Rattle.savi_history.specs.Marks.{marks, judged_at}
 use Rattle.savi_history.specs.Judged.{judged_of}
-use Rattle.savi_laws.specs.Raised.{held_after, GivesLease}
+use Rattle.savi_laws.specs.Raised.{held_after, HoldsAfter, GivesLease}
 
-module _ (r : AccessRules) (base : AccessBase) (times : AreTimes r.addresses.times) (tables : AreTables base.addresses) (vlan : ℕ) (port : Port) (t : ℕ) (q : Port) (apart : ¬ Same port q) (start : List Mark) where
+-- a mark makes a port hold an address no more, or it is of this address and makes the port its holder
+module _ (r : AddrRules) (b : AddrBase) (times : AreTimes r.times) (vlan a : ℕ) (port : Port) where
+  abbrev state_then : List Named → ℕ → AddrState
+  state_then past t = state_at r b past t vlan a
+
+  own_holder : (named : Named) (past : List Named) → names vlan a named ≡ true → is_held_at (number_of port) (state_then past named.moment) ≡ false
+      → is_held_at (number_of port) (state_then (named ∷ past) named.moment) ≡ true → MakesHolder port named.room named.event
+  own_holder named past is free held =
+      let now : IsHeldAt (state_of r b (named ∷ past) vlan a) port =
+      aged-held r.times named.moment (state_of r b (named ∷ past) vlan a) port times (held-told (state_then (named ∷ past) named.moment) port held) in
+      by_method (r.method_of vlan a) (subst (λ (s : AddrState). IsHeldAt s port) (state_of-own r b vlan a named past is) now)
+    where
+      by_method : (method : Option Method) → IsHeldAt (outcome_by method r.times (mark_of named) (state_of r b past vlan a)).1 port → MakesHolder port named.room named.event
+      by_method None holds = absurd (false≢true (told-held nobody port holds))
+      by_method (Some m) holds =
+          next-held m r.times named.moment named.room (state_then past named.moment) named.event port
+          (λ was. false≢true (sym free ∙ told-held (state_then past named.moment) port was)) holds
+
+  -- a port that holds an address holds it once
+  once_most : (before after : AddrState) → is_held_at (number_of port) before ≡ true → held_once (number_of port) after ≤ held_once (number_of port) before
+  once_most before after is = rw is (most (is_held_at (number_of port) after))
+    where
+      most : (b : Bool) → (if b then 1 else 0) ≤ 1
+      most true = omega arith
+      most false = omega arith
+
+  none_least : (before after : AddrState) → is_held_at (number_of port) after ≡ false → held_once (number_of port) after ≤ held_once (number_of port) before
+  none_least before after not = rw not (omega arith)
+
+  abbrev once_at : List Named → ℕ → ℕ
+  once_at past t = held_once (number_of port) (state_then past t)
+
+  mark_once : (named : Named) (past : List Named) → (once_at (named ∷ past) named.moment ≤ once_at past named.moment)
+      ⊎ (MakesHolder port named.room named.event × (named.vlan ≡ vlan) × (named.address ≡ a))
+  mark_once named past =
+      elim (cases_Bool (names vlan a named)) [
+        | inr other ↦
+            let same : once_at (named ∷ past) named.moment ≡ once_at past named.moment =
+            ap (λ (s : AddrState). held_once (number_of port) (aged_state r.times named.moment s).state) (state_of-other r b vlan a named past other) in
+            inl (omega (arith, same))
+        | inl is ↦
+            let both : ((named.vlan == vlan) ≡ true) × ((named.address == a) ≡ true) = and_parts (named.vlan == vlan) (named.address == a) is in
+            elim (cases_Bool (is_held_at (number_of port) (state_then past named.moment))) [
+              | inl was ↦ inl (once_most (state_then past named.moment) (state_then (named ∷ past) named.moment) was)
+              | inr free ↦
+                  elim (cases_Bool (is_held_at (number_of port) (state_then (named ∷ past) named.moment))) [
+                    | inr not ↦ inl (none_least (state_then past named.moment) (state_then (named ∷ past) named.moment) not)
+                    | inl held ↦ inr (own_holder named past is free held, eqb-true named.vlan vlan both.0, eqb-true named.address a both.1)
+                  ]
+            ]
+      ]
+
+-- `held` counts what q holds of what was told. A mark at t raises it only where it makes q a holder, of such an address.
+abbrev Raises : Port → ℕ → ℕ → (List Named → ℕ) → (ℕ → Type 0) → Type 0
+Raises q vlan t held Of = (named : Named) (past : List Named) → named.vlan ≡ vlan → named.moment ≡ t
+    → (held (named ∷ past) ≤ held past) ⊎ (MakesHolder q named.room named.event × Of named.address)
+
+module _ (r : AccessRules) (base : AccessBase) (vlan : ℕ) (port : Port) (t : ℕ) (q : Port) (apart : ¬ Same port q) (start : List Mark) (held_by : List Named → ℕ) (Of : ℕ → Type 0) (raises : Raises q vlan t held_by Of) where
   abbrev held : List Mark → ℕ
-  held marks = held_at r.addresses base.addresses (told marks) t (number_of q)
+  held marks = held_by (told marks)
 
   -- new marks in front of the first ones, by which q holds no more and no request was asked or met
   record Low (marks : List Mark) : Type 0 where
     new : List Mark
     is : marks ≡ new ++ start
-    low : held_at r.addresses base.addresses (told marks) t (number_of q) ≤ held_at r.addresses base.addresses (told start) t (number_of q)
+    low : held_by (told marks) ≤ held_by (told start)
     requests : open_requests base vlan marks t ≡ open_requests base vlan start t
 
   abbrev Good : List Mark → Type 0
-  Good marks = held start < held marks → GivesLease base vlan t q start marks
+  Good marks = held start < held marks → (a : ℕ) × Of a × GivesLease base vlan t q a start marks
 
   none_good : (marks : List Mark) → held marks ≤ held start → Good marks
   none_good marks low = λ more. absurd (omega (arith, low, more))
@@ -72,13 +137,9 @@ module _ (r : AccessRules) (base : AccessBase) (times : AreTimes r.addresses.tim
   low_start = record { new = []; is = refl; low = omega arith; requests = refl }
 
   -- an event makes q hold no more, or it makes q a holder
-  more_or_not : (past : List Mark) (a : ℕ) (event : Ev) → (held (with_event r base vlan port t a event past) ≤ held past) ⊎ ((room : Bool) × MakesHolder q room event)
-  more_or_not past a event =
-      let named : Named = named_for r base vlan t past a event in
-      elim (cases_lt (held past) (held (Told named ∷ past))) [
-        | inl more ↦ inr (named.room, more-held r.addresses base.addresses times tables named (told past) q more)
-        | inr not ↦ inl (omega (arith, not))
-      ]
+  more_or_not : (past : List Mark) (a : ℕ) (event : Ev) → (held (with_event r base vlan port t a event past) ≤ held past)
+      ⊎ (MakesHolder q (named_for r base vlan t past a event).room event × Of a)
+  more_or_not past a event = raises (named_for r base vlan t past a event) (told past) refl refl
 
   told_low : (past : List Mark) → Low past → (a : ℕ) (event : Ev) → ((room : Bool) → ¬ MakesHolder q room event) → Low (with_event r base vlan port t a event past)
   told_low past low a event never =
@@ -90,9 +151,9 @@ module _ (r : AccessRules) (base : AccessBase) (times : AreTimes r.addresses.tim
         requests = low.requests;
       }
     where
-      no_more : (held (with_event r base vlan port t a event past) ≤ held past) ⊎ ((room : Bool) × MakesHolder q room event) → held (with_event r base vlan port t a event past) ≤ held start
+      no_more : (held (with_event r base vlan port t a event past) ≤ held past) ⊎ (MakesHolder q (named_for r base vlan t past a event).room event × Of a) → held (with_event r base vlan port t a event past) ≤ held start
       no_more (inl fewer) = omega (arith, fewer, low.low)
-      no_more (inr makes) = absurd (never makes.0 makes.1)
+      no_more (inr makes) = absurd (never (named_for r base vlan t past a event).room makes.0)
 
   or_low : (b : Bool) (past : List Mark) (rule : Rule) (x : Judged) → Low past → Low x.marks → Low (if b then x else drops rule past).marks
   or_low true past rule x low more = more
@@ -116,17 +177,17 @@ module _ (r : AccessRules) (base : AccessBase) (times : AreTimes r.addresses.tim
   -- a lease of p that was told among these marks, where p is q
   record Leased (p : Port) (new : List Mark) : Type 0 where
     same : Same p q
-    named : Named
+    address : ℕ
+    of : Of address
     valid : ℕ
-    lease : named.event ≡ Lease p valid
-    among : IsAmong (Told named) new
+    among : IsAmong (Told (record { vlan = vlan; address = address; moment = t; event = Lease p valid; room = true })) new
 
   -- behind a request of p that was met: q holds no more, or a lease was told
   record Given (tid : ℕ) (duid : List ℕ) (p : Port) (marks : List Mark) : Type 0 where
     new : List Mark
     is : marks ≡ new ++ start
     met : IsAmong (Met vlan t tid duid) new
-    leased : (held_at r.addresses base.addresses (told marks) t (number_of q) ≤ held_at r.addresses base.addresses (told start) t (number_of q)) ⊎ Leased p new
+    leased : (held_by (told marks) ≤ held_by (told start)) ⊎ Leased p new
 
   leased_one : (tid : ℕ) (duid : List ℕ) (p : Port) (past : List Mark) → Given tid duid p past → (a valid : ℕ) → Given tid duid p (with_event r base vlan port t a (Lease p valid) past)
   leased_one tid duid p past given a valid =
@@ -138,13 +199,20 @@ module _ (r : AccessRules) (base : AccessBase) (times : AreTimes r.addresses.tim
         leased = leased_by given.leased (more_or_not past a (Lease p valid));
       }
     where
-      leased_by : (held past ≤ held start) ⊎ Leased p given.new → (held (with_event r base vlan port t a (Lease p valid) past) ≤ held past) ⊎ ((room : Bool) × MakesHolder q room (Lease p valid))
+      leased_by : (held past ≤ held start) ⊎ Leased p given.new
+          → (held (with_event r base vlan port t a (Lease p valid) past) ≤ held past) ⊎ (MakesHolder q (named_for r base vlan t past a (Lease p valid)).room (Lease p valid) × Of a)
           → (held (with_event r base vlan port t a (Lease p valid) past) ≤ held start) ⊎ Leased p (Told (named_for r base vlan t past a (Lease p valid)) ∷ given.new)
-      leased_by (inr before) any = inr (record { same = before.same; named = before.named; valid = before.valid; lease = before.lease; among = inr before.among })
+      leased_by (inr before) any = inr (record { same = before.same; address = before.address; of = before.of; valid = before.valid; among = inr before.among })
       leased_by (inl low) (inl fewer) = inl (omega (arith, low, fewer))
       leased_by (inl low) (inr makes) =
-          let both : Same p q × (makes.0 ≡ true) = makes.1 in
-          inr (record { same = both.0; named = named_for r base vlan t past a (Lease p valid); valid = valid; lease = refl; among = inl refl })
+          let both : Same p q × ((named_for r base vlan t past a (Lease p valid)).room ≡ true) = makes.0 in
+          inr (record {
+            same = both.0;
+            address = a;
+            of = makes.1;
+            valid = valid;
+            among = inl (ap (λ (room : Bool). Told (record { vlan = vlan; address = a; moment = t; event = Lease p valid; room = room })) (sym both.1));
+          })
 
   if_given : (tid : ℕ) (duid : List ℕ) (p : Port) (b : Bool) (past more : List Mark) → Given tid duid p past → Given tid duid p more → Given tid duid p (if b then more else past)
   if_given tid duid p true past more given rest = rest
@@ -162,20 +230,22 @@ module _ (r : AccessRules) (base : AccessBase) (times : AreTimes r.addresses.tim
     where
       by_lease : (held marks ≤ held start) ⊎ Leased p given.new → Good marks
       by_lease (inl low) = none_good marks low
-      by_lease (inr leased) = λ more. record {
-        new = given.new;
-        is = given.is;
-        port = p;
-        same = leased.same;
-        tid = tid;
-        duid = duid;
-        asked = asked;
-        met = given.met;
-        named = leased.named;
-        valid = leased.valid;
-        lease = leased.lease;
-        told = leased.among;
-      }
+      by_lease (inr leased) = λ more. (
+        leased.address,
+        leased.of,
+        record {
+          new = given.new;
+          is = given.is;
+          port = p;
+          same = leased.same;
+          tid = tid;
+          duid = duid;
+          asked = asked;
+          met = given.met;
+          valid = leased.valid;
+          told = leased.among;
+        },
+      )
 
   replied_good_by : (past : List Mark) → Low past → (dhcp : Dhcp) (duid : List ℕ) (o : Option Port) → asker dhcp.tid duid (open_requests base vlan past t) ≡ o → Good (replied_by r base vlan port t past dhcp duid o)
   replied_good_by past low dhcp duid None asks = low_good past low
@@ -277,19 +347,95 @@ module _ (r : AccessRules) (base : AccessBase) (times : AreTimes r.addresses.tim
 tables_in : (r : AddrRules) (b : AddrBase) → IsAddrBase r b → AreTables b
 tables_in r b is vlan = let kept : IsWithinRules r.times r.per_port (b.rows vlan) = is.kept vlan in kept.table
 
-pub frame_raises : (plan : Plan) (base : Base) (past : List Row) (port q : Port) (stamp : ℕ) (octets : List ℕ) → IsWithinLimits plan base → ¬ Same port q
-    → held_after plan base (marks plan base past) (moment_at base past stamp) (number_of q) < held_after plan base (judged_of plan base past port stamp octets).marks (moment_at base past stamp) (number_of q)
-    → GivesLease (access_of base) the_vlan (moment_at base past stamp) q (marks plan base past) (judged_of plan base past port stamp octets).marks
-frame_raises plan base past port q stamp octets within apart = by_shut (is_shut plan base (number_of port) past)
-  where
-    by_shut : (b : Bool)
-        → held_after plan base (marks plan base past) (moment_at base past stamp) (number_of q) < held_after plan base (judged_at (rules_of plan) (access_of base) b (marks plan base past) port (moment_at base past stamp) (class_of octets)).marks (moment_at base past stamp) (number_of q)
-        → GivesLease (access_of base) the_vlan (moment_at base past stamp) q (marks plan base past) (judged_at (rules_of plan) (access_of base) b (marks plan base past) port (moment_at base past stamp) (class_of octets)).marks
-    by_shut true more =
-        let same : held_after plan base (marks plan base past) (moment_at base past stamp) (number_of q) < held_after plan base (marks plan base past) (moment_at base past stamp) (number_of q) = more in
-        absurd (omega (arith, same))
-    by_shut false more =
-        let addresses : IsAddrBase (rules_of plan).addresses (access_of base).addresses = within.access.addresses in
-        let times : AreTimes (rules_of plan).addresses.times = let kept : IsWithinRules (rules_of plan).addresses.times (rules_of plan).addresses.per_port (base.rows the_vlan) = addresses.kept the_vlan in kept.times in
-        let tables : AreTables (access_of base).addresses = tables_in (rules_of plan).addresses (access_of base).addresses addresses in
-        judged_good (rules_of plan) (access_of base) times tables the_vlan port (moment_at base past stamp) q apart (marks plan base past) (class_of octets) more
+module _ (plan : Plan) (base : Base) (past : List Row) (port q : Port) (stamp : ℕ) (octets : List ℕ) (within : IsWithinLimits plan base) (apart : ¬ Same port q) where
+  abbrev now : ℕ
+  now = moment_at base past stamp
+
+  abbrev before : List Mark
+  before = marks plan base past
+
+  abbrev behind : List Mark
+  behind = (judged_of plan base past port stamp octets).marks
+
+  addresses : IsAddrBase (rules_of plan).addresses (access_of base).addresses
+  addresses = within.access.addresses
+
+  times : AreTimes (rules_of plan).addresses.times
+  times = let kept : IsWithinRules (rules_of plan).addresses.times (rules_of plan).addresses.per_port (base.rows the_vlan) = addresses.kept the_vlan in kept.times
+
+  -- at a port that is shut nothing is told
+  frame_good : (held_by : List Named → ℕ) (Of : ℕ → Type 0) → Raises q the_vlan now held_by Of → held_by (told before) < held_by (told behind)
+      → (a : ℕ) × Of a × GivesLease (access_of base) the_vlan now q a before behind
+  frame_good held_by Of raises = by_shut (is_shut plan base (number_of port) past)
+    where
+      by_shut : (b : Bool) → held_by (told before) < held_by (told (judged_at (rules_of plan) (access_of base) b before port now (class_of octets)).marks)
+          → (a : ℕ) × Of a × GivesLease (access_of base) the_vlan now q a before (judged_at (rules_of plan) (access_of base) b before port now (class_of octets)).marks
+      by_shut true more =
+          let same : held_by (told before) < held_by (told before) = more in
+          absurd (omega (arith, same))
+      by_shut false more = judged_good (rules_of plan) (access_of base) the_vlan port now q apart before held_by Of raises (class_of octets) more
+
+  pub frame_raises : held_after plan base before now (number_of q) < held_after plan base behind now (number_of q)
+      → (a : ℕ) × GivesLease (access_of base) the_vlan now q a before behind
+  frame_raises more =
+      let found : (a : ℕ) × Unit {0} × GivesLease (access_of base) the_vlan now q a before behind =
+      frame_good (λ told. held_at (rules_of plan).addresses (access_of base).addresses told now (number_of q)) (λ a. Unit {0}) one_more more in
+      (found.0, found.2)
+    where
+      tables : AreTables (access_of base).addresses
+      tables = tables_in (rules_of plan).addresses (access_of base).addresses addresses
+
+      at_moment : (named : Named) (past : List Named) (t : ℕ) → named.moment ≡ t
+          → held_at (rules_of plan).addresses (access_of base).addresses past t (number_of q) < held_at (rules_of plan).addresses (access_of base).addresses (named ∷ past) t (number_of q)
+          → MakesHolder q named.room named.event
+      at_moment named past t at more =
+          more-held (rules_of plan).addresses (access_of base).addresses times tables named past q
+          (subst (λ (u : ℕ). held_at (rules_of plan).addresses (access_of base).addresses past u (number_of q) < held_at (rules_of plan).addresses (access_of base).addresses (named ∷ past) u (number_of q)) (sym at) more)
+
+      one_more : Raises q the_vlan now (λ told. held_at (rules_of plan).addresses (access_of base).addresses told now (number_of q)) (λ a. Unit {0})
+      one_more named past own at =
+          elim (cases_lt (held_at (rules_of plan).addresses (access_of base).addresses past now (number_of q)) (held_at (rules_of plan).addresses (access_of base).addresses (named ∷ past) now (number_of q))) [
+            | inl more ↦ inr (at_moment named past now at more, tt)
+            | inr not ↦ inl (omega (arith, not))
+          ]
+
+  module _ (vlan a : ℕ) where
+    abbrev once : List Named → ℕ
+    once told = held_once (number_of q) (state_at (rules_of plan).addresses (access_of base).addresses told now vlan a)
+
+    abbrev IsIt : ℕ → Type 0
+    IsIt b = (the_vlan ≡ vlan) × (b ≡ a)
+
+    its_mark : Raises q the_vlan now once IsIt
+    its_mark named past own at =
+        subst (λ (t : ℕ). (held_once (number_of q) (state_at (rules_of plan).addresses (access_of base).addresses (named ∷ past) t vlan a)
+        ≤ held_once (number_of q) (state_at (rules_of plan).addresses (access_of base).addresses past t vlan a)) ⊎ (MakesHolder q named.room named.event × IsIt named.address)) at
+        (elim (mark_once (rules_of plan).addresses (access_of base).addresses times vlan a q named past) [
+          | inl low ↦ inl low
+          | inr makes ↦ inr (known makes)
+        ])
+      where
+        known : MakesHolder q named.room named.event × (named.vlan ≡ vlan) × (named.address ≡ a) → MakesHolder q named.room named.event × IsIt named.address
+        known (makes, there, it) = (makes, (sym own ∙ there, it))
+
+    abbrev state_before : AddrState
+    state_before = state_at (rules_of plan).addresses (access_of base).addresses (told before) now vlan a
+
+    abbrev state_behind : AddrState
+    state_behind = state_at (rules_of plan).addresses (access_of base).addresses (told behind) now vlan a
+
+    pub frame_gives : ¬ HoldsAfter plan base before now vlan a q → HoldsAfter plan base behind now vlan a q → GivesLease (access_of base) vlan now q a before behind
+    frame_gives free holds =
+        let found : (b : ℕ) × IsIt b × GivesLease (access_of base) the_vlan now q b before behind = frame_good once IsIt its_mark one_more in
+        subst (λ (v : ℕ). GivesLease (access_of base) v now q a before behind) found.1.0
+        (subst (λ (b : ℕ). GivesLease (access_of base) the_vlan now q b before behind) found.1.1 found.2)
+      where
+        none_before : (b : Bool) → is_held_at (number_of q) state_before ≡ b → held_once (number_of q) state_before ≡ 0
+        none_before true is = absurd (free (held-told state_before q is))
+        none_before false not = rw not refl
+
+        one_behind : held_once (number_of q) state_behind ≡ 1
+        one_behind = rw (told-held state_behind q holds) refl
+
+        one_more : once (told before) < once (told behind)
+        one_more = let none : held_once (number_of q) state_before ≡ 0 = none_before (is_held_at (number_of q) state_before) refl in omega (arith, none, one_behind)

@@ -1,7 +1,7 @@
 -- A replay comes to few entries, and ends no pass for want of room where the budget suffices.
 use Rattle.std.proofs.Common.{◌≡◌, ℕ, suc, ◌+◌, ◌*◌, ◌<◌, ◌≤◌, ◌==◌, ◌&&◌, ◌||◌, nat_lt, nat_le, Bool, true, false, if◌then◌else◌, List, [], ◌∷◌, ◌++◌, map, length, Option, Some, None, refl, sym, ap, ◌∙◌, subst, arith}
 use Rattle.std.specs.List.{All}
-use Rattle.std.proofs.Math.Nat.{mul-suc}
+use Rattle.std.proofs.Math.Nat.{mul-suc, mul-le-mul_left}
 use Rattle.std.proofs.lemmas.Bool.{false≢true, lt-ltb, le-leb}
 use Rattle.savi_kinds.specs.declared.plan.Plan.{Plan}
 use Rattle.savi_kinds.specs.declared.plan.PortPlan.{PortPlan}
@@ -30,8 +30,9 @@ use Rattle.savi_history.specs.Merges.{enter, merge, merged}
 use Rattle.savi_history.specs.Turns.{Turn, Arrives, Commands, Ends, who_of, turn_at, turns, port_turns, control_turns, all_turns}
 use Rattle.savi_history.specs.Replay.{Stops, is_stopped, pieces_by, event_of, with_event, with_failure, begun, with_drain, drained, with_reply, with_line, entered, after, after_all, with_end, egress_ended, inputs_taken, replayed}
 use Rattle.savi_history.proofs.Legality.{replay_is_legal}
-use Rattle.savi_laws.specs.Budgets.{input_count, replay_entries, SufficesForReplay}
+use Rattle.savi_laws.specs.Budgets.{input_count, given_count, given_octets, lines_of, arrivals_of, replay_entries, SufficesForReplay}
 use Rattle.savi_laws.proofs.FewEnds.{ends, open_below, few_ends}
+use Rattle.savi_laws.proofs.Given.{replay_given}
 
 -- an ending isn't for want of room
 abbrev EndsWell : Turn → Type 0
@@ -133,6 +134,12 @@ in_all l e m size few = omega (arith, size, few)
 
 with_ends : (e m x : ℕ) → e ≤ 34 → 4130 + (34 + m) ≤ x → 4130 + (e + m) ≤ x
 with_ends e m x few low = omega (arith, few, low)
+
+fewer_octets : (k n x : ℕ) → k ≤ n → 1518 + n ≤ x → 1518 + k ≤ x
+fewer_octets k n x few low = omega (arith, few, low)
+
+fewer_inputs : (p k n x : ℕ) → (p + 1) * k ≤ (p + 1) * n → 4130 + (34 + (p + 1) * n) ≤ x → 4130 + (34 + (p + 1) * k) ≤ x
+fewer_inputs p k n x few low = omega (arith, few, low)
 
 or_false : (x y : Bool) → x ≡ false → y ≡ false → (x || y) ≡ false
 or_false true y one two = absurd (false≢true (sym one))
@@ -303,4 +310,15 @@ module _ (plan : Plan) (valid : IsValidPlan plan) (lines : Option control.Input)
       sized.full (record {
         entries = with_ends (ends (replayed plan empty lines inputs stops)) (most plan (replayed plan empty lines inputs stops)) plan.entries replay_ends suffices.entries;
         bytes = suffices.bytes;
+      })
+
+  -- so what its inputs have suffices
+  pub given_not_full : SufficesForReplay plan (given_count (lines_of lines) (arrivals_of inputs)) (given_octets (lines_of lines) (arrivals_of inputs)) → has_full (replayed plan empty lines inputs stops) ≡ false
+  given_not_full suffices =
+      let given : (input_count (replayed plan empty lines inputs stops) ≤ given_count (lines_of lines) (arrivals_of inputs)) × (held (replayed plan empty lines inputs stops) ≤ given_octets (lines_of lines) (arrivals_of inputs)) =
+      replay_given plan empty lines inputs stops in
+      replay_not_full (record {
+        entries = fewer_inputs (length plan.ports) (input_count (replayed plan empty lines inputs stops)) (given_count (lines_of lines) (arrivals_of inputs)) plan.entries
+            (mul-le-mul_left (length plan.ports + 1) given.0) suffices.entries;
+        bytes = fewer_octets (held (replayed plan empty lines inputs stops)) (given_octets (lines_of lines) (arrivals_of inputs)) plan.bytes given.1 suffices.bytes;
       })

@@ -1,14 +1,17 @@
 -- More worked histories, computed: what an address comes to beside other ones, what a lease gives, and what a history costs.
-use Rattle.std.proofs.Common.{◌≡◌, ℕ, ◌*◌, ◌^◌, List, [], ◌∷◌, refl, ap, lit≤, true, false, None, arith}
+use Rattle.std.proofs.Common.{◌≡◌, ℕ, ◌+◌, ◌*◌, ◌^◌, inl, inr, List, [], ◌∷◌, refl, ap, lit≤, true, false, None, arith}
 use Rattle.savi_kinds.specs.declared.plan.Plan.{Plan}
+use Rattle.savi_kinds.specs.declared.plan.Role.TheVariants as roles
 use Rattle.savi_kinds.specs.declared.plan.Method.TheVariants.{Dhcp}
 use Rattle.v6_chain.specs.Kinds.{kind_of}
+use Rattle.v6_chain.specs.declared.packet.Ip.{Ip}
 use Rattle.nd_read.specs.Messages.{named}
 use Rattle.nd_read.specs.NdOf.{nd_of, passes as message_passes}
 use Rattle.dhcp6_read.specs.Levels.{lease_of}
 use Rattle.dhcp6_read.specs.Message.{tid_of}
 use Rattle.dhcp6_read.specs.DhcpOf.{option_row, dhcp_of}
 use Rattle.frame_class.specs.ClassOf.{class_of}
+use Rattle.frame_class.specs.declared.classes.Read.TheVariants.{Plain}
 use Rattle.ra_guard.specs.GuardOf.{guard_of}
 use Rattle.fcfs_states.specs.declared.event.Ev.TheVariants.{Sent}
 use Rattle.fcfs_states.specs.declared.state.Fcfs.TheVariants.{Tentative}
@@ -22,6 +25,7 @@ use Rattle.savi_access.specs.Marks.{Met}
 use Rattle.savi_history.specs.Bases.{empty}
 use Rattle.savi_history.specs.Marks.{marks}
 use Rattle.savi_history.specs.Judged.{judged_of}
+use Rattle.savi_history.specs.ControlInputs.{entered_lines}
 use Rattle.savi_history.specs.Offers.{offers}
 use Rattle.savi_history.specs.Queues.{probes, lost}
 use Rattle.savi_history.specs.Replay.{replayed}
@@ -29,10 +33,10 @@ use Rattle.savi_history.specs.Legal.{IsLegal}
 use Rattle.savi_history.specs.Events.{Frame, Tick, Drain}
 use Rattle.savi_history.proofs.Example.{port_one, port_two, packet, inputs, no_failure, plan as guarding}
 use Rattle.savi_laws.specs.Rebuilt.{rows_by}
-use Rattle.savi_laws.specs.Addresses.{told_on, address_at}
-use Rattle.savi_laws.specs.Raised.{held_after}
+use Rattle.savi_laws.specs.Addresses.{told_on, address_at, ComesToSource}
+use Rattle.savi_laws.specs.Raised.{held_after, HoldsAfter}
 use Rattle.savi_laws.specs.VlanMarks.{in_vlan}
-use Rattle.savi_laws.specs.Budgets.{input_count, SufficesForReplay, causes, Suffices}
+use Rattle.savi_laws.specs.Budgets.{input_count, given_count, given_octets, lines_of, arrivals_of, all_arrived, SufficesForReplay, causes, Suffices}
 use Rattle.savi_laws.proofs.Example.{plan, first_address, claimed}
 
 -- a packet from fe80::12
@@ -47,6 +51,22 @@ both_claimed plan = rows_by plan empty [] (Frame port_one 1000 packet ∷ Frame 
 pub same_told : told_on plan empty (both_claimed plan) 1 first_address ≡ told_on plan empty claimed 1 first_address
 unfolding class_of nd_of named message_passes kind_of guard_of judged aged aged_by
 same_told = refl
+
+-- the second packet from fe80::11 comes to the rules on its source
+abbrev packet_header : Ip
+packet_header = record { src = record { 0 = first_address }; dst = record { 0 = 0xfe80 * 2 ^ 112 + 254 }; next = 59; hop = 64; len = 0 }
+
+pub packet_comes : ComesToSource plan empty claimed port_one packet packet_header Plain
+unfolding class_of nd_of named message_passes kind_of guard_of
+packet_comes = record {
+  up = refl;
+  clear = refl;
+  validates = refl;
+  role = λ same. let none : roles.Host ≡ roles.Trusted = same in cc;
+  eth = record { dst = record { 0 = 2 ∷ 0 ∷ 0 ∷ 0 ∷ 0 ∷ 254 ∷ [] }; src = record { 0 = 2 ∷ 0 ∷ 0 ∷ 0 ∷ 0 ∷ 17 ∷ [] }; kind = 0x86dd };
+  packet = refl;
+  source = λ none. absurd (omega (arith, none));
+}
 
 -- where a port may hold one address alone, its room is told otherwise, and so is its state another one
 abbrev narrow : Plan
@@ -88,6 +108,20 @@ pub two_behind_it : held_after assigning empty (judged_of assigning empty reques
 unfolding class_of nd_of named message_passes kind_of guard_of judged aged aged_by dhcp_of option_row lease_of tid_of
 two_behind_it = refl
 
+-- it holds the address that the reply gives, and didn't before
+abbrev leased_address : ℕ
+leased_address = 0x20010db8 * 2 ^ 96 + 5
+
+pub not_before : ¬ HoldsAfter assigning empty (marks assigning empty requested) 2100 1 leased_address port_one
+unfolding class_of nd_of named message_passes kind_of guard_of judged aged aged_by dhcp_of option_row lease_of tid_of
+not_before (inl held) = held
+not_before (inr (inl held)) = held
+not_before (inr (inr held)) = held
+
+pub held_behind_it : HoldsAfter assigning empty (judged_of assigning empty requested port_two 2100 reply).marks 2100 1 leased_address port_one
+unfolding class_of nd_of named message_passes kind_of guard_of judged aged aged_by dhcp_of option_row lease_of tid_of
+held_behind_it = inr (inl refl)
+
 -- without a request it gives nothing
 pub none_unasked : held_after assigning empty (judged_of assigning empty claimed port_two 2100 reply).marks 2100 1 ≡ 1
 unfolding class_of nd_of named message_passes kind_of guard_of judged aged aged_by dhcp_of option_row lease_of tid_of
@@ -105,6 +139,9 @@ ticked = rows_by plan empty [] (Drain port_two 1 ∷ Tick 1500 ∷ Drain port_tw
 -- one frame has brought all of it about
 pub one_cause : causes empty ticked ≡ 1
 one_cause = refl
+
+pub one_arrival : given_count (entered_lines ticked) (all_arrived plan ticked) ≡ 1
+one_arrival = refl
 
 -- and it is legal
 pub ticked_is_legal : IsLegal plan empty ticked
@@ -131,3 +168,13 @@ three_inputs = refl
 pub room_for_three : SufficesForReplay guarding (input_count (replayed guarding empty None inputs no_failure)) (held (replayed guarding empty None inputs no_failure))
 unfolding class_of nd_of named message_passes kind_of guard_of judged offers probes lost
 room_for_three = record { entries = lit≤ tt; bytes = lit≤ tt }
+
+-- its captures have these three, of 194 octets
+pub three_given : given_count (lines_of None) (arrivals_of inputs) ≡ 3
+three_given = refl
+
+pub octets_given : given_octets (lines_of None) (arrivals_of inputs) ≡ 194
+octets_given = refl
+
+pub room_for_given : SufficesForReplay guarding (given_count (lines_of None) (arrivals_of inputs)) (given_octets (lines_of None) (arrivals_of inputs))
+room_for_given = record { entries = lit≤ tt; bytes = lit≤ tt }

@@ -1,12 +1,13 @@
--- By what a frame of one port makes another port hold more addresses: by a lease that meets a request of that port.
-use Rattle.std.specs.Prelude.{◌≡◌, ℕ, List, ◌++◌, Some}
+-- By what a frame of one port makes another port hold an address: by a lease of it that meets a request of that port.
+use Rattle.std.specs.Prelude.{◌≡◌, ℕ, true, List, ◌++◌, Some}
 use Rattle.savi_access.specs.Probes.{IsAmong}
 use Rattle.savi_kinds.specs.declared.port.Port.{Port}
 use Rattle.savi_kinds.specs.declared.plan.Plan.{Plan}
 use Rattle.fcfs_states.specs.States.{Same}
 use Rattle.fcfs_states.specs.declared.event.Ev.TheVariants.{Lease}
 use Rattle.dhcp_states.specs.Requests.{asker}
-use Rattle.savi_access.specs.NamedMarks.{Named}
+use Rattle.mix_rules.specs.States.{IsHeldAt}
+use Rattle.savi_access.specs.States.{state_at}
 use Rattle.savi_access.specs.Tables.{held_at}
 use Rattle.savi_access.specs.Rules.{AccessBase}
 use Rattle.savi_access.specs.Marks.{Mark, Told, Met, told, open_requests}
@@ -17,9 +18,13 @@ use Rattle.savi_history.specs.Bases.{Base, access_of}
 abbrev pub held_after : Plan → Base → List Mark → ℕ → ℕ → ℕ
 held_after plan base marks t number = held_at (rules_of plan).addresses (access_of base).addresses (told marks) t number
 
--- Behind the past there are new marks, in which an open request of q in this VLAN was met, and q was given a lease
--- (RFC 7513 section 6).
-pub record GivesLease (base : AccessBase) (vlan t : ℕ) (q : Port) (past marks : List Mark) : Type 0 where
+-- the port holds this address of this VLAN at t after these marks
+abbrev pub HoldsAfter : Plan → Base → List Mark → ℕ → ℕ → ℕ → Port → Type 0
+HoldsAfter plan base marks t vlan a port = IsHeldAt (state_at (rules_of plan).addresses (access_of base).addresses (told marks) t vlan a) port
+
+-- Behind the past there are new marks, in which an open request of q in this VLAN was met, and q was given this address of
+-- the VLAN, for which it had room (RFC 7513 section 6).
+pub record GivesLease (base : AccessBase) (vlan t : ℕ) (q : Port) (a : ℕ) (past marks : List Mark) : Type 0 where
   pub new : List Mark
   pub is : marks ≡ new ++ past
   -- the port that asked, whose request was open
@@ -30,7 +35,5 @@ pub record GivesLease (base : AccessBase) (vlan t : ℕ) (q : Port) (past marks 
   pub asked : asker tid duid (open_requests base vlan past t) ≡ Some port
   pub met : IsAmong (Met vlan t tid duid) new
   -- what it was given
-  pub named : Named
   pub valid : ℕ
-  pub lease : named.event ≡ Lease port valid
-  pub told : IsAmong (Told named) new
+  pub told : IsAmong (Told (record { vlan = vlan; address = a; moment = t; event = Lease port valid; room = true })) new

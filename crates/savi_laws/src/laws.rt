@@ -7,15 +7,19 @@ ghost use Rattle.savi_kinds.specs.declared.plan.Plan.{Plan};
 ghost use Rattle.savi_kinds.specs.declared.port.Port.{Port};
 ghost use Rattle.savi_kinds.specs.declared.entry.Who.{Who};
 ghost use Rattle.savi_kinds.specs.Ports.{number_of};
+ghost use Rattle.v6_chain.specs.declared.packet.Ip.{Ip};
 ghost use Rattle.frame_class.specs.declared.classes.Class.{Class};
+ghost use Rattle.frame_class.specs.declared.classes.Read.{Read};
 ghost use Rattle.fcfs_states.specs.States.{Same};
 ghost use Rattle.cli_lang.specs.Arrivals as control;
 ghost use Rattle.hist_store.specs.Rows.{Row, held};
 ghost use Rattle.savi_access.specs.Rows.{state_in};
 ghost use Rattle.savi_access.specs.Rules.{AccessRules, AccessBase};
 ghost use Rattle.savi_access.specs.Marks.{Mark};
-ghost use Rattle.savi_access.specs.Judged.{judged};
+ghost use Rattle.savi_access.specs.Judged.{judged, followed};
+ghost use Rattle.savi_access.specs.Plans.{rules_of};
 ghost use Rattle.savi_history.specs.Bases.{Base, access_of, empty};
+ghost use Rattle.savi_history.specs.ControlInputs.{entered_lines};
 ghost use Rattle.savi_history.specs.Endings.{has_full};
 ghost use Rattle.savi_history.specs.Readable.{IsInput, IsControl};
 ghost use Rattle.savi_history.specs.Replay.{Stops, replayed};
@@ -28,9 +32,10 @@ ghost use Rattle.savi_history.specs.Ticks.{IsSameFrom};
 ghost use Rattle.savi_laws.specs.Rebuilt.{rows_by, AreRows, ComesFirst, with_tick};
 ghost use Rattle.savi_laws.specs.Answered.{came, answered};
 ghost use Rattle.savi_laws.specs.LateTicks.{LateTick};
-ghost use Rattle.savi_laws.specs.Addresses.{told_on, address_at, port_has_room, source_step};
-ghost use Rattle.savi_laws.specs.Raised.{held_after, GivesLease};
-ghost use Rattle.savi_laws.specs.Budgets.{input_count, replay_entries, SufficesForReplay, causes, entries_most, Suffices};
+ghost use Rattle.savi_laws.specs.Addresses.{told_on, address_at, port_has_room, source_step, ComesToSource};
+ghost use Rattle.savi_laws.specs.Raised.{held_after, HoldsAfter, GivesLease};
+ghost use Rattle.savi_laws.specs.Budgets.{input_count, given_count, given_octets, lines_of, arrivals_of, all_arrived};
+ghost use Rattle.savi_laws.specs.Budgets.{replay_entries, SufficesForReplay, causes, entries_most, Suffices};
 ghost use Rattle.savi_laws.specs.VlanMarks.{in_vlan, IsSameIn};
 
 /// Frames, longer frames and lines with their moments decide all verdicts, and to which ports frames go: ticks, drains and
@@ -67,7 +72,8 @@ pub fn a_late_tick_may_change_a_verdict()
 
 /// The state of an address follows from where it began, and from the events that name it with their moments and whether
 /// their ports had room; whatever else came. What a packet from it comes to by its source follows from these, the moment and
-/// whether its port has room.
+/// whether its port has room. A frame that comes to the rules on its source is judged by that alone where it drops the
+/// frame, and else by what the packet says behind it.
 pub fn an_address_follows_from_its_own_marks()
     ensures state { (plan : Plan) (base other_base : Base) (past other : List Row) (t vlan a : ℕ)
         → state_in (base.rows vlan) a ≡ state_in (other_base.rows vlan) a
@@ -83,16 +89,26 @@ pub fn an_address_follows_from_its_own_marks()
         → told_on plan base past vlan a ≡ told_on plan other_base other vlan a
         → port_has_room plan base past t vlan port ≡ port_has_room plan other_base other t vlan port
         → (source_step plan base past t vlan port a).probe ≡ (source_step plan other_base other t vlan port a).probe }
+    ensures step { (plan : Plan) (base : Base) (past : List Row) (port : Port) (stamp : ℕ) (octets : List ℕ) (ip : Ip) (read : Read)
+        → ComesToSource plan base past port octets ip read
+        → let t = moment_at base past stamp in judged_of plan base past port stamp octets
+        ≡ followed (rules_of plan) (access_of base) the_vlan port t (source_step plan base past t the_vlan port ip.src.0) read }
 {}
 
-/// A frame at a port makes another port hold more addresses only by a lease: it meets an open request of that port, and
-/// gives it an address (RFC 7513 section 6).
+/// A frame at a port makes another port hold an address only by a lease of this address: it meets an open request of that
+/// port, and gives it the address (RFC 7513 section 6). So no port holds more addresses by a frame of another one without
+/// such a lease.
 pub fn a_frame_fills_no_other_port()
-    ensures { (plan : Plan) (base : Base) (past : List Row) (port q : Port) (stamp : ℕ) (octets : List ℕ)
+    ensures address { (plan : Plan) (base : Base) (past : List Row) (port q : Port) (stamp : ℕ) (octets : List ℕ) (vlan a : ℕ)
+        → IsWithinLimits plan base → ¬ Same port q
+        → let t = moment_at base past stamp in let after = (judged_of plan base past port stamp octets).marks in
+        ¬ HoldsAfter plan base (marks plan base past) t vlan a q → HoldsAfter plan base after t vlan a q
+        → GivesLease (access_of base) vlan t q a (marks plan base past) after }
+    ensures count { (plan : Plan) (base : Base) (past : List Row) (port q : Port) (stamp : ℕ) (octets : List ℕ)
         → IsWithinLimits plan base → ¬ Same port q
         → let t = moment_at base past stamp in let after = (judged_of plan base past port stamp octets).marks in
         held_after plan base (marks plan base past) t (number_of q) < held_after plan base after t (number_of q)
-        → GivesLease (access_of base) the_vlan t q (marks plan base past) after }
+        → (a : ℕ) × GivesLease (access_of base) the_vlan t q a (marks plan base past) after }
 {}
 
 /// What a frame in a VLAN comes to follows from the marks of that VLAN: its verdict, its probe, and what it tells there.
@@ -104,7 +120,8 @@ pub fn a_frame_reads_its_own_vlan()
 
 /// A replay comes to at most 34 entries and, for each frame, longer frame and line that went in, one more than the plan has
 /// ports: its own, and a drain of each port. With room for so many beside the 4,130 entries that stay free, and for the
-/// octets that came in beside those of the longest frame, no input ends for want of room.
+/// octets that came in beside those of the longest frame, no input ends for want of room. No more goes in than its inputs
+/// have; so room for all that they have suffices.
 pub fn a_budget_suffices_for_a_replay()
     ensures entries { (plan : Plan) (lines : Option control.Input) (inputs : List Input) (stops : Stops)
         → IsValidPlan plan → length inputs ≡ length plan.ports → IsControl lines → All IsInput inputs
@@ -113,12 +130,21 @@ pub fn a_budget_suffices_for_a_replay()
         → IsValidPlan plan → length inputs ≡ length plan.ports → IsControl lines → All IsInput inputs
         → let past = replayed plan empty lines inputs stops in
         SufficesForReplay plan (input_count past) (held past) → has_full past ≡ false }
+    ensures given { (plan : Plan) (base : Base) (lines : Option control.Input) (inputs : List Input) (stops : Stops)
+        → let past = replayed plan base lines inputs stops in
+        (input_count past ≤ given_count (lines_of lines) (arrivals_of inputs))
+        × (held past ≤ given_octets (lines_of lines) (arrivals_of inputs)) }
+    ensures enough { (plan : Plan) (lines : Option control.Input) (inputs : List Input) (stops : Stops)
+        → IsValidPlan plan → length inputs ≡ length plan.ports → IsControl lines → All IsInput inputs
+        → SufficesForReplay plan (given_count (lines_of lines) (arrivals_of inputs)) (given_octets (lines_of lines) (arrivals_of inputs))
+        → has_full (replayed plan empty lines inputs stops) ≡ false }
 {}
 
 /// A legal history comes to at most 34 entries, and 256 for each frame, longer frame and line that came in, and for each
 /// address that had a state before: ticks, drains and ends among them. With room for so many beside the 4,130 entries that
 /// stay free, and for the octets that came in beside those of the longest frame, an input may come as long as its pass is
-/// open, and no pass ends for want of room.
+/// open, and no pass ends for want of room. All that came in are the lines that the history holds, and what it holds of the
+/// plan's ports.
 pub fn a_budget_always_suffices()
     ensures entries { (plan : Plan) (base : Base) (past : List Row)
         → IsValidPlan plan → IsWithinLimits plan base → IsLegal plan base past
@@ -129,4 +155,7 @@ pub fn a_budget_always_suffices()
     ensures ends { (plan : Plan) (base : Base) (past : List Row)
         → IsValidPlan plan → IsWithinLimits plan base → IsLegal plan base past
         → Suffices plan (causes base past) (held past) → has_full past ≡ false }
+    ensures given { (plan : Plan) (base : Base) (past : List Row) → IsLegal plan base past
+        → (input_count past ≤ given_count (entered_lines past) (all_arrived plan past))
+        × (held past ≤ given_octets (entered_lines past) (all_arrived plan past)) }
 {}
