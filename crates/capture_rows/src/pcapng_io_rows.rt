@@ -21,17 +21,147 @@ const AT_1500: NgNext = NgNext::Frame {
     len: 54,
 };
 
-const fn malformed(at: u64) -> NgNext {
-    NgNext::Malformed { at }
-}
+// The block at fault begins at this place.
+const MALFORMED_0: NgNext = NgNext::Malformed { at: 0 };
 
-const fn frame_of(interface: u32, stamp: u64) -> NgNext {
-    NgNext::Frame {
-        interface,
-        stamp,
-        len: 54,
-    }
-}
+const MALFORMED_28: NgNext = NgNext::Malformed { at: 28 };
+
+const MALFORMED_48: NgNext = NgNext::Malformed { at: 48 };
+
+const MALFORMED_76: NgNext = NgNext::Malformed { at: 76 };
+
+const OF_THE_SECOND: NgNext = NgNext::Frame {
+    interface: 1,
+    stamp: 1500,
+    len: 54,
+};
+
+const AT_1: NgNext = NgNext::Frame {
+    interface: 0,
+    stamp: 1,
+    len: 54,
+};
+
+const AT_1_464_843: NgNext = NgNext::Frame {
+    interface: 0,
+    stamp: 1_464_843,
+    len: 54,
+};
+
+// Files, and the first four answers to each.
+const FILES: [(&str, &[&[u8]], [NgNext; 4]); 17] = [
+    ("nothing", &[], [MALFORMED_0; 4]),
+    ("no section first", &[&INTERFACE], [MALFORMED_0; 4]),
+    ("a section", &[&SECTION], [END; 4]),
+    (
+        "one frame",
+        &[&SECTION, &INTERFACE, &PACKET, &FRAME, &PACKET_END],
+        [ETHERNET, AT_1500, END, END],
+    ),
+    (
+        "its last four octets cut off",
+        &[&SECTION, &INTERFACE, &PACKET, &FRAME, b"\0\0"],
+        [ETHERNET, MALFORMED_48, MALFORMED_48, MALFORMED_48],
+    ),
+    (
+        "one frame, big-endian",
+        &[
+            &BIG_SECTION,
+            &BIG_INTERFACE,
+            &BIG_PACKET,
+            &FRAME,
+            &BIG_PACKET_END,
+        ],
+        [ETHERNET, AT_1500, END, END],
+    ),
+    (
+        "a frame of an interface that there isn't",
+        &[&SECTION, &PACKET, &FRAME, &PACKET_END],
+        [MALFORMED_28; 4],
+    ),
+    (
+        "blocks of other types",
+        &[&SECTION, &EMPTY_BLOCK, &INTERFACE, &STATISTICS],
+        [ETHERNET, END, END, END],
+    ),
+    (
+        "two sections, each with its interfaces",
+        &[
+            &SECTION,
+            &RAW_IP,
+            &BIG_SECTION,
+            &BIG_INTERFACE,
+            &BIG_PACKET,
+            &FRAME,
+            &BIG_PACKET_END,
+        ],
+        [
+            NgNext::Interface { link: 101 },
+            ETHERNET,
+            OF_THE_SECOND,
+            END,
+        ],
+    ),
+    (
+        "a later section doesn't know the interfaces of an earlier one",
+        &[&SECTION, &INTERFACE, &SECTION, &PACKET, &FRAME, &PACKET_END],
+        [ETHERNET, MALFORMED_76, MALFORMED_76, MALFORMED_76],
+    ),
+    (
+        "1,500,000 ns",
+        &[&SECTION, &IN_NANOSECONDS, &PACKET, &FRAME, &PACKET_END],
+        [ETHERNET, AT_1, END, END],
+    ),
+    (
+        "1,500,000 of 1,024",
+        &[&SECTION, &IN_BINARY, &PACKET, &FRAME, &PACKET_END],
+        [ETHERNET, AT_1_464_843, END, END],
+    ),
+    (
+        "a resolution that is too fine",
+        &[&SECTION, &TOO_FINE],
+        [MALFORMED_28; 4],
+    ),
+    (
+        "a resolution of two octets",
+        &[&SECTION, &TWO_OCTETS],
+        [MALFORMED_28; 4],
+    ),
+    (
+        "an option beyond its block",
+        &[&SECTION, &BEYOND_THE_BLOCK],
+        [MALFORMED_28; 4],
+    ),
+    (
+        "another length at the end",
+        &[&SECTION, &OTHER_TRAILER],
+        [MALFORMED_28; 4],
+    ),
+    (
+        "a section cut short",
+        &[&SECTION, &INTERFACE, b"\x0a\x0d\x0d\x0a\x1c\0\0\0\x4d\x3c"],
+        [ETHERNET, MALFORMED_48, MALFORMED_48, MALFORMED_48],
+    ),
+];
+
+// A frame of an interface of another link type, and one of an Ethernet interface.
+const TWO_INTERFACES: &[&[u8]] = &[
+    &SECTION,
+    &RAW_IP,
+    &INTERFACE,
+    b"\x06\0\0\0\x58\0\0\0\x01\0\0\0\0\0\0\0\x60\xe3\x16\0\x36\0\0\0\x36\0\0\0",
+    &FRAME,
+    &PACKET_END,
+    &PACKET,
+    &FRAME,
+    &PACKET_END,
+];
+
+// The capture of the Ethernet interface.
+const SECOND_CAPTURE: &[&[u8]] = &[
+    b"\xd4\xc3\xb2\xa1\x02\0\x04\0\0\0\0\0\0\0\0\0\xff\xff\0\0\x01\0\0\0\x01\0\0\0\x20\xa1\x07\0\x36\0\0\0\x36\0\0\0",
+    &FRAME,
+];
 
 // The first four answers to a file.
 fn answers(mut source: MemSource) -> [NgNext; 4] {
@@ -46,101 +176,7 @@ fn answers(mut source: MemSource) -> [NgNext; 4] {
 #[test]
 fn files_are_read_block_by_block(rt: HostRuntime) -> Result<(), Fail> {
     let alloc = rt.alloc();
-    let rows: [(&str, &[&[u8]], [NgNext; 4]); 17] = [
-        ("nothing", &[], [malformed(0); 4]),
-        ("no section first", &[&INTERFACE], [malformed(0); 4]),
-        ("a section", &[&SECTION], [END; 4]),
-        (
-            "one frame",
-            &[&SECTION, &INTERFACE, &PACKET, &FRAME, &PACKET_END],
-            [ETHERNET, AT_1500, END, END],
-        ),
-        (
-            "its last four octets cut off",
-            &[&SECTION, &INTERFACE, &PACKET, &FRAME, b"\0\0"],
-            [ETHERNET, malformed(48), malformed(48), malformed(48)],
-        ),
-        (
-            "one frame, big-endian",
-            &[
-                &BIG_SECTION,
-                &BIG_INTERFACE,
-                &BIG_PACKET,
-                &FRAME,
-                &BIG_PACKET_END,
-            ],
-            [ETHERNET, AT_1500, END, END],
-        ),
-        (
-            "a frame of an interface that there isn't",
-            &[&SECTION, &PACKET, &FRAME, &PACKET_END],
-            [malformed(28); 4],
-        ),
-        (
-            "blocks of other types",
-            &[&SECTION, &EMPTY_BLOCK, &INTERFACE, &STATISTICS],
-            [ETHERNET, END, END, END],
-        ),
-        (
-            "two sections, each with its interfaces",
-            &[
-                &SECTION,
-                &RAW_IP,
-                &BIG_SECTION,
-                &BIG_INTERFACE,
-                &BIG_PACKET,
-                &FRAME,
-                &BIG_PACKET_END,
-            ],
-            [
-                NgNext::Interface { link: 101 },
-                ETHERNET,
-                frame_of(1, 1500),
-                END,
-            ],
-        ),
-        (
-            "a later section doesn't know the interfaces of an earlier one",
-            &[&SECTION, &INTERFACE, &SECTION, &PACKET, &FRAME, &PACKET_END],
-            [ETHERNET, malformed(76), malformed(76), malformed(76)],
-        ),
-        (
-            "1,500,000 ns",
-            &[&SECTION, &IN_NANOSECONDS, &PACKET, &FRAME, &PACKET_END],
-            [ETHERNET, frame_of(0, 1), END, END],
-        ),
-        (
-            "1,500,000 of 1,024",
-            &[&SECTION, &IN_BINARY, &PACKET, &FRAME, &PACKET_END],
-            [ETHERNET, frame_of(0, 1_464_843), END, END],
-        ),
-        (
-            "a resolution that is too fine",
-            &[&SECTION, &TOO_FINE],
-            [malformed(28); 4],
-        ),
-        (
-            "a resolution of two octets",
-            &[&SECTION, &TWO_OCTETS],
-            [malformed(28); 4],
-        ),
-        (
-            "an option beyond its block",
-            &[&SECTION, &BEYOND_THE_BLOCK],
-            [malformed(28); 4],
-        ),
-        (
-            "another length at the end",
-            &[&SECTION, &OTHER_TRAILER],
-            [malformed(28); 4],
-        ),
-        (
-            "a section cut short",
-            &[&SECTION, &INTERFACE, b"\x0a\x0d\x0d\x0a\x1c\0\0\0\x4d\x3c"],
-            [ETHERNET, malformed(48), malformed(48), malformed(48)],
-        ),
-    ];
-    for (name, parts, want) in rows {
+    for (name, parts, want) in FILES {
         let whole = file_of(alloc, parts)?;
         for most in [1, 7, 4096] {
             let source = MemSource::new(whole.clone()?, most, Vec::new(alloc));
@@ -172,20 +208,7 @@ fn any_read_of_a_file_may_fail(rt: HostRuntime) -> Result<(), Fail> {
 #[test]
 fn a_file_is_split(rt: HostRuntime) -> Result<(), Fail> {
     let alloc = rt.alloc();
-    let whole = file_of(
-        alloc,
-        &[
-            &SECTION,
-            &RAW_IP,
-            &INTERFACE,
-            b"\x06\0\0\0\x58\0\0\0\x01\0\0\0\0\0\0\0\x60\xe3\x16\0\x36\0\0\0\x36\0\0\0",
-            &FRAME,
-            &PACKET_END,
-            &PACKET,
-            &FRAME,
-            &PACKET_END,
-        ],
-    )?;
+    let whole = file_of(alloc, TWO_INTERFACES)?;
     let mut splitter = Splitter::new();
     let mut source = MemSource::new(whole, 33, Vec::new(alloc));
     let mut none: [Output<MemSink>; 0] = [];
@@ -204,13 +227,7 @@ fn a_file_is_split(rt: HostRuntime) -> Result<(), Fail> {
         skipped: 1,
     };
     assert_eq!(rt; (second, splitter.counts()), (SplitGot::End, counts));
-    let text = file_of(
-        alloc,
-        &[
-            b"\xd4\xc3\xb2\xa1\x02\0\x04\0\0\0\0\0\0\0\0\0\xff\xff\0\0\x01\0\0\0\x01\0\0\0\x20\xa1\x07\0\x36\0\0\0\x36\0\0\0",
-            &FRAME,
-        ],
-    )?;
+    let text = file_of(alloc, SECOND_CAPTURE)?;
     assert_eq!(rt; outputs[0].sink.written(), text.as_slice());
     Ok(())
 }

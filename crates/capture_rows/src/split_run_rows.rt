@@ -46,10 +46,57 @@ const NO_FRAME: Counts = Counts {
     skipped: 0,
 };
 
+const NOTHING: Counts = Counts {
+    interfaces: 0,
+    frames: 0,
+    long: 0,
+    skipped: 0,
+};
+
 // The header of an output, and the frame at 1.5 s behind it.
 const HEADER: [u8; 24] = *b"\xd4\xc3\xb2\xa1\x02\0\x04\0\0\0\0\0\0\0\0\0\xff\xff\0\0\x01\0\0\0";
 
 const RECORD: [u8; 16] = *b"\x01\0\0\0\x20\xa1\x07\0\x36\0\0\0\x36\0\0\0";
+
+// Captures, what comes of each, and what its output takes.
+const FILES: [(&str, &[&[u8]], Outcome, &[&[u8]]); 4] = [
+    (
+        "one frame",
+        &[&SECTION, &INTERFACE, &PACKET, &FRAME, &PACKET_END],
+        Outcome::Split(ONE_FRAME),
+        &[&HEADER, &RECORD, &FRAME],
+    ),
+    (
+        "its last four octets cut off",
+        &[&SECTION, &INTERFACE, &PACKET, &FRAME, b"\0\0"],
+        Outcome::Malformed {
+            at: 48,
+            counts: NO_FRAME,
+        },
+        &[&HEADER],
+    ),
+    (
+        "one frame, big-endian",
+        &[
+            &BIG_SECTION,
+            &BIG_INTERFACE,
+            &BIG_PACKET,
+            &FRAME,
+            &BIG_PACKET_END,
+        ],
+        Outcome::Split(ONE_FRAME),
+        &[&HEADER, &RECORD, &FRAME],
+    ),
+    (
+        "nothing",
+        &[],
+        Outcome::Malformed {
+            at: 0,
+            counts: NOTHING,
+        },
+        &[],
+    ),
+];
 
 fn sink(alloc: Global, write: u64) -> Result<MemSink, AllocError> {
     MemSink::make(alloc, ROOM, [write].to_vec(alloc)?)
@@ -131,51 +178,7 @@ fn split(
 #[test]
 fn a_capture_is_split_by_its_name(rt: HostRuntime) -> Result<(), Fail> {
     let alloc = rt.alloc();
-    let whole: [&[u8]; 3] = [&HEADER, &RECORD, &FRAME];
-    let rows: [(&str, &[&[u8]], Outcome, &[&[u8]]); 4] = [
-        (
-            "one frame",
-            &[&SECTION, &INTERFACE, &PACKET, &FRAME, &PACKET_END],
-            Outcome::Split(ONE_FRAME),
-            &whole,
-        ),
-        (
-            "its last four octets cut off",
-            &[&SECTION, &INTERFACE, &PACKET, &FRAME, b"\0\0"],
-            Outcome::Malformed {
-                at: 48,
-                counts: NO_FRAME,
-            },
-            &whole[..1],
-        ),
-        (
-            "one frame, big-endian",
-            &[
-                &BIG_SECTION,
-                &BIG_INTERFACE,
-                &BIG_PACKET,
-                &FRAME,
-                &BIG_PACKET_END,
-            ],
-            Outcome::Split(ONE_FRAME),
-            &whole,
-        ),
-        (
-            "nothing",
-            &[],
-            Outcome::Malformed {
-                at: 0,
-                counts: Counts {
-                    interfaces: 0,
-                    frames: 0,
-                    long: 0,
-                    skipped: 0,
-                },
-            },
-            &whole[..0],
-        ),
-    ];
-    for (name, parts, outcome, taken) in rows {
+    for (name, parts, outcome, taken) in FILES {
         for most in [1, 7, 4096] {
             let got = split(alloc, file_of(alloc, parts)?, most, NO_FAULTS)?;
             let want = Some((outcome, file_of(alloc, taken)?));

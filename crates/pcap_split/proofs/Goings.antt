@@ -1,5 +1,5 @@
 -- One step after another.
-use Rattle.std.proofs.Common.{◌≡◌, ℕ, suc, ◌+◌, ◌^◌, ◌<◌, ◌≤◌, ◌==◌, Bool, true, false, List, [], ◌∷◌, ◌++◌, length, take, get_or, Option, Some, None, IfSome, refl, sym, ap, subst, ◌∙◌, arith, append-nil, append_assoc, if◌then◌else◌}
+use Rattle.std.proofs.Common.{◌≡◌, ℕ, suc, ◌+◌, ◌^◌, ◌<◌, ◌≤◌, ◌==◌, Bool, true, false, List, [], ◌∷◌, ◌++◌, length, take, get_or, Option, Some, None, IfSome, refl, sym, ap, subst, ◌∙◌, arith, append-nil, append_assoc, length-append, if◌then◌else◌}
 use Rattle.savi_kinds.specs.declared.entry.How.{How}
 use Rattle.savi_kinds.specs.declared.entry.How.TheVariants as how
 use Rattle.savi_ends.specs.Octets.{behind}
@@ -46,7 +46,7 @@ text_more k a b = sym (sent_more (frames_of k a) (frames_of k b)) ∙ ap (λ (l 
 taken_more : {K : Type 0} (written : K → Option (List ℕ)) (faults : K → ℕ) (a b : List Event) (o m n : Output K) → HasTaken written faults a o m → HasTaken written faults b m n → HasTaken written faults (a ++ b) o n
 taken_more written faults a b o m n first second = record {
   same = second.same ∙ first.same;
-  later = omega (arith, first.later, second.later);
+  still = second.still ∙ first.still;
   text = second.text
       ∙ ap (λ (w : Option (List ℕ)). behind w (records_text (frames_of m.interface b))) first.text
       ∙ ap (λ (k : ℕ). behind (behind (written o.sink) (records_text (frames_of o.interface a))) (records_text (frames_of k b))) first.same
@@ -54,14 +54,15 @@ taken_more written faults a b o m n first second = record {
       ∙ ap (behind (written o.sink)) (text_more o.interface a b);
 }
 
-front_more : {K : Type 0} (written : K → Option (List ℕ)) (faults : K → ℕ) (a b : List Event) (o m n : Output K) → HasTaken written faults a o m → HasTakenFront written faults b m n → HasTakenFront written faults (a ++ b) o n
-front_more written faults a b o m n first second =
+front_more : {K : Type 0} (written : K → Option (List ℕ)) (faults : K → ℕ) (failed : ℕ) (a b : List Event) (o m n : Output K) → HasTaken written faults a o m → HasTakenFront written faults failed b m n → HasTakenFront written faults failed (a ++ b) o n
+front_more written faults failed a b o m n first second =
     let text = records_text (frames_of o.interface a) in
     let front = second.text.0 in
     let rest = second.text.1 in
     record {
       same = second.same ∙ first.same;
-      later = omega (arith, first.later, second.later);
+      later = omega (arith, first.still, second.later);
+      still = λ other. second.still (λ same. other (sym first.same ∙ same)) ∙ first.still;
       text = (
         text ++ front,
         (
@@ -78,15 +79,15 @@ each_taken written faults a b old mid new first second = (
   λ k d within. taken_more written faults a b (get_or old k d) (get_or mid k d) (get_or new k d) (first.1 k d within) (second.1 k d (omega (arith, within, first.0))),
 )
 
-pub each_front : {K : Type 0} (written : K → Option (List ℕ)) (faults : K → ℕ) (a b : List Event) (old mid new : List (Output K)) → EachOutput (HasTaken written faults a) old mid → EachOutput (HasTakenFront written faults b) mid new → EachOutput (HasTakenFront written faults (a ++ b)) old new
-each_front written faults a b old mid new first second = (
+pub each_front : {K : Type 0} (written : K → Option (List ℕ)) (faults : K → ℕ) (failed : ℕ) (a b : List Event) (old mid new : List (Output K)) → EachOutput (HasTaken written faults a) old mid → EachOutput (HasTakenFront written faults failed b) mid new → EachOutput (HasTakenFront written faults failed (a ++ b)) old new
+each_front written faults failed a b old mid new first second = (
   second.0 ∙ first.0,
-  λ k d within. front_more written faults a b (get_or old k d) (get_or mid k d) (get_or new k d) (first.1 k d within) (second.1 k d (omega (arith, within, first.0))),
+  λ k d within. front_more written faults failed a b (get_or old k d) (get_or mid k d) (get_or new k d) (first.1 k d within) (second.1 k d (omega (arith, within, first.0))),
 )
 
 -- before the first event
 pub none_yet : {K : Type 0} (written : K → Option (List ℕ)) (faults : K → ℕ) (outputs : List (Output K)) → EachOutput (HasTaken written faults []) outputs outputs
-none_yet written faults outputs = (refl, λ k d within. record { same = refl; later = omega arith; text = nothing (written (get_or outputs k d).sink) })
+none_yet written faults outputs = (refl, λ k d within. record { same = refl; still = refl; text = nothing (written (get_or outputs k d).sink) })
   where
     nothing : (o : Option (List ℕ)) → o ≡ behind o []
     nothing None = refl
@@ -111,11 +112,12 @@ differ_still written faults events old new each differ j k d inside within same 
     differ j k d j_old k_old (sym (each.1 j d j_old).same ∙ same ∙ (each.1 k d k_old).same)
 
 -- the capture has ended behind events
-pub told_behind : (first mid new : State) (gave g : List ℕ) (left : Option (List ℕ)) (events : List Event) (ending : How) → HasRead first mid gave events → HasEnded mid new g left ending → HasTold first new (gave ++ g) left events ending
-told_behind first mid new gave g left events ending was one = record {
+pub told_behind : (first mid new : State) (gave g : List ℕ) (left : Option (List ℕ)) (events : List Event) (ending : How) → HasRead first mid gave events → block_place mid ≡ block_place first + length gave → HasEnded mid new g left ending → HasTold first new (gave ++ g) left events ending
+told_behind first mid new gave g left events ending was place one = record {
   state = one.state;
   taken = rw append-nil at (was g [] ending one.taken);
   whole = by left one.whole;
+  near = λ at is. omega (arith, place, one.near at is, length-append gave g);
 }
   where
     by : (left : Option (List ℕ)) → IfSome left (λ rest. Comes mid (g ++ rest) (ended ending)) → IfSome left (λ rest. Comes first ((gave ++ g) ++ rest) (record { events = events; ending = ending }))
@@ -166,11 +168,16 @@ may_take mid new gave buf left counts next.Failed answers placed within = tt
 -- what was read, counted and written so far
 pub record SoFar {K : Type 0} (written : K → Option (List ℕ)) (faults : K → ℕ) (first now : State) (counts0 counts : Counts) (old new : List (Output K)) (gave : List ℕ) (events : List Event) : Type 0 where
   pub read : HasRead first now gave events
+  pub place : block_place now ≡ block_place first + length gave
   pub each : EachOutput (HasTaken written faults events) old new
   pub tallied_is : tally_of counts (interfaces_of old) ≡ tally (tally_of counts0 (interfaces_of old)) events
 
 tally_step : (counts0 counts counts' : Counts) (split split' : List ℕ) (events : List Event) (event : Event) → tally_of counts split ≡ tally (tally_of counts0 split) events → tally_of counts' split' ≡ tallied (tally_of counts split) event → tally_of counts' split' ≡ tally (tally_of counts0 split) (events ++ event ∷ [])
 tally_step counts0 counts counts' split split' events event was one = one ∙ ap (λ (t : Tally). tallied t event) was ∙ sym (tally_more events (event ∷ []) (tally_of counts0 split))
+
+-- where a reader stands behind one event more
+place_more : (first mid new : State) (gave g : List ℕ) (event : Event) → block_place mid ≡ block_place first + length gave → HasReadOne mid new g event → block_place new ≡ block_place first + length (gave ++ g)
+place_more first mid new gave g event was one = omega (arith, ap block_place one.reading.1, one.reading.2, was, length-append gave g)
 
 -- one event more
 pub event_more : {K : Type 0} (written : K → Option (List ℕ)) (faults : K → ℕ) (first mid new : State) (counts0 counts counts' : Counts) (old outputs outputs' : List (Output K)) (gave g : List ℕ) (events : List Event) (event : Event) → SoFar written faults first mid counts0 counts old outputs gave events → HasReadOne mid new g event
@@ -179,6 +186,7 @@ event_more written faults first mid new counts0 counts counts' old outputs outpu
     let stay = interfaces_stay written faults events old outputs was.each in
     record {
       read = has_read_more first mid new gave g events (event ∷ []) was.read one.read;
+      place = place_more first mid new gave g event was.place one;
       each = each_taken written faults events (event ∷ []) old outputs outputs' was.each each;
       tallied_is = tally_step counts0 counts counts' (interfaces_of old) (interfaces_of old) events event was.tallied_is
           (subst (λ (l : List ℕ). tally_of counts' l ≡ tallied (tally_of counts l) event) stay (subst (λ (l : List ℕ). tally_of counts' l ≡ tallied (tally_of counts (interfaces_of outputs)) event) (append-nil (interfaces_of outputs)) one_tallied));
@@ -230,7 +238,7 @@ stop_event written faults first mid new counts0 counts counts' old outputs outpu
     let stay = interfaces_stay written faults events old outputs was.each in
     record {
       events = events ++ event ∷ [];
-      tells = has_read_more first mid new gave g events (event ∷ []) was.read one.read;
+      tells = record { read = has_read_more first mid new gave g events (event ∷ []) was.read one.read; place = place_more first mid new gave g event was.place one };
       begun = (
         events,
         ap (λ (e : Event). events ++ e ∷ []) does.2,
@@ -244,9 +252,9 @@ stop_event written faults first mid new counts0 counts counts' old outputs outpu
     let stay = interfaces_stay written faults events old outputs was.each in
     record {
       events = events ++ event ∷ [];
-      tells = has_read_more first mid new gave g events (event ∷ []) was.read one.read;
+      tells = record { read = has_read_more first mid new gave g events (event ∷ []) was.read one.read; place = place_more first mid new gave g event was.place one };
       begun = tt;
-      writes = each_front written faults events (event ∷ []) old outputs outputs' was.each does.0;
+      writes = each_front written faults interface events (event ∷ []) old outputs outputs' was.each does.0;
       tallied_is = tally_step counts0 counts counts' (interfaces_of old) (interfaces_of old) events event was.tallied_is
           (subst (λ (l : List ℕ). tally_of counts' l ≡ tallied (tally_of counts l) event) stay (subst (λ (l : List ℕ). tally_of counts' l ≡ tallied (tally_of counts (interfaces_of outputs)) event) (append-nil (interfaces_of outputs)) does.1.1));
     }
@@ -271,9 +279,9 @@ stops_at written faults first mid new counts0 counts counts' old outputs outputs
 stops_at written faults first mid new counts0 counts counts' old outputs outputs' gave g buf left events (next.Frame interface stamp len) stop was answers does = stop_event written faults first mid new counts0 counts counts' old outputs outputs' gave g left events _ stop was answers.1 does
 stops_at written faults first mid new counts0 counts counts' old outputs outputs' gave g buf left events (next.Long interface) stop was answers does = stop_event written faults first mid new counts0 counts counts' old outputs outputs' gave g left events (Long interface) stop was answers does
 stops_at written faults first mid new counts0 counts counts' old outputs outputs' gave g buf left events next.End stop was answers does =
-    rests written faults first new counts0 counts counts' old outputs outputs' (gave ++ g) left events got.End stop was.each was.tallied_is (λ e. e) refl (told_behind first mid new gave g left events how.End was.read answers) tt does
+    rests written faults first new counts0 counts counts' old outputs outputs' (gave ++ g) left events got.End stop was.each was.tallied_is (λ e. e) refl (told_behind first mid new gave g left events how.End was.read was.place answers) tt does
 stops_at written faults first mid new counts0 counts counts' old outputs outputs' gave g buf left events (next.Malformed at) stop was answers does =
-    rests written faults first new counts0 counts counts' old outputs outputs' (gave ++ g) left events (got.Malformed at) stop was.each was.tallied_is (λ e. e) refl (told_behind first mid new gave g left events (how.Malformed at) was.read answers) tt does
+    rests written faults first new counts0 counts counts' old outputs outputs' (gave ++ g) left events (got.Malformed at) stop was.each was.tallied_is (λ e. e) refl (told_behind first mid new gave g left events (how.Malformed at) was.read was.place answers) tt does
 stops_at written faults first mid new counts0 counts counts' old outputs outputs' gave g buf left events next.Failed stop was answers does =
     rests written faults first new counts0 counts counts' old outputs outputs' (gave ++ g) left events got.Failed stop was.each was.tallied_is (λ e. e) refl (broken_behind first mid new gave g events was.read answers) tt does
 
@@ -283,7 +291,7 @@ risen_since {K} written faults events interface old mid new each risen =
     let inside : place < length old = omega (arith, risen.1.0, each.0) in (
       place,
       (inside, λ (d : Output K). sym (each.1 place d inside).same ∙ risen.1.1 d),
-      λ (d : Output K). rose_since (faults (get_or old place d).sink) (faults (get_or mid place d).sink) (faults (get_or new place d).sink) (each.1 place d inside).later (risen.2 d),
+      λ (d : Output K). rose_since (faults (get_or old place d).sink) (faults (get_or mid place d).sink) (faults (get_or new place d).sink) (omega (arith, (each.1 place d inside).still)) (risen.2 d),
     )
 
 event_rose : {K : Type 0} (written : K → Option (List ℕ)) (faults : K → ℕ) (event : Event) (counts counts' : Counts) (outputs outputs' : List (Output K)) (stop : SplitGot) → DoesEvent written faults event counts counts' outputs outputs' (Some stop) → WriteRose faults stop outputs outputs'
@@ -319,3 +327,8 @@ failed_by written faults (next.Long interface) buf counts counts' outputs output
 failed_by written faults next.End buf counts counts' outputs outputs' stop does is = absurd (cc (does.0, is))
 failed_by written faults (next.Malformed at) buf counts counts' outputs outputs' stop does is = absurd (cc (does.0, is))
 failed_by written faults next.Failed buf counts counts' outputs outputs' stop does is = refl
+
+-- a reader's read failed only where a splitter answers so
+pub failed_back : {K : Type 0} (written : K → Option (List ℕ)) (faults : K → ℕ) (answer : NgNext) (buf : List ℕ) (counts counts' : Counts) (outputs outputs' : List (Output K)) (stop : SplitGot) → Does written faults answer buf counts counts' outputs outputs' (Some stop) → answer ≡ next.Failed → stop ≡ got.Failed
+failed_back written faults answer buf counts counts' outputs outputs' stop does is =
+    some_same stop got.Failed (sym (subst (λ (a : NgNext). Does written faults a buf counts counts' outputs outputs' (Some stop)) is does).0)

@@ -26,10 +26,10 @@ frame_elsewhere k i stamp octets other = grind (arith, nat_tests)
 
 -- an output of another interface is given nothing
 idle : {K : Type 0} (written : K → Option (List ℕ)) (faults : K → ℕ) (e : Event) (o : Output K) → frames_of o.interface (e ∷ []) ≡ [] → HasTaken written faults (e ∷ []) o o
-idle written faults e o none = record { same = refl; later = omega arith; text = behind_none (written o.sink) ∙ ap (λ (s : List Sent). behind (written o.sink) (records_text s)) (sym none) }
+idle written faults e o none = record { same = refl; still = refl; text = behind_none (written o.sink) ∙ ap (λ (s : List Sent). behind (written o.sink) (records_text s)) (sym none) }
 
-idle_front : {K : Type 0} (written : K → Option (List ℕ)) (faults : K → ℕ) (e : Event) (o : Output K) → HasTakenFront written faults (e ∷ []) o o
-idle_front written faults e o = record { same = refl; later = omega arith; text = ([], (records_text (frames_of o.interface (e ∷ [])), refl), behind_none (written o.sink)) }
+idle_front : {K : Type 0} (written : K → Option (List ℕ)) (faults : K → ℕ) (failed : ℕ) (e : Event) (o : Output K) → HasTakenFront written faults failed (e ∷ []) o o
+idle_front written faults failed e o = record { same = refl; later = omega arith; still = λ other. refl; text = ([], (records_text (frames_of o.interface (e ∷ [])), refl), behind_none (written o.sink)) }
 
 pub all_idle : {K : Type 0} (written : K → Option (List ℕ)) (faults : K → ℕ) (e : Event) (outputs : List (Output K)) → ((k : ℕ) (d : Output K) → k < length outputs → frames_of (get_or outputs k d).interface (e ∷ []) ≡ []) → EachOutput (HasTaken written faults (e ∷ [])) outputs outputs
 all_idle written faults e outputs none = (refl, λ k d within. idle written faults e (get_or outputs k d) (none k d within))
@@ -53,14 +53,14 @@ by_place {K} R outputs place new here elsewhere = (grind (arith, common_steps), 
     by k d within (inr other) = subst (λ (o : Output K). R (get_or outputs k d) o) (sym (get_or-set_other outputs place k new d other)) (elsewhere k d within other)
 
 -- the output at this place is given a frame
-pub one_taken : {K : Type 0} (written : K → Option (List ℕ)) (faults : K → ℕ) (outputs : List (Output K)) (place interface stamp : ℕ) (octets : List ℕ) (x : Output K) (y : K) → Differ outputs → IsOutputOf outputs place interface → faults (get_or outputs place x).sink ≤ faults y
+pub one_taken : {K : Type 0} (written : K → Option (List ℕ)) (faults : K → ℕ) (outputs : List (Output K)) (place interface stamp : ℕ) (octets : List ℕ) (x : Output K) (y : K) → Differ outputs → IsOutputOf outputs place interface → faults y ≡ faults (get_or outputs place x).sink
     → written y ≡ behind (written (get_or outputs place x).sink) (record_text stamp octets) → EachOutput (HasTaken written faults (Frame interface stamp octets ∷ [])) outputs (set outputs place (output_by (get_or outputs place x).interface y))
-one_taken {K} written faults outputs place interface stamp octets x y differ here later text =
+one_taken {K} written faults outputs place interface stamp octets x y differ here still text =
     by_place (HasTaken written faults (Frame interface stamp octets ∷ [])) outputs place (output_by (get_or outputs place x).interface y)
     (λ d inside. subst (λ (o : Output K). HasTaken written faults (Frame interface stamp octets ∷ []) o (output_by (get_or outputs place x).interface y)) (get_or_default outputs place x d inside)
     (record {
       same = refl;
-      later = later;
+      still = still;
       text = text ∙ ap (behind (written (get_or outputs place x).sink)) (sym (append-nil (record_text stamp octets)))
           ∙ ap (λ (s : List Sent). behind (written (get_or outputs place x).sink) (records_text s)) (sym (frame_here (get_or outputs place x).interface interface stamp octets (sym (here.1 x))));
     }))
@@ -69,13 +69,14 @@ one_taken {K} written faults outputs place interface stamp octets x y differ her
 
 -- the output at this place is given a front of a frame's record
 pub one_front : {K : Type 0} (written : K → Option (List ℕ)) (faults : K → ℕ) (outputs : List (Output K)) (place interface stamp : ℕ) (octets : List ℕ) (x : Output K) (y : K) → IsOutputOf outputs place interface → faults (get_or outputs place x).sink ≤ faults y
-    → (front : List ℕ) × IsFront front (record_text stamp octets) × (written y ≡ behind (written (get_or outputs place x).sink) front) → EachOutput (HasTakenFront written faults (Frame interface stamp octets ∷ [])) outputs (set outputs place (output_by (get_or outputs place x).interface y))
+    → (front : List ℕ) × IsFront front (record_text stamp octets) × (written y ≡ behind (written (get_or outputs place x).sink) front) → EachOutput (HasTakenFront written faults interface (Frame interface stamp octets ∷ [])) outputs (set outputs place (output_by (get_or outputs place x).interface y))
 one_front {K} written faults outputs place interface stamp octets x y here later text =
-    by_place (HasTakenFront written faults (Frame interface stamp octets ∷ [])) outputs place (output_by (get_or outputs place x).interface y)
-    (λ d inside. subst (λ (o : Output K). HasTakenFront written faults (Frame interface stamp octets ∷ []) o (output_by (get_or outputs place x).interface y)) (get_or_default outputs place x d inside)
+    by_place (HasTakenFront written faults interface (Frame interface stamp octets ∷ [])) outputs place (output_by (get_or outputs place x).interface y)
+    (λ d inside. subst (λ (o : Output K). HasTakenFront written faults interface (Frame interface stamp octets ∷ []) o (output_by (get_or outputs place x).interface y)) (get_or_default outputs place x d inside)
     (record {
       same = refl;
       later = later;
+      still = λ other. absurd (other (here.1 x));
       text = (
         text.0,
         subst (IsFront text.0)
@@ -84,7 +85,7 @@ one_front {K} written faults outputs place interface stamp octets x y here later
         text.2,
       );
     }))
-    (λ k d within other. idle_front written faults (Frame interface stamp octets) (get_or outputs k d))
+    (λ k d within other. idle_front written faults interface (Frame interface stamp octets) (get_or outputs k d))
 
 pub one_risen : {K : Type 0} (faults : K → ℕ) (outputs : List (Output K)) (place interface : ℕ) (x : Output K) (y : K) → IsOutputOf outputs place interface → Rose (faults (get_or outputs place x).sink) (faults y) → HasRisen faults interface outputs (set outputs place (output_by (get_or outputs place x).interface y))
 one_risen {K} faults outputs place interface x y here rose = (

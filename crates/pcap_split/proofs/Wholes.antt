@@ -129,7 +129,7 @@ each_capture written faults a b old mid new first second = (
 )
 
 pub split_start : {K : Type 0} (written : K → Option (List ℕ)) → IsSplit written (Reading at_start) no_counts [] [] [] []
-split_start written = record { read = has_read_none (Reading at_start); counted_is = refl; captures = (refl, λ k d within. absurd (omega (arith, within))) }
+split_start written = record { read = has_read_none (Reading at_start); place = refl; counted_is = refl; captures = (refl, λ k d within. absurd (omega (arith, within))) }
 
 -- what the counts are behind one call more
 pub count_more : {K : Type 0} (written : K → Option (List ℕ)) (state : State) (counts : Counts) (handed now : List (Output K)) (gave : List ℕ) (events later : List Event) → IsSplit written state counts handed now gave events → tally (tally_of counts (interfaces_of now)) later ≡ tally no_tally (events ++ later)
@@ -141,7 +141,7 @@ pub split_opened : {K : Type 0} (written : K → Option (List ℕ)) (faults : K 
     → IsCall written faults (got.Opens interface) old new counts counts' now now' more left later → written begun ≡ behind (written sink) header_text
     → IsSplit written new counts' (handed ++ record { interface = interface; sink = sink } ∷ []) (now' ++ record { interface = interface; sink = begun } ∷ []) (gave ++ more) (events ++ later)
 split_opened {K} written faults interface old new counts counts' handed now now' gave more left events later sink begun was call text =
-    let read = has_read_more (Reading at_start) old new gave more events later was.read call.tells in
+    let read = has_read_more (Reading at_start) old new gave more events later was.read call.tells.read in
     let stay = same_interfaces handed now was.captures.0 (λ k d within. (was.captures.1 k d within).same) in
     let o : Output K = record { interface = interface; sink = sink } in
     let n : Output K = record { interface = interface; sink = begun } in
@@ -158,6 +158,7 @@ split_opened {K} written faults interface old new counts counts' handed now now'
     } in
     record {
       read = read;
+      place = omega (arith, call.tells.place, was.place, length-append gave more);
       counted_is = ap (tally_of counts') (interfaces_more handed o ∙ ap (λ (l : List ℕ). l ++ interface ∷ []) (sym stay)) ∙ call.counted_is ∙ count_more written old counts handed now gave events later was;
       captures = each_more (HasCapture written (events ++ later)) handed now' o n (each_capture written faults events later handed now now' was.captures call.writes) capture;
     }
@@ -172,6 +173,7 @@ pub split_ended : {K : Type 0} (written : K → Option (List ℕ)) (faults : K �
 split_ended written faults ending old new counts counts' handed now now' gave more left events later was told each one = record {
   taken = was.read more later ending told.taken;
   whole = by left told.whole;
+  near = λ at is. omega (arith, told.near at is, was.place, length-append gave more);
   counted_is = counts_are written old counts counts' handed now gave events later was one;
   captures = each_capture written faults events later handed now now' was.captures each;
 }

@@ -1,33 +1,39 @@
 -- What one call of a splitter did: what was told, and what each output was given.
-use Rattle.std.specs.Prelude.{◌≡◌, ℕ, ◌<◌, ◌≤◌, List, [], ◌∷◌, ◌++◌, length, slice_index_or, Option, IfSome}
+use Rattle.std.specs.Prelude.{◌≡◌, ◌≢◌, ℕ, ◌+◌, ◌<◌, ◌≤◌, List, [], ◌∷◌, ◌++◌, length, slice_index_or, Option, IfSome}
 use Rattle.savi_kinds.specs.declared.entry.How.{How}
 use Rattle.savi_kinds.specs.declared.entry.How.TheVariants as how
 use Rattle.savi_ends.specs.Octets.{behind, IsFront}
 use Rattle.savi_ends.specs.Faults.{Rose}
 use Rattle.pcap_io.specs.Captures.{records_text}
 use Rattle.pcapng_io.specs.Runs.{Event, Begins}
-use Rattle.pcapng_io.specs.Readers.{State, Ended, Comes, HasRead}
+use Rattle.pcapng_io.specs.Readers.{State, Ended, Comes, HasRead, block_place, longest_block}
 use Rattle.pcap_split.specs.declared.split.SplitGot.{SplitGot}
 use Rattle.pcap_split.specs.declared.split.SplitGot.TheVariants as got
 use Rattle.pcap_split.specs.declared.output.Output.{Output}
 use Rattle.pcap_split.specs.Splits.{frames_of, Tally, tally}
 
 -- The capture has ended so: what was taken, alone and with what is left behind it, where that is told, tells these events
--- and has this ending.
+-- and has this ending. From a block at fault on no more was read than the longest block has.
 pub record HasTold (old new : State) (gave : List ℕ) (left : Option (List ℕ)) (events : List Event) (ending : How) : Type 0 where
   pub state : new ≡ Ended ending
   pub taken : Comes old gave (record { events = events; ending = ending })
   pub whole : IfSome left (λ rest. Comes old (gave ++ rest) (record { events = events; ending = ending }))
+  pub near : (at : ℕ) → ending ≡ how.Malformed at → block_place old + length gave ≤ at + longest_block
 
 -- A read failed: what was taken tells these events.
 pub record HasBroken (old new : State) (gave : List ℕ) (events : List Event) : Type 0 where
   pub state : new ≡ Ended how.Failed
   pub taken : (ending : How) × Comes old gave (record { events = events; ending = ending })
 
+-- What was taken tells these events, whatever comes behind it, and the reader stands there.
+pub record HasGone (old new : State) (gave : List ℕ) (events : List Event) : Type 0 where
+  pub read : HasRead old new gave events
+  pub place : block_place new ≡ block_place old + length gave
+
 -- what the octets that a call took tell
 abbrev pub Tells : SplitGot → State → State → List ℕ → Option (List ℕ) → List Event → Type 0
-Tells (got.Opens interface) old new gave left events = HasRead old new gave events
-Tells (got.Unwritten interface) old new gave left events = HasRead old new gave events
+Tells (got.Opens interface) old new gave left events = HasGone old new gave events
+Tells (got.Unwritten interface) old new gave left events = HasGone old new gave events
 Tells got.End old new gave left events = HasTold old new gave left events how.End
 Tells (got.Malformed at) old new gave left events = HasTold old new gave left events (how.Malformed at)
 Tells got.Failed old new gave left events = HasBroken old new gave events
@@ -40,16 +46,18 @@ HasBegun got.End t events = Unit {0}
 HasBegun (got.Malformed at) t events = Unit {0}
 HasBegun got.Failed t events = Unit {0}
 
--- an output was given the records of its interface's frames
+-- an output was given the records of its interface's frames, and no write of it failed
 pub record HasTaken {K : Type 0} (written : K → Option (List ℕ)) (faults : K → ℕ) (events : List Event) (old new : Output K) : Type 0 where
   pub same : new.interface ≡ old.interface
-  pub later : faults old.sink ≤ faults new.sink
+  pub still : faults new.sink ≡ faults old.sink
   pub text : written new.sink ≡ behind (written old.sink) (records_text (frames_of old.interface events))
 
--- a write failed: an output was given a front of the records of its interface's frames
-pub record HasTakenFront {K : Type 0} (written : K → Option (List ℕ)) (faults : K → ℕ) (events : List Event) (old new : Output K) : Type 0 where
+-- a write to the output of this interface failed: an output was given a front of the records of its interface's frames, and
+-- no write of another one failed
+pub record HasTakenFront {K : Type 0} (written : K → Option (List ℕ)) (faults : K → ℕ) (failed : ℕ) (events : List Event) (old new : Output K) : Type 0 where
   pub same : new.interface ≡ old.interface
   pub later : faults old.sink ≤ faults new.sink
+  pub still : old.interface ≢ failed → faults new.sink ≡ faults old.sink
   pub text : (front : List ℕ) × IsFront front (records_text (frames_of old.interface events)) × (written new.sink ≡ behind (written old.sink) front)
 
 -- each output as it was and as it is now
@@ -59,7 +67,7 @@ EachOutput {K} R old new = (length new ≡ length old) × ((k : ℕ) (d : Output
 -- what the outputs were given
 abbrev pub Writes : {K : Type 0} → (K → Option (List ℕ)) → (K → ℕ) → SplitGot → List Event → List (Output K) → List (Output K) → Type 0
 Writes written faults (got.Opens interface) events old new = EachOutput (HasTaken written faults events) old new
-Writes written faults (got.Unwritten interface) events old new = EachOutput (HasTakenFront written faults events) old new
+Writes written faults (got.Unwritten interface) events old new = EachOutput (HasTakenFront written faults interface events) old new
 Writes written faults got.End events old new = EachOutput (HasTaken written faults events) old new
 Writes written faults (got.Malformed at) events old new = EachOutput (HasTaken written faults events) old new
 Writes written faults got.Failed events old new = EachOutput (HasTaken written faults events) old new

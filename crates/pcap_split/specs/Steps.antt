@@ -28,7 +28,7 @@ IsTallied event old new outputs more = (counted new ≡ counted old + 1) × (tal
 abbrev pub DoesEvent : {K : Type 0} → (K → Option (List ℕ)) → (K → ℕ) → Event → Counts → Counts → List (Output K) → List (Output K) → Option SplitGot → Type 0
 DoesEvent written faults event counts counts' old new None = EachOutput (HasTaken written faults (event ∷ [])) old new × IsTallied event counts counts' old []
 DoesEvent written faults event counts counts' old new (Some (got.Opens interface)) = EachOutput (HasTaken written faults (event ∷ [])) old new × IsTallied event counts counts' old (interface ∷ []) × (event ≡ Begins 1) × (interface ≡ counts.interfaces)
-DoesEvent written faults event counts counts' old new (Some (got.Unwritten interface)) = EachOutput (HasTakenFront written faults (event ∷ [])) old new × IsTallied event counts counts' old [] × HasRisen faults interface old new
+DoesEvent written faults event counts counts' old new (Some (got.Unwritten interface)) = EachOutput (HasTakenFront written faults interface (event ∷ [])) old new × IsTallied event counts counts' old [] × HasRisen faults interface old new
 DoesEvent written faults event counts counts' old new (Some got.End) = ⊥
 DoesEvent written faults event counts counts' old new (Some (got.Malformed at)) = ⊥
 DoesEvent written faults event counts counts' old new (Some got.Failed) = ⊥

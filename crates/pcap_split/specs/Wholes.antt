@@ -1,9 +1,10 @@
 -- A file that is split, over all calls of a splitter from its start on.
-use Rattle.std.specs.Prelude.{IfSome, ◌≡◌, ℕ, List, ◌++◌, Option}
+use Rattle.std.specs.Prelude.{IfSome, ◌≡◌, ◌≤◌, ◌+◌, ℕ, List, ◌++◌, length, Option}
 use Rattle.savi_kinds.specs.declared.entry.How.{How}
+use Rattle.savi_kinds.specs.declared.entry.How.TheVariants as how
 use Rattle.savi_ends.specs.Octets.{behind}
 use Rattle.pcapng_io.specs.Runs.{Event, Arrive, at_start}
-use Rattle.pcapng_io.specs.Readers.{State, Reading, HasRead}
+use Rattle.pcapng_io.specs.Readers.{State, Reading, HasRead, block_place, longest_block}
 use Rattle.pcap_split.specs.declared.counts.Counts.{Counts}
 use Rattle.pcap_split.specs.declared.output.Output.{Output}
 use Rattle.pcap_split.specs.declared.split.SplitGot.{SplitGot}
@@ -16,9 +17,11 @@ pub record HasCapture {K : Type 0} (written : K → Option (List ℕ)) (events :
   pub same : now.interface ≡ handed.interface
   pub text : written now.sink ≡ behind (written handed.sink) (split_text handed.interface events)
 
--- All octets so far told these events: they are counted, and each output has the capture of its interface.
+-- All octets so far told these events, and the reader stands behind them: they are counted, and each output has the capture
+-- of its interface.
 pub record IsSplit {K : Type 0} (written : K → Option (List ℕ)) (state : State) (counts : Counts) (handed now : List (Output K)) (gave : List ℕ) (events : List Event) : Type 0 where
   pub read : HasRead (Reading at_start) state gave events
+  pub place : block_place state ≡ length gave
   pub counted_is : tally_of counts (interfaces_of handed) ≡ tally no_tally events
   pub captures : EachOutput (HasCapture written events) handed now
 
@@ -30,10 +33,11 @@ pub record IsCall {K : Type 0} (written : K → Option (List ℕ)) (faults : K �
   pub counted_is : tally_of counts' (split_behind result (interfaces_of outputs)) ≡ tally (tally_of counts (interfaces_of outputs)) events
 
 -- A whole file was split: it tells these events and ends so, whatever is left, where that is told; they are counted, and
--- each output has the capture of its interface.
+-- each output has the capture of its interface. From a block at fault on no more was read than the longest block has.
 pub record IsSplitWhole {K : Type 0} (written : K → Option (List ℕ)) (counts : Counts) (handed now : List (Output K)) (gave : List ℕ) (left : Option (List ℕ)) (events : List Event) (ending : How) : Type 0 where
   pub taken : Arrive gave (record { events = events; ending = ending })
   pub whole : IfSome left (λ rest. Arrive (gave ++ rest) (record { events = events; ending = ending }))
+  pub near : (at : ℕ) → ending ≡ how.Malformed at → length gave ≤ at + longest_block
   pub counted_is : tally_of counts (interfaces_of handed) ≡ tally no_tally events
   pub captures : EachOutput (HasCapture written events) handed now
 

@@ -72,6 +72,7 @@ impl Splitter {
         requires { Differ outputs.old }
         ensures later { S.faults source.old ≤ S.faults source.new }
         ensures cause { result ≡ SplitGot.Failed → self.old.reading ≢ Ended how.Failed → Rose (S.faults source.old) (S.faults source.new) }
+        ensures still { result ≢ SplitGot.Failed → S.faults source.new ≡ S.faults source.old }
         ensures unwritten { WriteRose K.faults result outputs.old outputs.new }
 
         // There are octets that the source gave in this call; what they tell was counted, and written to the outputs.

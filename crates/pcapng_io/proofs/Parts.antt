@@ -53,6 +53,11 @@ pub short_behind : (n : ℕ) (a g : List ℕ) (why : Stop) (left : Option (List 
 short_behind n a g stop.Malformed left short = (omega (arith, short.0, length-append a g), short.1)
 short_behind n a g stop.Failed left short = omega (arith, short, length-append a g)
 
+-- how many octets were taken at most
+pub short_within : (n most : ℕ) (a g : List ℕ) (why : Stop) (left : Option (List ℕ)) → FallsShort n why g left → length a + n ≤ most → length (a ++ g) ≤ most
+short_within n most a g stop.Malformed left short room = omega (arith, short.0, room, length-append a g)
+short_within n most a g stop.Failed left short room = omega (arith, short, room, length-append a g)
+
 none_wrong : (P : List ℕ → Type 0) (g more : List ℕ) → ((first : List ℕ) → P first → length g ≤ length first) → ((x : List ℕ) → P (g ++ x) → ⊥) → NoneIn P (g ++ more)
 none_wrong P g more least wrong first rest same is =
     let f = fronts g more first rest same (least first is) in

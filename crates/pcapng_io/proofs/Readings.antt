@@ -7,6 +7,8 @@ use Rattle.savi_kinds.specs.declared.entry.How.{How}
 use Rattle.savi_kinds.specs.declared.entry.How.TheVariants as how
 use Rattle.savi_ends.specs.Octets.{NothingLeft}
 use Rattle.pcap_io.specs.declared.kind.ByteOrder.{ByteOrder}
+use Rattle.pcap_io.specs.Numbers.{number_at}
+use Rattle.pcap_io.proofs.Fronts.{number_at-append}
 use Rattle.pcapng_io.specs.declared.stop.Stop.{Stop}
 use Rattle.pcapng_io.specs.declared.stop.Stop.TheVariants as stop
 use Rattle.pcapng_io.specs.declared.block.BlockRead.{BlockRead}
@@ -15,7 +17,7 @@ use Rattle.pcapng_io.specs.declared.next.NgNext.{NgNext}
 use Rattle.pcapng_io.specs.declared.next.NgNext.TheVariants as next
 use Rattle.pcapng_io.specs.Blocks.{Block, Section, Interface, Packet, Other, Standing, IsTotal, section_type, IsBlock, behind}
 use Rattle.pcapng_io.specs.Runs.{Event, Begins, Frame, Long, events_of, BeginsNone, IsDone, EndsAs, ended}
-use Rattle.pcapng_io.specs.Readers.{State, Reading, Ended, Comes, IsSound, HasRead, HasReadOne, HasEnded, HasFailed, Answers}
+use Rattle.pcapng_io.specs.Readers.{State, Reading, Ended, Comes, longest_block, IsSound, HasRead, HasReadOne, HasEnded, IsUnread, HasFailed, Answers}
 use Rattle.pcapng_io.specs.Answers.{answer_to, behind_read}
 use Rattle.pcapng_io.specs.Pieces.{NoneIn, Stops, IsRead, IsSomeBlock, StopsHere, state_after}
 use Rattle.pcapng_io.proofs.Parts.{fronts}
@@ -33,13 +35,13 @@ begins_none_short s octets short b first rest same is = absurd (omega (arith, (b
 
 -- less than the head of a block is left
 pub stops_in_head : (s : Standing) (gave : List ℕ) (left : Option (List ℕ)) → length gave < 8 → (IsDone s gave → ⊥) → NothingLeft left → StopsHere s stop.Malformed gave left
-stops_in_head s gave None short more nothing = ((refl, more, begins_none_short s gave (omega (arith, short))), tt)
+stops_in_head s gave None short more nothing = ((refl, more, begins_none_short s gave (omega (arith, short))), tt, omega (arith, short))
 stops_in_head s gave (Some rest) short more nothing =
     let ends : EndsAs s (how.Malformed s.place) gave = (refl, more, begins_none_short s gave (omega (arith, short))) in
-    (ends, subst (EndsAs s (how.Malformed s.place)) (sym (append-nil gave) ∙ ap (λ (l : List ℕ). gave ++ l) (sym nothing)) ends)
+    (ends, subst (EndsAs s (how.Malformed s.place)) (sym (append-nil gave) ∙ ap (λ (l : List ℕ). gave ++ l) (sym nothing)) ends, omega (arith, short))
 
 pub fails_in_head : (s : Standing) (gave : List ℕ) → length gave < 8 → StopsHere s stop.Failed gave None
-fails_in_head s gave short = begins_none_short s gave (omega (arith, short))
+fails_in_head s gave short = record { none = begins_none_short s gave (omega (arith, short)); fits = λ order here other long. absurd (omega (arith, short, long)) }
 
 none_of : (s : Standing) (head g : List ℕ) → length head ≡ 8 → NoneIn (IsSomeBlock s head) g → BeginsNone s (head ++ g)
 none_of s head g size none b first rest same is =
@@ -50,12 +52,21 @@ not_done : (s : Standing) (head g : List ℕ) → length head ≡ 8 → IsDone s
 not_done s head g size done = omega (arith, size, ap length done.0, length-append head g)
 
 -- a block that begins with this head doesn't go on
-pub stops_here : (s : Standing) (head g : List ℕ) (why : Stop) (left : Option (List ℕ)) → length head ≡ 8 → Stops (IsSomeBlock s head) why g left → StopsHere s why (head ++ g) left
-stops_here s head g stop.Malformed None size stops = ((refl, not_done s head g size, none_of s head g size stops.0), tt)
-stops_here s head g stop.Malformed (Some rest) size stops =
+pub stops_here : (s : Standing) (head g : List ℕ) (why : Stop) (left : Option (List ℕ)) → length head ≡ 8 → Stops (IsSomeBlock s head) why g left → length g ≤ 1048568 → (why ≡ stop.Failed → (order : ByteOrder) → s.order ≡ Some order → take 4 head ≢ section_type → IsTotal s.place 12 (number_at order 4 head)) → StopsHere s why (head ++ g) left
+stops_here s head g stop.Malformed None size stops few fits = ((refl, not_done s head g size, none_of s head g size stops.0), tt, omega (arith, size, few, length-append head g))
+stops_here s head g stop.Malformed (Some rest) size stops few fits =
     let all : EndsAs s (how.Malformed s.place) (head ++ (g ++ rest)) = (refl, not_done s head (g ++ rest) size, none_of s head (g ++ rest) size stops.1) in
-    ((refl, not_done s head g size, none_of s head g size stops.0), subst (EndsAs s (how.Malformed s.place)) (sym (append_assoc head g rest)) all)
-stops_here s head g stop.Failed left size stops = none_of s head g size stops
+    ((refl, not_done s head g size, none_of s head g size stops.0), subst (EndsAs s (how.Malformed s.place)) (sym (append_assoc head g rest)) all, omega (arith, size, few, length-append head g))
+stops_here s head g stop.Failed left size stops few fits = record {
+  none = none_of s head g size stops;
+  fits = λ order here other long. subst (λ (n : ℕ). IsTotal s.place 12 n) (sym (number_at-append order 4 head g (omega (arith, size)))) (fits refl order here (λ same. other (type_in_front head g size ∙ same)));
+}
+
+-- the total length that a block of this section has is one that a block may have
+pub fits_by : (s : Standing) (order here : ByteOrder) (head : List ℕ) (least : ℕ) → 12 ≤ least → s.order ≡ Some order → s.order ≡ Some here → IsTotal s.place least (number_at order 4 head) → IsTotal s.place 12 (number_at here 4 head)
+fits_by s order here head least enough is other total =
+    let same : order ≡ here = cc in
+    subst (λ (o : ByteOrder). IsTotal s.place 12 (number_at o 4 head)) same (record { words = total.words; fits = omega (arith, total.fits, enough); bounded = total.bounded; placed = total.placed })
 
 -- outside of a section only a section header may stand
 no_section_yet : (s : Standing) (head x : List ℕ) (b : Block) → length head ≡ 8 → s.order ≡ None → take 4 head ≢ section_type → IsBlock s b (head ++ x) → ⊥
@@ -74,8 +85,8 @@ none_yet s head more size none type = (
 )
 
 pub stops_outside : (s : Standing) (head : List ℕ) (left : Option (List ℕ)) → length head ≡ 8 → s.order ≡ None → take 4 head ≢ section_type → StopsHere s stop.Malformed head left
-stops_outside s head None size none type = (subst (EndsAs s (how.Malformed s.place)) (append-nil head) (none_yet s head [] size none type), tt)
-stops_outside s head (Some rest) size none type = (subst (EndsAs s (how.Malformed s.place)) (append-nil head) (none_yet s head [] size none type), none_yet s head rest size none type)
+stops_outside s head None size none type = (subst (EndsAs s (how.Malformed s.place)) (append-nil head) (none_yet s head [] size none type), tt, omega (arith, size))
+stops_outside s head (Some rest) size none type = (subst (EndsAs s (how.Malformed s.place)) (append-nil head) (none_yet s head [] size none type), none_yet s head rest size none type, omega (arith, size))
 
 -- a block comes before whatever comes behind it
 pub block_read : (s : Standing) (b : Block) (first : List ℕ) → IsBlock s b first → HasRead (Reading s) (Reading (behind s b (length first))) first (events_of b)
@@ -180,12 +191,17 @@ whole_sound s read.Other size buf first sound is size_is =
 tells_end : (s : Standing) (ending : How) (octets : List ℕ) → EndsAs s ending octets → Comes (Reading s) octets (ended ending)
 tells_end s ending octets ends = ([], ends, refl)
 
+-- a block at fault is where it begins
+malformed_there : (s : Standing) (ending : How) (at : ℕ) (octets : List ℕ) → EndsAs s ending octets → ending ≡ how.Malformed at → at ≡ s.place
+malformed_there s ending at octets ends is = (subst (λ (h : How). EndsAs s h octets) is ends).0
+
 -- the capture ends behind blocks that tell nothing
-pub end_behind : (s0 s : Standing) (ending : How) (gave g : List ℕ) (left : Option (List ℕ)) → HasRead (Reading s0) (Reading s) gave [] → EndsAs s ending g → IfSome left (λ rest. EndsAs s ending (g ++ rest)) → HasEnded (Reading s0) (Ended ending) (gave ++ g) left ending
-end_behind s0 s ending gave g left was ends whole = record {
+pub end_behind : (s0 s : Standing) (ending : How) (gave g : List ℕ) (left : Option (List ℕ)) → HasRead (Reading s0) (Reading s) gave [] → s.place ≡ s0.place + length gave → EndsAs s ending g → IfSome left (λ rest. EndsAs s ending (g ++ rest)) → length g ≤ longest_block → HasEnded (Reading s0) (Ended ending) (gave ++ g) left ending
+end_behind s0 s ending gave g left was place ends whole few = record {
   state = refl;
   taken = was g [] ending (tells_end s ending g ends);
   whole = told left whole;
+  near = λ at is. omega (arith, place, few, malformed_there s ending at g ends is, length-append gave g);
 }
   where
     told : (left : Option (List ℕ)) → IfSome left (λ rest. EndsAs s ending (g ++ rest)) → IfSome left (λ rest. Comes (Reading s0) ((gave ++ g) ++ rest) (ended ending))
@@ -208,7 +224,7 @@ some_end s octets none = by s.order octets refl none
     by (Some order) [] is none = (how.End, (refl, rw is refl))
     by (Some order) (x ∷ octets) is none = (how.Malformed s.place, (refl, (λ done. absurd (omega (arith, ap length done.0))), none))
 
-pub fail_behind : (s0 s : Standing) (gave g : List ℕ) → HasRead (Reading s0) (Reading s) gave [] → BeginsNone s g → HasFailed (Reading s0) (Ended how.Failed) (gave ++ g)
-fail_behind s0 s gave g was none =
-    let end = some_end s g none in
-    record { state = refl; taken = (end.0, was g [] end.0 (tells_end s end.0 g end.1)) }
+pub fail_behind : (s0 s : Standing) (gave g : List ℕ) → HasRead (Reading s0) (Reading s) gave [] → IsUnread s g → HasFailed (Reading s0) (Ended how.Failed) (gave ++ g)
+fail_behind s0 s gave g was unread =
+    let end = some_end s g unread.none in
+    record { state = refl; taken = (end.0, was g [] end.0 (tells_end s end.0 g end.1)); unread = (s, gave, g, refl, was, unread) }

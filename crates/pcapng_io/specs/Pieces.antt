@@ -16,8 +16,8 @@ use Rattle.pcapng_io.specs.declared.next.NgNext.TheVariants as next
 use Rattle.pcapng_io.specs.Numbers.{half_at}
 use Rattle.pcapng_io.specs.Options.{padded, BlockOption, IsOption, IsResolution, units_of, IsSettled, HaveOptions, resolved}
 use Rattle.pcapng_io.specs.Blocks.{Block, Section, Interface, Packet, Other, Standing, IsBlock}
-use Rattle.pcapng_io.specs.Runs.{BeginsNone, EndsAs}
-use Rattle.pcapng_io.specs.Readers.{State, Reading, Ended}
+use Rattle.pcapng_io.specs.Runs.{EndsAs}
+use Rattle.pcapng_io.specs.Readers.{State, Reading, Ended, longest_block, IsUnread}
 
 -- no front of these octets is so
 abbrev pub NoneIn : (List ℕ → Type 0) → List ℕ → Type 0
@@ -27,6 +27,10 @@ NoneIn P octets = (first rest : List ℕ) → octets ≡ first ++ rest → P fir
 abbrev pub Stops : (List ℕ → Type 0) → Stop → List ℕ → Option (List ℕ) → Type 0
 Stops P stop.Malformed gave left = NoneIn P gave × IfSome left (λ rest. NoneIn P (gave ++ rest))
 Stops P stop.Failed gave left = NoneIn P gave
+
+-- the same, and no more than so many octets were taken
+abbrev pub StopsWithin : ℕ → (List ℕ → Type 0) → Stop → List ℕ → Option (List ℕ) → Type 0
+StopsWithin most P why gave left = Stops P why gave left × (length gave ≤ most)
 
 -- fewer octets than so many were taken, all that were left or up to a read that failed
 abbrev pub FallsShort : ℕ → Stop → List ℕ → Option (List ℕ) → Type 0
@@ -89,7 +93,8 @@ IsBlockRead s None buf octets left = (octets ≡ []) × IsSome s.order × Nothin
 IsBlockRead s (Some whole) buf octets left = IsWhole s whole buf octets
 
 -- No whole block was read: what was taken is none, nor, unless a read failed, is it with what is left behind it; and it
--- isn't the end.
+-- isn't the end, nor longer than a block.
 abbrev pub StopsHere : Standing → Stop → List ℕ → Option (List ℕ) → Type 0
-StopsHere s stop.Malformed gave left = EndsAs s (how.Malformed s.place) gave × IfSome left (λ rest. EndsAs s (how.Malformed s.place) (gave ++ rest))
-StopsHere s stop.Failed gave left = BeginsNone s gave
+StopsHere s stop.Malformed gave left =
+    EndsAs s (how.Malformed s.place) gave × IfSome left (λ rest. EndsAs s (how.Malformed s.place) (gave ++ rest)) × (length gave ≤ longest_block)
+StopsHere s stop.Failed gave left = IsUnread s gave

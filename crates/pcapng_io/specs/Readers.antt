@@ -1,11 +1,13 @@
 -- What a reader of a capture is ready for, and what each of its answers says.
-use Rattle.std.specs.Prelude.{◌≡◌, ℕ, ◌+◌, ◌^◌, ◌<◌, ◌≤◌, List, [], ◌∷◌, ◌++◌, length, take, Option, Some, None, IfSome, IsSome, All}
+use Rattle.std.specs.Prelude.{◌≡◌, ◌≢◌, ℕ, ◌+◌, ◌^◌, ◌<◌, ◌≤◌, List, [], ◌∷◌, ◌++◌, length, take, Option, Some, None, IfSome, IsSome, All}
 use Rattle.savi_kinds.specs.declared.entry.How.{How}
 use Rattle.savi_kinds.specs.declared.entry.How.TheVariants as how
 use Rattle.pcapng_io.specs.declared.next.NgNext.{NgNext}
 use Rattle.pcapng_io.specs.declared.next.NgNext.TheVariants as next
-use Rattle.pcapng_io.specs.Blocks.{Standing}
-use Rattle.pcapng_io.specs.Runs.{Event, Begins, Frame, Long, Input, Tell, ended}
+use Rattle.pcap_io.specs.declared.kind.ByteOrder.{ByteOrder}
+use Rattle.pcap_io.specs.Numbers.{number_at}
+use Rattle.pcapng_io.specs.Blocks.{Standing, IsTotal, section_type}
+use Rattle.pcapng_io.specs.Runs.{Event, Begins, Frame, Long, Input, BeginsNone, Tell, ended}
 
 pub data State : Type 0 where
   -- the next block begins so
@@ -22,6 +24,10 @@ Comes (Ended ending) octets input = input ≡ ended ending
 abbrev pub block_place : State → ℕ
 block_place (Reading s) = s.place
 block_place (Ended ending) = 0
+
+-- the octets of the longest block
+abbrev pub longest_block : ℕ
+longest_block = 1048576
 
 -- There is no place past 2^62, no section of more than 256 interfaces, no file of more than 65,536; and each interface
 -- has some units of a second.
@@ -46,16 +52,30 @@ pub record HasReadOne (old new : State) (gave : List ℕ) (event : Event) : Type
   pub some : 12 ≤ length gave
 
 -- Nothing comes any more, and the capture ends so: what was taken, alone and with what is left behind it, where that is
--- told, tells nothing and has this ending.
+-- told, tells nothing and has this ending. From a block at fault on no more was read than the longest block has.
 pub record HasEnded (old new : State) (gave : List ℕ) (left : Option (List ℕ)) (ending : How) : Type 0 where
   pub state : new ≡ Ended ending
   pub taken : Comes old gave (ended ending)
   pub whole : IfSome left (λ rest. Comes old (gave ++ rest) (ended ending))
+  pub near : (at : ℕ) → ending ≡ how.Malformed at → block_place old + length gave ≤ at + longest_block
 
--- A read failed: what was taken for this answer tells nothing.
+-- Where a block begins so, these octets were taken and it wasn't read: none begins them, and one of this section, once they
+-- have its type and total length, isn't at fault by its total length.
+pub record IsUnread (s : Standing) (octets : List ℕ) : Type 0 where
+  pub none : BeginsNone s octets
+  pub fits : (order : ByteOrder) → s.order ≡ Some order → take 4 octets ≢ section_type → 8 ≤ length octets → IsTotal s.place 12 (number_at order 4 octets)
+
+-- These octets end in a block that wasn't read, behind others that tell nothing.
+abbrev pub FailsIn : State → List ℕ → Type 0
+FailsIn (Reading s0) octets = (s : Standing) × (front : List ℕ) × (part : List ℕ) × (octets ≡ front ++ part) × HasRead (Reading s0) (Reading s) front [] × IsUnread s part
+FailsIn (Ended ending) octets = octets ≡ []
+
+-- A read failed: what was taken for this answer tells nothing, and the block in which it failed wasn't known to be at fault by
+-- its total length.
 pub record HasFailed (old new : State) (gave : List ℕ) : Type 0 where
   pub state : new ≡ Ended how.Failed
   pub taken : (ending : How) × Comes old gave (ended ending)
+  pub unread : FailsIn old gave
 
 -- What an answer says of the octets that were taken for it, of the buffer, and of what is left.
 abbrev pub Answers : State → State → List ℕ → List ℕ → Option (List ℕ) → NgNext → Type 0

@@ -1,4 +1,4 @@
-ghost use Rattle.std.specs.Prelude.{◌≡◌, ◌≢◌, ◌<◌, ◌≤◌, ◌+◌, ◌*◌, ◌^◌, ◌++◌, ◌↔◌, ℕ, List, [], take, IsTrue, MatchResult, IfSome, IfNone, IfErr};
+ghost use Rattle.std.specs.Prelude.{◌≡◌, ◌≢◌, ◌<◌, ◌≤◌, ◌+◌, ◌*◌, ◌^◌, ◌++◌, ◌↔◌, ℕ, List, [], take, IsTrue, MatchResult, IfSome, IfNone, IfErr, Err};
 ghost use Rattle.std.specs.Int.{w32};
 ghost use Rattle.savi_ends.specs.Octets.{Takes};
 ghost use Rattle.savi_ends.specs.Faults.{Rose};
@@ -6,7 +6,7 @@ ghost use Rattle.pcap_io.specs.Numbers.{octets_of, number_at};
 ghost use Rattle.pcapng_io.specs.Blocks.{IsTotal, section_type, stamp_of};
 ghost use Rattle.pcapng_io.specs.Readers.{IsSound};
 ghost use Rattle.pcapng_io.specs.ReaderStates.{standing_of};
-ghost use Rattle.pcapng_io.specs.Pieces.{Stops, StopsHere, IsWhole, IsBlockRead, IsSomeBlock};
+ghost use Rattle.pcapng_io.specs.Pieces.{StopsWithin, StopsHere, IsWhole, IsBlockRead, IsSomeBlock};
 
 use crate::block::{BlockRead, Whole};
 use crate::numbers::{half_at, number_at, stands_at};
@@ -113,7 +113,8 @@ fn read_section<S: Source>(
     requires kind { take 4 head.now ≡ section_type }
     ensures later { S.faults source.old ≤ S.faults source.new }
     ensures cause { IfErr result (λ stop. stop ≡ Stop.Failed → Rose (S.faults source.old) (S.faults source.new)) }
-    ensures octets { let s = standing_of position.now in (gave : List ℕ) × Takes (S.left source.old) (S.left source.new) gave × MatchResult result (λ whole. (held : List ℕ) → IsWhole s whole held (head.now ++ gave)) (λ stop. Stops (IsSomeBlock s head.now) stop gave (S.left source.new)) }
+    ensures still { result ≢ Err Stop.Failed → S.faults source.new ≡ S.faults source.old }
+    ensures octets { let s = standing_of position.now in (gave : List ℕ) × Takes (S.left source.old) (S.left source.new) gave × MatchResult result (λ whole. (held : List ℕ) → IsWhole s whole held (head.now ++ gave)) (λ stop. StopsWithin 1048568 (IsSomeBlock s head.now) stop gave (S.left source.new)) }
 {
     let mut fields = [0; 16];
     take(source, &mut fields)?;
@@ -144,7 +145,9 @@ fn read_interface<S: Source>(
     requires kind { number_at order 0 head.now ≡ 1 }
     ensures later { S.faults source.old ≤ S.faults source.new }
     ensures cause { IfErr result (λ stop. stop ≡ Stop.Failed → Rose (S.faults source.old) (S.faults source.new)) }
-    ensures octets { let s = standing_of position.now in (gave : List ℕ) × Takes (S.left source.old) (S.left source.new) gave × MatchResult result (λ whole. (held : List ℕ) → IsWhole s whole held (head.now ++ gave)) (λ stop. Stops (IsSomeBlock s head.now) stop gave (S.left source.new)) }
+    ensures still { result ≢ Err Stop.Failed → S.faults source.new ≡ S.faults source.old }
+    ensures sound { result ≡ Err Stop.Failed → IsTotal position.now.place 20 (number_at order 4 head.now) }
+    ensures octets { let s = standing_of position.now in (gave : List ℕ) × Takes (S.left source.old) (S.left source.new) gave × MatchResult result (λ whole. (held : List ℕ) → IsWhole s whole held (head.now ++ gave)) (λ stop. StopsWithin 1048568 (IsSomeBlock s head.now) stop gave (S.left source.new)) }
 {
     let total = number_at(order, head, 4);
     let declared = position.units.len();
@@ -178,7 +181,9 @@ fn read_packet<S: Source>(
     requires kind { number_at order 0 head.now ≡ 6 }
     ensures later { S.faults source.old ≤ S.faults source.new }
     ensures cause { IfErr result (λ stop. stop ≡ Stop.Failed → Rose (S.faults source.old) (S.faults source.new)) }
-    ensures octets { let s = standing_of position.now in (gave : List ℕ) × Takes (S.left source.old) (S.left source.new) gave × MatchResult result (λ whole. IsWhole s whole buf.new (head.now ++ gave)) (λ stop. Stops (IsSomeBlock s head.now) stop gave (S.left source.new)) }
+    ensures still { result ≢ Err Stop.Failed → S.faults source.new ≡ S.faults source.old }
+    ensures sound { result ≡ Err Stop.Failed → IsTotal position.now.place 32 (number_at order 4 head.now) }
+    ensures octets { let s = standing_of position.now in (gave : List ℕ) × Takes (S.left source.old) (S.left source.new) gave × MatchResult result (λ whole. IsWhole s whole buf.new (head.now ++ gave)) (λ stop. StopsWithin 1048568 (IsSomeBlock s head.now) stop gave (S.left source.new)) }
 {
     let total = number_at(order, head, 4);
     if !is_total(position.place, PACKET_FRONT + TAIL as u32, total) {
@@ -229,7 +234,9 @@ fn read_other<S: Source>(
     requires no_packet { number_at order 0 head.now ≢ 6 }
     ensures later { S.faults source.old ≤ S.faults source.new }
     ensures cause { IfErr result (λ stop. stop ≡ Stop.Failed → Rose (S.faults source.old) (S.faults source.new)) }
-    ensures octets { let s = standing_of position.now in (gave : List ℕ) × Takes (S.left source.old) (S.left source.new) gave × MatchResult result (λ whole. (held : List ℕ) → IsWhole s whole held (head.now ++ gave)) (λ stop. Stops (IsSomeBlock s head.now) stop gave (S.left source.new)) }
+    ensures still { result ≢ Err Stop.Failed → S.faults source.new ≡ S.faults source.old }
+    ensures sound { result ≡ Err Stop.Failed → IsTotal position.now.place 12 (number_at order 4 head.now) }
+    ensures octets { let s = standing_of position.now in (gave : List ℕ) × Takes (S.left source.old) (S.left source.new) gave × MatchResult result (λ whole. (held : List ℕ) → IsWhole s whole held (head.now ++ gave)) (λ stop. StopsWithin 1048568 (IsSomeBlock s head.now) stop gave (S.left source.new)) }
 {
     let total = number_at(order, head, 4);
     if !is_total(position.place, BLOCK_LEAST, total) {
@@ -252,6 +259,7 @@ pub(crate) fn read_block<S: Source>(
     requires sound { IsSound (standing_of position.now) }
     ensures later { S.faults source.old ≤ S.faults source.new }
     ensures cause { IfErr result (λ stop. stop ≡ Stop.Failed → Rose (S.faults source.old) (S.faults source.new)) }
+    ensures still { result ≢ Err Stop.Failed → S.faults source.new ≡ S.faults source.old }
     ensures octets { (gave : List ℕ) × Takes (S.left source.old) (S.left source.new) gave × MatchResult result (λ read. IsBlockRead (standing_of position.now) read buf.new gave (S.left source.new)) (λ stop. StopsHere (standing_of position.now) stop gave (S.left source.new)) }
 {
     let mut head = [0; HEAD];

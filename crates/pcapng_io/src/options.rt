@@ -1,8 +1,8 @@
-ghost use Rattle.std.specs.Prelude.{◌≡◌, ◌<◌, ◌≤◌, ◌+◌, ◌%◌, ℕ, List, [], ◌∷◌, length, MatchResult, IfOk, IfErr, IfSome, IfNone};
+ghost use Rattle.std.specs.Prelude.{◌≡◌, ◌≢◌, ◌<◌, ◌≤◌, ◌+◌, ◌%◌, ℕ, List, [], ◌∷◌, length, MatchResult, IfOk, IfErr, IfSome, IfNone, Err};
 ghost use Rattle.savi_ends.specs.Octets.{Takes};
 ghost use Rattle.savi_ends.specs.Faults.{Rose};
-ghost use Rattle.pcapng_io.specs.Options.{IsResolution, units_of, HaveOptions};
-ghost use Rattle.pcapng_io.specs.Pieces.{Stops, AreFront, IsResolutionRead, IsOptionRead, IsTail, IsRest};
+ghost use Rattle.pcapng_io.specs.Options.{padded, IsResolution, units_of, HaveOptions};
+ghost use Rattle.pcapng_io.specs.Pieces.{StopsWithin, AreFront, IsResolutionRead, IsOptionRead, IsTail, IsRest};
 
 use crate::numbers::{half_at, number_at};
 use crate::stop::Stop;
@@ -50,7 +50,8 @@ fn units_in(resolution: u8) -> Option<u128>
 fn read_resolution<S: Source>(source: &mut S, len: usize) -> Result<u128, Stop>
     ensures later { S.faults source.old ≤ S.faults source.new }
     ensures cause { IfErr result (λ stop. stop ≡ Stop.Failed → Rose (S.faults source.old) (S.faults source.new)) }
-    ensures octets { (gave : List ℕ) × Takes (S.left source.old) (S.left source.new) gave × MatchResult result (λ units. IsResolutionRead len units gave) (λ stop. Stops (λ x. (units : ℕ) × IsResolutionRead len units x) stop gave (S.left source.new)) }
+    ensures still { result ≢ Err Stop.Failed → S.faults source.new ≡ S.faults source.old }
+    ensures octets { (gave : List ℕ) × Takes (S.left source.old) (S.left source.new) gave × MatchResult result (λ units. IsResolutionRead len units gave) (λ stop. StopsWithin (padded len) (λ x. (units : ℕ) × IsResolutionRead len units x) stop gave (S.left source.new)) }
 {
     if len != 1 {
         return Err(Stop::Malformed);
@@ -73,7 +74,8 @@ fn read_option<S: Source>(
     requires most { len ≤ 1048576 }
     ensures later { S.faults source.old ≤ S.faults source.new }
     ensures cause { IfErr result (λ stop. stop ≡ Stop.Failed → Rose (S.faults source.old) (S.faults source.new)) }
-    ensures octets { (gave : List ℕ) × Takes (S.left source.old) (S.left source.new) gave × MatchResult result (λ read. IsOptionRead order is_interface len units read gave) (λ stop. Stops (AreFront order is_interface len) stop gave (S.left source.new)) }
+    ensures still { result ≢ Err Stop.Failed → S.faults source.new ≡ S.faults source.old }
+    ensures octets { (gave : List ℕ) × Takes (S.left source.old) (S.left source.new) gave × MatchResult result (λ read. IsOptionRead order is_interface len units read gave) (λ stop. StopsWithin len (AreFront order is_interface len) stop gave (S.left source.new)) }
 {
     let mut head = [0; OPTION_HEAD];
     take(source, &mut head)?;
@@ -106,7 +108,8 @@ fn read_options<S: Source>(
     requires most { len ≤ 1048576 }
     ensures later { S.faults source.old ≤ S.faults source.new }
     ensures cause { IfErr result (λ stop. stop ≡ Stop.Failed → Rose (S.faults source.old) (S.faults source.new)) }
-    ensures octets { (gave : List ℕ) × Takes (S.left source.old) (S.left source.new) gave × MatchResult result (λ units. (length gave ≡ len) × HaveOptions order is_interface units gave) (λ stop. Stops (AreFront order is_interface len) stop gave (S.left source.new)) }
+    ensures still { result ≢ Err Stop.Failed → S.faults source.new ≡ S.faults source.old }
+    ensures octets { (gave : List ℕ) × Takes (S.left source.old) (S.left source.new) gave × MatchResult result (λ units. (length gave ≡ len) × HaveOptions order is_interface units gave) (λ stop. StopsWithin len (AreFront order is_interface len) stop gave (S.left source.new)) }
     ensures some { IfOk result (λ units. 0 < units) }
 {
     let mut missing = len;
@@ -138,7 +141,8 @@ pub(crate) fn read_rest<S: Source>(
     requires most { len ≤ 1048576 }
     ensures later { S.faults source.old ≤ S.faults source.new }
     ensures cause { IfErr result (λ stop. stop ≡ Stop.Failed → Rose (S.faults source.old) (S.faults source.new)) }
-    ensures octets { (gave : List ℕ) × Takes (S.left source.old) (S.left source.new) gave × MatchResult result (λ units. IsRest order is_interface len total units gave) (λ stop. Stops (λ x. (units : ℕ) × IsRest order is_interface len total units x) stop gave (S.left source.new)) }
+    ensures still { result ≢ Err Stop.Failed → S.faults source.new ≡ S.faults source.old }
+    ensures octets { (gave : List ℕ) × Takes (S.left source.old) (S.left source.new) gave × MatchResult result (λ units. IsRest order is_interface len total units gave) (λ stop. StopsWithin (len + 4) (λ x. (units : ℕ) × IsRest order is_interface len total units x) stop gave (S.left source.new)) }
     ensures some { IfOk result (λ units. 0 < units) }
 {
     let units = read_options(source, order, is_interface, len)?;
@@ -150,7 +154,8 @@ pub(crate) fn read_rest<S: Source>(
 pub(crate) fn read_tail<S: Source>(source: &mut S, order: ByteOrder, total: u32) -> Result<(), Stop>
     ensures later { S.faults source.old ≤ S.faults source.new }
     ensures cause { IfErr result (λ stop. stop ≡ Stop.Failed → Rose (S.faults source.old) (S.faults source.new)) }
-    ensures octets { (gave : List ℕ) × Takes (S.left source.old) (S.left source.new) gave × MatchResult result (λ _. IsTail order total gave) (λ stop. Stops (IsTail order total) stop gave (S.left source.new)) }
+    ensures still { result ≢ Err Stop.Failed → S.faults source.new ≡ S.faults source.old }
+    ensures octets { (gave : List ℕ) × Takes (S.left source.old) (S.left source.new) gave × MatchResult result (λ _. IsTail order total gave) (λ stop. StopsWithin 4 (IsTail order total) stop gave (S.left source.new)) }
 {
     let mut tail = [0; TAIL];
     take(source, &mut tail)?;

@@ -76,6 +76,7 @@ impl NgReader {
     pub fn next<S: Source>(&mut self, source: &mut S, buf: &mut [u8; FRAME_OCTETS_MOST]) -> NgNext
         ensures later { S.faults source.old ≤ S.faults source.new }
         ensures cause { result ≡ NgNext.Failed → self.old ≢ Ended how.Failed → Rose (S.faults source.old) (S.faults source.new) }
+        ensures still { result ≢ NgNext.Failed → S.faults source.new ≡ S.faults source.old }
 
         // There are octets that the source gave in this call, and the answer is what they are.
         ensures octets { (gave : List ℕ) × Takes (S.left source.old) (S.left source.new) gave × Answers self.old self.new gave buf.new (S.left source.new) result }

@@ -1,4 +1,4 @@
-ghost use Rattle.std.specs.Prelude.{◌≡◌, ◌≤◌, ℕ, List, [], ◌∷◌, IfSome};
+ghost use Rattle.std.specs.Prelude.{◌≡◌, ◌≢◌, ◌≤◌, ℕ, List, [], ◌∷◌, IfSome};
 ghost use Rattle.savi_ends.specs.Octets.{Takes};
 ghost use Rattle.savi_ends.specs.Faults.{Rose};
 ghost use Rattle.pcapng_io.specs.Readers.{Reading, Answers, IsSound};
@@ -21,6 +21,7 @@ pub(crate) fn read_on<S: Source>(
     requires sound { IsSound (standing_of position.old) }
     ensures later { S.faults source.old ≤ S.faults source.new }
     ensures cause { result ≡ NgNext.Failed → Rose (S.faults source.old) (S.faults source.new) }
+    ensures still { result ≢ NgNext.Failed → S.faults source.new ≡ S.faults source.old }
     ensures octets { (gave : List ℕ) × Takes (S.left source.old) (S.left source.new) gave × Answers (Reading (standing_of position.old)) (state_after result (standing_of position.new)) gave buf.new (S.left source.new) result }
     ensures sound { IsSound (standing_of position.new) }
 {

@@ -1,4 +1,4 @@
-ghost use Rattle.std.specs.Prelude.{◌≡◌, ◌<◌, ◌≤◌, ◌+◌, ℕ, List, length, take, MatchResult, IfErr};
+ghost use Rattle.std.specs.Prelude.{◌≡◌, ◌≢◌, ◌<◌, ◌≤◌, ◌+◌, ℕ, List, length, take, MatchResult, IfErr, Err};
 ghost use Rattle.savi_ends.specs.Octets.{Takes};
 ghost use Rattle.savi_ends.specs.Faults.{Rose};
 ghost use Rattle.pcapng_io.specs.Options.{padded};
@@ -12,6 +12,7 @@ use savi_kinds::FRAME_OCTETS_MOST;
 pub(crate) fn take<S: Source>(source: &mut S, buf: &mut [u8]) -> Result<(), Stop>
     ensures later { S.faults source.old ≤ S.faults source.new }
     ensures cause { IfErr result (λ stop. stop ≡ Stop.Failed → Rose (S.faults source.old) (S.faults source.new)) }
+    ensures still { result ≢ Err Stop.Failed → S.faults source.new ≡ S.faults source.old }
     ensures octets { (gave : List ℕ) × Takes (S.left source.old) (S.left source.new) gave × MatchResult result (λ _. gave ≡ buf.new) (λ stop. FallsShort (length buf.new) stop gave (S.left source.new)) }
 {
     match fill(source, buf) {
@@ -30,6 +31,7 @@ pub(crate) fn pass_over<S: Source>(
     requires { 0 < length scratch.old }
     ensures later { S.faults source.old ≤ S.faults source.new }
     ensures cause { IfErr result (λ stop. stop ≡ Stop.Failed → Rose (S.faults source.old) (S.faults source.new)) }
+    ensures still { result ≢ Err Stop.Failed → S.faults source.new ≡ S.faults source.old }
     ensures octets { (gave : List ℕ) × Takes (S.left source.old) (S.left source.new) gave × MatchResult result (λ _. length gave ≡ len) (λ stop. FallsShort len stop gave (S.left source.new)) }
 {
     let mut missing = len;
@@ -61,6 +63,7 @@ pub(crate) fn take_captured<S: Source>(
     requires { len ≤ 262144 }
     ensures later { S.faults source.old ≤ S.faults source.new }
     ensures cause { IfErr result (λ stop. stop ≡ Stop.Failed → Rose (S.faults source.old) (S.faults source.new)) }
+    ensures still { result ≢ Err Stop.Failed → S.faults source.new ≡ S.faults source.old }
     ensures octets { (gave : List ℕ) × Takes (S.left source.old) (S.left source.new) gave × MatchResult result (λ _. (length gave ≡ padded len) × (len ≤ 1518 → take len gave ≡ take len buf.new)) (λ stop. FallsShort (padded len) stop gave (S.left source.new)) }
 {
     if len > FRAME_OCTETS_MOST {

@@ -21,8 +21,8 @@ use Rattle.pcap_split.proofs.Goings.{rose_since}
 use Rattle.split_run.specs.declared.outcome.Outcome.{Outcome}
 use Rattle.split_run.specs.declared.outcome.Outcome.TheVariants as outcome
 use Rattle.split_run.specs.Names.{output_name, name_in, AreNames}
-use Rattle.split_run.specs.Runs.{Keeps, OfTold, IsFaulty, AddedAll, AddedSome, GaveSome, AreCaptures, TellsFirst, IsSplitToEnd, IsSplitInPart, KeepsSource, IsNamed, CameTo, IsSplitRun}
-use Rattle.split_run.specs.Steps.{AreOut, IsSplitPart, HasSinkFault, EndsSplit, HasSplit}
+use Rattle.split_run.specs.Runs.{Keeps, OfTold, IsFaulty, AddedAll, AddedSome, GaveSome, GaveNear, GaveBroken, AreCaptures, TellsFirst, IsSplitToEnd, IsSplitInPart, IsNamed, CameTo, IsSplitRun}
+use Rattle.split_run.specs.Steps.{AreOut, IsSplitPart, HasSinkFault, SinksStay, EndsSplit, HasSplit}
 use Rattle.split_run.proofs.Apart.{output_names_differ}
 use Rattle.split_run.proofs.Parts.{fault_of}
 
@@ -39,16 +39,16 @@ module _ {K : Type 0} (file : List ℕ) (names : List (List ℕ)) (are : AreName
   off_held other held low off k d inside same =
       of_interfaces (λ i. output_name file i ≢ other) held off k d inside (sym (are.each (get_or held k d).interface (low k d inside)) ∙ same)
 
-  captures_by : (Holds : List ℕ → K → K → Type 0) (events : List Event) (handed held : List (Output K)) (old new : List ℕ → Place K)
-      → EachOutput (λ o n. (n.interface ≡ o.interface) × Holds (split_text o.interface events) o.sink n.sink) handed held
+  captures_by : (Holds : ℕ → List ℕ → K → K → Type 0) (events : List Event) (handed held : List (Output K)) (old new : List ℕ → Place K)
+      → EachOutput (λ o n. (n.interface ≡ o.interface) × Holds o.interface (split_text o.interface events) o.sink n.sink) handed held
       → All (λ o. IfSome (old (name_in names o.interface)).stands (λ told. o.sink ≡ told)) handed → All (λ o. (new (name_in names o.interface)).stands ≡ Some o.sink) held → All (λ o. o.interface < 16) handed
-      → All (λ k. Keeps (Holds (split_text k events)) (old (output_name file k)) (new (output_name file k))) (interfaces_of handed)
+      → All (λ k. Keeps (Holds k (split_text k events)) (old (output_name file k)) (new (output_name file k))) (interfaces_of handed)
   captures_by Holds events [] held old new each told kept low = λ k d inside. absurd (omega (arith, inside))
-  captures_by Holds events (x ∷ xs) held old new each told kept low = to_interfaces (λ i. Keeps (Holds (split_text i events)) (old (output_name file i)) (new (output_name file i))) (x ∷ xs) (λ k d inside.
+  captures_by Holds events (x ∷ xs) held old new each told kept low = to_interfaces (λ i. Keeps (Holds i (split_text i events)) (old (output_name file i)) (new (output_name file i))) (x ∷ xs) (λ k d inside.
       let o = get_or (x ∷ xs) k d in
       let n = get_or held k d in
       let one = each.1 k d inside in
-      subst (λ (at : List ℕ). Keeps (Holds (split_text o.interface events)) (old at) (new at)) (are.each o.interface (low k d inside))
+      subst (λ (at : List ℕ). Keeps (Holds o.interface (split_text o.interface events)) (old at) (new at)) (are.each o.interface (low k d inside))
       (record {
         handed = o.sink;
         back = n.sink;
@@ -106,13 +106,17 @@ module _ {S K C : Type 0} (left : S → Option (List ℕ)) (written : K → Opti
     stands : (b4.inputs file).stands ≡ Some source'
     stands = ap (λ (p : List ℕ → Place S). (p file).stands) inputs_last ∙ source_kept
 
-    read_from : KeepsSource left source_faults (b0.inputs file) (b4.inputs file)
-    read_from = record { handed = source; back = source'; told = told; kept = stands; holds = ((split.gave, split.takes), split.later) }
+    -- the source is kept again, and this holds of it
+    read_from : (Holds : S → S → Type 0) → Holds source source' → Keeps Holds (b0.inputs file) (b4.inputs file)
+    read_from Holds holds = record { handed = source; back = source'; told = told; kept = stands; holds = holds }
+
+    some_read : source_faults source' ≡ source_faults source → Keeps (GaveSome left source_faults) (b0.inputs file) (b4.inputs file)
+    some_read still = read_from (GaveSome left source_faults) ((split.gave, split.takes), still)
 
     low_held : All (λ o. o.interface < 16) held
     low_held = of_interfaces (λ i. i < 16) held (subst (λ (l : List ℕ). All (λ i. i < 16) l) (sym split.same) (to_interfaces (λ i. i < 16) split.handed split.within))
 
-    captures : (Holds : List ℕ → K → K → Type 0) (events : List Event) → EachOutput (λ o n. (n.interface ≡ o.interface) × Holds (split_text o.interface events) o.sink n.sink) split.handed held → AreCaptures Holds file (interfaces_of split.handed) events b0.outputs b4.outputs
+    captures : (Holds : ℕ → List ℕ → K → K → Type 0) (events : List Event) → EachOutput (λ o n. (n.interface ≡ o.interface) × Holds o.interface (split_text o.interface events) o.sink n.sink) split.handed held → AreCaptures Holds file (interfaces_of split.handed) events b0.outputs b4.outputs
     captures Holds events each = record {
       captures = captures_by file names are Holds events split.handed held b0.outputs b4.outputs each
           (λ k d inside. subst (λ (p : List ℕ → Place K). IfSome (p (name_in names (get_or split.handed k d).interface)).stands (λ t. (get_or split.handed k d).sink ≡ t)) at_first (split.out.each k d inside).told)
@@ -124,37 +128,40 @@ module _ {S K C : Type 0} (left : S → Option (List ℕ)) (written : K → Opti
           ∙ ap (λ (p : List ℕ → Place K). p other) at_first;
     }
 
-    whole : (counts : Counts) (ending : How) (events : List Event) → IsSplitWhole written counts split.handed held split.gave (left source') events ending → IsSplitToEnd left written file counts ending (b0.inputs file) b0.outputs b4.outputs
-    whole counts ending events is =
+    whole : (counts : Counts) (ending : How) (events : List Event) → IsSplitWhole written counts split.handed held split.gave (left source') events ending → SinksStay sink_faults split.handed held → IsSplitToEnd left written sink_faults file counts ending (b0.inputs file) b0.outputs b4.outputs
+    whole counts ending events is stay =
         let same : (tally no_tally events).split ≡ interfaces_of split.handed = sym (ap (λ (t : Tally). t.split) is.counted_is) in
         record {
           events = events;
           tells = tells_text left (λ text. Arrive text (record { events = events; ending = ending })) (b0.inputs file) source source' split.gave told split.takes
               (λ rest told_rest. if_some (λ r. Arrive (split.gave ++ r) (record { events = events; ending = ending })) (left source') rest is.whole told_rest);
           counted_is = ap (tally_of counts) same ∙ is.counted_is;
-          outputs = subst (λ (l : List ℕ). AreCaptures (AddedAll written) file l events b0.outputs b4.outputs) (sym same)
-              (captures (AddedAll written) events (is.captures.0, λ k d inside. let one = is.captures.1 k d inside in (one.same, one.text)));
+          outputs = subst (λ (l : List ℕ). AreCaptures (λ k. AddedAll written sink_faults) file l events b0.outputs b4.outputs) (sym same)
+              (captures (λ k. AddedAll written sink_faults) events (is.captures.0, λ k d inside. let one = is.captures.1 k d inside in (one.same, (one.text, stay.1 k d inside))));
         }
 
-    part : IsSplitPart written split.handed held split.gave → IsSplitInPart left written file (b0.inputs file) b0.outputs b4.outputs
-    part is = record {
+    part : (failed : Option ℕ) (missing : List ℕ) → IsSplitPart written sink_faults failed missing split.handed held split.gave → IsSplitInPart left written sink_faults failed missing file (b0.inputs file) b0.outputs b4.outputs
+    part failed missing is = record {
       events = is.events;
       tells = tells_text left (TellsFirst is.events) (b0.inputs file) source source' split.gave told split.takes (λ rest told_rest. is.first rest);
       opened = interfaces_of split.handed;
       among = is.among;
-      outputs = captures (AddedSome written) is.events is.each;
+      outputs = captures (AddedSome written sink_faults failed) is.events is.each;
     }
 
     came : (result' : Outcome) → EndsSplit written sink_faults b1.faults b2.faults (source_faults source) (source_faults source') split.handed held split.gave (left source') result' → CameTo left written source_faults sink_faults file b0 b4 result'
-    came (outcome.Split counts) ends = (read_from, whole counts how.End ends.0 ends.1)
-    came (outcome.Malformed at counts) ends = (read_from, whole counts (how.Malformed at) ends.0 ends.1)
-    came outcome.Unread ends = (read_from, part ends.0, fault_stands source_faults (b4.inputs file) source' stands (fault_of (source_faults source) (source_faults source') ends.1))
-    came (outcome.Unwritten interface) ends = (read_from, part ends.0, fault_kept file names are sink_faults interface held b4.outputs ends.1 kept ends.2)
+    came (outcome.Split counts) ends = (some_read ends.1, whole counts how.End ends.0.0 ends.0.1 ends.2)
+    came (outcome.Malformed at counts) ends = (
+      read_from (GaveNear left source_faults at) ((split.gave, split.takes, ends.0.1.near at refl), ends.1),
+      whole counts (how.Malformed at) ends.0.0 ends.0.1 ends.2,
+    )
+    came outcome.Unread ends = (read_from (GaveBroken left source_faults) ((split.gave, split.takes), ends.1), part None [] ends.0, fault_stands source_faults (b4.inputs file) source' stands (fault_of (source_faults source) (source_faults source') ends.1))
+    came (outcome.Unwritten interface) ends = (some_read ends.3, part (Some interface) [] ends.0, fault_kept file names are sink_faults interface held b4.outputs ends.1 kept ends.2)
     came (outcome.NoOutput interface) ends = (
-      read_from,
-      part ends.0,
+      some_read ends.4,
+      part None (interface ∷ []) ends.0,
       subst (λ (n : ℕ). Rose b0.faults n) (sym faults_last) (rose_since b0.faults b1.faults b2.faults opened_later ends.1),
-      (captures (AddedSome written) ends.0.events ends.0.each).others (output_name file interface) (to_interfaces (λ k. output_name file k ≢ output_name file interface) split.handed
+      (captures (AddedSome written sink_faults None) ends.0.events ends.0.each).others (output_name file interface) (to_interfaces (λ k. output_name file k ≢ output_name file interface) split.handed
           (λ k d inside same. ends.3 k d inside (output_names_differ file (get_or split.handed k d).interface interface (split.within k d inside) ends.2 same))),
     )
     came outcome.NoInput ends = absurd ends

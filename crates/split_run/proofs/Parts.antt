@@ -16,12 +16,12 @@ use Rattle.pcap_split.specs.declared.split.SplitGot.{SplitGot}
 use Rattle.pcap_split.specs.declared.split.SplitGot.TheVariants as got
 use Rattle.pcap_split.specs.Splits.{Tally, frames_of, split_text, no_tally, tally}
 use Rattle.pcap_split.specs.Counts.{interfaces_of, tally_of}
-use Rattle.pcap_split.specs.Going.{HasBroken, HasTaken, HasTakenFront, HasRisen, EachOutput, split_behind}
+use Rattle.pcap_split.specs.Going.{HasBroken, HasGone, HasTaken, HasTakenFront, HasRisen, EachOutput, split_behind}
 use Rattle.pcap_split.specs.Wholes.{HasCapture, IsSplit}
 use Rattle.pcap_split.proofs.Goings.{same_interfaces}
 use Rattle.pcap_split.proofs.Wholes.{split_more, count_more, interfaces_more, each_more}
 use Rattle.split_run.specs.Runs.{TellsFirst, AddedAll, AddedSome}
-use Rattle.split_run.specs.Steps.{HasSomeOf, IsSplitPart, HasSinkFault}
+use Rattle.split_run.specs.Steps.{HasSomeOf, IsSplitPart, HasSinkFault, SinksStay}
 
 -- what was read comes first, whatever follows
 pub first_read : (state : State) (gave : List ℕ) (events : List Event) → HasRead (Reading at_start) state gave events → (rest : List ℕ) → TellsFirst events (gave ++ rest)
@@ -41,11 +41,24 @@ front_of_more a front whole is = (is.0, ap (λ (l : List ℕ). a ++ l) is.1 ∙ 
 pub whole_front : (octets : List ℕ) → IsFront octets octets
 whole_front octets = ([], sym (append-nil octets))
 
-taken_front : {K : Type 0} (written : K → Option (List ℕ)) (faults : K → ℕ) (events : List Event) (o n : Output K) → HasTaken written faults events o n → HasTakenFront written faults events o n
-taken_front written faults events o n is = record { same = is.same; later = is.later; text = (records_text (frames_of o.interface events), whole_front (records_text (frames_of o.interface events)), is.text) }
+-- an output was given a front of the records of its interface's frames; no write of it failed, unless it is the one that is
+-- named
+record HasFront {K : Type 0} (written : K → Option (List ℕ)) (faults : K → ℕ) (failed : Option ℕ) (events : List Event) (old new : Output K) : Type 0 where
+  same : new.interface ≡ old.interface
+  still : failed ≢ Some old.interface → faults new.sink ≡ faults old.sink
+  text : (front : List ℕ) × IsFront front (records_text (frames_of old.interface events)) × (written new.sink ≡ behind (written old.sink) front)
 
-front_more : {K : Type 0} (written : K → Option (List ℕ)) (faults : K → ℕ) (a b : List Event) (o m n : Output K) → HasCapture written a o m → HasTakenFront written faults b m n → HasSomeOf written (a ++ b) o n
-front_more written faults a b o m n first second =
+taken_front : {K : Type 0} (written : K → Option (List ℕ)) (faults : K → ℕ) (events : List Event) (o n : Output K) → HasTaken written faults events o n → HasFront written faults None events o n
+taken_front written faults events o n is = record { same = is.same; still = λ other. is.still; text = (records_text (frames_of o.interface events), whole_front (records_text (frames_of o.interface events)), is.text) }
+
+named_other : (i k : ℕ) → Some k ≢ Some i → i ≢ k
+named_other i k other same = other (ap (λ (j : ℕ). Some j) (sym same))
+
+part_front : {K : Type 0} (written : K → Option (List ℕ)) (faults : K → ℕ) (interface : ℕ) (events : List Event) (o n : Output K) → HasTakenFront written faults interface events o n → HasFront written faults (Some interface) events o n
+part_front written faults interface events o n is = record { same = is.same; still = λ other. is.still (named_other o.interface interface other); text = is.text }
+
+front_more : {K : Type 0} (written : K → Option (List ℕ)) (faults : K → ℕ) (failed : Option ℕ) (a b : List Event) (o m n : Output K) → HasCapture written a o m → faults m.sink ≡ faults o.sink → HasFront written faults failed b m n → HasSomeOf written faults failed (a ++ b) o n
+front_more written faults failed a b o m n first stood second =
     let front = second.text.0 in
     let k = o.interface in
     let is : IsFront front (records_text (frames_of k b)) = subst (λ (j : ℕ). IsFront front (records_text (frames_of j b))) first.same second.text.1 in (
@@ -54,16 +67,24 @@ front_more written faults a b o m n first second =
         split_text k a ++ front,
         subst (λ (whole : List ℕ). IsFront (split_text k a ++ front) whole) (split_more k a b) (front_of_more (split_text k a) front (records_text (frames_of k b)) is),
         second.text.2 ∙ ap (λ (w : Option (List ℕ)). behind w front) first.text ∙ behind_again (written o.sink) (split_text k a) front,
+        λ other. second.still (λ same. other (same ∙ ap (λ (j : ℕ). Some j) first.same)) ∙ stood,
       ),
     )
 
-each_in_part : {K : Type 0} (written : K → Option (List ℕ)) (faults : K → ℕ) (a b : List Event) (old mid new : List (Output K)) → EachOutput (HasCapture written a) old mid → EachOutput (HasTakenFront written faults b) mid new → EachOutput (HasSomeOf written (a ++ b)) old new
-each_in_part written faults a b old mid new first second = (
+each_in_part : {K : Type 0} (written : K → Option (List ℕ)) (faults : K → ℕ) (failed : Option ℕ) (a b : List Event) (old mid new : List (Output K)) → EachOutput (HasCapture written a) old mid → SinksStay faults old mid → EachOutput (HasFront written faults failed b) mid new → EachOutput (HasSomeOf written faults failed (a ++ b)) old new
+each_in_part written faults failed a b old mid new first stood second = (
   second.0 ∙ first.0,
-  λ k d within. front_more written faults a b (get_or old k d) (get_or mid k d) (get_or new k d) (first.1 k d within) (second.1 k d (omega (arith, within, first.0))),
+  λ k d within. front_more written faults failed a b (get_or old k d) (get_or mid k d) (get_or new k d) (first.1 k d within) (stood.1 k d within) (second.1 k d (omega (arith, within, first.0))),
 )
 
-each_taken_front : {K : Type 0} (written : K → Option (List ℕ)) (faults : K → ℕ) (b : List Event) (mid new : List (Output K)) → EachOutput (HasTaken written faults b) mid new → EachOutput (HasTakenFront written faults b) mid new
+each_part_front : {K : Type 0} (written : K → Option (List ℕ)) (faults : K → ℕ) (interface : ℕ) (b : List Event) (mid new : List (Output K)) → EachOutput (HasTakenFront written faults interface b) mid new → EachOutput (HasFront written faults (Some interface) b) mid new
+each_part_front written faults interface b mid new each = (each.0, λ k d within. part_front written faults interface b (get_or mid k d) (get_or new k d) (each.1 k d within))
+
+-- no write failed in a call that went through
+pub sinks_stay_more : {K : Type 0} (written : K → Option (List ℕ)) (faults : K → ℕ) (b : List Event) (old mid new : List (Output K)) → SinksStay faults old mid → EachOutput (HasTaken written faults b) mid new → SinksStay faults old new
+sinks_stay_more written faults b old mid new stood each = (each.0 ∙ stood.0, λ k d within. (each.1 k d (omega (arith, within, stood.0))).still ∙ stood.1 k d within)
+
+each_taken_front : {K : Type 0} (written : K → Option (List ℕ)) (faults : K → ℕ) (b : List Event) (mid new : List (Output K)) → EachOutput (HasTaken written faults b) mid new → EachOutput (HasFront written faults None b) mid new
 each_taken_front written faults b mid new each = (each.0, λ k d within. taken_front written faults b (get_or mid k d) (get_or new k d) (each.1 k d within))
 
 -- the outputs are those of the interfaces that were handed out
@@ -76,44 +97,47 @@ pub split_then : {K : Type 0} (written : K → Option (List ℕ)) (state : State
 split_then written state counts counts' handed now gave events later more was counted =
     sym (ap (λ (t : Tally). t.split) (counted ∙ count_more written state counts handed now gave events later was))
 
-module _ {K : Type 0} (written : K → Option (List ℕ)) (faults : K → ℕ) (old new : State) (counts counts' : Counts) (handed now now' : List (Output K)) (gave more : List ℕ) (events later : List Event) (was : IsSplit written old counts handed now gave events) where
+module _ {K : Type 0} (written : K → Option (List ℕ)) (faults : K → ℕ) (old new : State) (counts counts' : Counts) (handed now now' : List (Output K)) (gave more : List ℕ) (events later : List Event) (was : IsSplit written old counts handed now gave events) (stood : SinksStay faults handed now) where
   same : interfaces_of now ≡ interfaces_of handed
   same = same_handed written old counts handed now gave events was
 
   -- a read failed
-  pub part_unread : HasBroken old new more later → EachOutput (HasTaken written faults later) now now' → tally_of counts' (interfaces_of now) ≡ tally (tally_of counts (interfaces_of now)) later → IsSplitPart written handed now' (gave ++ more)
+  pub part_unread : HasBroken old new more later → EachOutput (HasTaken written faults later) now now' → tally_of counts' (interfaces_of now) ≡ tally (tally_of counts (interfaces_of now)) later → IsSplitPart written faults None [] handed now' (gave ++ more)
   part_unread broken each counted = record {
     events = events ++ later;
     first = first_broken old new gave more events later was.read broken;
-    among = ([], split_then written old counts counts' handed now gave events later (interfaces_of now) was counted ∙ same ∙ sym (append-nil (interfaces_of handed)));
-    each = each_in_part written faults events later handed now now' was.captures (each_taken_front written faults later now now' each);
+    among = split_then written old counts counts' handed now gave events later (interfaces_of now) was counted ∙ same ∙ sym (append-nil (interfaces_of handed));
+    each = each_in_part written faults None events later handed now now' was.captures stood (each_taken_front written faults later now now' each);
   }
 
-  read_all : HasRead old new more later → (rest : List ℕ) → TellsFirst (events ++ later) ((gave ++ more) ++ rest)
-  read_all read = first_read new (gave ++ more) (events ++ later) (has_read_more (Reading at_start) old new gave more events later was.read read)
+  read_all : HasGone old new more later → (rest : List ℕ) → TellsFirst (events ++ later) ((gave ++ more) ++ rest)
+  read_all read = first_read new (gave ++ more) (events ++ later) (has_read_more (Reading at_start) old new gave more events later was.read read.read)
 
   -- a write failed
-  pub part_unwritten : HasRead old new more later → EachOutput (HasTakenFront written faults later) now now' → tally_of counts' (interfaces_of now) ≡ tally (tally_of counts (interfaces_of now)) later → IsSplitPart written handed now' (gave ++ more)
-  part_unwritten read each counted = record {
+  pub part_unwritten : (interface : ℕ) → HasGone old new more later → EachOutput (HasTakenFront written faults interface later) now now' → tally_of counts' (interfaces_of now) ≡ tally (tally_of counts (interfaces_of now)) later → IsSplitPart written faults (Some interface) [] handed now' (gave ++ more)
+  part_unwritten interface read each counted = record {
     events = events ++ later;
     first = read_all read;
-    among = ([], split_then written old counts counts' handed now gave events later (interfaces_of now) was counted ∙ same ∙ sym (append-nil (interfaces_of handed)));
-    each = each_in_part written faults events later handed now now' was.captures each;
+    among = split_then written old counts counts' handed now gave events later (interfaces_of now) was counted ∙ same ∙ sym (append-nil (interfaces_of handed));
+    each = each_in_part written faults (Some interface) events later handed now now' was.captures stood (each_part_front written faults interface later now now' each);
   }
 
-  module _ (interface : ℕ) (read : HasRead old new more later) (each : EachOutput (HasTaken written faults later) now now') (counted : tally_of counts' (interfaces_of now ++ interface ∷ []) ≡ tally (tally_of counts (interfaces_of now)) later) where
+  module _ (interface : ℕ) (read : HasGone old new more later) (each : EachOutput (HasTaken written faults later) now now') (counted : tally_of counts' (interfaces_of now ++ interface ∷ []) ≡ tally (tally_of counts (interfaces_of now)) later) where
     split_is : (tally no_tally (events ++ later)).split ≡ interfaces_of handed ++ interface ∷ []
     split_is = split_then written old counts counts' handed now gave events later (interfaces_of now ++ interface ∷ []) was counted ∙ ap (λ (l : List ℕ). l ++ interface ∷ []) same
 
-    fronts : EachOutput (HasSomeOf written (events ++ later)) handed now'
-    fronts = each_in_part written faults events later handed now now' was.captures (each_taken_front written faults later now now' each)
+    fronts : EachOutput (HasSomeOf written faults None (events ++ later)) handed now'
+    fronts = each_in_part written faults None events later handed now now' was.captures stood (each_taken_front written faults later now now' each)
+
+    fronts_named : EachOutput (HasSomeOf written faults (Some interface) (events ++ later)) handed now'
+    fronts_named = (fronts.0, λ k d within. let one = fronts.1 k d within in (one.0, (one.1.0, one.1.1, one.1.2, λ other. one.1.3 (λ none. absurd (cc)))))
 
     -- the output of an interface couldn't be opened
-    pub part_unopened : IsSplitPart written handed now' (gave ++ more)
-    part_unopened = record { events = events ++ later; first = read_all read; among = (interface ∷ [], split_is); each = fronts }
+    pub part_unopened : IsSplitPart written faults None (interface ∷ []) handed now' (gave ++ more)
+    part_unopened = record { events = events ++ later; first = read_all read; among = split_is; each = fronts }
 
     -- the capture of an interface couldn't be begun
-    pub part_unbegun : (sink begun : K) → AddedSome written header_text sink begun → IsSplitPart written (handed ++ record { interface = interface; sink = sink } ∷ []) (now' ++ record { interface = interface; sink = begun } ∷ []) (gave ++ more)
+    pub part_unbegun : (sink begun : K) → AddedSome written faults (Some interface) interface header_text sink begun → IsSplitPart written faults (Some interface) [] (handed ++ record { interface = interface; sink = sink } ∷ []) (now' ++ record { interface = interface; sink = begun } ∷ []) (gave ++ more)
     part_unbegun sink begun took =
         let o : Output K = record { interface = interface; sink = sink } in
         let n : Output K = record { interface = interface; sink = begun } in
@@ -121,16 +145,16 @@ module _ {K : Type 0} (written : K → Option (List ℕ)) (faults : K → ℕ) (
         record {
           events = events ++ later;
           first = read_all read;
-          among = ([], split_is ∙ sym (interfaces_more handed o) ∙ sym (append-nil (interfaces_of (handed ++ o ∷ []))));
-          each = each_more (HasSomeOf written (events ++ later)) handed now' o n fronts
-              (refl, (took.0, (took.1.0 ++ rest, ap (λ (l : List ℕ). l ++ rest) took.1.1 ∙ append_assoc took.0 took.1.0 rest), took.2));
+          among = split_is ∙ sym (interfaces_more handed o) ∙ sym (append-nil (interfaces_of (handed ++ o ∷ [])));
+          each = each_more (HasSomeOf written faults (Some interface) (events ++ later)) handed now' o n fronts_named
+              (refl, (took.0, (took.1.0 ++ rest, ap (λ (l : List ℕ). l ++ rest) took.1.1 ∙ append_assoc took.0 took.1.0 rest), took.2, took.3));
         }
 
 pub fault_of : (before now : ℕ) → Rose before now → 0 < now
 fault_of before now rose = omega (arith, rose)
 
 -- the fault of a write that failed
-pub sink_fault : {K : Type 0} (written : K → Option (List ℕ)) (faults : K → ℕ) (interface : ℕ) (events : List Event) (now now' : List (Output K)) → EachOutput (HasTakenFront written faults events) now now' → HasRisen faults interface now now' → HasSinkFault faults interface now'
+pub sink_fault : {K : Type 0} (written : K → Option (List ℕ)) (faults : K → ℕ) (interface : ℕ) (events : List Event) (now now' : List (Output K)) → EachOutput (HasTakenFront written faults interface events) now now' → HasRisen faults interface now now' → HasSinkFault faults interface now'
 sink_fault {K} written faults interface events now now' each risen =
     let place = risen.0 in (
       place,

@@ -1,11 +1,12 @@
 -- What a run has done with a capture that was to be split: which outputs it opened, and what each of them holds.
-use Rattle.std.specs.Prelude.{◌≡◌, ◌≢◌, ◌<◌, ◌≤◌, ℕ, List, ◌∷◌, [], ◌++◌, Option, Some, IfSome, IsSomeAnd, All}
+use Rattle.std.specs.Prelude.{◌≡◌, ◌≢◌, ◌+◌, ◌<◌, ◌≤◌, ℕ, List, ◌∷◌, [], ◌++◌, length, Option, Some, None, IfSome, IsSomeAnd, All}
 use Rattle.savi_kinds.specs.declared.entry.How.{How}
 use Rattle.savi_kinds.specs.declared.entry.How.TheVariants as how
 use Rattle.savi_ends.specs.Faults.{Rose}
 use Rattle.savi_ends.specs.Octets.{behind, IsFront, Takes}
 use Rattle.savi_ends.specs.Places.{Place, Book, OthersStay}
 use Rattle.pcapng_io.specs.Runs.{Event, Input, Arrive}
+use Rattle.pcapng_io.specs.Readers.{longest_block}
 use Rattle.pcap_split.specs.declared.counts.Counts.{Counts}
 use Rattle.pcap_split.specs.Counts.{tally_of}
 use Rattle.pcap_split.specs.Splits.{split_text, no_tally, tally}
@@ -30,17 +31,14 @@ OfTold left capture Holds = IfSome capture.stands (λ told. IfSome (left told) H
 abbrev pub IsFaulty : {X : Type 0} → (X → ℕ) → Place X → Type 0
 IsFaulty faults place = IsSomeAnd place.stands (λ x. 0 < faults x)
 
--- a sink took these octets
-abbrev pub AddedAll : {K : Type 0} → (K → Option (List ℕ)) → List ℕ → K → K → Type 0
-AddedAll written octets old new = written new ≡ behind (written old) octets
+-- a sink took these octets, and no write of it failed
+abbrev pub AddedAll : {K : Type 0} → (K → Option (List ℕ)) → (K → ℕ) → List ℕ → K → K → Type 0
+AddedAll written faults octets old new = (written new ≡ behind (written old) octets) × (faults new ≡ faults old)
 
--- a sink took a front of these octets, perhaps none or all
-abbrev pub AddedSome : {K : Type 0} → (K → Option (List ℕ)) → List ℕ → K → K → Type 0
-AddedSome written octets old new = (front : List ℕ) × IsFront front octets × (written new ≡ behind (written old) front)
-
--- a source gave some octets
-abbrev pub GaveSome : {S : Type 0} → (S → Option (List ℕ)) → S → S → Type 0
-GaveSome left old new = (gave : List ℕ) × Takes (left old) (left new) gave
+-- a sink took a front of these octets, perhaps none or all, and no write of it failed, unless it is the one that is named
+abbrev pub AddedSome : {K : Type 0} → (K → Option (List ℕ)) → (K → ℕ) → (failed : Option ℕ) → ℕ → List ℕ → K → K → Type 0
+AddedSome written faults failed k octets old new =
+    (front : List ℕ) × IsFront front octets × (written new ≡ behind (written old) front) × (failed ≢ Some k → faults new ≡ faults old)
 
 -- The text of a capture tells these events first.
 abbrev pub TellsFirst : List Event → List ℕ → Type 0
@@ -48,30 +46,38 @@ TellsFirst events text = (input : Input) → Arrive text input → (later : List
 
 -- the outputs of these interfaces were opened and are kept; in each of them this holds of the octets that are the classic
 -- capture of its interface; and no other output was touched
-pub record AreCaptures {K : Type 0} (Holds : List ℕ → K → K → Type 0) (file : List ℕ) (opened : List ℕ) (events : List Event) (old new : List ℕ → Place K) : Type 0 where
-  pub captures : All (λ k. Keeps (Holds (split_text k events)) (old (output_name file k)) (new (output_name file k))) opened
+pub record AreCaptures {K : Type 0} (Holds : ℕ → List ℕ → K → K → Type 0) (file : List ℕ) (opened : List ℕ) (events : List Event) (old new : List ℕ → Place K) : Type 0 where
+  pub captures : All (λ k. Keeps (Holds k (split_text k events)) (old (output_name file k)) (new (output_name file k))) opened
   pub others : (name : List ℕ) → All (λ k. output_name file k ≢ name) opened → new name ≡ old name
 
 -- The capture tells these events and ends so, where it tells its text. They are counted; each interface that has a capture
 -- of its own has an output, which took the whole of it.
-pub record IsSplitToEnd {S K : Type 0} (left : S → Option (List ℕ)) (written : K → Option (List ℕ)) (file : List ℕ) (counts : Counts) (ending : How) (capture : Place S) (old new : List ℕ → Place K) : Type 0 where
+pub record IsSplitToEnd {S K : Type 0} (left : S → Option (List ℕ)) (written : K → Option (List ℕ)) (faults : K → ℕ) (file : List ℕ) (counts : Counts) (ending : How) (capture : Place S) (old new : List ℕ → Place K) : Type 0 where
   pub events : List Event
   pub tells : OfTold left capture (λ text. Arrive text (record { events = events; ending = ending }))
   pub counted_is : tally_of counts (tally no_tally events).split ≡ tally no_tally events
-  pub outputs : AreCaptures (AddedAll written) file (tally no_tally events).split events old new
+  pub outputs : AreCaptures (λ k. AddedAll written faults) file (tally no_tally events).split events old new
 
--- The capture tells these events first, where it tells its text. Some of the interfaces that have a capture of their own by
--- then, in their order, have an output, which took a front of it.
-pub record IsSplitInPart {S K : Type 0} (left : S → Option (List ℕ)) (written : K → Option (List ℕ)) (file : List ℕ) (capture : Place S) (old new : List ℕ → Place K) : Type 0 where
+-- The capture tells these events first, where it tells its text. The interfaces that have a capture of their own by then
+-- are those that have an output, which took a front of it, and last of all those that are missing.
+pub record IsSplitInPart {S K : Type 0} (left : S → Option (List ℕ)) (written : K → Option (List ℕ)) (faults : K → ℕ) (failed : Option ℕ) (missing : List ℕ) (file : List ℕ) (capture : Place S) (old new : List ℕ → Place K) : Type 0 where
   pub events : List Event
   pub tells : OfTold left capture (TellsFirst events)
   pub opened : List ℕ
-  pub among : IsFront opened (tally no_tally events).split
-  pub outputs : AreCaptures (AddedSome written) file opened events old new
+  pub among : (tally no_tally events).split ≡ opened ++ missing
+  pub outputs : AreCaptures (AddedSome written faults failed) file opened events old new
 
--- the capture's source was handed out, gave some octets, and is kept again
-abbrev pub KeepsSource : {S : Type 0} → (S → Option (List ℕ)) → (S → ℕ) → Place S → Place S → Type 0
-KeepsSource left faults old new = Keeps (λ handed back. GaveSome left handed back × (faults handed ≤ faults back)) old new
+-- a source gave some octets, and no read of it failed
+abbrev pub GaveSome : {S : Type 0} → (S → Option (List ℕ)) → (S → ℕ) → S → S → Type 0
+GaveSome left faults old new = ((gave : List ℕ) × Takes (left old) (left new) gave) × (faults new ≡ faults old)
+
+-- a source gave octets, no more than the longest block has from this place on, and no read of it failed
+abbrev pub GaveNear : {S : Type 0} → (S → Option (List ℕ)) → (S → ℕ) → ℕ → S → S → Type 0
+GaveNear left faults at old new = ((gave : List ℕ) × Takes (left old) (left new) gave × (length gave ≤ at + longest_block)) × (faults new ≡ faults old)
+
+-- a source gave some octets, and a read of it failed
+abbrev pub GaveBroken : {S : Type 0} → (S → Option (List ℕ)) → (S → ℕ) → S → S → Type 0
+GaveBroken left faults old new = ((gave : List ℕ) × Takes (left old) (left new) gave) × Rose (faults old) (faults new)
 
 -- the output of an interface from 0 to 15
 abbrev pub IsNamed : Outcome → Type 0
@@ -82,20 +88,20 @@ IsNamed (outcome.Unwritten interface) = interface < 16
 IsNamed (outcome.NoOutput interface) = interface < 16
 IsNamed outcome.NoInput = Unit {0}
 
--- what came of a capture, and why
+-- what came of a capture, and why: its source was handed out and is kept again
 abbrev pub CameTo : {S K C : Type 0} → (S → Option (List ℕ)) → (K → Option (List ℕ)) → (S → ℕ) → (K → ℕ) → List ℕ → Book S K C → Book S K C → Outcome → Type 0
 CameTo left written source_faults sink_faults file old new (outcome.Split counts) =
-    KeepsSource left source_faults (old.inputs file) (new.inputs file) × IsSplitToEnd left written file counts how.End (old.inputs file) old.outputs new.outputs
+    Keeps (GaveSome left source_faults) (old.inputs file) (new.inputs file) × IsSplitToEnd left written sink_faults file counts how.End (old.inputs file) old.outputs new.outputs
 CameTo left written source_faults sink_faults file old new (outcome.Malformed at counts) =
-    KeepsSource left source_faults (old.inputs file) (new.inputs file) × IsSplitToEnd left written file counts (how.Malformed at) (old.inputs file) old.outputs new.outputs
+    Keeps (GaveNear left source_faults at) (old.inputs file) (new.inputs file) × IsSplitToEnd left written sink_faults file counts (how.Malformed at) (old.inputs file) old.outputs new.outputs
 CameTo left written source_faults sink_faults file old new outcome.Unread =
-    KeepsSource left source_faults (old.inputs file) (new.inputs file) × IsSplitInPart left written file (old.inputs file) old.outputs new.outputs
+    Keeps (GaveBroken left source_faults) (old.inputs file) (new.inputs file) × IsSplitInPart left written sink_faults None [] file (old.inputs file) old.outputs new.outputs
     × IsFaulty source_faults (new.inputs file)
 CameTo left written source_faults sink_faults file old new (outcome.Unwritten interface) =
-    KeepsSource left source_faults (old.inputs file) (new.inputs file) × IsSplitInPart left written file (old.inputs file) old.outputs new.outputs
+    Keeps (GaveSome left source_faults) (old.inputs file) (new.inputs file) × IsSplitInPart left written sink_faults (Some interface) [] file (old.inputs file) old.outputs new.outputs
     × IsFaulty sink_faults (new.outputs (output_name file interface))
 CameTo left written source_faults sink_faults file old new (outcome.NoOutput interface) =
-    KeepsSource left source_faults (old.inputs file) (new.inputs file) × IsSplitInPart left written file (old.inputs file) old.outputs new.outputs
+    Keeps (GaveSome left source_faults) (old.inputs file) (new.inputs file) × IsSplitInPart left written sink_faults None (interface ∷ []) file (old.inputs file) old.outputs new.outputs
     × Rose old.faults new.faults × (new.outputs (output_name file interface) ≡ old.outputs (output_name file interface))
 CameTo left written source_faults sink_faults file old new outcome.NoInput =
     Rose old.faults new.faults × (new.inputs file ≡ old.inputs file) × (new.outputs ≡ old.outputs)

@@ -3,7 +3,7 @@ use Rattle.std.specs.Prelude.{◌≡◌, ◌≢◌, ◌<◌, ◌≤◌, ℕ, tru
 use Rattle.savi_kinds.specs.declared.entry.How.{How}
 use Rattle.savi_kinds.specs.declared.entry.How.TheVariants as how
 use Rattle.savi_ends.specs.Faults.{Rose}
-use Rattle.savi_ends.specs.Octets.{IsFront, Takes}
+use Rattle.savi_ends.specs.Octets.{Takes}
 use Rattle.savi_ends.specs.Places.{Place, Book}
 use Rattle.pcap_io.specs.Captures.{header_text}
 use Rattle.pcapng_io.specs.Runs.{Event}
@@ -33,9 +33,9 @@ IsHeldMore {K} Holds interface old new held held' =
 
 -- What came of an output that was to be opened and begun.
 abbrev pub HasTried : {K : Type 0} → (K → Option (List ℕ)) → (K → ℕ) → ℕ → ℕ → ℕ → Place K → Place K → List (Output K) → List (Output K) → Option Outcome → Type 0
-HasTried written faults interface before after old new held held' None = IsHeldMore (AddedAll written header_text) interface old new held held'
+HasTried written faults interface before after old new held held' None = IsHeldMore (AddedAll written faults header_text) interface old new held held'
 HasTried written faults interface before after old new held held' (Some (outcome.Unwritten k)) =
-    (k ≡ interface) × IsHeldMore (λ sink begun. AddedSome written header_text sink begun × Rose (faults sink) (faults begun)) interface old new held held'
+    (k ≡ interface) × IsHeldMore (λ sink begun. AddedSome written faults (Some interface) interface header_text sink begun × Rose (faults sink) (faults begun)) interface old new held held'
 HasTried written faults interface before after old new held held' (Some (outcome.NoOutput k)) =
     (k ≡ interface) × Rose before after × (new ≡ old) × (held' ≡ held)
 HasTried written faults interface before after old new held held' (Some (outcome.Split counts)) = ⊥
@@ -51,34 +51,41 @@ pub record AreOut {S K C : Type 0} (name : ℕ → List ℕ) (handed : List (Out
   pub rest : new ≡ record old { faults = new.faults; outputs = new.outputs }
 
 -- what an output took, by what its sink was when it was handed out
-abbrev pub HasSomeOf : {K : Type 0} → (K → Option (List ℕ)) → List Event → Output K → Output K → Type 0
-HasSomeOf written events handed now = (now.interface ≡ handed.interface) × AddedSome written (split_text handed.interface events) handed.sink now.sink
+abbrev pub HasSomeOf : {K : Type 0} → (K → Option (List ℕ)) → (K → ℕ) → Option ℕ → List Event → Output K → Output K → Type 0
+HasSomeOf written faults failed events handed now =
+    (now.interface ≡ handed.interface) × AddedSome written faults failed handed.interface (split_text handed.interface events) handed.sink now.sink
 
--- These octets tell these events first, whatever comes behind them; some of the interfaces that have a capture by then have
--- an output, which took a front of it.
-pub record IsSplitPart {K : Type 0} (written : K → Option (List ℕ)) (handed held : List (Output K)) (gave : List ℕ) : Type 0 where
+-- These octets tell these events first, whatever comes behind them; the interfaces that have a capture by then are those that
+-- have an output, which took a front of it, and those that are missing.
+pub record IsSplitPart {K : Type 0} (written : K → Option (List ℕ)) (faults : K → ℕ) (failed : Option ℕ) (missing : List ℕ) (handed held : List (Output K)) (gave : List ℕ) : Type 0 where
   pub events : List Event
   pub first : (rest : List ℕ) → TellsFirst events (gave ++ rest)
-  pub among : IsFront (interfaces_of handed) (tally no_tally events).split
-  pub each : EachOutput (HasSomeOf written events) handed held
+  pub among : (tally no_tally events).split ≡ interfaces_of handed ++ missing
+  pub each : EachOutput (HasSomeOf written faults failed events) handed held
 
 -- the sink of this interface's output has a fault
 abbrev pub HasSinkFault : {K : Type 0} → (K → ℕ) → ℕ → List (Output K) → Type 0
 HasSinkFault {K} faults interface held = (place : ℕ) × IsOutputOf held place interface × ((d : Output K) → 0 < faults (slice_index_or held place d).sink)
 
+-- no write of an output failed
+abbrev pub SinksStay : {K : Type 0} → (K → ℕ) → List (Output K) → List (Output K) → Type 0
+SinksStay faults handed held = EachOutput (λ o n. faults n.sink ≡ faults o.sink) handed held
+
 -- what came of the octets that a source gave
 abbrev pub EndsSplit : {K : Type 0} → (K → Option (List ℕ)) → (K → ℕ) → ℕ → ℕ → ℕ → ℕ → List (Output K) → List (Output K) → List ℕ → Option (List ℕ) → Outcome → Type 0
-EndsSplit written faults world world' source source' handed held gave left (outcome.Split counts) = (events : List Event) × IsSplitWhole written counts handed held gave left events how.End
-EndsSplit written faults world world' source source' handed held gave left (outcome.Malformed at counts) = (events : List Event) × IsSplitWhole written counts handed held gave left events (how.Malformed at)
-EndsSplit written faults world world' source source' handed held gave left outcome.Unread = IsSplitPart written handed held gave × Rose source source'
-EndsSplit written faults world world' source source' handed held gave left (outcome.Unwritten interface) = IsSplitPart written handed held gave × (interface < 16) × HasSinkFault faults interface held
+EndsSplit written faults world world' source source' handed held gave left (outcome.Split counts) =
+    ((events : List Event) × IsSplitWhole written counts handed held gave left events how.End) × (source' ≡ source) × SinksStay faults handed held
+EndsSplit written faults world world' source source' handed held gave left (outcome.Malformed at counts) =
+    ((events : List Event) × IsSplitWhole written counts handed held gave left events (how.Malformed at)) × (source' ≡ source) × SinksStay faults handed held
+EndsSplit written faults world world' source source' handed held gave left outcome.Unread = IsSplitPart written faults None [] handed held gave × Rose source source'
+EndsSplit written faults world world' source source' handed held gave left (outcome.Unwritten interface) =
+    IsSplitPart written faults (Some interface) [] handed held gave × (interface < 16) × HasSinkFault faults interface held × (source' ≡ source)
 EndsSplit written faults world world' source source' handed held gave left (outcome.NoOutput interface) =
-    IsSplitPart written handed held gave × Rose world world' × (interface < 16) × All (λ o. o.interface ≢ interface) handed
+    IsSplitPart written faults None (interface ∷ []) handed held gave × Rose world world' × (interface < 16) × All (λ o. o.interface ≢ interface) handed × (source' ≡ source)
 EndsSplit written faults world world' source source' handed held gave left outcome.NoInput = ⊥
 
 -- What a source had left was split, the outputs are held, and it came to this.
 pub record HasSplit {S K C : Type 0} (left : S → Option (List ℕ)) (written : K → Option (List ℕ)) (source_faults : S → ℕ) (sink_faults : K → ℕ) (name : ℕ → List ℕ) (source source' : S) (old new : Book S K C) (held : List (Output K)) (result : Outcome) : Type 0 where
-  pub later : source_faults source ≤ source_faults source'
   pub gave : List ℕ
   pub takes : Takes (left source) (left source') gave
   pub handed : List (Output K)

@@ -15,9 +15,9 @@ returns-in-Done g c =
     let here = c.in-Some.ensures.some in
     let x = c.index-outputs-place.result in
     let y = c.put.new.sink in
-    let later = c.put.ensures.later in
+    let still = c.in-Done.ensures.still refl in
     let text = c.in-Done.ensures.extends in (
-      one_taken g.K.Sink.written g.K.Sink.faults c.args.outputs.now c.in-Some.place c.args.interface c.args.stamp c.args.frame.now x y c.requires.differ here later text,
+      one_taken g.K.Sink.written g.K.Sink.faults c.args.outputs.now c.in-Some.place c.args.interface c.args.stamp c.args.frame.now x y c.requires.differ here still text,
       (omega arith, rw (has_place c.args.outputs.now c.in-Some.place c.args.interface here) (ap (tally_of _) (append-nil (interfaces_of c.args.outputs.now)))),
     )
 

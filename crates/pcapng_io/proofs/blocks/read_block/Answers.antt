@@ -1,11 +1,12 @@
-use Rattle.std.proofs.Common.{◌≡◌, ◌++◌, length, length-take-le, ap, ◌∙◌, arith}
+use Rattle.std.proofs.Common.{◌≡◌, lit≤, ◌++◌, length, length-take-le, ap, ◌∙◌, arith}
 use Rattle.std.proofs.lemmas.Grind.{common_steps}
 use Rattle.std.proofs.lemmas.Result.{err_from_is_err_and}
+use Rattle.std.specs.Result.{result_ok}
 use Rattle.savi_ends.proofs.Octets.{takes_more}
 use Rattle.pcap_io.proofs.CallsJoined.{takes_whole}
 use Rattle.pcapng_io.specs.Runs.{IsDone}
 use Rattle.pcapng_io.specs.ReaderStates.{standing_of}
-use Rattle.pcapng_io.proofs.Readings.{stops_in_head, stops_here}
+use Rattle.pcapng_io.proofs.Readings.{stops_in_head, stops_here, fits_by}
 use Rattle.pcapng_io.proofs.blocks.read_block.Goals as goal
 
 pub returns-in-Short-2-clause-octets : goal.returns-in-Short-2-clause-octets
@@ -27,7 +28,7 @@ returns-in_err-read_section-clause-octets g c =
     let first = takes_whole _ _ took.0 head took.1 took.2 in
     let rest = c.in_err-read_section.ensures.octets in
     let left = g.S.Source.left c.read_section.new.source in
-    (head ++ rest.0, takes_more head rest.0 _ _ _ first rest.1, rw (p.1, p.2) (stops_here s head rest.0 c.in_err-read_section.field-0.0 left size rest.2))
+    (head ++ rest.0, takes_more head rest.0 _ _ _ first rest.1, rw (p.1, p.2) (stops_here s head rest.0 c.in_err-read_section.field-0.0 left size rest.2.0 rest.2.1 (λ failed order here other. absurd (other (c.stands_at.ensures.0 c.if-stands_at.true)))))
 
 pub returns-then-stands_at-clause-octets : goal.returns-then-stands_at-clause-octets
 returns-then-stands_at-clause-octets g c =
@@ -49,7 +50,7 @@ returns-in_err-whole-in-1-clause-octets g c =
     let first = takes_whole _ _ took.0 head took.1 took.2 in
     let rest = c.in_err-whole-in-1.ensures.octets in
     let left = g.S.Source.left c.read_interface.new.source in
-    (head ++ rest.0, takes_more head rest.0 _ _ _ first rest.1, rw (p.1, p.2) (stops_here s head rest.0 c.in_err-whole-in-1.field-0.0 left size rest.2))
+    (head ++ rest.0, takes_more head rest.0 _ _ _ first rest.1, rw (p.1, p.2) (stops_here s head rest.0 c.in_err-whole-in-1.field-0.0 left size rest.2.0 rest.2.1 (λ failed order here other. fits_by s c.in_ok-order.order order head 20 (lit≤ tt) (c.ok_or.ensures.ok_part ∙ ap result_ok c.in_ok-order.was) here (c.in_err-whole-in-1.ensures.sound (cc failed)))))
 
 pub returns-in_err-whole-in-6-clause-octets : goal.returns-in_err-whole-in-6-clause-octets
 returns-in_err-whole-in-6-clause-octets g c =
@@ -61,7 +62,7 @@ returns-in_err-whole-in-6-clause-octets g c =
     let first = takes_whole _ _ took.0 head took.1 took.2 in
     let rest = c.in_err-whole-in-6.ensures.octets in
     let left = g.S.Source.left c.read_packet.new.source in
-    (head ++ rest.0, takes_more head rest.0 _ _ _ first rest.1, rw (p.1, p.2) (stops_here s head rest.0 c.in_err-whole-in-6.field-0.0 left size rest.2))
+    (head ++ rest.0, takes_more head rest.0 _ _ _ first rest.1, rw (p.1, p.2) (stops_here s head rest.0 c.in_err-whole-in-6.field-0.0 left size rest.2.0 rest.2.1 (λ failed order here other. fits_by s c.in_ok-order.order order head 32 (lit≤ tt) (c.ok_or.ensures.ok_part ∙ ap result_ok c.in_ok-order.was) here (c.in_err-whole-in-6.ensures.sound (cc failed)))))
 
 pub returns-in_err-whole-in_default-clause-octets : goal.returns-in_err-whole-in_default-clause-octets
 returns-in_err-whole-in_default-clause-octets g c =
@@ -73,7 +74,7 @@ returns-in_err-whole-in_default-clause-octets g c =
     let first = takes_whole _ _ took.0 head took.1 took.2 in
     let rest = c.in_err-whole-in_default.ensures.octets in
     let left = g.S.Source.left c.read_other.new.source in
-    (head ++ rest.0, takes_more head rest.0 _ _ _ first rest.1, rw (p.1, p.2) (stops_here s head rest.0 c.in_err-whole-in_default.field-0.0 left size rest.2))
+    (head ++ rest.0, takes_more head rest.0 _ _ _ first rest.1, rw (p.1, p.2) (stops_here s head rest.0 c.in_err-whole-in_default.field-0.0 left size rest.2.0 rest.2.1 (λ failed order here other. fits_by s c.in_ok-order.order order head 12 (lit≤ tt) (c.ok_or.ensures.ok_part ∙ ap result_ok c.in_ok-order.was) here (c.in_err-whole-in_default.ensures.sound (cc failed)))))
 
 pub returns-in_ok-whole-in-1-clause-octets : goal.returns-in_ok-whole-in-1-clause-octets
 returns-in_ok-whole-in-1-clause-octets g c =

@@ -1,4 +1,4 @@
-use Rattle.std.proofs.Common.{◌≡◌, ℕ, ◌-◌, true, [], ◌++◌, length, sym, subst, ◌∙◌, arith}
+use Rattle.std.proofs.Common.{◌≡◌, ℕ, ◌-◌, true, [], ◌++◌, length, sym, subst, ◌∙◌, arith, lit≤, length-append}
 use Rattle.std.proofs.lemmas.Grind.{common_steps}
 use Rattle.std.proofs.lemmas.Result.{err_from_is_err_and}
 use Rattle.savi_ends.proofs.Octets.{takes_more}
@@ -7,6 +7,7 @@ use Rattle.pcap_io.proofs.CallsJoined.{takes_whole, takes_none}
 use Rattle.pcapng_io.specs.Blocks.{IsTotal}
 use Rattle.pcapng_io.specs.Pieces.{Stops, FallsShort, IsRest}
 use Rattle.pcapng_io.specs.ReaderStates.{standing_of}
+use Rattle.pcapng_io.proofs.Parts.{short_within}
 use Rattle.pcapng_io.proofs.Interfaces.{interface_wrong, interface_short, interface_stops, interface_read}
 use Rattle.pcapng_io.proofs.blocks.read_interface.Goals as goal
 use Rattle.pcapng_io.proofs.blocks.read_interface.Goals.{then-not-is_total-via-then-not-is_total, then-not-is_total-via-else-not-is_total+then-declared-ge-SECTION_INTERFACES_MOST, then-not-is_total-via-else-not-is_total+else-declared-ge-SECTION_INTERFACES_MOST+then-position-declared-ge-FILE_INTERFACES_MOST}
@@ -18,14 +19,17 @@ returns-then-not-is_total-clause-octets g c =
     let head_size : length head ≡ 8 = grind (arith, common_steps) in (
       [],
       takes_none (g.S.Source.left c.args.source.now),
-      interface_wrong s c.args.order head (g.S.Source.left c.args.source.now) head_size c.requires.order_is c.requires.kind
-          (λ total few few_in_file.
-          let total' : IsTotal s.place 20 c.number_at-total.result = subst (λ (n : ℕ). IsTotal s.place 20 n) (sym c.number_at-total.ensures) total in
-          elim c.then-not-is_total.branch [
-            | then-not-is_total-via-then-not-is_total w ↦ cc (c.is_total.ensures.1 total', w.if-not-is_total.true)
-            | then-not-is_total-via-else-not-is_total+then-declared-ge-SECTION_INTERFACES_MOST w ↦ absurd (omega (arith, few, w.if-declared-ge-SECTION_INTERFACES_MOST.true))
-            | then-not-is_total-via-else-not-is_total+else-declared-ge-SECTION_INTERFACES_MOST+then-position-declared-ge-FILE_INTERFACES_MOST w ↦ absurd (omega (arith, few_in_file, w.if-position-declared-ge-FILE_INTERFACES_MOST.true))
-          ]),
+      (
+        interface_wrong s c.args.order head (g.S.Source.left c.args.source.now) head_size c.requires.order_is c.requires.kind
+            (λ total few few_in_file.
+            let total' : IsTotal s.place 20 c.number_at-total.result = subst (λ (n : ℕ). IsTotal s.place 20 n) (sym c.number_at-total.ensures) total in
+            elim c.then-not-is_total.branch [
+              | then-not-is_total-via-then-not-is_total w ↦ cc (c.is_total.ensures.1 total', w.if-not-is_total.true)
+              | then-not-is_total-via-else-not-is_total+then-declared-ge-SECTION_INTERFACES_MOST w ↦ absurd (omega (arith, few, w.if-declared-ge-SECTION_INTERFACES_MOST.true))
+              | then-not-is_total-via-else-not-is_total+else-declared-ge-SECTION_INTERFACES_MOST+then-position-declared-ge-FILE_INTERFACES_MOST w ↦ absurd (omega (arith, few_in_file, w.if-position-declared-ge-FILE_INTERFACES_MOST.true))
+            ]),
+        omega arith,
+      ),
     )
 
 pub returns-in_err-take-clause-octets : goal.returns-in_err-take-clause-octets
@@ -38,7 +42,7 @@ returns-in_err-take-clause-octets g c =
     let room : length c.take.new.buf ≡ 8 = grind (arith, common_steps, c.take.auto.buf) in
     let left = g.S.Source.left c.take.new.source in
     let short : FallsShort 8 c.in_err-take.field-0.0 took.0 left = subst (λ (n : ℕ). FallsShort n c.in_err-take.field-0.0 took.0 left) room took.2 in
-    (took.0, took.1, rw (p.1, p.2) (interface_short s c.args.order head took.0 c.in_err-take.field-0.0 left head_size c.requires.order_is c.requires.kind short))
+    (took.0, took.1, rw (p.1, p.2) (interface_short s c.args.order head took.0 c.in_err-take.field-0.0 left head_size c.requires.order_is c.requires.kind short, short_within 8 1048568 [] took.0 c.in_err-take.field-0.0 left short (lit≤ tt)))
 
 pub returns-in_err-units-clause-octets : goal.returns-in_err-units-clause-octets
 returns-in_err-units-clause-octets g c =
@@ -53,11 +57,12 @@ returns-in_err-units-clause-octets g c =
     let here = c.args.order in
     let rest = c.in_err-units.ensures.octets in
     let left = g.S.Source.left c.read_rest.new.source in
+    let total : IsTotal s.place 20 c.number_at-total.result = c.is_total.ensures.0 (cc (c.if-not-is_total.false)) in
     let stops : Stops (λ x. (units : ℕ) × IsRest here true (number_at here 4 head - 16 - 4) (number_at here 4 head) units x) c.in_err-units.field-0.0 rest.0 left =
-    subst (λ (n : ℕ). Stops (λ x. (units : ℕ) × IsRest here true (n - 16 - 4) n units x) c.in_err-units.field-0.0 rest.0 left) c.number_at-total.ensures rest.2 in (
+    subst (λ (n : ℕ). Stops (λ x. (units : ℕ) × IsRest here true (n - 16 - 4) n units x) c.in_err-units.field-0.0 rest.0 left) c.number_at-total.ensures rest.2.0 in (
       fields ++ rest.0,
       takes_more fields rest.0 _ _ _ first rest.1,
-      rw (p.1, p.2) (interface_stops s here head fields rest.0 c.in_err-units.field-0.0 left head_size size c.requires.order_is c.requires.kind stops),
+      rw (p.1, p.2) (interface_stops s here head fields rest.0 c.in_err-units.field-0.0 left head_size size c.requires.order_is c.requires.kind stops, omega (arith, size, rest.2.1, total.fits, total.bounded, length-append fields rest.0)),
     )
 
 pub returns-clause-octets : goal.returns-clause-octets

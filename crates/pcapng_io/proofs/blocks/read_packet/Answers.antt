@@ -1,4 +1,4 @@
-use Rattle.std.proofs.Common.{◌≡◌, ℕ, ◌+◌, ◌-◌, ◌*◌, ◌^◌, ◌≤◌, false, List, [], ◌++◌, length, take, get_or, refl, sym, ap, subst, ◌∙◌, arith}
+use Rattle.std.proofs.Common.{◌≡◌, ℕ, ◌+◌, ◌-◌, ◌*◌, ◌^◌, ◌≤◌, false, List, [], ◌++◌, length, take, get_or, refl, sym, ap, subst, ◌∙◌, arith, lit≤, length-append}
 use Rattle.std.proofs.lemmas.Grind.{common_steps}
 use Rattle.std.proofs.lemmas.Result.{err_from_is_err_and}
 use Rattle.savi_ends.proofs.Octets.{takes_more}
@@ -8,6 +8,7 @@ use Rattle.pcapng_io.specs.Options.{padded}
 use Rattle.pcapng_io.specs.Blocks.{IsTotal, stamp_of}
 use Rattle.pcapng_io.specs.Pieces.{Stops, FallsShort, IsRest}
 use Rattle.pcapng_io.specs.ReaderStates.{standing_of}
+use Rattle.pcapng_io.proofs.Parts.{short_within}
 use Rattle.pcapng_io.proofs.Packets.{PacketHead, PacketFields, packet_wrong, packet_short, packet_fields_wrong, captured_short, packet_stops, packet_read}
 use Rattle.pcapng_io.proofs.blocks.read_packet.Goals as goal
 use Rattle.pcapng_io.proofs.blocks.read_packet.Goals.{then-of_section-len-via-then-of_section-len, then-of_section-len-via-else-of_section-len+then-len-gt-CAPTURED_OCTETS_MOST, then-of_section-len-via-else-of_section-len+else-len-gt-CAPTURED_OCTETS_MOST+then-total-padded_len}
@@ -23,10 +24,13 @@ returns-then-not-is_total-clause-octets g c =
     let h : PacketHead s c.args.order head = record { size = head_size; here = c.requires.order_is; kind = c.requires.kind } in (
       [],
       takes_none (g.S.Source.left c.args.source.now),
-      packet_wrong s c.args.order head (g.S.Source.left c.args.source.now) h
-          (λ total.
-          let total' : IsTotal s.place 32 c.number_at-total.result = subst (λ (n : ℕ). IsTotal s.place 32 n) (sym c.number_at-total.ensures) total in
-          cc (c.is_total.ensures.1 total', c.if-not-is_total.true)),
+      (
+        packet_wrong s c.args.order head (g.S.Source.left c.args.source.now) h
+            (λ total.
+            let total' : IsTotal s.place 32 c.number_at-total.result = subst (λ (n : ℕ). IsTotal s.place 32 n) (sym c.number_at-total.ensures) total in
+            cc (c.is_total.ensures.1 total', c.if-not-is_total.true)),
+        omega arith,
+      ),
     )
 
 pub returns-in_err-take-clause-octets : goal.returns-in_err-take-clause-octets
@@ -40,7 +44,7 @@ returns-in_err-take-clause-octets g c =
     let room : length c.take.new.buf ≡ 20 = grind (arith, common_steps, c.take.auto.buf) in
     let left = g.S.Source.left c.take.new.source in
     let short : FallsShort 20 c.in_err-take.field-0.0 took.0 left = subst (λ (n : ℕ). FallsShort n c.in_err-take.field-0.0 took.0 left) room took.2 in
-    (took.0, took.1, rw (p.1, p.2) (packet_short s c.args.order head took.0 c.in_err-take.field-0.0 left h short))
+    (took.0, took.1, rw (p.1, p.2) (packet_short s c.args.order head took.0 c.in_err-take.field-0.0 left h short, short_within 20 1048568 [] took.0 c.in_err-take.field-0.0 left short (lit≤ tt)))
 
 pub returns-then-of_section-len-clause-octets : goal.returns-then-of_section-len-clause-octets
 returns-then-of_section-len-clause-octets g c =
@@ -54,12 +58,15 @@ returns-then-of_section-len-clause-octets g c =
     let first = takes_whole _ _ took.0 fields took.1 took.2 in (
       fields,
       first,
-      packet_fields_wrong s c.args.order head fields (g.S.Source.left c.take.new.source) h size
-          (λ f. elim c.then-of_section-len.branch [
-            | then-of_section-len-via-then-of_section-len w ↦ absurd (omega (arith, f.declared, c.number_at-of_section.ensures, w.if-of_section-len.true))
-            | then-of_section-len-via-else-of_section-len+then-len-gt-CAPTURED_OCTETS_MOST w ↦ absurd (omega (arith, f.bounded, c.number_at-len.ensures, w.if-len-gt-CAPTURED_OCTETS_MOST.true))
-            | then-of_section-len-via-else-of_section-len+else-len-gt-CAPTURED_OCTETS_MOST+then-total-padded_len w ↦ absurd (omega (arith, f.fits, c.number_at-total.ensures, ap padded c.number_at-len.ensures, w.padded_len.ensures, w.if-total-padded_len.true))
-          ]),
+      (
+        packet_fields_wrong s c.args.order head fields (g.S.Source.left c.take.new.source) h size
+            (λ f. elim c.then-of_section-len.branch [
+              | then-of_section-len-via-then-of_section-len w ↦ absurd (omega (arith, f.declared, c.number_at-of_section.ensures, w.if-of_section-len.true))
+              | then-of_section-len-via-else-of_section-len+then-len-gt-CAPTURED_OCTETS_MOST w ↦ absurd (omega (arith, f.bounded, c.number_at-len.ensures, w.if-len-gt-CAPTURED_OCTETS_MOST.true))
+              | then-of_section-len-via-else-of_section-len+else-len-gt-CAPTURED_OCTETS_MOST+then-total-padded_len w ↦ absurd (omega (arith, f.fits, c.number_at-total.ensures, ap padded c.number_at-len.ensures, w.padded_len.ensures, w.if-total-padded_len.true))
+            ]),
+        omega (arith, size),
+      ),
     )
 
 pub returns-in_err-take_captured-clause-octets : goal.returns-in_err-take_captured-clause-octets
@@ -85,7 +92,7 @@ returns-in_err-take_captured-clause-octets g c =
     let left = g.S.Source.left c.take_captured.new.source in
     let why = c.in_err-take_captured.field-0.0 in
     let short : FallsShort (padded (number_at c.args.order 12 fields)) why body.0 left = subst (λ (n : ℕ). FallsShort (padded n) why body.0 left) len_is body.2 in
-    (fields ++ body.0, takes_more fields body.0 _ _ _ first body.1, rw (p.1, p.2) (captured_short s c.args.order head fields body.0 why left h size f short))
+    (fields ++ body.0, takes_more fields body.0 _ _ _ first body.1, rw (p.1, p.2) (captured_short s c.args.order head fields body.0 why left h size f short, short_within (padded (number_at c.args.order 12 fields)) 1048568 fields body.0 why left short (omega (arith, size, f.fits, total_is, total.bounded))))
 
 pub returns-in_err-read_rest-clause-octets : goal.returns-in_err-read_rest-clause-octets
 returns-in_err-read_rest-clause-octets g c =
@@ -113,10 +120,10 @@ returns-in_err-read_rest-clause-octets g c =
     let len = c.number_at-len.result in
     let total_len = c.number_at-total.result in
     let stops : Stops (λ x. (units : ℕ) × IsRest c.args.order false (total_len - 28 - 4 - padded len) total_len units x) why rest.0 left =
-    subst (λ (n : ℕ). Stops (λ x. (units : ℕ) × IsRest c.args.order false (total_len - 28 - 4 - n) total_len units x) why rest.0 left) c.padded_len-2.ensures rest.2 in (
+    subst (λ (n : ℕ). Stops (λ x. (units : ℕ) × IsRest c.args.order false (total_len - 28 - 4 - n) total_len units x) why rest.0 left) c.padded_len-2.ensures rest.2.0 in (
       (fields ++ body.0) ++ rest.0,
       takes_more (fields ++ body.0) rest.0 _ _ _ (takes_more fields body.0 _ _ _ first body.1) rest.1,
-      rw (p.1, p.2) (packet_stops s c.args.order head fields body.0 rest.0 why left len total_len h size f len_is total_is body.2.0 stops),
+      rw (p.1, p.2) (packet_stops s c.args.order head fields body.0 rest.0 why left len total_len h size f len_is total_is body.2.0 stops, omega (arith, size, body.2.0, rest.2.1, c.padded_len-2.ensures, f.fits, ap padded len_is, total_is, total.bounded, length-append (fields ++ body.0) rest.0, length-append fields body.0)),
     )
 
 pub returns-then-len-gt-FRAME_OCTETS_MOST-clause-octets : goal.returns-then-len-gt-FRAME_OCTETS_MOST-clause-octets

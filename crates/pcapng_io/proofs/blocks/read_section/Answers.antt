@@ -1,4 +1,4 @@
-use Rattle.std.proofs.Common.{◌≡◌, ℕ, ◌-◌, false, List, ◌++◌, length, take, Option, Some, None, Result, Err, IfNone, IfSome, sym, ap, subst, ◌∙◌, arith}
+use Rattle.std.proofs.Common.{◌≡◌, ℕ, ◌-◌, false, List, ◌++◌, length, take, Option, Some, None, Result, Err, IfNone, IfSome, sym, ap, subst, ◌∙◌, arith, [], lit≤, length-append}
 use Rattle.std.proofs.lemmas.Grind.{common_steps}
 use Rattle.std.proofs.lemmas.Result.{err_from_is_err_and}
 use Rattle.std.specs.Result.{result_ok}
@@ -13,6 +13,7 @@ use Rattle.pcapng_io.specs.Numbers.{half_at}
 use Rattle.pcapng_io.specs.Blocks.{IsTotal}
 use Rattle.pcapng_io.specs.Pieces.{Stops, FallsShort, IsRest}
 use Rattle.pcapng_io.specs.ReaderStates.{standing_of}
+use Rattle.pcapng_io.proofs.Parts.{short_within}
 use Rattle.pcapng_io.proofs.Sections.{section_short, section_wrong, section_stops, section_read, magic_once, magic_text}
 use Rattle.pcapng_io.proofs.blocks.read_section.Goals as goal
 use Rattle.pcapng_io.proofs.blocks.read_section.Goals.{then-half_at-ne-VERSION_MAJOR-via-then-half_at-ne-VERSION_MAJOR, then-half_at-ne-VERSION_MAJOR-via-else-half_at-ne-VERSION_MAJOR+then-not-is_total}
@@ -27,7 +28,7 @@ returns-in_err-take-clause-octets g c =
     let room : length c.take.new.buf ≡ 16 = grind (arith, common_steps, c.take.auto.buf) in
     let left = g.S.Source.left c.take.new.source in
     let short : FallsShort 16 c.in_err-take.field-0.0 took.0 left = subst (λ (n : ℕ). FallsShort n c.in_err-take.field-0.0 took.0 left) room took.2 in
-    (took.0, took.1, rw (p.1, p.2) (section_short s head took.0 c.in_err-take.field-0.0 left head_size c.requires.kind short))
+    (took.0, took.1, rw (p.1, p.2) (section_short s head took.0 c.in_err-take.field-0.0 left head_size c.requires.kind short, short_within 16 1048568 [] took.0 c.in_err-take.field-0.0 left short (lit≤ tt)))
 
 why_of : (r : Result ByteOrder Stop) (o : Option ByteOrder) (e : Stop) → r ≡ ok_or o stop.Malformed → o ≡ None → r ≡ Err e → stop.Malformed ≡ e
 why_of r None e told none was = cc
@@ -52,7 +53,7 @@ returns-in_err-order-clause-octets g c =
     let why : stop.Malformed ≡ c.in_err-order.field-0.0 = why_of c.ok_or.result c.order_by.result c.in_err-order.field-0.0 c.ok_or.ensures.value none c.in_err-order.was in (
       fields,
       first,
-      rw (p.1, p.2, ← why) (section_wrong s head fields (g.S.Source.left c.take.new.source) head_size size c.requires.kind (λ order magic major total. no order magic)),
+      rw (p.1, p.2, ← why) (section_wrong s head fields (g.S.Source.left c.take.new.source) head_size size c.requires.kind (λ order magic major total. no order magic), omega (arith, size)),
     )
 
 pub returns-then-half_at-ne-VERSION_MAJOR-clause-octets : goal.returns-then-half_at-ne-VERSION_MAJOR-clause-octets
@@ -69,15 +70,18 @@ returns-then-half_at-ne-VERSION_MAJOR-clause-octets g c =
     let magic = magic_of c.order_by.result fields here c.order_by.ensures.some told in (
       fields,
       first,
-      section_wrong s head fields (g.S.Source.left c.take.new.source) head_size size c.requires.kind
-          (λ order other major total.
-          let same : order ≡ here = magic_once order here (sym other ∙ magic) in
-          let major' : half_at here 4 fields ≡ 1 = subst (λ (o : ByteOrder). half_at o 4 fields ≡ 1) same major in
-          let total' : IsTotal s.place 28 c.number_at-total.result = subst (λ (n : ℕ). IsTotal s.place 28 n) (sym c.number_at-total.ensures) (subst (λ (o : ByteOrder). IsTotal s.place 28 (number_at o 4 head)) same total) in
-          elim c.then-half_at-ne-VERSION_MAJOR.branch [
-            | then-half_at-ne-VERSION_MAJOR-via-then-half_at-ne-VERSION_MAJOR w ↦ absurd (omega (arith, major', c.half_at.ensures, w.if-half_at-ne-VERSION_MAJOR.true))
-            | then-half_at-ne-VERSION_MAJOR-via-else-half_at-ne-VERSION_MAJOR+then-not-is_total w ↦ cc (w.is_total.ensures.1 total', w.if-not-is_total.true)
-          ]),
+      (
+        section_wrong s head fields (g.S.Source.left c.take.new.source) head_size size c.requires.kind
+            (λ order other major total.
+            let same : order ≡ here = magic_once order here (sym other ∙ magic) in
+            let major' : half_at here 4 fields ≡ 1 = subst (λ (o : ByteOrder). half_at o 4 fields ≡ 1) same major in
+            let total' : IsTotal s.place 28 c.number_at-total.result = subst (λ (n : ℕ). IsTotal s.place 28 n) (sym c.number_at-total.ensures) (subst (λ (o : ByteOrder). IsTotal s.place 28 (number_at o 4 head)) same total) in
+            elim c.then-half_at-ne-VERSION_MAJOR.branch [
+              | then-half_at-ne-VERSION_MAJOR-via-then-half_at-ne-VERSION_MAJOR w ↦ absurd (omega (arith, major', c.half_at.ensures, w.if-half_at-ne-VERSION_MAJOR.true))
+              | then-half_at-ne-VERSION_MAJOR-via-else-half_at-ne-VERSION_MAJOR+then-not-is_total w ↦ cc (w.is_total.ensures.1 total', w.if-not-is_total.true)
+            ]),
+        omega (arith, size),
+      ),
     )
 
 pub returns-in_err-read_rest-clause-octets : goal.returns-in_err-read_rest-clause-octets
@@ -95,11 +99,12 @@ returns-in_err-read_rest-clause-octets g c =
     let magic = magic_of c.order_by.result fields here c.order_by.ensures.some told in
     let rest = c.in_err-read_rest.ensures.octets in
     let left = g.S.Source.left c.read_rest.new.source in
+    let total : IsTotal s.place 28 c.number_at-total.result = c.is_total.ensures.0 (cc (c.if-not-is_total.false)) in
     let stops : Stops (λ x. (units : ℕ) × IsRest here false (number_at here 4 head - 24 - 4) (number_at here 4 head) units x) c.in_err-read_rest.field-0.0 rest.0 left =
-    subst (λ (n : ℕ). Stops (λ x. (units : ℕ) × IsRest here false (n - 24 - 4) n units x) c.in_err-read_rest.field-0.0 rest.0 left) c.number_at-total.ensures rest.2 in (
+    subst (λ (n : ℕ). Stops (λ x. (units : ℕ) × IsRest here false (n - 24 - 4) n units x) c.in_err-read_rest.field-0.0 rest.0 left) c.number_at-total.ensures rest.2.0 in (
       fields ++ rest.0,
       takes_more fields rest.0 _ _ _ first rest.1,
-      rw (p.1, p.2) (section_stops s here head fields rest.0 c.in_err-read_rest.field-0.0 left head_size size c.requires.kind magic stops),
+      rw (p.1, p.2) (section_stops s here head fields rest.0 c.in_err-read_rest.field-0.0 left head_size size c.requires.kind magic stops, omega (arith, size, rest.2.1, total.fits, total.bounded, length-append fields rest.0)),
     )
 
 pub returns-clause-octets : goal.returns-clause-octets

@@ -7,7 +7,7 @@ use Rattle.pcapng_io.specs.Numbers.{half_at}
 use Rattle.pcapng_io.specs.Options.{padded}
 use Rattle.pcapng_io.specs.Pieces.{AreFront}
 use Rattle.pcapng_io.proofs.Fronts.{half_front}
-use Rattle.pcapng_io.proofs.Parts.{short_stops, short_behind}
+use Rattle.pcapng_io.proofs.Parts.{short_stops, short_behind, short_within}
 use Rattle.pcapng_io.proofs.OptionParts.{option_too_long, option_no_resolution, option_read, option_resolution_read}
 use Rattle.pcapng_io.proofs.options.read_option.Goals as goal
 use Rattle.pcapng_io.proofs.options.read_option.Goals.{else-is_interface-via-then-is_interface+else-code-eq-RESOLUTION, else-is_interface-via-else-is_interface}
@@ -22,10 +22,12 @@ returns-in_err-pass_over-clause-octets g c =
     let left = g.S.Source.left c.pass_over.new.source in (
       head ++ body.0,
       takes_more head body.0 _ _ _ (takes_whole _ _ took.0 head took.1 took.2) body.1,
-      rw (p.1, p.2)
-          (short_stops (AreFront c.args.order c.args.is_interface c.args.len) (length head + (c.args.len - 4)) (head ++ body.0) c.in_err-pass_over.field-0.0 left
-          (λ first front. omega (arith, size, front.0, c.requires.least))
-          (short_behind (c.args.len - 4) head body.0 c.in_err-pass_over.field-0.0 left body.2)),
+      rw (p.1, p.2) (
+        short_stops (AreFront c.args.order c.args.is_interface c.args.len) (length head + (c.args.len - 4)) (head ++ body.0) c.in_err-pass_over.field-0.0 left
+            (λ first front. omega (arith, size, front.0, c.requires.least))
+            (short_behind (c.args.len - 4) head body.0 c.in_err-pass_over.field-0.0 left body.2),
+        short_within (c.args.len - 4) c.args.len head body.0 c.in_err-pass_over.field-0.0 left body.2 (omega (arith, size, c.requires.least)),
+      ),
     )
 
 pub returns-then-code-eq-END_OF_OPTIONS-clause-octets : goal.returns-then-code-eq-END_OF_OPTIONS-clause-octets
@@ -51,9 +53,12 @@ returns-then-size-len-clause-octets g c =
     let named : c.from-value_len.result ≡ half_at c.args.order 2 head = omega (arith, c.from-value_len.ensures, c.half_at.ensures) in (
       head,
       takes_whole _ _ took.0 head took.1 took.2,
-      option_too_long c.args.order c.args.is_interface c.args.len head (g.S.Source.left c.take.new.source) size c.requires.least
-          (omega (arith, c.half_at-code.ensures, c.if-code-eq-END_OF_OPTIONS.false))
-          (omega (arith, ap padded named, c.padded_len-size.ensures, c.if-size-len.true)),
+      (
+        option_too_long c.args.order c.args.is_interface c.args.len head (g.S.Source.left c.take.new.source) size c.requires.least
+            (omega (arith, c.half_at-code.ensures, c.if-code-eq-END_OF_OPTIONS.false))
+            (omega (arith, ap padded named, c.padded_len-size.ensures, c.if-size-len.true)),
+        omega (arith, size, c.requires.least),
+      ),
     )
 
 pub returns-in_err-units-clause-octets : goal.returns-in_err-units-clause-octets
@@ -65,12 +70,14 @@ returns-in_err-units-clause-octets g c =
     let body = c.in_err-units.ensures.octets in (
       head ++ body.0,
       takes_more head body.0 _ _ _ (takes_whole _ _ took.0 head took.1 took.2) body.1,
-      rw (p.1, p.2)
-          (option_no_resolution c.args.order c.args.is_interface c.args.len c.from-value_len.result head body.0 c.in_err-units.field-0.0 (g.S.Source.left c.read_resolution.new.source) size c.requires.least
-          c.if-is_interface.true
-          (omega (arith, c.half_at-code.ensures, c.if-code-eq-RESOLUTION.true))
-          (omega (arith, c.from-value_len.ensures, c.half_at.ensures))
-          body.2),
+      rw (p.1, p.2) (
+        option_no_resolution c.args.order c.args.is_interface c.args.len c.from-value_len.result head body.0 c.in_err-units.field-0.0 (g.S.Source.left c.read_resolution.new.source) size c.requires.least
+            c.if-is_interface.true
+            (omega (arith, c.half_at-code.ensures, c.if-code-eq-RESOLUTION.true))
+            (omega (arith, c.from-value_len.ensures, c.half_at.ensures))
+            body.2.0,
+        omega (arith, size, body.2.1, c.padded_len-size.ensures, c.if-size-len.false, length-append head body.0),
+      ),
     )
 
 pub returns-then-code-eq-RESOLUTION-clause-octets : goal.returns-then-code-eq-RESOLUTION-clause-octets
@@ -100,10 +107,12 @@ returns-in_err-pass_over-2-clause-octets g c =
     let len = (4 + c.padded_len-size.result) - 4 in (
       head ++ body.0,
       takes_more head body.0 _ _ _ (takes_whole _ _ took.0 head took.1 took.2) body.1,
-      rw (p.1, p.2)
-          (short_stops (AreFront c.args.order c.args.is_interface c.args.len) (length head + len) (head ++ body.0) c.in_err-pass_over-2.field-0.0 left
-          (λ first front. omega (arith, size, front.0, c.if-size-len.false))
-          (short_behind len head body.0 c.in_err-pass_over-2.field-0.0 left body.2)),
+      rw (p.1, p.2) (
+        short_stops (AreFront c.args.order c.args.is_interface c.args.len) (length head + len) (head ++ body.0) c.in_err-pass_over-2.field-0.0 left
+            (λ first front. omega (arith, size, front.0, c.if-size-len.false))
+            (short_behind len head body.0 c.in_err-pass_over-2.field-0.0 left body.2),
+        short_within len c.args.len head body.0 c.in_err-pass_over-2.field-0.0 left body.2 (omega (arith, size, c.if-size-len.false)),
+      ),
     )
 
 pub returns-clause-octets : goal.returns-clause-octets

@@ -1,4 +1,4 @@
-use Rattle.std.proofs.Common.{ℕ, List, [], ◌∷◌, ◌++◌, refl, sym, subst, inl, inr, lit<, arith, append-nil, length-append}
+use Rattle.std.proofs.Common.{ℕ, List, [], ◌∷◌, ◌++◌, refl, sym, subst, ◌∙◌, inl, inr, lit<, arith, append-nil, length-append}
 use Rattle.std.proofs.lemmas.Result.{err_from_is_err_and}
 use Rattle.savi_ends.proofs.Octets.{takes_more}
 use Rattle.pcap_io.proofs.CallsJoined.{takes_none}
@@ -12,7 +12,7 @@ use Rattle.pcapng_io.proofs.options.read_options.Goals as goal
 
 pub loop-missing-init : goal.loop-missing-init
 loop-missing-init g c = record {
-  later = omega arith;
+  still = refl;
   words = c.requires.words;
   some = lit< tt;
   walked = ([], [], takes_none (g.S.Source.left c.args.source.now), omega arith, walked_none c.args.order, settle_none c.args.is_interface);
@@ -26,7 +26,7 @@ loop-missing-preserved g c =
     let read : IsOptionRead c.args.order c.args.is_interface c.loop-missing.missing c.loop-missing.units (option.Next c.in-Next.size c.in-Next.settled) told.0 =
     subst (λ (r : OptionRead). IsOptionRead c.args.order c.args.is_interface c.loop-missing.missing c.loop-missing.units r told.0) c.in-Next.is told.2 in
     record {
-      later = omega (arith, was.later, c.read_option.ensures.later);
+      still = c.in_ok-read_option.ensures.still (λ same. absurd cc) ∙ was.still;
       words = omega (arith, was.words, read.0, read.3.1.size, read.1);
       some = read.2 was.some;
       walked = (
@@ -47,11 +47,13 @@ returns-in_err-read_option-clause-octets g c =
     let missing = c.loop-missing.missing in (
       w.0 ++ one.0,
       takes_more w.0 one.0 _ _ _ w.2 one.1,
-      rw (p.1, p.2)
-          (stops_behind (AreFront c.args.order c.args.is_interface c.args.len) (AreFront c.args.order c.args.is_interface missing) w.0 one.0 c.in_err-read_option.field-0.0 (g.S.Source.left c.read_option.new.source)
-          (λ first front. omega (arith, w.3, front.0))
-          (λ x front. (x, [], sym (append-nil x), front_behind c.args.order c.args.is_interface c.args.len missing w.1 w.0 x w.4 w.3 front))
-          one.2),
+      rw (p.1, p.2) (
+        stops_behind (AreFront c.args.order c.args.is_interface c.args.len) (AreFront c.args.order c.args.is_interface missing) w.0 one.0 c.in_err-read_option.field-0.0 (g.S.Source.left c.read_option.new.source)
+            (λ first front. omega (arith, w.3, front.0))
+            (λ x front. (x, [], sym (append-nil x), front_behind c.args.order c.args.is_interface c.args.len missing w.1 w.0 x w.4 w.3 front))
+            one.2.0,
+        omega (arith, w.3, one.2.1, length-append w.0 one.0),
+      ),
     )
 
 pub returns-in-End-clause-octets : goal.returns-in-End-clause-octets

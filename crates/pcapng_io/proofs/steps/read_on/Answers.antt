@@ -1,4 +1,4 @@
-use Rattle.std.proofs.Common.{◌≡◌, [], ◌++◌, Option, Some, None, sym, ap, subst, ◌∙◌, arith, length-append}
+use Rattle.std.proofs.Common.{◌≡◌, [], ◌++◌, length, Option, Some, None, sym, ap, subst, ◌∙◌, arith, length-append}
 use Rattle.savi_ends.proofs.Octets.{takes_more}
 use Rattle.savi_kinds.specs.declared.entry.How.TheVariants as how
 use Rattle.pcapng_io.specs.Blocks.{Standing}
@@ -74,7 +74,7 @@ loop-whole-preserved g c =
     let none : answer_to whole.block ≡ None = sym c.answer.ensures ∙ c.in_default.is in
     let read : HasRead (Reading s) (Reading (behind_read s whole.block whole.size)) one.0 [] = whole_read s whole.block whole.size buf one.0 is.0 is.1 none in
     record {
-      later = omega (arith, was.later, c.read_block.ensures.later);
+      still = c.in-Ok-Some.ensures.still (λ same. absurd cc) ∙ was.still;
       sound = subst IsSound (sym c.pass.ensures) sound.0;
       read = (
         w.0 ++ one.0,
@@ -107,7 +107,7 @@ returns-in-Ok-None-clause-octets g c =
     let left = g.S.Source.left c.read_block.new.source in
     let one = c.in-Ok-None.ensures.octets in
     let is : IsBlockRead s None c.read_block.new.buf one.0 left = subst (λ (o : Option Whole). IsBlockRead s o c.read_block.new.buf one.0 left) c.in-Ok-None.field-0-is one.2 in
-    (w.0 ++ one.0, takes_more w.0 one.0 _ _ _ w.1 one.1, end_behind s0 s how.End w.0 one.0 left w.2 (is.0, is.1) (end_whole s one.0 left is.0 is.1 is.2))
+    (w.0 ++ one.0, takes_more w.0 one.0 _ _ _ w.1 one.1, end_behind s0 s how.End w.0 one.0 left w.2 w.3 (is.0, is.1) (end_whole s one.0 left is.0 is.1 is.2) (omega (arith, ap length is.0)))
 
 pub returns-in-Err-Malformed-clause-octets : goal.returns-in-Err-Malformed-clause-octets
 returns-in-Err-Malformed-clause-octets g c =
@@ -118,7 +118,7 @@ returns-in-Err-Malformed-clause-octets g c =
     let left = g.S.Source.left c.read_block.new.source in
     let one = c.in-Err-Malformed.ensures.octets in
     let is : StopsHere s stop.Malformed one.0 left = subst (λ (e : Stop). StopsHere s e one.0 left) c.in-Err-Malformed.field-0-is one.2 in
-    (w.0 ++ one.0, takes_more w.0 one.0 _ _ _ w.1 one.1, end_behind s0 s (how.Malformed s.place) w.0 one.0 left w.2 is.0 is.1)
+    (w.0 ++ one.0, takes_more w.0 one.0 _ _ _ w.1 one.1, end_behind s0 s (how.Malformed s.place) w.0 one.0 left w.2 w.3 is.0 is.1 is.2)
 
 pub returns-in-Err-Failed-clause-octets : goal.returns-in-Err-Failed-clause-octets
 returns-in-Err-Failed-clause-octets g c =

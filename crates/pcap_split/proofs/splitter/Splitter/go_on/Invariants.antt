@@ -1,4 +1,4 @@
-use Rattle.std.proofs.Common.{◌≡◌, ℕ, ◌-◌, ◌^◌, ◌≤◌, List}
+use Rattle.std.proofs.Common.{◌≡◌, ℕ, ◌+◌, ◌-◌, ◌^◌, List, length}
 use Rattle.savi_kinds.specs.declared.entry.How.TheVariants as how
 use Rattle.savi_ends.specs.Octets.{Takes}
 use Rattle.pcapng_io.specs.Runs.{Event}
@@ -12,10 +12,11 @@ use Rattle.pcap_split.proofs.splitter.Splitter.go_on.Given as goal
 -- what was read so far was counted and written
 abbrev pub invariant-loop-got : goal.invariant-loop-got
 invariant-loop-got g l = record {
-  later : g.S.Source.faults l.initial.source ≤ g.S.Source.faults l.source;
+  still : g.S.Source.faults l.source ≡ g.S.Source.faults l.initial.source;
   within : IsWithin l.self-inside.reader l.self-inside.counts;
   failed : l.self-inside.reader ≡ Ended how.Failed → l.initial.self-inside.reader ≡ Ended how.Failed;
   split : (gave : List ℕ) × (events : List Event) × Takes (g.S.Source.left l.initial.source) (g.S.Source.left l.source) gave × HasRead l.initial.self-inside.reader l.self-inside.reader gave events
+      × (block_place l.self-inside.reader ≡ block_place l.initial.self-inside.reader + length gave)
       × EachOutput (HasTaken g.K.Sink.written g.K.Sink.faults events) l.initial.outputs l.outputs
       × (tally_of l.self-inside.counts (interfaces_of l.initial.outputs) ≡ tally (tally_of l.initial.self-inside.counts (interfaces_of l.initial.outputs)) events);
 }

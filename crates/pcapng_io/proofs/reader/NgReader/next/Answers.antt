@@ -6,7 +6,7 @@ use Rattle.pcapng_io.specs.ReaderStates.{standing_of, state_at}
 use Rattle.pcapng_io.proofs.reader.NgReader.next.Goals as goal
 
 failed_again : (state : State) → Ended how.Failed ≡ state → HasFailed state state []
-failed_again state is = subst (λ (s : State). HasFailed s s []) is (record { state = refl; taken = (how.Failed, refl) })
+failed_again state is = subst (λ (s : State). HasFailed s s []) is (record { state = refl; taken = (how.Failed, refl); unread = refl })
 
 pub returns-in-Failed-clause-octets : goal.returns-in-Failed-clause-octets
 returns-in-Failed-clause-octets g c =
