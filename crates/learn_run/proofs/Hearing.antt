@@ -1,5 +1,5 @@
 -- What was taken of the input of one port, and what is known of it.
-use Rattle.std.proofs.Common.{◌≡◌, ◌≢◌, ℕ, ◌≤◌, List, [], ◌∷◌, ◌++◌, map, take, true, false, refl, sym, ap, ◌∙◌, subst, arith, append-nil, Option, Some, None, IfSome}
+use Rattle.std.proofs.Common.{◌≡◌, ◌≢◌, ℕ, ◌+◌, ◌≤◌, List, [], ◌∷◌, ◌++◌, length, length-append, map, take, true, false, refl, sym, ap, ◌∙◌, subst, arith, append-nil, Option, Some, None, IfSome}
 use Rattle.std.proofs.lemmas.List.{map-append}
 use Rattle.savi_kinds.specs.declared.port.Port.{Port}
 use Rattle.savi_kinds.specs.declared.entry.Who.TheVariants.{Ingress}
@@ -9,7 +9,7 @@ use Rattle.savi_kinds.specs.Arrivals.{Arrival, Input}
 use Rattle.savi_kinds.specs.Arrivals as arrivals
 use Rattle.savi_ends.specs.Faults.{Rose}
 use Rattle.savi_ends.specs.Octets.{Takes}
-use Rattle.pcap_io.specs.Readers.{State, Comes, HasRead}
+use Rattle.pcap_io.specs.Readers.{State, Comes, HasRead, longest_record, record_place}
 use Rattle.pcap_io.specs.Runs.{ended}
 use Rattle.savi_history.specs.Fits.{IsWhole, IsBroken}
 use Rattle.savi_history.specs.Turns.{Turn, Arrives, Ends, turns}
@@ -21,6 +21,7 @@ use Rattle.port_worker.specs.PortTurns.{ahead_passed}
 use Rattle.port_worker.specs.Replays.{IsUnread}
 use Rattle.port_worker.specs.Served.{AreInput, IsInputOf}
 use Rattle.port_worker.proofs.FaultCounts.{rose_later, rose_before}
+use Rattle.port_worker.proofs.Fitting.{IsNear}
 use Rattle.port_worker.proofs.Joining.{front_none, takes_twice, read_twice, read_behind}
 use Rattle.learn_run.specs.Learning.{IsHeard}
 use Rattle.learn_run.proofs.Telling.{input_of, input_again}
@@ -47,6 +48,7 @@ pub record Hears {S K C : Type 0} (left : S → Option (List ℕ)) (faults : S �
   pub gave : List ℕ
   pub takes : Takes (left old.ends.source) (left new.ends.source) gave
   pub fits : FitsAhead old.reader new.reader gave new.buf (left old.ends.source) (left new.ends.source) came ending new.ahead
+  pub near : IsNear old.reader new.reader gave ending new.ahead
   pub sound : IsSoundAhead new.reader new.ahead
   pub port : new.port ≡ old.port
   pub sink : new.ends.sink ≡ old.ends.sink
@@ -67,6 +69,7 @@ hears_start left faults p unread = record {
   gave = [];
   takes = sym (front_none (left p.ends.source));
   fits = rw unread.0 (refl, λ seen rest later ending comes. comes);
+  near = subst (λ (a : Ahead). IsNear p.reader p.reader [] None a) (sym unread.0) (omega arith);
   sound = rw unread.0 unread.1;
   port = refl;
   sink = refl;
@@ -101,6 +104,17 @@ read_more first mid now one two buf came ending a b c ahead.Failed take_one take
     (none, record { gave = one ++ two; takes = takes_twice a b c one two take_one take_two; read = read_behind first mid false one two came hows.Failed read is.taken })
 read_more first mid now one two buf came ending a b c ahead.Done take_one take_two none read is = absurd is
 
+near_more : (first old new : State) (one two buf : List ℕ) (left : Option (List ℕ)) (ending : Option How) (a : Ahead) → record_place old ≡ record_place first + length one → IsReadAs old new two buf left a → IsNear first new (one ++ two) ending a
+near_more first old new one two buf left ending ahead.Unread taken is = absurd is
+near_more first old new one two buf left ending (ahead.Frame stamp len) taken is =
+    let now : record_place new ≡ record_place old + length two = ap record_place is.running.1 in omega (arith, now, taken, length-append one two)
+near_more first old new one two buf left ending (ahead.Long stamp len) taken is =
+    let now : record_place new ≡ record_place old + length two = ap record_place is.running.1 in omega (arith, now, taken, length-append one two)
+near_more first old new one two buf left ending ahead.End taken is = tt
+near_more first old new one two buf left ending (ahead.Malformed at) taken is = let few = is.near at refl in omega (arith, few, taken, length-append one two)
+near_more first old new one two buf left ending ahead.Failed taken is = tt
+near_more first old new one two buf left ending ahead.Done taken is = absurd is
+
 hears_known : {S K C : Type 0} (left : S → Option (List ℕ)) (faults : S → ℕ) (first old new : PortEnds S K C) (taken : List Turn) (a : Ahead) → old.ahead ≡ a → IsReadAhead a → (IsReadAhead old.ahead → new ≡ old) → Hears left faults first old taken → Hears left faults first new taken
 hears_known {S} {K} {C} left faults first old new taken a is known same h = subst (λ (p : PortEnds S K C). Hears left faults first p taken) (sym (same (subst IsReadAhead (sym is) known))) h
 
@@ -119,6 +133,8 @@ look_at left faults first old new taken ahead.Unread is looked h =
       gave = h.gave ++ more.0;
       takes = takes_twice (left first.ends.source) (left old.ends.source) (left new.ends.source) h.gave more.0 h.takes more.1;
       fits = read_more first.reader old.reader new.reader h.gave more.0 new.buf h.came h.ending (left first.ends.source) (left old.ends.source) (left new.ends.source) new.ahead h.takes more.1 fits.0 fits.1 more.2;
+      near = near_more first.reader old.reader new.reader h.gave more.0 new.buf (left new.ends.source) h.ending new.ahead
+          (subst (λ (b : Ahead). IsNear first.reader old.reader h.gave h.ending b) is h.near) more.2;
       sound = looked.sound;
       port = looked.port ∙ h.port;
       sink = looked.sink ∙ h.sink;
@@ -146,6 +162,12 @@ same_turn t u is = cc
 failed_ending : (how : How) → Some how ≡ Some hows.Failed → how ≡ hows.Failed
 failed_ending how is = cc
 
+same_ending : (how : How) (at : ℕ) → Some how ≡ Some (hows.Malformed at) → how ≡ hows.Malformed at
+same_ending how at is = cc
+
+same_place : (one other : ℕ) → hows.Malformed one ≡ hows.Malformed other → one ≡ other
+same_place one other is = cc
+
 none_ending : (e : Option How) → e ≡ None → e ≢ Some hows.Failed
 none_ending e none some = cc
 
@@ -163,15 +185,16 @@ module _ {S K C : Type 0} (left : S → Option (List ℕ)) (faults : S → ℕ) 
       ∙ sym (map-append (λ a. Arrives first.port a) h.came (arrival ∷ []))
       ∙ sym (append-nil (map (λ a. Arrives first.port a) (h.came ++ arrival ∷ [])))
 
-  arrival_passed : (arrival : Arrival) → turn ≡ Arrives old.port arrival → h.ending ≡ None → HasRead first.reader old.reader h.gave (h.came ++ arrival ∷ []) → IsReadable old.reader → old.ahead ≢ ahead.Failed
+  arrival_passed : (arrival : Arrival) → turn ≡ Arrives old.port arrival → h.ending ≡ None → HasRead first.reader old.reader h.gave (h.came ++ arrival ∷ []) → record_place old.reader ≡ record_place first.reader + length h.gave → IsReadable old.reader → old.ahead ≢ ahead.Failed
       → Hears left faults first (passed ahead.Unread) (taken ++ turn ∷ [])
-  arrival_passed arrival is none read readable other = record {
+  arrival_passed arrival is none read near readable other = record {
     came = h.came ++ arrival ∷ [];
     ending = None;
     taken_is = arrival_taken arrival is none;
     gave = h.gave;
     takes = h.takes;
     fits = (refl, read);
+    near = near;
     sound = readable;
     port = h.port;
     sink = h.sink;
@@ -190,15 +213,16 @@ module _ {S K C : Type 0} (left : S → Option (List ℕ)) (faults : S → ℕ) 
       ∙ ap (λ (l : List Turn). l ++ turn ∷ []) (append-nil (map (λ a. Arrives first.port a) h.came))
       ∙ ap (λ (t : Turn). map (λ a. Arrives first.port a) h.came ++ t ∷ []) (is ∙ ap (λ (p : Port). Ends (Ingress p) how) h.port)
 
-  ending_passed : (how : How) → turn ≡ Ends (Ingress old.port) how → h.ending ≡ None → IsInputOf (Comes first.reader) (left first.ends.source) (left old.ends.source) (Some how) h.came how → (how ≡ hows.Failed → old.ahead ≡ ahead.Failed) → (old.ahead ≡ ahead.Failed → how ≡ hows.Failed)
+  ending_passed : (how : How) → turn ≡ Ends (Ingress old.port) how → h.ending ≡ None → IsInputOf (Comes first.reader) (left first.ends.source) (left old.ends.source) (Some how) h.came how → ((at : ℕ) → how ≡ hows.Malformed at → length h.gave ≤ at + longest_record) → (how ≡ hows.Failed → old.ahead ≡ ahead.Failed) → (old.ahead ≡ ahead.Failed → how ≡ hows.Failed)
       → Hears left faults first (passed ahead.Done) (taken ++ turn ∷ [])
-  ending_passed how is none whole fails failing = record {
+  ending_passed how is none whole few fails failing = record {
     came = h.came;
     ending = Some how;
     taken_is = ending_taken how is none;
     gave = h.gave;
     takes = h.takes;
     fits = (how, refl, whole);
+    near = λ at ended_so. few at (same_ending how at ended_so);
     sound = tt;
     port = h.port;
     sink = h.sink;
@@ -212,27 +236,31 @@ module _ {S K C : Type 0} (left : S → Option (List ℕ)) (faults : S → ℕ) 
   abbrev FitsSo : Ahead → Type 0
   FitsSo a = FitsAhead first.reader old.reader h.gave old.buf (left first.ends.source) (left old.ends.source) h.came h.ending a
 
+  abbrev NearSo : Ahead → Type 0
+  NearSo a = IsNear first.reader old.reader h.gave h.ending a
+
   pass_at : (a : Ahead) → old.ahead ≡ a → turn_ahead old.port old.buf a ≡ Some turn → Hears left faults first (passed (ahead_passed a)) (taken ++ turn ∷ [])
   pass_at ahead.Unread a_is is = cc
   pass_at (ahead.Frame stamp len) a_is is =
       let fits : FitsSo (ahead.Frame stamp len) = subst (λ (b : Ahead). FitsSo b) a_is h.fits in
       let sound : IsSoundAhead old.reader (ahead.Frame stamp len) = subst (λ (b : Ahead). IsSoundAhead old.reader b) a_is h.sound in
       let arrival = arrivals.Frame stamp (take len old.buf) in
-      arrival_passed arrival (same_turn (Arrives old.port arrival) turn is) fits.0 fits.1 sound.1 (λ failed. let e : ahead.Frame stamp len ≡ ahead.Failed = sym a_is ∙ failed in cc)
+      arrival_passed arrival (same_turn (Arrives old.port arrival) turn is) fits.0 fits.1 (subst (λ (b : Ahead). NearSo b) a_is h.near) sound.1 (λ failed. let e : ahead.Frame stamp len ≡ ahead.Failed = sym a_is ∙ failed in cc)
   pass_at (ahead.Long stamp len) a_is is =
       let fits : FitsSo (ahead.Long stamp len) = subst (λ (b : Ahead). FitsSo b) a_is h.fits in
       let sound : IsSoundAhead old.reader (ahead.Long stamp len) = subst (λ (b : Ahead). IsSoundAhead old.reader b) a_is h.sound in
       let arrival = arrivals.Long stamp len in
-      arrival_passed arrival (same_turn (Arrives old.port arrival) turn is) fits.0 fits.1 sound.1 (λ failed. let e : ahead.Long stamp len ≡ ahead.Failed = sym a_is ∙ failed in cc)
+      arrival_passed arrival (same_turn (Arrives old.port arrival) turn is) fits.0 fits.1 (subst (λ (b : Ahead). NearSo b) a_is h.near) sound.1 (λ failed. let e : ahead.Long stamp len ≡ ahead.Failed = sym a_is ∙ failed in cc)
   pass_at ahead.End a_is is =
       let fits : FitsSo ahead.End = subst (λ (b : Ahead). FitsSo b) a_is h.fits in
-      ending_passed hows.End (same_turn (Ends (Ingress old.port) hows.End) turn is) fits.0 fits.1 (λ failed. cc) (λ failed. let e : ahead.End ≡ ahead.Failed = sym a_is ∙ failed in cc)
+      ending_passed hows.End (same_turn (Ends (Ingress old.port) hows.End) turn is) fits.0 fits.1 (λ at same. cc) (λ failed. cc) (λ failed. let e : ahead.End ≡ ahead.Failed = sym a_is ∙ failed in cc)
   pass_at (ahead.Malformed at) a_is is =
       let fits : FitsSo (ahead.Malformed at) = subst (λ (b : Ahead). FitsSo b) a_is h.fits in
-      ending_passed (hows.Malformed at) (same_turn (Ends (Ingress old.port) (hows.Malformed at)) turn is) fits.0 fits.1 (λ failed. cc) (λ failed. let e : ahead.Malformed at ≡ ahead.Failed = sym a_is ∙ failed in cc)
+      let near : length h.gave ≤ at + longest_record = subst (λ (b : Ahead). NearSo b) a_is h.near in
+      ending_passed (hows.Malformed at) (same_turn (Ends (Ingress old.port) (hows.Malformed at)) turn is) fits.0 fits.1 (λ place same. let e = same_place at place same in omega (arith, near, e)) (λ failed. cc) (λ failed. let e : ahead.Malformed at ≡ ahead.Failed = sym a_is ∙ failed in cc)
   pass_at ahead.Failed a_is is =
       let fits : FitsSo ahead.Failed = subst (λ (b : Ahead). FitsSo b) a_is h.fits in
-      ending_passed hows.Failed (same_turn (Ends (Ingress old.port) hows.Failed) turn is) fits.0 (refl, fits.1) (λ failed. a_is) (λ failed. refl)
+      ending_passed hows.Failed (same_turn (Ends (Ingress old.port) hows.Failed) turn is) fits.0 (refl, fits.1) (λ at same. cc) (λ failed. a_is) (λ failed. refl)
   pass_at ahead.Done a_is is = cc
 
 pub hears_passed : {S K C : Type 0} (left : S → Option (List ℕ)) (faults : S → ℕ) (first old new : PortEnds S K C) (taken : List Turn) (turn : Turn) → turn_of old ≡ Some turn → new ≡ record old { ahead = ahead_passed old.ahead } → Hears left faults first old taken → Hears left faults first new (taken ++ turn ∷ [])
@@ -262,6 +290,7 @@ module _ {S K C : Type 0} (left : S → Option (List ℕ)) (faults : S → ℕ) 
   heard = subst (λ (i : Input). IsHeard left faults (Comes first.reader) i first.ends old.ends) (sym input_is) (record {
     gave = fits_done.2;
     takes = (h.gave, h.takes);
+    near = λ at malformed. (h.gave, h.takes, subst (λ (a : Ahead). IsNear first.reader old.reader h.gave h.ending a) done h.near at (fits_done.1 ∙ ap (λ (w : How). Some w) malformed));
     sink = h.sink;
     clock = h.clock;
     later = h.later;

@@ -167,7 +167,7 @@ module _ {S K C O : Type 0} (left : S → Option (List ℕ)) (source_faults : S 
     room = let none = ap (λ (l : List Ending). length l) begun.1.none in let all = undone_first first unread in omega arith;
     capacity = omega arith;
     tells = λ window is. is.tells;
-    wrote = λ window is. rw is.put (record { took = behind_none (written out); later = omega arith; cause = λ failed. cc });
+    wrote = λ window is. rw is.put (record { took = behind_none (written out); later = omega arith; cause = λ failed. cc; still = λ done. refl });
   }
 
   module _ (ports looked : List (PortEnds S K C)) (new : Learning) (out' : O) (r : Runs ports new out') (look : EachPair (IsLooked left source_faults) ports looked) where

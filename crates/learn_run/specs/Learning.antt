@@ -1,5 +1,5 @@
 -- What learning from the inputs of ports was to their ends, and to the sink that took its text.
-use Rattle.std.specs.Prelude.{◌≡◌, ◌≢◌, ℕ, ◌<◌, ◌≤◌, Bool, List, length, slice_index, slice_index_or, Option, Some}
+use Rattle.std.specs.Prelude.{◌≡◌, ◌≢◌, ℕ, ◌+◌, ◌<◌, ◌≤◌, Bool, List, length, slice_index, slice_index_or, Option, Some}
 use Rattle.savi_kinds.specs.declared.plan.Plan.{Plan}
 use Rattle.savi_kinds.specs.declared.entry.How.TheVariants as hows
 use Rattle.savi_kinds.specs.Arrivals.{Input}
@@ -8,18 +8,21 @@ use Rattle.savi_ends.specs.declared.sink.Put.{Put}
 use Rattle.savi_ends.specs.declared.world.Ends.{Ends}
 use Rattle.savi_ends.specs.Faults.{Rose}
 use Rattle.savi_ends.specs.Octets.{Takes}
-use Rattle.pcap_io.specs.Readers.{Comes}
+use Rattle.pcap_io.specs.Readers.{Comes, longest_record}
 use Rattle.port_worker.specs.declared.port_ends.PortEnds.{PortEnds}
 use Rattle.port_worker.specs.Served.{IsInputOf}
+use Rattle.port_worker.specs.Used.{GaveFew}
 use Rattle.ra_learn.specs.Reports.{Wrote}
 use Rattle.learn_run.specs.declared.learning.Ending.{Ending}
 use Rattle.learn_run.specs.Turns.{endings_of, learned_text, turns_in_order}
 
 -- What an input was to the ends of its port. The octets of the source are the input, up to the read that failed where one
--- did; that was a fault of this source, and there was no other. The sink and the clock weren't touched.
+-- did; that was a fault of this source, and there was no other. From a place at fault on the source gave up no more than one
+-- record may have. The sink and the clock weren't touched.
 pub record IsHeard {S K C : Type 0} (left : S → Option (List ℕ)) (faults : S → ℕ) (Arrives : Bool → List ℕ → Input → Type 0) (input : Input) (old new : Ends S K C) : Type 0 where
   pub gave : IsInputOf Arrives (left old.source) (left new.source) (Some input.ending) input.arrivals input.ending
   pub takes : (octets : List ℕ) × Takes (left old.source) (left new.source) octets
+  pub near : (at : ℕ) → input.ending ≡ hows.Malformed at → GaveFew (left old.source) (left new.source) (at + longest_record)
   pub sink : new.sink ≡ old.sink
   pub clock : new.clock ≡ old.clock
   pub later : faults old.source ≤ faults new.source
@@ -36,7 +39,7 @@ pub record LearnsPorts (plan : Plan) (window : ℕ) (endings : List Ending) (Too
   pub each : (place : ℕ) (i : Input) → place < length plan.ports → Holds place (slice_index (numbers_of plan.ports) place) (slice_index_or inputs place i)
 
 -- the same of ends that are held in the order of the plan, each read on from where its reader stands, and of a sink that
--- took the text, or a front of it where a write failed
+-- took the text, and no write failed, or a front of it where one did
 abbrev pub LearnsEnds : {S K C O : Type 0} → (S → Option (List ℕ)) → (S → ℕ) → (O → Option (List ℕ)) → (O → ℕ) → Plan → ℕ → List Ending → Put → List (PortEnds S K C) → List (PortEnds S K C) → O → O → Type 0
 LearnsEnds {S} {K} {C} {O} left source_faults written faults plan window endings put old new out out' =
     LearnsPorts plan window endings (λ text. Wrote text put (written out) (written out') (faults out) (faults out')) (λ place port input. (d : PortEnds S K C) →

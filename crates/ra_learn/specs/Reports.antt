@@ -19,8 +19,10 @@ pub record HasReported (plan : Plan) (window : ℕ) (arrivals : List PortArrival
   pub knows : HasLearned plan window (seen_of arrivals) reported.learned
   pub moment : reported.moment ≡ last_moment arrivals
 
--- A sink took a text since some time, or a front of it where a write failed; then its count of faults rose.
+-- A sink took a text since some time, and no write of it failed; or it took a front of it before a write that failed, and
+-- then its count of faults rose.
 pub record Wrote (text : List ℕ) (answer : Put) (before now : Option (List ℕ)) (faults_before faults_now : ℕ) : Type 0 where
   pub took : Extends answer before now text
   pub later : faults_before ≤ faults_now
   pub cause : answer ≡ put.Failed → Rose faults_before faults_now
+  pub still : answer ≡ put.Done → faults_now ≡ faults_before

@@ -28,8 +28,8 @@ pub enum Coming<'a> {
     },
 }
 
-/// Learns from arrivals in their order, and writes what is printed of them to a sink. `Failed` is the failure of a write, and
-/// the sink then took a front of it. `Err` is want of memory, before anything was written.
+/// Learns from arrivals in their order, and writes what is printed of them to a sink. `Done` is that no write failed. `Failed`
+/// is the failure of one, and the sink then took a front of it. `Err` is want of memory, before anything was written.
 pub fn learn<K: Sink>(
     alloc: Global,
     plan: &Plan,

@@ -89,8 +89,8 @@ impl Report {
         self.come_to(stamp);
     }
 
-    /// Writes what is known at the last moment. Behind all arrivals the sink then took what is printed of them, or a front
-    /// of it where the answer is `Failed`. O(1): at most 114 lines.
+    /// Writes what is known at the last moment. Behind all arrivals the sink then took what is printed of them, and no write
+    /// failed, or a front of it where the answer is `Failed`. O(1): at most 114 lines.
     pub fn finish<K: Sink>(&mut self, plan: &Plan, sink: &mut K) -> Put
         requires { length plan.now.ports ≤ 16 }
         ensures { (window : ℕ) (arrivals : List PortArrival) (before : Option (List ℕ)) (faults : ℕ) → HasReported plan.now window arrivals self.old
