@@ -13,6 +13,7 @@ pub mod GoodJournals
 pub mod Nameless
 pub mod FeedPlaces
 pub mod Filling
+pub mod Given
 pub mod ShortLines
 pub mod ShortFields
 pub mod FieldsCut

@@ -1,13 +1,17 @@
 -- A text that is read in pieces: what is held of it, what is to come, and what taking a line comes to.
 use Rattle.std.specs.Prelude.{◌≡◌, ◌+◌, ◌<◌, ◌≤◌, ℕ, List, [], ◌∷◌, ◌++◌, length, take, drop, Option, IfSome}
 use Rattle.savi_kinds.specs.Characters.{line_feed}
-use Rattle.savi_ends.specs.Octets.{in_front}
+use Rattle.savi_ends.specs.Octets.{in_front, Takes}
 use Rattle.journal_check.specs.declared.lines.Lines.{Lines}
 use Rattle.journal_check.specs.declared.lines.Cut.{Cut}
 use Rattle.journal_check.specs.declared.lines.Cut.TheVariants as cuts
 use Rattle.journal_check.specs.declared.lines.Taken.{Taken}
 use Rattle.journal_check.specs.declared.lines.Taken.TheVariants as takes
 use Rattle.journal_check.specs.Feeds.{HasNoFeed, BeginsWithNoLine}
+
+-- a source gave up some octets, perhaps none, of those that it had left, the first ones of them
+abbrev pub GaveSome : Option (List ℕ) → Option (List ℕ) → Type 0
+GaveSome before after = (gave : List ℕ) × Takes before after gave
 
 -- the octets that are held
 abbrev pub held_octets : Lines → List ℕ

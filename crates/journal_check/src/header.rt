@@ -5,7 +5,7 @@ ghost use Rattle.savi_ends.specs.Octets.{in_front};
 ghost use Rattle.savi_ends.specs.Faults.{Rose};
 ghost use Rattle.hist_store.specs.TextOfLines.{lines_text};
 ghost use Rattle.hist_store.specs.JournalTexts.{address_text, begin_line, header_lines, journal_header_text};
-ghost use Rattle.journal_check.specs.Pieces.{to_come};
+ghost use Rattle.journal_check.specs.Pieces.{GaveSome, to_come};
 ghost use Rattle.journal_check.specs.Headers.{IsPlan};
 ghost use Rattle.journal_check.specs.SettingLines.{AreSettings, setting_lines};
 ghost use Rattle.journal_check.specs.ListLines.{AreLists, list_lines, plan_by};
@@ -36,6 +36,7 @@ pub fn read_header<S: Source>(
     ensures later { S.faults source.old ≤ S.faults source.new }
     ensures cause { IfErr result (λ judged. judged ≡ Judged.Failed → Rose (S.faults source.old) (S.faults source.new)) }
     ensures still { result ≢ Err Judged.Failed → S.faults source.new ≡ S.faults source.old }
+    ensures gave { GaveSome (S.left source.old) (S.left source.new) }
     ensures plan { IfOk result (λ plan. IsPlan plan
         × (to_come lines.old (S.left source.old) ≡ in_front (journal_header_text address_text plan) (to_come lines.new (S.left source.new)))) }
     ensures bad { IfErr result (λ judged. IfRead (checked_of judged) (IfSome (to_come lines.old (S.left source.old)) (λ octets. IsBadHeader octets (checked_of judged)))) }
@@ -66,6 +67,7 @@ fn read_settings<S: Source>(
     ensures later { S.faults source.old ≤ S.faults source.new }
     ensures cause { IfErr result (λ judged. judged ≡ Judged.Failed → Rose (S.faults source.old) (S.faults source.new)) }
     ensures still { result ≢ Err Judged.Failed → S.faults source.new ≡ S.faults source.old }
+    ensures gave { GaveSome (S.left source.old) (S.left source.new) }
     ensures settings { IfOk result (λ settings. AreSettings settings
         × (to_come lines.old (S.left source.old) ≡ in_front (lines_text (setting_lines settings)) (to_come lines.new (S.left source.new)))) }
     ensures bad { IfErr result (λ judged. IfRead (checked_of judged) (IfSome (to_come lines.old (S.left source.old)) (λ octets. IsBadHeader octets (checked_of judged)))) }
@@ -106,6 +108,7 @@ fn read_lists<S: Source>(
     ensures later { S.faults source.old ≤ S.faults source.new }
     ensures cause { IfErr result (λ judged. judged ≡ Judged.Failed → Rose (S.faults source.old) (S.faults source.new)) }
     ensures still { result ≢ Err Judged.Failed → S.faults source.new ≡ S.faults source.old }
+    ensures gave { GaveSome (S.left source.old) (S.left source.new) }
     ensures lists { IfOk result (λ lists. AreLists lists.ports.items lists.prefixes.items × (0 < length lists.ports.items)
         × (to_come lines.old (S.left source.old) ≡ in_front (lines_text (list_lines lists.ports.items lists.prefixes.items ++ begin_line ∷ [])) (to_come lines.new (S.left source.new)))) }
     ensures bad { IfErr result (λ judged. IfRead (checked_of judged) ((settings : Settings) → AreSettings settings

@@ -54,7 +54,7 @@ impl Lines {
     ghost use Rattle.std.specs.Prelude.{◌≡◌, ◌≢◌, ◌<◌, ◌≤◌, [], length};
     ghost use Rattle.savi_ends.specs.Octets.{NothingLeft};
     ghost use Rattle.savi_ends.specs.Faults.{Rose};
-    ghost use Rattle.journal_check.specs.Pieces.{Cuts, TookLine, held_octets, to_come};
+    ghost use Rattle.journal_check.specs.Pieces.{Cuts, GaveSome, TookLine, held_octets, to_come};
 
     /// A text of which nothing was read yet.
     pub fn new() -> Lines
@@ -73,6 +73,7 @@ impl Lines {
         ensures later { S.faults source.old ≤ S.faults source.new }
         ensures cause { result ≡ Taken.Failed → Rose (S.faults source.old) (S.faults source.new) }
         ensures still { result ≢ Taken.Failed → S.faults source.new ≡ S.faults source.old }
+        ensures gave { GaveSome (S.left source.old) (S.left source.new) }
         ensures taken { TookLine result line.new.items (to_come self.old (S.left source.old)) (to_come self.new (S.left source.new)) }
     {
         line.clear();
@@ -95,6 +96,7 @@ impl Lines {
         ensures later { S.faults source.old ≤ S.faults source.new }
         ensures cause { result ≡ Behind.Failed → Rose (S.faults source.old) (S.faults source.new) }
         ensures still { result ≢ Behind.Failed → S.faults source.new ≡ S.faults source.old }
+        ensures gave { GaveSome (S.left source.old) (S.left source.new) }
         ensures same { to_come self.new (S.left source.new) ≡ to_come self.old (S.left source.old) }
         ensures more { result ≡ Behind.More → self.new.at < self.new.end }
         ensures some { result ≡ Behind.More → 0 < length (held_octets self.new) }

@@ -7,7 +7,7 @@ ghost use Rattle.hist_store.specs.JournalTexts.{address_text, journal_header_tex
 ghost use Rattle.savi_history.specs.Bases.{empty};
 ghost use Rattle.savi_history.specs.Legal.{IsFinished};
 ghost use Rattle.savi_core.specs.Machines.{started};
-ghost use Rattle.journal_check.specs.Pieces.{to_come};
+ghost use Rattle.journal_check.specs.Pieces.{GaveSome, to_come};
 ghost use Rattle.journal_check.specs.Headers.{IsPlan};
 ghost use Rattle.journal_check.specs.Answers.{Ends, HasReadHeader, IfRead, IsAnswer, IsAnswerBehind, next_line};
 ghost use Rattle.journal_check.specs.Judging.{checked_of};
@@ -33,6 +33,7 @@ pub fn check<S: Source>(alloc: Global, source: &mut S) -> Checked
     ensures later { S.faults source.old ≤ S.faults source.new }
     ensures cause { result ≡ Checked.Failed → Rose (S.faults source.old) (S.faults source.new) }
     ensures still { result ≢ Checked.Failed → S.faults source.new ≡ S.faults source.old }
+    ensures gave { GaveSome (S.left source.old) (S.left source.new) }
     ensures memory { result ≡ Checked.NoMemory → (source.new ≡ source.old) ⊎ HasReadHeader (S.left source.old) (S.left source.new) }
     ensures answer { IfRead result (IfSome (S.left source.old) (λ octets. IsAnswer octets result)) }
     ensures only { IfRead result (IfSome (S.left source.old) (λ octets. (answer : Checked) → IsAnswer octets answer → result ≡ answer)) }
@@ -55,6 +56,7 @@ fn check_behind<S: Source>(alloc: Global, plan: Plan, lines: &mut Lines, source:
     ensures later { S.faults source.old ≤ S.faults source.new }
     ensures cause { result ≡ Checked.Failed → Rose (S.faults source.old) (S.faults source.new) }
     ensures still { result ≢ Checked.Failed → S.faults source.new ≡ S.faults source.old }
+    ensures gave { GaveSome (S.left source.old) (S.left source.new) }
     ensures memory { result ≡ Checked.NoMemory → (source.new ≡ source.old) × (lines.new ≡ lines.old) }
     ensures answer { IfRead result (IfSome (in_front (journal_header_text address_text plan) (to_come lines.old (S.left source.old)))
         (λ octets. IsAnswerBehind octets result)) }
@@ -90,6 +92,7 @@ fn check_entries<S: Source>(
     ensures later { S.faults source.old ≤ S.faults source.new }
     ensures cause { result ≡ Judged.Failed → Rose (S.faults source.old) (S.faults source.new) }
     ensures still { result ≢ Judged.Failed → S.faults source.new ≡ S.faults source.old }
+    ensures gave { GaveSome (S.left source.old) (S.left source.new) }
     ensures answer { IfRead (checked_of result) (IfSome (in_front (journal_header_text address_text core.old.plan) (to_come lines.old (S.left source.old)))
         (λ octets. IsAnswerBehind octets (checked_of result))) }
 {
@@ -132,6 +135,7 @@ fn finish<S: Source>(core: &Core, lines: &mut Lines, source: &mut S) -> Judged
     ensures later { S.faults source.old ≤ S.faults source.new }
     ensures cause { result ≡ Judged.Failed → Rose (S.faults source.old) (S.faults source.new) }
     ensures still { result ≢ Judged.Failed → S.faults source.new ≡ S.faults source.old }
+    ensures gave { GaveSome (S.left source.old) (S.left source.new) }
     ensures ends { Ends core.now.plan core.now.past (to_come lines.old (S.left source.old)) (checked_of result) }
 {
     let entries = core.history().len();

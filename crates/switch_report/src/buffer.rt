@@ -38,7 +38,7 @@ impl Buffer {
     }
 
     /// Adds a piece. Where there is no room for it, what waits is written first, in one piece. `Failed` is the failure
-    /// of that write, and a front of what waited was written. O(n) in the octets.
+    /// of that write, and a front of what waited was written; where no write failed, the answer is `Done`. O(n) in the octets.
     pub fn put<K: Sink>(&mut self, sink: &mut K, piece: &[u8]) -> Put
         requires { length piece.now ≤ self.old.room }
         ensures room { self.new.room ≡ self.old.room }
@@ -46,6 +46,7 @@ impl Buffer {
         ensures part { result ≡ Put.Failed → Extends Put.Failed (K.written sink.old) (K.written sink.new) self.old.octets }
         ensures later { K.faults sink.old ≤ K.faults sink.new }
         ensures cause { result ≡ Put.Failed → Rose (K.faults sink.old) (K.faults sink.new) }
+        ensures still { result ≡ Put.Done → K.faults sink.new ≡ K.faults sink.old }
     {
         if piece.len() > self.room - self.octets.len() {
             match self.flush(sink) {
@@ -57,13 +58,14 @@ impl Buffer {
         Put::Done
     }
 
-    /// Writes what waits, in one piece. Then nothing waits, also where the write failed.
+    /// Writes what waits, in one piece. Then nothing waits, also where the write failed. `Done` is that no write failed.
     pub fn flush<K: Sink>(&mut self, sink: &mut K) -> Put
         ensures room { self.new.room ≡ self.old.room }
         ensures emptied { self.new.octets ≡ [] }
         ensures extends { Extends result (K.written sink.old) (K.written sink.new) self.old.octets }
         ensures later { K.faults sink.old ≤ K.faults sink.new }
         ensures cause { result ≡ Put.Failed → Rose (K.faults sink.old) (K.faults sink.new) }
+        ensures still { result ≡ Put.Done → K.faults sink.new ≡ K.faults sink.old }
     {
         let put = sink.write(self.octets.as_slice());
         self.octets.clear();

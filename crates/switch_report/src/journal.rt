@@ -21,8 +21,9 @@ use savi_ends::{Put, Sink};
 use savi_kinds::{Plan, PrefixPlan};
 
 /// Writes the journal (`docs/FORMATS.md`) of a plan and of its history: in pieces of at most the buffer's size.
-/// Where a write fails, a front of the journal was written. The journal tells this plan, but for its names, and this
-/// history, and no other (`savi_history::journals_tell_one_history`). O(n) in the octets of the journal.
+/// Where a write fails, a front of the journal was written, and the answer is `Failed`. The journal tells this plan, but
+/// for its names, and this history, and no other (`savi_history::journals_tell_one_history`). O(n) in the octets of the
+/// journal.
 pub fn write_journal<K: Sink>(plan: &Plan, hist: &Hist, sink: &mut K, buffer: &mut Buffer) -> Put
     requires valid { IsValidPlan plan.now }
     requires legal { IsLegal plan.now empty (reverse hist.now.rows) }
@@ -32,6 +33,7 @@ pub fn write_journal<K: Sink>(plan: &Plan, hist: &Hist, sink: &mut K, buffer: &m
     ensures tells { IsJournalOf address_text plan.now (reverse hist.now.rows) (journal_text address_text plan.now hist.now.rows) }
     ensures later { K.faults sink.old ≤ K.faults sink.new }
     ensures cause { result ≡ Put.Failed → Rose (K.faults sink.old) (K.faults sink.new) }
+    ensures still { result ≡ Put.Done → K.faults sink.new ≡ K.faults sink.old }
 {
     // The two calls state what the law on journals asks of addresses and octets.
     know_addresses(plan.prefixes.as_slice());
@@ -49,6 +51,7 @@ fn write_text<K: Sink>(plan: &Plan, hist: &Hist, sink: &mut K, buffer: &mut Buff
     ensures extends { Extends result (K.written sink.old) (K.written sink.new) (journal_text address_text plan.now hist.now.rows) }
     ensures later { K.faults sink.old ≤ K.faults sink.new }
     ensures cause { result ≡ Put.Failed → Rose (K.faults sink.old) (K.faults sink.new) }
+    ensures still { result ≡ Put.Done → K.faults sink.new ≡ K.faults sink.old }
 {
     let mut line = JournalLine::new();
     put_header(plan, &mut line);
@@ -82,6 +85,7 @@ fn write_lines<K: Sink>(
     ensures part { result ≡ Put.Failed → Extends Put.Failed (K.written sink.old) (K.written sink.new) (with_lines buffer.old.octets hist.now.rows (length hist.now.rows)) }
     ensures later { K.faults sink.old ≤ K.faults sink.new }
     ensures cause { result ≡ Put.Failed → Rose (K.faults sink.old) (K.faults sink.new) }
+    ensures still { result ≡ Put.Done → K.faults sink.new ≡ K.faults sink.old }
 {
     for n in 0..hist.len() {
         let entry = hist.entry(n);
@@ -103,6 +107,7 @@ fn write_line<K: Sink>(sink: &mut K, buffer: &mut Buffer, line: &[u8]) -> Put
     ensures part { result ≡ Put.Failed → Extends Put.Failed (K.written sink.old) (K.written sink.new) (buffer.old.octets ++ (line.now ++ 10 ∷ [])) }
     ensures later { K.faults sink.old ≤ K.faults sink.new }
     ensures cause { result ≡ Put.Failed → Rose (K.faults sink.old) (K.faults sink.new) }
+    ensures still { result ≡ Put.Done → K.faults sink.new ≡ K.faults sink.old }
 {
     match buffer.put(sink, line) {
         Put::Done => buffer.put(sink, b"\n"),

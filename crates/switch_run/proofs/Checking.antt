@@ -8,6 +8,7 @@ use Rattle.journal_check.specs.declared.answer.Checked.{Checked}
 use Rattle.journal_check.specs.declared.answer.Checked.TheVariants.{Good, Wrong, BadLine, Failed, NoMemory}
 use Rattle.journal_check.specs.Answers.{HasReadHeader, IfRead, IsAnswer}
 use Rattle.journal_check.specs.Laws.{IsFinishedJournal}
+use Rattle.journal_check.specs.Pieces.{GaveSome}
 use Rattle.switch_report.specs.RunLines.{cannot_open_line, memory_line, read_failed_line}
 use Rattle.switch_run.specs.Causes.{IsOneOf, IsUnserved, Keeps, TookOrPart, quiet_statuses, statuses}
 use Rattle.switch_run.specs.Checks.{IsAnswered, IsCheckRun, IsCheckedUnopened, IsJudged, IsKept, IsTextRead, check_line, check_status}
@@ -30,7 +31,7 @@ by_line P answer status false read zero four six is = subst P (sym is) six
 
 module _ {S K C : Type 0} (left : S → Option (List ℕ)) (written : K → Option (List ℕ)) (source_faults : S → ℕ) (sink_faults : K → ℕ) (file : List ℕ) (Says : List ℕ → Type 0) (old new : Book S K C) (status : ℕ) (run : IsCheckRun left written source_faults sink_faults file Says old new status) where
   abbrev Did : Type 0
-  Did = IsCheckedUnopened file Says old new status ⊎ (IsKept source_faults file old new × IsJudged left written source_faults sink_faults file Says old new status)
+  Did = IsCheckedUnopened file Says old new status ⊎ (IsKept left source_faults file old new × IsJudged left written source_faults sink_faults file Says old new status)
 
   by_did : (P : ℕ → Type 0) → Did → P 0 → P 1 → P 4 → P 5 → P 6 → P 7 → P status
   by_did P (inl unopened) zero one four five six seven = subst P (sym unopened.status_is) seven
@@ -132,11 +133,11 @@ module _ {S K C : Type 0} (left : S → Option (List ℕ)) (written : K → Opti
     cause = answered.cause;
   }))
 
-  moved_kept : IsKept source_faults file b1 b2 → IsKept source_faults file b0 b3
-  moved_kept kept = moved_source (λ told back. source_faults told ≤ source_faults back) kept
+  moved_kept : IsKept left source_faults file b1 b2 → IsKept left source_faults file b0 b3
+  moved_kept kept = moved_source (λ told back. (source_faults told ≤ source_faults back) × GaveSome (left told) (left back)) kept
 
-  moved_check : IsCheckedUnopened file (ToldBy sink_faults written e e') b1 b2 status ⊎ (IsKept source_faults file b1 b2 × IsJudged left written source_faults sink_faults file (ToldBy sink_faults written e e') b1 b2 status)
-      → IsCheckedUnopened file (WasTold sink_faults written b0 b3) b0 b3 status ⊎ (IsKept source_faults file b0 b3 × IsJudged left written source_faults sink_faults file (WasTold sink_faults written b0 b3) b0 b3 status)
+  moved_check : IsCheckedUnopened file (ToldBy sink_faults written e e') b1 b2 status ⊎ (IsKept left source_faults file b1 b2 × IsJudged left written source_faults sink_faults file (ToldBy sink_faults written e e') b1 b2 status)
+      → IsCheckedUnopened file (WasTold sink_faults written b0 b3) b0 b3 status ⊎ (IsKept left source_faults file b0 b3 × IsJudged left written source_faults sink_faults file (WasTold sink_faults written b0 b3) b0 b3 status)
   moved_check (inl unopened) = inl (record {
     status_is = unopened.status_is;
     fault = ran_open b0 b1 b2 b3 e e' ran unopened.fault;

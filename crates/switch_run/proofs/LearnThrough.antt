@@ -32,7 +32,7 @@ use Rattle.switch_run.proofs.Through.{Handled, element, keeps_at, keeps_of, numb
 
 -- what a sink took of a text, by whether a write failed
 pub took_by : {K : Type 0} (written : K → Option (List ℕ)) (faults : K → ℕ) (put : Put) (text : List ℕ) (old new : K) → Wrote text put (written old) (written new) (faults old) (faults new) → TookOrPart faults written (is_done put) text old new
-took_by written faults puts.Done text old new wrote = wrote.took
+took_by written faults puts.Done text old new wrote = (wrote.took, wrote.still refl)
 took_by written faults puts.Failed text old new wrote =
     let rose : Rose (faults old) (faults new) = wrote.cause refl in
     (omega (arith, rose), wrote.took)

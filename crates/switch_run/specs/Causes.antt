@@ -65,9 +65,9 @@ pub record Keeps {X : Type 0} (Holds : X → X → Type 0) (old new : Place X) :
   pub kept : new.stands ≡ Some back
   pub holds : Holds handed back
 
--- A sink took these octets, or a front of them before a write of them failed.
+-- A sink took these octets, and no write of it failed meanwhile; or it took a front of them before a write of them failed.
 abbrev pub TookOrPart : {K : Type 0} → (K → ℕ) → (K → Option (List ℕ)) → Bool → List ℕ → K → K → Type 0
-TookOrPart faults written true octets old new = written new ≡ behind (written old) octets
+TookOrPart faults written true octets old new = (written new ≡ behind (written old) octets) × (faults new ≡ faults old)
 TookOrPart faults written false octets old new = (0 < faults new) × ((front : List ℕ) × IsFront front octets × (written new ≡ behind (written old) front))
 
 -- The same of the place of control, live or not, where the plan names its input and output; where it doesn't, no place of

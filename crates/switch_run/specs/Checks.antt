@@ -9,6 +9,7 @@ use Rattle.journal_check.specs.declared.answer.Checked.{Checked}
 use Rattle.journal_check.specs.declared.answer.Checked.TheVariants.{Good, Wrong, BadLine, Failed, NoMemory}
 use Rattle.journal_check.specs.Answers.{HasReadHeader, IsAnswer}
 use Rattle.journal_check.specs.Laws.{IsFinishedJournal}
+use Rattle.journal_check.specs.Pieces.{GaveSome}
 use Rattle.switch_report.specs.CheckLines.{bad_line, good_line, wrong_line}
 use Rattle.switch_report.specs.RunLines.{cannot_open_line, memory_line, read_failed_line}
 use Rattle.switch_run.specs.Causes.{Keeps, TookOrPart}
@@ -78,9 +79,9 @@ pub record IsAnswered {S K C : Type 0} (left : S → Option (List ℕ)) (written
   pub errors : Says []
   pub cause : status ≡ (if line_written then check_status answer else 6)
 
--- the file's source was handed out, and it is kept again
-abbrev pub IsKept : {S K C : Type 0} → (S → ℕ) → List ℕ → Book S K C → Book S K C → Type 0
-IsKept source_faults file old new = Keeps (λ told kept. source_faults told ≤ source_faults kept) (old.inputs file) (new.inputs file)
+-- the file's source was handed out, a front of what it had was read, and it is kept again
+abbrev pub IsKept : {S K C : Type 0} → (S → Option (List ℕ)) → (S → ℕ) → List ℕ → Book S K C → Book S K C → Type 0
+IsKept left source_faults file old new = Keeps (λ told kept. (source_faults told ≤ source_faults kept) × GaveSome (left told) (left kept)) (old.inputs file) (new.inputs file)
 
 -- what came of a file that was opened
 abbrev pub IsJudged : {S K C : Type 0} → (S → Option (List ℕ)) → (K → Option (List ℕ)) → (S → ℕ) → (K → ℕ) → List ℕ → (List ℕ → Type 0) → Book S K C → Book S K C → ℕ → Type 0
@@ -90,6 +91,6 @@ IsJudged left written source_faults sink_faults file Says old new status =
 -- The file could not be opened, or it was checked, and its source is kept. No other input, no output, no port and no end of
 -- control was touched.
 pub record IsCheckRun {S K C : Type 0} (left : S → Option (List ℕ)) (written : K → Option (List ℕ)) (source_faults : S → ℕ) (sink_faults : K → ℕ) (file : List ℕ) (Says : List ℕ → Type 0) (old new : Book S K C) (status : ℕ) : Type 0 where
-  pub did : IsCheckedUnopened file Says old new status ⊎ (IsKept source_faults file old new × IsJudged left written source_faults sink_faults file Says old new status)
+  pub did : IsCheckedUnopened file Says old new status ⊎ (IsKept left source_faults file old new × IsJudged left written source_faults sink_faults file Says old new status)
   pub inputs : OthersStay old.inputs new.inputs file
   pub rest : new ≡ record old { faults = new.faults; inputs = new.inputs; std = new.std }

@@ -7,6 +7,7 @@ use Rattle.journal_check.specs.Pieces.{to_come}
 use Rattle.journal_check.specs.Headers.{IsPlan}
 use Rattle.journal_check.specs.Judging.{checked_of}
 use Rattle.journal_check.proofs.Heading.{bad_lists, plan_is, told_header}
+use Rattle.journal_check.proofs.Given.{gave_more}
 use Rattle.journal_check.proofs.header.read_header.Goals as goal
 
 pub returns-clause-plan : goal.returns-clause-plan
@@ -28,3 +29,9 @@ returns-in_err-lists-clause-bad g c =
     let whole = to_come c.args.lines.now (g.S.Source.left c.args.source.now) in
     let mid = to_come c.read_settings.new.lines (g.S.Source.left c.read_settings.new.source) in
     rw (p.1, p.2) (bad_lists (checked_of c.in_err-lists.field-0.0) c.in_ok-settings.settings whole mid settings.0 settings.1 c.in_err-lists.ensures.bad)
+
+pub returns-clause-gave : goal.returns-clause-gave
+returns-clause-gave g c = gave_more _ _ _ c.read_settings.ensures.gave c.read_lists.ensures.gave
+
+pub returns-in_err-lists-clause-gave : goal.returns-in_err-lists-clause-gave
+returns-in_err-lists-clause-gave g c = gave_more _ _ _ c.read_settings.ensures.gave c.read_lists.ensures.gave

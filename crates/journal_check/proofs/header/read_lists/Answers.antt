@@ -12,6 +12,7 @@ use Rattle.journal_check.specs.Judging.{checked_of}
 use Rattle.journal_check.specs.Answers.{IfRead, IsBadHeader}
 use Rattle.journal_check.proofs.ListsRead.{are_empty, same_lists}
 use Rattle.journal_check.proofs.Heading.{none_told, list_more, all_taken, bad_list, none_listed, broken_next, same_number}
+use Rattle.journal_check.proofs.Given.{gave_more, gave_none}
 use Rattle.journal_check.proofs.header.read_lists.Goals as goal
 
 pub listed-init : goal.listed-init
@@ -19,6 +20,7 @@ listed-init g c =
     let made = c.requires in
     record {
       still = refl;
+      gave = gave_none (g.S.Source.left c.args.source.now);
       are = are_empty c.args.lists.ports.items c.args.lists.prefixes.items made.0 made.1;
       told = none_told c.args.lists.ports.items c.args.lists.prefixes.items (to_come c.args.lines.now (g.S.Source.left c.args.source.now)) made.0 made.1;
     }
@@ -34,6 +36,7 @@ listed-preserved g c =
     let add = subst (λ (t : List ℕ). IsListed t old.ports.items old.prefixes.items new.ports.items new.prefixes.items) c.as_slice.ensures.value c.in-Line-take.ensures in
     record {
       still = c.in-Line.ensures.still (λ same. cc) ∙ was.still;
+      gave = gave_more _ _ _ was.gave c.next.ensures.gave;
       are = add.lists;
       told = list_more c.next.new.line.items old.ports.items old.prefixes.items new.ports.items new.prefixes.items whole mid after was.told c.in-Line.ensures.taken.1 add;
     }
@@ -88,3 +91,15 @@ returns-in-Bad-clause-bad g c =
     subst (λ (a : Checked). IfRead a ((s : Settings) → AreSettings s → IfSome (in_front (lines_text (setting_lines s)) whole) (λ octets. IsBadHeader octets a))) (sym answer)
     (bad_list old.ports.items old.prefixes.items whole mid was.are was.told
     (λ s. none_listed s old.ports.items old.prefixes.items line mid after c.in-Line.ensures.taken.0 was.are not c.in-Line.ensures.taken.1))
+
+pub returns-in-Begin-clause-gave : goal.returns-in-Begin-clause-gave
+returns-in-Begin-clause-gave g c = gave_more _ _ _ c.listed.invariant.gave c.next.ensures.gave
+
+pub returns-in-Broken-clause-gave : goal.returns-in-Broken-clause-gave
+returns-in-Broken-clause-gave g c = gave_more _ _ _ c.listed.invariant.gave c.next.ensures.gave
+
+pub returns-in-Failed-clause-gave : goal.returns-in-Failed-clause-gave
+returns-in-Failed-clause-gave g c = gave_more _ _ _ c.listed.invariant.gave c.next.ensures.gave
+
+pub returns-in-Bad-clause-gave : goal.returns-in-Bad-clause-gave
+returns-in-Bad-clause-gave g c = gave_more _ _ _ c.listed.invariant.gave c.next.ensures.gave

@@ -7,11 +7,13 @@ use Rattle.journal_check.specs.SettingLines.{IsRead, IsNotNext, before}
 use Rattle.journal_check.specs.Answers.{IfRead, IsBadHeader}
 use Rattle.journal_check.proofs.FeedPlaces.{in_front_none}
 use Rattle.journal_check.proofs.Heading.{read_more, bad_header, none_next, broken_next}
+use Rattle.journal_check.proofs.Given.{gave_more, gave_none}
 use Rattle.journal_check.proofs.header.read_settings.Goals as goal
 
 pub loop-number-init : goal.loop-number-init
 loop-number-init g c = record {
   still = refl;
+  gave = gave_none (g.S.Source.left c.args.source.now);
   settings = c.new-settings.ensures;
   told = sym (in_front_none (to_come c.args.lines.now (g.S.Source.left c.args.source.now)));
 }
@@ -28,6 +30,7 @@ loop-number-preserved g c =
     let read = subst (λ (t : List ℕ). IsRead n t old c.read.new.self) c.as_slice.ensures.value (c.read.ensures.read yes) in
     record {
       still = c.in-Line.ensures.still (λ same. cc) ∙ was.still;
+      gave = gave_more _ _ _ was.gave c.next.ensures.gave;
       settings = read.settings;
       told = read_more n c.next.new.line.items old c.read.new.self whole mid after was.told c.in-Line.ensures.taken.1 read;
     }
@@ -61,3 +64,15 @@ returns-then-not-read-clause-bad g c =
     let not = subst (λ (t : List ℕ). IsNotNext n t s) c.as_slice.ensures.value (c.read.ensures.bad no) in
     let none = none_next n s c.next.new.line.items mid after c.in-Line.ensures.taken.0 not c.in-Line.ensures.taken.1 in
     subst (λ (a : Checked). IfRead a (IfSome whole (λ octets. IsBadHeader octets a))) (sym c.bad_setting-then-not-read.ensures) (bad_header n s whole mid was.settings (omega arith) was.told none)
+
+pub returns-in-Broken-clause-gave : goal.returns-in-Broken-clause-gave
+returns-in-Broken-clause-gave g c = gave_more _ _ _ c.loop-number.invariant.gave c.next.ensures.gave
+
+pub returns-in-Failed-clause-gave : goal.returns-in-Failed-clause-gave
+returns-in-Failed-clause-gave g c = gave_more _ _ _ c.loop-number.invariant.gave c.next.ensures.gave
+
+pub returns-then-not-read-clause-gave : goal.returns-then-not-read-clause-gave
+returns-then-not-read-clause-gave g c = gave_more _ _ _ c.loop-number.invariant.gave c.next.ensures.gave
+
+pub returns-clause-gave : goal.returns-clause-gave
+returns-clause-gave g c = c.loop-number.invariant.gave

@@ -8,6 +8,7 @@ use Rattle.journal_check.specs.declared.answer.Checked.{Checked}
 use Rattle.journal_check.specs.Answers.{IfRead, IsBadHeader}
 use Rattle.journal_check.proofs.JudgedAs.{never_memory, failed_is, not_failed}
 use Rattle.journal_check.proofs.HeaderRead.{header_read}
+use Rattle.journal_check.proofs.Given.{gave_more, gave_none}
 use Rattle.journal_check.proofs.reading.check.Goals as goal
 
 pub returns-in-Ok-read_header-clause-answer : goal.returns-in-Ok-read_header-clause-answer
@@ -54,3 +55,9 @@ returns-in-Err-clause-memory g c = λ is. absurd (never_memory c.in-Err.judged (
 
 pub returns-in-Err-clause-cause : goal.returns-in-Err-clause-cause
 returns-in-Err-clause-cause g c = λ is. c.in-Err.ensures.cause (failed_is c.in-Err.judged (sym c.checked.ensures ∙ is))
+
+pub returns-in-Ok-read_header-clause-gave : goal.returns-in-Ok-read_header-clause-gave
+returns-in-Ok-read_header-clause-gave g c = gave_more _ _ _ c.read_header.ensures.gave c.check_behind.ensures.gave
+
+pub returns-in_default-clause-gave : goal.returns-in_default-clause-gave
+returns-in_default-clause-gave g c = gave_none (g.S.Source.left c.args.source.now)

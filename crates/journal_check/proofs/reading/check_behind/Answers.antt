@@ -7,6 +7,7 @@ use Rattle.journal_check.specs.Answers.{IfRead, IsAnswerBehind}
 use Rattle.journal_check.specs.Judging.{checked_of}
 use Rattle.journal_check.specs.declared.answer.Checked.{Checked}
 use Rattle.journal_check.proofs.JudgedAs.{never_memory, failed_is, not_failed}
+use Rattle.journal_check.proofs.Given.{gave_none}
 use Rattle.journal_check.proofs.reading.check_behind.Goals as goal
 
 pub returns-in-Ok-clause-answer : goal.returns-in-Ok-clause-answer
@@ -24,3 +25,6 @@ returns-in-Ok-clause-cause g c = λ is. c.check_entries.ensures.cause (failed_is
 
 pub returns-in-Ok-clause-still : goal.returns-in-Ok-clause-still
 returns-in-Ok-clause-still g c = λ other. c.check_entries.ensures.still (not_failed c.check_entries.result (λ is. other (c.checked.ensures ∙ is)))
+
+pub returns-in-Err-clause-gave : goal.returns-in-Err-clause-gave
+returns-in-Err-clause-gave g c = gave_none (g.S.Source.left c.args.source.now)

@@ -17,6 +17,7 @@ use Rattle.journal_check.specs.Turns.{SaysWrong, SaysNothing, MadeTurn}
 use Rattle.journal_check.specs.declared.answer.Checked.{Checked}
 use Rattle.journal_check.specs.declared.answer.Checked.TheVariants.{Wrong, BadLine}
 use Rattle.journal_check.proofs.Entries.{kept_more, answered_if, judged_wrong, judged_bad, judged_broken, judged_last}
+use Rattle.journal_check.proofs.Given.{gave_more, gave_none}
 use Rattle.journal_check.proofs.reading.check_entries.Goals as goal
 
 pub entries-init : goal.entries-init
@@ -25,6 +26,7 @@ entries-init g c =
     let rest = to_come c.args.lines.now (g.S.Source.left c.args.source.now) in
     record {
       still = refl;
+      gave = gave_none (g.S.Source.left c.args.source.now);
       plan = refl;
       legal = subst (λ (past : List Row). IsLegal m.plan empty past) (sym c.requires.start) tt;
       bytes = subst AreOctets (sym c.requires.start) (All-nil (λ (r : Row). IsBytes r.octets));
@@ -40,6 +42,7 @@ entries-preserved g c =
     (subst (λ (line : List ℕ). MadeTurn c.entries.core line c.take_turn.new.core Stands) c.as_slice.ensures.value c.in-Stands.ensures) in
     record {
       still = c.in-Line.ensures.still (λ same. cc) ∙ was.still;
+      gave = gave_more _ _ _ was.gave c.next.ensures.gave;
       plan = kept.plan ∙ was.plan;
       legal = kept.legal;
       bytes = kept.bytes;
@@ -105,3 +108,18 @@ returns-in-Bad-clause-answer g c =
     subst (λ (a : Checked). IfRead a (IfSome whole (λ octets. IsAnswerBehind octets a))) (sym bad)
     (answered_if m.plan m.past whole before (BadLine (next_line m.plan m.past)) plan_is was.legal was.bytes was.told
     (judged_bad m.plan m.past c.next.new.line.items before after c.in-Line.ensures.taken.1 c.in-Line.ensures.taken.0 nothing))
+
+pub returns-in-Broken-clause-gave : goal.returns-in-Broken-clause-gave
+returns-in-Broken-clause-gave g c = gave_more _ _ _ c.entries.invariant.gave c.next.ensures.gave
+
+pub returns-in-Failed-clause-gave : goal.returns-in-Failed-clause-gave
+returns-in-Failed-clause-gave g c = gave_more _ _ _ c.entries.invariant.gave c.next.ensures.gave
+
+pub returns-in-Wrong-clause-gave : goal.returns-in-Wrong-clause-gave
+returns-in-Wrong-clause-gave g c = gave_more _ _ _ c.entries.invariant.gave c.next.ensures.gave
+
+pub returns-in-Bad-clause-gave : goal.returns-in-Bad-clause-gave
+returns-in-Bad-clause-gave g c = gave_more _ _ _ c.entries.invariant.gave c.next.ensures.gave
+
+pub returns-in-Last-clause-gave : goal.returns-in-Last-clause-gave
+returns-in-Last-clause-gave g c = gave_more _ _ _ (gave_more _ _ _ c.entries.invariant.gave c.next.ensures.gave) c.finish.ensures.gave

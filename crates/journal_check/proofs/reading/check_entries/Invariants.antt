@@ -4,7 +4,7 @@ use Rattle.hist_store.specs.JournalTexts.{address_text, journal_header_text}
 use Rattle.savi_history.specs.Bases.{empty}
 use Rattle.savi_history.specs.Legal.{IsLegal}
 use Rattle.savi_history.proofs.Telling.{AreOctets}
-use Rattle.journal_check.specs.Pieces.{to_come}
+use Rattle.journal_check.specs.Pieces.{GaveSome, to_come}
 use Rattle.journal_check.specs.Answers.{past_text}
 use Rattle.journal_check.proofs.reading.check_entries.Given as goal
 
@@ -12,6 +12,7 @@ use Rattle.journal_check.proofs.reading.check_entries.Given as goal
 abbrev pub invariant-entries : goal.invariant-entries
 invariant-entries g l = record {
   still : g.S.Source.faults l.source ≡ g.S.Source.faults l.initial.source;
+  gave : GaveSome (g.S.Source.left l.initial.source) (g.S.Source.left l.source);
   plan : l.core.plan ≡ l.initial.core.plan;
   legal : IsLegal l.core.plan empty l.core.past;
   bytes : AreOctets l.core.past;

@@ -20,6 +20,7 @@ loop-n-preserved g c =
     record {
       room = c.in-Done.ensures.room ∙ was.room;
       later = omega (arith, was.later, c.in-Done.ensures.later);
+      still = c.in-Done.ensures.still refl ∙ was.still;
       holds = subst
           (λ (t : List ℕ). Holds (g.K.Sink.written c.args.sink.now) (g.K.Sink.written c.write_line.new.sink) c.write_line.new.buffer.octets t)
           (ap (λ (l : List ℕ). text ++ (l ++ 10 ∷ [])) line ∙ with_lines-push c.args.buffer.now.octets c.args.hist.now.rows n row (row_here _ c.entry-entry.result c.octets.result.now c.entry-entry.ensures c.octets.ensures))

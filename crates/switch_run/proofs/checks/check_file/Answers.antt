@@ -30,7 +30,7 @@ returns-in-Good-clause-ran g c =
           back = c.check-checked.new.source;
           told = c.in-Ok.ensures.opens.told;
           kept = ap (λ (b : Book S K C). (b.inputs file).stands) c.write_answer.ensures.rest ∙ c.keep_input.ensures.kept file alone;
-          holds = c.check-checked.ensures.later;
+          holds = (c.check-checked.ensures.later, c.check-checked.ensures.gave);
         },
         inr (inr (answered_with g.W.S.Source.left g.W.K.Sink.written g.W.S.Source.faults g.W.K.Sink.faults file c.args.errors.now c.in-Ok.source c.check-checked.new.source c.check-checked.result (Good c.in-Good.entries) _ b0 b3 (b2.std Out) c.write_answer.result 0
             c.in-Ok.ensures.opens.told c.in-Ok.ensures.opens.fresh (ap (λ (b : Book S K C). (b.inputs file).stands) c.write_answer.ensures.rest ∙ c.keep_input.ensures.kept file alone) c.check-checked.ensures.still
@@ -60,7 +60,7 @@ returns-in-Wrong-clause-ran g c =
           back = c.check-checked.new.source;
           told = c.in-Ok.ensures.opens.told;
           kept = ap (λ (b : Book S K C). (b.inputs file).stands) c.write_answer-in-Wrong.ensures.rest ∙ c.keep_input.ensures.kept file alone;
-          holds = c.check-checked.ensures.later;
+          holds = (c.check-checked.ensures.later, c.check-checked.ensures.gave);
         },
         inr (inr (answered_with g.W.S.Source.left g.W.K.Sink.written g.W.S.Source.faults g.W.K.Sink.faults file c.args.errors.now c.in-Ok.source c.check-checked.new.source c.check-checked.result (Wrong c.in-Wrong.entry c.in-Wrong.want c.in-Wrong.have) _ b0 b3 (b2.std Out) c.write_answer-in-Wrong.result 4
             c.in-Ok.ensures.opens.told c.in-Ok.ensures.opens.fresh (ap (λ (b : Book S K C). (b.inputs file).stands) c.write_answer-in-Wrong.ensures.rest ∙ c.keep_input.ensures.kept file alone) c.check-checked.ensures.still
@@ -90,7 +90,7 @@ returns-in-BadLine-clause-ran g c =
           back = c.check-checked.new.source;
           told = c.in-Ok.ensures.opens.told;
           kept = ap (λ (b : Book S K C). (b.inputs file).stands) c.write_answer-in-BadLine.ensures.rest ∙ c.keep_input.ensures.kept file alone;
-          holds = c.check-checked.ensures.later;
+          holds = (c.check-checked.ensures.later, c.check-checked.ensures.gave);
         },
         inr (inr (answered_with g.W.S.Source.left g.W.K.Sink.written g.W.S.Source.faults g.W.K.Sink.faults file c.args.errors.now c.in-Ok.source c.check-checked.new.source c.check-checked.result (BadLine c.in-BadLine.n) _ b0 b3 (b2.std Out) c.write_answer-in-BadLine.result 4
             c.in-Ok.ensures.opens.told c.in-Ok.ensures.opens.fresh (ap (λ (b : Book S K C). (b.inputs file).stands) c.write_answer-in-BadLine.ensures.rest ∙ c.keep_input.ensures.kept file alone) c.check-checked.ensures.still

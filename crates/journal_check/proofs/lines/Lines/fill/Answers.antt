@@ -1,7 +1,8 @@
-use Rattle.std.proofs.Common.{refl, sym, ◌∙◌, subst, arith}
+use Rattle.std.proofs.Common.{[], refl, sym, ◌∙◌, subst, arith}
 use Rattle.savi_ends.specs.Octets.{NothingLeft}
 use Rattle.journal_check.proofs.FeedPlaces.{in_front_none, some_held}
 use Rattle.journal_check.proofs.Filling.{left_to_come}
+use Rattle.journal_check.proofs.Given.{gave_none}
 use Rattle.journal_check.proofs.lines.Lines.fill.Goals as goal
 
 pub returns-in-Bytes-clause-same : goal.returns-in-Bytes-clause-same
@@ -33,3 +34,15 @@ returns-in-Failed-clause-same g c =
     let left = g.S.Source.left c.read.new.self in
     left_to_come c.read.new.buf m.at m.end left c.if-self.false ∙ sym (in_front_none left) ∙ sym c.in-Failed.ensures.bytes
     ∙ sym (left_to_come m.piece m.at m.end (g.S.Source.left c.args.source.now) c.if-self.false)
+
+pub returns-then-self-clause-gave : goal.returns-then-self-clause-gave
+returns-then-self-clause-gave g c = gave_none (g.S.Source.left c.args.source.now)
+
+pub returns-in-Bytes-clause-gave : goal.returns-in-Bytes-clause-gave
+returns-in-Bytes-clause-gave g c = (_, c.in-Bytes.ensures.bytes)
+
+pub returns-in-End-clause-gave : goal.returns-in-End-clause-gave
+returns-in-End-clause-gave g c = ([], c.in-End.ensures.bytes)
+
+pub returns-in-Failed-clause-gave : goal.returns-in-Failed-clause-gave
+returns-in-Failed-clause-gave g c = ([], c.in-Failed.ensures.bytes)

@@ -3,11 +3,13 @@ use Rattle.savi_ends.specs.Octets.{in_front}
 use Rattle.journal_check.specs.Feeds.{HasNoFeed}
 use Rattle.journal_check.specs.Pieces.{held_octets, to_come}
 use Rattle.journal_check.proofs.FeedPlaces.{plain_append, in_front_none, none_at_end, none_if_long, told_part, told_whole}
+use Rattle.journal_check.proofs.Given.{gave_more, gave_none}
 use Rattle.journal_check.proofs.lines.Lines.next.Goals as goal
 
 pub pieces-init : goal.pieces-init
 pieces-init g c = record {
   still = refl;
+  gave = gave_none (g.S.Source.left c.args.source.now);
   plain = subst HasNoFeed (sym c.clear.ensures) tt;
   told = sym (ap (λ (l : List ℕ). in_front l (to_come c.args.self.now (g.S.Source.left c.args.source.now))) c.clear.ensures ∙ in_front_none (to_come c.args.self.now (g.S.Source.left c.args.source.now)));
 }
@@ -19,6 +21,7 @@ pieces-preserved g c =
     let left = g.S.Source.left c.fill.new.source in
     record {
       still = c.in-More.ensures.still (λ same. cc) ∙ was.still;
+      gave = gave_more _ _ _ was.gave c.fill.ensures.gave;
       plain = subst HasNoFeed (sym cut.2) (plain_append c.pieces.line.items (held_octets c.fill.new.self) was.plain cut.1);
       told = told_part c.pieces.line.items (held_octets c.fill.new.self) (held_octets c.cut.new.self) c.cut.new.line.items (to_come c.args.self.now (g.S.Source.left c.args.source.now)) (to_come c.pieces.self (g.S.Source.left c.pieces.source)) left was.told c.fill.ensures.same cut.2 cut.3;
     }
@@ -53,3 +56,15 @@ pieces-smaller g c =
     let some = cut.0 in
     let fits = cut.4 in
     omega (arith, size, parts, some, fits)
+
+pub returns-in-Whole-clause-gave : goal.returns-in-Whole-clause-gave
+returns-in-Whole-clause-gave g c = gave_more _ _ _ c.pieces.invariant.gave c.fill.ensures.gave
+
+pub returns-in-Nothing-clause-gave : goal.returns-in-Nothing-clause-gave
+returns-in-Nothing-clause-gave g c = gave_more _ _ _ c.pieces.invariant.gave c.fill.ensures.gave
+
+pub returns-in-Failed-clause-gave : goal.returns-in-Failed-clause-gave
+returns-in-Failed-clause-gave g c = gave_more _ _ _ c.pieces.invariant.gave c.fill.ensures.gave
+
+pub returns-in-Long-clause-gave : goal.returns-in-Long-clause-gave
+returns-in-Long-clause-gave g c = gave_more _ _ _ c.pieces.invariant.gave c.fill.ensures.gave

@@ -1,13 +1,14 @@
 use Rattle.std.specs.Prelude.{◌≡◌, ◌≤◌, ◌-◌, length}
 use Rattle.savi_ends.specs.Octets.{in_front}
 use Rattle.journal_check.specs.Feeds.{HasNoFeed}
-use Rattle.journal_check.specs.Pieces.{to_come}
+use Rattle.journal_check.specs.Pieces.{GaveSome, to_come}
 use Rattle.journal_check.proofs.lines.Lines.next.Given as goal
 
 -- what was taken so far is in the buffer, in front of what is to come
 abbrev pub invariant-pieces : goal.invariant-pieces
 invariant-pieces g l = record {
   still : g.S.Source.faults l.source ≡ g.S.Source.faults l.initial.source;
+  gave : GaveSome (g.S.Source.left l.initial.source) (g.S.Source.left l.source);
   plain : HasNoFeed l.line.items;
   told : to_come l.initial.self (g.S.Source.left l.initial.source) ≡ in_front l.line.items (to_come l.self (g.S.Source.left l.source));
 }
