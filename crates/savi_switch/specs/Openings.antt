@@ -1,5 +1,6 @@
 -- What an opening notes of the files that a run has open: a socket is no file.
-use Rattle.std.specs.Prelude.{◌≡◌, false}
+use Rattle.std.specs.Prelude.{◌≡◌, false, Option}
+use Rattle.file_ends.specs.declared.file_id.FileId.{FileId}
 use Rattle.file_ends.specs.declared.file_source.FileSource.{FileSource}
 use Rattle.file_ends.specs.declared.file_sink.FileSink.{FileSink}
 use Rattle.file_ends.specs.Opened.{Opened, is_written, is_open, with_read, with_written}
@@ -22,3 +23,7 @@ IsSinkNoted old new (sink.Socket k) = new ≡ old
 -- the source was noted, and then the sink
 abbrev pub AreEndsNoted : {S K : Type 0} → Opened → Opened → PortSource FileSource S → PortSink FileSink K → Type 0
 AreEndsNoted old new s k = (between : Opened) × IsSourceNoted old between s × IsSinkNoted between new k
+
+-- No ends were opened: no file was noted, or that of the source alone, which wasn't open to be written.
+abbrev pub IsSourceAlone : Opened → Opened → Type 0
+IsSourceAlone old new = (file : Option FileId) × (is_written old file ≡ false) × (new ≡ with_read old file)

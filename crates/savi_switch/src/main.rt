@@ -11,19 +11,22 @@ ghost use Rattle.std.specs.Prelude.{◌≡◌};
 mod opener;
 mod real_world;
 
-use file_ends::FileSink;
+use file_ends::{FileId, FileSink};
 use live_turns::NoGate;
 use real_world::RealWorld;
 use std::alloc::Global;
 use std::env;
+use std::io::ErrorKind;
 use std::process::ExitCode;
 use switch_report::{tell_memory, tell_usage};
 use switch_run::{NO_MEMORY, USAGE, run};
 
 fn main(rt: HostRuntime) -> ExitCode {
     let alloc = rt.alloc();
+    let out = FileId::of_standard_output(&rt);
+    let err = FileId::of_standard_error(&rt);
     let status = match words_of(rt, alloc) {
-        Ok(words) => match RealWorld::make(rt, rt, alloc) {
+        Ok(words) => match RealWorld::make(rt, rt, alloc, out, err) {
             Ok(mut world) => run(&rt, alloc, words.as_slice(), &mut world, &NoGate),
             Err(_) => say_memory(rt),
         },
@@ -35,8 +38,10 @@ fn main(rt: HostRuntime) -> ExitCode {
 // The words behind the program's name. `Err` is the status where there is no memory for them, or where they aren't text and
 // so no form of the command line.
 fn words_of(rt: HostRuntime, alloc: Global) -> Result<Vec<String>, u8> {
-    let Ok(mut arguments) = env::args(&rt) else {
-        return Err(say_usage(rt));
+    let mut arguments = match env::args(&rt) {
+        Ok(arguments) => arguments,
+        Err(cause) if cause.kind() == ErrorKind::OutOfMemory => return Err(say_memory(rt)),
+        Err(_) => return Err(say_usage(rt)),
     };
     let _program = arguments.next();
     match arguments.collect(alloc) {

@@ -1,8 +1,9 @@
 //! What opens the files and sockets of a run.
 
-ghost use Rattle.std.specs.Prelude.{◌≡◌, IfSome, IfOk, IfErr, OnErr};
-ghost use Rattle.file_ends.specs.Opened.{is_written, is_open, IsReason};
-ghost use Rattle.savi_switch.specs.Openings.{IsSourceNoted, IsSinkNoted, AreEndsNoted};
+ghost use Rattle.std.specs.Prelude.{◌≡◌, IfSome, IfNone, IfOk, IfErr, OnErr};
+ghost use Rattle.file_ends.specs.Opened.{nothing_open, with_written, is_written, is_open, IsReason};
+ghost use Rattle.port_ends.specs.MachineClocks.{began_at, last_of};
+ghost use Rattle.savi_switch.specs.Openings.{IsSourceNoted, IsSinkNoted, AreEndsNoted, IsSourceAlone};
 
 use file_ends::{FileId, FileSink, FileSource, NotOpened, OpenFiles};
 use port_ends::{ClockStart, MachineClock, PortSink, PortSource};
@@ -39,10 +40,16 @@ pub struct Opener<R: Files + Net + Wait + Copy + Drop> {
 }
 
 impl<R: Files + Net + Wait + Copy + Drop> Opener<R> {
-    /// With no file open but those that standard output and standard error are sent to.
-    pub fn new(host: HostRuntime, rt: R, alloc: Global) -> Opener<R> {
-        let out = FileId::of_standard_output(&host);
-        let err = FileId::of_standard_error(&host);
+    /// With no file open but those that standard output and standard error are sent to, where these are regular ones.
+    pub fn new(
+        host: HostRuntime,
+        rt: R,
+        alloc: Global,
+        out: Option<FileId>,
+        err: Option<FileId>,
+    ) -> Opener<R>
+        ensures { result.files ≡ with_written (with_written nothing_open out) err }
+    {
         Opener {
             host,
             rt,
@@ -53,7 +60,9 @@ impl<R: Files + Net + Wait + Copy + Drop> Opener<R> {
     }
 
     /// A clock of this run.
-    pub fn clock(&self) -> RealClock {
+    pub fn clock(&self) -> RealClock
+        ensures { last_of result ≡ began_at self.now.start }
+    {
         MachineClock::new(self.host, self.start)
     }
 
@@ -62,6 +71,7 @@ impl<R: Files + Net + Wait + Copy + Drop> Opener<R> {
         ensures source { IfSome result (λ ends. ⟦<RealSource<R> as Source>⟧.faults ends.source ≡ 0) }
         ensures sink { IfSome result (λ ends. ⟦<RealSink<R> as Sink>⟧.faults ends.sink ≡ 0) }
         ensures noted { IfSome result (λ ends. AreEndsNoted self.old.files self.new.files ends.source ends.sink) }
+        ensures unopened { IfNone result (IsSourceAlone self.old.files self.new.files) }
     {
         let (source, sink) = if live {
             self.sockets(input, output)?
@@ -80,6 +90,7 @@ impl<R: Files + Net + Wait + Copy + Drop> Opener<R> {
         ensures source { IfSome result (λ ends. ⟦<RealSource<R> as Source>⟧.faults ends.0 ≡ 0) }
         ensures sink { IfSome result (λ ends. ⟦<RealSink<R> as Sink>⟧.faults ends.1 ≡ 0) }
         ensures noted { IfSome result (λ ends. AreEndsNoted self.old.files self.new.files ends.0 ends.1) }
+        ensures unopened { IfNone result (IsSourceAlone self.old.files self.new.files) }
     {
         let source = self.source(input).ok()?;
         let sink = self.sink(output).ok()?;

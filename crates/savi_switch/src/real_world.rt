@@ -1,12 +1,12 @@
 //! The real world: files, Unix stream sockets, the standard outputs and the machine's clock.
 
-ghost use Rattle.std.specs.Prelude.{◌≡◌, ◌≤◌, ℕ, List, true, false, Some, IfOk, IfSome, OnErr};
+ghost use Rattle.std.specs.Prelude.{◌≡◌, ◌≤◌, ℕ, List, true, false, Some, IfOk, IfErr, IfSome, OnErr};
 ghost use Rattle.savi_kinds.specs.Ports.{number_of};
 ghost use Rattle.savi_ends.specs.Faults.{Rose};
 
 use crate::opener::{Opener, RealClock, RealEnds, RealSink, RealSource};
 use end_places::{NamedSpot, NamedSpots, PortSpots, Spot};
-use file_ends::FileSink;
+use file_ends::{FileId, FileSink};
 use port_ends::PortSink;
 use savi_ends::{OpenFailed, Sink, Source, Std, World};
 use savi_kinds::{Format, Port, PortPlan, Text};
@@ -40,17 +40,26 @@ pub struct RealWorld<R: Files + Net + Wait + Copy + Drop> {
 
 impl<R: Files + Net + Wait + Copy + Drop> RealWorld<R> {
     ghost use Rattle.savi_ends.specs.Places.{HandedNothing};
+    ghost use Rattle.file_ends.specs.Opened.{nothing_open, with_written};
     ghost use Rattle.savi_switch.specs.RealWorlds.{book_of};
 
-    /// A world that has handed out nothing. `Err` is want of memory.
-    pub fn make(host: HostRuntime, rt: R, alloc: Global) -> Result<RealWorld<R>, AllocError>
-        ensures { IfOk result (λ w. HandedNothing ⟦<RealSource<R> as Source>⟧.faults ⟦<RealSink<R> as Sink>⟧.faults (book_of w)) }
+    /// A world that has handed out nothing, where standard output and standard error are sent to these files, as far as they
+    /// are regular ones. `Err` is want of memory.
+    pub fn make(
+        host: HostRuntime,
+        rt: R,
+        alloc: Global,
+        out: Option<FileId>,
+        err: Option<FileId>,
+    ) -> Result<RealWorld<R>, AllocError>
+        ensures fresh { IfOk result (λ w. HandedNothing ⟦<RealSource<R> as Source>⟧.faults ⟦<RealSink<R> as Sink>⟧.faults (book_of w)) }
+        ensures noted { IfOk result (λ w. w.opener.files ≡ with_written (with_written nothing_open out) err) }
     {
         Ok(RealWorld {
             host,
             alloc,
             faults: 0,
-            opener: Opener::new(host, rt, alloc),
+            opener: Opener::new(host, rt, alloc, out, err),
             has_written: false,
             input: NamedSpot::new(),
             outputs: NamedSpots::make(alloc)?,
@@ -92,7 +101,7 @@ fn fault(faults: &mut u64) -> OpenFailed
 impl<R: Files + Net + Wait + Copy + Send + Sync + Drop> World for RealWorld<R> {
     ghost use Rattle.savi_ends.specs.Places.{Book, ControlKey, HandsOut, IsReady, Opens, OthersStay, OtherPortsStay, IsOnlyOut, IsPortOut, IsPortKept, IsControlOut, IsControlKept, BothFresh, port_key};
     ghost use Rattle.savi_switch.specs.RealWorlds.{book_of};
-    ghost use Rattle.savi_switch.specs.Openings.{IsSourceNoted, IsSinkNoted, AreEndsNoted};
+    ghost use Rattle.savi_switch.specs.Openings.{IsSourceNoted, IsSinkNoted, AreEndsNoted, IsSourceAlone};
 
     type S = RealSource<R>;
 
@@ -112,6 +121,7 @@ impl<R: Files + Net + Wait + Copy + Send + Sync + Drop> World for RealWorld<R> {
         ensures others { OthersStay (book_of self.old).inputs (book_of self.new).inputs name.now }
         ensures rest { book_of self.new ≡ record (book_of self.old) { faults = (book_of self.new).faults; inputs = (book_of self.new).inputs } }
         ensures noted { IfOk result (λ source. IsSourceNoted self.old.opener.files self.new.opener.files source) }
+        ensures unnoted { OnErr result (self.new.opener.files ≡ self.old.opener.files) }
     {
         if !self.input.is_free() {
             return Err(fault(&mut self.faults));
@@ -134,6 +144,7 @@ impl<R: Files + Net + Wait + Copy + Send + Sync + Drop> World for RealWorld<R> {
         ensures others { OthersStay (book_of self.old).outputs (book_of self.new).outputs name.now }
         ensures rest { book_of self.new ≡ record (book_of self.old) { faults = (book_of self.new).faults; outputs = (book_of self.new).outputs } }
         ensures noted { IfOk result (λ sink. IsSinkNoted self.old.opener.files self.new.opener.files sink) }
+        ensures unnoted { OnErr result (self.new.opener.files ≡ self.old.opener.files) }
     {
         if self.outputs.is_full() {
             return Err(fault(&mut self.faults));
@@ -158,6 +169,7 @@ impl<R: Files + Net + Wait + Copy + Send + Sync + Drop> World for RealWorld<R> {
         ensures unopened { OnErr result ((book_of self.new).ports ≡ (book_of self.old).ports) }
         ensures rest { book_of self.new ≡ record (book_of self.old) { faults = (book_of self.new).faults; ports = (book_of self.new).ports } }
         ensures noted { IfOk result (λ ends. AreEndsNoted self.old.opener.files self.new.opener.files ends.source ends.sink) }
+        ensures unnoted { IfErr result (λ e. IsSourceAlone self.old.opener.files self.new.opener.files) }
     {
         let live = match plan.format {
             Format::Pcap => false,
@@ -181,6 +193,7 @@ impl<R: Files + Net + Wait + Copy + Send + Sync + Drop> World for RealWorld<R> {
         ensures unopened { OnErr result ((book_of self.new).control ≡ (book_of self.old).control) }
         ensures rest { book_of self.new ≡ record (book_of self.old) { faults = (book_of self.new).faults; control = (book_of self.new).control } }
         ensures noted { IfOk result (λ ends. AreEndsNoted self.old.opener.files self.new.opener.files ends.source ends.sink) }
+        ensures unnoted { IfErr result (λ e. IsSourceAlone self.old.opener.files self.new.opener.files) }
     {
         match self.opener.ends(source, sink, live) {
             Some(ends) => {
@@ -191,12 +204,24 @@ impl<R: Files + Net + Wait + Copy + Send + Sync + Drop> World for RealWorld<R> {
         }
     }
 
-    fn ticker(&mut self) -> RealClock {
+    fn ticker(&mut self) -> RealClock
+        requires { (book_of self.old).ticker.is_out ≡ false }
+        ensures hands { HandsOut (book_of self.old).ticker (book_of self.new).ticker result }
+        ensures rest { book_of self.new ≡ record (book_of self.old) { ticker = (book_of self.new).ticker } }
+        ensures files { self.new.opener.files ≡ self.old.opener.files }
+    {
         self.ticker.hand_out();
         self.opener.clock()
     }
 
-    fn std(&mut self, which: Std) -> RealSink<R> {
+    fn std(&mut self, which: Std) -> RealSink<R>
+        requires { IsReady (λ k. ⟦<RealSink<R> as Sink>⟧.faults k ≡ 0) ((book_of self.old).std which) }
+        ensures hands { HandsOut ((book_of self.old).std which) ((book_of self.new).std which) result }
+        ensures fresh { ⟦<RealSink<R> as Sink>⟧.faults result ≡ 0 }
+        ensures others { OthersStay (book_of self.old).std (book_of self.new).std which }
+        ensures rest { book_of self.new ≡ record (book_of self.old) { std = (book_of self.new).std } }
+        ensures files { self.new.opener.files ≡ self.old.opener.files }
+    {
         match which {
             Std::Out => {
                 self.out.hand_out();
@@ -214,6 +239,7 @@ impl<R: Files + Net + Wait + Copy + Send + Sync + Drop> World for RealWorld<R> {
         ensures kept { IsPortKept (book_of self.old).ports (book_of self.new).ports (number_of n) ends }
         ensures others { OtherPortsStay (book_of self.old).ports (book_of self.new).ports (number_of n) }
         ensures rest { book_of self.new ≡ record (book_of self.old) { ports = (book_of self.new).ports } }
+        ensures files { self.new.opener.files ≡ self.old.opener.files }
     {
         self.has_written = self.has_written || Self::is_written(&ends);
         self.ports.keep(n, ends);
@@ -223,24 +249,48 @@ impl<R: Files + Net + Wait + Copy + Send + Sync + Drop> World for RealWorld<R> {
         requires { IsControlOut (book_of self.old).control }
         ensures kept { IsControlKept (book_of self.old).control (book_of self.new).control ends }
         ensures rest { book_of self.new ≡ record (book_of self.old) { control = (book_of self.new).control } }
+        ensures files { self.new.opener.files ≡ self.old.opener.files }
     {
         self.empty_replies(&ends);
         self.control.keep(ends);
     }
 
-    fn keep_input(&mut self, source: RealSource<R>) {
+    fn keep_input(&mut self, source: RealSource<R>)
+        requires { (name : _) × IsOnlyOut (book_of self.old).inputs name }
+        ensures kept { (name : _) → IsOnlyOut (book_of self.old).inputs name → ((book_of self.new).inputs name).stands ≡ Some source }
+        ensures others { (name : _) → IsOnlyOut (book_of self.old).inputs name → OthersStay (book_of self.old).inputs (book_of self.new).inputs name }
+        ensures rest { book_of self.new ≡ record (book_of self.old) { inputs = (book_of self.new).inputs } }
+        ensures files { self.new.opener.files ≡ self.old.opener.files }
+    {
         self.input.keep(source);
     }
 
-    fn keep_output(&mut self, name: &str, sink: RealSink<R>) {
+    fn keep_output(&mut self, name: &str, sink: RealSink<R>)
+        requires { ((book_of self.old).outputs name.now).is_out ≡ true }
+        ensures kept { ((book_of self.new).outputs name.now).stands ≡ Some sink }
+        ensures others { OthersStay (book_of self.old).outputs (book_of self.new).outputs name.now }
+        ensures rest { book_of self.new ≡ record (book_of self.old) { outputs = (book_of self.new).outputs } }
+        ensures files { self.new.opener.files ≡ self.old.opener.files }
+    {
         self.outputs.keep(name, sink);
     }
 
-    fn keep_ticker(&mut self, clock: RealClock) {
+    fn keep_ticker(&mut self, clock: RealClock)
+        requires { (book_of self.old).ticker.is_out ≡ true }
+        ensures kept { (book_of self.new).ticker.stands ≡ Some clock }
+        ensures rest { book_of self.new ≡ record (book_of self.old) { ticker = (book_of self.new).ticker } }
+        ensures files { self.new.opener.files ≡ self.old.opener.files }
+    {
         self.ticker.keep(clock);
     }
 
-    fn keep_std(&mut self, which: Std, sink: RealSink<R>) {
+    fn keep_std(&mut self, which: Std, sink: RealSink<R>)
+        requires { ((book_of self.old).std which).is_out ≡ true }
+        ensures kept { ((book_of self.new).std which).stands ≡ Some sink }
+        ensures others { OthersStay (book_of self.old).std (book_of self.new).std which }
+        ensures rest { book_of self.new ≡ record (book_of self.old) { std = (book_of self.new).std } }
+        ensures files { self.new.opener.files ≡ self.old.opener.files }
+    {
         match which {
             Std::Out => self.out.keep(sink),
             Std::Err => self.err.keep(sink),
