@@ -1,0 +1,4 @@
+pub mod Checkpoints
+pub mod Segments
+pub mod Readings
+pub mod Steps
