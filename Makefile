@@ -70,8 +70,8 @@ folders = $(DESTDIR)$(PREFIX)/lib/tmpfiles.d
 # and replays read stay here.
 TOOLS = $(notdir $(wildcard $(addprefix tools/,plan plan-from-learn journal-table journal-picture tell-journal panel ctl)))
 PACKAGES = $(notdir $(wildcard tools/switch_reading tools/switch_panel))
-KEPT = worked%.py conf_runs.py core_runs.py learn.py line_runs.py live.py load.py making.py plan_cases.py random_learn.py \
-	session.py toml_cases.py
+KEPT = worked%.py checking.py conf_runs.py core_runs.py crate_list.py failing_calls.py learn.py line_runs.py live.py load.py \
+	making.py plan_cases.py random_learn.py serving.py session.py toml_cases.py
 UNITS = $(notdir $(wildcard packaging/*.service packaging/*.socket packaging/*.target packaging/*.timer packaging/*.path))
 PAGES = $(notdir $(wildcard docs/*.1 docs/*.5 docs/*.8))
 # Tools whose manual page has another name.

@@ -324,7 +324,7 @@ ATTACKS = {
     "frame from host 2's MAC address": take_mac,
 }
 
-# What the switch doesn't guard against (docs/OPERATIONS.md, "Where a frame goes").
+# What the switch doesn't guard against (docs/REPLAYS.md, "Where a frame goes").
 UNGUARDED = ("frame from host 2's MAC address",)
 
 

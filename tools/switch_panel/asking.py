@@ -10,7 +10,7 @@ from .operators import LISTS
 # Where the service has its sockets: one folder for each switch.
 SOCKETS = "/run/savi_panel/{}/control.sock"
 
-# How long a station is known after its last frame (docs/OPERATIONS.md, Where a frame goes), in ms.
+# How long a station is known after its last frame (docs/REPLAYS.md, Where a frame goes), in ms.
 STATION_MS = 300_000
 
 BINDING, PORT, STATION = (("address", "port", "state", "claimant", "until"),

@@ -114,6 +114,24 @@ def open_interface(kind, name):
         raise Fault(f"{kind} '{name}': {device} cannot be opened for it: {why}") from None
 
 
+async def lacking_threads(end, needed, seconds):
+    """What a switch lacks that hasn't come to so many threads within this time, or None. It is found by a connection to it
+    (SO_PEERCRED, unix(7)); of one that can't be seen nothing is known."""
+    process = struct.unpack("iII", end.getsockopt(socket.SOL_SOCKET, socket.SO_PEERCRED, 12))[0]
+    deadline = time.monotonic() + seconds
+    while True:
+        try:
+            found = len(os.listdir(f"/proc/{process}/task"))
+        except OSError:
+            return None
+        if found >= needed:
+            return None
+        if time.monotonic() > deadline:
+            return (f"the switch has {found} threads, and takes {needed}: some of its ports wait until others are over "
+                    "(ulimit -u, TasksMax=)")
+        await asyncio.sleep(PAUSE)
+
+
 async def connect(path, deadline, is_over):
     """A connection to a path of the switch, which may be there only after a while. `is_over` says that it will not come."""
     while True:

@@ -12,11 +12,14 @@ import time
 
 from .files import INTERFACES, Fault
 from .operators import Control, Ended
-from .places import connect, interface_lacks, make_socket, open_interface, same_file
+from .places import connect, interface_lacks, lacking_threads, make_socket, open_interface, same_file
 from .qemu import Port
 
 # The statuses beside those of the switch, from <sysexits.h>: what is missing here, what isn't there yet, a file's faults.
 UNAVAILABLE, NOT_YET, FILE_FAULT = 69, 75, 78
+
+# How long the switch may take to start its threads, in s.
+STARTING = 5
 
 # The last line of a whole journal begins so.
 LAST = b"\nend "
@@ -103,6 +106,14 @@ class Run:
             first = await connect(into, deadline, self.has_ended)
             await self.control.join(first, first if into == out else await connect(out, deadline, self.has_ended))
         self.is_joined = True
+
+    async def look_at_threads(self):
+        """Warns of a switch with fewer threads than workers: the ticker, one for each output, and one for each input that
+        doesn't end by itself and for control."""
+        plan = self.panel.plan
+        needed = 1 + len(plan.ports) + sum(port.format == "stream" for port in plan.ports) + bool(plan.control)
+        if self.ports and (lack := await lacking_threads(self.ports[0].held, needed, STARTING)):
+            self.tell(f"warning: {lack}")
 
     def watch_switch(self):
         """The switch closes its connections when it ends, and not before."""
@@ -261,6 +272,7 @@ class Run:
 
     async def start_and_serve(self, ends, operators):
         await self.join_switch(ends)
+        self.tasks.append(asyncio.create_task(self.look_at_threads()))
         await self.serve(operators)
 
 

@@ -1,5 +1,5 @@
 """A live session: a worker for each input, each output, control and the ticker, whose turns at the switch come in any order
-(docs/OPERATIONS.md, Serve live ports; docs/FORMATS.md, Streams)."""
+(docs/LIVE.md; docs/FORMATS.md, Streams)."""
 import random
 import struct
 

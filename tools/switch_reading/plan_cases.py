@@ -176,7 +176,7 @@ WARNINGS = (
     (BASE[BASE.index('role = "trusted"'):],
      'role = "host"\ninput = "2.pcap"\noutput = "2.out"\n[[prefix]]\nprefix = "2001:db8:1::/64"\nmethod = "dhcp"\n',
      (CAPTURE, CAPTURE), ((4, "no port is trusted"), (4, "no port has a server"))),
-    (MAC, MAC, (PCAPNG, CAPTURE), ((7, "editcap -F pcap 1.pcap 1.pcap.pcap"),)),
+    (MAC, MAC, (PCAPNG, CAPTURE), ((7, "savi_switch split 1.pcap"),)),
     (MAC, MAC, (CAPTURE, GZIP), ((13, "gunzip"),)),
     (MAC, MAC, (COOKED, CAPTURE), ((7, "link type 113 (Linux cooked"),)),
     (MAC, MAC, (NEWER, CAPTURE), ((7, "version 2.5"),)),

@@ -1,4 +1,4 @@
-"""The switch: one event, one entry of the history (docs/RULES.md, docs/OPERATIONS.md)."""
+"""The switch: one event, one entry of the history (docs/RULES.md, docs/TROUBLE.md)."""
 from dataclasses import dataclass, field
 
 from . import commands

@@ -181,8 +181,8 @@ def capture_words(name, head):
     if not head:
         return "an empty file, which is no capture", "Record it again: tcpdump -U writes each frame as it comes."
     if first == PCAPNG:
-        return ("a pcapng file, which a replay doesn't read", f"Make a classic capture of it: editcap -F pcap {name} {name}.pcap, "
-                f"or of one of its interfaces: tshark -r {name} -Y 'frame.interface_id == 0' -F pcap -w {name}.0.pcap")
+        return ("a pcapng file, which a replay doesn't read", "Make a classic capture of each of its interfaces: savi_switch split "
+                f"{name}, and name the one of this port, {name}.0.pcap for the first.")
     for magic, (form, unpack) in PACKED.items():
         if head.startswith(magic):
             return f"a file packed by {form}, which a replay doesn't read", f"Unpack it: {unpack} < {name} > {name}.unpacked"

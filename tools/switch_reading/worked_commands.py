@@ -1,4 +1,4 @@
-"""What the scenes with control come to, worked out by hand from the rules of docs/RULES.md, docs/OPERATIONS.md and
+"""What the scenes with control come to, worked out by hand from the rules of docs/RULES.md, docs/TROUBLE.md and
 docs/COMMANDS.md. Ports 1, 2, 3 are hosts, 4 is trusted and 5 a server, and 2001:db8:1::/64 is fcfs, 2001:db8:2::/64 dhcp and
 2001:db8:3::/64 mixed, unless a scene says otherwise."""
 from .commands import RULES
@@ -90,6 +90,16 @@ WORKED = {
          "error: no such port", "error: bad port", "error: unknown command", "error: unknown command", "error: bad address",
          "error: unknown command", "ok", "ok"] + ports(*[NOTHING] * 5, down=[1]) + ["ok", "ok", "end"] + counters() + ["ok"],
         ["status 0", "20 5 1015 C 1015 - 0 0", "30 5 1025 C 1025 quit 0 0", "31 5 1025 E control quit", "end 38"]),
+    "a request whose option is longer than the message": (
+        [CLAIM, "1@2000 dhcp_request_with_an_overlong_option pass-all 2,3,4,5 0"],
+        ports("1 0 0", NOTHING, NOTHING, NOTHING, NOTHING), SILENT),
+    "51 leases in one reply, and room for 31": (
+        [CLAIM, "5@1000 question_for_fe80::22_by_host_2 pass-trusted 4 0",
+         "1@2000 dhcp_request_of_the_shortest_identity pass-all 2,3,4,5 0", "5@2100 reply_with_51_leases pass-all 1 0"],
+        ports("32 0 0", NOTHING, NOTHING, NOTHING, "1 0 0")
+        + [f"2001:db8:2::{k:x} 1 bound - 722100" for k in range(1, 32)]
+        + ["fe80::11 1 valid - 302000", "fe80::22 5 valid - 302100", "end"],
+        SILENT + ["port 1: HEADER AT_2100_1517 reply_with_51_leases"]),
     "a port is shut and opened": (
         ["1@1000 listener_report drop-PortDown - 0", "1@2600 listener_report pass-trusted 4 0"],
         ["ok", "ok", "02:00:00:00:00:11 1 302600", "end"] + ports(*[NOTHING] * 5), SILENT),
@@ -233,24 +243,24 @@ def calls_of_control():
     worked = {}
     for k in range(1, 14):
         count = sum(end <= 16 * (k - 1) for end in LINE_ENDS)
-        worked[f"read {k} of control"] = [], first(count), ["status 5", "control: read failed"]
-    worked["read 14 of control"] = [], first(4), OVERLONG
+        worked[f"commands: read {k} of control"] = [], first(count), ["status 5", "control: read failed"]
+    worked["commands: read 14 of control"] = [], first(4), OVERLONG
     for k in range(1, 5):
-        worked[f"write {k} of control"] = [], first(k - 1), ["status 6", "control: write failed"]
-    worked["write 5 of control"] = [], first(4), OVERLONG
+        worked[f"commands: write {k} of control"] = [], first(k - 1), ["status 6", "control: write failed"]
+    worked["commands: write 5 of control"] = [], first(4), OVERLONG
     for n in range(1, 6):
         end = ["status 6", f"port {n}: write failed", "control: overlong line at 81", f"0 {6 + n} 0 E out{n} failed"]
-        worked[f"write 1 at port {n} beside control"] = [], first(4), end
+        worked[f"commands: write 1 at port {n}"] = [], first(4), end
         end = ["status 5", f"port {n}: read failed", "control: overlong line at 81", f"{n - 1} {n - 1} 0 E in{n} failed"]
-        worked[f"read 1 at port {n} beside control"] = [], first(4), end
+        worked[f"commands: read 1 at port {n}"] = [], first(4), end
     for k, name in enumerate((*OPENED[:-1], "control", OPENED[-1]), 1):
-        worked[f"opening {k} with control"] = [], [], ["status 7", f"cannot open {name}", "journal:"]
-    worked["opening 9 with control"] = [], first(4), OVERLONG
+        worked[f"commands: opening {k}"] = [], [], ["status 7", f"cannot open {name}", "journal:"]
+    worked["commands: opening 9"] = [], first(4), OVERLONG
     for k in (1, 2):
-        worked[f"read {k} of the configuration with control"] = [], [], ["status 5", "plan: read failed", "journal:"]
-    worked["the journal with control"] = [], first(4), ["status 6", "control: overlong line at 81", "journal: write failed"]
-    worked["the summary with control"] = [], first(4), ["status 6", "control: overlong line at 81"]
-    worked["the line on control"] = [], first(4), ["status 4"]
+        worked[f"commands: read {k} of the configuration"] = [], [], ["status 5", "plan: read failed", "journal:"]
+    worked["commands: write 1 of the journal"] = [], first(4), ["status 6", "control: overlong line at 81", "journal: write failed"]
+    worked["commands: write 1 of the summary"] = [], first(4), ["status 6", "control: overlong line at 81"]
+    worked["commands: write 1 of standard error"] = [], first(4), ["status 4"]
     return worked
 
 

@@ -1,10 +1,10 @@
 """What the scenes of crates/world_runs with the validation of sources come to, worked out by hand from the rules of
-docs/RULES.md and docs/OPERATIONS.md. Ports 1, 2, 3 are hosts, 4 is trusted and 5 a server, and 2001:db8:1::/64 is fcfs,
+docs/RULES.md and docs/TROUBLE.md. Ports 1, 2, 3 are hosts, 4 is trusted and 5 a server, and 2001:db8:1::/64 is fcfs,
 2001:db8:2::/64 dhcp and 2001:db8:3::/64 mixed, unless a scene says otherwise. How long an address is bound shows in the
 moments of the probes that ask for it then, when a frame comes long after."""
 from . import making
 from .making import advertisement, claim, data, to_server
-from .worked import A11, A12, A22, ADVERTS, CUT, G11, G22, LATER, LEASED, M1, M2, M3, MIXED, NAMED, REPLY, REQUEST
+from .worked import A11, A12, A22, ADVERTS, CUT, G11, G22, JUDGED, LATER, LEASED, M1, M2, M3, MIXED, NAMED, REPLY, REQUEST
 from .worked import ROUTER_MAC, ask
 
 SWITCH_MAC = 0x020000000001
@@ -63,6 +63,30 @@ FRAMES = {
 }
 FRAMES |= {f"dhcp_request_{k}": ask(M1, A11, k) for k in range(1, 18)}
 FRAMES |= {f"question_for_fe80::{k:x}": claim(M1, making.LINK_LOCAL | k) for k in range(0x100, 0x121)}
+
+# Frames that a host may send to do harm, by the scene in which each comes in alone at port 1: its name, and its verdict.
+HARMFUL = {
+    "an Ethernet header alone": ("ethernet_header_alone", "drop-BadIpv6"),
+    "a packet of version 5": ("packet_of_version_5", "drop-BadIpv6"),
+    "a packet that is shorter than it says": ("packet_shorter_than_it_says", "drop-BadIpv6"),
+    "a packet from a group": ("packet_from_a_group", "drop-BadIpv6"),
+    "hop-by-hop options twice": ("two_hop-by-hop_headers", "drop-BadIpv6"),
+    "destination options that are longer than the packet": ("destination_options_longer_than_the_packet", "drop-BadIpv6"),
+    "a router advertisement behind 182 headers": ("advert_behind_182_headers", "drop-RouterAdvert"),
+    "a fragment header with nothing behind it": ("fragment_header_alone", "drop-HiddenUpper"),
+    "next header 253": ("next_header_253", "drop-UnknownNextHeader"),
+    "an authentication header of 8 octets": ("authentication_header_of_8_octets", "drop-Unverified"),
+}
+FRAMES |= {name: frame for (name, _), (_, frame, _) in zip(HARMFUL.values(), JUDGED)}
+# A client identifier of three octets, the fewest that are read (RFC 8415 section 11.1), and as many leases as a frame takes.
+SHORTEST = bytes([0, 3, 1])
+FRAMES |= {
+    "dhcp_request_with_an_overlong_option": making.to_server(
+        M1, A11, REQUEST[62:].replace(bytes([0, 1, 0, 10]), bytes([0, 1, 0, 255]), 1)),
+    "dhcp_request_of_the_shortest_identity": making.to_server(M1, A11, making.message(3, 0x0A0B0C, SHORTEST)),
+    "reply_with_51_leases": making.to_client(
+        M2, A22, M1, A11, making.message(7, 0x0A0B0C, SHORTEST, [(LEASED - 0x101 + k, 600) for k in range(1, 52)])),
+}
 
 # Each scene: its frames in the order in which they are judged, as PORT@STAMP FRAME VERDICT OUTS PROBES; and further lines
 # that it leaves. A long frame stands there by its length.
@@ -254,6 +278,29 @@ WORKED = {
 }
 
 SILENT = ["status 0", "standard error:"]
+
+
+def harm():
+    """Of a harmful frame nothing goes out, and it binds nothing. One that is read to its end is data of an address that
+    nobody has claimed: the trusted port is asked."""
+    scenes = HARMFUL | {"next header 253, which passes": ("next_header_253", "drop-Unverified")}
+    return {title: alone(name, verdict) for title, (name, verdict) in scenes.items()}
+
+
+def alone(name, verdict):
+    probes = int(verdict == "drop-Unverified")
+    entries = ["5 0 E control end"] + [f"{n - 1} 0 E in{n} end" for n in (2, 3, 4, 5)]
+    entries += [f"0 1000 F 1 1000 {name} {verdict} - - {probes} 0"] + ["10 1000 D 4 1"] * probes
+    entries += ["0 1000 E in1 end", "6 1000 E ticker end"] + [f"{n + 6} 1000 E out{n} end" for n in range(1, 6)]
+    counts = f"entries {len(entries)} frames 1 passed 0 dropped 1 probes {probes} lost 0 cut 0"
+    outputs = [f"port {n}: HEADER" for n in (1, 2, 3, 5)]
+    outputs += ["port 4: HEADER" + " AT_1000_78 probe_for_fe80::22" * probes]
+    journal = [f"{n} {entry}" for n, entry in enumerate(entries)] + [f"end {len(entries)}"]
+    return [f"1@1000 {name} {verdict} - {probes}"], SILENT + [counts] + outputs + journal
+
+
+WORKED |= harm()
+
 # What a run with five ports opens.
 OPENED = ("plan", "port 1", "port 2", "port 3", "port 4", "port 5", "journal")
 # A packet of an address that nobody has claimed, three times; and what the frames come to.
@@ -267,30 +314,30 @@ def calls_of_ports():
     packet, and ports 2, 3 and 5 that packet."""
     worked = {}
     for k in range(1, 9):
-        worked[f"read {k} at port 1 of five"] = PROBED[: max(0, (k - 2) // 2)], ["status 5", "port 1: read failed"]
-    worked["read 9 at port 1 of five"] = PROBED, SILENT
+        worked[f"probes: read {k} at port 1"] = PROBED[: max(0, (k - 2) // 2)], ["status 5", "port 1: read failed"]
+    worked["probes: read 9 at port 1"] = PROBED, SILENT
     for n in (2, 3, 4, 5):
         for k in (1, 2):
-            worked[f"read {k} at port {n} of five"] = PROBED, ["status 5", f"port {n}: read failed"]
-        worked[f"read 3 at port {n} of five"] = PROBED, SILENT
+            worked[f"probes: read {k} at port {n}"] = PROBED, ["status 5", f"port {n}: read failed"]
+        worked[f"probes: read 3 at port {n}"] = PROBED, SILENT
         if n != 4:
             last = [f"10 0 1500 F 1 1500 PACKET pass-all 2,3,4,5 {n} 0 0", f"0 {6 + n} 0 E out{n} failed"]
-            worked[f"write 1 at port {n} of five"] = PROBED, ["status 6", f"port {n}: write failed"] + last
-            worked[f"write 2 at port {n} of five"] = PROBED, ["status 6", f"port {n}: write failed", f"port {n}: HEADER"]
-            worked[f"write 3 at port {n} of five"] = PROBED, SILENT
-    worked["write 1 at port 1 of five"] = PROBED, ["status 6", "port 1: write failed", "port 1:"]
-    worked["write 2 at port 1 of five"] = PROBED, SILENT
+            worked[f"probes: write 1 at port {n}"] = PROBED, ["status 6", f"port {n}: write failed"] + last
+            worked[f"probes: write 2 at port {n}"] = PROBED, ["status 6", f"port {n}: write failed", f"port {n}: HEADER"]
+            worked[f"probes: write 3 at port {n}"] = PROBED, SILENT
+    worked["probes: write 1 at port 1"] = PROBED, ["status 6", "port 1: write failed", "port 1:"]
+    worked["probes: write 2 at port 1"] = PROBED, SILENT
     for k in range(1, 5):
         asked = min(k - 1, 2)
         frames = PROBED[:asked] + UNPROBED[asked:]
         text = "port 4:" + ("" if k == 1 else " HEADER" + "".join(SENT_AT_4[: k - 1]))
-        worked[f"write {k} at port 4 of five"] = frames, ["status 6", "port 4: write failed", text]
-    worked["write 5 at port 4 of five"] = PROBED, SILENT + ["port 4: HEADER" + "".join(SENT_AT_4)]
+        worked[f"probes: write {k} at port 4"] = frames, ["status 6", "port 4: write failed", text]
+    worked["probes: write 5 at port 4"] = PROBED, SILENT + ["port 4: HEADER" + "".join(SENT_AT_4)]
     for k, name in enumerate(OPENED, 1):
-        worked[f"opening {k} of five ports"] = [], ["status 7", f"cannot open {name}", "journal:"]
-    worked["opening 8 of five ports"] = PROBED, SILENT
-    worked["the journal of five ports"] = [], ["status 6", "journal: write failed", "journal:"]
-    worked["the summary of five ports"] = PROBED, ["status 6"]
+        worked[f"probes: opening {k}"] = [], ["status 7", f"cannot open {name}", "journal:"]
+    worked["probes: opening 8"] = PROBED, SILENT
+    worked["probes: write 1 of the journal"] = [], ["status 6", "journal: write failed", "journal:"]
+    worked["probes: write 1 of the summary"] = PROBED, ["status 6"]
     return worked
 
 

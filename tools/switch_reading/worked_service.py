@@ -1,4 +1,4 @@
-"""What docs/OPERATIONS.md says of things that operators meet in service, as histories that were worked out by hand. Ports 1,
+"""What docs/TROUBLE.md says of things that operators meet in service, as histories that were worked out by hand. Ports 1,
 2, 3 are hosts, 4 is trusted and 5 a server."""
 from . import making
 from .making import advertisement, claim, data, router_advertisement, router_solicitation, to_client, to_server
