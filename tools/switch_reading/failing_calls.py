@@ -1,6 +1,6 @@
 """Runs of a scene of crates/world_runs in which each opening, each read and each write fails in turn, made by counting: of
 each kind of call the first fails, then the second, and so on, up to one that isn't made. What such a run leaves may differ
-from what the scene leaves as docs/FORMATS.md (Statuses and standard error) and docs/OPERATIONS.md say, and in nothing
+from what the scene leaves as docs/FORMATS.md (Statuses and standard error) and docs/LIVE.md say, and in nothing
 else."""
 import itertools
 
