@@ -38,11 +38,15 @@ use Rattle.savi_history.specs.Events.{Event, Frame, Long, Command, Tick, Drain, 
 use Rattle.savi_history.specs.Ticks.{IsSameFrom}
 use Rattle.savi_laws.specs.Answered.{Answered, answered_of, answered}
 
--- The same marks, shut ports, kept octets and answers, and the same stations live from both last moments on.
-pub record Alike (plan : Plan) (base : Base) (past other : List Row) : Type 0 where
+-- the same marks and shut ports, and the same stations live from both last moments on
+pub record Known (plan : Plan) (base : Base) (past other : List Row) : Type 0 where
   pub tells : marks plan base past ≡ marks plan base other
   pub shut : (q : ℕ) → is_shut plan base q past ≡ is_shut plan base q other
   pub live : (t vlan : ℕ) → last_moment base past ≤ t → last_moment base other ≤ t → live_at t (stations vlan base past) ≡ live_at t (stations vlan base other)
+
+-- and the same kept octets and answers
+pub record Alike (plan : Plan) (base : Base) (past other : List Row) : Type 0 where
+  pub known : Known plan base past other
   pub keeps : held past ≡ held other
   pub answers : answered past ≡ answered other
 
@@ -59,7 +63,7 @@ is_in (End who how) = false
 live_before : (t u : ℕ) → t ≤ u → (s : Station) → is_live u s ≡ true → is_live t s ≡ true
 live_before t u later s is = lt-ltb t (station_end s) (omega (arith, later, ltb-true u (station_end s) is))
 
-live_left : (m t : ℕ) (known : List Station) → m ≤ t → live_at t (live_at m known) ≡ live_at t known
+pub live_left : (m t : ℕ) (known : List Station) → m ≤ t → live_at t (live_at m known) ≡ live_at t known
 live_left m t known later = filter-wider (is_live m) (is_live t) (live_before m t later) known
 
 -- what an input's entry comes to
@@ -90,43 +94,51 @@ taught_by vlan port octets verdict moment live =
 
 module _ (plan : Plan) (base : Base) where
   pub alike_start : Alike plan base [] []
-  alike_start = record { tells = refl; shut = λ q. refl; live = λ t vlan one two. refl; keeps = refl; answers = refl }
+  alike_start = record { known = record { tells = refl; shut = λ q. refl; live = λ t vlan one two. refl }; keeps = refl; answers = refl }
 
   pub alike_same : (past : List Row) → Alike plan base past past
-  alike_same past = record { tells = refl; shut = λ q. refl; live = λ t vlan one two. refl; keeps = refl; answers = refl }
+  alike_same past = record { known = record { tells = refl; shut = λ q. refl; live = λ t vlan one two. refl }; keeps = refl; answers = refl }
 
   pub turned : (past other : List Row) → Alike plan base past other → Alike plan base other past
   turned past other alike = record {
-    tells = sym alike.tells;
-    shut = λ q. sym (alike.shut q);
-    live = λ t vlan one two. sym (alike.live t vlan two one);
+    known = record {
+      tells = sym alike.known.tells;
+      shut = λ q. sym (alike.known.shut q);
+      live = λ t vlan one two. sym (alike.known.live t vlan two one);
+    };
     keeps = sym alike.keeps;
     answers = sym alike.answers;
   }
 
   ticked : (past other : List Row) (stamp : ℕ) → Alike plan base past other → Alike plan base (row_of plan base past (Tick stamp) ∷ past) other
   ticked past other stamp alike = record {
-    tells = alike.tells;
-    shut = alike.shut;
-    live = λ t vlan later other_later. live_left (moment_at base past stamp) t (stations vlan base past) later ∙ alike.live t vlan (omega (arith, later)) other_later;
+    known = record {
+      tells = alike.known.tells;
+      shut = alike.known.shut;
+      live = λ t vlan later other_later. live_left (moment_at base past stamp) t (stations vlan base past) later ∙ alike.known.live t vlan (omega (arith, later)) other_later;
+    };
     keeps = zero-add (held past) ∙ alike.keeps;
     answers = alike.answers;
   }
 
   drained : (past other : List Row) (port : Port) (count : ℕ) → Alike plan base past other → Alike plan base (row_of plan base past (Drain port count) ∷ past) other
   drained past other port count alike = record {
-    tells = alike.tells;
-    shut = alike.shut;
-    live = λ t vlan later other_later. live_left (last_moment base past) t (stations vlan base past) later ∙ alike.live t vlan later other_later;
+    known = record {
+      tells = alike.known.tells;
+      shut = alike.known.shut;
+      live = λ t vlan later other_later. live_left (last_moment base past) t (stations vlan base past) later ∙ alike.known.live t vlan later other_later;
+    };
     keeps = zero-add (held past) ∙ alike.keeps;
     answers = alike.answers;
   }
 
   ended : (past other : List Row) (who : Who) (how : How) → Alike plan base past other → Alike plan base (row_of plan base past (End who how) ∷ past) other
   ended past other who how alike = record {
-    tells = alike.tells;
-    shut = alike.shut;
-    live = λ t vlan later other_later. live_left (last_moment base past) t (stations vlan base past) later ∙ alike.live t vlan later other_later;
+    known = record {
+      tells = alike.known.tells;
+      shut = alike.known.shut;
+      live = λ t vlan later other_later. live_left (last_moment base past) t (stations vlan base past) later ∙ alike.known.live t vlan later other_later;
+    };
     keeps = zero-add (held past) ∙ alike.keeps;
     answers = alike.answers;
   }
@@ -140,22 +152,22 @@ module _ (plan : Plan) (base : Base) where
   passed_over past other (Drain port count) not alike = drained past other port count alike
   passed_over past other (End who how) not alike = ended past other who how alike
 
-  module _ (past other : List Row) (alike : Alike plan base past other) where
+  module _ (past other : List Row) (known : Known plan base past other) where
     without_same : (set : PortSet) → without_shut plan base past set ≡ without_shut plan base other set
     without_same set =
         ap set_of (filter_agree (λ q. is_member set q && not (is_shut plan base q past)) (λ q. is_member set q && not (is_shut plan base q other))
-        (λ q. ap (λ b. is_member set q && not b) (alike.shut q)) (numbers_of plan.ports))
+        (λ q. ap (λ b. is_member set q && not b) (known.shut q)) (numbers_of plan.ports))
 
     module _ (stamp : ℕ) (same : moment_at base past stamp ≡ moment_at base other stamp) where
       live_same : (vlan : ℕ) → live_at (moment_at base past stamp) (stations vlan base past) ≡ live_at (moment_at base other stamp) (stations vlan base other)
       live_same vlan =
-          alike.live (moment_at base past stamp) vlan (omega arith) (omega (arith, same))
+          known.live (moment_at base past stamp) vlan (omega arith) (omega (arith, same))
           ∙ ap (λ (t : ℕ). live_at t (stations vlan base other)) same
 
       pub judged_same : (port : Port) (octets : List ℕ) → judged_of plan base past port stamp octets ≡ judged_of plan base other port stamp octets
       judged_same port octets =
-          ap (λ (b : Bool). judged_after plan base b (marks plan base past) port (moment_at base past stamp) (class_of octets)) (alike.shut (number_of port))
-          ∙ ap (λ (told : List Mark). judged_after plan base (is_shut plan base (number_of port) other) told port (moment_at base past stamp) (class_of octets)) alike.tells
+          ap (λ (b : Bool). judged_after plan base b (marks plan base past) port (moment_at base past stamp) (class_of octets)) (known.shut (number_of port))
+          ∙ ap (λ (told : List Mark). judged_after plan base (is_shut plan base (number_of port) other) told port (moment_at base past stamp) (class_of octets)) known.tells
           ∙ ap (λ (t : ℕ). judged_after plan base (is_shut plan base (number_of port) other) (marks plan base other) port t (class_of octets)) same
 
       pub verdict_same : (port : Port) (octets : List ℕ) → verdict_of plan base past port stamp octets ≡ verdict_of plan base other port stamp octets
@@ -174,19 +186,34 @@ module _ (plan : Plan) (base : Base) where
           ∙ ap (λ (live : List Station). taught_by vlan port octets (verdict_of plan base other port stamp octets) (moment_at base past stamp) live) (live_same vlan)
           ∙ ap (λ (t : ℕ). taught_by vlan port octets (verdict_of plan base other port stamp octets) t (live_at (moment_at base other stamp) (stations vlan base other))) same
 
+    -- the same is known from the later of the two last moments on
+    pub same_from : last_moment base other ≤ last_moment base past → IsSameFrom plan base (last_moment base past) past other
+    same_from low = record {
+      states = λ t vlan a later. ap (λ (all : List Mark). state_at (rules_of plan).addresses (access_of base).addresses (told all) t vlan a) known.tells;
+      requests = λ t vlan later. ap (λ (all : List Mark). open_requests (access_of base) vlan all t) known.tells;
+      stations = λ t vlan later. known.live t vlan later (omega (arith, low, later));
+      shut = known.shut;
+      verdicts = λ port stamp octets later. verdict_same stamp (omega (arith, low, later)) port octets;
+      outs = λ port stamp octets later. outs_same stamp (omega (arith, low, later)) port octets;
+    }
+
+  module _ (past other : List Row) (alike : Alike plan base past other) where
+    module _ (stamp : ℕ) (same : moment_at base past stamp ≡ moment_at base other stamp) where
       framed_answers : (port : Port) (octets : List ℕ) → answered_of (row_of plan base past (Frame port stamp octets)) ≡ answered_of (row_of plan base other (Frame port stamp octets))
       framed_answers port octets =
           let pass : ℕ = pass_of plan (passes.Ingress port) in
           ap (λ (t : ℕ). framed_answer pass port stamp octets t (held past) (verdict_of plan base past port stamp octets) (outs_of plan base past port stamp octets)) same
           ∙ ap (λ (at : ℕ). framed_answer pass port stamp octets (moment_at base other stamp) at (verdict_of plan base past port stamp octets) (outs_of plan base past port stamp octets)) alike.keeps
-          ∙ ap (λ (v : Verdict). framed_answer pass port stamp octets (moment_at base other stamp) (held other) v (outs_of plan base past port stamp octets)) (verdict_same port octets)
-          ∙ ap (λ (set : PortSet). framed_answer pass port stamp octets (moment_at base other stamp) (held other) (verdict_of plan base other port stamp octets) set) (outs_same port octets)
+          ∙ ap (λ (v : Verdict). framed_answer pass port stamp octets (moment_at base other stamp) (held other) v (outs_of plan base past port stamp octets)) (verdict_same past other alike.known stamp same port octets)
+          ∙ ap (λ (set : PortSet). framed_answer pass port stamp octets (moment_at base other stamp) (held other) (verdict_of plan base other port stamp octets) set) (outs_same past other alike.known stamp same port octets)
 
       framed : (port : Port) (octets : List ℕ) → Alike plan base (row_of plan base past (Frame port stamp octets) ∷ past) (row_of plan base other (Frame port stamp octets) ∷ other)
       framed port octets = record {
-        tells = ap (λ (j : Judged). j.marks) (judged_same port octets);
-        shut = alike.shut;
-        live = λ t vlan one two. ap (λ (known : List Station). live_at t known) (stations_framed port octets vlan);
+        known = record {
+          tells = ap (λ (j : Judged). j.marks) (judged_same past other alike.known stamp same port octets);
+          shut = alike.known.shut;
+          live = λ t vlan one two. ap (λ (known : List Station). live_at t known) (stations_framed past other alike.known stamp same port octets vlan);
+        };
         keeps = ap (λ (n : ℕ). length octets + n) alike.keeps;
         answers =
             ap (λ (a : Answered). a ∷ answered past) (framed_answers port octets)
@@ -195,23 +222,27 @@ module _ (plan : Plan) (base : Base) where
 
       longed : (port : Port) (len : ℕ) → Alike plan base (row_of plan base past (Long port stamp len) ∷ past) (row_of plan base other (Long port stamp len) ∷ other)
       longed port len = record {
-        tells = alike.tells;
-        shut = alike.shut;
-        live = λ t vlan one two. ap (λ (known : List Station). live_at t known) (live_same vlan);
+        known = record {
+          tells = alike.known.tells;
+          shut = alike.known.shut;
+          live = λ t vlan one two. ap (λ (known : List Station). live_at t known) (live_same past other alike.known stamp same vlan);
+        };
         keeps = ap (λ (n : ℕ). 0 + n) alike.keeps;
         answers =
             ap (λ (t : ℕ). longed_answer (pass_of plan (passes.Ingress port)) port stamp len t (is_shut plan base (number_of port) past) ∷ answered past) same
-            ∙ ap (λ (b : Bool). longed_answer (pass_of plan (passes.Ingress port)) port stamp len (moment_at base other stamp) b ∷ answered past) (alike.shut (number_of port))
+            ∙ ap (λ (b : Bool). longed_answer (pass_of plan (passes.Ingress port)) port stamp len (moment_at base other stamp) b ∷ answered past) (alike.known.shut (number_of port))
             ∙ ap (λ (rest : List Answered). longed_answer (pass_of plan (passes.Ingress port)) port stamp len (moment_at base other stamp) (is_shut plan base (number_of port) other) ∷ rest) alike.answers;
       }
 
       commanded_alike : (line : List ℕ) → Alike plan base (row_of plan base past (Command stamp line) ∷ past) (row_of plan base other (Command stamp line) ∷ other)
       commanded_alike line = record {
-        tells =
-            ap (λ (t : ℕ). commanded plan (access_of base) t (command_of line) (marks plan base past)) same
-            ∙ ap (λ (told : List Mark). commanded plan (access_of base) (moment_at base other stamp) (command_of line) told) alike.tells;
-        shut = λ q. ap (λ (b : Bool). shut_by plan q (command_of line) b) (alike.shut q);
-        live = λ t vlan one two. ap (λ (known : List Station). live_at t known) (live_same vlan);
+        known = record {
+          tells =
+              ap (λ (t : ℕ). commanded plan (access_of base) t (command_of line) (marks plan base past)) same
+              ∙ ap (λ (told : List Mark). commanded plan (access_of base) (moment_at base other stamp) (command_of line) told) alike.known.tells;
+          shut = λ q. ap (λ (b : Bool). shut_by plan q (command_of line) b) (alike.known.shut q);
+          live = λ t vlan one two. ap (λ (known : List Station). live_at t known) (live_same past other alike.known stamp same vlan);
+        };
         keeps = ap (λ (n : ℕ). length line + n) alike.keeps;
         answers =
             ap (λ (t : ℕ). line_answer (pass_of plan passes.Control) stamp line t (held past) ∷ answered past) same
@@ -228,14 +259,3 @@ module _ (plan : Plan) (base : Base) where
     entered (Tick stamp) is same = absurd (false≢true is)
     entered (Drain port count) is same = absurd (false≢true is)
     entered (End who how) is same = absurd (false≢true is)
-
-    -- the same is known from the later of the two last moments on
-    pub same_from : last_moment base other ≤ last_moment base past → IsSameFrom plan base (last_moment base past) past other
-    same_from low = record {
-      states = λ t vlan a later. ap (λ (all : List Mark). state_at (rules_of plan).addresses (access_of base).addresses (told all) t vlan a) alike.tells;
-      requests = λ t vlan later. ap (λ (all : List Mark). open_requests (access_of base) vlan all t) alike.tells;
-      stations = λ t vlan later. alike.live t vlan later (omega (arith, low, later));
-      shut = alike.shut;
-      verdicts = λ port stamp octets later. verdict_same stamp (omega (arith, low, later)) port octets;
-      outs = λ port stamp octets later. outs_same stamp (omega (arith, low, later)) port octets;
-    }

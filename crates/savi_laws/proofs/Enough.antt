@@ -52,7 +52,7 @@ room_left l left m x few some low = omega (arith, few, some, low)
 bytes_left : (h x : ℕ) → 1518 + h ≤ x → h + 1518 ≤ x
 bytes_left h x low = omega (arith, low)
 
-fewer_causes : (i j b x : ℕ) → i ≤ j → 4130 + (34 + 256 * (j + b)) ≤ x → 4130 + (34 + 256 * (i + b)) ≤ x
+pub fewer_causes : (i j b x : ℕ) → i ≤ j → 4130 + (34 + 256 * (j + b)) ≤ x → 4130 + (34 + 256 * (i + b)) ≤ x
 fewer_causes i j b x fewer low = omega (arith, fewer, low)
 
 fewer_octets : (h k x : ℕ) → 1518 + (k + h) ≤ x → 1518 + h ≤ x

@@ -31,7 +31,7 @@ use Rattle.savi_history.specs.Turns.{Turn, Arrives, Commands, Ends, who_of, turn
 use Rattle.savi_history.specs.Replay.{Stops, is_stopped, pieces_by, event_of, with_event, with_failure, begun, with_drain, drained, with_reply, with_line, entered, after, after_all, with_end, egress_ended, inputs_taken, replayed}
 use Rattle.savi_laws.specs.Budgets.{input_count, given_count, given_octets, kept_of, lines_of, arrivals_of, all_arrived}
 
-sum_ones : {X : Type 0} (xs : List X) → sum_by (λ x. 1) xs ≡ length xs
+pub sum_ones : {X : Type 0} (xs : List X) → sum_by (λ x. 1) xs ≡ length xs
 sum_ones [] = refl
 sum_ones (x ∷ xs) = omega (arith, sum_by-cons (λ y. 1) x xs, sum_ones xs)
 

@@ -1,5 +1,6 @@
 pub mod Alike
 pub mod Walking
+pub mod Refusing
 pub mod OwnMarks
 pub mod Raising
 pub mod OwnVlan

@@ -135,7 +135,7 @@ in_all l e m size few = omega (arith, size, few)
 with_ends : (e m x : ℕ) → e ≤ 34 → 4130 + (34 + m) ≤ x → 4130 + (e + m) ≤ x
 with_ends e m x few low = omega (arith, few, low)
 
-fewer_octets : (k n x : ℕ) → k ≤ n → 1518 + n ≤ x → 1518 + k ≤ x
+pub fewer_octets : (k n x : ℕ) → k ≤ n → 1518 + n ≤ x → 1518 + k ≤ x
 fewer_octets k n x few low = omega (arith, few, low)
 
 fewer_inputs : (p k n x : ℕ) → (p + 1) * k ≤ (p + 1) * n → 4130 + (34 + (p + 1) * n) ≤ x → 4130 + (34 + (p + 1) * k) ≤ x

@@ -136,7 +136,7 @@ module _ (plan : Plan) (base : Base) where
   same_answers past other rows others same = let alike : Alike plan base past other = same_known past other rows others same in alike.answers
 
   pub same_later : (past other : List Row) → AreRows plan base past → AreRows plan base other → came past ≡ came other → last_moment base other ≤ last_moment base past → IsSameFrom plan base (last_moment base past) past other
-  same_later past other rows others same low = same_from plan base past other (same_known past other rows others same) low
+  same_later past other rows others same low = let alike : Alike plan base past other = same_known past other rows others same in same_from plan base past other alike.known low
 
   -- an event on both sides, at one moment
   both_step : (past other : List Row) (event : Event) → ((row_of plan base past event).entry.moment ≡ (row_of plan base other event).entry.moment) ⊎ (is_in event ≡ false)
@@ -230,5 +230,5 @@ module _ (plan : Plan) (base : Base) where
         → IsSameFrom plan base (last_moment base (with_tick plan base past stamp events)) (with_tick plan base past stamp events) (rows_by plan base past events)
     tick_later events first =
         let at : AreAt events = are_at events first in
-        same_from plan base (with_tick plan base past stamp events) (rows_by plan base past events) at.alike
+        same_from plan base (with_tick plan base past stamp events) (rows_by plan base past events) at.alike.known
         (no_later (first_stamp events) (last_moment base (with_tick plan base past stamp events)) (last_moment base (rows_by plan base past events)) at.apart)

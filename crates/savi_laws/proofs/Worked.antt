@@ -1,5 +1,8 @@
--- More worked histories, computed: what an address comes to beside other ones, what a lease gives, and what a history costs.
-use Rattle.std.proofs.Common.{◌≡◌, ℕ, ◌+◌, ◌*◌, ◌^◌, inl, inr, List, [], ◌∷◌, refl, ap, lit≤, true, false, None, arith}
+-- More worked histories, computed: what an address comes to beside other ones, what a lease gives, which commands are
+-- refused, and what a history costs.
+use Rattle.std.proofs.Common.{◌≡◌, ℕ, ◌+◌, ◌*◌, ◌^◌, inl, inr, List, [], ◌∷◌, codes, refl, ap, lit≤, true, false, Some, None, arith}
+use Rattle.std.specs.Fmt.{digits}
+use Rattle.savi_kinds.specs.AddrOf.{addr_of}
 use Rattle.savi_kinds.specs.declared.plan.Plan.{Plan}
 use Rattle.savi_kinds.specs.declared.plan.Role.TheVariants as roles
 use Rattle.savi_kinds.specs.declared.plan.Method.TheVariants.{Dhcp}
@@ -19,6 +22,8 @@ use Rattle.fcfs_states.specs.Aged.{aged, aged_by}
 use Rattle.fcfs_states.proofs.AgeingLemmas.{rank}
 use Rattle.mix_rules.specs.declared.state.AddrState.{AddrState}
 use Rattle.mix_rules.specs.States.{nobody}
+use Rattle.cli_lang.specs.CommandOf.{port_of_text, command_of}
+use Rattle.control_replies.specs.declared.refusal.Refusal.TheVariants.{TrustedPort, NoBinding}
 use Rattle.hist_store.specs.Rows.{Row, held}
 use Rattle.savi_access.specs.Judged.{judged}
 use Rattle.savi_access.specs.Marks.{Met}
@@ -36,6 +41,7 @@ use Rattle.savi_laws.specs.Rebuilt.{rows_by}
 use Rattle.savi_laws.specs.Addresses.{told_on, address_at, ComesToSource}
 use Rattle.savi_laws.specs.Raised.{held_after, HoldsAfter}
 use Rattle.savi_laws.specs.VlanMarks.{in_vlan}
+use Rattle.savi_laws.specs.Refusals.{refusal_at}
 use Rattle.savi_laws.specs.Budgets.{input_count, given_count, given_octets, lines_of, arrivals_of, all_arrived, SufficesForReplay, causes, Suffices}
 use Rattle.savi_laws.proofs.Example.{plan, first_address, claimed}
 
@@ -131,6 +137,19 @@ none_unasked = refl
 pub other_vlan_aside : in_vlan 1 (Met 2 500 7 [] ∷ marks plan empty claimed) ≡ in_vlan 1 (marks plan empty claimed)
 unfolding class_of nd_of named message_passes kind_of guard_of judged aged aged_by
 other_vlan_aside = refl
+
+-- port 2 is trusted, and fe80::12 has no state: commands on them are refused, and one that clears fe80::11 isn't
+pub static_is_refused : refusal_at plan empty claimed 1600 (codes "static fe80::11 2") ≡ Some TrustedPort
+unfolding command_of addr_of port_of_text digits
+static_is_refused = refl
+
+pub clear_is_refused : refusal_at plan empty claimed 1600 (codes "clear fe80::12") ≡ Some NoBinding
+unfolding command_of addr_of class_of nd_of named message_passes kind_of guard_of judged aged aged_by
+clear_is_refused = refl
+
+pub clear_is_obeyed : refusal_at plan empty claimed 1600 (codes "clear fe80::11") ≡ None
+unfolding command_of addr_of class_of nd_of named message_passes kind_of guard_of judged aged aged_by
+clear_is_obeyed = refl
 
 -- the probe of the first packet is taken out, a tick comes, and the second probe is taken out
 abbrev ticked : List Row

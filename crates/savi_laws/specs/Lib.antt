@@ -5,3 +5,4 @@ pub mod Raised
 pub mod VlanMarks
 pub mod Budgets
 pub mod LateTicks
+pub mod Refusals

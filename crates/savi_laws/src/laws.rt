@@ -1,6 +1,6 @@
 // The laws on what verdicts depend on. Each function does nothing: its contract is the law.
 
-ghost use Rattle.std.specs.Prelude.{◌≡◌, ◌<◌, ◌≤◌, ℕ, true, false, List, length, Option, All};
+ghost use Rattle.std.specs.Prelude.{◌≡◌, ◌<◌, ◌≤◌, ℕ, true, false, List, length, Option, Some, All};
 ghost use Rattle.savi_kinds.specs.Arrivals.{Input};
 ghost use Rattle.savi_kinds.specs.ValidPlan.{IsValidPlan};
 ghost use Rattle.savi_kinds.specs.declared.plan.Plan.{Plan};
@@ -13,6 +13,8 @@ ghost use Rattle.frame_class.specs.declared.classes.Read.{Read};
 ghost use Rattle.fcfs_states.specs.States.{Same};
 ghost use Rattle.cli_lang.specs.Arrivals as control;
 ghost use Rattle.hist_store.specs.Rows.{Row, held};
+ghost use Rattle.control_replies.specs.declared.refusal.Refusal.{Refusal};
+ghost use Rattle.control_replies.specs.Replies.{refusal_text};
 ghost use Rattle.savi_access.specs.Rows.{state_in};
 ghost use Rattle.savi_access.specs.Rules.{AccessRules, AccessBase};
 ghost use Rattle.savi_access.specs.Marks.{Mark};
@@ -22,16 +24,18 @@ ghost use Rattle.savi_history.specs.Bases.{Base, access_of, empty};
 ghost use Rattle.savi_history.specs.ControlInputs.{entered_lines};
 ghost use Rattle.savi_history.specs.Endings.{has_full};
 ghost use Rattle.savi_history.specs.Readable.{IsInput, IsControl};
-ghost use Rattle.savi_history.specs.Replay.{Stops, replayed};
-ghost use Rattle.savi_history.specs.Events.{Event, judged_of, the_vlan};
+ghost use Rattle.savi_history.specs.Replay.{Stops, with_event, replayed};
+ghost use Rattle.savi_history.specs.Events.{Event, Command, judged_of, the_vlan};
 ghost use Rattle.savi_history.specs.Legal.{IsLegal, IsOpen};
 ghost use Rattle.savi_history.specs.Limits.{IsWithinLimits, has_room};
 ghost use Rattle.savi_history.specs.Marks.{marks};
 ghost use Rattle.savi_history.specs.Moments.{last_moment, moment_at};
 ghost use Rattle.savi_history.specs.Ticks.{IsSameFrom};
+ghost use Rattle.savi_history.specs.Shown.{shown};
 ghost use Rattle.savi_laws.specs.Rebuilt.{rows_by, AreRows, ComesFirst, with_tick};
 ghost use Rattle.savi_laws.specs.Answered.{came, answered};
 ghost use Rattle.savi_laws.specs.LateTicks.{LateTick};
+ghost use Rattle.savi_laws.specs.Refusals.{refusal_at, ChangesNothing};
 ghost use Rattle.savi_laws.specs.Addresses.{told_on, address_at, port_has_room, source_step, ComesToSource};
 ghost use Rattle.savi_laws.specs.Raised.{held_after, HoldsAfter, GivesLease};
 ghost use Rattle.savi_laws.specs.Budgets.{input_count, given_count, given_octets, lines_of, arrivals_of, all_arrived};
@@ -68,6 +72,20 @@ pub fn ticks_can_be_left_out()
 /// can't go.
 pub fn a_late_tick_may_change_a_verdict()
     ensures { LateTick }
+{}
+
+/// A command that is refused, or a line that is no command, changes nothing but by its entry: what is known ages to its
+/// moment, and the probes that fell due by then are queued, as by a tick. So from its moment on the same is known as without
+/// it, and a frame that comes next is judged alike and goes to the same ports. The reply says why it is refused.
+pub fn a_refused_command_changes_nothing()
+    ensures nothing { (plan : Plan) (base : Base) (past : List Row) (stamp : ℕ) (line : List ℕ) (refusal : Refusal)
+        → refusal_at plan base past stamp line ≡ Some refusal → ChangesNothing plan base past stamp line }
+    ensures later { (plan : Plan) (base : Base) (past : List Row) (stamp : ℕ) (line : List ℕ) (refusal : Refusal)
+        → refusal_at plan base past stamp line ≡ Some refusal
+        → IsSameFrom plan base (moment_at base past stamp) (with_event plan base past (Command stamp line)) past }
+    ensures reply { (plan : Plan) (base : Base) (past : List Row) (stamp : ℕ) (line : List ℕ) (refusal : Refusal)
+        → refusal_at plan base past stamp line ≡ Some refusal
+        → shown plan base (with_event plan base past (Command stamp line)) ≡ refusal_text refusal }
 {}
 
 /// The state of an address follows from where it began, and from the events that name it with their moments and whether

@@ -1,0 +1,4 @@
+pub mod Fronts
+pub mod Fitting
+pub mod Sizing
+pub mod Example
