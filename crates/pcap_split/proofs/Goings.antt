@@ -1,5 +1,5 @@
 -- One step after another.
-use Rattle.std.proofs.Common.{◌≡◌, ℕ, suc, ◌+◌, ◌^◌, ◌<◌, ◌≤◌, ◌==◌, Bool, true, false, List, [], ◌∷◌, ◌++◌, length, take, get_or, Option, Some, None, IfSome, refl, sym, ap, subst, ◌∙◌, arith, append-nil, append_assoc, length-append, if◌then◌else◌}
+use Rattle.std.proofs.Common.{◌≡◌, ◌⊎◌, inl, inr, ℕ, suc, ◌+◌, ◌^◌, ◌<◌, ◌≤◌, ◌==◌, Bool, true, false, List, [], ◌∷◌, ◌++◌, length, take, get_or, Option, Some, None, IfSome, refl, sym, ap, subst, ◌∙◌, arith, append-nil, append_assoc, length-append, if◌then◌else◌}
 use Rattle.savi_kinds.specs.declared.entry.How.{How}
 use Rattle.savi_kinds.specs.declared.entry.How.TheVariants as how
 use Rattle.savi_ends.specs.Octets.{behind}
@@ -10,7 +10,7 @@ use Rattle.pcapng_io.specs.declared.next.NgNext.{NgNext}
 use Rattle.pcapng_io.specs.declared.next.NgNext.TheVariants as next
 use Rattle.pcapng_io.specs.Blocks.{Standing}
 use Rattle.pcapng_io.specs.Runs.{Event, Begins, Frame, Long, ended}
-use Rattle.pcapng_io.specs.Readers.{State, Reading, Ended, Comes, HasRead, HasReadOne, HasEnded, HasFailed, Answers, IsPlaced, block_place, last_answer}
+use Rattle.pcapng_io.specs.Readers.{State, Reading, Ended, Comes, HasRead, HasReadOne, HasEnded, HasFailed, FailsIn, Answers, IsPlaced, block_place, last_answer}
 use Rattle.pcapng_io.proofs.Readings.{has_read_more}
 use Rattle.pcap_split.specs.declared.counts.Counts.{Counts}
 use Rattle.pcap_split.specs.declared.output.Output.{Output}
@@ -19,8 +19,8 @@ use Rattle.pcap_split.specs.Counts.{interfaces_of, tally_of, counted}
 use Rattle.pcap_split.specs.declared.split.SplitGot.{SplitGot}
 use Rattle.pcap_split.specs.declared.split.SplitGot.TheVariants as got
 use Rattle.pcap_split.specs.Steps.{MayTake, Does, DoesEvent, Rests}
-use Rattle.pcap_split.specs.Going.{Tells, Writes, split_behind, HasTold, HasBroken, HasTaken, HasTakenFront, EachOutput, Differ, HasRisen, WriteRose, HasBegun}
-use Rattle.pcap_split.specs.States.{IsWithin}
+use Rattle.pcap_split.specs.Going.{Tells, Writes, split_behind, last_got, BreaksOff, IsAtBlock, HasTold, HasBroken, HasTaken, HasTakenFront, EachOutput, Differ, HasRisen, WriteRose, HasBegun}
+use Rattle.pcap_split.specs.States.{Splitting, IsWithin}
 
 pub tally_more : (a b : List Event) (t : Tally) → tally t (a ++ b) ≡ tally (tally t a) b
 tally_more [] b t = refl
@@ -124,8 +124,37 @@ told_behind first mid new gave g left events ending was place one = record {
     by None whole = tt
     by (Some rest) whole = rw (append_assoc gave g rest) (rw append-nil at (was (g ++ rest) [] ending whole))
 
-pub broken_behind : (first mid new : State) (gave g : List ℕ) (events : List Event) → HasRead first mid gave events → HasFailed mid new g → HasBroken first new (gave ++ g) events
-broken_behind first mid new gave g events was one = record { state = one.state; taken = (one.taken.0, rw append-nil at (was g [] one.taken.0 one.taken.1)) }
+-- octets that break off, behind others
+pub breaks_behind : (first s : Standing) (gave more : List ℕ) (events later : List Event) → HasRead (Reading first) (Reading s) gave events → BreaksOff (Reading s) more later → BreaksOff (Reading first) (gave ++ more) (events ++ later)
+breaks_behind first s gave more events later was one = (
+  one.0,
+  gave ++ one.1,
+  one.2,
+  ap (λ (l : List ℕ). gave ++ l) one.3 ∙ sym (append_assoc gave one.1 one.2),
+  has_read_more (Reading first) (Reading s) (Reading one.0) gave one.1 events later was one.4,
+  one.5,
+)
+
+-- the same of a state that stands at a block
+pub breaks_behind_state : (first : Standing) (mid : State) (gave more : List ℕ) (events later : List Event) → IsAtBlock mid → HasRead (Reading first) mid gave events → BreaksOff mid more later → BreaksOff (Reading first) (gave ++ more) (events ++ later)
+breaks_behind_state first mid gave more events later at was one =
+    breaks_behind first at.0 gave more events later (subst (λ (m : State). HasRead (Reading first) m gave events) at.1 was) (subst (λ (m : State). BreaksOff m more later) at.1 one)
+
+-- a reader is where it was, or it stands at a block
+abbrev pub IsOn : State → State → Type 0
+IsOn first mid = (mid ≡ first) ⊎ IsAtBlock mid
+
+breaks_now : (first mid : State) (gave g : List ℕ) (events : List Event) → IsOn first mid → HasRead first mid gave events → FailsIn mid g → BreaksOff first (gave ++ g) events
+breaks_now (Reading first) mid gave g events (inl same) was fails = rw append-nil at (breaks_behind_state first mid gave g events [] (first, same) was (subst (λ (m : State). BreaksOff m g []) (sym same) (subst (λ (m : State). FailsIn m g) same fails)))
+breaks_now (Reading first) mid gave g events (inr at) was fails = rw append-nil at (breaks_behind_state first mid gave g events [] at was (subst (λ (m : State). BreaksOff m g []) (sym at.1) (subst (λ (m : State). FailsIn m g) at.1 fails)))
+breaks_now (Ended ending) mid gave g events on was fails = tt
+
+pub broken_behind : (first mid new : State) (gave g : List ℕ) (events : List Event) → IsOn first mid → HasRead first mid gave events → HasFailed mid new g → HasBroken first new (gave ++ g) events
+broken_behind first mid new gave g events on was one = record {
+  state = one.state;
+  taken = (one.taken.0, rw append-nil at (was g [] one.taken.0 one.taken.1));
+  unread = breaks_now first mid gave g events on was one.unread;
+}
 
 -- a fault later on is one since the start
 pub rose_since : (before mid after : ℕ) → before ≤ mid → Rose mid after → Rose before after
@@ -167,6 +196,7 @@ may_take mid new gave buf left counts next.Failed answers placed within = tt
 
 -- what was read, counted and written so far
 pub record SoFar {K : Type 0} (written : K → Option (List ℕ)) (faults : K → ℕ) (first now : State) (counts0 counts : Counts) (old new : List (Output K)) (gave : List ℕ) (events : List Event) : Type 0 where
+  pub on : IsOn first now
   pub read : HasRead first now gave events
   pub place : block_place now ≡ block_place first + length gave
   pub each : EachOutput (HasTaken written faults events) old new
@@ -185,6 +215,7 @@ pub event_more : {K : Type 0} (written : K → Option (List ℕ)) (faults : K �
 event_more written faults first mid new counts0 counts counts' old outputs outputs' gave g events event was one each one_tallied =
     let stay = interfaces_stay written faults events old outputs was.each in
     record {
+      on = inr (one.reading.0, one.reading.1);
       read = has_read_more first mid new gave g events (event ∷ []) was.read one.read;
       place = place_more first mid new gave g event was.place one;
       each = each_taken written faults events (event ∷ []) old outputs outputs' was.each each;
@@ -238,7 +269,7 @@ stop_event written faults first mid new counts0 counts counts' old outputs outpu
     let stay = interfaces_stay written faults events old outputs was.each in
     record {
       events = events ++ event ∷ [];
-      tells = record { read = has_read_more first mid new gave g events (event ∷ []) was.read one.read; place = place_more first mid new gave g event was.place one };
+      tells = record { read = has_read_more first mid new gave g events (event ∷ []) was.read one.read; reading = (one.reading.0, one.reading.1); place = place_more first mid new gave g event was.place one };
       begun = (
         events,
         ap (λ (e : Event). events ++ e ∷ []) does.2,
@@ -252,7 +283,7 @@ stop_event written faults first mid new counts0 counts counts' old outputs outpu
     let stay = interfaces_stay written faults events old outputs was.each in
     record {
       events = events ++ event ∷ [];
-      tells = record { read = has_read_more first mid new gave g events (event ∷ []) was.read one.read; place = place_more first mid new gave g event was.place one };
+      tells = record { read = has_read_more first mid new gave g events (event ∷ []) was.read one.read; reading = (one.reading.0, one.reading.1); place = place_more first mid new gave g event was.place one };
       begun = tt;
       writes = each_front written faults interface events (event ∷ []) old outputs outputs' was.each does.0;
       tallied_is = tally_step counts0 counts counts' (interfaces_of old) (interfaces_of old) events event was.tallied_is
@@ -283,7 +314,7 @@ stops_at written faults first mid new counts0 counts counts' old outputs outputs
 stops_at written faults first mid new counts0 counts counts' old outputs outputs' gave g buf left events (next.Malformed at) stop was answers does =
     rests written faults first new counts0 counts counts' old outputs outputs' (gave ++ g) left events (got.Malformed at) stop was.each was.tallied_is (λ e. e) refl (told_behind first mid new gave g left events (how.Malformed at) was.read was.place answers) tt does
 stops_at written faults first mid new counts0 counts counts' old outputs outputs' gave g buf left events next.Failed stop was answers does =
-    rests written faults first new counts0 counts counts' old outputs outputs' (gave ++ g) left events got.Failed stop was.each was.tallied_is (λ e. e) refl (broken_behind first mid new gave g events was.read answers) tt does
+    rests written faults first new counts0 counts counts' old outputs outputs' (gave ++ g) left events got.Failed stop was.each was.tallied_is (λ e. e) refl (broken_behind first mid new gave g events was.on was.read answers) tt does
 
 risen_since : {K : Type 0} (written : K → Option (List ℕ)) (faults : K → ℕ) (events : List Event) (interface : ℕ) (old mid new : List (Output K)) → EachOutput (HasTaken written faults events) old mid → HasRisen faults interface mid new → HasRisen faults interface old new
 risen_since {K} written faults events interface old mid new each risen =
@@ -332,3 +363,48 @@ failed_by written faults next.Failed buf counts counts' outputs outputs' stop do
 pub failed_back : {K : Type 0} (written : K → Option (List ℕ)) (faults : K → ℕ) (answer : NgNext) (buf : List ℕ) (counts counts' : Counts) (outputs outputs' : List (Output K)) (stop : SplitGot) → Does written faults answer buf counts counts' outputs outputs' (Some stop) → answer ≡ next.Failed → stop ≡ got.Failed
 failed_back written faults answer buf counts counts' outputs outputs' stop does is =
     some_same stop got.Failed (sym (subst (λ (a : NgNext). Does written faults a buf counts counts' outputs outputs' (Some stop)) is does).0)
+
+abbrev pub splitting : State → Counts → Splitting
+splitting state counts = record { reading = state; counts = counts }
+
+-- a splitter whose reader had ended asks it once more
+module _ {K Q : Type 0} (written : K → Option (List ℕ)) (faults : K → ℕ) (mid new : State) (counts0 counts counts' : Counts) (old outputs outputs' : List (Output K)) (source0 source source' : Q) (held buf : List ℕ) (answer : NgNext) (result : Option SplitGot) where
+  abbrev IsSaid : NgNext → Type 0
+  IsSaid a = (answer ≡ a) × (new ≡ mid) × (source' ≡ source) × (buf ≡ held)
+
+  -- nothing was done so far
+  abbrev IsIdle : State → Type 0
+  IsIdle first = (mid ≡ first) × (counts ≡ counts0) × (source ≡ source0) × (outputs ≡ old)
+
+  -- nothing is done now
+  abbrev StaysIdle : State → SplitGot → Type 0
+  StaysIdle first got = (result ≡ Some got) × (splitting new counts' ≡ splitting first counts0) × (source' ≡ source0) × (outputs' ≡ old)
+
+  module _ (again : IfSome (last_answer mid) IsSaid) (does : Does written faults answer buf counts counts' outputs outputs' result) where
+    stays_idle : (ending : How) (a : NgNext) (stop : SplitGot) → (IfSome (last_answer (Ended ending)) IsSaid → IsSaid a) → (Does written faults a buf counts counts' outputs outputs' result → Rests stop counts counts' outputs outputs' result) → IsIdle (Ended ending) → StaysIdle (Ended ending) stop
+    stays_idle ending a stop says rests_so idle =
+        let said = says (subst (λ (m : State). IfSome (last_answer m) IsSaid) idle.0 again) in
+        let rested = rests_so (subst (λ (x : NgNext). Does written faults x buf counts counts' outputs outputs' result) said.0 does) in (
+          rested.0,
+          ap (λ (s : State). splitting s counts') (said.1 ∙ idle.0) ∙ ap (splitting (Ended ending)) (rested.1 ∙ idle.1),
+          said.2 ∙ idle.2,
+          rested.2 ∙ idle.3,
+        )
+
+    pub idle_again : (first : State) → IfSome (last_got first) (λ got. IsIdle first) → IfSome (last_got first) (StaysIdle first)
+    idle_again (Reading s) idle = tt
+    idle_again (Ended how.End) idle = stays_idle how.End next.End got.End (λ l. l) (λ d. d) idle
+    idle_again (Ended (how.Malformed at)) idle = stays_idle (how.Malformed at) (next.Malformed at) (got.Malformed at) (λ l. l) (λ d. d) idle
+    idle_again (Ended how.Failed) idle = stays_idle how.Failed next.Failed got.Failed (λ l. l) (λ d. d) idle
+    idle_again (Ended how.Quit) idle = tt
+    idle_again (Ended (how.Overlong at)) idle = tt
+    idle_again (Ended how.Unwritten) idle = tt
+    idle_again (Ended (how.Full len)) idle = tt
+
+pub if_any : {X : Type 0} (o : Option X) (P : X → Type 0) → ((x : X) → P x) → IfSome o P
+if_any None P all = tt
+if_any (Some x) P all = all x
+
+pub if_more : {X : Type 0} {P R : X → Type 0} (o : Option X) → IfSome o P → ((x : X) → P x → R x) → IfSome o R
+if_more None is more = tt
+if_more (Some x) is more = more x is

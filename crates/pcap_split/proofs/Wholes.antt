@@ -21,7 +21,7 @@ use Rattle.pcap_split.specs.Splits.{Tally, frames_of, split_text, no_tally, has_
 use Rattle.pcap_split.specs.Counts.{interfaces_of, tally_of, no_counts}
 use Rattle.pcap_split.specs.Going.{HasTold, HasBroken, HasTaken, EachOutput}
 use Rattle.pcap_split.specs.Wholes.{HasCapture, IsSplit, IsCall, IsSplitWhole, IsSplitFront}
-use Rattle.pcap_split.proofs.Goings.{tally_more, frames_more, sent_more, same_interfaces}
+use Rattle.pcap_split.proofs.Goings.{breaks_behind_state, tally_more, frames_more, sent_more, same_interfaces}
 
 -- each packet is of an interface that began before it; so many began before the first of these events
 abbrev Declared : ℕ → List Event → Type 0
@@ -129,7 +129,7 @@ each_capture written faults a b old mid new first second = (
 )
 
 pub split_start : {K : Type 0} (written : K → Option (List ℕ)) → IsSplit written (Reading at_start) no_counts [] [] [] []
-split_start written = record { read = has_read_none (Reading at_start); place = refl; counted_is = refl; captures = (refl, λ k d within. absurd (omega (arith, within))) }
+split_start written = record { read = has_read_none (Reading at_start); reading = (at_start, refl); place = refl; counted_is = refl; captures = (refl, λ k d within. absurd (omega (arith, within))) }
 
 -- what the counts are behind one call more
 pub count_more : {K : Type 0} (written : K → Option (List ℕ)) (state : State) (counts : Counts) (handed now : List (Output K)) (gave : List ℕ) (events later : List Event) → IsSplit written state counts handed now gave events → tally (tally_of counts (interfaces_of now)) later ≡ tally no_tally (events ++ later)
@@ -158,6 +158,7 @@ split_opened {K} written faults interface old new counts counts' handed now now'
     } in
     record {
       read = read;
+      reading = call.tells.reading;
       place = omega (arith, call.tells.place, was.place, length-append gave more);
       counted_is = ap (tally_of counts') (interfaces_more handed o ∙ ap (λ (l : List ℕ). l ++ interface ∷ []) (sym stay)) ∙ call.counted_is ∙ count_more written old counts handed now gave events later was;
       captures = each_more (HasCapture written (events ++ later)) handed now' o n (each_capture written faults events later handed now now' was.captures call.writes) capture;
@@ -186,6 +187,7 @@ pub split_broken : {K : Type 0} (written : K → Option (List ℕ)) (faults : K 
     → tally_of counts' (interfaces_of now) ≡ tally (tally_of counts (interfaces_of now)) later → IsSplitFront written counts' handed now' (gave ++ more) (events ++ later)
 split_broken written faults old new counts counts' handed now now' gave more events later was broken each one = record {
   taken = (broken.taken.0, was.read more later broken.taken.0 broken.taken.1);
+  unread = breaks_behind_state at_start old gave more events later was.reading was.read broken.unread;
   counted_is = counts_are written old counts counts' handed now gave events later was one;
   captures = each_capture written faults events later handed now now' was.captures each;
 }

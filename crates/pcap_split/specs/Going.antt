@@ -1,12 +1,13 @@
 -- What one call of a splitter did: what was told, and what each output was given.
-use Rattle.std.specs.Prelude.{◌≡◌, ◌≢◌, ℕ, ◌+◌, ◌<◌, ◌≤◌, List, [], ◌∷◌, ◌++◌, length, slice_index_or, Option, IfSome}
+use Rattle.std.specs.Prelude.{◌≡◌, ◌≢◌, ℕ, ◌+◌, ◌<◌, ◌≤◌, List, [], ◌∷◌, ◌++◌, length, slice_index_or, Option, Some, None, IfSome}
 use Rattle.savi_kinds.specs.declared.entry.How.{How}
 use Rattle.savi_kinds.specs.declared.entry.How.TheVariants as how
 use Rattle.savi_ends.specs.Octets.{behind, IsFront}
 use Rattle.savi_ends.specs.Faults.{Rose}
 use Rattle.pcap_io.specs.Captures.{records_text}
+use Rattle.pcapng_io.specs.Blocks.{Standing}
 use Rattle.pcapng_io.specs.Runs.{Event, Begins}
-use Rattle.pcapng_io.specs.Readers.{State, Ended, Comes, HasRead, block_place, longest_block}
+use Rattle.pcapng_io.specs.Readers.{State, Reading, Ended, Comes, HasRead, IsUnread, block_place, longest_block}
 use Rattle.pcap_split.specs.declared.split.SplitGot.{SplitGot}
 use Rattle.pcap_split.specs.declared.split.SplitGot.TheVariants as got
 use Rattle.pcap_split.specs.declared.output.Output.{Output}
@@ -20,14 +21,28 @@ pub record HasTold (old new : State) (gave : List ℕ) (left : Option (List ℕ)
   pub whole : IfSome left (λ rest. Comes old (gave ++ rest) (record { events = events; ending = ending }))
   pub near : (at : ℕ) → ending ≡ how.Malformed at → block_place old + length gave ≤ at + longest_block
 
--- A read failed: what was taken tells these events.
+-- the reader stands at a block
+abbrev pub IsAtBlock : State → Type 0
+IsAtBlock state = (s : Standing) × (state ≡ Reading s)
+
+-- These octets tell these events, and then end in a block that wasn't read. Of a capture that had ended before, this says
+-- nothing.
+abbrev pub BreaksOff : State → List ℕ → List Event → Type 0
+BreaksOff (Reading first) octets events =
+    (s : Standing) × (front : List ℕ) × (part : List ℕ) × (octets ≡ front ++ part) × HasRead (Reading first) (Reading s) front events × IsUnread s part
+BreaksOff (Ended ending) octets events = Unit {0}
+
+-- A read failed: what was taken tells these events, and the block in which it failed wasn't known to have a total length that
+-- no block has.
 pub record HasBroken (old new : State) (gave : List ℕ) (events : List Event) : Type 0 where
   pub state : new ≡ Ended how.Failed
   pub taken : (ending : How) × Comes old gave (record { events = events; ending = ending })
+  pub unread : BreaksOff old gave events
 
--- What was taken tells these events, whatever comes behind it, and the reader stands there.
+-- What was taken tells these events, whatever comes behind it, and the reader stands at the next block.
 pub record HasGone (old new : State) (gave : List ℕ) (events : List Event) : Type 0 where
   pub read : HasRead old new gave events
+  pub reading : IsAtBlock new
   pub place : block_place new ≡ block_place old + length gave
 
 -- what the octets that a call took tell
@@ -101,3 +116,18 @@ split_behind (got.Unwritten interface) split = split
 split_behind got.End split = split
 split_behind (got.Malformed at) split = split
 split_behind got.Failed split = split
+
+-- the answer of a splitter where the capture has ended so
+abbrev pub got_of : How → Option SplitGot
+got_of how.End = Some got.End
+got_of (how.Malformed at) = Some (got.Malformed at)
+got_of how.Failed = Some got.Failed
+got_of how.Quit = None
+got_of (how.Overlong at) = None
+got_of how.Unwritten = None
+got_of (how.Full len) = None
+
+-- what a splitter whose reader has ended answers again and again
+abbrev pub last_got : State → Option SplitGot
+last_got (Reading s) = None
+last_got (Ended ending) = got_of ending

@@ -10,17 +10,18 @@ use Rattle.pcap_split.specs.declared.output.Output.{Output}
 use Rattle.pcap_split.specs.declared.split.SplitGot.{SplitGot}
 use Rattle.pcap_split.specs.Splits.{split_text, no_tally, tally}
 use Rattle.pcap_split.specs.Counts.{interfaces_of, tally_of}
-use Rattle.pcap_split.specs.Going.{Tells, HasBegun, Writes, EachOutput, split_behind}
+use Rattle.pcap_split.specs.Going.{BreaksOff, IsAtBlock, Tells, HasBegun, Writes, EachOutput, split_behind}
 
 -- an output holds the capture of its interface, behind what its sink held when it was handed out
 pub record HasCapture {K : Type 0} (written : K → Option (List ℕ)) (events : List Event) (handed now : Output K) : Type 0 where
   pub same : now.interface ≡ handed.interface
   pub text : written now.sink ≡ behind (written handed.sink) (split_text handed.interface events)
 
--- All octets so far told these events, and the reader stands behind them: they are counted, and each output has the capture
--- of its interface.
+-- All octets so far told these events, and the reader stands behind them, at the next block: they are counted, and each
+-- output has the capture of its interface.
 pub record IsSplit {K : Type 0} (written : K → Option (List ℕ)) (state : State) (counts : Counts) (handed now : List (Output K)) (gave : List ℕ) (events : List Event) : Type 0 where
   pub read : HasRead (Reading at_start) state gave events
+  pub reading : IsAtBlock state
   pub place : block_place state ≡ length gave
   pub counted_is : tally_of counts (interfaces_of handed) ≡ tally no_tally events
   pub captures : EachOutput (HasCapture written events) handed now
@@ -41,8 +42,10 @@ pub record IsSplitWhole {K : Type 0} (written : K → Option (List ℕ)) (counts
   pub counted_is : tally_of counts (interfaces_of handed) ≡ tally no_tally events
   pub captures : EachOutput (HasCapture written events) handed now
 
--- A read failed: what was taken tells these events; they are counted, and each output has the capture of its interface so far.
+-- A read failed: what was taken tells these events, and the block in which it failed wasn't known to have a total length that
+-- no block has; they are counted, and each output has the capture of its interface so far.
 pub record IsSplitFront {K : Type 0} (written : K → Option (List ℕ)) (counts : Counts) (handed now : List (Output K)) (gave : List ℕ) (events : List Event) : Type 0 where
   pub taken : (ending : How) × Arrive gave (record { events = events; ending = ending })
+  pub unread : BreaksOff (Reading at_start) gave events
   pub counted_is : tally_of counts (interfaces_of handed) ≡ tally no_tally events
   pub captures : EachOutput (HasCapture written events) handed now

@@ -1,4 +1,4 @@
-ghost use Rattle.std.specs.Prelude.{◌≡◌, ◌≢◌, ◌≤◌, ℕ, List};
+ghost use Rattle.std.specs.Prelude.{◌≡◌, ◌≢◌, ◌≤◌, ℕ, List, IfSome};
 ghost use Rattle.savi_ends.specs.Octets.{Takes};
 ghost use Rattle.savi_ends.specs.Faults.{Rose};
 
@@ -34,7 +34,7 @@ impl Splitter {
     ghost use Rattle.pcapng_io.specs.Readers.{Reading, Ended};
     ghost use Rattle.pcap_split.specs.Splits.{tally};
     ghost use Rattle.pcap_split.specs.Counts.{interfaces_of, tally_of, no_counts};
-    ghost use Rattle.pcap_split.specs.Going.{Differ, HasBegun, Tells, Writes, split_behind, WriteRose};
+    ghost use Rattle.pcap_split.specs.Going.{Differ, HasBegun, Tells, Writes, split_behind, last_got, WriteRose};
 
     /// A splitter of a whole file.
     pub fn new() -> Splitter
@@ -62,6 +62,8 @@ impl Splitter {
     /// Reads on and writes each frame to the output of its interface, up to an interface that needs an output, the end, or a
     /// read or write that failed.
     ///
+    /// After `End`, `Malformed` or `Failed` it reads and writes nothing, and answers the same again.
+    ///
     /// The outputs are those of the interfaces that began so far, each with the header of its capture. It takes no memory.
     /// O(n) in the octets that are read, and in the outputs for each packet.
     pub fn go_on<S: Source, K: Sink>(
@@ -81,6 +83,9 @@ impl Splitter {
             × HasBegun result (tally_of self.old.counts (interfaces_of outputs.old)) events
             × Writes K.written K.faults result events outputs.old outputs.new
             × (tally_of self.new.counts (split_behind result (interfaces_of outputs.old)) ≡ tally (tally_of self.old.counts (interfaces_of outputs.old)) events) }
+
+        // A splitter whose capture has ended, or of which a read failed, reads and writes nothing and answers the same.
+        ensures again { IfSome (last_got self.old.reading) (λ got. (result ≡ got) × (self.new ≡ self.old) × (source.new ≡ source.old) × (outputs.new ≡ outputs.old)) }
     {
         let mut buf = [0; FRAME_OCTETS_MOST];
         loop {

@@ -2,8 +2,7 @@
 //!
 //! `specs/Blocks.antt` says what a block is, `specs/Runs.antt` which blocks the octets of a file are, what they tell and how
 //! they end. The contract of `NgReader::next` says of the octets that the source gave in a call what they tell, however
-//! they came in pieces; `specs/Readers.antt` has its words. `specs/Splits.antt` says what each interface's own capture
-//! holds. The laws stand in `laws`.
+//! they came in pieces; `specs/Readers.antt` has its words. The laws stand in `laws`.
 #![tactic(auto)]
 
 mod block;

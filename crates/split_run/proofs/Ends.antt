@@ -21,7 +21,7 @@ use Rattle.pcap_split.proofs.Goings.{rose_since}
 use Rattle.split_run.specs.declared.outcome.Outcome.{Outcome}
 use Rattle.split_run.specs.declared.outcome.Outcome.TheVariants as outcome
 use Rattle.split_run.specs.Names.{output_name, name_in, AreNames}
-use Rattle.split_run.specs.Runs.{Keeps, OfTold, IsFaulty, AddedAll, AddedSome, GaveSome, GaveNear, GaveBroken, AreCaptures, TellsFirst, IsSplitToEnd, IsSplitInPart, IsNamed, CameTo, IsSplitRun}
+use Rattle.split_run.specs.Runs.{Keeps, OfTold, IsFaulty, AddedAll, AddedSome, GaveUnbroken, GaveNear, GaveBroken, AreCaptures, TellsFirst, IsSplitToEnd, IsSplitInPart, IsNamed, CameTo, IsSplitRun}
 use Rattle.split_run.specs.Steps.{AreOut, IsSplitPart, HasSinkFault, SinksStay, EndsSplit, HasSplit}
 use Rattle.split_run.proofs.Apart.{output_names_differ}
 use Rattle.split_run.proofs.Parts.{fault_of}
@@ -110,8 +110,8 @@ module _ {S K C : Type 0} (left : S → Option (List ℕ)) (written : K → Opti
     read_from : (Holds : S → S → Type 0) → Holds source source' → Keeps Holds (b0.inputs file) (b4.inputs file)
     read_from Holds holds = record { handed = source; back = source'; told = told; kept = stands; holds = holds }
 
-    some_read : source_faults source' ≡ source_faults source → Keeps (GaveSome left source_faults) (b0.inputs file) (b4.inputs file)
-    some_read still = read_from (GaveSome left source_faults) ((split.gave, split.takes), still)
+    some_read : source_faults source' ≡ source_faults source → Keeps (GaveUnbroken left source_faults) (b0.inputs file) (b4.inputs file)
+    some_read still = read_from (GaveUnbroken left source_faults) ((split.gave, split.takes), still)
 
     low_held : All (λ o. o.interface < 16) held
     low_held = of_interfaces (λ i. i < 16) held (subst (λ (l : List ℕ). All (λ i. i < 16) l) (sym split.same) (to_interfaces (λ i. i < 16) split.handed split.within))
@@ -140,7 +140,7 @@ module _ {S K C : Type 0} (left : S → Option (List ℕ)) (written : K → Opti
               (captures (λ k. AddedAll written sink_faults) events (is.captures.0, λ k d inside. let one = is.captures.1 k d inside in (one.same, (one.text, stay.1 k d inside))));
         }
 
-    part : (failed : Option ℕ) (missing : List ℕ) → IsSplitPart written sink_faults failed missing split.handed held split.gave → IsSplitInPart left written sink_faults failed missing file (b0.inputs file) b0.outputs b4.outputs
+    abbrev part : (failed : Option ℕ) (missing : List ℕ) → IsSplitPart written sink_faults failed missing split.handed held split.gave → IsSplitInPart left written sink_faults failed missing file (b0.inputs file) b0.outputs b4.outputs
     part failed missing is = record {
       events = is.events;
       tells = tells_text left (TellsFirst is.events) (b0.inputs file) source source' split.gave told split.takes (λ rest told_rest. is.first rest);
@@ -155,7 +155,11 @@ module _ {S K C : Type 0} (left : S → Option (List ℕ)) (written : K → Opti
       read_from (GaveNear left source_faults at) ((split.gave, split.takes, ends.0.1.near at refl), ends.1),
       whole counts (how.Malformed at) ends.0.0 ends.0.1 ends.2,
     )
-    came outcome.Unread ends = (read_from (GaveBroken left source_faults) ((split.gave, split.takes), ends.1), part None [] ends.0, fault_stands source_faults (b4.inputs file) source' stands (fault_of (source_faults source) (source_faults source') ends.1))
+    came outcome.Unread ends = (
+      part None [] ends.0,
+      read_from (GaveBroken left source_faults ends.0.events) ((split.gave, split.takes, ends.1), ends.2),
+      fault_stands source_faults (b4.inputs file) source' stands (fault_of (source_faults source) (source_faults source') ends.2),
+    )
     came (outcome.Unwritten interface) ends = (some_read ends.3, part (Some interface) [] ends.0, fault_kept file names are sink_faults interface held b4.outputs ends.1 kept ends.2)
     came (outcome.NoOutput interface) ends = (
       some_read ends.4,

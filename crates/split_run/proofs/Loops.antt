@@ -123,8 +123,10 @@ module _ {S K C : Type 0} (left : S → Option (List ℕ)) (written : K → Opti
         ((so_far.events ++ later, split_ended written sink_faults (how.Malformed at) state state' counts counts' so_far.handed held held' so_far.gave more (left source2) so_far.events later so_far.split told each counted), still ∙ so_far.still, stand each)
 
     pub did_fail : HasBroken state state' more later → EachOutput (HasTaken written sink_faults later) held held' → tally_of counts' (interfaces_of held) ≡ tally (tally_of counts (interfaces_of held)) later → Rose (source_faults source1) (source_faults source2) → Did outcome.Unread
-    did_fail broken each counted rose = did (interfaces_stay written sink_faults later held held' each) outcome.Unread
-        (part_unread written sink_faults state state' counts counts' so_far.handed held held' so_far.gave more so_far.events later so_far.split so_far.stood broken each counted, rose_since (source_faults source0) (source_faults source1) (source_faults source2) (omega (arith, so_far.still)) rose)
+    did_fail broken each counted rose =
+        let part = part_unread written sink_faults state state' counts counts' so_far.handed held held' so_far.gave more so_far.events later so_far.split so_far.stood broken each counted in
+        did (interfaces_stay written sink_faults later held held' each) outcome.Unread
+        (part.0, part.1, rose_since (source_faults source0) (source_faults source1) (source_faults source2) (omega (arith, so_far.still)) rose)
 
     pub did_not_write : source_faults source2 ≡ source_faults source1 → (interface : ℕ) → HasGone state state' more later → EachOutput (HasTakenFront written sink_faults interface later) held held' → tally_of counts' (interfaces_of held) ≡ tally (tally_of counts (interfaces_of held)) later → HasRisen sink_faults interface held held' → Did (outcome.Unwritten interface)
     did_not_write still interface read each counted risen_sink =

@@ -16,9 +16,9 @@ use Rattle.pcap_split.specs.declared.split.SplitGot.{SplitGot}
 use Rattle.pcap_split.specs.declared.split.SplitGot.TheVariants as got
 use Rattle.pcap_split.specs.Splits.{Tally, frames_of, split_text, no_tally, tally}
 use Rattle.pcap_split.specs.Counts.{interfaces_of, tally_of}
-use Rattle.pcap_split.specs.Going.{HasBroken, HasGone, HasTaken, HasTakenFront, HasRisen, EachOutput, split_behind}
+use Rattle.pcap_split.specs.Going.{BreaksOff, HasBroken, HasGone, HasTaken, HasTakenFront, HasRisen, EachOutput, split_behind}
 use Rattle.pcap_split.specs.Wholes.{HasCapture, IsSplit}
-use Rattle.pcap_split.proofs.Goings.{same_interfaces}
+use Rattle.pcap_split.proofs.Goings.{breaks_behind_state, same_interfaces}
 use Rattle.pcap_split.proofs.Wholes.{split_more, count_more, interfaces_more, each_more}
 use Rattle.split_run.specs.Runs.{TellsFirst, AddedAll, AddedSome}
 use Rattle.split_run.specs.Steps.{HasSomeOf, IsSplitPart, HasSinkFault, SinksStay}
@@ -102,13 +102,16 @@ module _ {K : Type 0} (written : K → Option (List ℕ)) (faults : K → ℕ) (
   same = same_handed written old counts handed now gave events was
 
   -- a read failed
-  pub part_unread : HasBroken old new more later → EachOutput (HasTaken written faults later) now now' → tally_of counts' (interfaces_of now) ≡ tally (tally_of counts (interfaces_of now)) later → IsSplitPart written faults None [] handed now' (gave ++ more)
-  part_unread broken each counted = record {
-    events = events ++ later;
-    first = first_broken old new gave more events later was.read broken;
-    among = split_then written old counts counts' handed now gave events later (interfaces_of now) was counted ∙ same ∙ sym (append-nil (interfaces_of handed));
-    each = each_in_part written faults None events later handed now now' was.captures stood (each_taken_front written faults later now now' each);
-  }
+  pub part_unread : HasBroken old new more later → EachOutput (HasTaken written faults later) now now' → tally_of counts' (interfaces_of now) ≡ tally (tally_of counts (interfaces_of now)) later → (part : IsSplitPart written faults None [] handed now' (gave ++ more)) × BreaksOff (Reading at_start) (gave ++ more) part.events
+  part_unread broken each counted = (
+    record {
+      events = events ++ later;
+      first = first_broken old new gave more events later was.read broken;
+      among = split_then written old counts counts' handed now gave events later (interfaces_of now) was counted ∙ same ∙ sym (append-nil (interfaces_of handed));
+      each = each_in_part written faults None events later handed now now' was.captures stood (each_taken_front written faults later now now' each);
+    },
+    breaks_behind_state at_start old gave more events later was.reading was.read broken.unread,
+  )
 
   read_all : HasGone old new more later → (rest : List ℕ) → TellsFirst (events ++ later) ((gave ++ more) ++ rest)
   read_all read = first_read new (gave ++ more) (events ++ later) (has_read_more (Reading at_start) old new gave more events later was.read read.read)

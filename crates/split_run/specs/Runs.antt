@@ -5,10 +5,11 @@ use Rattle.savi_kinds.specs.declared.entry.How.TheVariants as how
 use Rattle.savi_ends.specs.Faults.{Rose}
 use Rattle.savi_ends.specs.Octets.{behind, IsFront, Takes}
 use Rattle.savi_ends.specs.Places.{Place, Book, OthersStay}
-use Rattle.pcapng_io.specs.Runs.{Event, Input, Arrive}
-use Rattle.pcapng_io.specs.Readers.{longest_block}
+use Rattle.pcapng_io.specs.Runs.{Event, Input, Arrive, at_start}
+use Rattle.pcapng_io.specs.Readers.{Reading, longest_block}
 use Rattle.pcap_split.specs.declared.counts.Counts.{Counts}
 use Rattle.pcap_split.specs.Counts.{tally_of}
+use Rattle.pcap_split.specs.Going.{BreaksOff}
 use Rattle.pcap_split.specs.Splits.{split_text, no_tally, tally}
 use Rattle.split_run.specs.declared.outcome.Outcome.{Outcome}
 use Rattle.split_run.specs.declared.outcome.Outcome.TheVariants as outcome
@@ -68,16 +69,16 @@ pub record IsSplitInPart {S K : Type 0} (left : S → Option (List ℕ)) (writte
   pub outputs : AreCaptures (AddedSome written faults failed) file opened events old new
 
 -- a source gave some octets, and no read of it failed
-abbrev pub GaveSome : {S : Type 0} → (S → Option (List ℕ)) → (S → ℕ) → S → S → Type 0
-GaveSome left faults old new = ((gave : List ℕ) × Takes (left old) (left new) gave) × (faults new ≡ faults old)
+abbrev pub GaveUnbroken : {S : Type 0} → (S → Option (List ℕ)) → (S → ℕ) → S → S → Type 0
+GaveUnbroken left faults old new = ((gave : List ℕ) × Takes (left old) (left new) gave) × (faults new ≡ faults old)
 
 -- a source gave octets, no more than the longest block has from this place on, and no read of it failed
 abbrev pub GaveNear : {S : Type 0} → (S → Option (List ℕ)) → (S → ℕ) → ℕ → S → S → Type 0
 GaveNear left faults at old new = ((gave : List ℕ) × Takes (left old) (left new) gave × (length gave ≤ at + longest_block)) × (faults new ≡ faults old)
 
--- a source gave some octets, and a read of it failed
-abbrev pub GaveBroken : {S : Type 0} → (S → Option (List ℕ)) → (S → ℕ) → S → S → Type 0
-GaveBroken left faults old new = ((gave : List ℕ) × Takes (left old) (left new) gave) × Rose (faults old) (faults new)
+-- a source gave octets that tell these events and then end in a block that wasn't read, and a read of it failed
+abbrev pub GaveBroken : {S : Type 0} → (S → Option (List ℕ)) → (S → ℕ) → List Event → S → S → Type 0
+GaveBroken left faults events old new = ((gave : List ℕ) × Takes (left old) (left new) gave × BreaksOff (Reading at_start) gave events) × Rose (faults old) (faults new)
 
 -- the output of an interface from 0 to 15
 abbrev pub IsNamed : Outcome → Type 0
@@ -91,17 +92,17 @@ IsNamed outcome.NoInput = Unit {0}
 -- what came of a capture, and why: its source was handed out and is kept again
 abbrev pub CameTo : {S K C : Type 0} → (S → Option (List ℕ)) → (K → Option (List ℕ)) → (S → ℕ) → (K → ℕ) → List ℕ → Book S K C → Book S K C → Outcome → Type 0
 CameTo left written source_faults sink_faults file old new (outcome.Split counts) =
-    Keeps (GaveSome left source_faults) (old.inputs file) (new.inputs file) × IsSplitToEnd left written sink_faults file counts how.End (old.inputs file) old.outputs new.outputs
+    Keeps (GaveUnbroken left source_faults) (old.inputs file) (new.inputs file) × IsSplitToEnd left written sink_faults file counts how.End (old.inputs file) old.outputs new.outputs
 CameTo left written source_faults sink_faults file old new (outcome.Malformed at counts) =
     Keeps (GaveNear left source_faults at) (old.inputs file) (new.inputs file) × IsSplitToEnd left written sink_faults file counts (how.Malformed at) (old.inputs file) old.outputs new.outputs
 CameTo left written source_faults sink_faults file old new outcome.Unread =
-    Keeps (GaveBroken left source_faults) (old.inputs file) (new.inputs file) × IsSplitInPart left written sink_faults None [] file (old.inputs file) old.outputs new.outputs
-    × IsFaulty source_faults (new.inputs file)
+    (part : IsSplitInPart left written sink_faults None [] file (old.inputs file) old.outputs new.outputs)
+    × Keeps (GaveBroken left source_faults part.events) (old.inputs file) (new.inputs file) × IsFaulty source_faults (new.inputs file)
 CameTo left written source_faults sink_faults file old new (outcome.Unwritten interface) =
-    Keeps (GaveSome left source_faults) (old.inputs file) (new.inputs file) × IsSplitInPart left written sink_faults (Some interface) [] file (old.inputs file) old.outputs new.outputs
+    Keeps (GaveUnbroken left source_faults) (old.inputs file) (new.inputs file) × IsSplitInPart left written sink_faults (Some interface) [] file (old.inputs file) old.outputs new.outputs
     × IsFaulty sink_faults (new.outputs (output_name file interface))
 CameTo left written source_faults sink_faults file old new (outcome.NoOutput interface) =
-    Keeps (GaveSome left source_faults) (old.inputs file) (new.inputs file) × IsSplitInPart left written sink_faults None (interface ∷ []) file (old.inputs file) old.outputs new.outputs
+    Keeps (GaveUnbroken left source_faults) (old.inputs file) (new.inputs file) × IsSplitInPart left written sink_faults None (interface ∷ []) file (old.inputs file) old.outputs new.outputs
     × Rose old.faults new.faults × (new.outputs (output_name file interface) ≡ old.outputs (output_name file interface))
 CameTo left written source_faults sink_faults file old new outcome.NoInput =
     Rose old.faults new.faults × (new.inputs file ≡ old.inputs file) × (new.outputs ≡ old.outputs)

@@ -6,11 +6,12 @@ use Rattle.savi_ends.specs.Faults.{Rose}
 use Rattle.savi_ends.specs.Octets.{Takes}
 use Rattle.savi_ends.specs.Places.{Place, Book}
 use Rattle.pcap_io.specs.Captures.{header_text}
-use Rattle.pcapng_io.specs.Runs.{Event}
+use Rattle.pcapng_io.specs.Runs.{Event, at_start}
+use Rattle.pcapng_io.specs.Readers.{Reading}
 use Rattle.pcap_split.specs.declared.counts.Counts.{Counts}
 use Rattle.pcap_split.specs.declared.output.Output.{Output}
 use Rattle.pcap_split.specs.Counts.{interfaces_of}
-use Rattle.pcap_split.specs.Going.{EachOutput, IsOutputOf}
+use Rattle.pcap_split.specs.Going.{BreaksOff, EachOutput, IsOutputOf}
 use Rattle.pcap_split.specs.Splits.{split_text, no_tally, tally}
 use Rattle.pcap_split.specs.Wholes.{IsSplitWhole}
 use Rattle.split_run.specs.declared.outcome.Outcome.{Outcome}
@@ -77,7 +78,8 @@ EndsSplit written faults world world' source source' handed held gave left (outc
     ((events : List Event) × IsSplitWhole written counts handed held gave left events how.End) × (source' ≡ source) × SinksStay faults handed held
 EndsSplit written faults world world' source source' handed held gave left (outcome.Malformed at counts) =
     ((events : List Event) × IsSplitWhole written counts handed held gave left events (how.Malformed at)) × (source' ≡ source) × SinksStay faults handed held
-EndsSplit written faults world world' source source' handed held gave left outcome.Unread = IsSplitPart written faults None [] handed held gave × Rose source source'
+EndsSplit written faults world world' source source' handed held gave left outcome.Unread =
+    (part : IsSplitPart written faults None [] handed held gave) × BreaksOff (Reading at_start) gave part.events × Rose source source'
 EndsSplit written faults world world' source source' handed held gave left (outcome.Unwritten interface) =
     IsSplitPart written faults (Some interface) [] handed held gave × (interface < 16) × HasSinkFault faults interface held × (source' ≡ source)
 EndsSplit written faults world world' source source' handed held gave left (outcome.NoOutput interface) =

@@ -1,4 +1,4 @@
-use Rattle.std.proofs.Common.{◌≡◌, ◌≤◌, ◌+◌, ℕ, List, [], ◌++◌, length, Option, Some, None, refl, sym, ap, subst, ◌∙◌, arith}
+use Rattle.std.proofs.Common.{◌≡◌, ◌≤◌, inl, inr, ◌+◌, ℕ, List, [], ◌++◌, length, Option, Some, None, IfSome, refl, sym, ap, subst, ◌∙◌, arith}
 use Rattle.savi_kinds.specs.declared.entry.How.TheVariants as how
 use Rattle.savi_ends.proofs.Octets.{takes_more}
 use Rattle.pcap_io.proofs.CallsJoined.{takes_none}
@@ -10,10 +10,10 @@ use Rattle.pcapng_io.proofs.Readings.{has_read_none}
 use Rattle.pcap_split.specs.declared.split.SplitGot.{SplitGot}
 use Rattle.pcap_split.specs.Splits.{tally}
 use Rattle.pcap_split.specs.Counts.{interfaces_of, tally_of, counted}
-use Rattle.pcap_split.specs.Going.{HasBegun, Tells, split_behind}
+use Rattle.pcap_split.specs.Going.{HasBegun, Tells, split_behind, last_got}
 use Rattle.pcap_split.specs.States.{Splitting}
 use Rattle.pcap_split.specs.Steps.{Does}
-use Rattle.pcap_split.proofs.Goings.{SoFar, TellsEvent, none_yet, differ_still, rose_since, counted_within, may_take, place_within, goes_on, stops_at, rose_at, failed_by, failed_back}
+use Rattle.pcap_split.proofs.Goings.{SoFar, TellsEvent, none_yet, differ_still, rose_since, counted_within, may_take, place_within, goes_on, stops_at, rose_at, failed_by, failed_back, splitting, if_any, if_more, idle_again}
 use Rattle.pcap_split.proofs.splitter.Splitter.go_on.Goals as goal
 
 pub loop-got-init : goal.loop-got-init
@@ -21,6 +21,8 @@ loop-got-init g c = record {
   still = refl;
   within = c.self.invariant;
   failed = λ is. is;
+  on = inl refl;
+  idle = if_any (last_got c.self.inside.reader) _ (λ got. (refl, refl, refl, refl));
   split = ([], [], takes_none (g.S.Source.left c.args.source.now), has_read_none c.self.inside.reader, omega arith, none_yet g.K.Sink.written g.K.Sink.faults c.args.outputs.now, refl);
 }
 
@@ -70,13 +72,15 @@ loop-got-preserved g c =
     let answer = c.next-answer.result in
     let inside : TellsEvent answer → counted counts ≤ block_place mid = λ event. counted_within mid counts answer
     (λ a. (answer ≡ a) × (new ≡ mid) × (c.next-answer.new.source ≡ c.loop-got.source) × (buf ≡ c.loop-got.buf)) (λ a x. x.0) was.within c.next-answer.ensures.again event in
-    let sofar : SoFar W F first mid c.self.inside.counts counts c.args.outputs.now c.loop-got.outputs w.0 w.1 = record { read = w.3; place = w.4; each = w.5; tallied_is = w.6 } in
+    let sofar : SoFar W F first mid c.self.inside.counts counts c.args.outputs.now c.loop-got.outputs w.0 w.1 = record { on = was.on; read = w.3; place = w.4; each = w.5; tallied_is = w.6 } in
     let does : Does W F answer buf counts c.take_answer.new.counts c.loop-got.outputs c.take_answer.new.outputs None =
     subst (λ (r : Option SplitGot). Does W F answer buf counts c.take_answer.new.counts c.loop-got.outputs c.take_answer.new.outputs r) c.in_default.is c.take_answer.ensures in
     let on = goes_on W F first mid new c.self.inside.counts counts c.take_answer.new.counts c.args.outputs.now c.loop-got.outputs c.take_answer.new.outputs w.0 one.0 buf left w.1 answer sofar one.2 c.next-answer.ensures.placed inside does in
     record {
       still = c.next-answer.ensures.still (λ failed. reading_fails_not new on.reading.0 on.reading.1 (failed_state mid new one.0 buf left answer one.2 failed)) ∙ was.still;
       within = on.within;
+      on = inr (on.reading.0, on.reading.1);
+      idle = if_more (last_got first) (idle_again W F mid new c.self.inside.counts counts c.take_answer.new.counts c.args.outputs.now c.loop-got.outputs c.take_answer.new.outputs c.args.source.now c.loop-got.source c.next-answer.new.source c.loop-got.buf buf answer None c.next-answer.ensures.again does first was.idle) (λ got is. absurd (cc (is.0)));
       failed = λ is. absurd (reading_fails_not new on.reading.0 on.reading.1 is);
       split = (w.0 ++ one.0, on.events, takes_more w.0 one.0 _ _ _ w.2 one.1, on.sofar.read, on.sofar.place, on.sofar.each, on.sofar.tallied_is);
     }
@@ -97,7 +101,7 @@ loop-got-smaller g c =
     let answer = c.next-answer.result in
     let inside : TellsEvent answer → counted counts ≤ block_place mid = λ event. counted_within mid counts answer
     (λ a. (answer ≡ a) × (new ≡ mid) × (c.next-answer.new.source ≡ c.loop-got.source) × (buf ≡ c.loop-got.buf)) (λ a x. x.0) was.within c.next-answer.ensures.again event in
-    let sofar : SoFar W F first mid c.self.inside.counts counts c.args.outputs.now c.loop-got.outputs w.0 w.1 = record { read = w.3; place = w.4; each = w.5; tallied_is = w.6 } in
+    let sofar : SoFar W F first mid c.self.inside.counts counts c.args.outputs.now c.loop-got.outputs w.0 w.1 = record { on = was.on; read = w.3; place = w.4; each = w.5; tallied_is = w.6 } in
     let does : Does W F answer buf counts c.take_answer.new.counts c.loop-got.outputs c.take_answer.new.outputs None =
     subst (λ (r : Option SplitGot). Does W F answer buf counts c.take_answer.new.counts c.loop-got.outputs c.take_answer.new.outputs r) c.in_default.is c.take_answer.ensures in
     let on = goes_on W F first mid new c.self.inside.counts counts c.take_answer.new.counts c.args.outputs.now c.loop-got.outputs c.take_answer.new.outputs w.0 one.0 buf left w.1 answer sofar one.2 c.next-answer.ensures.placed inside does in
@@ -118,7 +122,7 @@ returns-in-Some-clause-split g c =
     let buf = c.next-answer.new.buf in
     let left = g.S.Source.left c.next-answer.new.source in
     let answer = c.next-answer.result in
-    let sofar : SoFar W F first mid c.self.inside.counts counts c.args.outputs.now c.loop-got.outputs w.0 w.1 = record { read = w.3; place = w.4; each = w.5; tallied_is = w.6 } in
+    let sofar : SoFar W F first mid c.self.inside.counts counts c.args.outputs.now c.loop-got.outputs w.0 w.1 = record { on = was.on; read = w.3; place = w.4; each = w.5; tallied_is = w.6 } in
     let does : Does W F answer buf counts c.take_answer.new.counts c.loop-got.outputs c.take_answer.new.outputs (Some c.in-Some.got) =
     subst (λ (r : Option SplitGot). Does W F answer buf counts c.take_answer.new.counts c.loop-got.outputs c.take_answer.new.outputs r) c.in-Some.is c.take_answer.ensures in
     let at = stops_at W F first mid new c.self.inside.counts counts c.take_answer.new.counts c.args.outputs.now c.loop-got.outputs c.take_answer.new.outputs w.0 one.0 buf left w.1 answer c.in-Some.got sofar one.2 does in (
@@ -176,3 +180,24 @@ returns-in-Some-clause-still g c =
     let does : Does W F c.next-answer.result buf counts c.take_answer.new.counts c.loop-got.outputs c.take_answer.new.outputs (Some c.in-Some.got) =
     subst (λ (r : Option SplitGot). Does W F c.next-answer.result buf counts c.take_answer.new.counts c.loop-got.outputs c.take_answer.new.outputs r) c.in-Some.is c.take_answer.ensures in
     λ other. c.next-answer.ensures.still (λ failed. other (failed_back W F c.next-answer.result buf counts c.take_answer.new.counts c.loop-got.outputs c.take_answer.new.outputs c.in-Some.got does failed)) ∙ c.loop-got.invariant.still
+
+pub returns-in-Some-clause-again : goal.returns-in-Some-clause-again
+returns-in-Some-clause-again g c =
+    let W = g.K.Sink.written in
+    let F = g.K.Sink.faults in
+    let first = c.self.inside.reader in
+    let mid = c.loop-got.self-inside.reader in
+    let counts = c.loop-got.self-inside.counts in
+    let counts' = c.take_answer.new.counts in
+    let new = c.next-answer.new.self in
+    let buf = c.next-answer.new.buf in
+    let answer = c.next-answer.result in
+    let stop = c.in-Some.got in
+    let does : Does W F answer buf counts counts' c.loop-got.outputs c.take_answer.new.outputs (Some stop) =
+    subst (λ (r : Option SplitGot). Does W F answer buf counts counts' c.loop-got.outputs c.take_answer.new.outputs r) c.in-Some.is c.take_answer.ensures in
+    subst (λ (v : Splitting). IfSome (last_got v.reading) (λ got. (stop ≡ got) × (splitting new counts' ≡ v) × (c.next-answer.new.source ≡ c.args.source.now) × (c.take_answer.new.outputs ≡ c.args.outputs.now))) c.self.view_is
+    (if_more (last_got first) (idle_again W F mid new c.self.inside.counts counts counts' c.args.outputs.now c.loop-got.outputs c.take_answer.new.outputs c.args.source.now c.loop-got.source c.next-answer.new.source c.loop-got.buf buf answer (Some stop) c.next-answer.ensures.again does first c.loop-got.invariant.idle)
+    (λ got is. (some_same stop got is.0, is.1, is.2, is.3)))
+  where
+    some_same : (a b : SplitGot) → Some a ≡ Some b → a ≡ b
+    some_same a b same = cc
