@@ -9,7 +9,7 @@ use Rattle.switch_report.specs.RunLines.{memory_line, usage_line}
 use Rattle.switch_run.specs.Causes.{HasSomeReadFault, HasSomeWriteFault, IsElsewhereSame, IsOneOf, IsUntouched, IsUnused, quiet_statuses, session_statuses, statuses, unused_statuses}
 use Rattle.switch_run.specs.Checks.{IsCheckRun}
 use Rattle.switch_run.specs.Loads.{IsLoadRun}
-use Rattle.switch_run.specs.Runs.{IsGenRun, IsServeRun}
+use Rattle.switch_run.specs.Runs.{IsReplayRun, IsServeRun}
 use Rattle.switch_run.specs.Live.{IsServeSession}
 use Rattle.switch_run.specs.Splits.{IsCaptureRun}
 use Rattle.switch_run.specs.Session.{IsFileUnread, IsNoPlan, IsSession, IsUnopened, IsUnplayed, WasTold, ToldBy}
@@ -44,8 +44,18 @@ pub record Clauses {S K C : Type 0} (left : S → Option (List ℕ)) (written : 
   pub load : (seed frames : ℕ) → IsGen seed frames words → IsLoadRun written sink_faults seed frames (WasTold sink_faults written old new) old new status
   pub split : (file : List ℕ) → IsSplitWords file words → IsCaptureRun left written source_faults sink_faults file (WasTold sink_faults written old new) old new status
 
+-- what a run has done whose words don't ask to learn
+abbrev pub IsOtherRun : {S K C : Type 0} → (S → Option (List ℕ)) → (K → Option (List ℕ)) → (S → ℕ) → (K → ℕ) → (C → Option (List ℕ)) → List (List ℕ) → (List ℕ → Type 0) → Book S K C → Book S K C → ℕ → Type 0
+IsOtherRun left written source_faults sink_faults readings words Says old new status =
+    ((status ≡ 2) × (IsForm words → ⊥) × Says usage_line × (new ≡ old))
+    ⊎ (((file : List ℕ) × IsReplay file words × IsReplayRun left written source_faults sink_faults file Says old new status)
+    ⊎ (((file : List ℕ) × IsServe file words × IsServeRun left written source_faults sink_faults readings file Says old new status)
+    ⊎ (((file : List ℕ) × IsCheck file words × IsCheckRun left written source_faults sink_faults file Says old new status)
+    ⊎ (((seed : ℕ) × (frames : ℕ) × IsGen seed frames words × IsLoadRun written sink_faults seed frames Says old new status)
+    ⊎ ((file : List ℕ) × IsSplitWords file words × IsCaptureRun left written source_faults sink_faults file Says old new status)))))
+
 pub clauses_of : {S K C : Type 0} (left : S → Option (List ℕ)) (written : K → Option (List ℕ)) (source_faults : S → ℕ) (sink_faults : K → ℕ) (readings : C → Option (List ℕ)) (words : List (List ℕ)) (b0 b1 b2 b3 : Book S K C) (e e' : K) (status : ℕ) → Ran b0 b1 b2 b3 e e'
-    → IsGenRun left written source_faults sink_faults readings words (ToldBy sink_faults written e e') b1 b2 status → Clauses left written source_faults sink_faults readings words b0 b3 status
+    → IsOtherRun left written source_faults sink_faults readings words (ToldBy sink_faults written e e') b1 b2 status → Clauses left written source_faults sink_faults readings words b0 b3 status
 clauses_of {S} {K} {C} left written source_faults sink_faults readings words b0 b1 b2 b3 e e' status ran (inl (two, none, told, same)) =
     let untouched = ran_untouched b0 b1 b2 b3 e e' ran same in
     record {

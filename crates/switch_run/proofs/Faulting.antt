@@ -67,12 +67,12 @@ has_ends left written source_faults sink_faults plan past None (Some input) stop
 has_ends left written source_faults sink_faults plan past (Some names) None stop old new serves some = absurd serves
 has_ends left written source_faults sink_faults plan past (Some names) (Some input) stop old new serves some = (control_key false names, input, stop, serves)
 
-no_input : Input
+pub no_input : Input
 no_input = record { arrivals = []; ending = hows.End }
 
 module _ {S K C : Type 0} (left : S → Option (List ℕ)) (written : K → Option (List ℕ)) (source_faults : S → ℕ) (sink_faults : K → ℕ) (plan : Plan) (Says : List ℕ → Type 0) (old new : Book S K C) (status : ℕ) (rising : IsStrictlyIncreasing (numbers_of plan.ports)) (r : IsReplayOf left written source_faults sink_faults plan Says old new status) where
   -- without an input control's end is `end`
-  ended_alone : r.serves.lines ≡ None → control_end r.past ≡ Some hows.End
+  pub ended_alone : r.serves.lines ≡ None → control_end r.past ≡ Some hows.End
   ended_alone none =
       ap control_end (r.serves.replay ∙ ap (λ (l : Option control.Input). replayed plan empty l r.serves.inputs r.serves.stops) none)
       ∙ (without_control plan r.serves.inputs r.serves.stops rising r.serves.size).1
@@ -117,7 +117,7 @@ read_fault_of left written source_faults sink_faults Says old new file status fi
     inr (replay_read left written source_faults sink_faults session.plan Says old new status session.configured.built.valid.ports session.session.did five)
 
 -- a write of octets that weren't all taken failed
-unwritten_fault : {K : Type 0} (faults : K → ℕ) (written : K → Option (List ℕ)) (done : Bool) (octets : List ℕ) (old new : Place K) → done ≡ false → Keeps (TookOrPart faults written done octets) old new → EndHasFault faults new
+pub unwritten_fault : {K : Type 0} (faults : K → ℕ) (written : K → Option (List ℕ)) (done : Bool) (octets : List ℕ) (old new : Place K) → done ≡ false → Keeps (TookOrPart faults written done octets) old new → EndHasFault faults new
 unwritten_fault faults written true octets old new none keeps = cc
 unwritten_fault faults written false octets old new none keeps = fault_kept faults new keeps.back keeps.kept keeps.holds.0
 

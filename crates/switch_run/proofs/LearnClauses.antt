@@ -17,9 +17,8 @@ use Rattle.switch_ports.specs.Named.{named_by}
 use Rattle.switch_run.specs.AnyRun.{IsAnyRun}
 use Rattle.switch_run.specs.Causes.{HasSomeReadFault, IsOneOf, Keeps, TookOrPart, ports_in, session_statuses}
 use Rattle.switch_run.specs.Learnings.{IsLearnRun, IsLearning, IsLearningOf, IsLearnedPortUnopened}
-use Rattle.switch_run.specs.Runs.{IsGenRun}
 use Rattle.switch_run.specs.Session.{IsFileUnopened, IsPortUnopened, WasTold, ToldBy}
-use Rattle.switch_run.proofs.Clauses.{Clauses, clauses_of}
+use Rattle.switch_run.proofs.Clauses.{Clauses, IsOtherRun, clauses_of}
 use Rattle.switch_run.proofs.LearnFaults.{learned_read, learned_write}
 use Rattle.switch_run.proofs.Running.{Ran, SamePlaces, inputs_first, inputs_last, moved_off, out≢err, ran_run, ran_told, same_places}
 
@@ -179,7 +178,7 @@ same_learning words file other window window' one two =
 
 -- words that ask for no learning
 none_learned : {S K C : Type 0} (left : S → Option (List ℕ)) (written : K → Option (List ℕ)) (source_faults : S → ℕ) (sink_faults : K → ℕ) (readings : C → Option (List ℕ)) (words : List (List ℕ)) (Says : List ℕ → Type 0) (old new : Book S K C) (status : ℕ)
-    → IsGenRun left written source_faults sink_faults readings words Says old new status → (file : List ℕ) (window : ℕ) → IsLearn file window words → ⊥
+    → IsOtherRun left written source_faults sink_faults readings words Says old new status → (file : List ℕ) (window : ℕ) → IsLearn file window words → ⊥
 none_learned left written source_faults sink_faults readings words Says old new status (inl (two, none, told, same)) file window is = none (inr (inr (inr (inr (inr (file, window, is))))))
 none_learned left written source_faults sink_faults readings words Says old new status (inr (inl (other, form, r))) file window is = not_replayed words file window other is form
 none_learned left written source_faults sink_faults readings words Says old new status (inr (inr (inl (other, form, r)))) file window is = not_served words file window other is form

@@ -81,27 +81,52 @@ module _ {A : Type 0} (at : A → ℕ) (p : A → Bool) where
   any_merge [] ys is = inr is
   any_merge (x ∷ xs) ys is = any_enter x xs (merge at xs) ys (any_merge xs) is
 
--- the end of an input at a read that failed
+-- the end of an input for a reason of these
 
-abbrev fails_so : Option Ending → Bool
-fails_so None = false
-fails_so (Some e) = is_failed_reason e.how
+module _ (reason : How → Bool) where
+  abbrev fails_so : Option Ending → Bool
+  fails_so None = false
+  fails_so (Some e) = reason e.how
 
-abbrev fails_turn : Turn → Bool
-fails_turn turn = fails_so (turn_ending turn)
+  abbrev fails_turn : Turn → Bool
+  fails_turn turn = fails_so (turn_ending turn)
 
--- one of the ends that are kept of turns is one of the turns
-kept_step : (o : Option Ending) (rest : List Ending) (b : Bool) → (list_any (λ (e : Ending). is_failed_reason e.how) rest ≡ true → b ≡ true) → list_any (λ (e : Ending). is_failed_reason e.how) (cons_option o rest) ≡ true → (fails_so o || b) ≡ true
-kept_step None rest b later is = later is
-kept_step (Some e) rest b later is = kept_some (is_failed_reason e.how) (list_any (λ (x : Ending). is_failed_reason x.how) rest) b later is
+  -- one of the ends that are kept of turns is one of the turns
+  kept_step : (o : Option Ending) (rest : List Ending) (b : Bool) → (list_any (λ (e : Ending). reason e.how) rest ≡ true → b ≡ true) → list_any (λ (e : Ending). reason e.how) (cons_option o rest) ≡ true → (fails_so o || b) ≡ true
+  kept_step None rest b later is = later is
+  kept_step (Some e) rest b later is = kept_some (reason e.how) (list_any (λ (x : Ending). reason x.how) rest) b later is
 
-kept_any : (xs : List Turn) → list_any (λ (e : Ending). is_failed_reason e.how) (filter_map turn_ending xs) ≡ true → list_any fails_turn xs ≡ true
-kept_any [] is = is
-kept_any (x ∷ xs) is = kept_step (turn_ending x) (filter_map turn_ending xs) (list_any fails_turn xs) (kept_any xs) is
+  kept_any : (xs : List Turn) → list_any (λ (e : Ending). reason e.how) (filter_map turn_ending xs) ≡ true → list_any fails_turn xs ≡ true
+  kept_any [] is = is
+  kept_any (x ∷ xs) is = kept_step (turn_ending x) (filter_map turn_ending xs) (list_any fails_turn xs) (kept_any xs) is
 
-turns_any : (port : Port) (arrivals : List Arrival) (ending : How) → list_any fails_turn (map (λ a. Arrives port a) arrivals ++ EndsTurn (Ingress port) ending ∷ []) ≡ true → is_failed_reason ending ≡ true
-turns_any port [] ending is = last_any (is_failed_reason ending) is
-turns_any port (a ∷ arrivals) ending is = turns_any port arrivals ending is
+  turns_any : (port : Port) (arrivals : List Arrival) (ending : How) → list_any fails_turn (map (λ a. Arrives port a) arrivals ++ EndsTurn (Ingress port) ending ∷ []) ≡ true → reason ending ≡ true
+  turns_any port [] ending is = last_any (reason ending) is
+  turns_any port (a ∷ arrivals) ending is = turns_any port arrivals ending is
+
+  -- an input among these, one for each of so many ports, ended so
+  abbrev pub FailsAt : ℕ → List Input → Type 0
+  FailsAt count inputs = (k : ℕ) × (k < count) × ((i : Input) → reason (get_or inputs k i).ending ≡ true)
+
+  fails_more : (q : PortPlan) (plans : List PortPlan) (j : Input) (inputs : List Input) → AnyOf turn_at fails_turn (turns q.number j) (merged turn_at (port_turns plans inputs)) → (list_any fails_turn (merged turn_at (port_turns plans inputs)) ≡ true → FailsAt (length plans) inputs) → FailsAt (length (q ∷ plans)) (j ∷ inputs)
+  unfolding AnyOf
+  fails_more q plans j inputs (inl here) later = (0, omega arith, λ i. turns_any q.number j.arrivals j.ending here)
+  fails_more q plans j inputs (inr behind) later =
+      let more = later behind in
+      let below = more.1 in
+      (suc more.0, omega (arith, below), λ i. more.2 i)
+
+  fails_among : (plans : List PortPlan) (inputs : List Input) → length inputs ≡ length plans → list_any fails_turn (merged turn_at (port_turns plans inputs)) ≡ true → FailsAt (length plans) inputs
+  fails_among [] inputs size is = let t : false ≡ true = is in cc
+  fails_among (q ∷ plans) [] size is = absurd (omega arith)
+  fails_among (q ∷ plans) (j ∷ inputs) size is =
+      fails_more q plans j inputs (any_merge turn_at fails_turn (turns q.number j) (merged turn_at (port_turns plans inputs)) is) (fails_among plans inputs (omega arith))
+
+  -- inputs of ports of which one is among the endings hold one that ended so
+  pub ends_among : (plans : List PortPlan) (inputs : List Input) (endings : List Ending) → length inputs ≡ length plans → endings ≡ filter_map turn_ending (merged turn_at (port_turns plans inputs))
+      → list_any (λ (e : Ending). reason e.how) endings ≡ true → FailsAt (length plans) inputs
+  ends_among plans inputs endings size are is =
+      fails_among plans inputs size (kept_any (merged turn_at (port_turns plans inputs)) (subst (λ (es : List Ending). list_any (λ (e : Ending). reason e.how) es ≡ true) are is))
 
 failed_is : (how : How) → is_failed_reason how ≡ true → how ≡ hows.Failed
 failed_is hows.End is = let t : false ≡ true = is in cc
@@ -111,24 +136,6 @@ failed_is (hows.Overlong at) is = let t : false ≡ true = is in cc
 failed_is hows.Failed is = refl
 failed_is hows.Unwritten is = let t : false ≡ true = is in cc
 failed_is (hows.Full len) is = let t : false ≡ true = is in cc
-
--- an input among these, one for each of so many ports, ended so
-abbrev FailsAt : ℕ → List Input → Type 0
-FailsAt count inputs = (k : ℕ) × (k < count) × ((i : Input) → (get_or inputs k i).ending ≡ hows.Failed)
-
-fails_more : (q : PortPlan) (plans : List PortPlan) (j : Input) (inputs : List Input) → AnyOf turn_at fails_turn (turns q.number j) (merged turn_at (port_turns plans inputs)) → (list_any fails_turn (merged turn_at (port_turns plans inputs)) ≡ true → FailsAt (length plans) inputs) → FailsAt (length (q ∷ plans)) (j ∷ inputs)
-unfolding AnyOf
-fails_more q plans j inputs (inl here) later = (0, omega arith, λ i. failed_is j.ending (turns_any q.number j.arrivals j.ending here))
-fails_more q plans j inputs (inr behind) later =
-    let more = later behind in
-    let below = more.1 in
-    (suc more.0, omega (arith, below), λ i. more.2 i)
-
-fails_among : (plans : List PortPlan) (inputs : List Input) → length inputs ≡ length plans → list_any fails_turn (merged turn_at (port_turns plans inputs)) ≡ true → FailsAt (length plans) inputs
-fails_among [] inputs size is = let t : false ≡ true = is in cc
-fails_among (q ∷ plans) [] size is = absurd (omega arith)
-fails_among (q ∷ plans) (j ∷ inputs) size is =
-    fails_more q plans j inputs (any_merge turn_at fails_turn (turns q.number j) (merged turn_at (port_turns plans inputs)) is) (fails_among plans inputs (omega arith))
 
 five_by : (f w m : Bool) → ◌≡◌ {A = ℕ} (if f then 5 else if w then 6 else if m then 4 else 0) 5 → f ≡ true
 five_by true w m is = refl
@@ -149,9 +156,9 @@ module _ {S K C : Type 0} (left : S → Option (List ℕ)) (written : K → Opti
   read_failed : (plan : Plan) → IsLearningOf left written source_faults sink_faults plan window Says old new status → status ≡ 5 → (port : PortKey) × HasReadFault source_faults new port
   read_failed plan l five =
       let failed : list_any (λ (e : Ending). is_failed_reason e.how) l.endings ≡ true = five_by (list_any (λ (e : Ending). is_failed_reason e.how) l.endings) (not l.text_written) (list_any (λ (e : Ending). is_malformed_reason e.how) l.endings) (sym l.cause ∙ five) in
-      let among = fails_among plan.ports l.learns.inputs l.learns.size (kept_any (merged turn_at (port_turns plan.ports l.learns.inputs)) (subst (λ (es : List Ending). list_any (λ (e : Ending). is_failed_reason e.how) es ≡ true) l.learns.ended failed)) in
+      let among = ends_among is_failed_reason plan.ports l.learns.inputs l.endings l.learns.size l.learns.ended failed in
       let at = l.learns.each among.0 (ended hows.End) among.1 in
-      let rose = at.holds.broken (among.2 (ended hows.End)) in
+      let rose = at.holds.broken (failed_is _ (among.2 (ended hows.End))) in
       let number = slice_index (numbers_of plan.ports) among.0 in
       (key_among plan.ports number, kept_fault (λ (e : Ends S K C). source_faults e.source) (ports_in plan new number) at.back at.kept (omega (arith, rose)))
 

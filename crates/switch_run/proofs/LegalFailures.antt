@@ -51,15 +51,15 @@ unwritten_how hows.Failed is = cc
 unwritten_how hows.Unwritten is = refl
 unwritten_how (hows.Full len) is = cc
 
-itself : (n : ℕ) → (n == n) ≡ true
+pub itself : (n : ℕ) → (n == n) ≡ true
 itself n = eq-eqb n n refl
 
 module _ (plan : Plan) (base : Base) where
   -- an input, control or an output that has ended has its pass ended
-  record Tells (past : List Row) : Type 0 where
-    inputs : (n : ℕ) → IsSome (input_end n past) → has_ended base (place_of plan n) past ≡ true
-    outputs : (n : ℕ) → IsSome (output_end n past) → has_ended base (egress_pass plan n) past ≡ true
-    control : IsSome (control_end past) → has_ended base (control_pass plan) past ≡ true
+  pub record Tells (past : List Row) : Type 0 where
+    pub inputs : (n : ℕ) → IsSome (input_end n past) → has_ended base (place_of plan n) past ≡ true
+    pub outputs : (n : ℕ) → IsSome (output_end n past) → has_ended base (egress_pass plan n) past ≡ true
+    pub control : IsSome (control_end past) → has_ended base (control_pass plan) past ≡ true
 
   still : (past : List Row) (event : Event) (pass : ℕ) → has_ended base pass past ≡ true → has_ended base pass (row_of plan base past event ∷ past) ≡ true
   still past event pass is = or_right _ (has_ended base pass past) is
@@ -103,12 +103,12 @@ module _ (plan : Plan) (base : Base) where
   tells_event past (Drain p count) tells = record { inputs = λ n is. tells.inputs n is; outputs = λ n is. tells.outputs n is; control = λ is. tells.control is }
   tells_event past (End who how) tells = tells_end past who how tells
 
-  tells_legal : (past : List Row) → IsLegal plan base past → Tells past
+  pub tells_legal : (past : List Row) → IsLegal plan base past → Tells past
   tells_legal [] legal = record { inputs = λ n is. cc; outputs = λ n is. cc; control = λ is. cc }
   tells_legal (r ∷ past) legal = subst (λ (x : Row). Tells (x ∷ past)) (sym legal.0.2) (tells_event past legal.0.0 (tells_legal past legal.1))
 
   -- a place whose pass has ended isn't that of a pass that ends now
-  apart_now : (past : List Row) (f : ℕ → ℕ) (m n : ℕ) → has_ended base (f m) past ≡ false → has_ended base (f n) past ≡ true → m ≢ n
+  pub apart_now : (past : List Row) (f : ℕ → ℕ) (m n : ℕ) → has_ended base (f m) past ≡ false → has_ended base (f n) past ≡ true → m ≢ n
   apart_now past f m n running over same = let both : has_ended base (f n) past ≡ false = subst (λ (x : ℕ). has_ended base (f x) past ≡ false) same running in cc
 
   -- reads

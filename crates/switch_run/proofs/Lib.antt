@@ -18,3 +18,6 @@ pub mod Clauses
 pub mod LearnFaults
 pub mod LearnClauses
 pub mod LearnRuns
+pub mod LegalFaults
+pub mod WholeInputs
+pub mod Completing

@@ -9,3 +9,4 @@ pub mod Splits
 pub mod Runs
 pub mod Learnings
 pub mod AnyRun
+pub mod Unhindered

@@ -3,13 +3,9 @@ use Rattle.std.specs.Prelude.{◌≡◌, ◌≢◌, ◌⊎◌, ℕ, Bool, true, 
 use Rattle.savi_ends.specs.declared.world.Std.TheVariants.{Out}
 use Rattle.savi_ends.specs.Faults.{Rose}
 use Rattle.savi_ends.specs.Places.{Book, OthersStay}
-use Rattle.run_config.specs.Words.{IsCheck, IsForm, IsGen, IsReplay, IsServe, IsSplitWords}
-use Rattle.switch_report.specs.RunLines.{memory_line, usage_line}
+use Rattle.switch_report.specs.RunLines.{memory_line}
 use Rattle.switch_run.specs.Causes.{IsOneOf, IsUnused, quiet_statuses, session_statuses, statuses, unused_statuses}
-use Rattle.switch_run.specs.Checks.{IsCheckRun}
-use Rattle.switch_run.specs.Loads.{IsLoadRun}
 use Rattle.switch_run.specs.Live.{IsServeSession}
-use Rattle.switch_run.specs.Splits.{IsCaptureRun}
 use Rattle.switch_run.specs.Session.{IsFileUnread, IsNoPlan, IsSession, IsUnopened, IsUnplayed}
 
 -- What a run has done with a configuration, whether for a replay or for a live session; `Session` is what such a session is.
@@ -35,14 +31,3 @@ pub record IsReplayRun {S K C : Type 0} (left : S → Option (List ℕ)) (writte
 abbrev pub IsServeRun : {S K C : Type 0} → (S → Option (List ℕ)) → (K → Option (List ℕ)) → (S → ℕ) → (K → ℕ) → (C → Option (List ℕ)) → List ℕ → (List ℕ → Type 0) → Book S K C → Book S K C → ℕ → Type 0
 IsServeRun left written source_faults sink_faults readings file Says old new status =
     IsRunOf false left written source_faults file Says (IsServeSession left written source_faults sink_faults readings file Says old new status) old new status
-
--- the words were no form of the command line, and nothing was touched; or what they name was replayed, served, checked or
--- split, or the load that they ask for was replayed
-abbrev pub IsGenRun : {S K C : Type 0} → (S → Option (List ℕ)) → (K → Option (List ℕ)) → (S → ℕ) → (K → ℕ) → (C → Option (List ℕ)) → List (List ℕ) → (List ℕ → Type 0) → Book S K C → Book S K C → ℕ → Type 0
-IsGenRun left written source_faults sink_faults readings words Says old new status =
-    ((status ≡ 2) × (IsForm words → ⊥) × Says usage_line × (new ≡ old))
-    ⊎ (((file : List ℕ) × IsReplay file words × IsReplayRun left written source_faults sink_faults file Says old new status)
-    ⊎ (((file : List ℕ) × IsServe file words × IsServeRun left written source_faults sink_faults readings file Says old new status)
-    ⊎ (((file : List ℕ) × IsCheck file words × IsCheckRun left written source_faults sink_faults file Says old new status)
-    ⊎ (((seed : ℕ) × (frames : ℕ) × IsGen seed frames words × IsLoadRun written sink_faults seed frames Says old new status)
-    ⊎ ((file : List ℕ) × IsSplitWords file words × IsCaptureRun left written source_faults sink_faults file Says old new status)))))

@@ -15,6 +15,7 @@ ghost use Rattle.switch_run.specs.AnyRun.{IsAnyRun};
 ghost use Rattle.switch_run.specs.Learnings.{IsLearnRun};
 ghost use Rattle.switch_run.specs.Runs.{IsReplayRun, IsServeRun};
 ghost use Rattle.switch_run.specs.Splits.{IsCaptureRun};
+ghost use Rattle.switch_run.specs.Unhindered.{IsComplete};
 ghost use Rattle.switch_run.specs.Session.{IsNoPlan, IsPartUnopened, IsSession, IsSessionOf, IsUnopened, IsUnplayed, IsFileUnread, WasTold, ToldBy};
 
 use crate::checks::check_file;
@@ -102,6 +103,7 @@ where
     ensures learned_write { (file : List ℕ) (window : ℕ) → IsLearn file window (map string_bytes words.now) → result ≡ 6 → EndHasFault W.K.faults ((W.book world.new).std Std.Out) }
     ensures load { (seed frames : ℕ) → IsGen seed frames (map string_bytes words.now) → IsLoadRun W.K.written W.K.faults seed frames (WasTold W.K.faults W.K.written (W.book world.old) (W.book world.new)) (W.book world.old) (W.book world.new) result }
     ensures split { (file : List ℕ) → IsSplitWords file (map string_bytes words.now) → IsCaptureRun W.S.left W.K.written W.S.faults W.K.faults file (WasTold W.K.faults W.K.written (W.book world.old) (W.book world.new)) (W.book world.old) (W.book world.new) result }
+    ensures complete { IsComplete W.S.left W.K.written W.S.faults W.K.faults W.C.readings (map string_bytes words.now) (W.book world.old) (W.book world.new) result }
 {
     let mut errors = world.std(Std::Err);
     let status = perform(rt, alloc, words, world, &mut errors, gate);

@@ -1,6 +1,7 @@
 use Rattle.std.specs.Prelude.{map}
 use Rattle.std.specs.String.{string_bytes}
 use Rattle.switch_run.proofs.Clauses.{Clauses}
+use Rattle.switch_run.proofs.Completing.{complete_of}
 use Rattle.switch_run.proofs.LearnClauses.{AllClauses, all_clauses}
 use Rattle.switch_run.proofs.Running.{Ran}
 use Rattle.switch_run.proofs.top.run.Given as given
@@ -91,3 +92,6 @@ returns-clause-learned_read g c = (ran_all g c).learned_read
 
 pub returns-clause-learned_write : goal.returns-clause-learned_write
 returns-clause-learned_write g c = (ran_all g c).learned_write
+
+pub returns-clause-complete : goal.returns-clause-complete
+returns-clause-complete g c = complete_of g.W.S.Source.left g.W.K.Sink.written g.W.S.Source.faults g.W.K.Sink.faults g.W.C.Clock.readings _ _ _ _ c.requires.faults (ran_all g c)

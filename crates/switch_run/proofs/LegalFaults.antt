@@ -1,0 +1,160 @@
+-- An input that is malformed in a legal history is that of a port of the plan, or control's; and a history in which a pass
+-- ended for want of room has none.
+use Rattle.std.proofs.Common.{◌≡◌, ℕ, ◌+◌, ◌<◌, ◌≤◌, ◌==◌, ◌||◌, nat_lt, nat_le, Bool, true, false, List, [], ◌∷◌, get_or, length, refl, sym, ◌∙◌, subst, arith, if◌then◌else◌, ◌⊎◌, inl, inr, Option, Some, IsSome}
+use Rattle.std.proofs.lemmas.Bool.{ne_eqb, cond-false, cond-true, ltb-true, leb-true, lt-ltb, le-leb, and_parts, and_from}
+use Rattle.savi_kinds.specs.declared.port.Port.{Port}
+use Rattle.savi_kinds.specs.declared.plan.Plan.{Plan}
+use Rattle.savi_kinds.specs.declared.entry.Who.{Who}
+use Rattle.savi_kinds.specs.declared.entry.Who.TheVariants as passes
+use Rattle.savi_kinds.specs.declared.entry.How.{How}
+use Rattle.savi_kinds.specs.declared.entry.How.TheVariants as hows
+use Rattle.savi_kinds.specs.Ports.{number_of}
+use Rattle.savi_kinds.specs.ValidPlan.{numbers_of}
+use Rattle.hist_store.specs.Rows.{Row, held}
+use Rattle.savi_history.specs.Bases.{Base}
+use Rattle.savi_history.specs.Passes.{place_of, control_pass, has_ended, has_port}
+use Rattle.savi_history.specs.Limits.{has_room}
+use Rattle.savi_history.specs.Events.{Event, Frame, Long, Command, Tick, Drain, End, row_of}
+use Rattle.savi_history.specs.Legal.{IsLegal, IsOpen, MayCome, MayEnd, MayEndEgress, MayEndTicker}
+use Rattle.savi_history.specs.PortInputs.{input_end}
+use Rattle.savi_history.specs.ControlInputs.{control_end}
+use Rattle.savi_history.specs.Endings.{has_full, has_malformed, is_full_reason, is_malformed_reason}
+use Rattle.savi_history.proofs.PortPlaces.{placed, place_within}
+use Rattle.switch_run.proofs.LegalFailures.{Tells, apart_now, itself, tells_legal}
+
+-- the input of the port at a place of the plan was malformed, or a line of control was, or was too long
+abbrev pub IsMalformedAt : Plan → List Row → Type 0
+IsMalformedAt plan past =
+    ((k : ℕ) × (how : How) × (k < length plan.ports) × (is_malformed_reason how ≡ true) × (input_end (get_or (numbers_of plan.ports) k 0) past ≡ Some how))
+    ⊎ ((how : How) × (is_malformed_reason how ≡ true) × (control_end past ≡ Some how))
+
+-- neither the ticker nor an output is malformed
+ticker_sound : (plan : Plan) (base : Base) (past : List Row) (how : How) → MayEndTicker plan base past how → is_malformed_reason how ≡ true → ⊥
+ticker_sound plan base past hows.End may is = cc
+ticker_sound plan base past hows.Quit may is = may
+ticker_sound plan base past (hows.Malformed at) may is = may
+ticker_sound plan base past (hows.Overlong at) may is = may
+ticker_sound plan base past hows.Failed may is = may
+ticker_sound plan base past hows.Unwritten may is = may
+ticker_sound plan base past (hows.Full len) may is = cc
+
+egress_sound : (plan : Plan) (base : Base) (past : List Row) (q : ℕ) (how : How) → MayEndEgress plan base past q how → is_malformed_reason how ≡ true → ⊥
+egress_sound plan base past q hows.End may is = cc
+egress_sound plan base past q hows.Quit may is = may
+egress_sound plan base past q (hows.Malformed at) may is = may
+egress_sound plan base past q (hows.Overlong at) may is = may
+egress_sound plan base past q hows.Failed may is = cc
+egress_sound plan base past q hows.Unwritten may is = may
+egress_sound plan base past q (hows.Full len) may is = may
+
+module _ (plan : Plan) (base : Base) where
+  malformed_at : (past : List Row) (p : Port) (how : How) → has_port plan (number_of p) ≡ true → is_malformed_reason how ≡ true → IsMalformedAt plan (row_of plan base past (End (passes.Ingress p) how) ∷ past)
+  malformed_at past p how known reason =
+      let at = placed plan (number_of p) known in
+      inl (
+        place_of plan (number_of p),
+        how,
+        place_within plan (number_of p) known,
+        reason,
+        subst (λ (n : ℕ). (if number_of p == n then Some how else input_end n past) ≡ Some how) (sym at.number_is)
+            (cond-true _ (Some how) (input_end (number_of p) past) (itself (number_of p))),
+      )
+
+  -- an end of another pass changes nothing of this
+  malformed_kept : (past : List Row) (who : Who) (how : How) → IsOpen plan base past who → Tells plan base past → IsMalformedAt plan past → IsMalformedAt plan (row_of plan base past (End who how) ∷ past)
+  malformed_kept past (passes.Ingress p) how open_pass tells (inl (k, was, inside, reason, is)) =
+      let n = get_or (numbers_of plan.ports) k 0 in
+      let over = tells.inputs n (subst (λ (o : Option How). IsSome o) (sym is) refl) in
+      let other = apart_now plan base past (place_of plan) (number_of p) n open_pass.running over in
+      inl (k, was, inside, reason, cond-false _ (Some how) (input_end n past) (ne_eqb (number_of p) n other) ∙ is)
+  malformed_kept past (passes.Ingress p) how open_pass tells (inr is) = inr is
+  malformed_kept past passes.Control how open_pass tells (inl found) = inl found
+  malformed_kept past passes.Control how open_pass tells (inr (was, reason, is)) =
+      let over = tells.control (subst (λ (o : Option How). IsSome o) (sym is) refl) in
+      let running : has_ended base (control_pass plan) past ≡ false = open_pass.running in
+      absurd (let both : true ≡ false = sym over ∙ running in cc)
+  malformed_kept past passes.Ticker how open_pass tells (inl found) = inl found
+  malformed_kept past passes.Ticker how open_pass tells (inr is) = inr is
+  malformed_kept past (passes.Egress p) how open_pass tells (inl found) = inl found
+  malformed_kept past (passes.Egress p) how open_pass tells (inr is) = inr is
+
+  malformed_or : (past : List Row) (who : Who) (how : How) (b : Bool) → (b ≡ true → IsMalformedAt plan (row_of plan base past (End who how) ∷ past)) → (has_malformed past ≡ true → IsMalformedAt plan (row_of plan base past (End who how) ∷ past))
+      → (b || has_malformed past) ≡ true → IsMalformedAt plan (row_of plan base past (End who how) ∷ past)
+  malformed_or past who how true here before is = here refl
+  malformed_or past who how false here before is = before is
+
+  malformed_here : (past : List Row) (who : Who) (how : How) → IsOpen plan base past who → MayEnd plan base past who how → is_malformed_reason how ≡ true → IsMalformedAt plan (row_of plan base past (End who how) ∷ past)
+  malformed_here past (passes.Ingress p) how open_pass may reason = malformed_at past p how open_pass.known reason
+  malformed_here past passes.Control how open_pass may reason = inr (how, reason, refl)
+  malformed_here past passes.Ticker how open_pass may reason = absurd (ticker_sound plan base past how may reason)
+  malformed_here past (passes.Egress p) how open_pass may reason = absurd (egress_sound plan base past (number_of p) how may reason)
+
+  -- an event that is no end changes nothing of this
+  malformed_same : (past now : List Row) → ((n : ℕ) → input_end n now ≡ input_end n past) → control_end now ≡ control_end past → IsMalformedAt plan past → IsMalformedAt plan now
+  malformed_same past now inputs control (inl (k, how, inside, reason, is)) = inl (k, how, inside, reason, inputs _ ∙ is)
+  malformed_same past now inputs control (inr (how, reason, is)) = inr (how, reason, control ∙ is)
+
+  malformed_event : (past : List Row) (event : Event) → MayCome plan base past event → Tells plan base past → (has_malformed past ≡ true → IsMalformedAt plan past)
+      → has_malformed (row_of plan base past event ∷ past) ≡ true → IsMalformedAt plan (row_of plan base past event ∷ past)
+  malformed_event past (Frame p stamp octets) may tells before is = malformed_same past (row_of plan base past (Frame p stamp octets) ∷ past) (λ n. refl) refl (before is)
+  malformed_event past (Long p stamp len) may tells before is = malformed_same past (row_of plan base past (Long p stamp len) ∷ past) (λ n. refl) refl (before is)
+  malformed_event past (Command stamp line) may tells before is = malformed_same past (row_of plan base past (Command stamp line) ∷ past) (λ n. refl) refl (before is)
+  malformed_event past (Tick stamp) may tells before is = malformed_same past (row_of plan base past (Tick stamp) ∷ past) (λ n. refl) refl (before is)
+  malformed_event past (Drain p count) may tells before is = malformed_same past (row_of plan base past (Drain p count) ∷ past) (λ n. refl) refl (before is)
+  malformed_event past (End who how) may tells before is =
+      malformed_or past who how (is_malformed_reason how) (malformed_here past who how may.0 may.1) (λ was. malformed_kept past who how may.0 tells (before was)) is
+
+  pub legal_malformed : (past : List Row) → IsLegal plan base past → has_malformed past ≡ true → IsMalformedAt plan past
+  legal_malformed [] legal is = cc
+  legal_malformed (r ∷ past) legal is =
+      let event = legal.0.0 in
+      let row_is : r ≡ row_of plan base past event = legal.0.2 in
+      subst (λ (x : Row). IsMalformedAt plan (x ∷ past)) (sym row_is)
+      (malformed_event past event legal.0.1 (tells_legal plan base past legal.1) (legal_malformed past legal.1) (subst (λ (x : Row). has_malformed (x ∷ past) ≡ true) row_is is))
+
+  -- room
+
+  -- where an input has room behind a row it had room before it
+  roomy_before : (r : Row) (past : List Row) → has_room plan (r ∷ past) ≡ true → has_room plan past ≡ true
+  roomy_before r past room =
+      let parts = and_parts (nat_lt (length (r ∷ past) + 4130) plan.entries) (nat_le (held (r ∷ past) + 1518) plan.bytes) room in
+      let entries : length (r ∷ past) + 4130 < plan.entries = ltb-true (length (r ∷ past) + 4130) plan.entries parts.0 in
+      let bytes : held (r ∷ past) + 1518 ≤ plan.bytes = leb-true (held (r ∷ past) + 1518) plan.bytes parts.1 in
+      and_from (nat_lt (length past + 4130) plan.entries) (nat_le (held past + 1518) plan.bytes)
+      (lt-ltb (length past + 4130) plan.entries (omega (arith, entries))) (le-leb (held past + 1518) plan.bytes (omega (arith, bytes)))
+
+  -- a pass ends for want of room only where there is none
+  not_full : (past : List Row) (who : Who) (how : How) → has_room plan past ≡ true → MayEnd plan base past who how → is_full_reason how ≡ false
+  not_full past who hows.End room may = refl
+  not_full past who hows.Quit room may = refl
+  not_full past who (hows.Malformed at) room may = refl
+  not_full past who (hows.Overlong at) room may = refl
+  not_full past who hows.Failed room may = refl
+  not_full past who hows.Unwritten room may = refl
+  not_full past (passes.Ingress p) (hows.Full len) room may = absurd (let none : true ≡ false = sym room ∙ may.no_room in cc)
+  not_full past passes.Control (hows.Full len) room may = absurd (let none : true ≡ false = sym room ∙ may.no_room in cc)
+  not_full past passes.Ticker (hows.Full len) room may = absurd (let none : true ≡ false = sym room ∙ may.no_room in cc)
+  not_full past (passes.Egress p) (hows.Full len) room may = absurd may
+
+  roomy_event : (past : List Row) (event : Event) → MayCome plan base past event → has_room plan past ≡ true → has_full past ≡ false → has_full (row_of plan base past event ∷ past) ≡ false
+  roomy_event past (Frame p stamp octets) may room before = before
+  roomy_event past (Long p stamp len) may room before = before
+  roomy_event past (Command stamp line) may room before = before
+  roomy_event past (Tick stamp) may room before = before
+  roomy_event past (Drain p count) may room before = before
+  roomy_event past (End who how) may room before = rw (not_full past who how room may.1) before
+
+  roomy_legal : (past : List Row) → IsLegal plan base past → has_room plan past ≡ true → has_full past ≡ false
+  roomy_legal [] legal room = refl
+  roomy_legal (r ∷ past) legal room =
+      let event = legal.0.0 in
+      let row_is : r ≡ row_of plan base past event = legal.0.2 in
+      let room_before = roomy_before r past room in
+      subst (λ (x : Row). has_full (x ∷ past) ≡ false) (sym row_is) (roomy_event past event legal.0.1 room_before (roomy_legal past legal.1 room_before))
+
+  room_by : (past : List Row) (b : Bool) → (b ≡ true → has_full past ≡ false) → has_full past ≡ true → b ≡ false
+  room_by past true none full = absurd (let both : true ≡ false = sym full ∙ none refl in cc)
+  room_by past false none full = refl
+
+  pub full_has_no_room : (past : List Row) → IsLegal plan base past → has_full past ≡ true → has_room plan past ≡ false
+  full_has_no_room past legal full = room_by past (has_room plan past) (roomy_legal past legal) full
