@@ -10,13 +10,16 @@ MARK = "# Each call fails in turn, made by tools/world-runs --write: "
 STATUSES = {"opening": 7, "plan": 5, "read": 5, "write": 6, "journal": 6, "summary": 6}
 
 
-def calls(ports, has_control):
-    """The kinds of calls: the word of a line `fails`, and how a run is named in which one of them fails."""
+def calls(ports, has_control, outputs=()):
+    """The kinds of calls: the word of a line `fails`, and how a run is named in which one of them fails. Where outputs are
+    named, a capture is split into them."""
     yield "opening", "opening {}"
-    yield "plan", "read {} of the configuration"
+    yield "plan", "read {} of the " + ("capture" if outputs else "configuration")
     for n in range(1, ports + 1):
         yield f"read {n}", f"read {{}} at port {n}"
         yield f"write {n}", f"write {{}} at port {n}"
+    for name in outputs:
+        yield f"write {name}", f"write {{}} of {name}"
     if has_control:
         yield "read control", "read {} of control"
         yield "write control", "write {} of control"
@@ -33,7 +36,8 @@ class Left:
         self.written = {}
         for line in lines[1:]:
             word, colon, rest = line.partition(":")
-            if word.startswith("port ") and title not in ("standard error", "replies"):
+            is_output = bool(colon) and (word.startswith("port ") or word.endswith(".pcap"))
+            if is_output and title not in ("standard error", "replies"):
                 self.written[word] = rest
             elif colon and not rest and not line.startswith("error"):
                 title = word.removesuffix(" behind its head").removesuffix(" behind its entries")
@@ -58,7 +62,7 @@ def made(scene, leaves):
     """The runs of a scene: which calls fail, by the word and the number of each, what that is called, and the lines that it
     leaves. `leaves` has these for such calls."""
     whole = leaves({})
-    for which, words in calls(len(scene.roles), scene.control() is not None):
+    for which, words in calls(len(scene.roles), scene.control() is not None, scene.out_names):
         for number in itertools.count(1):
             lines = leaves({which: number})
             yield {which: number}, words.format(number), lines
@@ -69,8 +73,8 @@ def made(scene, leaves):
                 break
 
 
-def faults(fails, lines, leaves):
-    """What a run may not leave."""
+def faults(form, fails, lines, leaves):
+    """What a run of this form of the command line may not leave."""
     which, number = next(iter(fails.items()))
     left, whole = Left(lines), Left(leaves({}))
     if lines == leaves({}):
@@ -81,15 +85,32 @@ def faults(fails, lines, leaves):
     if which == "error":
         return differing(left, whole, errors=whole.errors[: number - 1])
     found = [] if left.status == STATUSES[which.split()[0]] else [f"the status is {left.status}"]
+    if form == "split" and which != "summary":
+        return found + faults_of_split(which, left, whole)
     if which in ("opening", "plan"):
         is_silent = not (left.has_journal() or left.summary or any(left.written.values()))
         return found + ([] if is_silent and len(left.errors) == 1 else ["something is done, or what isn't said"])
+    if form == "learn" and which != "summary":
+        found += [] if left.summary[-1:] == ["end"] else ["what is learned isn't told to its end"]
+        errors = [f"port {which.split()[1]}: read failed"]
+        return found + differing(left, whole, status=left.status, errors=errors, summary=left.summary)
     if which == "summary":
-        return found + differing(left, whole, status=left.status, summary=[])
+        front = whole.summary[: number - 1]
+        return found + differing(left, whole, status=left.status, summary=front)
     if which == "journal":
         errors = [*whole.errors, "journal: write failed"]
         return found + differing(left, whole, status=left.status, errors=errors, ends={})
     return found + faults_of_end(which, left, whole)
+
+
+def faults_of_split(which, left, whole):
+    """A split stops: it says why in one line, counts nothing, and each output has a front of what it had."""
+    file = "plan" if which == "plan" else which.split()[-1]
+    is_said = left.errors[0].startswith("cannot open ") if which == "opening" else left.errors[0].startswith(f"{file}: ")
+    found = [] if is_said and len(left.errors) == 1 else [f"standard error is told {left.errors}"]
+    found += [f"it counts {left.summary}"] if left.summary else []
+    fronts = (name for name, octets in left.written.items() if not whole.written[name].startswith(octets))
+    return found + [f"{name} has no front of what it had" for name in fronts]
 
 
 def differing(left, other, **more):

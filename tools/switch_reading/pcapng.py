@@ -26,10 +26,12 @@ class Packet:
 
 @dataclass
 class Told:
-    """The link types of all interfaces, the packets, and how the file ends ("end" or "malformed AT")."""
+    """The link types of all interfaces, the packets, both in the order of their blocks (an interface by its number), and how
+    the file ends ("end" or "malformed AT")."""
 
     links: list = field(default_factory=list)
     packets: list = field(default_factory=list)
+    order: list = field(default_factory=list)
     ending: str = ""
 
 
@@ -94,6 +96,7 @@ def read(octets):
             elif kind == INTERFACE:
                 ensure(len(block) >= 20 and len(here) < 256 and len(told.links) < 65536)
                 here.append(units(options(order, block[16:-4])))
+                told.order.append(len(told.links))
                 told.links.append(struct.unpack(order + "H", block[8:10])[0])
             elif kind == PACKET:
                 ensure(len(block) >= 32)
@@ -102,12 +105,38 @@ def read(octets):
                 options(order, block[28 + padded(captured) : -4])
                 stamp = min(1000 * (high * 2**32 + low) // here[interface], LATEST_STAMP)
                 told.packets.append(Packet(first + interface, stamp, block[28 : 28 + captured]))
+                told.order.append(told.packets[-1])
         except Wrong:
             told.ending = f"malformed {at}"
             return told
         at += len(block)
     told.ending = "end"
     return told
+
+
+def option_parts(order, octets):
+    """The sizes of the parts of options: the head of each, and its value with the padding; behind the end of options all."""
+    found, at = [], 0
+    while at < len(octets):
+        code, size = struct.unpack(order + "HH", octets[at : at + 4])
+        found += [4, len(octets) - at - 4 if code == 0 else padded(size)]
+        at += sum(found[-2:])
+    return found
+
+
+def parts(octets):
+    """The sizes of the parts of a file, one behind the other: the head of a block, its fields, the octets of a packet and their
+    padding, the parts of its options or the content of any other block, and the length at its end."""
+    found, order, at = [], None, 0
+    while at < len(octets):
+        order, kind, block = block_at(octets, at, order)
+        fields = {SECTION: 16, INTERFACE: 8, PACKET: 20}.get(kind, 0)
+        captured = struct.unpack(order + "I", block[20:24])[0] if kind == PACKET else 0
+        rest = block[8 + fields + padded(captured) : -4]
+        inner = option_parts(order, rest) if fields else [len(rest)]
+        found += [size for size in (8, fields, captured, -captured % 4, *inner, 4) if size]
+        at += len(block)
+    return found
 
 
 def split(told):

@@ -3,15 +3,16 @@
 use crate::PASSES_MOST;
 use crate::recording_world::RecordingWorld;
 use crate::scene::Scene;
+use crate::staging::JOURNAL;
 use journal_check::{Checked, check};
 use savi_ends::{MemSink, MemSource};
 use sha2::{Digest, Sha256};
 use std::alloc::{AllocError, Global};
 
 /// Prints the status, what standard error and standard output were told, what was written at each port, the replies, where
-/// control has an input, and the journal; of a load the digests of what was written at the ports and of the journal; of a
-/// live session, whose entries come in the order of its workers, the ticks of the journal, the end of each pass, and what a
-/// check says of it.
+/// control has an input, the journal, and what was written at each other output; of a load the digests of what was written
+/// at the ports and of the journal; of a live session, whose entries come in the order of its workers, the ticks of the
+/// journal, the end of each pass, and what a check says of it.
 pub fn print_left(
     rt: &impl Print,
     alloc: Global,
@@ -20,6 +21,24 @@ pub fn print_left(
     status: u8,
 ) -> anyhow::Result<()> {
     println!(rt; "status {status}")?;
+    print_told(rt, alloc, scene, left)?;
+    if scene.is_load {
+        return print_digests(rt, alloc, left);
+    }
+    print_ports(rt, alloc, scene, left)?;
+    if scene.is_live() {
+        return print_history(rt, alloc, left);
+    }
+    print_outputs(rt, alloc, scene, left)
+}
+
+// What the program asked of its world, where the scene says so, and what standard error and standard output were told.
+fn print_told(
+    rt: &impl Print,
+    alloc: Global,
+    scene: &Scene,
+    left: &RecordingWorld,
+) -> anyhow::Result<()> {
     if scene.tells_openings {
         let openings = String::from_utf8_lossy(alloc, left.openings.as_slice())?;
         print!(rt; "openings:\n{openings}")?;
@@ -35,22 +54,42 @@ pub fn print_left(
     } else {
         print!(rt; "standard output:\n{summary}")?;
     }
-    if scene.is_load {
-        return print_digests(rt, alloc, left);
-    }
+    Ok(())
+}
+
+// What was written at the ports, and the replies, where control has an input.
+fn print_ports(
+    rt: &impl Print,
+    alloc: Global,
+    scene: &Scene,
+    left: &RecordingWorld,
+) -> anyhow::Result<()> {
     let ports = with_names(alloc, scene, ports_of(alloc, left)?, " ")?;
     print!(rt; "{ports}")?;
     if let (Some(_), Some(ends)) = (&scene.commands, &left.world.control) {
         let replies = String::from_utf8_lossy(alloc, ends.sink.written())?;
         print!(rt; "replies:\n{replies}")?;
     }
-    if scene.is_live() {
-        return print_history(rt, alloc, left);
-    }
-    for (_, sink) in left.world.outputs.as_slice() {
-        let text = with_names(alloc, scene, text_of(alloc, sink)?, "")?;
-        let (place, rest) = behind_head(text.as_str(), scene.head.as_str());
-        print!(rt; "journal{place}:\n{rest}")?;
+    Ok(())
+}
+
+// The journal, and a line for each other output, with the digits of what was written there.
+fn print_outputs(
+    rt: &impl Print,
+    alloc: Global,
+    scene: &Scene,
+    left: &RecordingWorld,
+) -> anyhow::Result<()> {
+    for (name, sink) in left.world.outputs.as_slice() {
+        if name.as_str() == JOURNAL {
+            let text = with_names(alloc, scene, text_of(alloc, sink)?, "")?;
+            let (place, rest) = behind_head(text.as_str(), scene.head.as_str());
+            print!(rt; "journal{place}:\n{rest}")?;
+        } else if let Some(sink) = sink {
+            let digits = hex::encode(alloc, sink.written())?;
+            let text = with_names(alloc, scene, digits, " ")?;
+            println!(rt; "{}:{text}", name.as_str())?;
+        }
     }
     Ok(())
 }

@@ -15,6 +15,10 @@ pub struct Scene {
     pub names: Vec<(String, String)>,
     /// The text of the configuration.
     pub plan: String,
+    /// What stands in its file behind that text.
+    pub octets: Vec<u8>,
+    /// The names of the outputs beside the journal.
+    pub outputs: Vec<String>,
     /// What its journal begins with.
     pub head: String,
     /// What the inputs of the ports hold, from port 1 on.
@@ -43,6 +47,8 @@ impl Scene {
         Scene {
             names: Vec::new(alloc),
             plan: String::new(alloc),
+            octets: Vec::new(alloc),
+            outputs: Vec::new(alloc),
             head: String::new(alloc),
             captures: Vec::new(alloc),
             is_load: false,
@@ -86,18 +92,13 @@ impl Scene {
         match word {
             "" | "#" | "drops" | "answers" | "refused" | "leaves" => {}
             "name" => self.set_name(alloc, rest)?,
-            "plan" => {
-                self.plan = String::new(alloc);
-                self.head = String::new(alloc);
-                self.forget_inputs(alloc);
-            }
+            "plan" => self.forget_plan(alloc),
             "captures" => self.forget_inputs(alloc),
             "line" => add_line(&mut self.plan, rest)?,
+            "octets" => self.add_to_file(alloc, rest)?,
+            "output" => self.outputs.push(String::from_str(alloc, rest)?)?,
             "head" => add_line(&mut self.head, rest)?,
-            "capture" => {
-                let octets = self.octets_of(alloc, rest)?;
-                self.captures.push(octets)?;
-            }
+            "capture" => self.add_capture(alloc, rest)?,
             "load" => self.set_load(alloc, rest)?,
             "command" => {
                 self.add_commands(alloc, rest.as_bytes())?;
@@ -118,6 +119,15 @@ impl Scene {
         Ok(())
     }
 
+    // There is no text, no output but the journal, and no input.
+    fn forget_plan(&mut self, alloc: Global) {
+        self.plan = String::new(alloc);
+        self.octets = Vec::new(alloc);
+        self.outputs = Vec::new(alloc);
+        self.head = String::new(alloc);
+        self.forget_inputs(alloc);
+    }
+
     // No input holds anything, and control has none.
     fn forget_inputs(&mut self, alloc: Global) {
         self.captures = Vec::new(alloc);
@@ -133,6 +143,20 @@ impl Scene {
         let (seed, frames) = rest.split_once(' ').unwrap_or((rest, ""));
         self.captures = load(alloc, seed.parse::<u32>()?, frames.parse::<u32>()?)?.captures;
         self.is_load = true;
+        Ok(())
+    }
+
+    // Adds octets to the file of the configuration.
+    fn add_to_file(&mut self, alloc: Global, rest: &str) -> anyhow::Result<()> {
+        let octets = self.octets_of(alloc, rest)?;
+        self.octets.extend_from_slice(octets.as_slice())?;
+        Ok(())
+    }
+
+    // Adds what the next port's input holds.
+    fn add_capture(&mut self, alloc: Global, rest: &str) -> anyhow::Result<()> {
+        let octets = self.octets_of(alloc, rest)?;
+        self.captures.push(octets)?;
         Ok(())
     }
 

@@ -18,15 +18,15 @@ const LOAD_ROOM: usize = 2_097_152;
 /// Room for what standard output and standard error are told.
 const TEXT_ROOM: usize = 256;
 
-/// The world of a scene: the configuration under the name `plan`, a port for each capture, control, and room for a journal.
+/// The name of the journal.
+pub const JOURNAL: &str = "journal.txt";
+
+/// The world of a scene: the configuration under the name `plan`, a port for each capture, control, and room for a journal and
+/// for the outputs that it names.
 pub fn stage(alloc: Global, scene: &Scene) -> anyhow::Result<RecordingWorld> {
-    let journal = Text::new(String::from_str(alloc, "journal.txt")?);
-    let mut outputs = Vec::new(alloc);
-    let sink = MemSink::make(alloc, room_of(scene), fault_of(alloc, scene, "journal")?)?;
-    outputs.push((journal, Some(sink)))?;
     let world = MemWorld {
         inputs: plan_of(alloc, scene)?,
-        outputs,
+        outputs: outputs_of(alloc, scene)?,
         ports: ports_of(alloc, scene)?,
         control: Some(control_of(alloc, scene)?),
         ticker: Some(MemClock::new(scene.readings(alloc, "ticker")?)),
@@ -57,11 +57,25 @@ fn plan_of(alloc: Global, scene: &Scene) -> Result<Vec<(Text, Option<MemSource>)
     ensures { IfOk result (λ inputs. length inputs.items ≡ 1) }
 {
     let name = Text::new(String::from_str(alloc, "plan")?);
-    let octets = scene.plan.as_bytes().to_vec(alloc)?;
+    let mut octets = scene.plan.as_bytes().to_vec(alloc)?;
+    octets.extend_from_slice(scene.octets.as_slice())?;
     let source = MemSource::new(octets, READ_MOST, fault_of(alloc, scene, "plan")?);
     let mut inputs = Vec::new(alloc);
     inputs.push((name, Some(source)))?;
     Ok(inputs)
+}
+
+// The journal, and behind it the outputs that a scene names.
+fn outputs_of(alloc: Global, scene: &Scene) -> Result<Vec<(Text, Option<MemSink>)>, AllocError> {
+    let mut outputs = Vec::new(alloc);
+    let journal = MemSink::make(alloc, room_of(scene), fault_of(alloc, scene, "journal")?)?;
+    outputs.push((Text::new(String::from_str(alloc, JOURNAL)?), Some(journal)))?;
+    for name in &scene.outputs {
+        let write = format!(in alloc; "write {name}")?;
+        let sink = MemSink::make(alloc, FILE_ROOM, fault_of(alloc, scene, write.as_str())?)?;
+        outputs.push((Text::new(name.clone()?), Some(sink)))?;
+    }
+    Ok(outputs)
 }
 
 // The ports, numbered from 1 on, each with its capture.
