@@ -114,10 +114,24 @@ def open_interface(kind, name):
         raise Fault(f"{kind} '{name}': {device} cannot be opened for it: {why}") from None
 
 
+def process_of(end):
+    """The process that a connection is to (SO_PEERCRED, unix(7))."""
+    return struct.unpack("iII", end.getsockopt(socket.SOL_SOCKET, socket.SO_PEERCRED, 12))[0]
+
+
+def limits_of(end):
+    """The limits of a switch, found by a connection to it, as /proc/PID/limits has them; of one that can't be seen nothing."""
+    try:
+        with open(f"/proc/{process_of(end)}/limits", encoding="ascii") as file:
+            return file.read()
+    except OSError:
+        return ""
+
+
 async def lacking_threads(end, needed, seconds):
-    """What a switch lacks that hasn't come to so many threads within this time, or None. It is found by a connection to it
-    (SO_PEERCRED, unix(7)); of one that can't be seen nothing is known."""
-    process = struct.unpack("iII", end.getsockopt(socket.SOL_SOCKET, socket.SO_PEERCRED, 12))[0]
+    """What a switch lacks that hasn't come to so many threads within this time, or None. It is found by a connection to it;
+    of one that can't be seen nothing is known."""
+    process = process_of(end)
     deadline = time.monotonic() + seconds
     while True:
         try:

@@ -11,8 +11,9 @@ import sys
 import time
 
 from .files import INTERFACES, Fault
+from .limits import descriptors, lacking_descriptors, threads
 from .operators import Control, Ended
-from .places import connect, interface_lacks, lacking_threads, make_socket, open_interface, same_file
+from .places import connect, interface_lacks, lacking_threads, limits_of, make_socket, open_interface, same_file
 from .qemu import Port
 
 # The statuses beside those of the switch, from <sysexits.h>: what is missing here, what isn't there yet, a file's faults.
@@ -107,12 +108,14 @@ class Run:
             await self.control.join(first, first if into == out else await connect(out, deadline, self.has_ended))
         self.is_joined = True
 
+    def look_at_descriptors(self):
+        """Warns of a switch that may open fewer descriptors than it takes once each peer has come."""
+        if self.ports and (lack := lacking_descriptors(limits_of(self.ports[0].held), descriptors(self.panel.plan))):
+            self.tell(f"warning: {lack}")
+
     async def look_at_threads(self):
-        """Warns of a switch with fewer threads than workers: the ticker, one for each output, and one for each input that
-        doesn't end by itself and for control."""
-        plan = self.panel.plan
-        needed = 1 + len(plan.ports) + sum(port.format == "stream" for port in plan.ports) + bool(plan.control)
-        if self.ports and (lack := await lacking_threads(self.ports[0].held, needed, STARTING)):
+        """Warns of a switch with fewer threads than workers."""
+        if self.ports and (lack := await lacking_threads(self.ports[0].held, threads(self.panel.plan), STARTING)):
             self.tell(f"warning: {lack}")
 
     def watch_switch(self):
@@ -272,6 +275,7 @@ class Run:
 
     async def start_and_serve(self, ends, operators):
         await self.join_switch(ends)
+        self.look_at_descriptors()
         self.tasks.append(asyncio.create_task(self.look_at_threads()))
         await self.serve(operators)
 
