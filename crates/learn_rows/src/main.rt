@@ -1,13 +1,65 @@
-//! Stateful RA-Guard over tables of frames, whose octets were written out by the RFCs or taken from real ones, and what is
-//! learned from them.
+//! Stateful RA-Guard over histories of frames at two ports, a host's and a trusted one, and what is learned from them.
 //!
-//! The program does nothing; its tests are all of it. They stand apart from those of the other crates that read frames, since
-//! they take longer than all of those.
+//! The input is lines, of which those that begin with `#` are passed over:
+//!
+//!     == TEXT                   is printed as it stands: what the lines behind it show
+//!     name NAME DIGITS          octets of a frame in hexadecimal digits
+//!     plan WINDOW               a history begins, with a window of so many ms: port 1 is a host's and port 2 trusted
+//!     plan WINDOW PREFIX        the same of a plan that has a prefix, of first come
+//!     fail WRITE                the write of this number will fail, from 1 on
+//!     frame PORT STAMP NAME     a frame
+//!     long PORT STAMP OCTETS    a frame of more than 1,518 octets
+//!     finish                    prints what was written of these arrivals, and whether a write failed
+//!     learn PORT STAMP OCTETS   prints the same of a list of one arrival, a frame of more than 1,518 octets
+//!     see PORT MOMENT NAME      what the learner answers to a frame
+//!     state PORT MOMENT         the state in which it has a port
+//!     router PLACE MOMENT       the router at this place, from 0 on, its port, and the moment before which it stands
+//!     prefix PLACE MOMENT       the prefix at this place, and the moment before which it stands, or `-`
+//!     lost                      how many routers and prefixes found no place
+//!     read NAME                 what is read of the advertisement that a frame has behind its IPv6 header
+//!
+//! What has to be printed was written out by RFC 6105 section 3 and RFC 4861 sections 4.2, 4.6.2 and 6.1.2.
 #![tactic(auto)]
 
-#[cfg(test)]
-mod ra_learn_rows;
-#[cfg(test)]
-mod wire;
+mod asked;
+mod frames;
+mod history;
+mod plans;
 
-fn main(_rt: HostRuntime) {}
+use asked::ask;
+use frames::Frames;
+use history::History;
+use std::alloc::Global;
+
+fn main(rt: HostRuntime) -> anyhow::Result<()> {
+    let mut frames = Frames::new(rt.alloc());
+    let mut history = History::new(rt.alloc(), "0")?;
+    for line in rt.lines(rt.alloc()) {
+        let line = line?;
+        follow(&rt, rt.alloc(), &mut frames, &mut history, line.as_str())?;
+    }
+    Ok(())
+}
+
+// Does what a line says.
+fn follow(
+    rt: &impl Print,
+    alloc: Global,
+    frames: &mut Frames,
+    history: &mut History,
+    line: &str,
+) -> anyhow::Result<()> {
+    let (word, rest) = line.split_once(' ').unwrap_or((line, ""));
+    match word {
+        "" | "#" => Ok(()),
+        "==" => Ok(println!(rt; "{line}")?),
+        "name" => frames.add(alloc, rest),
+        "plan" => history.begin(alloc, rest),
+        "fail" => history.fail(alloc, rest),
+        "frame" => history.frame(frames, rest),
+        "long" => history.long(rest),
+        "finish" => history.finish(rt),
+        "learn" => history.learn(rt, alloc, rest),
+        _ => ask(rt, &mut history.learner, frames, line),
+    }
+}
