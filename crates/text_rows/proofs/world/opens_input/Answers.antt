@@ -1,6 +1,6 @@
 use Rattle.std.proofs.Common.{◌≡◌}
 use Rattle.savi_ends.proofs.Ready.{opened_alone}
-use Rattle.text_rows.proofs.savi_ends_rows.opens_input.Goals as goal
+use Rattle.text_rows.proofs.world.opens_input.Goals as goal
 
 pub keep_input-requires : goal.keep_input-requires
 keep_input-requires g c = (

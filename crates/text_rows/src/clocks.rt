@@ -1,0 +1,61 @@
+//! The machine's clock beside a time of day that steps.
+
+use anyhow::bail;
+use port_ends::{ClockStart, MachineClock};
+use savi_ends::Clock;
+use std::io;
+use std::sync::atomic::{AtomicU64, Ordering};
+use std::time::{self, Duration};
+
+// Two clocks that are set by hand, in ms: the time of day and a monotonic one.
+#[derive(Drop)]
+struct HandClocks {
+    time_of_day: AtomicU64,
+    monotonic: AtomicU64,
+}
+
+impl HandClocks {
+    // Sets both to what a text writes: the time of day, `/`, and the monotonic clock.
+    fn set(&self, text: &str) -> anyhow::Result<()> {
+        let Some((time_of_day, monotonic)) = text.split_once('/') else {
+            bail!("no two clocks: {text}");
+        };
+        self.time_of_day
+            .store(time_of_day.parse::<u64>()?, Ordering::SeqCst);
+        self.monotonic
+            .store(monotonic.parse::<u64>()?, Ordering::SeqCst);
+        Ok(())
+    }
+}
+
+impl time::Clock for HandClocks {
+    fn monotonic(&self) -> io::Result<Duration> {
+        Ok(Duration::from_millis(self.monotonic.load(Ordering::SeqCst)))
+    }
+
+    fn since_1970(&self) -> io::Result<Duration> {
+        Ok(Duration::from_millis(self.time_of_day.load(Ordering::SeqCst)))
+    }
+}
+
+/// Prints what a clock that begins at the first setting of two others reads at each later one, and again by a wait; then
+/// what a clock of the same start reads that is first read at the last one. A setting is the time of day, `/`, and the
+/// monotonic clock, in ms.
+pub fn print_clocks(rt: &impl Print, rest: &str) -> anyhow::Result<()> {
+    let (first, settings) = rest.split_once(' ').unwrap_or((rest, ""));
+    let clocks = HandClocks {
+        time_of_day: AtomicU64::new(0),
+        monotonic: AtomicU64::new(0),
+    };
+    clocks.set(first)?;
+    let start = ClockStart::read(&clocks);
+    let mut early = MachineClock::new(&clocks, start);
+    for setting in settings.split_whitespace() {
+        clocks.set(setting)?;
+        let (reading, later) = (early.now(), early.wait());
+        print!(rt; " {reading} {later},")?;
+    }
+    let mut late = MachineClock::new(&clocks, start);
+    println!(rt; " {}", late.now())?;
+    Ok(())
+}
