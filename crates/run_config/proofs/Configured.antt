@@ -4,7 +4,7 @@ use Rattle.savi_kinds.specs.declared.plan.Plan.{Plan}
 use Rattle.savi_conf.specs.Answers.{IsAnswer}
 use Rattle.savi_ends.specs.Places.{Place}
 use Rattle.run_config.specs.declared.refusal.Refusal.{Refusal}
-use Rattle.run_config.specs.Configs.{OfText, IsBuilt, IsConfigured, EndHasFault, EndHasNoFault, TakesFew, IsReadFrom}
+use Rattle.run_config.specs.Configs.{OfText, IsBuilt, IsConfigured, EndHasFault, EndHasNoFault}
 
 of_stands : {S : Type 0} (left : S → Option (List ℕ)) (stands : Option S) (source : S) (Holds : List ℕ → Type 0) → IfSome stands (λ told. source ≡ told) → IfSome (left source) Holds → IfSome stands (λ told. IfSome (left told) Holds)
 of_stands left None source Holds same given = tt
@@ -29,11 +29,11 @@ kept_fault faults place source kept fault = subst (λ o. IsSomeAnd o (λ x. 0 < 
 pub kept_sound : {S : Type 0} (faults : S → ℕ) (place : Place S) (source : S) → place.stands ≡ Some source → faults source ≡ 0 → EndHasNoFault faults place
 kept_sound faults place source kept sound = subst (λ o. IsSomeAnd o (λ x. faults x ≡ 0)) (sym kept) sound
 
-taken_from : {S : Type 0} (left : S → Option (List ℕ)) (stands : Option S) (source kept : S) → IfSome stands (λ told. source ≡ told) → TakesFew (left source) (left kept) → IfSome stands (λ told. TakesFew (left told) (left kept))
-taken_from left None source kept same takes = tt
-taken_from left (Some told) source kept same takes = subst (λ s. TakesFew (left s) (left kept)) same takes
+taken_from : {S : Type 0} (left : S → Option (List ℕ)) (Taken : Option (List ℕ) → Option (List ℕ) → Type 0) (stands : Option S) (source kept : S) → IfSome stands (λ told. source ≡ told) → Taken (left source) (left kept) → IfSome stands (λ told. Taken (left told) (left kept))
+taken_from left Taken None source kept same takes = tt
+taken_from left Taken (Some told) source kept same takes = subst (λ s. Taken (left s) (left kept)) same takes
 
 -- the end that was handed out is kept again behind what was read of it
-pub read_from : {S : Type 0} (left : S → Option (List ℕ)) (old new : Place S) (source kept : S) → IfSome old.stands (λ told. source ≡ told) → new.stands ≡ Some kept → TakesFew (left source) (left kept) → IsReadFrom left old new
-read_from left old new source kept same is takes =
-    subst (λ o. IsSomeAnd o (λ k. IfSome old.stands (λ told. TakesFew (left told) (left k)))) (sym is) (taken_from left old.stands source kept same takes)
+pub read_back : {S : Type 0} (left : S → Option (List ℕ)) (Taken : Option (List ℕ) → Option (List ℕ) → Type 0) (old new : Place S) (source kept : S) → IfSome old.stands (λ told. source ≡ told) → new.stands ≡ Some kept → Taken (left source) (left kept) → IsSomeAnd new.stands (λ k. IfSome old.stands (λ told. Taken (left told) (left k)))
+read_back left Taken old new source kept same is takes =
+    subst (λ o. IsSomeAnd o (λ k. IfSome old.stands (λ told. Taken (left told) (left k)))) (sym is) (taken_from left Taken old.stands source kept same takes)

@@ -6,7 +6,7 @@ use Rattle.savi_kinds.specs.ValidPlan.{IsValidPlan}
 use Rattle.savi_conf.specs.declared.fault.ConfFault.{ConfFault}
 use Rattle.savi_conf.specs.declared.fault.ConfFault.TheVariants.{NoMemory}
 use Rattle.savi_conf.specs.Answers.{IsAnswer, most_octets}
-use Rattle.savi_ends.specs.Octets.{IsFront, Takes}
+use Rattle.savi_ends.specs.Octets.{IsFront, NothingLeft, Takes}
 use Rattle.savi_ends.specs.Places.{Place}
 
 -- a plan of what is built: valid, and for a replay each port's input and output are captures
@@ -44,6 +44,14 @@ IsWholeOrLong front text = (front ≡ text) ⊎ ((most_octets < length front) ×
 abbrev pub TakesFew : Option (List ℕ) → Option (List ℕ) → Type 0
 TakesFew before after = (octets : List ℕ) × (length octets ≤ most_octets + 1) × Takes before after octets
 
+-- a source was read to its end, or one octet further than a configuration may have
+abbrev pub TakesWhole : Option (List ℕ) → Option (List ℕ) → Type 0
+TakesWhole before after = (octets : List ℕ) × (length octets ≤ most_octets + 1) × Takes before after octets × (NothingLeft after ⊎ (length octets ≡ most_octets + 1))
+
 -- the input that was told is kept, and of its front at most one octet more was read than a configuration may have
 abbrev pub IsReadFrom : {S : Type 0} → (S → Option (List ℕ)) → Place S → Place S → Type 0
 IsReadFrom left old new = IsSomeAnd new.stands (λ kept. IfSome old.stands (λ told. TakesFew (left told) (left kept)))
+
+-- the input that was told is kept, and it was read to its end, or one octet further than a configuration may have
+abbrev pub IsReadThrough : {S : Type 0} → (S → Option (List ℕ)) → Place S → Place S → Type 0
+IsReadThrough left old new = IsSomeAnd new.stands (λ kept. IfSome old.stands (λ told. TakesWhole (left told) (left kept)))

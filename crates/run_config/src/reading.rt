@@ -6,7 +6,7 @@ ghost use Rattle.savi_ends.specs.Faults.{Rose};
 ghost use Rattle.savi_ends.specs.Places.{IsReady, OthersStay};
 ghost use Rattle.savi_conf.specs.declared.fault.ConfFault.{ConfFault};
 ghost use Rattle.run_config.specs.declared.refusal.Refusal.{Refusal};
-ghost use Rattle.run_config.specs.Configs.{EndHasFault, EndHasNoFault, IsBuilt, IsConfigured, IsReadFrom, IsRefused, IsWholeOrLong, TakesFew};
+ghost use Rattle.run_config.specs.Configs.{EndHasFault, EndHasNoFault, IsBuilt, IsConfigured, IsReadFrom, IsReadThrough, IsRefused, IsWholeOrLong, TakesFew, TakesWhole};
 
 use crate::refusal::Refusal;
 use savi_conf::{ConfFault, OCTETS_MOST, read_plan};
@@ -20,8 +20,8 @@ const ROOM: usize = OCTETS_MOST + 1;
 /// Reads the plan that the configuration of this name says, for a replay or for a live session. The input and the output of
 /// each port of a replay are captures.
 ///
-/// At most one octet more than a configuration may have is read, and the input is kept in the world again. Only it and the
-/// world's count of faults change.
+/// The input is read to its end, or one octet further than a configuration may have, and is kept in the world again. Only it
+/// and the world's count of faults change.
 ///
 /// # Errors
 ///
@@ -44,8 +44,9 @@ pub fn configure<W: World>(
     ensures still_memory { result ≡ Err Refusal.NoMemory → ((W.book world.new).inputs file.now ≡ (W.book world.old).inputs file.now) ⊎ EndHasNoFault W.S.faults ((W.book world.new).inputs file.now) }
 
     ensures as_it_was { result ≡ Err Refusal.CannotOpen → (W.book world.new).inputs file.now ≡ (W.book world.old).inputs file.now }
-    ensures kept { result ≢ Err Refusal.CannotOpen → result ≢ Err Refusal.NoMemory → IsReadFrom W.S.left ((W.book world.old).inputs file.now) ((W.book world.new).inputs file.now) }
-    ensures memory { result ≡ Err Refusal.NoMemory → ((W.book world.new).inputs file.now ≡ (W.book world.old).inputs file.now) ⊎ IsReadFrom W.S.left ((W.book world.old).inputs file.now) ((W.book world.new).inputs file.now) }
+    ensures kept { result ≡ Err Refusal.ReadFailed → IsReadFrom W.S.left ((W.book world.old).inputs file.now) ((W.book world.new).inputs file.now) }
+    ensures whole { result ≢ Err Refusal.ReadFailed → result ≢ Err Refusal.CannotOpen → result ≢ Err Refusal.NoMemory → IsReadThrough W.S.left ((W.book world.old).inputs file.now) ((W.book world.new).inputs file.now) }
+    ensures memory { result ≡ Err Refusal.NoMemory → ((W.book world.new).inputs file.now ≡ (W.book world.old).inputs file.now) ⊎ IsReadThrough W.S.left ((W.book world.old).inputs file.now) ((W.book world.new).inputs file.now) }
     ensures later { (W.book world.old).faults ≤ (W.book world.new).faults }
     ensures others { OthersStay (W.book world.old).inputs (W.book world.new).inputs file.now }
     ensures rest { W.book world.new ≡ record (W.book world.old) { faults = (W.book world.new).faults; inputs = (W.book world.new).inputs } }
@@ -76,6 +77,7 @@ fn read_config<S: Source>(
     ensures still { result ≢ Err Refusal.ReadFailed → S.faults source.new ≡ S.faults source.old }
     ensures opened { result ≢ Err Refusal.CannotOpen }
     ensures takes { TakesFew (S.left source.old) (S.left source.new) }
+    ensures whole { result ≢ Err Refusal.ReadFailed → TakesWhole (S.left source.old) (S.left source.new) }
 {
     let Some(count) = read_text(source, buffer) else {
         return Err(Refusal::ReadFailed);
@@ -96,6 +98,7 @@ fn read_text<S: Source>(source: &mut S, buffer: &mut [u8]) -> Option<usize>
     ensures within { IfSome result (λ count. count ≤ length buffer.new) }
     ensures text { IfSome result (λ count. IfSome (S.left source.old) (IsWholeOrLong (take count buffer.new))) }
     ensures takes { TakesFew (S.left source.old) (S.left source.new) }
+    ensures whole { IfSome result (λ count. TakesWhole (S.left source.old) (S.left source.new)) }
 {
     match fill(source, buffer) {
         Filled::Whole => Some(buffer.len()),

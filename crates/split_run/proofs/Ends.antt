@@ -6,7 +6,7 @@ use Rattle.std.specs.Prelude.{All}
 use Rattle.savi_kinds.specs.declared.entry.How.{How}
 use Rattle.savi_kinds.specs.declared.entry.How.TheVariants as how
 use Rattle.savi_ends.specs.Faults.{Rose}
-use Rattle.savi_ends.specs.Octets.{Takes, IsFront}
+use Rattle.savi_ends.specs.Octets.{Takes}
 use Rattle.savi_ends.specs.Places.{Place, Book, OthersStay, IsReady, IsOnlyOut}
 use Rattle.savi_ends.proofs.Ready.{opened_alone}
 use Rattle.savi_ends.proofs.Octets.{if_told}
@@ -14,7 +14,7 @@ use Rattle.pcapng_io.specs.Runs.{Event, Arrive}
 use Rattle.pcap_split.specs.declared.counts.Counts.{Counts}
 use Rattle.pcap_split.specs.declared.output.Output.{Output}
 use Rattle.pcap_split.specs.Counts.{interfaces_of, tally_of}
-use Rattle.pcap_split.specs.Going.{EachOutput, IsOutputOf}
+use Rattle.pcap_split.specs.Going.{EachOutput}
 use Rattle.pcap_split.specs.Splits.{Tally, split_text, no_tally, tally}
 use Rattle.pcap_split.specs.Wholes.{IsSplitWhole}
 use Rattle.pcap_split.proofs.Goings.{rose_since}

@@ -1,17 +1,16 @@
 -- A capture is split up to one interface after another.
-use Rattle.std.proofs.Common.{◌≡◌, ◌≢◌, ℕ, ◌+◌, ◌-◌, ◌<◌, ◌≤◌, List, [], ◌∷◌, ◌++◌, length, get_or, take, drop, Option, Some, None, IfSome, refl, sym, ap, subst, ◌∙◌, arith, true, append-nil, length-append}
+use Rattle.std.proofs.Common.{◌≡◌, ◌≢◌, ℕ, ◌+◌, ◌-◌, ◌<◌, ◌≤◌, List, [], ◌∷◌, ◌++◌, length, get_or, take, drop, Option, Some, None, refl, sym, ap, subst, ◌∙◌, arith, append-nil, length-append}
 use Rattle.std.specs.Prelude.{All}
 use Rattle.std.proofs.lemmas.List.{get_or_at, drop_all, take_all}
-use Rattle.savi_kinds.specs.declared.entry.How.{How}
 use Rattle.savi_kinds.specs.declared.entry.How.TheVariants as how
 use Rattle.savi_ends.specs.Faults.{Rose}
 use Rattle.savi_ends.specs.Octets.{behind, Takes}
-use Rattle.savi_ends.specs.Places.{Place, Book, OthersStay, IsReady}
+use Rattle.savi_ends.specs.Places.{Book, OthersStay, IsReady}
 use Rattle.savi_ends.proofs.Octets.{takes_more}
 use Rattle.pcap_io.specs.Captures.{header_text}
 use Rattle.pcap_io.proofs.CallsJoined.{takes_none}
 use Rattle.pcapng_io.specs.Blocks.{Block}
-use Rattle.pcapng_io.specs.Runs.{Event, Arrive, AreBlocks, at_start}
+use Rattle.pcapng_io.specs.Runs.{Event, AreBlocks, at_start}
 use Rattle.pcapng_io.specs.Blocks as blocks
 use Rattle.pcapng_io.specs.Readers.{State, Reading, Ended, HasRead}
 use Rattle.pcap_split.specs.declared.counts.Counts.{Counts}
@@ -21,14 +20,14 @@ use Rattle.pcap_split.specs.declared.split.SplitGot.TheVariants as got
 use Rattle.pcap_split.specs.Splits.{Tally, no_tally, tally}
 use Rattle.pcap_split.specs.Counts.{interfaces_of, tally_of, no_counts}
 use Rattle.pcap_split.specs.Going.{HasTold, HasBroken, HasGone, HasTaken, HasTakenFront, HasBegun, HasRisen, Tells, Writes, split_behind, EachOutput, Differ}
-use Rattle.pcap_split.specs.Wholes.{IsSplit, IsSplitWhole, IsCall}
+use Rattle.pcap_split.specs.Wholes.{IsSplit, IsCall}
 use Rattle.pcap_split.proofs.Goings.{same_interfaces, interfaces_stay, rose_since}
 use Rattle.pcap_split.proofs.Wholes.{split_start, split_opened, split_ended, interfaces_more, each_more}
 use Rattle.split_run.specs.declared.outcome.Outcome.{Outcome}
 use Rattle.split_run.specs.declared.outcome.Outcome.TheVariants as outcome
 use Rattle.split_run.specs.Names.{name_in, AreNamesApart}
-use Rattle.split_run.specs.Runs.{AddedAll, AddedSome}
-use Rattle.split_run.specs.Steps.{AreOut, HaveOwnInterfaces, IsOut, IsHeldMore, HasTried, IsSplitPart, HasSinkFault, SinksStay, EndsSplit, HasSplit}
+use Rattle.split_run.specs.Runs.{AddedSome}
+use Rattle.split_run.specs.Steps.{AreOut, HaveOwnInterfaces, IsHeldMore, HasTried, SinksStay, EndsSplit, HasSplit}
 use Rattle.split_run.proofs.Rising.{Rises, IsNew, rises, own_interfaces, differ, low_interfaces, next_new}
 use Rattle.split_run.proofs.Outs.{names_away, out_none, next_ready, out_more, out_still}
 use Rattle.split_run.proofs.Parts.{same_handed, split_then, part_unread, part_unwritten, part_unopened, part_unbegun, sinks_stay_more, sink_fault, fault_of}

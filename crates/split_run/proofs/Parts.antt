@@ -1,26 +1,24 @@
 -- What was split where the work stopped before the end of a capture.
-use Rattle.std.proofs.Common.{◌≡◌, ◌≢◌, ℕ, ◌+◌, ◌<◌, ◌≤◌, List, [], ◌∷◌, ◌++◌, length, get_or, Option, Some, None, IfSome, refl, sym, ap, subst, ◌∙◌, arith, append-nil, append_assoc, length-append}
-use Rattle.savi_kinds.specs.declared.entry.How.{How}
+use Rattle.std.proofs.Common.{◌≡◌, ◌≢◌, ℕ, ◌+◌, ◌<◌, List, [], ◌∷◌, ◌++◌, get_or, Option, Some, None, refl, sym, ap, subst, ◌∙◌, arith, append-nil, append_assoc}
 use Rattle.savi_ends.specs.Octets.{behind, IsFront}
 use Rattle.savi_ends.specs.Faults.{Rose}
 use Rattle.savi_ends.proofs.Octets.{behind_again}
 use Rattle.pcap_io.specs.Captures.{header_text, records_text}
-use Rattle.pcapng_io.specs.Runs.{Event, Input, Arrive, at_start}
+use Rattle.pcapng_io.specs.Runs.{Event, Input, at_start}
 use Rattle.pcapng_io.specs.Readers.{State, Reading, HasRead}
 use Rattle.pcapng_io.proofs.Existence.{some_later}
 use Rattle.pcapng_io.proofs.Once.{one_input, front_input}
 use Rattle.pcapng_io.proofs.Readings.{has_read_more}
 use Rattle.pcap_split.specs.declared.counts.Counts.{Counts}
 use Rattle.pcap_split.specs.declared.output.Output.{Output}
-use Rattle.pcap_split.specs.declared.split.SplitGot.{SplitGot}
 use Rattle.pcap_split.specs.declared.split.SplitGot.TheVariants as got
 use Rattle.pcap_split.specs.Splits.{Tally, frames_of, split_text, no_tally, tally}
 use Rattle.pcap_split.specs.Counts.{interfaces_of, tally_of}
-use Rattle.pcap_split.specs.Going.{BreaksOff, HasBroken, HasGone, HasTaken, HasTakenFront, HasRisen, EachOutput, split_behind}
+use Rattle.pcap_split.specs.Going.{BreaksOff, HasBroken, HasGone, HasTaken, HasTakenFront, HasRisen, EachOutput}
 use Rattle.pcap_split.specs.Wholes.{HasCapture, IsSplit}
 use Rattle.pcap_split.proofs.Goings.{breaks_behind_state, same_interfaces}
 use Rattle.pcap_split.proofs.Wholes.{split_more, count_more, interfaces_more, each_more}
-use Rattle.split_run.specs.Runs.{TellsFirst, AddedAll, AddedSome}
+use Rattle.split_run.specs.Runs.{TellsFirst, AddedSome}
 use Rattle.split_run.specs.Steps.{HasSomeOf, IsSplitPart, HasSinkFault, SinksStay}
 
 -- what was read comes first, whatever follows

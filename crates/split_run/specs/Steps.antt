@@ -1,6 +1,5 @@
 -- Words of private contracts: what is held while a capture is split.
-use Rattle.std.specs.Prelude.{◌≡◌, ◌≢◌, ◌<◌, ◌≤◌, ℕ, true, List, [], ◌∷◌, ◌++◌, length, slice_index_or, Option, Some, None, IfSome, All, AllPairs}
-use Rattle.savi_kinds.specs.declared.entry.How.{How}
+use Rattle.std.specs.Prelude.{◌≡◌, ◌≢◌, ◌<◌, ◌≤◌, ℕ, true, List, [], ◌∷◌, ◌++◌, slice_index_or, Option, Some, None, IfSome, All, AllPairs}
 use Rattle.savi_kinds.specs.declared.entry.How.TheVariants as how
 use Rattle.savi_ends.specs.Faults.{Rose}
 use Rattle.savi_ends.specs.Octets.{Takes}
@@ -8,7 +7,6 @@ use Rattle.savi_ends.specs.Places.{Place, Book}
 use Rattle.pcap_io.specs.Captures.{header_text}
 use Rattle.pcapng_io.specs.Runs.{Event, at_start}
 use Rattle.pcapng_io.specs.Readers.{Reading}
-use Rattle.pcap_split.specs.declared.counts.Counts.{Counts}
 use Rattle.pcap_split.specs.declared.output.Output.{Output}
 use Rattle.pcap_split.specs.Counts.{interfaces_of}
 use Rattle.pcap_split.specs.Going.{BreaksOff, EachOutput, IsOutputOf}

@@ -1,5 +1,5 @@
 -- From what a run has done to what it says of its world.
-use Rattle.std.proofs.Common.{◌≡◌, ℕ, ◌⊎◌, inl, inr, List, true, false, refl, sym, ap, subst, arith, Option}
+use Rattle.std.proofs.Common.{◌≡◌, ℕ, ◌⊎◌, inl, inr, List, true, false, refl, sym, subst, arith, Option}
 use Rattle.std.specs.Prelude.{◌↔◌}
 use Rattle.savi_ends.specs.declared.world.Std.TheVariants.{Out}
 use Rattle.savi_ends.specs.Faults.{Rose}
@@ -13,12 +13,12 @@ use Rattle.switch_run.specs.Runs.{IsReplayRun, IsServeRun}
 use Rattle.switch_run.specs.Live.{IsServeSession}
 use Rattle.switch_run.specs.Splits.{IsCaptureRun}
 use Rattle.switch_run.specs.Session.{IsFileUnread, IsNoPlan, IsSession, IsUnopened, IsUnplayed, WasTold, ToldBy}
-use Rattle.switch_run.proofs.Checking.{check_is, check_memory, check_opening, check_out, check_unserved, never_two, ran_check}
+use Rattle.switch_run.proofs.Checking.{check_is, check_memory, check_opening, check_out, never_two, ran_check}
 use Rattle.switch_run.proofs.Faulting.{live_read_fault, live_write_fault, read_fault_of, write_fault_of}
 use Rattle.switch_run.proofs.Forms.{same_capture, same_file, same_journal, same_load, same_served, not_split_check, not_split_load, not_split_replay, not_split_serve, not_both, not_checked, not_judged, not_live, not_loaded, not_served}
-use Rattle.switch_run.proofs.Loading.{load_is, load_memory, load_out, load_unserved, not_two, not_seven, ran_load}
+use Rattle.switch_run.proofs.Loading.{load_is, load_memory, load_out, not_two, not_seven, ran_load}
 use Rattle.switch_run.proofs.Splitting.{capture_is, capture_memory, capture_not_two, capture_opening, capture_out, ran_capture}
-use Rattle.switch_run.proofs.Running.{Ran, ran_told, ran_open, ran_quiet, ran_run, ran_served, ran_session, ran_ticker, ran_untouched, ran_unused}
+use Rattle.switch_run.proofs.Running.{Ran, ran_told, ran_open, ran_quiet, ran_run, ran_served, ran_session, ran_ticker, ran_untouched}
 
 -- what the contract of a run says
 pub record Clauses {S K C : Type 0} (left : S → Option (List ℕ)) (written : K → Option (List ℕ)) (source_faults : S → ℕ) (sink_faults : K → ℕ) (readings : C → Option (List ℕ)) (words : List (List ℕ)) (old new : Book S K C) (status : ℕ) : Type 0 where

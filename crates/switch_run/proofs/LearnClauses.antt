@@ -1,5 +1,5 @@
 -- From what a run has done to what it says of its world, learning among the rest.
-use Rattle.std.proofs.Common.{◌≡◌, ◌<◌, ◌^◌, ℕ, ◌⊎◌, inl, inr, List, [], ◌∷◌, true, false, get_or, refl, sym, ap, ◌∙◌, subst, arith, codes, decimal, Option, IsSome}
+use Rattle.std.proofs.Common.{◌≡◌, ◌<◌, ◌^◌, ℕ, ◌⊎◌, inl, inr, List, [], ◌∷◌, true, get_or, refl, sym, ap, ◌∙◌, subst, arith, codes, decimal, Option, IsSome}
 use Rattle.std.proofs.lemmas.Fmt.{decimal_is_IsNumeral}
 use Rattle.std.specs.Prelude.{All}
 use Rattle.std.specs.Str.Parse.{digits_value}
@@ -9,18 +9,17 @@ use Rattle.savi_ends.specs.declared.world.Ends.{Ends}
 use Rattle.savi_ends.specs.Places.{Book, Place, PortKey}
 use Rattle.pcap_io.specs.Kinds.{classic_kinds}
 use Rattle.pcap_io.specs.Runs.{Arrive}
-use Rattle.run_config.specs.Configs.{EndHasFault, EndHasNoFault, IsConfigured, IsReadFrom}
+use Rattle.run_config.specs.Configs.{EndHasFault, EndHasNoFault, IsConfigured, IsReadThrough}
 use Rattle.run_config.specs.Words.{IsCheck, IsGen, IsLearn, IsReplay, IsServe, IsSplitWords}
-use Rattle.learn_run.specs.declared.learning.Ending.{Ending}
 use Rattle.learn_run.specs.Learning.{IsHeard, LearnsPorts}
 use Rattle.switch_ports.specs.Named.{named_by}
 use Rattle.switch_run.specs.AnyRun.{IsAnyRun}
-use Rattle.switch_run.specs.Causes.{HasSomeReadFault, IsOneOf, Keeps, TookOrPart, ports_in, session_statuses}
+use Rattle.switch_run.specs.Causes.{HasSomeReadFault, IsOneOf, Keeps, TookOrPart, session_statuses}
 use Rattle.switch_run.specs.Learnings.{IsLearnRun, IsLearning, IsLearningOf, IsLearnedPortUnopened}
 use Rattle.switch_run.specs.Session.{IsFileUnopened, IsPortUnopened, WasTold, ToldBy}
 use Rattle.switch_run.proofs.Clauses.{Clauses, IsOtherRun, clauses_of}
 use Rattle.switch_run.proofs.LearnFaults.{learned_read, learned_write}
-use Rattle.switch_run.proofs.Running.{Ran, SamePlaces, inputs_first, inputs_last, moved_off, out≢err, ran_run, ran_told, same_places}
+use Rattle.switch_run.proofs.Running.{Ran, SamePlaces, inputs_first, inputs_last, moved_off, out≢err, ran_run, ran_told}
 
 -- what the contract of a run says
 pub record AllClauses {S K C : Type 0} (left : S → Option (List ℕ)) (written : K → Option (List ℕ)) (source_faults : S → ℕ) (sink_faults : K → ℕ) (readings : C → Option (List ℕ)) (words : List (List ℕ)) (old new : Book S K C) (status : ℕ) : Type 0 where
@@ -83,10 +82,13 @@ module _ {S K C : Type 0} (left : S → Option (List ℕ)) (written : K → Opti
     outputs = ap (λ (b : Book S K C). b.outputs) ran.rest3;
   }
 
-  input_behind : IsReadFrom left (b1.inputs file) (b2.inputs file) → IsReadFrom left (b0.inputs file) (b3.inputs file)
+  input_behind : IsReadThrough left (b1.inputs file) (b2.inputs file) → IsReadThrough left (b0.inputs file) (b3.inputs file)
   input_behind read =
-      subst (λ (p : Place S). IsReadFrom left p (b3.inputs file)) (inputs_first b0 b1 b2 b3 e e' file ran)
-      (subst (λ (p : Place S). IsReadFrom left (b1.inputs file) p) (sym (inputs_last b0 b1 b2 b3 e e' file ran)) read)
+      subst (λ (p : Place S). IsReadThrough left p (b3.inputs file)) (inputs_first b0 b1 b2 b3 e e' file ran)
+      (subst (λ (p : Place S). IsReadThrough left (b1.inputs file) p) (sym (inputs_last b0 b1 b2 b3 e e' file ran)) read)
+
+  still_behind : EndHasNoFault source_faults (b2.inputs file) → EndHasNoFault source_faults (b3.inputs file)
+  still_behind still = subst (λ (p : Place S). EndHasNoFault source_faults p) (sym (inputs_last b0 b1 b2 b3 e e' file ran)) still
 
   configured_behind : (plan : Plan) → IsConfigured true left (b1.inputs file) plan → IsConfigured true left (b0.inputs file) plan
   configured_behind plan configured = subst (λ (p : Place S). IsConfigured true left p plan) (inputs_first b0 b1 b2 b3 e e' file ran) configured
@@ -96,11 +98,11 @@ module _ {S K C : Type 0} (left : S → Option (List ℕ)) (written : K → Opti
     plan = l.plan;
     configured = configured_behind l.plan l.configured;
     input = input_behind l.input;
-    still = subst (λ (p : Place S). EndHasNoFault source_faults p) (sym (inputs_last b0 b1 b2 b3 e e' file ran)) l.still;
+    still = still_behind l.still;
     learning = moved_learning left written source_faults sink_faults l.plan window (ToldBy sink_faults written e e') (WasTold sink_faults written b0 b3) b1 b2 b0 b3 status places_before.ports places_behind.ports (sym (ran.others1 Out out≢err)) (ran.others3 Out out≢err) says l.learning;
   }
 
-  opened_behind : IsFileUnopened file (ToldBy sink_faults written e e') b1 b2 ⊎ IsLearnedPortUnopened left file (ToldBy sink_faults written e e') b1 b2 → IsFileUnopened file (WasTold sink_faults written b0 b3) b0 b3 ⊎ IsLearnedPortUnopened left file (WasTold sink_faults written b0 b3) b0 b3
+  opened_behind : IsFileUnopened file (ToldBy sink_faults written e e') b1 b2 ⊎ IsLearnedPortUnopened left source_faults file (ToldBy sink_faults written e e') b1 b2 → IsFileUnopened file (WasTold sink_faults written b0 b3) b0 b3 ⊎ IsLearnedPortUnopened left source_faults file (WasTold sink_faults written b0 b3) b0 b3
   opened_behind (inl file_is) = inl (record {
     errors = says _ file_is.errors;
     place = inputs_last b0 b1 b2 b3 e e' file ran ∙ file_is.place ∙ inputs_first b0 b1 b2 b3 e e' file ran;
@@ -115,6 +117,7 @@ module _ {S K C : Type 0} (left : S → Option (List ℕ)) (written : K → Opti
     plan = port_is.plan;
     configured = configured_behind port_is.plan port_is.configured;
     input = input_behind port_is.input;
+    still = still_behind port_is.still;
     port = moved_port port_is.plan (ToldBy sink_faults written e e') (WasTold sink_faults written b0 b3) b1 b2 b0 b3 places_before places_behind says port_is.port;
   })
 

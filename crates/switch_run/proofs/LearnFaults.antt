@@ -1,5 +1,5 @@
 -- Where learning answers that a read or a write failed, one did.
-use Rattle.std.proofs.Common.{◌≡◌, ◌<◌, ◌≤◌, ◌||◌, ℕ, zero, suc, ◌⊎◌, inl, inr, List, [], ◌∷◌, ◌++◌, Bool, true, false, not, if◌then◌else◌, nat_lt, length, map, filter_map, get_or, refl, sym, ap, ◌∙◌, subst, arith, Option, Some, None}
+use Rattle.std.proofs.Common.{◌≡◌, ◌<◌, ◌||◌, ℕ, suc, ◌⊎◌, inl, inr, List, [], ◌∷◌, ◌++◌, Bool, true, false, not, if◌then◌else◌, nat_lt, length, map, filter_map, get_or, refl, sym, ◌∙◌, subst, arith, Option, Some, None}
 use Rattle.std.specs.List.{cons_option, list_any}
 use Rattle.std.specs.Prelude.{slice_index}
 use Rattle.savi_kinds.specs.declared.entry.How.{How}
@@ -12,7 +12,6 @@ use Rattle.savi_kinds.specs.Arrivals.{Arrival, Input}
 use Rattle.savi_kinds.specs.ValidPlan.{numbers_of}
 use Rattle.savi_ends.specs.declared.world.Std.TheVariants.{Out}
 use Rattle.savi_ends.specs.declared.world.Ends.{Ends}
-use Rattle.savi_ends.specs.Faults.{Rose}
 use Rattle.savi_ends.specs.Places.{Book, Place, PortKey}
 use Rattle.pcap_io.specs.Runs.{ended}
 use Rattle.savi_history.specs.Endings.{is_failed_reason, is_malformed_reason}
@@ -23,7 +22,7 @@ use Rattle.learn_run.specs.declared.learning.Ending.{Ending}
 use Rattle.learn_run.specs.Turns.{learned_text, turn_ending}
 use Rattle.switch_ports.specs.Named.{key_among}
 use Rattle.switch_run.specs.Causes.{HasReadFault, HasSomeReadFault, TookOrPart, ports_in}
-use Rattle.switch_run.specs.Learnings.{IsLearning, IsLearningOf, learned_status}
+use Rattle.switch_run.specs.Learnings.{IsLearning, IsLearningOf}
 use Rattle.switch_run.specs.Session.{IsFileUnread}
 
 or_split : (a b : Bool) → (a || b) ≡ true → (a ≡ true) ⊎ (b ≡ true)

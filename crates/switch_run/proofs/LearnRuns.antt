@@ -1,17 +1,17 @@
 -- From what learning with a plan has done to what its run has done.
-use Rattle.std.proofs.Common.{◌≡◌, ◌≢◌, ◌≤◌, ℕ, ◌⊎◌, inl, inr, List, [], ◌∷◌, true, false, refl, sym, ap, ◌∙◌, subst, arith, Option}
+use Rattle.std.proofs.Common.{◌≡◌, ◌≢◌, ◌≤◌, ℕ, inl, inr, List, true, false, refl, sym, ap, ◌∙◌, subst, arith, Option}
 use Rattle.savi_kinds.specs.declared.plan.Plan.{Plan}
 use Rattle.savi_ends.specs.declared.world.Std.TheVariants.{Out}
 use Rattle.savi_ends.specs.declared.world.Ends.{Ends}
 use Rattle.savi_ends.specs.Faults.{Rose}
-use Rattle.savi_ends.specs.Places.{Book, Place, PortKey, ControlKey, OthersStay}
+use Rattle.savi_ends.specs.Places.{Book, Place, PortKey, OthersStay}
 use Rattle.run_config.specs.declared.refusal.Refusal.{Refusal}
 use Rattle.run_config.specs.declared.refusal.Refusal.TheVariants as refusal
-use Rattle.run_config.specs.Configs.{EndHasNoFault, IsConfigured, IsReadFrom}
+use Rattle.run_config.specs.Configs.{EndHasNoFault, IsConfigured, IsReadThrough}
 use Rattle.switch_report.specs.RunLines.{memory_line}
 use Rattle.switch_run.specs.Causes.{IsOneOf, IsUnserved, IsUnusedOf, quiet_statuses, session_statuses, statuses, unused_statuses}
 use Rattle.switch_run.specs.Concluded.{refusal_line, refusal_status}
-use Rattle.switch_run.specs.Learnings.{IsLearnRun, IsLearning, IsLearningOf, IsLearnedPortUnopened}
+use Rattle.switch_run.specs.Learnings.{IsLearnRun, IsLearning, IsLearningOf}
 use Rattle.switch_run.specs.Runs.{IsRunOf}
 use Rattle.switch_run.specs.Session.{IsFileUnopened, IsPortUnopened}
 use Rattle.switch_run.proofs.LearnClauses.{moved_learning, moved_port}
@@ -20,15 +20,15 @@ use Rattle.switch_run.proofs.Running.{SamePlaces, moved_unused, read_before, sam
 module _ {S K C : Type 0} (left : S → Option (List ℕ)) (written : K → Option (List ℕ)) (source_faults : S → ℕ) (sink_faults : K → ℕ) (file : List ℕ) (window : ℕ) (Says : List ℕ → Type 0) (b0 b1 b2 : Book S K C) (status : ℕ)
     (read : b1 ≡ record b0 { faults = b1.faults; inputs = b1.inputs }) (inputs : OthersStay b0.inputs b1.inputs file) where
   -- with a plan
-  module _ (plan : Plan) (configured : IsConfigured true left (b0.inputs file) plan) (input : IsReadFrom left (b0.inputs file) (b1.inputs file)) (still : EndHasNoFault source_faults (b1.inputs file)) (later : b0.faults ≤ b1.faults)
+  module _ (plan : Plan) (configured : IsConfigured true left (b0.inputs file) plan) (input : IsReadThrough left (b0.inputs file) (b1.inputs file)) (still : EndHasNoFault source_faults (b1.inputs file)) (later : b0.faults ≤ b1.faults)
       (one_of : IsOneOf statuses status) (usage : status ≢ 2) (config : status ≢ 3) (memory : status ≡ 1 → Says memory_line) (unplayed : status ≡ 1 → b2 ≡ b1) (rose : status ≡ 7 → Rose b1.faults b2.faults) (unopened : status ≡ 7 → IsPortUnopened plan Says b1 b2)
       (learning : IsOneOf session_statuses status → IsLearningOf left written source_faults sink_faults plan window Says b1 b2 status) (quiet : IsOneOf quiet_statuses status → b2.std Out ≡ b1.std Out)
       (unused : IsOneOf unused_statuses status → IsUnusedOf false plan b1 b2) (rest : b2 ≡ record b1 { faults = b2.faults; ports = b2.ports; std = b2.std }) where
     inputs_same : b2.inputs ≡ b1.inputs
     inputs_same = ap (λ (b : Book S K C). b.inputs) rest
 
-    input_read : IsReadFrom left (b0.inputs file) (b2.inputs file)
-    input_read = subst (λ (p : Place S). IsReadFrom left (b0.inputs file) p) (sym (ap (λ (i : List ℕ → Place S). i file) inputs_same)) input
+    input_read : IsReadThrough left (b0.inputs file) (b2.inputs file)
+    input_read = subst (λ (p : Place S). IsReadThrough left (b0.inputs file) p) (sym (ap (λ (i : List ℕ → Place S). i file) inputs_same)) input
 
     still_read : EndHasNoFault source_faults (b2.inputs file)
     still_read = subst (λ (p : Place S). EndHasNoFault source_faults p) (sym (ap (λ (i : List ℕ → Place S). i file) inputs_same)) still
@@ -75,7 +75,7 @@ module _ {S K C : Type 0} (left : S → Option (List ℕ)) (written : K → Opti
         unused = λ is. inr (plan, configured, moved_unused false plan b1 b2 b0 b2 before (same_places b2) (unused is));
         inputs = λ other apart. ap (λ (i : List ℕ → Place S). i other) inputs_same ∙ inputs other apart;
       };
-      opened = λ seven. inr (record { plan = plan; configured = configured; input = input_read; port = port_failed seven });
+      opened = λ seven. inr (record { plan = plan; configured = configured; input = input_read; still = still_read; port = port_failed seven });
       rest = rest ∙ ap (λ (b : Book S K C). record b { faults = b2.faults; ports = b2.ports; std = b2.std }) read ∙ ap (λ (i : List ℕ → Place S). record b0 { faults = b2.faults; inputs = i; ports = b2.ports; std = b2.std }) (sym inputs_same);
     }
 

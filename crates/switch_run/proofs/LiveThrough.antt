@@ -13,7 +13,7 @@ use Rattle.savi_kinds.specs.Ports.{number_of}
 use Rattle.savi_kinds.specs.ValidPlan.{numbers_of}
 use Rattle.savi_ends.specs.declared.world.Std.TheVariants.{Out}
 use Rattle.savi_ends.specs.declared.world.Ends.{Ends}
-use Rattle.savi_ends.specs.Places.{Place, Book, PortKey, ControlKey, IsPortOut, IsPortKept, IsControlOut, IsControlKept}
+use Rattle.savi_ends.specs.Places.{Place, Book, PortKey, ControlKey, IsPortOut, IsControlOut, IsControlKept}
 use Rattle.hist_store.specs.Rows.{Row}
 use Rattle.savi_history.specs.Bases.{empty}
 use Rattle.live_session.specs.LiveRows.{ControlRow, TickerRow}

@@ -1,5 +1,5 @@
 -- The books of a run, before and behind each of its steps.
-use Rattle.std.proofs.Common.{◌≡◌, ◌≢◌, ℕ, ◌⊎◌, inl, inr, List, refl, sym, ap, ◌∙◌, subst, arith, ◌∷◌, not, Bool, true, false, Option, Some, IfSome, IsSome}
+use Rattle.std.proofs.Common.{◌≡◌, ◌≢◌, ℕ, ◌⊎◌, inl, inr, List, refl, sym, ap, ◌∙◌, subst, arith, not, Bool, true, false, Option, Some, IfSome, IsSome}
 use Rattle.std.specs.Prelude.{All}
 use Rattle.savi_kinds.specs.declared.plan.Plan.{Plan}
 use Rattle.savi_kinds.specs.ValidPlan.{numbers_of}
@@ -7,7 +7,7 @@ use Rattle.savi_ends.specs.declared.world.Std.TheVariants.{Out, Err}
 use Rattle.savi_ends.specs.declared.world.Ends.{Ends}
 use Rattle.savi_ends.specs.Faults.{Rose}
 use Rattle.savi_ends.specs.Places.{Place, Book, PortKey, ControlKey, OthersStay}
-use Rattle.run_config.specs.Configs.{EndHasFault, EndHasNoFault, IsConfigured, IsReadFrom, IsRefused}
+use Rattle.run_config.specs.Configs.{EndHasFault, EndHasNoFault, IsConfigured, IsReadFrom, IsReadThrough, IsRefused}
 use Rattle.switch_ports.specs.Named.{control_key, named_by}
 use Rattle.switch_run.specs.Causes.{IsBack, IsControlBack, IsOffPlanSame, IsUnserved, IsUnused, IsUnusedOf, IsUntouched, Keeps, KeepsAll, KeepsControl}
 use Rattle.switch_run.specs.Runs.{IsRunOf}
@@ -107,10 +107,10 @@ inputs_first {S} {K} {C} b0 b1 b2 b3 e e' file ran = ap (λ (b : Book S K C). b.
 pub inputs_last : {S K C : Type 0} (b0 b1 b2 b3 : Book S K C) (e e' : K) (file : List ℕ) → Ran b0 b1 b2 b3 e e' → b3.inputs file ≡ b2.inputs file
 inputs_last {S} {K} {C} b0 b1 b2 b3 e e' file ran = ap (λ (b : Book S K C). b.inputs file) ran.rest3
 
-ran_input : {S K C : Type 0} (left : S → Option (List ℕ)) (b0 b1 b2 b3 : Book S K C) (e e' : K) (file : List ℕ) → Ran b0 b1 b2 b3 e e' → IsReadFrom left (b1.inputs file) (b2.inputs file) → IsReadFrom left (b0.inputs file) (b3.inputs file)
-ran_input {S} {K} {C} left b0 b1 b2 b3 e e' file ran read =
-    subst (λ (p : Place S). IsReadFrom left p (b3.inputs file)) (inputs_first b0 b1 b2 b3 e e' file ran)
-    (subst (λ (p : Place S). IsReadFrom left (b1.inputs file) p) (sym (inputs_last b0 b1 b2 b3 e e' file ran)) read)
+ran_input : {S K C : Type 0} (IsRead : Place S → Place S → Type 0) (b0 b1 b2 b3 : Book S K C) (e e' : K) (file : List ℕ) → Ran b0 b1 b2 b3 e e' → IsRead (b1.inputs file) (b2.inputs file) → IsRead (b0.inputs file) (b3.inputs file)
+ran_input {S} {K} {C} IsRead b0 b1 b2 b3 e e' file ran read =
+    subst (λ (p : Place S). IsRead p (b3.inputs file)) (inputs_first b0 b1 b2 b3 e e' file ran)
+    (subst (λ (p : Place S). IsRead (b1.inputs file) p) (sym (inputs_last b0 b1 b2 b3 e e' file ran)) read)
 
 ran_still : {S K C : Type 0} (source_faults : S → ℕ) (b0 b1 b2 b3 : Book S K C) (e e' : K) (file : List ℕ) → Ran b0 b1 b2 b3 e e' → EndHasNoFault source_faults (b2.inputs file) → EndHasNoFault source_faults (b3.inputs file)
 ran_still {S} {K} {C} source_faults b0 b1 b2 b3 e e' file ran still = subst (λ (p : Place S). EndHasNoFault source_faults p) (sym (inputs_last b0 b1 b2 b3 e e' file ran)) still
@@ -139,7 +139,7 @@ pub ran_config : {S K C : Type 0} (replay : Bool) (left : S → Option (List ℕ
 ran_config {S} {K} {C} replay left source_faults Says Says' b0 b1 b2 b3 e e' file ran says no_plan = record {
   fault = no_plan.fault;
   refused = subst (λ (p : Place S). IsRefused replay left p no_plan.fault) (inputs_first b0 b1 b2 b3 e e' file ran) no_plan.refused;
-  input = ran_input left b0 b1 b2 b3 e e' file ran no_plan.input;
+  input = ran_input (IsReadThrough left) b0 b1 b2 b3 e e' file ran no_plan.input;
   still = ran_still source_faults b0 b1 b2 b3 e e' file ran no_plan.still;
   unserved = ran_unserved b0 b1 b2 b3 e e' ran no_plan.unserved;
   errors = says _ no_plan.errors;
@@ -206,7 +206,7 @@ ran_unopened {S} {K} {C} replay left source_faults Says Says' b0 b1 b2 b3 e e' f
     inr (record {
       plan = unopened.plan;
       configured = subst (λ (p : Place S). IsConfigured replay left p unopened.plan) (inputs_first b0 b1 b2 b3 e e' file ran) unopened.configured;
-      input = ran_input left b0 b1 b2 b3 e e' file ran unopened.input;
+      input = ran_input (IsReadThrough left) b0 b1 b2 b3 e e' file ran unopened.input;
       still = ran_still source_faults b0 b1 b2 b3 e e' file ran unopened.still;
       ticker = ran_ticker b0 b1 b2 b3 e e' ran unopened.ticker;
       part = moved_part (not replay) unopened.plan Says Says' b1 b2 b0 b3 (ran_before b0 b1 b2 b3 e e' ran) (ran_behind b0 b1 b2 b3 e e' ran) says unopened.part;
@@ -217,7 +217,7 @@ pub ran_unread : {S K C : Type 0} (left : S → Option (List ℕ)) (source_fault
 ran_unread {S} {K} {C} left source_faults Says Says' b0 b1 b2 b3 e e' file status ran says unread = record {
   status_is = unread.status_is;
   fault = subst (λ (p : Place S). EndHasFault source_faults p) (sym (ap (λ (b : Book S K C). b.inputs file) ran.rest3)) unread.fault;
-  input = ran_input left b0 b1 b2 b3 e e' file ran unread.input;
+  input = ran_input (IsReadFrom left) b0 b1 b2 b3 e e' file ran unread.input;
   errors = says _ unread.errors;
   out = ran_quiet b0 b1 b2 b3 e e' ran unread.out;
   unserved = ran_unserved b0 b1 b2 b3 e e' ran unread.unserved;
@@ -228,7 +228,7 @@ pub ran_session : {S K C : Type 0} (left : S → Option (List ℕ)) (written : K
 ran_session {S} {K} {C} left written source_faults sink_faults Says Says' b0 b1 b2 b3 e e' file status ran says session = record {
   plan = session.plan;
   configured = subst (λ (p : Place S). IsConfigured true left p session.plan) (inputs_first b0 b1 b2 b3 e e' file ran) session.configured;
-  input = ran_input left b0 b1 b2 b3 e e' file ran session.input;
+  input = ran_input (IsReadThrough left) b0 b1 b2 b3 e e' file ran session.input;
   still = ran_still source_faults b0 b1 b2 b3 e e' file ran session.still;
   session =
       subst (λ (b : Book S K C). IsSessionOf left written source_faults sink_faults session.plan Says' b0 b status) (sym ran.rest3)
@@ -242,7 +242,7 @@ pub ran_served : {S K C : Type 0} (left : S → Option (List ℕ)) (written : K 
 ran_served {S} {K} {C} left written source_faults sink_faults readings Says Says' b0 b1 b2 b3 e e' file status ran says session = record {
   plan = session.plan;
   configured = subst (λ (p : Place S). IsConfigured false left p session.plan) (inputs_first b0 b1 b2 b3 e e' file ran) session.configured;
-  input = ran_input left b0 b1 b2 b3 e e' file ran session.input;
+  input = ran_input (IsReadThrough left) b0 b1 b2 b3 e e' file ran session.input;
   still = ran_still source_faults b0 b1 b2 b3 e e' file ran session.still;
   session =
       subst (λ (b : Book S K C). IsServeOf left written source_faults sink_faults readings session.plan Says' b0 b status) (sym ran.rest3)
@@ -279,10 +279,10 @@ moved_ends {S} {K} {C} replay left written b0 b1 b2 b3 e e' file ran (inr (plan,
       moved_off plan b1 b2 b0 b3 (ran_before b0 b1 b2 b3 e e' ran) (ran_behind b0 b1 b2 b3 e e' ran) off,
     )
 
-moved_place : {S K C : Type 0} (left : S → Option (List ℕ)) (source_faults : S → ℕ) (b0 b1 b2 b3 : Book S K C) (e e' : K) (file : List ℕ) → Ran b0 b1 b2 b3 e e' → (b2.inputs file ≡ b1.inputs file) ⊎ (IsReadFrom left (b1.inputs file) (b2.inputs file) × EndHasNoFault source_faults (b2.inputs file))
-    → (b3.inputs file ≡ b0.inputs file) ⊎ (IsReadFrom left (b0.inputs file) (b3.inputs file) × EndHasNoFault source_faults (b3.inputs file))
+moved_place : {S K C : Type 0} (left : S → Option (List ℕ)) (source_faults : S → ℕ) (b0 b1 b2 b3 : Book S K C) (e e' : K) (file : List ℕ) → Ran b0 b1 b2 b3 e e' → (b2.inputs file ≡ b1.inputs file) ⊎ (IsReadThrough left (b1.inputs file) (b2.inputs file) × EndHasNoFault source_faults (b2.inputs file))
+    → (b3.inputs file ≡ b0.inputs file) ⊎ (IsReadThrough left (b0.inputs file) (b3.inputs file) × EndHasNoFault source_faults (b3.inputs file))
 moved_place left source_faults b0 b1 b2 b3 e e' file ran (inl same) = inl (inputs_last b0 b1 b2 b3 e e' file ran ∙ same ∙ inputs_first b0 b1 b2 b3 e e' file ran)
-moved_place left source_faults b0 b1 b2 b3 e e' file ran (inr (read, still)) = inr (ran_input left b0 b1 b2 b3 e e' file ran read, ran_still source_faults b0 b1 b2 b3 e e' file ran still)
+moved_place left source_faults b0 b1 b2 b3 e e' file ran (inr (read, still)) = inr (ran_input (IsReadThrough left) b0 b1 b2 b3 e e' file ran read, ran_still source_faults b0 b1 b2 b3 e e' file ran still)
 
 pub ran_unplayed : {S K C : Type 0} (replay : Bool) (left : S → Option (List ℕ)) (written : K → Option (List ℕ)) (source_faults : S → ℕ) (b0 b1 b2 b3 : Book S K C) (e e' : K) (file : List ℕ) → Ran b0 b1 b2 b3 e e' → IsUnplayed replay left written source_faults file b1 b2 → IsUnplayed replay left written source_faults file b0 b3
 ran_unplayed replay left written source_faults b0 b1 b2 b3 e e' file ran unplayed = record {

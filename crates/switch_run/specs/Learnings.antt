@@ -12,7 +12,7 @@ use Rattle.pcap_io.specs.Kinds.{classic_kinds}
 use Rattle.pcap_io.specs.Runs.{Arrive}
 use Rattle.savi_history.specs.Endings.{is_failed_reason, is_malformed_reason}
 use Rattle.savi_history.specs.EndLines.{end_line}
-use Rattle.run_config.specs.Configs.{EndHasNoFault, IsConfigured, IsReadFrom}
+use Rattle.run_config.specs.Configs.{EndHasNoFault, IsConfigured, IsReadThrough}
 use Rattle.learn_run.specs.declared.learning.Ending.{Ending}
 use Rattle.learn_run.specs.Learning.{IsHeard, LearnsPorts}
 use Rattle.switch_run.specs.Causes.{Keeps, TookOrPart, ports_in}
@@ -51,25 +51,26 @@ pub record IsLearningOf {S K C : Type 0} (left : S → Option (List ℕ)) (writt
   pub cause : status ≡ learned_status text_written endings
   pub others : (port : PortKey) → All (λ n. n ≢ port.number) (numbers_of plan.ports) → new.ports port ≡ old.ports port
 
--- Learning with the plan that the configuration says. The configuration's input is kept, a front of it was read, and no read
--- of it failed.
+-- Learning with the plan that the configuration says. The configuration's input is kept. It was read to its end, or one octet
+-- further than a configuration may have, and no read of it failed.
 pub record IsLearning {S K C : Type 0} (left : S → Option (List ℕ)) (written : K → Option (List ℕ)) (source_faults : S → ℕ) (sink_faults : K → ℕ) (file : List ℕ) (window : ℕ) (Says : List ℕ → Type 0) (old new : Book S K C) (status : ℕ) : Type 0 where
   pub plan : Plan
   pub configured : IsConfigured true left (old.inputs file) plan
-  pub input : IsReadFrom left (old.inputs file) (new.inputs file)
+  pub input : IsReadThrough left (old.inputs file) (new.inputs file)
   pub still : EndHasNoFault source_faults (new.inputs file)
   pub learning : IsLearningOf left written source_faults sink_faults plan window Says old new status
 
--- a port of the plan that the configuration says could not be opened
-pub record IsLearnedPortUnopened {S K C : Type 0} (left : S → Option (List ℕ)) (file : List ℕ) (Says : List ℕ → Type 0) (old new : Book S K C) : Type 0 where
+-- A port of the plan that the configuration says could not be opened. No read of the configuration failed.
+pub record IsLearnedPortUnopened {S K C : Type 0} (left : S → Option (List ℕ)) (source_faults : S → ℕ) (file : List ℕ) (Says : List ℕ → Type 0) (old new : Book S K C) : Type 0 where
   pub plan : Plan
   pub configured : IsConfigured true left (old.inputs file) plan
-  pub input : IsReadFrom left (old.inputs file) (new.inputs file)
+  pub input : IsReadThrough left (old.inputs file) (new.inputs file)
+  pub still : EndHasNoFault source_faults (new.inputs file)
   pub port : IsPortUnopened plan Says old new
 
 -- What a run has done that was to learn, by its status. It opened and read the configuration and the ports as a replay does,
 -- and neither control nor the ticker nor any output by name was touched.
 pub record IsLearnRun {S K C : Type 0} (left : S → Option (List ℕ)) (written : K → Option (List ℕ)) (source_faults : S → ℕ) (sink_faults : K → ℕ) (file : List ℕ) (window : ℕ) (Says : List ℕ → Type 0) (old new : Book S K C) (status : ℕ) : Type 0 where
   pub run : IsRunOf true left written source_faults file Says (IsLearning left written source_faults sink_faults file window Says old new status) old new status
-  pub opened : status ≡ 7 → IsFileUnopened file Says old new ⊎ IsLearnedPortUnopened left file Says old new
+  pub opened : status ≡ 7 → IsFileUnopened file Says old new ⊎ IsLearnedPortUnopened left source_faults file Says old new
   pub rest : new ≡ record old { faults = new.faults; inputs = new.inputs; ports = new.ports; std = new.std }

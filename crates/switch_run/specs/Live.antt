@@ -12,7 +12,7 @@ use Rattle.savi_history.specs.Legal.{IsLegal, IsFinished}
 use Rattle.live_session.specs.LiveRows.{ControlRow, NoControlRow, TickerRow}
 use Rattle.live_session.specs.LiveSession.{PortRow, IsLive}
 use Rattle.live_switch.specs.declared.ready.Ready.{Ready}
-use Rattle.run_config.specs.Configs.{EndHasNoFault, IsConfigured, IsReadFrom}
+use Rattle.run_config.specs.Configs.{EndHasNoFault, IsConfigured, IsReadThrough}
 use Rattle.switch_ports.specs.Named.{control_key}
 use Rattle.switch_run.specs.Causes.{IsOffPlanSame, Keeps, TookOrPart, ports_in}
 use Rattle.switch_run.specs.Session.{IsReported}
@@ -45,11 +45,11 @@ module _ {S K C : Type 0} (left : S → Option (List ℕ)) (written : K → Opti
     pub reported : IsReported written sink_faults plan past Says old new status
     pub elsewhere : IsOffPlanSame plan old new
 
-  -- A live session of the plan that the configuration says. The configuration's input is kept, a front of it was read, and
-  -- no read of it failed.
+  -- A live session of the plan that the configuration says. The configuration's input is kept. It was read to its end, or one
+  -- octet further than a configuration may have, and no read of it failed.
   pub record IsServeSession (file : List ℕ) (Says : List ℕ → Type 0) (old new : Book S K C) (status : ℕ) : Type 0 where
     pub plan : Plan
     pub configured : IsConfigured false left (old.inputs file) plan
-    pub input : IsReadFrom left (old.inputs file) (new.inputs file)
+    pub input : IsReadThrough left (old.inputs file) (new.inputs file)
     pub still : EndHasNoFault source_faults (new.inputs file)
     pub session : IsServeOf plan Says old new status

@@ -21,7 +21,7 @@ use Rattle.savi_history.specs.CameFirst.{AllKeepWhoCameFirst}
 use Rattle.savi_history.specs.Journals.{IsJournalOf, IsSame}
 use Rattle.savi_history.specs.Summary.{summary_of, summary_text}
 use Rattle.savi_conf.specs.declared.fault.ConfFault.{ConfFault}
-use Rattle.run_config.specs.Configs.{EndHasFault, EndHasNoFault, IsConfigured, IsReadFrom, IsRefused}
+use Rattle.run_config.specs.Configs.{EndHasFault, EndHasNoFault, IsConfigured, IsReadFrom, IsReadThrough, IsRefused}
 use Rattle.switch_report.specs.RunLines.{cannot_open_line, config_line, write_failed_line, read_failed_line, port_name, control_word, journal_word}
 use Rattle.port_worker.specs.ControlServed.{IsControlServed}
 use Rattle.port_worker.specs.Served.{IsServed, ServesPorts}
@@ -99,12 +99,12 @@ pub record IsSessionOf {S K C : Type 0} (left : S → Option (List ℕ)) (writte
   pub elsewhere : IsOffPlanSame plan old new
   pub did : IsReplayOf left written source_faults sink_faults plan Says old new status
 
--- A session of the plan that the configuration says. The configuration's input is kept, a front of it was read, and no read
--- of it failed.
+-- A session of the plan that the configuration says. The configuration's input is kept. It was read to its end, or one octet
+-- further than a configuration may have, and no read of it failed.
 pub record IsSession {S K C : Type 0} (left : S → Option (List ℕ)) (written : K → Option (List ℕ)) (source_faults : S → ℕ) (sink_faults : K → ℕ) (file : List ℕ) (Says : List ℕ → Type 0) (old new : Book S K C) (status : ℕ) : Type 0 where
   pub plan : Plan
   pub configured : IsConfigured true left (old.inputs file) plan
-  pub input : IsReadFrom left (old.inputs file) (new.inputs file)
+  pub input : IsReadThrough left (old.inputs file) (new.inputs file)
   pub still : EndHasNoFault source_faults (new.inputs file)
   pub session : IsSessionOf left written source_faults sink_faults plan Says old new status
 
@@ -164,7 +164,7 @@ IsPartUnopened live plan Says old new =
 pub record IsPlanUnopened {S K C : Type 0} (replay : Bool) (left : S → Option (List ℕ)) (source_faults : S → ℕ) (file : List ℕ) (Says : List ℕ → Type 0) (old new : Book S K C) : Type 0 where
   pub plan : Plan
   pub configured : IsConfigured replay left (old.inputs file) plan
-  pub input : IsReadFrom left (old.inputs file) (new.inputs file)
+  pub input : IsReadThrough left (old.inputs file) (new.inputs file)
   pub still : EndHasNoFault source_faults (new.inputs file)
   pub ticker : new.ticker ≡ old.ticker
   pub part : IsPartUnopened (not replay) plan Says old new
@@ -177,14 +177,14 @@ IsUnopened replay left source_faults file Says old new = IsFileUnopened file Say
 pub record IsNoPlan {S K C : Type 0} (replay : Bool) (left : S → Option (List ℕ)) (source_faults : S → ℕ) (file : List ℕ) (Says : List ℕ → Type 0) (old new : Book S K C) : Type 0 where
   pub fault : ConfFault
   pub refused : IsRefused replay left (old.inputs file) fault
-  pub input : IsReadFrom left (old.inputs file) (new.inputs file)
+  pub input : IsReadThrough left (old.inputs file) (new.inputs file)
   pub still : EndHasNoFault source_faults (new.inputs file)
   pub unserved : IsUnserved old new
   pub errors : Says (config_line fault)
 
--- There was no memory. The input of the configuration is as it was, or kept, and a front of it was read, where no read
--- failed. Either no port, no output and no ends of control were touched, or the ends of all ports of the plan, of control,
+-- There was no memory. The input of the configuration is as it was, or kept, and it was read to its end, or one octet further
+-- than a configuration may have, where no read failed. Either no port, no output and no ends of control were touched, or the ends of all ports of the plan, of control,
 -- where the plan names it, and of the journal are kept, and no others were touched.
 pub record IsUnplayed {S K C : Type 0} (replay : Bool) (left : S → Option (List ℕ)) (written : K → Option (List ℕ)) (source_faults : S → ℕ) (file : List ℕ) (old new : Book S K C) : Type 0 where
-  pub input : (new.inputs file ≡ old.inputs file) ⊎ (IsReadFrom left (old.inputs file) (new.inputs file) × EndHasNoFault source_faults (new.inputs file))
+  pub input : (new.inputs file ≡ old.inputs file) ⊎ (IsReadThrough left (old.inputs file) (new.inputs file) × EndHasNoFault source_faults (new.inputs file))
   pub ends : IsUnserved old new ⊎ ((plan : Plan) × IsConfigured replay left (old.inputs file) plan × KeepsAll (not replay) left written plan old new × IsOffPlanSame plan old new)

@@ -1,5 +1,5 @@
 -- What a run answers where nothing hinders it: its inputs are whole, and no count of faults rises.
-use Rattle.std.specs.Prelude.{◌≡◌, ◌≢◌, ◌⊎◌, ◌↔◌, ℕ, not, Bool, true, false, List, Option, IfSome, IsSomeAnd, Ok, All}
+use Rattle.std.specs.Prelude.{◌≡◌, ◌≢◌, ◌⊎◌, ◌↔◌, ℕ, Bool, true, false, List, Option, IfSome, IsSomeAnd, Ok, All}
 use Rattle.std.specs.List.{list_any}
 use Rattle.savi_kinds.specs.declared.plan.Plan.{Plan}
 use Rattle.savi_kinds.specs.declared.plan.Format.{Format}

@@ -1,12 +1,12 @@
-use Rattle.std.proofs.Common.{◌<◌, ◌≡◌, ◌≢◌, ◌∙◌, Err, Result, arith, inr, sym}
+use Rattle.std.proofs.Common.{◌<◌, ◌≡◌, ◌≢◌, ◌∙◌, ℕ, List, Option, IfSome, IsSomeAnd, Err, Result, arith, inr, sym}
 use Rattle.savi_kinds.specs.declared.plan.Plan.{Plan}
 use Rattle.run_config.specs.declared.refusal.Refusal.{Refusal}
 use Rattle.run_config.specs.declared.refusal.Refusal.TheVariants as refusal
 use Rattle.savi_conf.specs.Answers.{IsAnswer}
 use Rattle.savi_ends.specs.Places.{IsOnlyOut}
-use Rattle.run_config.specs.Configs.{EndHasNoFault, IsReadFrom}
+use Rattle.run_config.specs.Configs.{EndHasNoFault, TakesFew, TakesWhole}
 use Rattle.savi_ends.proofs.Ready.{opened_alone}
-use Rattle.run_config.proofs.Configured.{of_told, configured, kept_fault, kept_sound, read_from}
+use Rattle.run_config.proofs.Configured.{of_told, configured, kept_fault, kept_sound, read_back}
 use Rattle.run_config.proofs.reading.configure.Given as given
 use Rattle.run_config.proofs.reading.configure.Goals as goal
 
@@ -53,13 +53,18 @@ returns-clause-still_memory g c = λ is. inr (no_fault g c (λ failed. apart (sy
 pub returns-clause-others : goal.returns-clause-others
 returns-clause-others g c = λ other differs. c.keep_input.ensures.others c.args.file.now (only g c) other differs ∙ c.in-Ok-input.ensures.others other differs
 
-read_back : (g : given.Over) (c : goal.After-drop-buffer-2 g) → IsReadFrom {S = g.row.W-S.Denot} g.W.S.Source.left ((g.W.World.book c.args.world.now).inputs c.args.file.now) ((g.W.World.book c.keep_input.new.self).inputs c.args.file.now)
-read_back g c =
-    read_from g.W.S.Source.left ((g.W.World.book c.args.world.now).inputs c.args.file.now) ((g.W.World.book c.keep_input.new.self).inputs c.args.file.now) c.in-Ok-input.source c.read_config-answer.new.source
-    c.in-Ok-input.ensures.opens.told (c.keep_input.ensures.kept c.args.file.now (only g c)) c.read_config-answer.ensures.takes
+-- the two readings, of the end that was handed out
+back : (g : given.Over) (c : goal.After-drop-buffer-2 g) (Taken : Option (List ℕ) → Option (List ℕ) → Type 0) → Taken (g.W.S.Source.left c.in-Ok-input.source) (g.W.S.Source.left c.read_config-answer.new.source)
+    → IsSomeAnd ((g.W.World.book c.keep_input.new.self).inputs c.args.file.now).stands (λ k. IfSome ((g.W.World.book c.args.world.now).inputs c.args.file.now).stands (λ told. Taken (g.W.S.Source.left told) (g.W.S.Source.left k)))
+back g c Taken =
+    read_back g.W.S.Source.left Taken ((g.W.World.book c.args.world.now).inputs c.args.file.now) ((g.W.World.book c.keep_input.new.self).inputs c.args.file.now) c.in-Ok-input.source c.read_config-answer.new.source
+    c.in-Ok-input.ensures.opens.told (c.keep_input.ensures.kept c.args.file.now (only g c))
 
 pub returns-clause-kept : goal.returns-clause-kept
-returns-clause-kept g c = λ opened memory. read_back g c
+returns-clause-kept g c = λ failed. back g c TakesFew c.read_config-answer.ensures.takes
+
+pub returns-clause-whole : goal.returns-clause-whole
+returns-clause-whole g c = λ read opened memory. back g c TakesWhole (c.read_config-answer.ensures.whole read)
 
 pub returns-clause-memory : goal.returns-clause-memory
-returns-clause-memory g c = λ is. inr (read_back g c)
+returns-clause-memory g c = λ is. inr (back g c TakesWhole (c.read_config-answer.ensures.whole (λ failed. apart (sym is ∙ failed))))

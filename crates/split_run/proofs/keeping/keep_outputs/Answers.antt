@@ -1,8 +1,6 @@
-use Rattle.std.proofs.Common.{◌≡◌, List, ℕ, true, [], ◌∷◌, Some, sym, subst, arith}
-use Rattle.std.proofs.lemmas.List.{nil_from_length}
+use Rattle.std.proofs.Common.{◌≡◌, List, ℕ, true, ◌∷◌, Some, sym, subst}
 use Rattle.savi_ends.specs.Places.{OthersStay}
-use Rattle.split_run.specs.Names.{name_in}
-use Rattle.split_run.proofs.Keeps.{away, keep_step, next_low, next_out, text_at}
+use Rattle.split_run.proofs.Keeps.{keep_step, next_low, next_out, text_at}
 use Rattle.split_run.proofs.keeping.keep_outputs.Goals as goal
 
 pub keep_output-requires : goal.keep_output-requires

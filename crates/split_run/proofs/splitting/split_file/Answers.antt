@@ -1,8 +1,4 @@
-use Rattle.std.proofs.Common.{◌≡◌, ap, subst, sym, refl, true, ◌∙◌}
-use Rattle.std.specs.Prelude.{All}
-use Rattle.savi_ends.specs.Places.{Place, Book, OthersStay}
-use Rattle.savi_ends.proofs.Ready.{opened_alone}
-use Rattle.pcap_split.specs.declared.output.Output.{Output}
+use Rattle.std.proofs.Common.{◌≡◌}
 use Rattle.split_run.specs.Names.{name_in}
 use Rattle.split_run.proofs.Apart.{names_apart}
 use Rattle.split_run.proofs.Ends.{held_out, input_alone, split_ran}

@@ -1,6 +1,5 @@
-use Rattle.std.proofs.Common.{◌≡◌, ◌+◌, ◌∷◌, ◌++◌, [], List, take, flat_map, refl, sym, ap, ◌∙◌, subst, arith}
+use Rattle.std.proofs.Common.{◌≡◌, ◌+◌, ◌∷◌, ◌++◌, [], take, refl, sym, ap, ◌∙◌}
 use Rattle.std.proofs.lemmas.List.{take_all, take_more}
-use Rattle.savi_ends.specs.Octets.{behind}
 use Rattle.learn_run.specs.declared.learning.Ending.{Ending}
 use Rattle.switch_run.specs.Learnings.{ending_lines}
 use Rattle.switch_run.proofs.LearnThrough.{told_more, told_all, told_failed}

@@ -4,17 +4,17 @@ use Rattle.savi_ends.specs.declared.world.Std.TheVariants.{Out}
 use Rattle.savi_ends.specs.Places.{Book, Place}
 use Rattle.run_config.specs.declared.refusal.Refusal.{Refusal}
 use Rattle.switch_run.proofs.Refusing.{refuses}
-use Rattle.run_config.specs.Configs.{EndHasNoFault, IsReadFrom}
+use Rattle.run_config.specs.Configs.{EndHasNoFault, IsReadThrough}
 use Rattle.switch_run.proofs.Running.{configured_serve, configured_unplayed, moved_part, moved_unused, read_before, same_places}
 use Rattle.switch_run.proofs.serving.serve_file.Given as given
 use Rattle.switch_run.proofs.serving.serve_file.Goals as goal
 
-input_still : (g : given.Over) (c : goal.After-serve_plan g) → IsReadFrom {S = g.row.W-S.Denot} g.W.S.Source.left ((g.W.World.book c.args.world.now).inputs c.args.file.now) ((g.W.World.book c.serve_plan.new.world).inputs c.args.file.now)
+input_still : (g : given.Over) (c : goal.After-serve_plan g) → IsReadThrough {S = g.row.W-S.Denot} g.W.S.Source.left ((g.W.World.book c.args.world.now).inputs c.args.file.now) ((g.W.World.book c.serve_plan.new.world).inputs c.args.file.now)
 input_still g c =
     let S = g.row.W-S.Denot in
     let K = g.row.W-K.Denot in
     let C = g.row.W-C.Denot in
-    subst (λ (p : Place S). IsReadFrom g.W.S.Source.left ((g.W.World.book c.args.world.now).inputs c.args.file.now) p) (sym (ap (λ (b : Book S K C). b.inputs c.args.file.now) c.serve_plan.ensures.rest)) (c.in-Ok.ensures.kept (λ e. cc) (λ e. cc))
+    subst (λ (p : Place S). IsReadThrough g.W.S.Source.left ((g.W.World.book c.args.world.now).inputs c.args.file.now) p) (sym (ap (λ (b : Book S K C). b.inputs c.args.file.now) c.serve_plan.ensures.rest)) (c.in-Ok.ensures.whole (λ e. cc) (λ e. cc) (λ e. cc))
 
 never_failed : (g : given.Over) (c : goal.After-serve_plan g) → EndHasNoFault {X = g.row.W-S.Denot} g.W.S.Source.faults ((g.W.World.book c.serve_plan.new.world).inputs c.args.file.now)
 never_failed g c =
@@ -77,7 +77,8 @@ returns-in-Err-clause-ran g c =
     (λ read opened memory. c.in-Err.ensures.still (λ e. read (of_err _ _ e)) (λ e. opened (of_err _ _ e)) (λ e. memory (of_err _ _ e)))
     (λ e. c.in-Err.ensures.still_memory (err_of _ _ e))
     (λ e. c.in-Err.ensures.as_it_was (err_of _ _ e))
-    (λ apart other. c.in-Err.ensures.kept (λ e. apart (of_err _ _ e)) (λ e. other (of_err _ _ e)))
+    (λ e. c.in-Err.ensures.kept (err_of _ _ e))
+    (λ read opened memory. c.in-Err.ensures.whole (λ e. read (of_err _ _ e)) (λ e. opened (of_err _ _ e)) (λ e. memory (of_err _ _ e)))
     (λ e. c.in-Err.ensures.memory (err_of _ _ e))
     (record { ports = ap (λ (b : Book S K C). b.ports) c.in-Err.ensures.rest; control = ap (λ (b : Book S K C). b.control) c.in-Err.ensures.rest; ticker = ap (λ (b : Book S K C). b.ticker) c.in-Err.ensures.rest; outputs = ap (λ (b : Book S K C). b.outputs) c.in-Err.ensures.rest })
     (ap (λ (b : Book S K C). b.std Out) c.in-Err.ensures.rest)

@@ -1,4 +1,4 @@
-use Rattle.std.proofs.Common.{◌≡◌, ◌<◌, true, ℕ, List, arith, ap, ◌∙◌, sym, length, inl, inr, map, refl, subst}
+use Rattle.std.proofs.Common.{◌≡◌, true, ℕ, List, arith, ap, ◌∙◌, sym, length, inl, inr, map, refl, subst}
 use Rattle.std.specs.List.Sorted.{IsStrictlyIncreasing}
 use Rattle.savi_kinds.specs.declared.plan.PortPlan.{PortPlan}
 use Rattle.savi_kinds.specs.Ports.{number_of}
@@ -12,7 +12,7 @@ use Rattle.switch_report.specs.RunLines.{cannot_open_line, control_word, journal
 use Rattle.switch_run.specs.Causes.{ports_in}
 use Rattle.switch_run.specs.Live.{IsServeOf}
 use Rattle.switch_run.specs.Session.{ToldBy}
-use Rattle.switch_run.proofs.Ending.{Closes, control_same, stays_all, unused_still}
+use Rattle.switch_run.proofs.Ending.{Closes, control_same, stays_all}
 use Rattle.switch_run.proofs.Handling.{handled_one}
 use Rattle.switch_run.proofs.LiveThrough.{HandledLive, HandledPlan, HandledPorts, live_closes, live_control, live_control_back, live_control_out, live_control_unopened, live_handled, live_journal_unopened, live_others, live_out, live_port_unopened, live_unused, numbers_count, numbers_len, clock_by}
 use Rattle.switch_run.proofs.Recast.{told_by}

@@ -9,7 +9,7 @@ use Rattle.switch_ports.specs.Openings.{ports_of, IsNextBehind}
 use Rattle.switch_report.specs.RunLines.{cannot_open_line, control_word, journal_word}
 use Rattle.switch_run.specs.Causes.{ports_in}
 use Rattle.switch_run.specs.Session.{IsSessionOf, ToldBy}
-use Rattle.switch_run.proofs.Ending.{Closes, closes, control_same, stays_all, unused_by, unused_still}
+use Rattle.switch_run.proofs.Ending.{Closes, closes, control_same, stays_all, unused_by}
 use Rattle.switch_run.proofs.Through.{Handled, HandledAll, HandledControl, control_back, control_unopened, journal_unopened, port_unopened, ports_off, ports_off_next}
 use Rattle.switch_run.proofs.Handling.{apart_all, apart_back, apart_first, control_by, control_out, handled_by, handled_one, opened_as, others_by, out_back, same_ports}
 use Rattle.switch_run.proofs.Recast.{told_by}
