@@ -14,7 +14,7 @@ use Rattle.savi_history.specs.ControlFits.{FitsControl, Begins, AreFirst, AreBef
 use Rattle.savi_history.specs.Fits.{IsWhole}
 use Rattle.live_session.specs.LiveControl.{AreLiveLines}
 use Rattle.live_session.specs.LiveInputs.{AreCapture, FitsInput}
-use Rattle.live_laws.specs.SourceInputs.{AreInput}
+use Rattle.live_laws.specs.SourceInputs.{IsGivenInput}
 use Rattle.live_laws.proofs.Fronts.{capture_most, stream_most, lines_most, lines_same}
 
 -- what a source gave up is a front of what it told
@@ -44,7 +44,7 @@ module _ (weight : Arrival → ℕ) (blind : (reading : ℕ) (a : Arrival) → w
   abbrev IsStream : Bool → List ℕ → List Arrival → How → Type 0
   IsStream seen octets arrivals ending = streams.IsRun seen 0 arrivals ending octets
 
-  pub input_most : (format : Format) (before after : Option (List ℕ)) (octets : List ℕ) (some all : List Arrival) (ended_so : Option How) (f : How) → before ≡ Some octets → AreInput format octets (record { arrivals = all; ending = f })
+  pub input_most : (format : Format) (before after : Option (List ℕ)) (octets : List ℕ) (some all : List Arrival) (ended_so : Option How) (f : How) → before ≡ Some octets → IsGivenInput format octets (record { arrivals = all; ending = f })
       → FitsInput format before after some ended_so → sum_by weight some ≤ sum_by weight all
   input_most Pcap before after octets some all (Some hows.End) f told are fits = whole_most weight AreCapture (capture_most weight blind) before octets told all f are some hows.End fits
   input_most Pcap before after octets some all (Some (hows.Malformed at)) f told are fits = whole_most weight AreCapture (capture_most weight blind) before octets told all f are some (hows.Malformed at) fits

@@ -15,13 +15,13 @@ use Rattle.live_session.specs.LiveInputs.{AreCapture, AreStream}
 use Rattle.savi_laws.specs.Budgets.{given_count, given_octets, lines_of, arrivals_of, Suffices}
 
 -- these octets, read to their end, are this input of a port, by the port's form; the stamps of a stream are free
-abbrev pub AreInput : Format → List ℕ → Input → Type 0
-AreInput Pcap octets input = AreCapture true octets input.arrivals input.ending
-AreInput Stream octets input = AreStream octets input.arrivals input.ending
+abbrev pub IsGivenInput : Format → List ℕ → Input → Type 0
+IsGivenInput Pcap octets input = AreCapture true octets input.arrivals input.ending
+IsGivenInput Stream octets input = AreStream octets input.arrivals input.ending
 
 -- a port's source tells all octets that it has, and they are this input
 abbrev pub HasInput : {S : Type 0} → (S → Option (List ℕ)) → Format → S → Input → Type 0
-HasInput left format source input = (octets : List ℕ) × (left source ≡ Some octets) × AreInput format octets input
+HasInput left format source input = (octets : List ℕ) × (left source ≡ Some octets) × IsGivenInput format octets input
 
 -- Control's source, where there is control, tells all octets that it has, and they are these lines.
 abbrev pub HasLines : {S K C : Type 0} → (S → Option (List ℕ)) → Option (Ends S K C) → Option control.Input → Type 0
