@@ -11,11 +11,13 @@ from .switch import LATEST, Switch
 LONGEST_FRAME = 1518
 NUMBER = re.compile(b"0|[1-9][0-9]*")
 HOWS = {
-    "in": ("end", "malformed", "failed", "full"), "ticker": ("end", "full"), "out": ("end", "failed"),
-    "control": ("end", "quit", "malformed", "overlong", "failed", "unwritten", "full"),
+    "in": ("end", "malformed", "failed", "paused"), "ticker": ("end", "paused"), "out": ("end", "failed", "paused"),
+    "control": ("end", "quit", "malformed", "overlong", "failed", "unwritten", "paused"),
 }
+# The passes that take inputs.
+TAKERS = ("in", "control")
 # The ways of an end that have a number.
-PLACED = ("malformed", "overlong", "full")
+PLACED = ("malformed", "overlong")
 
 
 class BadLine(Exception):
@@ -85,7 +87,8 @@ class History(Switch):
 
     def __init__(self, plan):
         super().__init__(plan)
-        self.over = set()
+        # The passes that have ended, and whether an input among them is paused.
+        self.over, self.has_pause = set(), False
 
     def number_of(self, kind, n):
         """The number of a pass, or None where it isn't in the plan."""
@@ -280,12 +283,12 @@ class Checker:
         (kind, n), how = passing(words[0]), text_of(b"".join(words[1:2]), b"[a-z]+")
         if how not in HOWS[kind] or len(words) != 2 + (how in PLACED):
             raise BadLine
-        place = number(words[2]) if how in PLACED else None
+        if how in PLACED:
+            number(words[2])
         history = self.history
         want(history.is_open(kind, n) and self.may_end(kind, n, how), "E")
-        if how == "full" and place != self.number:
-            raise Wrong(self.number, place)
         history.over.add(history.number_of(kind, n))
+        history.has_pause |= how == "paused" and kind in TAKERS
         if kind == "out":
             history.end_output(n, how)
         else:
@@ -294,13 +297,12 @@ class Checker:
 
     def may_end(self, kind, n, how):
         history = self.history
-        if how == "full":
-            return history.is_full()
-        if how != "end" or kind in ("in", "control"):
+        if how not in ("end", "paused"):
             return True
-        if kind == "ticker":
-            return history.takers_are_over()
-        return history.takers_are_over() and not history.is_open("ticker") and not history.queues[n]
+        if kind in TAKERS:
+            return how == "end" or history.is_full()
+        is_idle = kind == "ticker" or not history.is_open("ticker") and not history.queues[n]
+        return history.takers_are_over() and is_idle and history.has_pause == (how == "paused")
 
 
 def small(word):

@@ -30,7 +30,7 @@ FORMS = {
     "T": form(NUMBER, NUMBER, NUMBER),
     "C": form(NUMBER, DIGITS, NUMBER, NUMBER),
     "D": form(NUMBER, NUMBER),
-    "E": form("(control|ticker|in[0-9]+|out[0-9]+)", "(end|quit|failed|unwritten|(?:malformed|overlong|full) [0-9]+)"),
+    "E": form("(control|ticker|in[0-9]+|out[0-9]+)", "(end|quit|failed|unwritten|paused|(?:malformed|overlong) [0-9]+)"),
 }
 
 

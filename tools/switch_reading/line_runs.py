@@ -11,8 +11,8 @@ PORTS = 16
 
 # The passes and the reasons for which each may end.
 REASONS = {
-    "control": ("end", "quit", "malformed", "overlong", "failed", "unwritten", "full"), "ticker": ("end", "full"),
-    "in": ("end", "malformed", "failed", "full"), "out": ("end", "failed"),
+    "control": ("end", "quit", "malformed", "overlong", "failed", "unwritten", "paused"), "ticker": ("end", "paused"),
+    "in": ("end", "malformed", "failed", "paused"), "out": ("end", "failed", "paused"),
 }
 SETTINGS = ("per_port", "depth", "entries", "bytes", "gap", "test", "binding", "end")
 

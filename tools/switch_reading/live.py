@@ -145,18 +145,14 @@ class Live(Replay):
         while not self.ticker_is_over:
             stamp = self.clock.now()
             yield TURN
-            switch, length = self.switch, len(self.switch.entries)
-            if switch.is_full():
-                self.ticker_is_over = True
-                switch.end(switch.ticker_pass, f"ticker full {length}")
-                self.note("full", f"ticker: history full at {length}")
-            elif self.is_due(stamp):
+            switch = self.switch
+            if not switch.is_full() and self.is_due(stamp):
                 switch.begin(stamp)
                 text = f"T {stamp} {switch.probes} {switch.lost}"
                 switch.enter(switch.ticker_pass, text, probes=switch.probes, lost=switch.lost)
             elif self.inputs_are_over():
                 self.ticker_is_over = True
-                switch.end(switch.ticker_pass, "ticker end")
+                switch.end(switch.ticker_pass, f"ticker {self.closing()}")
             yield AWAY
 
     def send(self, port):
@@ -167,7 +163,7 @@ class Live(Replay):
             yield TURN
             queue = self.switch.queues[port]
             if not queue and self.inputs_are_over() and self.ticker_is_over:
-                self.switch.end_output(port, "end")
+                self.switch.end_output(port, self.closing())
                 return
             items = self.switch.drain(port) if queue else []
             yield AWAY

@@ -64,10 +64,10 @@ class Replay:
             self.write(n, capture.HEADER)
         while self.look():
             self.turn()
-        self.switch.end(self.switch.ticker_pass, "ticker end")
+        self.switch.end(self.switch.ticker_pass, f"ticker {self.closing()}")
         for n in self.switch.ports:
             if n not in self.switch.closed:
-                self.switch.end_output(n, "end")
+                self.switch.end_output(n, self.closing())
 
     def look(self):
         """Ends each input that has nothing more, control first. Answers whether one has."""
@@ -92,9 +92,9 @@ class Replay:
                 self.drain(n)
 
     def taken(self, source):
-        """What comes next of an input; or None where there is no room for it, and the input ends."""
+        """What comes next of an input; or None where there is no room for it, and the input is paused."""
         if self.switch.is_full():
-            self.end_input(source, f"full {len(self.switch.entries)}")
+            self.end_input(source, "paused")
             return None
         arrival = source.head()
         source.at += 1
@@ -126,8 +126,13 @@ class Replay:
             self.note("failed output", f"port {port}: write failed")
         return is_written
 
+    def closing(self):
+        """How the ticker and the outputs end: they are paused where an input is."""
+        return "paused" if "full" in self.causes else "end"
+
     def end_input(self, source, how):
         source.is_over = True
+        before = len(self.switch.entries)
         self.switch.end(source.by, f"{source.name} {how}")
         word, _, place = how.partition(" ")
         if word == "failed":
@@ -138,8 +143,8 @@ class Replay:
             self.note("at fault", f"{source.title}: malformed at {place}")
         elif word == "overlong":
             self.note("at fault", f"{source.title}: overlong line at {place}")
-        elif word == "full":
-            self.note("full", f"{source.title}: history full at {place}")
+        elif word == "paused":
+            self.note("full", f"{source.title}: history full at {before}")
 
     def note(self, cause, line):
         self.causes.add(cause)

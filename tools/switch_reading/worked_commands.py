@@ -212,13 +212,13 @@ WORKED = {
     # Room for seven entries, and for thirteen octets.
     "a history that is full of commands": (
         [], ["end"] + ports(*[NOTHING] * 5),
-        ["status 8", "control: history full at 7", "6 5 1001 C 1001 show_ports 0 0", "7 5 1001 E control full 7", "end 14"]),
+        ["status 8", "control: history full at 7", "6 5 1001 C 1001 show_ports 0 0", "7 5 1001 E control paused", "end 14"]),
     "a history that is full for a command and a frame": (
         [], ["end"] * 3,
-        ["status 8", "control: history full at 7", "port 1: history full at 8", "7 5 1002 E control full 7",
-         "8 0 1002 E in1 full 8"]),
+        ["status 8", "control: history full at 7", "port 1: history full at 8", "7 5 1002 E control paused",
+         "8 0 1002 E in1 paused"]),
     "a history whose octets are full of commands": (
-        [], ["end"], ["status 8", "control: history full at 6", "6 5 1000 E control full 6"]),
+        [], ["end"], ["status 8", "control: history full at 6", "6 5 1000 E control paused"]),
     # Sources aren't validated.
     "commands where sources aren't validated": (
         ["1@1000 PACKET pass-all 3,4,5 0", "2@1001 listener_report drop-PortDown - 0"],

@@ -189,7 +189,9 @@ def check_full(same):
                  [(1, 1000 + at, ADVERTS[0]) for at in range(3)])
     kinds = [entry.split()[3] for entry in entries(run)]
     same(name, "its first frame, drains and end are", kinds[3:7], ["F", "D", "D", "E"])
-    same(name, "entry 6 is", entries(run)[6], "6 0 1000 E in1 full 6")
+    same(name, "entry 6 is", entries(run)[6], "6 0 1000 E in1 paused")
+    same(name, "what comes behind it is", [entry.split(" ", 4)[4] for entry in entries(run)[7:]],
+         ["ticker paused", "out1 paused", "out2 paused", "out3 paused"])
     same(name, "the entries are", len(kinds), 11)
     same(name, "standard error is", run.lines, ["port 1: history full at 6"])
     same(name, "the status is", run.status(), 8)

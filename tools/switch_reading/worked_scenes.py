@@ -261,7 +261,7 @@ WORKED = {
     "a history that is full behind its first frame": (
         ["1@1000 ADVERT pass-all 2,3 0"],
         ["status 8", "port 1: history full at 6", "3 0 1000 F 1 1000 ADVERT pass-all 2,3 - 0 0", "4 6 1000 D 2 1",
-         "5 7 1000 D 3 1", "6 0 1000 E in1 full 6", "end 11"]),
+         "5 7 1000 D 3 1", "6 0 1000 E in1 paused", "7 4 1000 E ticker paused", "8 5 1000 E out1 paused", "end 11"]),
     "an output that fails at its second frame": (
         ["1@1000 ADVERT pass-all 2,3 0",
          "1@1001 ADVERT pass-all 2,3 0",

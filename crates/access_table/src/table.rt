@@ -22,7 +22,7 @@ ghost use Rattle.access_table.specs.Steps.{Hears, Moves};
 
 use crate::plans::method_of;
 use addr_table::{AddrTable, ProbeSink};
-use dhcp_states::Pending;
+use dhcp_states::{Pending, Request};
 use fcfs_states::{Answer, Ev, Times};
 use mix_rules::AddrState;
 use savi_kinds::{Addr, Moment, Plan, Port, Rule};
@@ -104,6 +104,13 @@ impl AccessTable {
         ensures most { result ≤ 16 }
     {
         self.requests.count(port, t)
+    }
+
+    /// The requests that are kept, the one asked last at the end: of these the open ones alone count. O(1).
+    pub fn requests(&self) -> &[Request]
+        ensures { result.now ≡ self.now.requests }
+    {
+        self.requests.as_slice()
     }
 
     // The state of an address. O(1) on average.

@@ -123,6 +123,16 @@ impl Fdb {
         }
     }
 
+    /// The next of the stations that are live at moment `t` (ms) at place `from` or behind it, as `next_row` finds it, and the
+    /// place behind it. O(1) beside the stations passed over.
+    pub fn next_station(&self, from: usize, t: Moment) -> Option<(Station, usize)>
+        ensures live { MatchOption result (live_at t (drop from self.now) ≡ []) (λ found. live_at t (drop from self.now) ≡ found.0 ∷ live_at t (drop found.1 self.now)) }
+        ensures behind { IfSome result (λ found. (from < found.1) × (found.1 ≤ length self.now)) }
+        ensures limits { IsWithinLimits self.now }
+    {
+        live_from(&self.kept, from, t)
+    }
+
     /// The `i`-th of the stations that are live at moment `t` (ms), in order of MAC address, from 0, with its port and the
     /// moment (ms) at which it ends: None exactly past the last one. O(n).
     pub fn row(&self, i: u32, t: Moment) -> Option<(Mac, Port, Moment)>

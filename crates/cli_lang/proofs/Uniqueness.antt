@@ -97,7 +97,7 @@ no_ending live seen place (how.Malformed at) octets text front rest line ends sp
 no_ending live seen place (how.Overlong at) octets text front rest line ends split is says within = line_not_long seen octets text front rest split is.short is.whole ends.1
 no_ending live seen place how.Failed octets text front rest line ends split is says within = line_not_cut seen octets text front rest split is.whole ends.0 ends.1
 no_ending live seen place how.Unwritten octets text front rest line ends split is says within = ends
-no_ending live seen place (how.Full len) octets text front rest line ends split is says within = ends
+no_ending live seen place how.Paused octets text front rest line ends split is says within = ends
 
 -- what is malformed is neither nothing nor cut short nor overlong
 malformed_alone : (live seen : Bool) (place : ℕ) (octets : List ℕ) → (IsLong octets × (2 ^ 62 < place + 121)) ⊎ BeginsBadLine live seen place octets
@@ -133,10 +133,10 @@ ending_once live seen place octets how.Failed (how.Overlong at) one other = absu
 ending_once live seen place octets how.Failed how.Failed one other = refl
 ending_once live seen place octets how.Quit f one other = absurd one
 ending_once live seen place octets how.Unwritten f one other = absurd one
-ending_once live seen place octets (how.Full len) f one other = absurd one
+ending_once live seen place octets how.Paused f one other = absurd one
 ending_once live seen place octets e how.Quit one other = absurd other
 ending_once live seen place octets e how.Unwritten one other = absurd other
-ending_once live seen place octets e (how.Full len) one other = absurd other
+ending_once live seen place octets e how.Paused one other = absurd other
 
 line_same : (a b : Line) → a.stamp ≡ b.stamp → a.command ≡ b.command → a ≡ b
 line_same a b stamp command = ap₂ (λ (s : ℕ) (t : List ℕ). let l : Line = record { stamp = s; command = t } in l) stamp command

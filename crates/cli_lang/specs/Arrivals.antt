@@ -53,7 +53,7 @@ EndsAs live seen place (how.Malformed at) octets =
 EndsAs live seen place (how.Overlong at) octets = (at ≡ place) × IsLong octets × (place + 121 ≤ 2 ^ 62)
 EndsAs live seen place how.Failed octets = (seen ≡ false) × HasNoFeed octets × (length octets ≤ 120)
 EndsAs live seen place how.Unwritten octets = ⊥
-EndsAs live seen place (how.Full len) octets = ⊥
+EndsAs live seen place how.Paused octets = ⊥
 
 -- one line at this place, in front of these octets
 abbrev pub IsLineOf : Bool → Bool → ℕ → List ℕ → List ℕ → Line → Type 0

@@ -51,7 +51,7 @@ IsFaultAt (how.Malformed place) at = place ≡ at
 IsFaultAt (how.Overlong place) at = place ≡ at
 IsFaultAt how.Failed at = ⊥
 IsFaultAt how.Unwritten at = ⊥
-IsFaultAt (how.Full len) at = ⊥
+IsFaultAt how.Paused at = ⊥
 
 -- the state holds no place past 2^62
 abbrev pub IsPlaced : State → Type 0
@@ -118,7 +118,7 @@ answer_of (how.Malformed at) = Some (got.Malformed at)
 answer_of (how.Overlong at) = Some (got.Overlong at)
 answer_of how.Failed = Some got.Failed
 answer_of how.Unwritten = None
-answer_of (how.Full len) = None
+answer_of how.Paused = None
 
 -- what a reader that has ended answers again and again
 abbrev pub last_answer : State → Option LineGot

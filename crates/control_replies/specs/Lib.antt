@@ -2,3 +2,4 @@ pub mod Replies
 pub mod Bindings
 pub mod Shows
 pub mod Counters
+pub mod Counting

@@ -14,7 +14,7 @@ mod port_row;
 mod refusal;
 mod reply;
 
-pub use counts::Counts;
+pub use counts::{COUNTERS, Counts};
 pub use laws::{
     bindings_fit, counters_fit, ports_fit, refusals_fit, rules_are_in_order, stations_fit,
 };

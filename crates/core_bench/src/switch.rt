@@ -2,9 +2,9 @@
 
 ghost use Rattle.std.specs.Prelude.{◌≡◌, true};
 ghost use Rattle.savi_kinds.specs.Ports.{number_of};
-ghost use Rattle.savi_history.specs.Bases.{empty};
 ghost use Rattle.savi_history.specs.Passes.{has_port};
 ghost use Rattle.savi_history.specs.Legal.{IsOpen};
+ghost use Rattle.savi_core.specs.Machines.{base_of};
 ghost use Rattle.savi_kinds.specs.declared.entry.Who.TheVariants.{Ingress};
 
 use crate::frames::{Frame, HOSTS, port};
@@ -100,7 +100,7 @@ pub fn drain_all(core: &mut Core, batch: &mut Batch) {
 
 // Whether frames may come in at a port.
 fn is_open(core: &Core, port: Port) -> bool
-    ensures { result ≡ true → IsOpen core.now.plan empty core.now.past (Ingress port) }
+    ensures { result ≡ true → IsOpen core.now.plan (base_of core.now) core.now.past (Ingress port) }
 {
     has_port(core.plan(), port) && !core.ended(Who::Ingress(port))
 }

@@ -1,4 +1,5 @@
 pub mod RowsRead
 pub mod PlansApart
+pub mod BasesApart
 pub mod PastsRead
 pub mod Goings

@@ -1,5 +1,5 @@
 -- A history is read again of its code.
-use Rattle.std.proofs.Common.{◌≡◌, ℕ, suc, ◌+◌, List, [], ◌∷◌, ◌++◌, length, refl, ap, sym, ◌∙◌, append_assoc, append-nil, length-append, arith}
+use Rattle.std.proofs.Common.{◌≡◌, List, [], ◌∷◌, ◌++◌, length, refl, ap, sym, ◌∙◌, append_assoc, append-nil, length-append, arith}
 use Rattle.hist_store.specs.Rows.{Row}
 use Rattle.table_lock.specs.Entries.{EntryList}
 use Rattle.core_keep.specs.RowCodes.{row_code, row_by_code}

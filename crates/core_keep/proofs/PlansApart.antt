@@ -1,15 +1,11 @@
 -- No two plans have the same code: each part can be read off the front.
-use Rattle.std.proofs.Common.{◌≡◌, ℕ, ◌==◌, if◌then◌else◌, Bool, true, false, List, [], ◌∷◌, ◌++◌, length, Option, Some, None, refl, ap, sym, ◌∙◌, append_assoc, arith}
-use Rattle.savi_kinds.specs.declared.port.Port.{Port}
-use Rattle.savi_kinds.specs.declared.address.Mac.{Mac}
+use Rattle.std.proofs.Common.{◌≡◌, ℕ, ◌==◌, if◌then◌else◌, true, false, List, [], ◌∷◌, ◌++◌, length, Some, None, refl, ap, sym, ◌∙◌, append_assoc, arith}
 use Rattle.savi_kinds.specs.declared.plan.Role.{Role}
 use Rattle.savi_kinds.specs.declared.plan.Role.TheVariants.{Host, Server, Trusted}
 use Rattle.savi_kinds.specs.declared.plan.Method.{Method}
 use Rattle.savi_kinds.specs.declared.plan.Method.TheVariants.{Fcfs, Dhcp, Mixed}
 use Rattle.savi_kinds.specs.declared.plan.Format.{Format}
 use Rattle.savi_kinds.specs.declared.plan.Format.TheVariants.{Pcap, Stream}
-use Rattle.savi_kinds.specs.declared.plan.PortPlan.{PortPlan}
-use Rattle.savi_kinds.specs.declared.plan.PrefixPlan.{PrefixPlan}
 use Rattle.savi_kinds.specs.declared.plan.Plan.{Plan}
 use Rattle.savi_kinds.specs.Ports.{number_of}
 use Rattle.core_keep.specs.PortNumbers.{port_at}
@@ -17,22 +13,22 @@ use Rattle.core_keep.specs.PlanCodes.{bit_code, text_code, each_code, list_code,
 use Rattle.core_keep.proofs.RowsRead.{port_again}
 
 -- what is coded can be read off the front: the value, and what follows
-abbrev IsCode : {X : Type 0} → (X → List ℕ) → Type 0
+abbrev pub IsCode : {X : Type 0} → (X → List ℕ) → Type 0
 IsCode {X} code = (a b : X) (r s : List ℕ) → code a ++ r ≡ code b ++ s → (a ≡ b) × (r ≡ s)
 
-heads : {x y : ℕ} {r s : List ℕ} → x ∷ r ≡ y ∷ s → (x ≡ y) × (r ≡ s)
+pub heads : {x y : ℕ} {r s : List ℕ} → x ∷ r ≡ y ∷ s → (x ≡ y) × (r ≡ s)
 heads e = (cc, cc)
 
-apart : {r s : List ℕ} → 0 ∷ r ≡ 1 ∷ s → ⊥
+pub apart : {r s : List ℕ} → 0 ∷ r ≡ 1 ∷ s → ⊥
 apart e = let h : ◌≡◌ {A = ℕ} 1 0 = sym (heads e).0 in omega arith
 
-bit_read : IsCode bit_code
+pub bit_read : IsCode bit_code
 bit_read false false r s e = (refl, (heads e).1)
 bit_read true true r s e = (refl, (heads e).1)
 bit_read false true r s e = absurd (apart e)
 bit_read true false r s e = absurd (apart (sym e))
 
-same_fronts : (a b r s : List ℕ) → length a ≡ length b → a ++ r ≡ b ++ s → (a ≡ b) × (r ≡ s)
+pub same_fronts : (a b r s : List ℕ) → length a ≡ length b → a ++ r ≡ b ++ s → (a ≡ b) × (r ≡ s)
 same_fronts [] [] r s l e = (refl, e)
 same_fronts [] (y ∷ b) r s l e = absurd (omega arith)
 same_fronts (x ∷ a) [] r s l e = absurd (omega arith)
@@ -40,7 +36,7 @@ same_fronts (x ∷ a) (y ∷ b) r s l e =
     let h = heads e in let n : length a ≡ length b = omega arith in let t = same_fronts a b r s n h.1 in
     (ap (λ (z : ℕ). z ∷ a) h.0 ∙ ap (λ (zs : List ℕ). y ∷ zs) t.0, t.1)
 
-text_read : IsCode text_code
+pub text_read : IsCode text_code
 text_read a b r s e = let h = heads e in same_fronts a b r s h.0 h.1
 
 each_read : {X : Type 0} (code : X → List ℕ) → IsCode code → (a b : List X) (r s : List ℕ) → length a ≡ length b → each_code code a ++ r ≡ each_code code b ++ s → (a ≡ b) × (r ≡ s)
@@ -53,7 +49,7 @@ each_read {X} code is (x ∷ a) (y ∷ b) r s l e =
     let t = each_read code is a b r s n h.1 in
     (ap (λ (z : X). z ∷ a) h.0 ∙ ap (λ (zs : List X). y ∷ zs) t.0, t.1)
 
-list_read : {X : Type 0} (code : X → List ℕ) → IsCode code → IsCode (list_code code)
+pub list_read : {X : Type 0} (code : X → List ℕ) → IsCode code → IsCode (list_code code)
 list_read code is a b r s e = let h = heads e in each_read code is a b r s h.0 h.1
 
 role_at : ℕ → Role
@@ -83,14 +79,15 @@ format_again Pcap = refl
 format_again Stream = refl
 
 -- where a value is read again of its number, no two have the same
-one_by : {X : Type 0} (number : X → ℕ) (at : ℕ → X) → ((x : X) → at (number x) ≡ x) → (a b : X) → number a ≡ number b → a ≡ b
+pub one_by : {X : Type 0} (number : X → ℕ) (at : ℕ → X) → ((x : X) → at (number x) ≡ x) → (a b : X) → number a ≡ number b → a ≡ b
 one_by number at again a b e = sym (again a) ∙ ap at e ∙ again b
 
--- two texts, one behind the other
-both_read : (a b c d r s : List ℕ) → (text_code a ++ text_code c) ++ r ≡ (text_code b ++ text_code d) ++ s → (a ≡ b) × (c ≡ d) × (r ≡ s)
-both_read a b c d r s e =
-    let h = text_read a b (text_code c ++ r) (text_code d ++ s) (sym (append_assoc (text_code a) (text_code c) r) ∙ e ∙ append_assoc (text_code b) (text_code d) s) in
-    let t = text_read c d r s h.1 in
+-- two things, one behind the other
+pub both_read : {X Y : Type 0} (first : X → List ℕ) (second : Y → List ℕ) → IsCode first → IsCode second → (a b : X) (c d : Y) (r s : List ℕ)
+    → (first a ++ second c) ++ r ≡ (first b ++ second d) ++ s → (a ≡ b) × (c ≡ d) × (r ≡ s)
+both_read first second one two a b c d r s e =
+    let h = one a b (second c ++ r) (second d ++ s) (sym (append_assoc (first a) (second c) r) ∙ e ∙ append_assoc (first b) (second d) s) in
+    let t = two c d r s h.1 in
     (h.0, t.0, t.1)
 
 port_read : IsCode port_code
@@ -99,7 +96,7 @@ port_read a b r s e =
     let number = one_by number_of port_at port_again a.number b.number n.0 in
     let role = one_by role_number role_at role_again a.role b.role k.0 in
     let format = one_by format_number format_at format_again a.format b.format f.0 in
-    let t = both_read a.input b.input a.output b.output r s f.1 in
+    let t = both_read text_code text_code text_read text_read a.input b.input a.output b.output r s f.1 in
     (λ i. record { number = number i; role = role i; format = format i; input = t.0 i; output = t.1 i }, t.2)
 
 prefix_read : IsCode prefix_code
@@ -113,7 +110,7 @@ names_read None None r s e = (refl, (heads e).1)
 names_read None (Some b) r s e = absurd (apart e)
 names_read (Some a) None r s e = absurd (apart (sym e))
 names_read (Some a) (Some b) r s e =
-    let t = both_read a.0 b.0 a.1 b.1 r s (heads e).1 in
+    let t = both_read text_code text_code text_read text_read a.0 b.0 a.1 b.1 r s (heads e).1 in
     (λ i. Some (t.0 i, t.1 i), t.2)
 
 pub one_plan : (a b : Plan) → plan_code a ≡ plan_code b → a ≡ b

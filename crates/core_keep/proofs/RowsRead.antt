@@ -39,14 +39,14 @@ who_again Control = (1, 0, refl, refl)
 who_again Ticker = (2, 0, refl, refl)
 who_again (Egress p) = (3, number_of p, refl, ap Egress (port_again p))
 
-how_again : (how : How) → (kind : ℕ) × (n : ℕ) × (how_code how ≡ kind ∷ n ∷ []) × (how_at kind n ≡ how)
+pub how_again : (how : How) → (kind : ℕ) × (n : ℕ) × (how_code how ≡ kind ∷ n ∷ []) × (how_at kind n ≡ how)
 how_again hows.End = (0, 0, refl, refl)
 how_again hows.Quit = (1, 0, refl, refl)
 how_again (hows.Malformed at) = (2, at, refl, refl)
 how_again (hows.Overlong at) = (3, at, refl, refl)
 how_again hows.Failed = (4, 0, refl, refl)
 how_again hows.Unwritten = (5, 0, refl, refl)
-how_again (hows.Full len) = (6, len, refl, refl)
+how_again hows.Paused = (6, 0, refl, refl)
 
 -- the five numbers of an act
 record ActAgain (act : Act) : Type 0 where

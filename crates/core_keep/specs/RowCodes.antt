@@ -1,7 +1,6 @@
 -- A row of the history as numbers: that of its pass, and a list of the others. The numbers of the entry stand in fixed
 -- places in front, and what is kept of octets behind them. `row_at` reads the row again.
 use Rattle.std.specs.Prelude.{ℕ, ◌-◌, ◌==◌, if◌then◌else◌, List, [], ◌∷◌, ◌++◌, Option, Some, None, slice_index_or}
-use Rattle.savi_kinds.specs.declared.port.Port.{Port}
 use Rattle.savi_kinds.specs.declared.entry.Who.{Who}
 use Rattle.savi_kinds.specs.declared.entry.Who.TheVariants.{Ingress, Control, Ticker, Egress}
 use Rattle.savi_kinds.specs.declared.entry.How.{How}
@@ -31,7 +30,7 @@ how_code (hows.Malformed at) = 2 ∷ at ∷ []
 how_code (hows.Overlong at) = 3 ∷ at ∷ []
 how_code hows.Failed = 4 ∷ 0 ∷ []
 how_code hows.Unwritten = 5 ∷ 0 ∷ []
-how_code (hows.Full len) = 6 ∷ len ∷ []
+how_code hows.Paused = 6 ∷ 0 ∷ []
 
 -- five numbers
 abbrev pub act_code : Act → List ℕ
@@ -67,7 +66,7 @@ abbrev pub how_at : ℕ → ℕ → How
 how_at kind number =
     if kind == 0 then hows.End else if kind == 1 then hows.Quit else if kind == 2 then hows.Malformed number
     else if kind == 3 then hows.Overlong number else if kind == 4 then hows.Failed else if kind == 5 then hows.Unwritten
-    else hows.Full number
+    else hows.Paused
 
 abbrev pub act_at : ℕ → ℕ → ℕ → ℕ → ℕ → Act
 act_at kind a b c d =

@@ -38,11 +38,11 @@ impl KeptCore {
 
 impl Kept for KeptCore {
     ghost use Rattle.core_keep.specs.Pasts.{coded};
-    ghost use Rattle.core_keep.specs.PlanCodes.{plan_code};
+    ghost use Rattle.core_keep.specs.BaseCodes.{fixed_code};
 
     ghost history = { λ kept. coded kept.core.value.past };
 
-    ghost fixed = { λ kept. plan_code kept.core.value.plan };
+    ghost fixed = { λ kept. fixed_code kept.core.value.plan kept.core.value.checkpoint };
 
     fn entries(&self) -> u64 {
         self.core.history().len()

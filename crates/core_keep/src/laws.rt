@@ -3,9 +3,11 @@
 ghost use Rattle.std.specs.Prelude.{◌≡◌, ℕ, List, length};
 ghost use Rattle.savi_kinds.specs.declared.plan.Plan.{Plan};
 ghost use Rattle.hist_store.specs.Rows.{Row};
+ghost use Rattle.checkpoint.specs.Columns.{Columns};
 ghost use Rattle.table_lock.specs.Entries.{EntryList, StartsWith, mine};
 ghost use Rattle.core_keep.specs.RowCodes.{row_by_code, row_code};
 ghost use Rattle.core_keep.specs.PlanCodes.{plan_code};
+ghost use Rattle.core_keep.specs.BaseCodes.{fixed_code};
 ghost use Rattle.core_keep.specs.Pasts.{coded, decoded};
 ghost use Rattle.core_keep.specs.Seen.{IsLater};
 
@@ -18,6 +20,12 @@ pub fn a_code_says_one_row()
 /// Law: no two plans have the same code.
 pub fn a_code_says_one_plan()
     ensures { (plan other : Plan) → plan_code plan ≡ plan_code other → plan ≡ other }
+{}
+
+/// Law: no two plans, with the columns of what a history goes on from, have the same code.
+pub fn a_code_says_what_is_fixed()
+    ensures { (plan other : Plan) (columns before : Columns) → fixed_code plan columns ≡ fixed_code other before
+        → (plan ≡ other) × (columns ≡ before) }
 {}
 
 /// Law: a history is read again of its code, which has an entry for each row; so no two histories have the same one.

@@ -2,9 +2,9 @@
 
 ghost use Rattle.std.specs.Prelude.{◌≡◌, true};
 ghost use Rattle.savi_kinds.specs.Ports.{number_of};
-ghost use Rattle.savi_history.specs.Bases.{empty};
 ghost use Rattle.savi_history.specs.Passes.{has_pass, has_port};
 ghost use Rattle.savi_history.specs.Legal.{IsOpen};
+ghost use Rattle.savi_core.specs.Machines.{base_of};
 
 use frame_class::class;
 use savi_core::{Batch, Core, Event, Reply, Stepped};
@@ -84,7 +84,7 @@ pub fn drain(core: &mut Core, port: Port, most: u32, batch: &mut Batch) -> Optio
 
 // Whether a pass is one of the plan's and hasn't ended.
 fn is_open(core: &Core, who: Who) -> bool
-    ensures { result ≡ true → IsOpen core.now.plan empty core.now.past who }
+    ensures { result ≡ true → IsOpen core.now.plan (base_of core.now) core.now.past who }
 {
     has_pass(core.plan(), who) && !core.ended(who)
 }

@@ -91,6 +91,14 @@ impl Pending {
     {
         open_count(self.requests.as_slice(), p, t) as u32
     }
+
+    /// The requests that are kept, the one asked last at the end. O(1).
+    pub fn as_slice(&self) -> &[Request]
+        ensures requests { result.now ≡ self.now }
+        ensures limits { IsWithinLimits self.now }
+    {
+        self.requests.as_slice()
+    }
 }
 
 // How many of these requests were asked at port p and are open at t.

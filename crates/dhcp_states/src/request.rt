@@ -46,8 +46,8 @@ impl Request {
         }
     }
 
-    // Whether the request is open at t.
-    pub(crate) fn is_open(&self, t: Moment) -> bool
+    /// Whether the request is open at moment `t` (ms). O(1).
+    pub fn is_open(&self, t: Moment) -> bool
         ensures { result ≡ is_open t self.now }
     {
         t.saturating_sub(self.opened) < MAX_DHCP_RESPONSE_TIME_MS

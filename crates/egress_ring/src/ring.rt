@@ -62,6 +62,13 @@ impl EgressRing {
         self.buffer.len() as u32
     }
 
+    /// How many items may wait. O(1).
+    pub fn depth(&self) -> u32
+        ensures { result ≡ self.now.depth }
+    {
+        self.buffer.capacity() as u32
+    }
+
     /// Gives up all items. O(n).
     pub fn wipe(&mut self)
         ensures { self.new ≡ nothing_waits self.old.depth }

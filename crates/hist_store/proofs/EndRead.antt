@@ -17,10 +17,6 @@ pub overlong_is : (how : How) (value : ℕ) → IsHowInRange how → value < 2 ^
 overlong_is (hows.Overlong at) value range small e = let text : decimal value ≡ decimal at = cc in ap (λ n. Some (hows.Overlong n)) (decimal_injective value at small range text)
 overlong_is how value range small e = cc
 
-pub full_is : (how : How) (value : ℕ) → IsHowInRange how → value < 2 ^ 64 → how_fields how ≡ codes "full" ∷ decimal value ∷ [] → Some (hows.Full value) ≡ Some how
-full_is (hows.Full at) value range small e = let text : decimal value ≡ decimal at = cc in ap (λ n. Some (hows.Full n)) (decimal_injective value at small range text)
-full_is how value range small e = cc
-
 -- a reason is a word, or a word and a number
 pub record IsSpelled (how : How) : Type 0 where
   pub word : List ℕ
@@ -36,7 +32,7 @@ spelled (hows.Malformed at) range = record { word = codes "malformed"; rest = de
 spelled (hows.Overlong at) range = record { word = codes "overlong"; rest = decimal at ∷ []; is_word = word_of (codes "overlong") refl; fields = refl; either = inr (at, range, refl) }
 spelled hows.Failed range = record { word = codes "failed"; rest = []; is_word = word_of (codes "failed") refl; fields = refl; either = inl refl }
 spelled hows.Unwritten range = record { word = codes "unwritten"; rest = []; is_word = word_of (codes "unwritten") refl; fields = refl; either = inl refl }
-spelled (hows.Full len) range = record { word = codes "full"; rest = decimal len ∷ []; is_word = word_of (codes "full") refl; fields = refl; either = inr (len, range, refl) }
+spelled hows.Paused range = record { word = codes "paused"; rest = []; is_word = word_of (codes "paused") refl; fields = refl; either = inl refl }
 
 -- a text of fields is empty exactly where there is none
 pub some_left : (text : List ℕ) (b : Bool) (field : List ℕ) (fields : List (List ℕ)) → text ≡ spaced (field ∷ fields) → b ≡ (length text == 0) → b ≡ true → ⊥

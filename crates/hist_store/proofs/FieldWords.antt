@@ -101,7 +101,7 @@ words_how (hows.Malformed at) = (word_of (codes "malformed") refl, (word_decimal
 words_how (hows.Overlong at) = (word_of (codes "overlong") refl, (word_decimal at, tt))
 words_how hows.Failed = (word_of (codes "failed") refl, tt)
 words_how hows.Unwritten = (word_of (codes "unwritten") refl, tt)
-words_how (hows.Full len) = (word_of (codes "full") refl, (word_decimal len, tt))
+words_how hows.Paused = (word_of (codes "paused") refl, tt)
 
 pub words_probes : (entry : Entry) → IsWords (decimal entry.probes ∷ decimal entry.lost ∷ [])
 words_probes entry = (word_decimal entry.probes, (word_decimal entry.lost, tt))

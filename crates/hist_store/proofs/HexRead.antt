@@ -29,7 +29,7 @@ agrees_below (suc n) k h lt =
           rw e parts.0
     ]
 
-digit_is : (v : ℕ) → v < 16 → slice_index lower_digits v ≡ hex_digit v
+pub digit_is : (v : ℕ) → v < 16 → slice_index lower_digits v ≡ hex_digit v
 digit_is v low = eqb-true (slice_index lower_digits v) (hex_digit v) (agrees_below 16 v refl low)
 
 -- octets and their digits
@@ -38,10 +38,14 @@ pub encode-none : encode_lower [] ≡ []
 unfolding encode_with
 encode-none = refl
 
+pub encode-append : (xs ys : List ℕ) → encode_lower (xs ++ ys) ≡ encode_lower xs ++ encode_lower ys
+unfolding encode_with
+encode-append [] ys = refl
+encode-append (x ∷ xs) ys = ap (λ t. slice_index lower_digits (x / 16) ∷ slice_index lower_digits (x % 16) ∷ t) (encode-append xs ys)
+
 encode_push : (xs : List ℕ) (b : ℕ) → encode_lower (xs ++ b ∷ []) ≡ encode_lower xs ++ slice_index lower_digits (b / 16) ∷ slice_index lower_digits (b % 16) ∷ []
 unfolding encode_with
-encode_push [] b = refl
-encode_push (x ∷ xs) b = ap (λ t. slice_index lower_digits (x / 16) ∷ slice_index lower_digits (x % 16) ∷ t) (encode_push xs b)
+encode_push xs b = encode-append xs (b ∷ [])
 
 pair_at : (xs : List ℕ) (i : ℕ) → i < length xs → (get_or (encode_lower xs) (2 * i) 0 ≡ slice_index lower_digits (get_or xs i 0 / 16)) × (get_or (encode_lower xs) (2 * i + 1) 0 ≡ slice_index lower_digits (get_or xs i 0 % 16))
 unfolding encode_with

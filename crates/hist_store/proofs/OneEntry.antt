@@ -73,7 +73,9 @@ how_by_text hows.End hows.End p q e = refl
 how_by_text hows.Quit hows.Quit p q e = refl
 how_by_text hows.Failed hows.Failed p q e = refl
 how_by_text hows.Unwritten hows.Unwritten p q e = refl
-how_by_text (hows.Full m) (hows.Full n) p q e = let text : decimal m ≡ decimal n = cc in ap hows.Full (decimal_injective m n p q text)
+how_by_text hows.Paused hows.Paused p q e = refl
+how_by_text hows.Failed hows.Paused p q e = absurd (first_apart (head e) refl)
+how_by_text hows.Paused hows.Failed p q e = absurd (first_apart (head e) refl)
 how_by_text (hows.Malformed m) (hows.Malformed n) p q e = let text : decimal m ≡ decimal n = cc in ap hows.Malformed (decimal_injective m n p q text)
 how_by_text (hows.Overlong m) (hows.Overlong n) p q e = let text : decimal m ≡ decimal n = cc in ap hows.Overlong (decimal_injective m n p q text)
 how_by_text a b p q e = cc

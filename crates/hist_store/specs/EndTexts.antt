@@ -3,7 +3,7 @@ use Rattle.std.specs.Prelude.{ℕ, List, [], ◌∷◌, ◌++◌, codes, decimal
 use Rattle.savi_kinds.specs.declared.entry.Who.{Who}
 use Rattle.savi_kinds.specs.declared.entry.Who.TheVariants.{Ingress, Control, Ticker, Egress}
 use Rattle.savi_kinds.specs.declared.entry.How.{How}
-use Rattle.savi_kinds.specs.declared.entry.How.TheVariants.{End, Quit, Malformed, Overlong, Failed, Unwritten, Full}
+use Rattle.savi_kinds.specs.declared.entry.How.TheVariants.{End, Quit, Malformed, Overlong, Failed, Unwritten, Paused}
 use Rattle.hist_store.specs.PortTexts.{port_text}
 
 abbrev pub who_text : Who → List ℕ
@@ -20,14 +20,14 @@ how_fields (Malformed at) = codes "malformed" ∷ decimal at ∷ []
 how_fields (Overlong at) = codes "overlong" ∷ decimal at ∷ []
 how_fields Failed = codes "failed" ∷ []
 how_fields Unwritten = codes "unwritten" ∷ []
-how_fields (Full len) = codes "full" ∷ decimal len ∷ []
+how_fields Paused = codes "paused" ∷ []
 
 -- the reasons for which an ingress pass may end
 abbrev pub IsIngressReason : How → Type 0
 IsIngressReason End = Unit {0}
 IsIngressReason (Malformed at) = Unit {0}
 IsIngressReason Failed = Unit {0}
-IsIngressReason (Full len) = Unit {0}
+IsIngressReason Paused = Unit {0}
 IsIngressReason Quit = ⊥
 IsIngressReason (Overlong at) = ⊥
 IsIngressReason Unwritten = ⊥
@@ -35,7 +35,7 @@ IsIngressReason Unwritten = ⊥
 -- those of the ticker
 abbrev pub IsTickerReason : How → Type 0
 IsTickerReason End = Unit {0}
-IsTickerReason (Full len) = Unit {0}
+IsTickerReason Paused = Unit {0}
 IsTickerReason Quit = ⊥
 IsTickerReason (Malformed at) = ⊥
 IsTickerReason (Overlong at) = ⊥
@@ -46,11 +46,11 @@ IsTickerReason Unwritten = ⊥
 abbrev pub IsEgressReason : How → Type 0
 IsEgressReason End = Unit {0}
 IsEgressReason Failed = Unit {0}
+IsEgressReason Paused = Unit {0}
 IsEgressReason Quit = ⊥
 IsEgressReason (Malformed at) = ⊥
 IsEgressReason (Overlong at) = ⊥
 IsEgressReason Unwritten = ⊥
-IsEgressReason (Full len) = ⊥
 
 -- a reason for which the pass may end; control may end for each
 abbrev pub IsReasonOf : Who → How → Type 0

@@ -20,7 +20,7 @@ IsHowInRange (hows.Malformed at) = at < 2 ^ 64
 IsHowInRange (hows.Overlong at) = at < 2 ^ 64
 IsHowInRange hows.Failed = Unit {0}
 IsHowInRange hows.Unwritten = Unit {0}
-IsHowInRange (hows.Full len) = len < 2 ^ 64
+IsHowInRange hows.Paused = Unit {0}
 
 -- The numbers of an act. A line doesn't say where octets are kept: 0 stands for that.
 abbrev pub IsActInRange : Act → Type 0

@@ -33,3 +33,7 @@ KeepsOctets (End who how) before octets = octets ≡ []
 -- the history with one more row
 abbrev pub with_row : History → Entry → List ℕ → History
 with_row history entry octets = record history { rows = history.rows ++ record { entry = entry; octets = octets } ∷ [] }
+
+-- the history without its rows; the room stays
+abbrev pub emptied : History → History
+emptied history = record history { rows = [] }

@@ -8,7 +8,7 @@ use crate::pieces::{JournalLine, put_number, put_octets, put_word};
 use crate::port_fields::put_port;
 use savi_kinds::{How, Who};
 
-// Appends a space and a pass.
+/// Appends a space and a pass.
 pub fn put_who(into: &mut JournalLine, who: Who)
     requires { array_vec_len into.old + 8 ≤ 3400 }
     ensures text { into.new.items ≡ into.old.items ++ space ∷ who_text who }
@@ -29,10 +29,11 @@ pub fn put_who(into: &mut JournalLine, who: Who)
     }
 }
 
-// Appends the fields of a reason, each with a space in front.
+/// Appends the fields of a reason, each with a space in front.
 pub fn put_how(into: &mut JournalLine, how: How)
     requires { array_vec_len into.old + 31 ≤ 3400 }
     ensures text { into.new.items ≡ into.old.items ++ spaced (how_fields how) }
+    ensures size { array_vec_len into.new ≤ array_vec_len into.old + 31 }
 {
     match how {
         How::End => put_word(into, "end"),
@@ -41,12 +42,12 @@ pub fn put_how(into: &mut JournalLine, how: How)
         How::Overlong(at) => put_named(into, "overlong", at),
         How::Failed => put_word(into, "failed"),
         How::Unwritten => put_word(into, "unwritten"),
-        How::Full(len) => put_named(into, "full", len),
+        How::Paused => put_word(into, "paused"),
     }
 }
 
 // Appends a word and a number, each with a space in front.
-pub fn put_named(into: &mut JournalLine, name: &str, value: u64)
+fn put_named(into: &mut JournalLine, name: &str, value: u64)
     requires { array_vec_len into.old + 22 + length name.now ≤ 3400 }
     ensures text { into.new.items ≡ into.old.items ++ spaced (name.now ∷ decimal value ∷ []) }
     ensures size { array_vec_len into.new ≤ array_vec_len into.old + 22 + length name.now }

@@ -1,6 +1,6 @@
 ghost use Rattle.std.specs.Prelude.{◌≡◌, ◌+◌, ◌<◌, ◌≤◌, [], ◌∷◌, ◌++◌, length, slice_get, IfOk, IsSomeAnd, vec_capacity, vec_len, All};
 ghost use Rattle.hex.specs.Hex.{IsBytes};
-ghost use Rattle.hist_store.specs.Rows.{held, KeepsOctets, with_row};
+ghost use Rattle.hist_store.specs.Rows.{held, emptied, KeepsOctets, with_row};
 
 use savi_kinds::{Act, Entry};
 use std::alloc::{AllocError, Global};
@@ -54,6 +54,14 @@ impl Hist {
     {
         add_octets(&mut self.octets, octets);
         add_entry(&mut self.entries, e);
+    }
+
+    /// Takes all entries and octets away. The room for them stays: it takes no memory and gives none back. O(n) at most.
+    pub fn clear(&mut self)
+        ensures { self.new ≡ emptied self.old }
+    {
+        self.entries.clear();
+        self.octets.clear();
     }
 
     /// How many entries there are. What is kept of each is octets, none above 255. O(1).

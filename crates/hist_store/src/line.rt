@@ -1,4 +1,4 @@
-ghost use Rattle.std.specs.Prelude.{◌≡◌, ◌+◌, ◌≤◌, ◌++◌, length};
+ghost use Rattle.std.specs.Prelude.{◌≡◌, ◌+◌, ◌<◌, ◌≤◌, ◌++◌, length};
 ghost use Rattle.arrayvec.specs.ArrayVec.{array_vec_len};
 ghost use Rattle.savi_kinds.specs.declared.entry.Act.TheVariants.{Frame};
 ghost use Rattle.hist_store.specs.TextOfLines.{spaced};
@@ -11,14 +11,15 @@ use crate::verdict_fields::put_entry_verdict;
 use savi_kinds::{Act, Entry, Port};
 
 /// Writes the journal's line of the entry with this number, in place of what the buffer held. The line is
-/// without its line feed.
+/// without its line feed, for which there is room.
 ///
 /// The entry has a verdict exactly where it is a frame or a long frame; what its line lacks is empty or 0; an
 /// end has a reason of its kind. A frame and a command have as many octets as their `len` says, which is at most 1,518
 /// for a frame and 120 for a command; every other entry has none. One pass over the octets.
 pub fn put_line(n: u64, e: &Entry, octets: &[u8], into: &mut JournalLine)
     requires { FitsLine (record { entry = e.now; octets = octets.now }) }
-    ensures { into.new.items ≡ line_text n (record { entry = e.now; octets = octets.now }) }
+    ensures text { into.new.items ≡ line_text n (record { entry = e.now; octets = octets.now }) }
+    ensures room { array_vec_len into.new < 3400 }
 {
     into.clear();
     put_decimal(into, n);
@@ -31,7 +32,8 @@ pub fn put_line(n: u64, e: &Entry, octets: &[u8], into: &mut JournalLine)
 fn put_act(into: &mut JournalLine, e: &Entry, octets: &[u8])
     requires room { array_vec_len into.old + 3300 ≤ 3400 }
     requires fits { FitsAct e.now octets.now e.now.act }
-    ensures { into.new.items ≡ into.old.items ++ spaced (act_fields e.now octets.now e.now.act) }
+    ensures text { into.new.items ≡ into.old.items ++ spaced (act_fields e.now octets.now e.now.act) }
+    ensures size { array_vec_len into.new ≤ array_vec_len into.old + 3300 }
 {
     match e.act {
         Act::Frame { port, stamp, .. } => put_frame(into, e, port, stamp, octets),
@@ -71,7 +73,8 @@ fn put_act(into: &mut JournalLine, e: &Entry, octets: &[u8])
 fn put_frame(into: &mut JournalLine, e: &Entry, port: Port, stamp: u64, octets: &[u8])
     requires room { array_vec_len into.old + 3300 ≤ 3400 }
     requires short { length octets.now ≤ 1518 }
-    ensures { into.new.items ≡ into.old.items ++ spaced (act_fields e.now octets.now (Frame port stamp 0 0)) }
+    ensures text { into.new.items ≡ into.old.items ++ spaced (act_fields e.now octets.now (Frame port stamp 0 0)) }
+    ensures size { array_vec_len into.new ≤ array_vec_len into.old + 3300 }
 {
     put_word(into, "F");
     put_port_field(into, port);
@@ -87,6 +90,7 @@ fn put_frame(into: &mut JournalLine, e: &Entry, port: Port, stamp: u64, octets: 
 fn put_probes(into: &mut JournalLine, e: &Entry)
     requires { array_vec_len into.old + 42 ≤ 3400 }
     ensures text { into.new.items ≡ into.old.items ++ spaced (probe_fields e.now) }
+    ensures size { array_vec_len into.new ≤ array_vec_len into.old + 42 }
 {
     put_number(into, u64::from(e.probes));
     put_number(into, u64::from(e.lost));

@@ -1,10 +1,10 @@
-ghost use Rattle.std.specs.Prelude.{◌≡◌, ◌+◌, ◌*◌, ◌≤◌, ◌∷◌, ◌++◌, length, decimal};
+ghost use Rattle.std.specs.Prelude.{◌≡◌, ◌+◌, ◌*◌, ◌<◌, ◌≤◌, ◌∷◌, ◌++◌, length, slice_index, decimal};
 ghost use Rattle.arrayvec.specs.ArrayVec.{array_vec_len};
+ghost use Rattle.hex.specs.Hex.{encode_lower, lower_digits};
 ghost use Rattle.savi_kinds.specs.Characters.{space};
 ghost use Rattle.hist_store.specs.LineTexts.{hex_text};
 
 use arrayvec::ArrayVec;
-use savi_kinds::FRAME_OCTETS_MOST;
 
 /// The most octets of a line of the journal, its line feed aside.
 pub const JOURNAL_LINE_OCTETS: usize = 3_400;
@@ -12,10 +12,10 @@ pub const JOURNAL_LINE_OCTETS: usize = 3_400;
 /// A buffer for a line of the journal, or for its header, which is shorter than the longest line.
 pub type JournalLine = ArrayVec<u8, JOURNAL_LINE_OCTETS>;
 
-// The most digits of a frame's octets.
-const HEX_DIGITS_MOST: usize = 2 * FRAME_OCTETS_MOST;
+// How many octets are turned into digits at a time. A buffer for the digits of a whole frame would be blanked for each line.
+const PIECE_OCTETS: usize = 64;
 
-// Appends these octets.
+/// Appends these octets.
 pub fn put_octets(into: &mut JournalLine, octets: &[u8])
     requires { array_vec_len into.old + length octets.now ≤ 3400 }
     ensures text { into.new.items ≡ into.old.items ++ octets.now }
@@ -27,17 +27,22 @@ pub fn put_octets(into: &mut JournalLine, octets: &[u8])
     }
 }
 
-// Appends a number.
+/// Appends a number.
 pub fn put_decimal(into: &mut JournalLine, n: u64)
     requires { array_vec_len into.old + length (decimal n) ≤ 3400 }
     ensures text { into.new.items ≡ into.old.items ++ decimal n }
     ensures size { array_vec_len into.new ≡ array_vec_len into.old + length (decimal n) }
 {
+    // Most numbers of a line have one digit.
+    if n < 10 {
+        into.push(b'0' + n as u8);
+        return;
+    }
     let mut digits = itoa::Buffer::new();
     put_octets(into, digits.format(n).as_bytes());
 }
 
-// Appends a space and a number, which has at most 20 digits.
+/// Appends a space and a number, which has at most 20 digits.
 pub fn put_number(into: &mut JournalLine, n: u64)
     requires { array_vec_len into.old + 21 ≤ 3400 }
     ensures text { into.new.items ≡ into.old.items ++ space ∷ decimal n }
@@ -47,7 +52,7 @@ pub fn put_number(into: &mut JournalLine, n: u64)
     put_decimal(into, n);
 }
 
-// Appends a space and a word.
+/// Appends a space and a word.
 pub fn put_word(into: &mut JournalLine, word: &str)
     requires { array_vec_len into.old + 1 + length word.now ≤ 3400 }
     ensures text { into.new.items ≡ into.old.items ++ space ∷ word.now }
@@ -57,7 +62,7 @@ pub fn put_word(into: &mut JournalLine, word: &str)
     put_octets(into, word.as_bytes());
 }
 
-// Appends a space and the digits of these octets.
+/// Appends a space and the digits of these octets, or `-` where there are none. O(n).
 pub fn put_hex(into: &mut JournalLine, octets: &[u8])
     requires short { length octets.now ≤ 1518 }
     requires room { array_vec_len into.old + 2 + 2 * length octets.now ≤ 3400 }
@@ -69,10 +74,41 @@ pub fn put_hex(into: &mut JournalLine, octets: &[u8])
         into.push(b'-');
         return;
     }
-    let mut digits = [0; HEX_DIGITS_MOST];
-    let digits = &mut digits[..2 * octets.len()];
-    match hex::encode_to_slice(octets, digits) {
-        Ok(()) => put_octets(into, digits),
-        Err(_) => unreachable!(),
+    for piece in octets.chunks(PIECE_OCTETS) {
+        put_digits(into, piece);
     }
+}
+
+// Appends the digits of these octets.
+fn put_digits(into: &mut JournalLine, octets: &[u8])
+    requires short { length octets.now ≤ 64 }
+    requires room { array_vec_len into.old + 2 * length octets.now ≤ 3400 }
+    ensures text { into.new.items ≡ into.old.items ++ encode_lower octets.now }
+    ensures size { array_vec_len into.new ≡ array_vec_len into.old + 2 * length octets.now }
+{
+    let mut digits = [0; 2 * PIECE_OCTETS];
+    let digits = &mut digits[..2 * octets.len()];
+    write_digits(octets, digits);
+    put_octets(into, digits);
+}
+
+// Writes the two digits of each octet. They are computed and not looked up, so that a compiler may make many at a time.
+fn write_digits(octets: &[u8], digits: &mut [u8])
+    requires { length digits.old ≡ 2 * length octets.now }
+    ensures { digits.new ≡ encode_lower octets.now }
+{
+    for i in 0..octets.len() {
+        let high = digit_of(octets[i] >> 4);
+        let low = digit_of(octets[i] & 0x0f);
+        digits[2 * i] = high;
+        digits[2 * i + 1] = low;
+    }
+}
+
+// The digit of a value below 16.
+fn digit_of(value: u8) -> u8
+    requires { value < 16 }
+    ensures { result ≡ slice_index lower_digits value }
+{
+    if value < 10 { value + 48 } else { value + 87 }
 }

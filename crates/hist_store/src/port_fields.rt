@@ -9,7 +9,7 @@ ghost use Rattle.hist_store.specs.PortTexts.{port_text, members_text};
 use crate::pieces::{JournalLine, put_decimal};
 use savi_kinds::{PORTS_MOST, Port, PortSet};
 
-// Appends a space and a port's number.
+/// Appends a space and a port's number.
 pub fn put_port_field(into: &mut JournalLine, port: Port)
     requires { array_vec_len into.old + 3 ≤ 3400 }
     ensures text { into.new.items ≡ into.old.items ++ space ∷ port_text port }
@@ -19,7 +19,7 @@ pub fn put_port_field(into: &mut JournalLine, port: Port)
     put_port(into, port);
 }
 
-// Appends a port's number, which has at most two digits.
+/// Appends a port's number, which has at most two digits.
 pub fn put_port(into: &mut JournalLine, port: Port)
     requires { array_vec_len into.old + 2 ≤ 3400 }
     ensures text { into.new.items ≡ into.old.items ++ port_text port }
@@ -28,8 +28,8 @@ pub fn put_port(into: &mut JournalLine, port: Port)
     put_decimal(into, u64::from(port.get()));
 }
 
-// Appends a space and the members of a set: at most 39 octets, as nine members have one digit. The bound that is proved
-// is 49, as if each of the 16 members had a comma and two digits.
+/// Appends a space and the members of a set: at most 39 octets, as nine members have one digit. The bound that is proved
+/// is 49, as if each of the 16 members had a comma and two digits.
 pub fn put_ports(into: &mut JournalLine, set: PortSet)
     requires { array_vec_len into.old + 49 ≤ 3400 }
     ensures text { into.new.items ≡ into.old.items ++ space ∷ members_text set }

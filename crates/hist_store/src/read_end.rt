@@ -65,6 +65,8 @@ fn read_reason(word: &[u8]) -> Option<How>
         Some(How::Failed)
     } else if is_word(word, "unwritten") {
         Some(How::Unwritten)
+    } else if is_word(word, "paused") {
+        Some(How::Paused)
     } else {
         None
     }
@@ -80,8 +82,6 @@ fn reason_with(word: &[u8], value: u64) -> Option<How>
         Some(How::Malformed(value))
     } else if is_word(word, "overlong") {
         Some(How::Overlong(value))
-    } else if is_word(word, "full") {
-        Some(How::Full(value))
     } else {
         None
     }
@@ -94,10 +94,10 @@ pub fn is_reason_of(who: Who, how: How) -> bool
     match who {
         Who::Ingress(_) => matches!(
             how,
-            How::End | How::Malformed(_) | How::Failed | How::Full(_)
+            How::End | How::Malformed(_) | How::Failed | How::Paused
         ),
         Who::Control => true,
-        Who::Ticker => matches!(how, How::End | How::Full(_)),
-        Who::Egress(_) => matches!(how, How::End | How::Failed),
+        Who::Ticker => matches!(how, How::End | How::Paused),
+        Who::Egress(_) => matches!(how, How::End | How::Failed | How::Paused),
     }
 }

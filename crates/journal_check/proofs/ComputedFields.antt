@@ -28,7 +28,7 @@ use Rattle.savi_access.specs.Plans.{rules_of}
 use Rattle.savi_access.proofs.States.{told_past, told_before}
 use Rattle.hist_store.specs.Rows.{Row}
 use Rattle.savi_history.specs.Accesses.{IsTold}
-use Rattle.savi_history.specs.Bases.{access_of, empty}
+use Rattle.checkpoint.specs.Bases.{access_of, empty}
 use Rattle.savi_history.specs.Passes.{has_pass, pass_of}
 use Rattle.savi_history.specs.Moments.{last_moment, moment_at}
 use Rattle.savi_history.specs.Vlans.{the_vlan}

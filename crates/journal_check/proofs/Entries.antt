@@ -11,7 +11,7 @@ use Rattle.hist_store.specs.JournalTexts.{journal_end_line, journal_end_text}
 use Rattle.hist_store.proofs.Words.{Avoids, parted}
 use Rattle.savi_ends.specs.Octets.{in_front}
 use Rattle.savi_ends.proofs.Octets.{in_front_again}
-use Rattle.savi_history.specs.Bases.{empty}
+use Rattle.checkpoint.specs.Bases.{Base, empty}
 use Rattle.savi_history.specs.Legal.{IsLegal, IsFinished}
 use Rattle.savi_history.proofs.Fields.{lines_end}
 use Rattle.savi_history.proofs.Telling.{AreOctets}
@@ -19,7 +19,7 @@ use Rattle.journal_check.specs.declared.answer.Checked.{Checked}
 use Rattle.journal_check.specs.declared.answer.Checked.TheVariants.{Good, Wrong, BadLine, Failed, NoMemory}
 use Rattle.journal_check.specs.Feeds.{HasNoFeed, BeginsWithNoLine}
 use Rattle.journal_check.specs.Headers.{IsPlan}
-use Rattle.savi_core.specs.Machines.{Machine}
+use Rattle.savi_core.specs.Machines.{Machine, base_of}
 use Rattle.journal_check.specs.declared.turns.Turn.TheVariants as turns
 use Rattle.journal_check.specs.Turns.{SaysNext, SaysWrong, SaysNothing, MadeTurn}
 use Rattle.journal_check.specs.Answers.{past_text, IsAnswerTo, HasNoLine, Ends, IfRead, IsAnswerBehind, next_line}
@@ -54,7 +54,7 @@ fed_opened line rest = append_assoc line (10 ∷ []) rest
 line_is : (n : ℕ) (line : List ℕ) (row : Row) → SaysEntry line n (row_said row) → line ≡ line_text n row
 line_is n line row says = says.text ∙ sym (ap joined (fields_said n row))
 
-pub told_more : (plan : Plan) (past : List Row) (line : List ℕ) (row : Row) (whole before after : Option (List ℕ)) → SaysNext plan past line row
+pub told_more : (plan : Plan) (past : List Row) (line : List ℕ) (row : Row) (whole before after : Option (List ℕ)) → SaysNext plan empty past line row
     → whole ≡ in_front (past_text plan past) before → before ≡ in_front (line ++ 10 ∷ []) after → whole ≡ in_front (past_text plan (row ∷ past)) after
 told_more plan past line row whole before after next told taken =
     let text = past_text plan past in
@@ -66,18 +66,20 @@ told_more plan past line row whole before after next told taken =
 -- what is kept behind one more row
 pub record IsKept (old new : Machine) (whole after : Option (List ℕ)) : Type 0 where
   pub plan : new.plan ≡ old.plan
+  pub base : base_of new ≡ empty
   pub legal : IsLegal new.plan empty new.past
   pub bytes : AreOctets new.past
   pub told : whole ≡ in_front (past_text new.plan new.past) after
   pub size : length new.past ≡ length old.past + 1
 
-pub kept_more : (old new : Machine) (line : List ℕ) (whole before after : Option (List ℕ)) → IsLegal old.plan empty old.past → AreOctets old.past
+pub kept_more : (old new : Machine) (line : List ℕ) (whole before after : Option (List ℕ)) → base_of old ≡ empty → IsLegal old.plan empty old.past → AreOctets old.past
     → whole ≡ in_front (past_text old.plan old.past) before → before ≡ in_front (line ++ 10 ∷ []) after → MadeTurn old line new turns.Stands → IsKept old new whole after
-kept_more old new line whole before after legal bytes told taken turned =
+kept_more old new line whole before after start legal bytes told taken turned =
     let row = turned.0 in
-    let next = turned.1 in
+    let next : SaysNext old.plan empty old.past line row = subst (λ (base : Base). SaysNext old.plan base old.past line row) start turned.1 in
     subst (λ (m : Machine). IsKept old m whole after) (sym turned.2) (record {
       plan = refl;
+      base = start;
       legal = (next.stands, legal);
       bytes = All-cons (λ (r : Row). IsBytes r.octets) row old.past next.says.octets bytes;
       told = told_more old.plan old.past line row whole before after next told taken;
@@ -101,12 +103,12 @@ begun plan past line before (Some rest) a taken judges =
     rw taken (subst (λ (t : List ℕ). IsAnswerTo plan past t a) (sym (fed_opened line rest)) (judges rest refl))
 
 pub judged_wrong : (plan : Plan) (past : List Row) (line : List ℕ) (before after : Option (List ℕ)) (entry : ℕ) (want have : List ℕ) → before ≡ in_front (line ++ 10 ∷ []) after
-    → entry ≡ length past → SaysWrong plan past line want have → IfSome before (λ rest. IsAnswerTo plan past rest (Wrong entry want have))
+    → entry ≡ length past → SaysWrong plan empty past line want have → IfSome before (λ rest. IsAnswerTo plan past rest (Wrong entry want have))
 judged_wrong plan past line before after entry want have taken number wrong =
     begun plan past line before after (Wrong entry want have) taken
     (λ rest is. (number, record { line = line; row = wrong.row; more = rest; says = wrong.says; text = refl; differs = wrong.differs }))
 
-no_line : (plan : Plan) (past : List Row) (line rest : List ℕ) → HasNoFeed line → SaysNothing plan past line → HasNoLine plan past (line ++ 10 ∷ rest)
+no_line : (plan : Plan) (past : List Row) (line rest : List ℕ) → HasNoFeed line → SaysNothing plan empty past line → HasNoLine plan past (line ++ 10 ∷ rest)
 no_line plan past line rest plain nothing = record {
   entry = λ other row more says e.
       let parts = parted 10 line other rest more (avoids_plain line plain) (says_avoids other (length past) row says) e in
@@ -116,7 +118,7 @@ no_line plan past line rest plain nothing = record {
       nothing.last finished parts.0;
 }
 
-pub judged_bad : (plan : Plan) (past : List Row) (line : List ℕ) (before after : Option (List ℕ)) → before ≡ in_front (line ++ 10 ∷ []) after → HasNoFeed line → SaysNothing plan past line
+pub judged_bad : (plan : Plan) (past : List Row) (line : List ℕ) (before after : Option (List ℕ)) → before ≡ in_front (line ++ 10 ∷ []) after → HasNoFeed line → SaysNothing plan empty past line
     → IfSome before (λ rest. IsAnswerTo plan past rest (BadLine (next_line plan past)))
 judged_bad plan past line before after taken plain nothing =
     begun plan past line before after (BadLine (next_line plan past)) taken (λ rest is. inl (refl, no_line plan past line rest plain nothing))

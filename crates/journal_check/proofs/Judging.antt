@@ -10,9 +10,9 @@ use Rattle.hist_store.specs.EntryLines.{IsActInRange, SaysEntry, act_said, entry
 use Rattle.hist_store.specs.JournalTexts.{journal_end_text}
 use Rattle.hist_store.proofs.EntryRead.{entry_same}
 use Rattle.hist_store.proofs.OneEntry.{one_entry}
-use Rattle.savi_history.specs.Bases.{Base, empty}
+use Rattle.checkpoint.specs.Bases.{Base}
 use Rattle.savi_history.specs.Events.{row_of}
-use Rattle.savi_core.specs.Machines.{Machine}
+use Rattle.savi_core.specs.Machines.{Machine, base_of}
 use Rattle.savi_core.specs.Steps.{entry_of}
 use Rattle.journal_check.specs.declared.putting.Put.TheVariants.{Entered, Never, Other}
 use Rattle.journal_check.specs.declared.turns.Turn.TheVariants as turns
@@ -23,8 +23,8 @@ use Rattle.journal_check.proofs.ShortFields.{the_row}
 use Rattle.journal_check.proofs.OneAnswer.{entry_not_last}
 
 -- a line of an entry with another number
-pub other_number : (plan : Plan) (past : List Row) (line : List ℕ) (n : ℕ) (row : Row) → SaysEntry line n row → n ≢ length past → SaysNothing plan past line
-other_number plan past line n row says other = record {
+pub other_number : (plan : Plan) (base : Base) (past : List Row) (line : List ℕ) (n : ℕ) (row : Row) → SaysEntry line n row → n ≢ length past → SaysNothing plan base past line
+other_number plan base past line n row says other = record {
   entry = λ row' says'. other (one_entry line n (length past) row row' says says').0;
   last = λ finished e. entry_not_last line n (length past) row [] [] says (ap (λ (l : List ℕ). l ++ 10 ∷ []) e ∙ sym (append-nil (journal_end_text (length past))));
 }
@@ -48,11 +48,11 @@ octets_row plan base past entry octets (acts.Drain port count) fits = sym fits.3
 octets_row plan base past entry octets (acts.End who how) fits = sym fits.3
 
 row_is : (m : Machine) (entry : Entry) (octets : List ℕ) (line : List ℕ) → SaysEntry line (length m.past) (the_row entry octets) → IsSameComputed (entry_of m (event_by entry.act octets)) entry
-    → row_said (row_of m.plan empty m.past (event_by entry.act octets)) ≡ the_row entry octets
+    → row_said (row_of m.plan (base_of m) m.past (event_by entry.act octets)) ≡ the_row entry octets
 row_is m entry octets line says same =
-    let row = row_of m.plan empty m.past (event_by entry.act octets) in
-    let act = act_row m.plan empty m.past entry octets entry.act says.numbers.act says.fits in
-    let kept = octets_row m.plan empty m.past entry octets entry.act says.fits in
+    let row = row_of m.plan (base_of m) m.past (event_by entry.act octets) in
+    let act = act_row m.plan (base_of m) m.past entry octets entry.act says.numbers.act says.fits in
+    let kept = octets_row m.plan (base_of m) m.past entry octets entry.act says.fits in
     let whole : entry_said row.entry ≡ entry = entry_same (entry_said row.entry) entry same.by same.moment act same.verdict same.queued.outs same.queued.cuts same.queued.probes same.queued.lost in
     ap₂ the_row whole kept
 
@@ -60,7 +60,7 @@ pub judged_stands : (m new : Machine) (line : List ℕ) (entry want : Entry) (oc
     → Puts m (event_by entry.act octets) new (Entered want) → IsSameComputed want entry → MadeTurn m line new turns.Stands
 judged_stands m new line entry want octets says put same =
     let event = event_by entry.act octets in
-    let row = row_of m.plan empty m.past event in
+    let row = row_of m.plan (base_of m) m.past event in
     let computed : IsSameComputed (entry_of m event) entry = subst (λ (e : Entry). IsSameComputed e entry) put.2 same in
     let is = row_is m entry octets line says computed in
     (row, record { stands = (event, put.0, refl); says = subst (λ (r : Row). SaysEntry line (length m.past) r) (sym is) says }, put.1)
@@ -77,18 +77,18 @@ row_fits plan base past entry octets (acts.End who how) fits = (refl, (refl, ref
 
 -- the entry that was entered fits its line, and has the act that the line says
 pub entered_fits : (m new : Machine) (entry want : Entry) (octets : List ℕ) → FitsAct entry octets entry.act → Puts m (event_by entry.act octets) new (Entered want) → FitsLine (the_row want octets)
-entered_fits m new entry want octets fits put = subst (λ (e : Entry). FitsLine (the_row e octets)) (sym put.2) (row_fits m.plan empty m.past entry octets entry.act fits)
+entered_fits m new entry want octets fits put = subst (λ (e : Entry). FitsLine (the_row e octets)) (sym put.2) (row_fits m.plan (base_of m) m.past entry octets entry.act fits)
 
 pub entered_act : (m new : Machine) (entry want : Entry) (octets : List ℕ) → IsActInRange entry.act → FitsAct entry octets entry.act → Puts m (event_by entry.act octets) new (Entered want) → act_said want.act ≡ entry.act
-entered_act m new entry want octets range fits put = ap (λ (e : Entry). act_said e.act) put.2 ∙ act_row m.plan empty m.past entry octets entry.act range fits
+entered_act m new entry want octets range fits put = ap (λ (e : Entry). act_said e.act) put.2 ∙ act_row m.plan (base_of m) m.past entry octets entry.act range fits
 
 -- an entry that differs from the one that was entered
 pub judged_apart : (m new : Machine) (line : List ℕ) (entry want : Entry) (octets a b : List ℕ) → SaysEntry line (length m.past) (the_row entry octets) → Puts m (event_by entry.act octets) new (Entered want)
-    → first_apart (line_fields (length m.past) (the_row want octets)) (line_fields (length m.past) (the_row entry octets)) ≡ Some (a, b) → SaysWrong m.plan m.past line a b
+    → first_apart (line_fields (length m.past) (the_row want octets)) (line_fields (length m.past) (the_row entry octets)) ≡ Some (a, b) → SaysWrong m.plan (base_of m) m.past line a b
 judged_apart m new line entry want octets a b says put apart =
     let event = event_by entry.act octets in
     let n = length m.past in
-    let row : row_of m.plan empty m.past event ≡ the_row want octets = ap₂ the_row (sym put.2) (octets_row m.plan empty m.past entry octets entry.act says.fits) in
+    let row : row_of m.plan (base_of m) m.past event ≡ the_row want octets = ap₂ the_row (sym put.2) (octets_row m.plan (base_of m) m.past entry octets entry.act says.fits) in
     record {
       row = the_row entry octets;
       says = says;
@@ -97,12 +97,12 @@ judged_apart m new line entry want octets a b says put apart =
 
 -- an entry of an event that may not come
 pub judged_never : (m new : Machine) (line : List ℕ) (entry : Entry) (octets a b : List ℕ) → SaysEntry line (length m.past) (the_row entry octets) → Puts m (event_by entry.act octets) new Never
-    → a ≡ codes "none" → b ≡ letter_of entry.act → SaysWrong m.plan m.past line a b
+    → a ≡ codes "none" → b ≡ letter_of entry.act → SaysWrong m.plan (base_of m) m.past line a b
 judged_never m new line entry octets a b says put none letter =
     record { row = the_row entry octets; says = says; differs = inl (record { never = put.0; no_number = put.1; want_none = none; have_letter = letter }) }
 
 -- an entry of an event that may come with another number
 pub judged_other : (m new : Machine) (line : List ℕ) (entry : Entry) (octets a b : List ℕ) (want have : ℕ) → SaysEntry line (length m.past) (the_row entry octets) → Puts m (event_by entry.act octets) new (Other want have)
-    → a ≡ decimal want → b ≡ decimal have → SaysWrong m.plan m.past line a b
+    → a ≡ decimal want → b ≡ decimal have → SaysWrong m.plan (base_of m) m.past line a b
 judged_other m new line entry octets a b want have says put wants haves =
     record { row = the_row entry octets; says = says; differs = inr (inl (record { wanted = want; given = have; wants = put.0; want_number = wants; have_number = haves })) }

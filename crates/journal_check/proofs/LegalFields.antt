@@ -17,7 +17,7 @@ use Rattle.hist_store.specs.Rows.{Row}
 use Rattle.hist_store.specs.LineTexts.{FitsLine}
 use Rattle.hist_store.specs.EntryLines.{IsHowInRange, IsInRange, entry_said}
 use Rattle.hist_store.proofs.OneEntry.{written_says}
-use Rattle.savi_history.specs.Bases.{empty}
+use Rattle.checkpoint.specs.Bases.{empty}
 use Rattle.savi_history.specs.Moments.{last_moment}
 use Rattle.savi_history.specs.Queues.{is_closed}
 use Rattle.savi_history.specs.Events.{Event, Frame, Long, Command, Tick, Drain, End, row_of, outs_of, frame_act, command_act}
@@ -32,23 +32,20 @@ use Rattle.journal_check.proofs.ComputedFields.{pass_fits, set_fits, probes_fit,
 
 -- the number of a reason
 
-how_fits : (plan : Plan) (past : List Row) (how : How) (who : Who) → length past < 2 ^ 64 → MayEnd plan empty past who how → IsHowInRange how
-how_fits plan past hows.End who few may = tt
-how_fits plan past hows.Quit who few may = tt
-how_fits plan past hows.Failed who few may = tt
-how_fits plan past hows.Unwritten who few may = tt
-how_fits plan past (hows.Malformed at) (passes.Ingress port) few may = may
-how_fits plan past (hows.Malformed at) passes.Control few may = may
-how_fits plan past (hows.Malformed at) passes.Ticker few may = absurd may
-how_fits plan past (hows.Malformed at) (passes.Egress port) few may = absurd may
-how_fits plan past (hows.Overlong at) (passes.Ingress port) few may = absurd may
-how_fits plan past (hows.Overlong at) passes.Control few may = may
-how_fits plan past (hows.Overlong at) passes.Ticker few may = absurd may
-how_fits plan past (hows.Overlong at) (passes.Egress port) few may = absurd may
-how_fits plan past (hows.Full len) (passes.Ingress port) few may = let low : len < 2 ^ 64 = omega (arith, few, may.all) in low
-how_fits plan past (hows.Full len) passes.Control few may = let low : len < 2 ^ 64 = omega (arith, few, may.all) in low
-how_fits plan past (hows.Full len) passes.Ticker few may = let low : len < 2 ^ 64 = omega (arith, few, may.all) in low
-how_fits plan past (hows.Full len) (passes.Egress port) few may = absurd may
+how_fits : (plan : Plan) (past : List Row) (how : How) (who : Who) → MayEnd plan empty past who how → IsHowInRange how
+how_fits plan past hows.End who may = tt
+how_fits plan past hows.Quit who may = tt
+how_fits plan past hows.Failed who may = tt
+how_fits plan past hows.Unwritten who may = tt
+how_fits plan past hows.Paused who may = tt
+how_fits plan past (hows.Malformed at) (passes.Ingress port) may = may
+how_fits plan past (hows.Malformed at) passes.Control may = may
+how_fits plan past (hows.Malformed at) passes.Ticker may = absurd may
+how_fits plan past (hows.Malformed at) (passes.Egress port) may = absurd may
+how_fits plan past (hows.Overlong at) (passes.Ingress port) may = absurd may
+how_fits plan past (hows.Overlong at) passes.Control may = may
+how_fits plan past (hows.Overlong at) passes.Ticker may = absurd may
+how_fits plan past (hows.Overlong at) (passes.Egress port) may = absurd may
 
 module _ (plan : Plan) (valid : IsValidPlan plan) (past : List Row) (legal : IsLegal plan empty past) (octets_are : AreOctets past) where
   number_fits : length past < 2 ^ 64
@@ -116,7 +113,7 @@ module _ (plan : Plan) (valid : IsValidPlan plan) (past : List Row) (legal : IsL
   in_range (End who how) may = record {
     by = pass_fits plan who valid may.0.known;
     moment = moment_fits (End who how) may;
-    act = how_fits plan past how who number_fits may.1;
+    act = how_fits plan past how who may.1;
     outs = omega arith;
     cuts = omega arith;
     probes = omega arith;

@@ -18,14 +18,14 @@ use Rattle.savi_access.specs.Probes.{HasChanged}
 use Rattle.savi_access.specs.Rules.{AccessRules}
 use Rattle.savi_access.specs.Marks.{Mark, told}
 use Rattle.savi_access.specs.Plans.{rules_of}
-use Rattle.savi_history.specs.Bases.{Base, access_of, empty}
+use Rattle.checkpoint.specs.Bases.{Base, access_of, empty}
 use Rattle.savi_history.specs.Vlans.{the_vlan}
 use Rattle.savi_history.specs.Passes.{has_pass, pass_of, has_ended, AllEnded}
 use Rattle.savi_history.specs.Moments.{last_moment, moment_at}
 use Rattle.savi_history.specs.Marks.{marks}
 use Rattle.savi_history.specs.Events.{Event, Frame, Long, Command, Tick, Drain, End}
 use Rattle.savi_history.specs.Queues.{Item}
-use Rattle.savi_history.specs.Legal.{IsOpen, IsFull, IsFinished, IsLegal, MayArrive, MayTick, MayEnd, MayCome}
+use Rattle.savi_history.specs.Legal.{IsOpen, InputsEnded, HasNothingToSend, IsFinished, IsLegal, MayArrive, MayTick, MayEnd, MayCome}
 use Rattle.savi_history.specs.Journals.{without_names, without_port_names}
 use Rattle.savi_history.proofs.WithoutNames.{numbers_kept, count_kept, rules_kept, marks_kept, queue_kept, row_kept}
 use Rattle.journal_check.specs.Headers.{LineFields}
@@ -56,9 +56,6 @@ module _ (plan : Plan) (base : Base) (past : List Row) where
     running = ap (λ (pass : ℕ). has_ended base pass past) (pass_kept who) ∙ is.running;
   }
 
-  full_kept : (len : ℕ) → IsFull plan past len → IsFull bare past len
-  full_kept len is = record { no_room = is.no_room; all = is.all }
-
   arrive_kept : (port : Port) (stamp : ℕ) → MayArrive plan base past port stamp → MayArrive bare base past port stamp
   arrive_kept port stamp may = record { open_pass = open_kept (Ingress port) may.open_pass; room = may.room; fits = may.fits }
 
@@ -75,6 +72,15 @@ module _ (plan : Plan) (base : Base) (past : List Row) where
             (subst (λ (all : List Mark). HasChanged (rules_of plan).addresses addresses (told all) at moment the_vlan) (sym (marks_kept plan base past)) may.changed);
       }
 
+  inputs_kept : InputsEnded plan base past → InputsEnded bare base past
+  inputs_kept all = subst (λ (n : ℕ). AllEnded base (n + 1) past) (sym (count_kept plan.ports)) all
+
+  quiet_kept : (number : ℕ) → HasNothingToSend plan base past number → HasNothingToSend bare base past number
+  quiet_kept number quiet = (
+    subst (λ (n : ℕ). AllEnded base (n + 1 + 1) past) (sym (count_kept plan.ports)) quiet.0,
+    queue_kept plan base number past ∙ quiet.1,
+  )
+
   end_kept : (who : Who) (how : How) → MayEnd plan base past who how → MayEnd bare base past who how
   end_kept (Ingress port) hows.End may = may
   end_kept (Ingress port) hows.Quit may = may
@@ -82,31 +88,28 @@ module _ (plan : Plan) (base : Base) (past : List Row) where
   end_kept (Ingress port) (hows.Overlong at) may = may
   end_kept (Ingress port) hows.Failed may = may
   end_kept (Ingress port) hows.Unwritten may = may
-  end_kept (Ingress port) (hows.Full len) may = full_kept len may
+  end_kept (Ingress port) hows.Paused may = may
   end_kept Control hows.End may = may
   end_kept Control hows.Quit may = may
   end_kept Control (hows.Malformed at) may = may
   end_kept Control (hows.Overlong at) may = may
   end_kept Control hows.Failed may = may
   end_kept Control hows.Unwritten may = may
-  end_kept Control (hows.Full len) may = full_kept len may
-  end_kept Ticker hows.End may = subst (λ (n : ℕ). AllEnded base (n + 1) past) (sym (count_kept plan.ports)) may
+  end_kept Control hows.Paused may = may
+  end_kept Ticker hows.End may = (inputs_kept may.0, may.1)
   end_kept Ticker hows.Quit may = may
   end_kept Ticker (hows.Malformed at) may = may
   end_kept Ticker (hows.Overlong at) may = may
   end_kept Ticker hows.Failed may = may
   end_kept Ticker hows.Unwritten may = may
-  end_kept Ticker (hows.Full len) may = full_kept len may
-  end_kept (Egress port) hows.End may = (
-    subst (λ (n : ℕ). AllEnded base (n + 1 + 1) past) (sym (count_kept plan.ports)) may.0,
-    queue_kept plan base (number_of port) past ∙ may.1,
-  )
+  end_kept Ticker hows.Paused may = (inputs_kept may.0, may.1)
+  end_kept (Egress port) hows.End may = (quiet_kept (number_of port) may.0, may.1)
   end_kept (Egress port) hows.Quit may = may
   end_kept (Egress port) (hows.Malformed at) may = may
   end_kept (Egress port) (hows.Overlong at) may = may
   end_kept (Egress port) hows.Failed may = may
   end_kept (Egress port) hows.Unwritten may = may
-  end_kept (Egress port) (hows.Full len) may = may
+  end_kept (Egress port) hows.Paused may = (quiet_kept (number_of port) may.0, may.1)
 
   may_kept : (event : Event) → MayCome plan base past event → MayCome bare base past event
   may_kept (Frame port stamp octets) may = (arrive_kept port stamp may.0, may.1)

@@ -9,7 +9,7 @@ use Rattle.hist_store.specs.JournalTexts.{journal_end_line, journal_end_text}
 use Rattle.hist_store.proofs.Words.{Avoids, parted, joined_same}
 use Rattle.hist_store.proofs.FieldWords.{line_row}
 use Rattle.hist_store.proofs.OneEntry.{one_entry}
-use Rattle.savi_history.specs.Bases.{empty}
+use Rattle.checkpoint.specs.Bases.{empty}
 use Rattle.savi_history.specs.Legal.{Stands}
 use Rattle.savi_history.proofs.Fields.{lines_end}
 use Rattle.journal_check.specs.declared.answer.Checked.{Checked}
@@ -59,7 +59,7 @@ wrong_same m n want have want' have' number wants haves =
 wrong_once : (plan : Plan) (past : List Row) (rest want have want' have' : List ℕ) → HasWrong plan past rest want have → HasWrong plan past rest want' have' → (want ≡ want') × (have ≡ have')
 wrong_once plan past rest want have want' have' a b =
     let rows = entry_once a.line b.line (length past) a.row b.row a.more b.more a.says b.says (sym a.text ∙ b.text) in
-    differs_same plan past a.row want have want' have' a.differs (subst (λ (r : Row). Differs plan past r want' have') (sym rows.0) b.differs)
+    differs_same plan past a.row want have want' have' a.differs (subst (λ (r : Row). Differs plan empty past r want' have') (sym rows.0) b.differs)
 
 pub judge_once : (plan : Plan) (past : List Row) (rest : List ℕ) (a b : Checked) → IsAnswerTo plan past rest a → IsAnswerTo plan past rest b → a ≡ b
 judge_once plan past rest (Good m) (Good n) a b = ap Good (a.0 ∙ sym b.0)

@@ -5,13 +5,10 @@ use Rattle.std.specs.Cmp.Lexicographic.{bytes_decides}
 use Rattle.savi_kinds.specs.declared.plan.Plan.{Plan}
 use Rattle.savi_kinds.specs.declared.entry.Act.{Act}
 use Rattle.savi_kinds.specs.declared.entry.Act.TheVariants as acts
-use Rattle.savi_kinds.specs.declared.entry.Who.{Who}
-use Rattle.savi_kinds.specs.declared.entry.Who.TheVariants as passes
-use Rattle.savi_kinds.specs.declared.entry.How.TheVariants as hows
 use Rattle.hist_store.specs.Rows.{Row}
 use Rattle.hist_store.specs.LineTexts.{line_fields}
 use Rattle.hist_store.specs.EntryLines.{act_said, row_said}
-use Rattle.savi_history.specs.Bases.{Base, empty}
+use Rattle.checkpoint.specs.Bases.{Base, empty}
 use Rattle.savi_history.specs.Events.{Event, Frame, Long, Command, Tick, Drain, End, row_of}
 use Rattle.savi_history.specs.Legal.{MayCome, Stands}
 use Rattle.journal_check.specs.Differing.{event_by, row_event, WantsNumber, first_apart, Differs}
@@ -44,40 +41,22 @@ stood_event plan past row stands = ap row_event stands.2 ∙ event_row plan empt
 
 -- the number that is wanted
 
-full_length : (plan : Plan) (past : List Row) (who : Who) (len : ℕ) → MayCome plan empty past (End who (hows.Full len)) → len ≡ length past
-full_length plan past (passes.Ingress port) len may = may.1.all
-full_length plan past passes.Control len may = may.1.all
-full_length plan past passes.Ticker len may = may.1.all
-full_length plan past (passes.Egress port) len may = absurd may.1
-
-wants_same : (plan : Plan) (past : List Row) (event : Event) (m n m' n' : ℕ) → WantsNumber plan past event m n → WantsNumber plan past event m' n' → (m ≡ m') × (n ≡ n')
+wants_same : (plan : Plan) (past : List Row) (event : Event) (m n m' n' : ℕ) → WantsNumber plan empty past event m n → WantsNumber plan empty past event m' n' → (m ≡ m') × (n ≡ n')
 wants_same plan past (Drain port count) m n m' n' a b = (a.1 ∙ sym b.1, a.3 ∙ sym b.3)
-wants_same plan past (End who (hows.Full len)) m n m' n' a b = (full_length plan past who m a.0 ∙ sym (full_length plan past who m' b.0), a.2 ∙ sym b.2)
-wants_same plan past (End who hows.End) m n m' n' a b = absurd a
-wants_same plan past (End who hows.Quit) m n m' n' a b = absurd a
-wants_same plan past (End who (hows.Malformed at)) m n m' n' a b = absurd a
-wants_same plan past (End who (hows.Overlong at)) m n m' n' a b = absurd a
-wants_same plan past (End who hows.Failed) m n m' n' a b = absurd a
-wants_same plan past (End who hows.Unwritten) m n m' n' a b = absurd a
+wants_same plan past (End who how) m n m' n' a b = absurd a
 wants_same plan past (Frame port stamp octets) m n m' n' a b = absurd a
 wants_same plan past (Long port stamp len) m n m' n' a b = absurd a
 wants_same plan past (Command stamp line) m n m' n' a b = absurd a
 wants_same plan past (Tick stamp) m n m' n' a b = absurd a
 
 -- an event that may come wants no number
-wants_none : (plan : Plan) (past : List Row) (event : Event) (m n : ℕ) → MayCome plan empty past event → WantsNumber plan past event m n → ⊥
+wants_none : (plan : Plan) (past : List Row) (event : Event) (m n : ℕ) → MayCome plan empty past event → WantsNumber plan empty past event m n → ⊥
 wants_none plan past (Drain port count) m n may a =
     let few = may.2 in
     let waits = a.1 in
     let less = a.2 in
     omega (arith, few, waits, less)
-wants_none plan past (End who (hows.Full len)) m n may a = a.1 (full_length plan past who m a.0 ∙ sym (full_length plan past who len may))
-wants_none plan past (End who hows.End) m n may a = a
-wants_none plan past (End who hows.Quit) m n may a = a
-wants_none plan past (End who (hows.Malformed at)) m n may a = a
-wants_none plan past (End who (hows.Overlong at)) m n may a = a
-wants_none plan past (End who hows.Failed) m n may a = a
-wants_none plan past (End who hows.Unwritten) m n may a = a
+wants_none plan past (End who how) m n may a = a
 wants_none plan past (Frame port stamp octets) m n may a = a
 wants_none plan past (Long port stamp len) m n may a = a
 wants_none plan past (Command stamp line) m n may a = a
@@ -108,7 +87,7 @@ some_same o a b e f = ap (picked a) (sym e ∙ f)
 
 -- in what an entry differs
 
-pub differs_same : (plan : Plan) (past : List Row) (row : Row) (want have want' have' : List ℕ) → Differs plan past row want have → Differs plan past row want' have' → (want ≡ want') × (have ≡ have')
+pub differs_same : (plan : Plan) (past : List Row) (row : Row) (want have want' have' : List ℕ) → Differs plan empty past row want have → Differs plan empty past row want' have' → (want ≡ want') × (have ≡ have')
 differs_same plan past row want have want' have' (inl a) (inl b) = (a.want_none ∙ sym b.want_none, a.have_letter ∙ sym b.have_letter)
 differs_same plan past row want have want' have' (inl a) (inr (inl b)) = absurd (a.no_number b.wanted b.given b.wants)
 differs_same plan past row want have want' have' (inl a) (inr (inr b)) = absurd (a.never b.may)
@@ -124,13 +103,13 @@ differs_same plan past row want have want' have' (inr (inr a)) (inr (inr b)) =
     (ap (λ (p : Both). p.0) both, ap (λ (p : Both). p.1) both)
 
 -- a row as the line of one that stands says it
-pub stands_not : (plan : Plan) (past : List Row) (row other : Row) (want have : List ℕ) → Stands plan empty past row → other ≡ row_said row → Differs plan past other want have → ⊥
+pub stands_not : (plan : Plan) (past : List Row) (row other : Row) (want have : List ℕ) → Stands plan empty past row → other ≡ row_said row → Differs plan empty past other want have → ⊥
 stands_not plan past row other want have stands same (inl a) =
     let event : row_event other ≡ stands.0 = ap row_event same ∙ event_said row ∙ stood_event plan past row stands in
     a.never (subst (MayCome plan empty past) (sym event) stands.1)
 stands_not plan past row other want have stands same (inr (inl a)) =
     let event : row_event other ≡ stands.0 = ap row_event same ∙ event_said row ∙ stood_event plan past row stands in
-    wants_none plan past stands.0 a.wanted a.given stands.1 (subst (λ (e : Event). WantsNumber plan past e a.wanted a.given) event a.wants)
+    wants_none plan past stands.0 a.wanted a.given stands.1 (subst (λ (e : Event). WantsNumber plan empty past e a.wanted a.given) event a.wants)
 stands_not plan past row other want have stands same (inr (inr a)) =
     let n = length past in
     let event : row_event other ≡ stands.0 = ap row_event same ∙ event_said row ∙ stood_event plan past row stands in

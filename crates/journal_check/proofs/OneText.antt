@@ -5,7 +5,7 @@ use Rattle.hist_store.specs.Rows.{Row}
 use Rattle.hist_store.specs.TextOfLines.{lines_text}
 use Rattle.hist_store.specs.LineTexts.{line_text}
 use Rattle.hist_store.specs.EntryLines.{SaysEntry, row_said}
-use Rattle.savi_history.specs.Bases.{empty}
+use Rattle.checkpoint.specs.Bases.{empty}
 use Rattle.savi_history.specs.Events.{Event, row_of}
 use Rattle.savi_history.specs.Legal.{Stands, IsLegal}
 use Rattle.journal_check.specs.declared.answer.Checked.{Checked}

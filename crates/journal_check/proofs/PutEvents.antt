@@ -1,34 +1,27 @@
 -- What comes of putting each kind of event to a switch.
-use Rattle.std.proofs.Common.{◌≡◌, ◌≢◌, ◌^◌, ◌<◌, ◌≤◌, ℕ, true, false, true≢false, List, length, refl, ap, sym, ◌∙◌, arith}
-use Rattle.savi_kinds.specs.declared.plan.Plan.{Plan}
+use Rattle.std.proofs.Common.{◌≡◌, ◌≢◌, ◌^◌, ◌<◌, ◌≤◌, ℕ, true≢false, List, length, refl, ap, sym, ◌∙◌, arith}
 use Rattle.savi_kinds.specs.declared.port.Port.{Port}
 use Rattle.savi_kinds.specs.declared.entry.Who.{Who}
 use Rattle.savi_kinds.specs.declared.entry.Who.TheVariants as passes
 use Rattle.savi_kinds.specs.declared.entry.How.{How}
-use Rattle.savi_kinds.specs.declared.entry.How.TheVariants as hows
 use Rattle.savi_kinds.specs.Ports.{number_of}
-use Rattle.hist_store.specs.Rows.{Row}
-use Rattle.hist_store.specs.EndTexts.{IsReasonOf}
-use Rattle.savi_history.specs.Bases.{empty}
-use Rattle.savi_history.specs.Limits.{has_room}
 use Rattle.savi_history.specs.Queues.{Item, queue}
 use Rattle.savi_history.specs.Events.{Frame, Long, Command, Tick, Drain, End}
-use Rattle.savi_history.specs.Legal.{IsOpen, MayCome, MayEnd}
+use Rattle.savi_history.specs.Legal.{IsOpen, MayEnd}
 use Rattle.savi_core.specs.declared.event.Stepped.{Stepped}
 use Rattle.savi_core.specs.declared.event.Stepped.TheVariants.{Done, Full, Nothing}
-use Rattle.savi_core.specs.Machines.{Machine, with_event}
+use Rattle.savi_core.specs.Machines.{Machine, base_of, with_event}
 use Rattle.savi_core.specs.Steps.{Did, Drained, taken_count, entry_of}
 use Rattle.journal_check.specs.declared.putting.Put.TheVariants.{Never, Other}
-use Rattle.journal_check.specs.Differing.{WantsNumber}
 use Rattle.journal_check.specs.Puts.{Puts, put_of}
 
 -- frames
 
-pub frame_closed : (m : Machine) (port : Port) (stamp : ℕ) (octets : List ℕ) → ¬ IsOpen m.plan empty m.past (passes.Ingress port) → Puts m (Frame port stamp octets) m Never
+pub frame_closed : (m : Machine) (port : Port) (stamp : ℕ) (octets : List ℕ) → ¬ IsOpen m.plan (base_of m) m.past (passes.Ingress port) → Puts m (Frame port stamp octets) m Never
 frame_closed m port stamp octets closed = (λ may. closed may.0.open_pass, λ want have wants. wants, refl)
 
 pub frame_stepped : (m new : Machine) (port : Port) (stamp : ℕ) (octets : List ℕ) (stepped : Stepped) → stamp < 2 ^ 64 → length octets ≤ 1518
-    → IsOpen m.plan empty m.past (passes.Ingress port) → Did m (Frame port stamp octets) new stepped → Puts m (Frame port stamp octets) new (put_of stepped)
+    → IsOpen m.plan (base_of m) m.past (passes.Ingress port) → Did m (Frame port stamp octets) new stepped → Puts m (Frame port stamp octets) new (put_of stepped)
 frame_stepped m new port stamp octets (Done entry) fits few open_pass did = ((record { open_pass = open_pass; room = did.0; fits = fits }, few), did.2, did.3)
 frame_stepped m new port stamp octets (Full len) fits few open_pass did = (λ may. true≢false (sym may.0.room ∙ did.0), λ want have wants. wants, did.1)
 frame_stepped m new port stamp octets Nothing fits few open_pass did = absurd did.1
@@ -38,32 +31,32 @@ frame_stepped m new port stamp octets Nothing fits few open_pass did = absurd di
 pub long_short : (m : Machine) (port : Port) (stamp len : ℕ) → len ≤ 1518 → Puts m (Long port stamp len) m Never
 long_short m port stamp len short = (λ may. let over = may.1 in omega (arith, over, short), λ want have wants. wants, refl)
 
-pub long_closed : (m : Machine) (port : Port) (stamp len : ℕ) → ¬ IsOpen m.plan empty m.past (passes.Ingress port) → Puts m (Long port stamp len) m Never
+pub long_closed : (m : Machine) (port : Port) (stamp len : ℕ) → ¬ IsOpen m.plan (base_of m) m.past (passes.Ingress port) → Puts m (Long port stamp len) m Never
 long_closed m port stamp len closed = (λ may. closed may.0.open_pass, λ want have wants. wants, refl)
 
 pub long_stepped : (m new : Machine) (port : Port) (stamp len : ℕ) (stepped : Stepped) → stamp < 2 ^ 64 → 1518 < len → len < 2 ^ 32
-    → IsOpen m.plan empty m.past (passes.Ingress port) → Did m (Long port stamp len) new stepped → Puts m (Long port stamp len) new (put_of stepped)
+    → IsOpen m.plan (base_of m) m.past (passes.Ingress port) → Did m (Long port stamp len) new stepped → Puts m (Long port stamp len) new (put_of stepped)
 long_stepped m new port stamp len (Done entry) fits over small open_pass did = ((record { open_pass = open_pass; room = did.0; fits = fits }, over, small), did.2, did.3)
 long_stepped m new port stamp len (Full size) fits over small open_pass did = (λ may. true≢false (sym may.0.room ∙ did.0), λ want have wants. wants, did.1)
 long_stepped m new port stamp len Nothing fits over small open_pass did = absurd did.1
 
 -- ticks
 
-pub tick_closed : (m : Machine) (stamp : ℕ) → ¬ IsOpen m.plan empty m.past passes.Ticker → Puts m (Tick stamp) m Never
+pub tick_closed : (m : Machine) (stamp : ℕ) → ¬ IsOpen m.plan (base_of m) m.past passes.Ticker → Puts m (Tick stamp) m Never
 tick_closed m stamp closed = (λ may. closed may.open_pass, λ want have wants. wants, refl)
 
-pub tick_stepped : (m new : Machine) (stamp : ℕ) (stepped : Stepped) → stamp < 2 ^ 64 → IsOpen m.plan empty m.past passes.Ticker → Did m (Tick stamp) new stepped → Puts m (Tick stamp) new (put_of stepped)
+pub tick_stepped : (m new : Machine) (stamp : ℕ) (stepped : Stepped) → stamp < 2 ^ 64 → IsOpen m.plan (base_of m) m.past passes.Ticker → Did m (Tick stamp) new stepped → Puts m (Tick stamp) new (put_of stepped)
 tick_stepped m new stamp (Done entry) fits open_pass did = (record { open_pass = open_pass; room = did.0; fits = fits; changed = did.1 }, did.2, did.3)
 tick_stepped m new stamp (Full len) fits open_pass did = (λ may. true≢false (sym may.room ∙ did.0), λ want have wants. wants, did.1)
 tick_stepped m new stamp Nothing fits open_pass did = (λ may. did.1.0 may.changed, λ want have wants. wants, did.2)
 
 -- lines of control
 
-pub command_closed : (m : Machine) (stamp : ℕ) (line : List ℕ) → ¬ IsOpen m.plan empty m.past passes.Control → Puts m (Command stamp line) m Never
+pub command_closed : (m : Machine) (stamp : ℕ) (line : List ℕ) → ¬ IsOpen m.plan (base_of m) m.past passes.Control → Puts m (Command stamp line) m Never
 command_closed m stamp line closed = (λ may. closed may.0.open_pass, λ want have wants. wants, refl)
 
 pub command_stepped : (m new : Machine) (stamp : ℕ) (line : List ℕ) (stepped : Stepped) → stamp < 2 ^ 64 → length line ≤ 120
-    → IsOpen m.plan empty m.past passes.Control → Did m (Command stamp line) new stepped → Puts m (Command stamp line) new (put_of stepped)
+    → IsOpen m.plan (base_of m) m.past passes.Control → Did m (Command stamp line) new stepped → Puts m (Command stamp line) new (put_of stepped)
 command_stepped m new stamp line (Done entry) fits few open_pass did = ((record { open_pass = open_pass; room = did.0; fits = fits }, few), did.2, did.3)
 command_stepped m new stamp line (Full len) fits few open_pass did = (λ may. true≢false (sym may.0.room ∙ did.0), λ want have wants. wants, did.1)
 command_stepped m new stamp line Nothing fits few open_pass did = absurd did.1
@@ -71,25 +64,25 @@ command_stepped m new stamp line Nothing fits few open_pass did = absurd did.1
 -- drains
 
 abbrev waiting : Machine → Port → ℕ
-waiting m port = length (queue m.plan empty (number_of port) m.past)
+waiting m port = length (queue m.plan (base_of m) (number_of port) m.past)
 
 pub drain_none : (m : Machine) (port : Port) (count : ℕ) → count ≡ 0 → Puts m (Drain port count) m Never
 drain_none m port count none =
     (λ may. let some = may.1 in omega (arith, some, none), λ want have wants. let less = wants.2 in omega (arith, less, none), refl)
 
-pub drain_closed : (m : Machine) (port : Port) (count : ℕ) → ¬ IsOpen m.plan empty m.past (passes.Egress port) → Puts m (Drain port count) m Never
+pub drain_closed : (m : Machine) (port : Port) (count : ℕ) → ¬ IsOpen m.plan (base_of m) m.past (passes.Egress port) → Puts m (Drain port count) m Never
 drain_closed m port count closed = (λ may. closed may.0, λ want have wants. closed wants.0.0, refl)
 
 pub drain_empty : (m : Machine) (port : Port) (count : ℕ) → waiting m port ≡ 0 → Puts m (Drain port count) m Never
 drain_empty m port count none =
     (λ may. let some = may.1 in let few = may.2 in omega (arith, some, few, none), λ want have wants. let some = wants.0.1 in let few = wants.0.2 in omega (arith, some, few, none), refl)
 
-pub drain_over : (m : Machine) (port : Port) (count queued : ℕ) → IsOpen m.plan empty m.past (passes.Egress port) → queued ≡ waiting m port → queued ≢ 0 → queued < count → Puts m (Drain port count) m (Other queued count)
+pub drain_over : (m : Machine) (port : Port) (count queued : ℕ) → IsOpen m.plan (base_of m) m.past (passes.Egress port) → queued ≡ waiting m port → queued ≢ 0 → queued < count → Puts m (Drain port count) m (Other queued count)
 drain_over m port count queued open_pass all some less =
     (((open_pass, omega (arith, some), omega (arith, all)), all, less, refl), refl)
 
 pub drain_drained : (m new : Machine) (port : Port) (count : ℕ) (batch : List Item) (stepped : Stepped) → 1 ≤ count → count ≤ waiting m port
-    → IsOpen m.plan empty m.past (passes.Egress port) → Drained m port count new batch stepped → Puts m (Drain port count) new (put_of stepped)
+    → IsOpen m.plan (base_of m) m.past (passes.Egress port) → Drained m port count new batch stepped → Puts m (Drain port count) new (put_of stepped)
 drain_drained m new port count batch (Done entry) some few open_pass did =
     let all : taken_count m port count ≡ count = omega (arith, few) in
     ((open_pass, some, few), did.2 ∙ ap (λ (n : ℕ). with_event m (Drain port n)) all, did.3 ∙ ap (λ (n : ℕ). entry_of m (Drain port n)) all)
@@ -100,58 +93,13 @@ drain_drained m new port count batch Nothing some few open_pass did =
 
 -- ends
 
-wants_full : (plan : Plan) (past : List Row) (who : Who) (how : How) (want have : ℕ) → ((len : ℕ) → how ≢ hows.Full len) → WantsNumber plan past (End who how) want have → ⊥
-wants_full plan past who (hows.Full len) want have other wants = other len refl
-wants_full plan past who hows.End want have other wants = wants
-wants_full plan past who hows.Quit want have other wants = wants
-wants_full plan past who (hows.Malformed at) want have other wants = wants
-wants_full plan past who (hows.Overlong at) want have other wants = wants
-wants_full plan past who hows.Failed want have other wants = wants
-wants_full plan past who hows.Unwritten want have other wants = wants
+pub end_closed : (m : Machine) (who : Who) (how : How) → ¬ IsOpen m.plan (base_of m) m.past who → Puts m (End who how) m Never
+end_closed m who how closed = (λ may. closed may.0, λ want have wants. wants, refl)
 
-wants_open : (plan : Plan) (past : List Row) (who : Who) (how : How) (want have : ℕ) → WantsNumber plan past (End who how) want have → IsOpen plan empty past who
-wants_open plan past who (hows.Full len) want have wants = wants.0.0
-wants_open plan past who hows.End want have wants = absurd wants
-wants_open plan past who hows.Quit want have wants = absurd wants
-wants_open plan past who (hows.Malformed at) want have wants = absurd wants
-wants_open plan past who (hows.Overlong at) want have wants = absurd wants
-wants_open plan past who hows.Failed want have wants = absurd wants
-wants_open plan past who hows.Unwritten want have wants = absurd wants
+pub end_never : (m : Machine) (who : Who) (how : How) → ¬ MayEnd m.plan (base_of m) m.past who how → Puts m (End who how) m Never
+end_never m who how never = (λ may. never may.1, λ want have wants. wants, refl)
 
-pub end_closed : (m : Machine) (who : Who) (how : How) → ¬ IsOpen m.plan empty m.past who → Puts m (End who how) m Never
-end_closed m who how closed = (λ may. closed may.0, λ want have wants. closed (wants_open m.plan m.past who how want have wants), refl)
-
-pub end_never : (m : Machine) (who : Who) (how : How) → ((len : ℕ) → how ≢ hows.Full len) → ¬ MayEnd m.plan empty m.past who how → Puts m (End who how) m Never
-end_never m who how other never = (λ may. never may.1, λ want have wants. wants_full m.plan m.past who how want have other wants, refl)
-
-pub end_stepped : (m new : Machine) (who : Who) (how : How) (stepped : Stepped) → IsOpen m.plan empty m.past who → MayEnd m.plan empty m.past who how → Did m (End who how) new stepped → Puts m (End who how) new (put_of stepped)
+pub end_stepped : (m new : Machine) (who : Who) (how : How) (stepped : Stepped) → IsOpen m.plan (base_of m) m.past who → MayEnd m.plan (base_of m) m.past who how → Did m (End who how) new stepped → Puts m (End who how) new (put_of stepped)
 end_stepped m new who how (Done entry) open_pass may did = ((open_pass, may), did.2, did.3)
 end_stepped m new who how (Full len) open_pass may did = absurd did.0
 end_stepped m new who how Nothing open_pass may did = absurd did.1
-
-full_no_room : (plan : Plan) (past : List Row) (who : Who) (len : ℕ) → MayCome plan empty past (End who (hows.Full len)) → has_room plan past ≡ false
-full_no_room plan past (passes.Ingress port) len may = may.1.no_room
-full_no_room plan past passes.Control len may = may.1.no_room
-full_no_room plan past passes.Ticker len may = may.1.no_room
-full_no_room plan past (passes.Egress port) len may = absurd may.1
-
-pub full_room : (m : Machine) (who : Who) (len : ℕ) → has_room m.plan m.past ≡ true → Puts m (End who (hows.Full len)) m Never
-full_room m who len room =
-    (λ may. true≢false (sym room ∙ full_no_room m.plan m.past who len may), λ want have wants. true≢false (sym room ∙ full_no_room m.plan m.past who want wants.0), refl)
-
-pub may_full : (plan : Plan) (past : List Row) (who : Who) (len : ℕ) → IsReasonOf who (hows.Full len) → has_room plan past ≡ false → len ≡ length past → MayEnd plan empty past who (hows.Full len)
-may_full plan past (passes.Ingress port) len reason no_room all = record { no_room = no_room; all = all }
-may_full plan past passes.Control len reason no_room all = record { no_room = no_room; all = all }
-may_full plan past passes.Ticker len reason no_room all = record { no_room = no_room; all = all }
-may_full plan past (passes.Egress port) len reason no_room all = absurd reason
-
-reason_full : (who : Who) (len all : ℕ) → IsReasonOf who (hows.Full len) → IsReasonOf who (hows.Full all)
-reason_full (passes.Ingress port) len all reason = reason
-reason_full passes.Control len all reason = reason
-reason_full passes.Ticker len all reason = reason
-reason_full (passes.Egress port) len all reason = reason
-
-pub full_other : (m : Machine) (who : Who) (len all : ℕ) → IsOpen m.plan empty m.past who → IsReasonOf who (hows.Full len) → has_room m.plan m.past ≡ false → all ≡ length m.past → all ≢ len
-    → Puts m (End who (hows.Full len)) m (Other all len)
-full_other m who len all open_pass reason no_room is other =
-    (((open_pass, may_full m.plan m.past who all (reason_full who len all reason) no_room is), other, refl), refl)

@@ -195,7 +195,7 @@ how_size (hows.Malformed at) range = let digits = number_size at range in omega 
 how_size (hows.Overlong at) range = let digits = number_size at range in omega (arith, digits)
 how_size hows.Failed range = lit≤ tt
 how_size hows.Unwritten range = lit≤ tt
-how_size (hows.Full len) range = let digits = number_size len range in omega (arith, digits)
+how_size hows.Paused range = lit≤ tt
 
 -- acts
 

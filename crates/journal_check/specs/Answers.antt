@@ -10,7 +10,7 @@ use Rattle.hist_store.specs.LineTexts.{line_text}
 use Rattle.hist_store.specs.EntryLines.{SaysEntry}
 use Rattle.hist_store.specs.JournalTexts.{address_text, header_lines, journal_header_text, journal_end_text}
 use Rattle.savi_ends.specs.Octets.{NothingLeft, Takes}
-use Rattle.savi_history.specs.Bases.{empty}
+use Rattle.checkpoint.specs.Bases.{empty}
 use Rattle.savi_history.specs.Legal.{IsLegal, IsFinished}
 use Rattle.journal_check.specs.declared.answer.Checked.{Checked}
 use Rattle.journal_check.specs.declared.answer.Checked.TheVariants.{Good, Wrong, BadLine, Failed, NoMemory}
@@ -52,7 +52,7 @@ pub record HasWrong (plan : Plan) (past : List Row) (rest : List ℕ) (want have
   pub more : List ℕ
   pub says : SaysEntry line (length past) row
   pub text : rest ≡ line ++ line_feed ∷ more
-  pub differs : Differs plan past row want have
+  pub differs : Differs plan empty past row want have
 
 -- what is to be answered of the rest
 abbrev pub IsAnswerTo : Plan → List Row → List ℕ → Checked → Type 0

@@ -1,16 +1,15 @@
 -- In what an entry of a journal differs from those that may stand there.
-use Rattle.std.specs.Prelude.{◌≡◌, ◌≢◌, ◌<◌, ◌≤◌, ◌⊎◌, ℕ, List, [], ◌∷◌, length, All, codes, decimal, Option, Some, None, if◌then◌else◌}
+use Rattle.std.specs.Prelude.{◌≡◌, ◌<◌, ◌≤◌, ◌⊎◌, ℕ, List, [], ◌∷◌, length, All, codes, decimal, Option, Some, None, if◌then◌else◌}
 use Rattle.std.specs.Str.{bytes_eq}
 use Rattle.savi_kinds.specs.declared.plan.Plan.{Plan}
 use Rattle.savi_kinds.specs.declared.entry.Entry.{Entry}
 use Rattle.savi_kinds.specs.declared.entry.Act.{Act}
 use Rattle.savi_kinds.specs.declared.entry.Act.TheVariants as acts
-use Rattle.savi_kinds.specs.declared.entry.How.TheVariants as hows
 use Rattle.savi_kinds.specs.Ports.{number_of}
 use Rattle.hist_store.specs.Rows.{Row}
 use Rattle.hist_store.specs.TextOfLines.{HasNoSpace}
 use Rattle.hist_store.specs.LineTexts.{line_fields}
-use Rattle.savi_history.specs.Bases.{empty}
+use Rattle.checkpoint.specs.Bases.{Base}
 use Rattle.savi_history.specs.Queues.{queue}
 use Rattle.savi_history.specs.Events.{Event, Frame, Long, Command, Tick, Drain, End, row_of}
 use Rattle.savi_history.specs.Legal.{MayCome}
@@ -38,16 +37,15 @@ letter_of (acts.Drain port count) = codes "D"
 letter_of (acts.End who how) = codes "E"
 
 -- The event may come with another number: the number that it wants, and the one that it has. A drain of more than waits
--- wants as many as wait, and the end of a full history wants its length.
-abbrev pub WantsNumber : Plan → List Row → Event → ℕ → ℕ → Type 0
-WantsNumber plan past (Drain port count) want have =
-    MayCome plan empty past (Drain port want) × (want ≡ length (queue plan empty (number_of port) past)) × (want < count) × (have ≡ count)
-WantsNumber plan past (End who (hows.Full len)) want have = MayCome plan empty past (End who (hows.Full want)) × (want ≢ len) × (have ≡ len)
-WantsNumber plan past (End who how) want have = ⊥
-WantsNumber plan past (Frame port stamp octets) want have = ⊥
-WantsNumber plan past (Long port stamp len) want have = ⊥
-WantsNumber plan past (Command stamp line) want have = ⊥
-WantsNumber plan past (Tick stamp) want have = ⊥
+-- wants as many as wait.
+abbrev pub WantsNumber : Plan → Base → List Row → Event → ℕ → ℕ → Type 0
+WantsNumber plan base past (Drain port count) want have =
+    MayCome plan base past (Drain port want) × (want ≡ length (queue plan base (number_of port) past)) × (want < count) × (have ≡ count)
+WantsNumber plan base past (End who how) want have = ⊥
+WantsNumber plan base past (Frame port stamp octets) want have = ⊥
+WantsNumber plan base past (Long port stamp len) want have = ⊥
+WantsNumber plan base past (Command stamp line) want have = ⊥
+WantsNumber plan base past (Tick stamp) want have = ⊥
 
 -- the first fields at which two lines of as many fields differ
 abbrev pub first_apart : List (List ℕ) → List (List ℕ) → Option (List ℕ × List ℕ)
@@ -80,25 +78,25 @@ pub record IsField (field : List ℕ) : Type 0 where
   pub plain : All (λ octet. octet < 128) field
 
 -- the event can't come, and no other number would mend it
-pub record CanNotCome (plan : Plan) (past : List Row) (row : Row) (want have : List ℕ) : Type 0 where
-  pub never : ¬ MayCome plan empty past (row_event row)
-  pub no_number : (m n : ℕ) → ¬ WantsNumber plan past (row_event row) m n
+pub record CanNotCome (plan : Plan) (base : Base) (past : List Row) (row : Row) (want have : List ℕ) : Type 0 where
+  pub never : ¬ MayCome plan base past (row_event row)
+  pub no_number : (m n : ℕ) → ¬ WantsNumber plan base past (row_event row) m n
   pub want_none : want ≡ codes "none"
   pub have_letter : have ≡ letter_of row.entry.act
 
 -- the event would come with another number
-pub record WantsOther (plan : Plan) (past : List Row) (row : Row) (want have : List ℕ) : Type 0 where
+pub record WantsOther (plan : Plan) (base : Base) (past : List Row) (row : Row) (want have : List ℕ) : Type 0 where
   pub wanted : ℕ
   pub given : ℕ
-  pub wants : WantsNumber plan past (row_event row) wanted given
+  pub wants : WantsNumber plan base past (row_event row) wanted given
   pub want_number : want ≡ decimal wanted
   pub have_number : have ≡ decimal given
 
 -- the event may come, and a field that is computed of it is another
-pub record IsComputedOther (plan : Plan) (past : List Row) (row : Row) (want have : List ℕ) : Type 0 where
-  pub may : MayCome plan empty past (row_event row)
-  pub apart : first_apart (line_fields (length past) (row_of plan empty past (row_event row))) (line_fields (length past) row) ≡ Some (want, have)
+pub record IsComputedOther (plan : Plan) (base : Base) (past : List Row) (row : Row) (want have : List ℕ) : Type 0 where
+  pub may : MayCome plan base past (row_event row)
+  pub apart : first_apart (line_fields (length past) (row_of plan base past (row_event row))) (line_fields (length past) row) ≡ Some (want, have)
 
-abbrev pub Differs : Plan → List Row → Row → List ℕ → List ℕ → Type 0
-Differs plan past row want have =
-    CanNotCome plan past row want have ⊎ WantsOther plan past row want have ⊎ IsComputedOther plan past row want have
+abbrev pub Differs : Plan → Base → List Row → Row → List ℕ → List ℕ → Type 0
+Differs plan base past row want have =
+    CanNotCome plan base past row want have ⊎ WantsOther plan base past row want have ⊎ IsComputedOther plan base past row want have

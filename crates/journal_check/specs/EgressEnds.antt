@@ -2,8 +2,8 @@
 use Rattle.std.specs.Prelude.{◌≡◌, ℕ, ◌+◌, ◌<◌, true, List, length}
 use Rattle.savi_kinds.specs.declared.plan.Plan.{Plan}
 use Rattle.hist_store.specs.Rows.{Row}
-use Rattle.savi_history.specs.Bases.{empty}
+use Rattle.checkpoint.specs.Bases.{Base}
 use Rattle.savi_history.specs.Passes.{has_ended}
 
-abbrev pub HaveEgressEnded : Plan → List Row → Type 0
-HaveEgressEnded plan past = (place : ℕ) → place < length plan.ports → has_ended empty (length plan.ports + 2 + place) past ≡ true
+abbrev pub HaveEgressEnded : Plan → Base → List Row → Type 0
+HaveEgressEnded plan base past = (place : ℕ) → place < length plan.ports → has_ended base (length plan.ports + 2 + place) past ≡ true

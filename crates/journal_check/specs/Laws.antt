@@ -8,7 +8,7 @@ use Rattle.hist_store.specs.Rows.{Row}
 use Rattle.hist_store.specs.LineTexts.{line_text}
 use Rattle.hist_store.specs.EntryLines.{SaysEntry, row_said}
 use Rattle.hist_store.specs.JournalTexts.{address_text}
-use Rattle.savi_history.specs.Bases.{empty}
+use Rattle.checkpoint.specs.Bases.{empty}
 use Rattle.savi_history.specs.Legal.{IsLegal, IsFinished}
 use Rattle.savi_history.specs.Journals.{IsJournalOf, without_names}
 use Rattle.journal_check.specs.declared.answer.Checked.{Checked}

@@ -1,14 +1,14 @@
 //! Whether an event may come to a switch.
 
-ghost use Rattle.std.specs.Prelude.{◌≡◌, ◌≢◌, ◌+◌, ◌↔◌, ℕ, true, [], IsTrue};
-ghost use Rattle.savi_kinds.specs.declared.entry.How.TheVariants.{End, Full};
+ghost use Rattle.std.specs.Prelude.{◌≡◌, ◌+◌, ◌↔◌, true, [], IsTrue};
+ghost use Rattle.savi_kinds.specs.declared.entry.How.TheVariants.{End, Paused};
 ghost use Rattle.savi_kinds.specs.Ports.{number_of};
 ghost use Rattle.hist_store.specs.EndTexts.{IsReasonOf};
 ghost use Rattle.hist_store.specs.EntryLines.{IsHowInRange};
-ghost use Rattle.savi_history.specs.Bases.{empty};
 ghost use Rattle.savi_history.specs.Passes.{AllEnded, has_pass, has_port, ticker_pass};
 ghost use Rattle.savi_history.specs.Queues.{queue};
 ghost use Rattle.savi_history.specs.Legal.{IsOpen, IsFinished, MayEnd};
+ghost use Rattle.savi_core.specs.Machines.{base_of};
 ghost use Rattle.journal_check.specs.EgressEnds.{HaveEgressEnded};
 
 use savi_core::Core;
@@ -16,7 +16,7 @@ use savi_kinds::{How, Plan, Port, Who};
 
 /// Whether a pass is one of the switch's and hasn't ended. O(ports).
 pub fn is_open(core: &Core, who: Who) -> bool
-    ensures { IsTrue result ↔ IsOpen core.now.plan empty core.now.past who }
+    ensures { IsTrue result ↔ IsOpen core.now.plan (base_of core.now) core.now.past who }
 {
     if has_pass(core.plan(), who) {
         !core.ended(who)
@@ -25,30 +25,44 @@ pub fn is_open(core: &Core, who: Who) -> bool
     }
 }
 
-/// Whether a pass that is open may end for this reason, which is one of its kind and isn't that the history is full. O(1).
+/// Whether a pass that is open may end for this reason, which is one of its kind. O(1).
 pub fn may_end(core: &Core, who: Who, how: How) -> bool
-    requires open { IsOpen core.now.plan empty core.now.past who }
+    requires open { IsOpen core.now.plan (base_of core.now) core.now.past who }
     requires reason { IsReasonOf who how }
     requires numbers { IsHowInRange how }
-    requires other { (len : ℕ) → how ≢ Full len }
-    ensures { IsTrue result ↔ MayEnd core.now.plan empty core.now.past who how }
+    ensures { IsTrue result ↔ MayEnd core.now.plan (base_of core.now) core.now.past who how }
 {
     match how {
         How::End => is_through(core, who),
+        How::Paused => may_pause(core, who),
         _ => true,
     }
 }
 
-// Whether nothing may come any more for which a pass that is open would wait.
+// Whether nothing may come any more for which a pass that is open would wait, in this history and in a next one.
 fn is_through(core: &Core, who: Who) -> bool
-    requires open { IsOpen core.now.plan empty core.now.past who }
-    ensures { IsTrue result ↔ MayEnd core.now.plan empty core.now.past who End }
+    requires open { IsOpen core.now.plan (base_of core.now) core.now.past who }
+    ensures { IsTrue result ↔ MayEnd core.now.plan (base_of core.now) core.now.past who End }
 {
     match who {
         Who::Ingress(_) => true,
         Who::Control => true,
-        Who::Ticker => core.inputs_left() == 0,
-        Who::Egress(port) => is_drained(core, port),
+        Who::Ticker => core.inputs_left() == 0 && !core.has_pause(),
+        Who::Egress(port) => is_drained(core, port) && !core.has_pause(),
+    }
+}
+
+// Whether a pass that is open may be paused: an input where there is no room for more, the ticker and an output where an
+// input is paused and nothing may come any more in this history.
+fn may_pause(core: &Core, who: Who) -> bool
+    requires open { IsOpen core.now.plan (base_of core.now) core.now.past who }
+    ensures { IsTrue result ↔ MayEnd core.now.plan (base_of core.now) core.now.past who Paused }
+{
+    match who {
+        Who::Ingress(_) => core.full(),
+        Who::Control => core.full(),
+        Who::Ticker => core.inputs_left() == 0 && core.has_pause(),
+        Who::Egress(port) => is_drained(core, port) && core.has_pause(),
     }
 }
 
@@ -56,7 +70,7 @@ fn is_through(core: &Core, who: Who) -> bool
 fn is_drained(core: &Core, port: Port) -> bool
     requires { has_port core.now.plan (number_of port) ≡ true }
     ensures { IsTrue result
-        ↔ (AllEnded empty (ticker_pass core.now.plan + 1) core.now.past × (queue core.now.plan empty (number_of port) core.now.past ≡ [])) }
+        ↔ (AllEnded (base_of core.now) (ticker_pass core.now.plan + 1) core.now.past × (queue core.now.plan (base_of core.now) (number_of port) core.now.past ≡ [])) }
 {
     if !is_ticker_through(core) {
         return false;
@@ -66,7 +80,7 @@ fn is_drained(core: &Core, port: Port) -> bool
 
 // Whether each ingress pass, control and the ticker have ended.
 fn is_ticker_through(core: &Core) -> bool
-    ensures { IsTrue result ↔ AllEnded empty (ticker_pass core.now.plan + 1) core.now.past }
+    ensures { IsTrue result ↔ AllEnded (base_of core.now) (ticker_pass core.now.plan + 1) core.now.past }
 {
     let left = core.inputs_left();
     if left > 0 {
@@ -77,7 +91,7 @@ fn is_ticker_through(core: &Core) -> bool
 
 /// Whether each pass has ended. O(ports squared).
 pub fn is_finished(core: &Core) -> bool
-    ensures { IsTrue result ↔ IsFinished core.now.plan empty core.now.past }
+    ensures { IsTrue result ↔ IsFinished core.now.plan (base_of core.now) core.now.past }
 {
     if !is_ticker_through(core) {
         return false;
@@ -87,7 +101,7 @@ pub fn is_finished(core: &Core) -> bool
 
 // Whether the egress of each port has ended.
 fn have_ended(core: &Core) -> bool
-    ensures { IsTrue result ↔ HaveEgressEnded core.now.plan core.now.past }
+    ensures { IsTrue result ↔ HaveEgressEnded core.now.plan (base_of core.now) core.now.past }
 {
     let _history = core.history();
     for port in core.plan().ports.as_slice() {

@@ -1,16 +1,14 @@
 //! Puts the events of entries to a switch, as far as they may come.
 
-ghost use Rattle.std.specs.Prelude.{◌≡◌, ◌≢◌, ◌≤◌, ℕ, true, length};
+ghost use Rattle.std.specs.Prelude.{◌≡◌, ◌≤◌, true, length};
 ghost use Rattle.hist_store.specs.EntryLines.{IsActInRange, IsHowInRange};
 ghost use Rattle.hist_store.specs.EndTexts.{IsReasonOf};
 ghost use Rattle.hist_store.specs.LineTexts.{FitsAct};
-ghost use Rattle.savi_kinds.specs.declared.entry.How.TheVariants.{Full};
 ghost use Rattle.savi_history.specs.Events as events;
 ghost use Rattle.savi_kinds.specs.Ports.{number_of};
-ghost use Rattle.savi_history.specs.Bases.{empty};
 ghost use Rattle.savi_history.specs.Passes.{has_port};
 ghost use Rattle.savi_history.specs.Queues.{queue};
-ghost use Rattle.savi_history.specs.Legal.{IsOpen};
+ghost use Rattle.savi_core.specs.Machines.{base_of};
 ghost use Rattle.journal_check.specs.Differing.{event_by};
 ghost use Rattle.journal_check.specs.Puts.{Puts, put_of};
 
@@ -116,7 +114,7 @@ fn put_drain(core: &mut Core, batch: &mut Batch, port: Port, count: u32) -> Put
 // How many items wait at a port of the switch.
 fn queued(core: &Core, port: Port) -> u32
     requires { has_port core.now.plan (number_of port) ≡ true }
-    ensures count { result ≡ length (queue core.now.plan empty (number_of port) core.now.past) }
+    ensures count { result ≡ length (queue core.now.plan (base_of core.now) (number_of port) core.now.past) }
     ensures few { result ≤ 256 }
 {
     let _history = core.history();
@@ -132,40 +130,9 @@ fn put_end(core: &mut Core, who: Who, how: How) -> Put
     if !is_open(core, who) {
         return Put::Never;
     }
-    match how {
-        How::Full(len) => put_full(core, who, len),
-        _ => put_other_end(core, who, how),
-    }
-}
-
-// Ends a pass that is open, for a reason of its kind that isn't that the history is full.
-fn put_other_end(core: &mut Core, who: Who, how: How) -> Put
-    requires open { IsOpen core.old.plan empty core.old.past who }
-    requires fits { IsReasonOf who how }
-    requires numbers { IsHowInRange how }
-    requires other { (len : ℕ) → how ≢ Full len }
-    ensures { Puts core.old (events.End who how) core.new result }
-{
     if !may_end(core, who, how) {
         return Put::Never;
     }
-    put_of(core.step(Event::End { who, how }))
-}
-
-// Ends a pass that is open, since the history is full.
-fn put_full(core: &mut Core, who: Who, len: u64) -> Put
-    requires open { IsOpen core.old.plan empty core.old.past who }
-    requires fits { IsReasonOf who (Full len) }
-    ensures { Puts core.old (events.End who (Full len)) core.new result }
-{
-    if core.has_room() {
-        return Put::Never;
-    }
-    let all = core.len();
-    if len != all {
-        return Put::Other(all, len);
-    }
-    let how = How::Full(len);
     put_of(core.step(Event::End { who, how }))
 }
 

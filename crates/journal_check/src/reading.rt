@@ -4,9 +4,9 @@ ghost use Rattle.std.specs.Prelude.{◌≡◌, ◌≢◌, ◌⊎◌, ◌≤◌, 
 ghost use Rattle.savi_ends.specs.Octets.{in_front};
 ghost use Rattle.savi_ends.specs.Faults.{Rose};
 ghost use Rattle.hist_store.specs.JournalTexts.{address_text, journal_header_text};
-ghost use Rattle.savi_history.specs.Bases.{empty};
+ghost use Rattle.checkpoint.specs.Bases.{empty};
 ghost use Rattle.savi_history.specs.Legal.{IsFinished};
-ghost use Rattle.savi_core.specs.Machines.{started};
+ghost use Rattle.savi_core.specs.Machines.{base_of, started};
 ghost use Rattle.journal_check.specs.Pieces.{GaveSome, to_come};
 ghost use Rattle.journal_check.specs.Headers.{IsPlan};
 ghost use Rattle.journal_check.specs.Answers.{Ends, HasReadHeader, IfRead, IsAnswer, IsAnswerBehind, next_line};
@@ -88,6 +88,7 @@ fn check_entries<S: Source>(
     source: &mut S,
 ) -> Judged
     requires plan { IsPlan core.old.plan }
+    requires base { base_of core.old ≡ empty }
     requires start { core.old.past ≡ [] }
     ensures later { S.faults source.old ≤ S.faults source.new }
     ensures cause { result ≡ Judged.Failed → Rose (S.faults source.old) (S.faults source.new) }

@@ -7,7 +7,7 @@ use Rattle.savi_ends.specs.declared.world.Ends.{Ends}
 use Rattle.table_lock.specs.declared.lock.TableLock.{TableLock}
 use Rattle.table_lock.specs.declared.pass.Pass.{Pass}
 use Rattle.hist_store.specs.Rows.{Row}
-use Rattle.savi_history.specs.Bases.{empty}
+use Rattle.checkpoint.specs.Bases.{empty}
 use Rattle.savi_history.specs.ControlInputs.{control_end, entered_lines}
 use Rattle.savi_history.specs.ControlOutputs.{replies}
 use Rattle.core_keep.specs.declared.keep.KeptCore.{KeptCore}

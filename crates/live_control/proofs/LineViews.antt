@@ -1,5 +1,5 @@
 -- What a turn of control makes of what the history says of control.
-use Rattle.std.proofs.Common.{◌≡◌, ◌≤◌, ℕ, Bool, true, false, List, [], ◌∷◌, ◌++◌, refl, sym, ap, ◌∙◌, subst, append-nil, length, Option, Some, None}
+use Rattle.std.proofs.Common.{◌≡◌, ◌≤◌, ℕ, Bool, true, false, List, [], ◌∷◌, ◌++◌, refl, sym, ap, ◌∙◌, subst, append-nil, Option, Some, None}
 use Rattle.savi_kinds.specs.declared.plan.Plan.{Plan}
 use Rattle.savi_kinds.specs.declared.entry.Who.TheVariants.{Control}
 use Rattle.savi_kinds.specs.declared.entry.How.{How}
@@ -8,7 +8,7 @@ use Rattle.table_lock.specs.declared.lock.TableLock.{TableLock}
 use Rattle.table_lock.specs.declared.pass.Pass.{Pass}
 use Rattle.cli_lang.specs.Arrivals.{Line}
 use Rattle.hist_store.specs.Rows.{Row}
-use Rattle.savi_history.specs.Bases.{empty}
+use Rattle.checkpoint.specs.Bases.{Base, empty}
 use Rattle.savi_history.specs.ControlInputs.{control_end, entered_lines, is_quit}
 use Rattle.savi_history.specs.ControlOutputs.{replies}
 use Rattle.savi_history.specs.Events.{Command, End}
@@ -35,7 +35,7 @@ module _ (lock : TableLock KeptCore) (before after : Pass) where
   plan = lock_plan lock
 
   module _ (lines : List Line) (told : List (List ℕ)) (ended : Option How) (shows : Shows plan (past_seen before) lines told ended) where
-    shows_found : {Does : Plan → List Row → List Row → Type 0} → (turn : Turned lock Control before after Does) → Shows plan turn.found lines told ended
+    shows_found : {Does : Plan → Base → List Row → List Row → Type 0} → (turn : Turned lock Control before after Does) → Shows plan turn.found lines told ended
     shows_found turn = record {
       lines = sym (lines_stay plan empty (past_seen before) turn.found turn.legal turn.later) ∙ shows.lines;
       told = sym (replies_stay plan empty (past_seen before) turn.found turn.legal turn.later) ∙ shows.told;
@@ -67,12 +67,9 @@ module _ (lock : TableLock KeptCore) (before after : Pass) where
         })
 
     pub shows_full : (stamp : ℕ) (line reply : List ℕ) → Turned lock Control before after (DidLine stamp line false reply)
-        → (len : ℕ) × Shows plan (past_seen after) lines told (Some (hows.Full len))
+        → Shows plan (past_seen after) lines told (Some hows.Paused)
     shows_full stamp line reply turn =
-        let len = length turn.found in (
-          len,
-          subst (λ (rows : List Row). Shows plan rows lines told (Some (hows.Full len))) (sym turn.did.1) (ended_row turn.found (hows.Full len) (shows_found turn)),
-        )
+        subst (λ (rows : List Row). Shows plan rows lines told (Some hows.Paused)) (sym turn.did.1) (ended_row turn.found hows.Paused (shows_found turn))
 
 -- a turn that enters how the input ended
 pub input_shows : (lock : TableLock KeptCore) (before after : Pass) (how : How) → control_end (past_seen before) ≡ None → Turned lock Control before after (DidEnd Control how)
@@ -89,7 +86,7 @@ may_end quit before after faults_before faults_after reply hows.End by past took
 may_end quit before after faults_before faults_after reply (hows.Malformed at) by past took = absurd took
 may_end quit before after faults_before faults_after reply (hows.Overlong at) by past took = absurd took
 may_end quit before after faults_before faults_after reply hows.Failed by past took = absurd took
-may_end quit before after faults_before faults_after reply (hows.Full len) by past took = absurd took
+may_end quit before after faults_before faults_after reply hows.Paused by past took = absurd took
 
 -- a turn for a line, and what became of its reply
 
@@ -106,7 +103,7 @@ module _ {K : Type 0} (written : K → Option (List ℕ)) (faults : K → ℕ) (
   line_refused before after stamp line reply sink was is unended turned =
       let past = past_seen before in
       let full = shows_full lock before after (entered_lines past) (replies (lock_plan lock) empty past) None (shows_before before unended) stamp line reply (turned_as before after stamp line reply was false is turned) in
-      record { len = full.0; lines = full.1.lines; replied = full.1.told; ending = full.1.ending; same = refl }
+      record { lines = full.lines; replied = full.told; ending = full.ending; same = refl }
 
   -- behind the line's turn
   shows_behind : (before after : Pass) (stamp : ℕ) (line reply : List ℕ) (was : Bool) → was ≡ true → control_end (past_seen before) ≡ None → Turned lock Control before after (DidLine stamp line was reply)

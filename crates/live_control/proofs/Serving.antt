@@ -17,7 +17,7 @@ use Rattle.stream_io.proofs.ClockReadings.{adds_none, adds_more}
 use Rattle.cli_lang.specs.Arrivals.{Line}
 use Rattle.cli_lang.specs.Readers.{State, Comes, HasReadOne, HasEnded, IsFaultAt, longest_reach, ended}
 use Rattle.hist_store.specs.Rows.{Row}
-use Rattle.savi_history.specs.Bases.{empty}
+use Rattle.checkpoint.specs.Bases.{empty}
 use Rattle.savi_history.specs.ControlFits.{AreFirst, FitsControl, HasNoQuit}
 use Rattle.savi_history.specs.ControlInputs.{control_end, entered_lines, is_quit}
 use Rattle.savi_history.specs.ControlOutputs.{FitsReplies, IsUnwritten, replies}
@@ -177,7 +177,7 @@ module _ {S K C : Type 0} (left : S → Option (List ℕ)) (written : K → Opti
       }
 
       line_refused : IsRefused plan past now old.sink new.sink → ControlRow left written source_faults sink_faults readings plan empty now first new
-      line_refused refused = served_row now first new (entered_lines past) (replies plan empty past) (hows.Full refused.len) (record {
+      line_refused refused = served_row now first new (entered_lines past) (replies plan empty past) hows.Paused (record {
         shows = record { lines = refused.lines; told = refused.replied; ending = refused.ending };
         gave = (gave_more, took_all);
         fits = (heard_refused later gave_more (left first.source) (left new.source) (entered_lines past) line heard_now took_all, serves.none);
@@ -231,7 +231,7 @@ module _ {S K C : Type 0} (left : S → Option (List ℕ)) (written : K → Opti
       line_last (hows.Malformed at) answered = absurd answered.took
       line_last (hows.Overlong at) answered = absurd answered.took
       line_last hows.Failed answered = absurd answered.took
-      line_last (hows.Full len) answered = absurd answered.took
+      line_last hows.Paused answered = absurd answered.took
 
       line_over : AnswersLine written sink_faults plan line false past now old.sink new.sink → ControlRow left written source_faults sink_faults readings plan empty now first new
       line_over (inl refused) = line_refused refused

@@ -5,7 +5,7 @@ use Rattle.savi_kinds.specs.declared.entry.How.{How}
 use Rattle.savi_kinds.specs.declared.entry.How.TheVariants as hows
 use Rattle.cli_lang.specs.Arrivals.{Line}
 use Rattle.hist_store.specs.Rows.{Row}
-use Rattle.savi_history.specs.Bases.{empty}
+use Rattle.checkpoint.specs.Bases.{empty}
 use Rattle.savi_history.specs.ControlInputs.{control_end, entered_lines, is_quit}
 use Rattle.savi_history.specs.ControlOutputs.{replies}
 use Rattle.live_control.specs.Replying.{TakesReply}
@@ -23,12 +23,11 @@ pub record IsAnswered {K : Type 0} (written : K → Option (List ℕ)) (faults :
   pub took : TakesReply (is_quit line) (written old) (written new) (faults old) (faults new) reply ended
   pub later : faults old ≤ faults new
 
--- there was no room for the line, and control has ended for that
+-- there was no room for the line, and control is paused
 pub record IsRefused {K : Type 0} (plan : Plan) (before now : List Row) (old new : K) : Type 0 where
-  pub len : ℕ
   pub lines : entered_lines now ≡ entered_lines before
   pub replied : replies plan empty now ≡ replies plan empty before
-  pub ending : control_end now ≡ Some (hows.Full len)
+  pub ending : control_end now ≡ Some hows.Paused
   pub same : new ≡ old
 
 -- The line was answered and control goes on; or control has ended, behind the answer or for want of room.

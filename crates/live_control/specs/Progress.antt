@@ -8,7 +8,7 @@ use Rattle.savi_ends.specs.Octets.{Takes, behind}
 use Rattle.stream_io.specs.Calls.{AddsReadings}
 use Rattle.cli_lang.specs.Readers.{State, Ended}
 use Rattle.hist_store.specs.Rows.{Row}
-use Rattle.savi_history.specs.Bases.{empty}
+use Rattle.checkpoint.specs.Bases.{empty}
 use Rattle.savi_history.specs.ControlFits.{HasNoQuit}
 use Rattle.savi_history.specs.ControlInputs.{control_end, entered_lines}
 use Rattle.savi_history.specs.ControlOutputs.{replies}

@@ -16,4 +16,4 @@ TakesReply quit before after faults_before faults_after reply (Some hows.End) = 
 TakesReply quit before after faults_before faults_after reply (Some (hows.Malformed at)) = ⊥
 TakesReply quit before after faults_before faults_after reply (Some (hows.Overlong at)) = ⊥
 TakesReply quit before after faults_before faults_after reply (Some hows.Failed) = ⊥
-TakesReply quit before after faults_before faults_after reply (Some (hows.Full len)) = ⊥
+TakesReply quit before after faults_before faults_after reply (Some hows.Paused) = ⊥

@@ -18,9 +18,9 @@ use savi_kinds::{How, Who};
 use std::sync::Wait;
 use table_lock::TableLock;
 
-/// Enters a line in one turn, which puts the reply to it into `reply`, and writes that behind the turn. Control ends where
-/// there is no room for the line, where the reply can't be written, and behind `quit`. The answer is the pass again, and
-/// whether control goes on.
+/// Enters a line in one turn, which puts the reply to it into `reply`, and writes that behind the turn. Control is paused
+/// where there is no room for the line, and ends where the reply can't be written, and behind `quit`. The answer is the pass
+/// again, and whether control goes on.
 pub(crate) fn answer<K: Sink, R: Wait, G: Gate>(
     rt: &R,
     lock: &TableLock<KeptCore>,

@@ -3,7 +3,7 @@
 ghost use Rattle.std.specs.Prelude.{◌≡◌, [], None, Some, not};
 ghost use Rattle.savi_kinds.specs.declared.entry.Who.TheVariants.{Control};
 ghost use Rattle.cli_lang.specs.Readers.{Running};
-ghost use Rattle.savi_history.specs.Bases.{empty};
+ghost use Rattle.checkpoint.specs.Bases.{empty};
 ghost use Rattle.savi_history.specs.ControlInputs.{control_end};
 ghost use Rattle.savi_ends.specs.declared.world.Ends.{Ends};
 ghost use Rattle.core_keep.specs.Seen.{past_seen};
@@ -43,8 +43,9 @@ struct ControlEnds<S, K, C> {
 impl<S: Source, K: Sink, C: Clock> ControlWorker<S, K, C> {
     /// Reads lines until control ends, enters each in a turn of its own with the clock's reading as its stamp (ms), and
     /// writes the reply to each in one write, outside the lock. Control ends as its input does; behind `quit`, and behind a
-    /// line whose reply couldn't be written; and where there is no room for a line. Without ends it ends at once. The answer
-    /// has the pass and the ends again. It takes no memory, and waits for lines and turns for as long as they take.
+    /// line whose reply couldn't be written; and it is paused where there is no room for a line. Without ends it ends at
+    /// once. The answer has the pass and the ends again. It takes no memory, and waits for lines and turns for as long as
+    /// they take.
     pub fn run<R: Wait, G: Gate>(
         self,
         rt: &R,

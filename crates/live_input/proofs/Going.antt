@@ -46,9 +46,9 @@ stamped_more (readers.Pcap old) (readers.Stream new) gave x read mid now arrival
 stamped_more (readers.Stream old) (readers.Pcap new) gave x read mid now arrivals one stamped same = absurd one
 
 -- the stamp of an arrival that wasn't entered was read too
-stamped_full : (len : ℕ) (old : InputReader) (x : Arrival) (read mid now : Option (List ℕ)) (arrivals : List Arrival) → HasStamped old read mid arrivals → HasStampedOne old mid now (stamp_of x) → AreStamped (reader_form old) read now arrivals (Some (hows.Full len))
-stamped_full len (readers.Pcap old) x read mid now arrivals stamped same = same ∙ stamped
-stamped_full len (readers.Stream old) x read mid now arrivals stamped adds = (stamp_of x, adds_more read mid now (stamps_in arrivals) (stamp_of x) stamped adds)
+stamped_full : (old : InputReader) (x : Arrival) (read mid now : Option (List ℕ)) (arrivals : List Arrival) → HasStamped old read mid arrivals → HasStampedOne old mid now (stamp_of x) → AreStamped (reader_form old) read now arrivals (Some hows.Paused)
+stamped_full (readers.Pcap old) x read mid now arrivals stamped same = same ∙ stamped
+stamped_full (readers.Stream old) x read mid now arrivals stamped adds = (stamp_of x, adds_more read mid now (stamps_in arrivals) (stamp_of x) stamped adds)
 
 stamped_end : (old : InputReader) (read mid : Option (List ℕ)) (arrivals : List Arrival) → HasStamped old read mid arrivals → AreStamped (reader_form old) read mid arrivals (Some hows.End)
 stamped_end (readers.Pcap old) read mid arrivals stamped = stamped
@@ -161,9 +161,9 @@ module _ {S C : Type 0} (left : S → Option (List ℕ)) (faults : S → ℕ) (r
     full_at : (x : Arrival) (gave : List ℕ) → Takes (left old.source) (left new.source) gave → IsOne old.reader new.reader gave x → HasStampedOne old.reader (readings old.clock) (readings new.clock) (stamp_of x) → faults new.source ≡ faults old.source
         → Enters port x false before after → IngressRow left faults readings format port after source new.source clock new.clock
     full_at x gave takes one stamp still refused =
-        ended_at (hows.Full refused.1.0) gave takes (omega (arith, still)) (record { arrivals_same = refused.0; ended_so = refused.1.1 })
-        (fits_full (left source) (left old.source) (left new.source) goes.gave gave new.buf (arrived port before) goes.takes takes refused.1.0 x old.reader new.reader goes.read one)
-        (stamped_full refused.1.0 old.reader x (readings clock) (readings old.clock) (readings new.clock) (arrived port before) goes.stamped stamp)
+        ended_at hows.Paused gave takes (omega (arith, still)) (record { arrivals_same = refused.0; ended_so = refused.1 })
+        (fits_full (left source) (left old.source) (left new.source) goes.gave gave new.buf (arrived port before) goes.takes takes x old.reader new.reader goes.read one)
+        (stamped_full old.reader x (readings clock) (readings old.clock) (readings new.clock) (arrived port before) goes.stamped stamp)
         (λ e. cc)
         (λ other. still)
         (λ at same. cc)

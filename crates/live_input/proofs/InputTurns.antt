@@ -1,5 +1,5 @@
 -- What a turn adds to what the history holds of its port's input.
-use Rattle.std.proofs.Common.{◌≡◌, ℕ, Bool, true, false, if◌then◌else◌, List, [], ◌∷◌, ◌++◌, length, refl, sym, ap, ◌∙◌, append-nil, Some}
+use Rattle.std.proofs.Common.{◌≡◌, ℕ, Bool, true, false, if◌then◌else◌, List, [], ◌∷◌, ◌++◌, refl, sym, ap, ◌∙◌, append-nil, Some}
 use Rattle.std.proofs.lemmas.Bool.{eq-eqb}
 use Rattle.savi_kinds.specs.declared.port.Port.{Port}
 use Rattle.savi_kinds.specs.declared.plan.Plan.{Plan}
@@ -10,7 +10,7 @@ use Rattle.savi_kinds.specs.Ports.{number_of}
 use Rattle.savi_kinds.specs.Arrivals.{Arrival}
 use Rattle.savi_kinds.specs.Arrivals as arrivals
 use Rattle.hist_store.specs.Rows.{Row}
-use Rattle.savi_history.specs.Bases.{empty}
+use Rattle.checkpoint.specs.Bases.{empty}
 use Rattle.savi_history.specs.Events.{Event, Frame, Long, Command, Tick, Drain, End}
 use Rattle.savi_history.specs.Legal.{IsLegal}
 use Rattle.savi_history.specs.Passes.{pass_of, place_of}
@@ -35,7 +35,7 @@ module _ (plan : Plan) (past : List Row) (port : Port) where
 
 -- what the pass had seen, what its turn found, and what it left
 module _ (plan : Plan) (before found after : List Row) (legal : IsLegal plan empty found) where
-  pub ends_input : (port : Port) (how : How) → IsLater (place_of plan (number_of port)) before found → DidEnd (Ingress port) how plan found after → EndsInput (number_of port) how before after
+  pub ends_input : (port : Port) (how : How) → IsLater (place_of plan (number_of port)) before found → DidEnd (Ingress port) how plan empty found after → EndsInput (number_of port) how before after
   ends_input port how later did = record {
     arrivals_same =
         ap (λ (past : List Row). arrived (number_of port) past) did
@@ -50,11 +50,11 @@ module _ (plan : Plan) (before found after : List Row) (legal : IsLegal plan emp
       more ∙ ap (λ (l : List Arrival). l ++ x ∷ []) (sym (arrived_stays plan empty before found legal (number_of port) later))
 
   -- and one for which there was no room
-  refused : (port : Port) (x : Arrival) → IsLater (place_of plan (number_of port)) before found → DidEnd (Ingress port) (hows.Full (length found)) plan found after → Enters (number_of port) x false before after
+  refused : (port : Port) (x : Arrival) → IsLater (place_of plan (number_of port)) before found → DidEnd (Ingress port) hows.Paused plan empty found after → Enters (number_of port) x false before after
   refused port x later did =
-      let ends = ends_input port (hows.Full (length found)) later did in (ends.arrivals_same, (length found, ends.ended_so))
+      let ends = ends_input port hows.Paused later did in (ends.arrivals_same, ends.ended_so)
 
-  pub enters_event : (event : Event) (was : Bool) → IsFrame event → IsLater (pass_of plan (maker_of event)) before found → DidInput event was plan found after → EntersEvent event was before after
+  pub enters_event : (event : Event) (was : Bool) → IsFrame event → IsLater (pass_of plan (maker_of event)) before found → DidInput event was plan empty found after → EntersEvent event was before after
   enters_event (Frame port stamp octets) true is later did =
       entered port (arrivals.Frame stamp octets) later (ap (λ (past : List Row). arrived (number_of port) past) did.1 ∙ frame_added plan found port stamp octets)
   enters_event (Frame port stamp octets) false is later did = refused port (arrivals.Frame stamp octets) later did.1

@@ -191,8 +191,8 @@ module _ (before mid now : Option (List ℕ)) (gave more buf : List ℕ) (arriva
   fits_failed (readers.Stream old) (readers.Pcap new) read answers = absurd answers
 
   -- or there was no room for the arrival that was read then
-  pub fits_full : (len : ℕ) (x : Arrival) (old new : InputReader) → HasRead old gave arrivals → IsOne old new more x → FitsInput (reader_form old) before now arrivals (Some (hows.Full len))
-  fits_full len x (readers.Pcap old) (readers.Pcap new) read one =
+  pub fits_full : (x : Arrival) (old new : InputReader) → HasRead old gave arrivals → IsOne old new more x → FitsInput (reader_form old) before now arrivals (Some hows.Paused)
+  fits_full x (readers.Pcap old) (readers.Pcap new) read one =
       let both = joined.has_read_more (captures.Fresh classic_kinds) old new gave more arrivals (x ∷ []) read one.read in
       let rest : captures.Comes new true [] (record { arrivals = []; ending = hows.End }) =
       subst (λ (s : captures.State). captures.Comes s true [] (record { arrivals = []; ending = hows.End })) (sym one.running.1) (refl, refl) in
@@ -203,7 +203,7 @@ module _ (before mid now : Option (List ℕ)) (gave more buf : List ℕ) (arriva
         read = subst (λ (t : List ℕ × List Arrival). AreCapture true t.0 t.1 hows.End)
             (λ i. (append-nil (gave ++ more) i, append-nil (arrivals ++ x ∷ []) i)) (both true [] [] hows.End rest);
       }
-  fits_full len x (readers.Stream old) (readers.Stream new) read one =
+  fits_full x (readers.Stream old) (readers.Stream new) read one =
       stream_cut before now new arrivals x (gave ++ more) (takes_more gave more _ _ _ took takes) (stream_more old new gave more arrivals x read one)
-  fits_full len x (readers.Pcap old) (readers.Stream new) read one = absurd one
-  fits_full len x (readers.Stream old) (readers.Pcap new) read one = absurd one
+  fits_full x (readers.Pcap old) (readers.Stream new) read one = absurd one
+  fits_full x (readers.Stream old) (readers.Pcap new) read one = absurd one

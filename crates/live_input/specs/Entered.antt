@@ -9,12 +9,12 @@ use Rattle.hist_store.specs.Rows.{Row}
 use Rattle.savi_history.specs.Events.{Event, Frame, Long, Command, Tick, Drain, End}
 use Rattle.savi_history.specs.PortInputs.{arrived, input_end}
 
--- An arrival at a port was entered, behind those that came before it there; or there was no room for it, and the input has
--- ended for that.
+-- An arrival at a port was entered, behind those that came before it there; or there was no room for it, and the input is
+-- paused.
 abbrev pub Enters : ℕ → Arrival → Bool → List Row → List Row → Type 0
 Enters port arrival true before after = arrived port after ≡ arrived port before ++ arrival ∷ []
 Enters port arrival false before after =
-    (arrived port after ≡ arrived port before) × ((len : ℕ) × (input_end port after ≡ Some (hows.Full len)))
+    (arrived port after ≡ arrived port before) × (input_end port after ≡ Some hows.Paused)
 
 -- the same of the arrival that an event is
 abbrev pub EntersEvent : Event → Bool → List Row → List Row → Type 0

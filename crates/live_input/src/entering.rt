@@ -20,7 +20,7 @@ use table_lock::TableLock;
 
 /// Enters an arrival in one turn: an `Event::Frame` with the class of its octets, or an `Event::Long`. The answer is the
 /// pass again, and whether the arrival was entered: the history holds it behind those that came before it at its port. Else
-/// there was no room for it, and the input has ended for that. It costs what `Core::step` costs.
+/// there was no room for it, and the input is paused. It costs what `Core::step` costs.
 pub fn enter_arrival<R: Wait, G: Gate>(
     rt: &R,
     lock: &TableLock<KeptCore>,

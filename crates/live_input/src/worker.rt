@@ -33,7 +33,7 @@ impl<S: Source, C: Clock> IngressWorker<S, C> {
     ghost use Rattle.live_input.specs.Workers.{CanRun, HasRun};
 
     /// Reads the input up to its end, and enters each arrival in a turn of its own, in their order; then it enters how the
-    /// input ended: `End`, `Malformed`, `Failed` where a read failed, or `Full` where there was no room for an arrival,
+    /// input ended: `End`, `Malformed`, `Failed` where a read failed, or `Paused` where there was no room for an arrival,
     /// which isn't entered. A frame is classed outside the lock.
     pub fn run<R: Wait, G: Gate>(
         self,

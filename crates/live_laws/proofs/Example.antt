@@ -24,7 +24,7 @@ use Rattle.cli_lang.specs.Arrivals as control
 use Rattle.cli_lang.specs.CommandOf.{command_of}
 use Rattle.hist_store.specs.Rows.{Row}
 use Rattle.savi_access.specs.Judged.{judged}
-use Rattle.savi_history.specs.Bases.{empty}
+use Rattle.checkpoint.specs.Bases.{empty}
 use Rattle.savi_history.specs.ControlInputs.{is_quit}
 use Rattle.savi_history.specs.ControlOutputs.{replies}
 use Rattle.savi_history.specs.Events.{Event, Frame, Command, End}
@@ -174,9 +174,9 @@ past_is_finished (suc (suc (suc (suc pass)))) within = absurd (omega (arith, wit
 past_is_legal : IsLegal plan empty past
 unfolding class_of nd_of named message_passes kind_of guard_of judged offers probes lost
 past_is_legal = (
-  (End (passes.Egress port_one) hows.End, (record { known = refl; running = refl }, (ticker_ended, refl)), refl),
+  (End (passes.Egress port_one) hows.End, (record { known = refl; running = refl }, ((ticker_ended, refl), refl)), refl),
   (
-    (End passes.Ticker hows.End, (record { known = refl; running = refl }, inputs_ended), refl),
+    (End passes.Ticker hows.End, (record { known = refl; running = refl }, (inputs_ended, refl)), refl),
     (
       (End passes.Control hows.Quit, (record { known = refl; running = refl }, tt), refl),
       (

@@ -49,7 +49,7 @@ module _ (weight : Arrival → ℕ) (blind : (reading : ℕ) (a : Arrival) → w
   input_most Pcap before after octets some all (Some hows.End) f told are fits = whole_most weight AreCapture (capture_most weight blind) before octets told all f are some hows.End fits
   input_most Pcap before after octets some all (Some (hows.Malformed at)) f told are fits = whole_most weight AreCapture (capture_most weight blind) before octets told all f are some (hows.Malformed at) fits
   input_most Pcap before after octets some all (Some hows.Failed) f told are fits = gave_most weight AreCapture (capture_most weight blind) before octets told all f are false after fits.gave some hows.Failed fits.takes fits.read
-  input_most Pcap before after octets some all (Some (hows.Full len)) f told are fits =
+  input_most Pcap before after octets some all (Some hows.Paused) f told are fits =
       less weight some (fits.refused ∷ []) (sum_by weight all)
       (gave_most weight AreCapture (capture_most weight blind) before octets told all f are true after fits.gave (some ++ fits.refused ∷ []) hows.End fits.takes fits.read)
   input_most Pcap before after octets some all (Some hows.Quit) f told are fits = absurd fits
@@ -59,7 +59,7 @@ module _ (weight : Arrival → ℕ) (blind : (reading : ℕ) (a : Arrival) → w
   input_most Stream before after octets some all (Some hows.End) f told are fits = whole_most weight IsStream (stream_most weight blind) before octets told all f are some hows.End fits
   input_most Stream before after octets some all (Some (hows.Malformed at)) f told are fits = whole_most weight IsStream (stream_most weight blind) before octets told all f are some (hows.Malformed at) fits
   input_most Stream before after octets some all (Some hows.Failed) f told are fits = gave_most weight IsStream (stream_most weight blind) before octets told all f are false after fits.gave some hows.Failed fits.takes fits.run
-  input_most Stream before after octets some all (Some (hows.Full len)) f told are fits =
+  input_most Stream before after octets some all (Some hows.Paused) f told are fits =
       less weight some (fits.refused ∷ fits.behind) (sum_by weight all)
       (gave_most weight IsStream (stream_most weight blind) before octets told all f are false after fits.gave (some ++ fits.refused ∷ fits.behind) fits.ending fits.takes fits.run)
   input_most Stream before after octets some all (Some hows.Quit) f told are fits = absurd fits
@@ -94,7 +94,7 @@ module _ (weight : Line → ℕ) (blind : (reading : ℕ) (line : Line) → weig
   control_most some (Some (hows.Malformed at)) fits = whole_lines some (hows.Malformed at) fits.0
   control_most some (Some (hows.Overlong at)) fits = whole_lines some (hows.Overlong at) fits.0
   control_most some (Some hows.Failed) fits = gave_lines fits.0.gave some hows.Failed fits.0.takes fits.0.read
-  control_most some (Some (hows.Full len)) fits =
+  control_most some (Some hows.Paused) fits =
       let cut : AreBeforeRefusal AreLiveLines before after some = fits.0 in
       less weight some (cut.refused ∷ cut.behind) (sum_by weight all)
       (refused_lines cut.gave (some ++ cut.refused ∷ cut.behind) cut.ending cut.seen cut.all cut.takes cut.read)

@@ -13,9 +13,9 @@ use Rattle.stream_io.specs.Streams as streams
 use Rattle.cli_lang.specs.Arrivals.{Line}
 use Rattle.cli_lang.specs.Arrivals as control
 use Rattle.hist_store.specs.Rows.{Row, held}
-use Rattle.savi_history.specs.Bases.{Base}
+use Rattle.checkpoint.specs.Bases.{Base}
 use Rattle.savi_history.specs.ControlInputs.{entered_lines, control_end}
-use Rattle.savi_history.specs.Endings.{has_full}
+use Rattle.savi_history.specs.Endings.{has_paused_end}
 use Rattle.savi_history.specs.Limits.{IsWithinLimits}
 use Rattle.savi_history.specs.PortInputs.{arrived, input_end}
 use Rattle.savi_history.specs.Vlans.{the_vlan}
@@ -104,7 +104,7 @@ module _ {S K C : Type 0} (left : S → Option (List ℕ)) (written : K → Opti
         few_of_fewer (length past) (input_count past) (given_count (lines_of lines) (arrivals_of inputs)) (length (base.rows the_vlan)) no_more.0
         (few_entries plan base valid.port_count.1 within past live.legal)
 
-    pub not_full : SufficesFor plan base lines inputs → has_full past ≡ false
+    pub not_full : SufficesFor plan base lines inputs → has_paused_end past ≡ false
     not_full suffices = none_full plan base valid.port_count.1 within past live.legal (record {
       entries = fewer_causes (input_count past) (given_count (lines_of lines) (arrivals_of inputs)) (length (base.rows the_vlan)) plan.entries no_more.0 suffices.entries;
       bytes = fewer_octets (held past) (given_octets (lines_of lines) (arrivals_of inputs)) plan.bytes no_more.1 suffices.bytes;

@@ -8,7 +8,7 @@ use Rattle.savi_kinds.specs.declared.plan.Format.TheVariants.{Pcap, Stream}
 use Rattle.savi_kinds.specs.Arrivals.{Input}
 use Rattle.savi_ends.specs.declared.world.Ends.{Ends}
 use Rattle.cli_lang.specs.Arrivals as control
-use Rattle.savi_history.specs.Bases.{Base}
+use Rattle.checkpoint.specs.Bases.{Base}
 use Rattle.savi_history.specs.Vlans.{the_vlan}
 use Rattle.live_session.specs.LiveControl.{AreLiveLines}
 use Rattle.live_session.specs.LiveInputs.{AreCapture, AreStream}

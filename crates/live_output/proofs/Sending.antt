@@ -1,5 +1,5 @@
 -- What a sink took of what is sent at a port, turn by turn.
-use Rattle.std.proofs.Common.{◌≡◌, ◌≢◌, ℕ, ◌≤◌, ◌==◌, Bool, true, List, [], ◌∷◌, ◌++◌, length, take, refl, ap, sym, subst, ◌∙◌, arith, append_assoc, append-nil, Option, Some, None, if◌then◌else◌}
+use Rattle.std.proofs.Common.{◌≡◌, ◌≢◌, ℕ, ◌≤◌, ◌==◌, Bool, true, false, List, [], ◌∷◌, ◌++◌, length, take, refl, ap, sym, subst, ◌∙◌, arith, append_assoc, append-nil, Option, Some, None, if◌then◌else◌}
 use Rattle.std.proofs.lemmas.Bool.Decides.{nat_tests}
 use Rattle.std.proofs.lemmas.List.{take_all}
 use Rattle.savi_kinds.specs.declared.port.Port.{Port}
@@ -15,13 +15,14 @@ use Rattle.savi_ends.specs.Octets.{behind, IsFront}
 use Rattle.savi_ends.specs.Writes.{Extends}
 use Rattle.savi_ends.proofs.Octets.{behind_again}
 use Rattle.hist_store.specs.Rows.{Row}
-use Rattle.savi_history.specs.Bases.{empty}
+use Rattle.checkpoint.specs.Bases.{empty}
 use Rattle.savi_history.specs.Passes.{egress_pass}
+use Rattle.savi_history.specs.Endings.{has_pause}
 use Rattle.savi_history.specs.Events.{Drain, End}
 use Rattle.savi_history.specs.Legal.{IsLegal}
 use Rattle.savi_history.specs.PortOutputs.{FitsOutput, output_end}
 use Rattle.savi_history.specs.Queues.{Item, queue, sent}
-use Rattle.savi_history.specs.Replay.{with_event}
+use Rattle.savi_history.specs.Replay.{closing, with_event}
 use Rattle.savi_history.proofs.Waiting.{sent_end, sent_here}
 use Rattle.core_keep.specs.Seen.{IsLater}
 use Rattle.live_session.specs.LiveOutputs.{output_text, sure_output}
@@ -32,6 +33,15 @@ use Rattle.live_output.proofs.PartsJoined.{output_begins, output_behind}
 
 itself : (n : ℕ) → (n == n) ≡ true
 itself n = grind (arith, nat_tests)
+
+-- an output that has ended, or is paused, is whole
+fits_whole : (paused : Bool) (before after : Option (List ℕ)) (output sure : List ℕ) → after ≡ behind before output → FitsOutput before after output sure (Some (if paused then hows.Paused else hows.End))
+fits_whole true before after output sure whole = whole
+fits_whole false before after output sure whole = whole
+
+no_failure : (paused : Bool) → Some (if paused then hows.Paused else hows.End) ≡ Some hows.Failed → ⊥
+no_failure true e = cc
+no_failure false e = cc
 
 module _ {K : Type 0} (written : K → Option (List ℕ)) (faults : K → ℕ) (plan : Plan) (format : Format) (port : Port) (first : K) where
   -- A sink took all that was sent so far, and no write has failed.
@@ -70,18 +80,23 @@ module _ {K : Type 0} (written : K → Option (List ℕ)) (faults : K → ℕ) (
       still = so_far.still;
     }
 
-    -- a turn in which the egress ended, behind one that left nothing to write
-    pub sending_ends : (now : List Row) (sink : K) → IsSending before sink → now ≡ with_event plan empty found (End (Egress port) hows.End) → IsMyRow now sink
-    sending_ends now sink so_far made =
+    -- a turn in which the egress ended, or was paused, behind one that left nothing to write
+    ends_by : (now : List Row) (sink : K) (paused : Bool) → IsSending before sink → now ≡ with_event plan empty found (End (Egress port) (if paused then hows.Paused else hows.End)) → IsMyRow now sink
+    ends_by now sink paused so_far made =
+        let reason : How = if paused then hows.Paused else hows.End in
         let items : sent plan empty (number_of port) before ≡ sent plan empty (number_of port) now =
-        sent_is ∙ sym (ap (sent plan empty (number_of port)) made ∙ sent_ends found hows.End) in
-        let how : output_end (number_of port) now ≡ Some hows.End = ap (output_end (number_of port)) made ∙ ends_so found hows.End in
+        sent_is ∙ sym (ap (sent plan empty (number_of port)) made ∙ sent_ends found reason) in
+        let how : output_end (number_of port) now ≡ Some reason = ap (output_end (number_of port)) made ∙ ends_so found reason in
         record {
-          fits = rw how (so_far.took ∙ ap (λ (l : List Item). behind (written first) (output_text format l)) items);
+          fits = rw how (fits_whole paused (written first) (written sink) (output_text format (sent plan empty (number_of port) now)) (sure_output format plan empty (number_of port) now)
+              (so_far.took ∙ ap (λ (l : List Item). behind (written first) (output_text format l)) items));
           later = let before = so_far.still in omega arith;
-          broken = λ failed. let e : Some hows.End ≡ Some hows.Failed = sym how ∙ failed in cc;
+          broken = λ failed. absurd (no_failure paused (sym how ∙ failed));
           still = λ other. so_far.still;
         }
+
+    pub sending_ends : (now : List Row) (sink : K) → IsSending before sink → now ≡ with_event plan empty found (End (Egress port) (closing found)) → IsMyRow now sink
+    sending_ends now sink so_far made = ends_by now sink (has_pause found) so_far made
 
     -- a turn in which the egress ended for a failed write: what the sink took is a front of the output that holds what is
     -- sure

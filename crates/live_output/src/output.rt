@@ -3,7 +3,7 @@
 ghost use Rattle.std.specs.Prelude.{◌≡◌, []};
 ghost use Rattle.savi_kinds.specs.Ports.{number_of};
 ghost use Rattle.savi_kinds.specs.declared.entry.Who.TheVariants.{Egress};
-ghost use Rattle.savi_history.specs.Bases.{empty};
+ghost use Rattle.checkpoint.specs.Bases.{empty};
 ghost use Rattle.core_keep.specs.Seen.{past_seen};
 ghost use Rattle.live_session.specs.LiveRows.{EgressRow};
 ghost use Rattle.live_turns.specs.Seats.{IsEndedPass, IsNewPass, IsRunning, lock_plan};

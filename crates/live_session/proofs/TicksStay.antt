@@ -5,7 +5,7 @@ use Rattle.savi_kinds.specs.declared.plan.Plan.{Plan}
 use Rattle.savi_kinds.specs.declared.entry.How.{How}
 use Rattle.savi_kinds.specs.declared.entry.How.TheVariants as hows
 use Rattle.hist_store.specs.Rows.{Row}
-use Rattle.savi_history.specs.Bases.{Base}
+use Rattle.checkpoint.specs.Bases.{Base}
 use Rattle.savi_history.specs.Events.{Event, Frame, Long, Command, Tick, Drain, End, row_of}
 use Rattle.savi_history.specs.Legal.{IsLegal}
 use Rattle.savi_history.specs.Passes.{ticker_pass}
@@ -46,7 +46,7 @@ module _ (plan : Plan) (base : Base) where
 
   until_more : (newer past : List Row) (latest : List ℕ) (ended_so : Option How) → HasNoTick newer → TickedUntil plan base past latest ended_so → TickedUntil plan base (newer ++ past) latest ended_so
   until_more newer past latest (Some hows.End) none ticked = ticked_more newer past latest none ticked
-  until_more newer past latest (Some (hows.Full len)) none ticked = (ticked.0, ticked.1, ticked.2, ticked_more newer past ticked.1 none ticked.3)
+  until_more newer past latest (Some hows.Paused) none ticked = ticked_more newer past latest none ticked
   until_more newer past latest (Some hows.Quit) none ticked = ticked
   until_more newer past latest (Some (hows.Malformed at)) none ticked = ticked
   until_more newer past latest (Some (hows.Overlong at)) none ticked = ticked

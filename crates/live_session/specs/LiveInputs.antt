@@ -45,7 +45,7 @@ abbrev pub FitsStream : Option (List ℕ) → Option (List ℕ) → List Arrival
 FitsStream before after arrivals (Some hows.End) = IsWhole AreStream before arrivals hows.End
 FitsStream before after arrivals (Some (hows.Malformed at)) = IsWhole AreStream before arrivals (hows.Malformed at)
 FitsStream before after arrivals (Some hows.Failed) = IsBrokenStream before after arrivals
-FitsStream before after arrivals (Some (hows.Full len)) = IsCutStream before after arrivals
+FitsStream before after arrivals (Some hows.Paused) = IsCutStream before after arrivals
 FitsStream before after arrivals (Some hows.Quit) = ⊥
 FitsStream before after arrivals (Some (hows.Overlong at)) = ⊥
 FitsStream before after arrivals (Some hows.Unwritten) = ⊥
@@ -63,7 +63,7 @@ longest_reach Stream = streams.longest_reach
 -- The readings of the clock are these stamps, one after the other; and behind them that of one more, where there was no room
 -- for what carried it.
 abbrev pub AreReadings : Option (List ℕ) → Option (List ℕ) → List ℕ → Option How → Type 0
-AreReadings read read_more stamps (Some (hows.Full len)) = (last : ℕ) × AddsReadings read read_more (stamps ++ last ∷ [])
+AreReadings read read_more stamps (Some hows.Paused) = (last : ℕ) × AddsReadings read read_more (stamps ++ last ∷ [])
 AreReadings read read_more stamps (Some hows.End) = AddsReadings read read_more stamps
 AreReadings read read_more stamps (Some hows.Quit) = AddsReadings read read_more stamps
 AreReadings read read_more stamps (Some (hows.Malformed at)) = AddsReadings read read_more stamps

@@ -9,7 +9,7 @@ use Rattle.savi_kinds.specs.Ports.{number_of}
 use Rattle.pcap_io.specs.Captures.{capture_text}
 use Rattle.stream_io.specs.Records.{stream_text}
 use Rattle.hist_store.specs.Rows.{Row}
-use Rattle.savi_history.specs.Bases.{Base}
+use Rattle.checkpoint.specs.Bases.{Base}
 use Rattle.savi_history.specs.Outputs.{sent_items}
 use Rattle.savi_history.specs.PortOutputs.{FitsOutput, output_end}
 use Rattle.savi_history.specs.Queues.{Item, sent}

@@ -11,7 +11,7 @@ use Rattle.savi_ends.specs.Octets.{Takes}
 use Rattle.stream_io.specs.Calls.{AddsReadings}
 use Rattle.cli_lang.specs.Readers as lines
 use Rattle.hist_store.specs.Rows.{Row}
-use Rattle.savi_history.specs.Bases.{Base}
+use Rattle.checkpoint.specs.Bases.{Base}
 use Rattle.savi_history.specs.ControlFits.{FitsControl}
 use Rattle.savi_history.specs.ControlInputs.{entered_lines, control_end}
 use Rattle.savi_history.specs.ControlOutputs.{FitsRepliesAt}

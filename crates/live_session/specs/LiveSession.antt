@@ -5,7 +5,7 @@ use Rattle.savi_kinds.specs.declared.plan.PortPlan.{PortPlan}
 use Rattle.savi_kinds.specs.Ports.{number_of}
 use Rattle.savi_ends.specs.declared.world.Ends.{Ends}
 use Rattle.hist_store.specs.Rows.{Row}
-use Rattle.savi_history.specs.Bases.{Base}
+use Rattle.checkpoint.specs.Bases.{Base}
 use Rattle.savi_history.specs.Legal.{IsLegal, IsFinished}
 use Rattle.live_session.specs.LiveRows.{IngressRow, EgressRow, ControlRow, NoControlRow, TickerRow}
 

@@ -8,7 +8,8 @@ use Rattle.savi_kinds.specs.declared.entry.Who.TheVariants.{Ingress, Control, Ti
 use Rattle.savi_kinds.specs.declared.entry.How.{How}
 use Rattle.savi_kinds.specs.declared.entry.How.TheVariants as hows
 use Rattle.hist_store.specs.Rows.{Row}
-use Rattle.savi_history.specs.Bases.{Base}
+use Rattle.checkpoint.specs.Bases.{Base}
+use Rattle.savi_history.specs.Limits.{has_room}
 use Rattle.savi_history.specs.Moments.{moment_at}
 use Rattle.savi_history.specs.Offers.{due_by}
 use Rattle.savi_history.specs.Ticks.{HasChangedBy}
@@ -51,20 +52,23 @@ pub record HasNothingDue (plan : Plan) (base : Base) (past : List Row) (stamp : 
   pub unchanged : ¬ HasChangedBy plan base past (moment_at base past stamp)
   pub none : due_by plan base past (moment_at base past stamp) ≡ []
 
--- The ticks of a history are these readings, the newest first, but for those at which nothing was due. Behind the last tick
--- the history may have gone on; and where nothing was due at a reading, that was so of what the history was then.
+-- a tick with this stamp isn't made: there is no room for it, or nothing is due
+abbrev pub IsPassedOver : Plan → Base → List Row → ℕ → Type 0
+IsPassedOver plan base past stamp = (has_room plan past ≡ false) ⊎ HasNothingDue plan base past stamp
+
+-- The ticks of a history are these readings, the newest first, but for those that were passed over. Behind the last tick the
+-- history may have gone on; and where a reading was passed over, that was so of what the history was then.
 abbrev pub Ticked : Plan → Base → List Row → List ℕ → Type 0
 Ticked plan base past [] = HasNoTick past
 Ticked plan base past (reading ∷ earlier) =
     (newer : List Row) × (upto : List Row) × (past ≡ newer ++ upto) × HasNoTick newer
     × (((older : List Row) × (upto ≡ row_of plan base older (Tick reading) ∷ older) × Ticked plan base older earlier)
-    ⊎ (HasNothingDue plan base upto reading × Ticked plan base upto earlier))
+    ⊎ (IsPassedOver plan base upto reading × Ticked plan base upto earlier))
 
--- The readings of the ticker's clock, by how the ticker ended: where it ended for want of room, the last one made no tick.
+-- the readings of the ticker's clock, where the ticker has ended for a reason of its kind
 abbrev pub TickedUntil : Plan → Base → List Row → List ℕ → Option How → Type 0
 TickedUntil plan base past latest (Some hows.End) = Ticked plan base past latest
-TickedUntil plan base past latest (Some (hows.Full len)) =
-    (last : ℕ) × (earlier : List ℕ) × (latest ≡ last ∷ earlier) × Ticked plan base past earlier
+TickedUntil plan base past latest (Some hows.Paused) = Ticked plan base past latest
 TickedUntil plan base past latest (Some hows.Quit) = ⊥
 TickedUntil plan base past latest (Some (hows.Malformed at)) = ⊥
 TickedUntil plan base past latest (Some (hows.Overlong at)) = ⊥

@@ -5,7 +5,7 @@ ghost use Rattle.std.specs.Prelude.{ℕ, List, Option};
 ghost use Rattle.savi_kinds.specs.declared.plan.Plan.{Plan};
 ghost use Rattle.savi_kinds.specs.declared.plan.Format.{Format};
 ghost use Rattle.hist_store.specs.Rows.{Row};
-ghost use Rattle.savi_history.specs.Bases.{Base};
+ghost use Rattle.checkpoint.specs.Bases.{Base};
 ghost use Rattle.savi_history.specs.Legal.{IsLegal};
 ghost use Rattle.savi_history.specs.Passes.{control_pass, egress_pass, place_of, ticker_pass};
 ghost use Rattle.core_keep.specs.Seen.{IsLater};

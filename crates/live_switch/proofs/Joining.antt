@@ -11,7 +11,7 @@ use Rattle.savi_kinds.specs.declared.port.Port.{Port}
 use Rattle.savi_kinds.specs.Ports.{number_of}
 use Rattle.savi_ends.specs.declared.world.Ends.{Ends}
 use Rattle.hist_store.specs.Rows.{Row}
-use Rattle.savi_history.specs.Bases.{empty}
+use Rattle.checkpoint.specs.Bases.{empty}
 use Rattle.savi_history.specs.Legal.{IsLegal, IsFinished}
 use Rattle.savi_history.specs.Passes.{pass_of, pass_count, has_ended}
 use Rattle.table_lock.specs.Entries.{StartsWith, mine}

@@ -7,7 +7,7 @@ use Rattle.savi_kinds.specs.declared.plan.Plan.{Plan}
 use Rattle.savi_ends.specs.declared.world.Ends.{Ends}
 use Rattle.cli_lang.specs.Arrivals.{Line}
 use Rattle.hist_store.specs.Rows.{Row}
-use Rattle.savi_history.specs.Bases.{empty}
+use Rattle.checkpoint.specs.Bases.{empty}
 use Rattle.savi_history.specs.ControlFits.{FitsControl}
 use Rattle.savi_history.specs.ControlOutputs.{FitsReplies}
 use Rattle.savi_history.specs.Legal.{IsLegal}

@@ -5,7 +5,7 @@ use Rattle.savi_kinds.specs.declared.plan.Plan.{Plan}
 use Rattle.savi_kinds.specs.declared.plan.PortPlan.{PortPlan}
 use Rattle.savi_ends.specs.declared.world.Ends.{Ends}
 use Rattle.hist_store.specs.Rows.{Row}
-use Rattle.savi_history.specs.Bases.{empty}
+use Rattle.checkpoint.specs.Bases.{empty}
 use Rattle.savi_history.specs.Legal.{IsLegal}
 use Rattle.table_lock.specs.declared.pass.Pass.{Pass}
 use Rattle.table_lock.specs.Passes.{pass_number}

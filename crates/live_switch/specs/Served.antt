@@ -5,7 +5,7 @@ use Rattle.savi_kinds.specs.declared.plan.Format.{Format}
 use Rattle.savi_kinds.specs.declared.port.Port.{Port}
 use Rattle.savi_kinds.specs.Ports.{number_of}
 use Rattle.savi_ends.specs.declared.world.Ends.{Ends}
-use Rattle.savi_history.specs.Bases.{empty}
+use Rattle.checkpoint.specs.Bases.{empty}
 use Rattle.table_lock.specs.declared.lock.TableLock.{TableLock}
 use Rattle.table_lock.specs.declared.pass.Pass.{Pass}
 use Rattle.core_keep.specs.declared.keep.KeptCore.{KeptCore}

@@ -2,7 +2,7 @@
 use Rattle.std.specs.Prelude.{◌≡◌, ℕ, ◌≤◌, true, List, length, Option, vec_len, vec_capacity}
 use Rattle.std.specs.List.{All}
 use Rattle.savi_kinds.specs.ValidPlan.{IsValidPlan}
-use Rattle.savi_history.specs.Bases.{empty}
+use Rattle.checkpoint.specs.Bases.{empty}
 use Rattle.savi_history.specs.Passes.{has_ended}
 use Rattle.table_lock.specs.Passes.{IsPassOf, pass_number}
 use Rattle.table_lock.specs.declared.lock.TableLock.{TableLock}

@@ -4,11 +4,12 @@ ghost use Rattle.std.specs.Prelude.{◌≡◌, IfErr, IfOk, length, vec_len};
 ghost use Rattle.std.specs.Thread.{IsSync};
 ghost use Rattle.savi_kinds.specs.ValidPlan.{IsValidPlan};
 ghost use Rattle.savi_kinds.specs.declared.entry.Who.TheVariants.{Control, Egress, Ingress, Ticker};
-ghost use Rattle.savi_history.specs.Bases.{empty};
+ghost use Rattle.checkpoint.specs.Bases.{empty};
 ghost use Rattle.savi_history.specs.Passes.{pass_count};
+ghost use Rattle.savi_core.specs.Machines.{base_of};
 ghost use Rattle.table_lock.specs.Passes.{lock_seats};
 ghost use Rattle.live_session.specs.LiveSession.{IsLive};
-ghost use Rattle.live_turns.specs.Seats.{IsNewPass, lock_plan};
+ghost use Rattle.live_turns.specs.Seats.{IsNewPass, lock_base, lock_plan};
 ghost use Rattle.live_switch.specs.Dealt.{AreFor};
 ghost use Rattle.live_switch.specs.Served.{IsControlServed, IsInputServed, IsTickerServed, IsOutputServed};
 ghost use Rattle.live_switch.specs.Works.{IsDone, IsReadyWork};
@@ -54,6 +55,7 @@ pub fn session<
     requires planned { vec_len ready.ports ≡ length plan.ports }
     ensures none { IfErr result (λ back. back ≡ ready) }
     ensures plan { IfOk result (λ closed. closed.core.plan ≡ plan) }
+    ensures base { IfOk result (λ closed. base_of closed.core ≡ empty) }
     ensures live { IfOk result (λ closed. IsLive S.left K.written S.faults K.faults C.readings plan empty closed.core.past ready.ports.items closed.ready.ports.items ready.control closed.ready.control ready.ticker closed.ready.ticker) }
 {
     let Ok(seats) = seats_of(alloc, &plan) else {
@@ -98,6 +100,7 @@ pub fn session<
 fn lock_of(alloc: Global, plan: Plan) -> Result<(TableLock<KeptCore>, Vec<Pass>), AllocError>
     requires { IsValidPlan plan }
     ensures lock { IfOk result (λ made. (lock_plan made.0 ≡ plan) × (lock_seats made.0 ≡ pass_count plan)) }
+    ensures base { IfOk result (λ made. lock_base made.0 ≡ empty) }
     ensures passes { IfOk result (λ made. AreFor made.0 (length plan.ports) made.1.items) }
 {
     let ports = plan.ports.as_slice().len() as u32;

@@ -1,5 +1,5 @@
 -- What one more reading of the ticker's clock comes to, by what its turn did.
-use Rattle.std.proofs.Common.{◌≡◌, ℕ, List, [], ◌∷◌, reverse, length, refl, sym, ap, subst, Option, Some, inl, inr}
+use Rattle.std.proofs.Common.{◌≡◌, ℕ, Bool, true, false, if◌then◌else◌, List, [], ◌∷◌, reverse, refl, sym, ap, subst, Option, Some, inl, inr}
 use Rattle.std.proofs.lemmas.List.{reverse-append}
 use Rattle.savi_kinds.specs.declared.plan.Plan.{Plan}
 use Rattle.savi_kinds.specs.declared.entry.Who.TheVariants.{Ticker}
@@ -9,17 +9,18 @@ use Rattle.savi_ends.specs.Readings.{AddsReading}
 use Rattle.stream_io.specs.Calls.{AddsReadings}
 use Rattle.stream_io.proofs.ClockReadings.{adds_none, adds_more}
 use Rattle.hist_store.specs.Rows.{Row}
-use Rattle.savi_history.specs.Bases.{empty}
+use Rattle.checkpoint.specs.Bases.{empty}
+use Rattle.savi_history.specs.Endings.{has_pause}
 use Rattle.savi_history.specs.Events.{Tick, End, row_of}
 use Rattle.savi_history.specs.Legal.{IsLegal}
 use Rattle.savi_history.specs.Passes.{ticker_pass}
-use Rattle.savi_history.specs.Replay.{with_event}
+use Rattle.savi_history.specs.Replay.{closing, with_event}
 use Rattle.core_keep.specs.Seen.{IsLater, past_seen}
 use Rattle.core_keep.specs.declared.keep.KeptCore.{KeptCore}
 use Rattle.table_lock.specs.declared.lock.TableLock.{TableLock}
 use Rattle.table_lock.specs.declared.pass.Pass.{Pass}
 use Rattle.live_session.specs.LiveRows.{TickerRow}
-use Rattle.live_session.specs.Ticking.{HasNoTick, HasNothingDue, Ticked, TickedUntil, ticker_end}
+use Rattle.live_session.specs.Ticking.{HasNoTick, IsPassedOver, Ticked, TickedUntil, ticker_end}
 use Rattle.live_session.proofs.TicksStay.{ticks_stay}
 use Rattle.live_turns.specs.Seats.{IsAt, lock_plan}
 use Rattle.live_turns.specs.Turned.{Turned}
@@ -63,10 +64,15 @@ module _ (plan : Plan) where
     ticked.4,
   )
 
+  -- it ended, or was paused
+  ends_so : (past : List Row) (latest : List ℕ) (paused : Bool) → Ticked plan empty past latest → TickedUntil plan empty past latest (Some (if paused then hows.Paused else hows.End))
+  ends_so past latest true ticked = ticked
+  ends_so past latest false ticked = ticked
+
   made : (found : List Row) (reading : ℕ) (latest : List ℕ) → Ticked plan empty found latest → Ticked plan empty (with_event plan empty found (Tick reading)) (reading ∷ latest)
   made found reading latest ticked = ([], with_event plan empty found (Tick reading), refl, tt, inl (found, refl, ticked))
 
-  idle : (found : List Row) (reading : ℕ) (latest : List ℕ) → HasNothingDue plan empty found reading → Ticked plan empty found latest → Ticked plan empty found (reading ∷ latest)
+  idle : (found : List Row) (reading : ℕ) (latest : List ℕ) → IsPassedOver plan empty found reading → Ticked plan empty found latest → Ticked plan empty found (reading ∷ latest)
   idle found reading latest none ticked = ([], found, refl, tt, inr (none, ticked))
 
 module _ (lock : TableLock KeptCore) (before after : Pass) (stamp : ℕ) where
@@ -87,8 +93,8 @@ module _ (lock : TableLock KeptCore) (before after : Pass) (stamp : ℕ) where
     idle_tick turn = record {
       latest = stamp ∷ so_far.latest;
       reads = reads_more old mid now so_far.latest stamp so_far.reads reading;
-      ticked = subst (λ (p : List Row). Ticked (lock_plan lock) empty p (stamp ∷ so_far.latest)) (sym turn.did.3)
-          (idle (lock_plan lock) turn.found stamp so_far.latest turn.did.1 (found_so turn.found so_far.latest turn.later turn.legal so_far.ticked));
+      ticked = subst (λ (p : List Row). Ticked (lock_plan lock) empty p (stamp ∷ so_far.latest)) (sym turn.did.2)
+          (idle (lock_plan lock) turn.found stamp so_far.latest turn.did.0 (found_so turn.found so_far.latest turn.later turn.legal so_far.ticked));
     }
 
 -- the worker is given back with the pass and the clock
@@ -102,20 +108,8 @@ module _ {C : Type 0} (readings : C → Option (List ℕ)) (lock : TableLock Kep
   last_row turn = record {
     latest = stamp ∷ so_far.latest;
     reads = reads_more (readings old) (readings mid) (readings now) so_far.latest stamp so_far.reads reading;
-    ticked = subst (λ (p : List Row). TickedUntil (lock_plan lock) empty p (stamp ∷ so_far.latest) (ticker_end p)) (sym turn.did.3)
-        (behind_end (lock_plan lock) turn.found hows.End (stamp ∷ so_far.latest)
-        (idle (lock_plan lock) turn.found stamp so_far.latest turn.did.1 (found_so lock before after stamp turn.found so_far.latest turn.later turn.legal so_far.ticked)));
-  }
-
-  pub full_row : Turned lock Ticker before after (DidTick stamp ticks.Full) → TickerRow readings (lock_plan lock) empty (past_seen after) old now
-  full_row turn = record {
-    latest = stamp ∷ so_far.latest;
-    reads = reads_more (readings old) (readings mid) (readings now) so_far.latest stamp so_far.reads reading;
-    ticked = subst (λ (p : List Row). TickedUntil (lock_plan lock) empty p (stamp ∷ so_far.latest) (ticker_end p)) (sym turn.did.1) (
-      stamp,
-      so_far.latest,
-      refl,
-      behind_end (lock_plan lock) turn.found (hows.Full (length turn.found)) so_far.latest
-          (found_so lock before after stamp turn.found so_far.latest turn.later turn.legal so_far.ticked),
-    );
+    ticked = subst (λ (p : List Row). TickedUntil (lock_plan lock) empty p (stamp ∷ so_far.latest) (ticker_end p)) (sym turn.did.2)
+        (ends_so (lock_plan lock) (with_event (lock_plan lock) empty turn.found (End Ticker (closing turn.found))) (stamp ∷ so_far.latest) (has_pause turn.found)
+        (behind_end (lock_plan lock) turn.found (closing turn.found) (stamp ∷ so_far.latest)
+        (idle (lock_plan lock) turn.found stamp so_far.latest turn.did.0 (found_so lock before after stamp turn.found so_far.latest turn.later turn.legal so_far.ticked))));
   }

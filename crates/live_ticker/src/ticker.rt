@@ -2,7 +2,7 @@
 
 ghost use Rattle.std.specs.Prelude.{◌≡◌};
 ghost use Rattle.savi_kinds.specs.declared.entry.Who.TheVariants.{Ticker};
-ghost use Rattle.savi_history.specs.Bases.{empty};
+ghost use Rattle.checkpoint.specs.Bases.{empty};
 ghost use Rattle.core_keep.specs.Seen.{past_seen};
 ghost use Rattle.live_session.specs.LiveRows.{TickerRow};
 ghost use Rattle.live_turns.specs.Seats.{IsEndedPass, IsNewPass, lock_plan};
@@ -15,7 +15,7 @@ use std::thread::Parker;
 use std::time::Duration;
 use table_lock::{Pass, TableLock};
 
-/// How long the ticker rests where nothing was due, beside what its clock waits, in ms.
+/// How long the ticker rests where it made no tick, beside what its clock waits, in ms.
 const REST_MS: u64 = 2;
 
 /// The ticker's pass and its clock.
@@ -27,8 +27,8 @@ pub struct TickerWorker<C> {
 
 impl<C: Clock> TickerWorker<C> {
     /// Waits on the clock and takes a turn with the moment that it then reads (ms), again and again: a tick is made where an
-    /// address has another state by then. It ends where nothing is due and no input may come any more, and where there is no
-    /// room for a tick.
+    /// address has another state by then, and there is room. It ends where none is made and no input may come any more, and
+    /// is paused where an input is.
     ///
     /// The answer has the pass and the clock again. It takes no memory, and nothing is promised of how long it goes on.
     pub fn run<R: Wait, G: Gate>(
@@ -53,7 +53,6 @@ impl<C: Clock> TickerWorker<C> {
                     turns = next;
                 }
                 TickTurn::Ended => return ended(next, clock),
-                TickTurn::Full => return ended(next, clock),
             }
         }
         unreachable!()

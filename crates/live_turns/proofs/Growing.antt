@@ -17,11 +17,11 @@ use Rattle.savi_kinds.specs.Ports.{number_of}
 use Rattle.savi_kinds.specs.PortSets.{is_member}
 use Rattle.savi_kinds.specs.ValidPlan.{numbers_of}
 use Rattle.hist_store.specs.Rows.{Row}
-use Rattle.savi_history.specs.Bases.{empty}
+use Rattle.checkpoint.specs.Bases.{Base}
 use Rattle.savi_history.specs.Events.{Event, Frame, Long, Command, Tick, Drain, End, row_of}
 use Rattle.savi_history.specs.Passes.{has_port}
 use Rattle.savi_history.specs.Queues.{Item, queue, probed, framed, room_at, queued_at, over_ports, probes}
-use Rattle.savi_history.specs.Replay.{with_event}
+use Rattle.savi_history.specs.Replay.{closing, with_event}
 use Rattle.live_turns.specs.declared.kinds.TickTurn.{TickTurn}
 use Rattle.live_turns.specs.declared.kinds.TickTurn.TheVariants as ticks
 use Rattle.live_turns.specs.declared.kinds.DrainTurn.{DrainTurn}
@@ -50,16 +50,16 @@ some_over (n ∷ rest) q count any some =
       | inr apart ↦ sum_by q n rest count false apart (λ off. some_over rest q count (rw apart at any) some) some
     ]
 
-module _ (plan : Plan) (past : List Row) where
+module _ (plan : Plan) (base : Base) (past : List Row) where
   -- an entry counts probes where one joined at a port of the plan
-  counted : (act : Act) (octets : List ℕ) (q : ℕ) → has_port plan q ≡ true → length (queue plan empty q past) < length (probed plan empty past act octets q (queue plan empty q past)) → 0 < probes plan empty past act octets
+  counted : (act : Act) (octets : List ℕ) (q : ℕ) → has_port plan q ≡ true → length (queue plan base q past) < length (probed plan base past act octets q (queue plan base q past)) → 0 < probes plan base past act octets
   unfolding probes
-  counted act octets q of grown = some_over (numbers_of plan.ports) q (queued_at plan empty past act octets) of (omega (arith, grown))
+  counted act octets q of grown = some_over (numbers_of plan.ports) q (queued_at plan base past act octets) of (omega (arith, grown))
 
   -- a queue that has grown by an entry with a frame
   frame_grown : (q : ℕ) (r : Row) (act : Act) → has_port plan q ≡ true
-      → length (queue plan empty q past) < length (framed (room_at plan empty past q) q r (probed plan empty past act r.octets q (queue plan empty q past)))
-      → (0 < probes plan empty past act r.octets) ⊎ (is_member r.entry.outs q ≡ true)
+      → length (queue plan base q past) < length (framed (room_at plan base past q) q r (probed plan base past act r.octets q (queue plan base q past)))
+      → (0 < probes plan base past act r.octets) ⊎ (is_member r.entry.outs q ≡ true)
   frame_grown q r act of grown =
       elim (cases_Bool (is_member r.entry.outs q)) [
         | inl to ↦ inr to
@@ -67,15 +67,15 @@ module _ (plan : Plan) (past : List Row) where
       ]
 
   -- behind an input the ports are told whose queues may have grown
-  pub input_grown : (event : Event) (entry : Entry) (now : List Row) (ports : PortSet) → IsFrame event → now ≡ with_event plan empty past event → entry ≡ (row_of plan empty past event).entry → MayHaveQueued entry ports → HasGrownPorts ports plan past now
+  pub input_grown : (event : Event) (entry : Entry) (now : List Row) (ports : PortSet) → IsFrame event → now ≡ with_event plan base past event → entry ≡ (row_of plan base past event).entry → MayHaveQueued entry ports → HasGrownPorts ports plan base past now
   input_grown (Frame port stamp octets) entry now ports frame is same may = λ to of grown.
-      let row = row_of plan empty past (Frame port stamp octets) in
-      let more : HasGrown plan past (row ∷ past) to = subst (λ (rows : List Row). HasGrown plan past rows to) is grown in
+      let row = row_of plan base past (Frame port stamp octets) in
+      let more : HasGrown plan base past (row ∷ past) to = subst (λ (rows : List Row). HasGrown plan base past rows to) is grown in
       let some = frame_grown (number_of to) row row.entry.act of more in
       may to (subst (λ (e : Entry). (0 < e.probes) ⊎ (is_member e.outs (number_of to) ≡ true)) (sym same) some)
   input_grown (Long port stamp len) entry now ports frame is same may = λ to of grown.
-      let row = row_of plan empty past (Long port stamp len) in
-      let more : HasGrown plan past (row ∷ past) to = subst (λ (rows : List Row). HasGrown plan past rows to) is grown in
+      let row = row_of plan base past (Long port stamp len) in
+      let more : HasGrown plan base past (row ∷ past) to = subst (λ (rows : List Row). HasGrown plan base past rows to) is grown in
       may to (subst (λ (e : Entry). (0 < e.probes) ⊎ (is_member e.outs (number_of to) ≡ true)) (sym same) (inl (counted row.entry.act row.octets (number_of to) of more)))
   input_grown (Command stamp line) entry now ports frame is same may = absurd frame
   input_grown (Tick stamp) entry now ports frame is same may = absurd frame
@@ -88,45 +88,44 @@ module _ (plan : Plan) (past : List Row) where
   end_shorter q port waiting true grown = omega (arith, grown)
   end_shorter q port waiting false grown = omega (arith, grown)
 
-  end_grown : (who : Who) (how : How) (q : ℕ) → length (queue plan empty q past) < length (queue plan empty q (with_event plan empty past (End who how))) → ⊥
-  end_grown (Egress port) hows.Failed q grown = end_shorter q port (queue plan empty q past) (number_of port == q) grown
+  end_grown : (who : Who) (how : How) (q : ℕ) → length (queue plan base q past) < length (queue plan base q (with_event plan base past (End who how))) → ⊥
+  end_grown (Egress port) hows.Failed q grown = end_shorter q port (queue plan base q past) (number_of port == q) grown
   end_grown (Egress port) hows.End q grown = omega (arith, grown)
   end_grown (Egress port) hows.Quit q grown = omega (arith, grown)
   end_grown (Egress port) (hows.Malformed at) q grown = omega (arith, grown)
   end_grown (Egress port) (hows.Overlong at) q grown = omega (arith, grown)
   end_grown (Egress port) hows.Unwritten q grown = omega (arith, grown)
-  end_grown (Egress port) (hows.Full len) q grown = omega (arith, grown)
+  end_grown (Egress port) hows.Paused q grown = omega (arith, grown)
   end_grown (Ingress port) how q grown = omega (arith, grown)
   end_grown Control how q grown = omega (arith, grown)
   end_grown Ticker how q grown = omega (arith, grown)
 
-  pub none_grown_end : (who : Who) (how : How) (now : List Row) (woken : List (Option Woken)) → DidEnd who how plan past now → WokeGrown woken plan past now
+  pub none_grown_end : (who : Who) (how : How) (now : List Row) (woken : List (Option Woken)) → DidEnd who how plan base past now → WokeGrown woken plan base past now
   none_grown_end who how now woken did = λ to of grown.
-      absurd (end_grown who how (number_of to) (subst (λ (rows : List Row). HasGrown plan past rows to) did grown))
+      absurd (end_grown who how (number_of to) (subst (λ (rows : List Row). HasGrown plan base past rows to) did grown))
 
   -- nor where nothing was done
-  none_grown_still : (now : List Row) (woken : List (Option Woken)) → now ≡ past → WokeGrown woken plan past now
+  none_grown_still : (now : List Row) (woken : List (Option Woken)) → now ≡ past → WokeGrown woken plan base past now
   none_grown_still now woken same = λ to of grown.
-      let more : HasGrown plan past past to = subst (λ (rows : List Row). HasGrown plan past rows to) same grown in
+      let more : HasGrown plan base past past to = subst (λ (rows : List Row). HasGrown plan base past rows to) same grown in
       absurd (omega (arith, more))
 
   drain_shorter : (count : ℕ) (waiting : List Item) → (b : Bool) → length waiting < length (if b then drop count waiting else waiting) → ⊥
   drain_shorter count waiting true grown = let size = length-drop count waiting in omega (arith, grown, size)
   drain_shorter count waiting false grown = omega (arith, grown)
 
-  pub none_grown_drain : (port : Port) (batch : List Item) (came : DrainTurn) (now : List Row) (woken : List (Option Woken)) → DidDrain port batch came plan past now → WokeGrown woken plan past now
+  pub none_grown_drain : (port : Port) (batch : List Item) (came : DrainTurn) (now : List Row) (woken : List (Option Woken)) → DidDrain port batch came plan base past now → WokeGrown woken plan base past now
   none_grown_drain port batch drains.Took now woken did = λ to of grown.
-      absurd (drain_shorter (length batch) (queue plan empty (number_of to) past) (number_of port == number_of to) (subst (λ (rows : List Row). HasGrown plan past rows to) did.2 grown))
+      absurd (drain_shorter (length batch) (queue plan base (number_of to) past) (number_of port == number_of to) (subst (λ (rows : List Row). HasGrown plan base past rows to) did.2 grown))
   none_grown_drain port batch drains.Idle now woken did = none_grown_still now woken did.3
-  none_grown_drain port batch drains.Ended now woken did = none_grown_end (Egress port) hows.End now woken did.3
+  none_grown_drain port batch drains.Ended now woken did = none_grown_end (Egress port) (closing past) now woken did.3
 
   -- each port was woken, or the ticker did nothing
-  pub tick_grown : (stamp : ℕ) (came : TickTurn) (now : List Row) (woken : List (Option Woken)) → DidTick stamp came plan past now → ((came ≡ ticks.Idle → ⊥) → (port : Port) → was_woken woken (number_of port) ≡ true) → WokeGrown woken plan past now
+  pub tick_grown : (stamp : ℕ) (came : TickTurn) (now : List Row) (woken : List (Option Woken)) → DidTick stamp came plan base past now → ((came ≡ ticks.Idle → ⊥) → (port : Port) → was_woken woken (number_of port) ≡ true) → WokeGrown woken plan base past now
   tick_grown stamp ticks.Made now woken did all = λ to of grown. all (λ e. cc) to
-  tick_grown stamp ticks.Idle now woken did all = none_grown_still now woken did.3
+  tick_grown stamp ticks.Idle now woken did all = none_grown_still now woken did.2
   tick_grown stamp ticks.Ended now woken did all = λ to of grown. all (λ e. cc) to
-  tick_grown stamp ticks.Full now woken did all = λ to of grown. all (λ e. cc) to
 
 -- ports that are told are woken
-pub woken_too : (told : PortSet) (woken : List (Option Woken)) (plan : Plan) (past now : List Row) → HasAll told woken → HasGrownPorts told plan past now → WokeGrown woken plan past now
-woken_too told woken plan past now all grown = λ to of more. all to (grown to of more)
+pub woken_too : (told : PortSet) (woken : List (Option Woken)) (plan : Plan) (base : Base) (past now : List Row) → HasAll told woken → HasGrownPorts told plan base past now → WokeGrown woken plan base past now
+woken_too told woken plan base past now all grown = λ to of more. all to (grown to of more)

@@ -4,7 +4,7 @@ use Rattle.std.specs.Prelude.{MatchBool, nat_lt}
 use Rattle.std.proofs.lemmas.Bool.{ltb-false, ltb-true}
 use Rattle.savi_kinds.specs.declared.plan.Plan.{Plan}
 use Rattle.hist_store.specs.Rows.{Row}
-use Rattle.savi_history.specs.Bases.{Base, empty}
+use Rattle.checkpoint.specs.Bases.{Base}
 use Rattle.savi_history.specs.Legal.{InputsEnded}
 use Rattle.savi_history.specs.Passes.{AllEnded, control_pass, has_ended}
 use Rattle.savi_core.specs.Counts.{open_below}
@@ -21,10 +21,10 @@ none_open base past (suc n) all =
 pub some_open : (base : Base) (past : List Row) (n : ℕ) → 0 < open_below base past n → ¬ AllEnded base n past
 some_open base past n some all = let none = none_open base past n all in absurd (omega (arith, some, none))
 
-input_by : (plan : Plan) (past : List Row) (left : ℕ) → left ≡ open_below empty past (control_pass plan + 1) → (b : Bool) → nat_lt 0 left ≡ b → MatchBool b (¬ InputsEnded plan empty past) (InputsEnded plan empty past)
-input_by plan past left is true some = some_open empty past (control_pass plan + 1) (let more : 0 < left = ltb-true 0 left some in omega (arith, more, is))
-input_by plan past left is false none = all_ended empty past (control_pass plan + 1) (let fewer : left ≤ 0 = ltb-false 0 left none in omega (arith, fewer, is))
+input_by : (plan : Plan) (base : Base) (past : List Row) (left : ℕ) → left ≡ open_below base past (control_pass plan + 1) → (b : Bool) → nat_lt 0 left ≡ b → MatchBool b (¬ InputsEnded plan base past) (InputsEnded plan base past)
+input_by plan base past left is true some = some_open base past (control_pass plan + 1) (let more : 0 < left = ltb-true 0 left some in omega (arith, more, is))
+input_by plan base past left is false none = all_ended base past (control_pass plan + 1) (let fewer : left ≤ 0 = ltb-false 0 left none in omega (arith, fewer, is))
 
 -- an input may still come exactly where the count of those that are open isn't 0
-pub input_open : (plan : Plan) (past : List Row) (left : ℕ) → left ≡ open_below empty past (control_pass plan + 1) → MatchBool (nat_lt 0 left) (¬ InputsEnded plan empty past) (InputsEnded plan empty past)
-input_open plan past left is = input_by plan past left is (nat_lt 0 left) refl
+pub input_open : (plan : Plan) (base : Base) (past : List Row) (left : ℕ) → left ≡ open_below base past (control_pass plan + 1) → MatchBool (nat_lt 0 left) (¬ InputsEnded plan base past) (InputsEnded plan base past)
+input_open plan base past left is = input_by plan base past left is (nat_lt 0 left) refl

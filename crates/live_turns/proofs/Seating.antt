@@ -6,7 +6,7 @@ use Rattle.table_lock.specs.declared.lock.TableLock.{TableLock}
 use Rattle.table_lock.specs.declared.pass.Pass.{Pass}
 use Rattle.table_lock.specs.Passes.{pass_fixed, pass_number, pass_seen, pass_sleeps_at, pass_table}
 use Rattle.hist_store.specs.Rows.{Row}
-use Rattle.savi_history.specs.Bases.{Base, empty}
+use Rattle.checkpoint.specs.Bases.{Base, empty}
 use Rattle.savi_history.specs.Passes.{has_ended, is_end, pass_of}
 use Rattle.core_keep.specs.declared.keep.KeptCore.{KeptCore}
 use Rattle.core_keep.specs.Pasts.{decoded}
@@ -28,6 +28,7 @@ ended_stays base pass before now later = ap (has_ended base pass) later.split �
 pub new_runs : (lock : TableLock KeptCore) (who : Who) (pass : Pass) → sleeps_at who ≡ None → IsNewPass lock who pass → IsRunning lock who pass
 new_runs lock who pass awake new = record {
   of = new.of;
+  start = new.start;
   known = new.known;
   number_is = new.number_is;
   sleeps = new.placeless ∙ sym awake;
@@ -40,6 +41,7 @@ pub placed_runs : (lock : TableLock KeptCore) (who : Who) (new placed : Pass) �
     → IsNewPass lock who new → IsRunning lock who placed
 placed_runs lock who new placed table fixed number seen place is = record {
   of = (table ∙ is.of.0, fixed ∙ is.of.1);
+  start = is.start;
   known = is.known;
   number_is = number ∙ is.number_is;
   sleeps = place;

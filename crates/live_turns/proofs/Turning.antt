@@ -8,17 +8,19 @@ use Rattle.table_lock.specs.Entries.{EntryList, StartsWith, mine}
 use Rattle.table_lock.specs.Passes.{IsPassOf, lock_first, pass_number, pass_own, pass_seen, pass_sleeps_at}
 use Rattle.table_lock.specs.Turns.{IsOrGrowsBy}
 use Rattle.hist_store.specs.Rows.{Row}
-use Rattle.savi_history.specs.Bases.{empty}
+use Rattle.checkpoint.specs.Bases.{Base, empty}
+use Rattle.checkpoint.specs.Columns as columns
 use Rattle.savi_history.specs.Events.{Event, Frame, Long, Command, Tick, Drain, End, row_of}
 use Rattle.savi_history.specs.Legal.{IsLegal, IsOpen}
 use Rattle.savi_history.specs.Passes.{has_ended, pass_of}
+use Rattle.savi_core.specs.Machines.{base_of}
 use Rattle.core_keep.specs.declared.keep.KeptCore.{KeptCore}
 use Rattle.core_keep.specs.Pasts.{coded, decoded}
 use Rattle.core_keep.specs.RowCodes.{row_code}
 use Rattle.core_keep.specs.Seen.{IsLater, past_seen}
 use Rattle.core_keep.proofs.Goings.{later_of}
 use Rattle.core_keep.proofs.PastsRead.{past_again}
-use Rattle.core_keep.proofs.PlansApart.{one_plan}
+use Rattle.core_keep.proofs.BasesApart.{one_fixed}
 use Rattle.live_turns.specs.Seats.{IsAt, IsRunning, kept_fixed, lock_plan}
 use Rattle.live_turns.specs.TurnKinds.{maker_of}
 use Rattle.live_turns.specs.Turned.{Turned}
@@ -28,8 +30,9 @@ use Rattle.live_turns.proofs.Seating.{ended_stays}
 -- what a turn of this pass finds
 pub record Finds (lock : TableLock KeptCore) (who : Who) (before : Pass) (kept : KeptCore) : Type 0 where
   pub plan_is : kept.core.value.plan ≡ lock_plan lock
+  pub base_is : base_of kept.core.value ≡ empty
   pub later : IsLater (pass_of (lock_plan lock) who) (past_seen before) kept.core.value.past
-  pub opens : IsOpen kept.core.value.plan empty kept.core.value.past who
+  pub opens : IsOpen kept.core.value.plan (base_of kept.core.value) kept.core.value.past who
 
 -- the pass that has left is one of this lock
 pub left_of : (lock here : TableLock KeptCore) (left after : Pass) → here ≡ lock → after ≡ left → IsPassOf kept_fixed here left → IsPassOf kept_fixed lock after
@@ -41,7 +44,8 @@ module _ (lock : TableLock KeptCore) (who : Who) (before : Pass) (running : IsRu
       → coded kept.core.value.past ≡ seen → StartsWith seen (pass_seen pass) → mine (pass_number pass) seen ≡ pass_own pass
       → kept_fixed kept ≡ kept_fixed (lock_first lock) → Finds lock who before kept
   finds pass kept seen same at extends own fixed =
-      let plan_is : kept.core.value.plan ≡ lock_plan lock = one_plan kept.core.value.plan (lock_plan lock) fixed in
+      let one = one_fixed kept.core.value.plan (lock_plan lock) kept.core.value.checkpoint (lock_first lock).core.value.checkpoint fixed in
+      let base_is : base_of kept.core.value ≡ empty = ap columns.kept_base one.1 ∙ running.start in
       let past_is : decoded seen ≡ kept.core.value.past = sym (ap decoded at) ∙ past_again kept.core.value.past in
       let went : IsLater (pass_number pass) (past_seen pass) (decoded seen) = later_of (pass_number pass) (pass_seen pass) seen extends own in
       let here : IsLater (pass_number before) (past_seen before) (decoded seen) = subst (λ (p : Pass). IsLater (pass_number p) (past_seen p) (decoded seen)) same went in
@@ -52,29 +56,30 @@ module _ (lock : TableLock KeptCore) (who : Who) (before : Pass) (running : IsRu
         running = ended_stays empty (pass_of (lock_plan lock) who) (past_seen before) kept.core.value.past later ∙ running.state;
       } in
       record {
-        plan_is = plan_is;
+        plan_is = one.0;
+        base_is = base_is;
         later = later;
-        opens = subst (λ (p : Plan). IsOpen p empty kept.core.value.past who) (sym plan_is) opens;
+        opens = subst (λ (t : Plan × Base). IsOpen t.0 t.1 kept.core.value.past who) (λ i. (sym one.0 i, sym base_is i)) opens;
       }
 
-  by_maker : (plan : Plan) (past : List Row) (event : Event) → (row_of plan empty past event).entry.by ≡ pass_of plan (maker_of event)
-  by_maker plan past (Frame port stamp octets) = refl
-  by_maker plan past (Long port stamp len) = refl
-  by_maker plan past (Command stamp line) = refl
-  by_maker plan past (Tick stamp) = refl
-  by_maker plan past (Drain port count) = refl
-  by_maker plan past (End who how) = refl
+  by_maker : (plan : Plan) (base : Base) (past : List Row) (event : Event) → (row_of plan base past event).entry.by ≡ pass_of plan (maker_of event)
+  by_maker plan base past (Frame port stamp octets) = refl
+  by_maker plan base past (Long port stamp len) = refl
+  by_maker plan base past (Command stamp line) = refl
+  by_maker plan base past (Tick stamp) = refl
+  by_maker plan base past (Drain port count) = refl
+  by_maker plan base past (End who how) = refl
 
   -- the pass may leave: it made one entry of its own at most
   pub may_leave : (pass : Pass) (number : ℕ) (kept new : KeptCore) (seen : EntryList) → pass ≡ before → number ≡ pass_number pass
       → Finds lock who before kept → coded kept.core.value.past ≡ seen
-      → MakesOne kept.core.value.plan kept.core.value.past new.core.value.past who
+      → MakesOne kept.core.value.plan (base_of kept.core.value) kept.core.value.past new.core.value.past who
       → IsOrGrowsBy number seen (coded new.core.value.past)
   may_leave pass number kept new seen same numbered found at (inl none) = inl (ap coded none ∙ at)
   may_leave pass number kept new seen same numbered found at (inr made) =
-      let row = row_of kept.core.value.plan empty kept.core.value.past made.0 in
+      let row = row_of kept.core.value.plan (base_of kept.core.value) kept.core.value.past made.0 in
       let by : row.entry.by ≡ number =
-      by_maker kept.core.value.plan kept.core.value.past made.0
+      by_maker kept.core.value.plan (base_of kept.core.value) kept.core.value.past made.0
       ∙ ap (pass_of kept.core.value.plan) made.1
       ∙ ap (λ (p : Plan). pass_of p who) found.plan_is
       ∙ sym (numbered ∙ ap pass_number same ∙ running.number_is) in
@@ -84,24 +89,25 @@ module _ (lock : TableLock KeptCore) (who : Who) (before : Pass) (running : IsRu
     now_is : past_seen after ≡ new.core.value.past
     now_is = ap decoded seen ∙ past_again new.core.value.past
 
-    pub turned : (Does : Plan → List Row → List Row → Type 0) → IsLegal kept.core.value.plan empty kept.core.value.past
-        → Does kept.core.value.plan kept.core.value.past new.core.value.past → Turned lock who before after Does
+    pub turned : (Does : Plan → Base → List Row → List Row → Type 0) → IsLegal kept.core.value.plan (base_of kept.core.value) kept.core.value.past
+        → Does kept.core.value.plan (base_of kept.core.value) kept.core.value.past new.core.value.past → Turned lock who before after Does
     turned Does legal did = record {
       found = kept.core.value.past;
       later = found.later;
-      legal = subst (λ (p : Plan). IsLegal p empty kept.core.value.past) found.plan_is legal;
-      did = subst (λ (rows : List Row). Does (lock_plan lock) kept.core.value.past rows) (sym now_is)
-          (subst (λ (p : Plan). Does p kept.core.value.past new.core.value.past) found.plan_is did);
+      legal = subst (λ (t : Plan × Base). IsLegal t.0 t.1 kept.core.value.past) (λ i. (found.plan_is i, found.base_is i)) legal;
+      did = subst (λ (rows : List Row). Does (lock_plan lock) empty kept.core.value.past rows) (sym now_is)
+          (subst (λ (t : Plan × Base). Does t.0 t.1 kept.core.value.past new.core.value.past) (λ i. (found.plan_is i, found.base_is i)) did);
     }
 
     pub stands : (pass : Pass) (number : ℕ) (ended : Bool) → pass ≡ before → number ≡ pass_number pass
         → IsPassOf kept_fixed lock after → pass_number after ≡ number → pass_sleeps_at after ≡ pass_sleeps_at pass
-        → has_ended empty (pass_of kept.core.value.plan who) new.core.value.past ≡ ended → IsAt lock who ended after
+        → has_ended (base_of kept.core.value) (pass_of kept.core.value.plan who) new.core.value.past ≡ ended → IsAt lock who ended after
     stands pass number ended same numbered of after_number placed state = record {
       of = of;
+      start = running.start;
       known = running.known;
       number_is = after_number ∙ numbered ∙ ap pass_number same ∙ running.number_is;
       sleeps = placed ∙ ap pass_sleeps_at same ∙ running.sleeps;
       state = ap (has_ended empty (pass_of (lock_plan lock) who)) now_is
-          ∙ ap (λ (p : Plan). has_ended empty (pass_of p who) new.core.value.past) (sym found.plan_is) ∙ state;
+          ∙ (λ i. has_ended (sym found.base_is i) (pass_of (sym found.plan_is i) who) new.core.value.past) ∙ state;
     }

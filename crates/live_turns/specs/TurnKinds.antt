@@ -8,17 +8,17 @@ use Rattle.savi_kinds.specs.declared.entry.How.{How}
 use Rattle.savi_kinds.specs.declared.entry.How.TheVariants as hows
 use Rattle.savi_kinds.specs.Ports.{number_of}
 use Rattle.hist_store.specs.Rows.{Row}
-use Rattle.savi_history.specs.Bases.{empty}
+use Rattle.checkpoint.specs.Bases.{Base}
 use Rattle.savi_history.specs.Events.{Event, Frame, Long, Command, Tick, Drain, End}
-use Rattle.savi_history.specs.Legal.{InputsEnded, IsFull}
+use Rattle.savi_history.specs.Legal.{InputsEnded}
 use Rattle.savi_history.specs.Limits.{has_room}
 use Rattle.savi_history.specs.Moments.{moment_at}
 use Rattle.savi_history.specs.Passes.{AllEnded, ticker_pass}
 use Rattle.savi_history.specs.Queues.{Item, queue}
-use Rattle.savi_history.specs.Replay.{with_event}
+use Rattle.savi_history.specs.Replay.{closing, with_event}
 use Rattle.savi_history.specs.Shown.{shown}
 use Rattle.savi_history.specs.Ticks.{HasChangedBy}
-use Rattle.live_session.specs.Ticking.{HasNothingDue}
+use Rattle.live_session.specs.Ticking.{IsPassedOver}
 use Rattle.live_turns.specs.declared.kinds.TickTurn.{TickTurn}
 use Rattle.live_turns.specs.declared.kinds.TickTurn.TheVariants as ticks
 use Rattle.live_turns.specs.declared.kinds.DrainTurn.{DrainTurn}
@@ -43,57 +43,56 @@ IsFrame (Drain port count) = ⊥
 IsFrame (End who how) = ⊥
 
 -- A pass was ended.
-abbrev pub DidEnd : Who → How → Plan → List Row → List Row → Type 0
-DidEnd who how plan found now = now ≡ with_event plan empty found (End who how)
+abbrev pub DidEnd : Who → How → Plan → Base → List Row → List Row → Type 0
+DidEnd who how plan base found now = now ≡ with_event plan base found (End who how)
 
--- there was no room for an input, and its pass has ended for that
-abbrev pub DidEndFull : Who → Plan → List Row → List Row → Type 0
-DidEndFull who plan found now = IsFull plan found (length found) × DidEnd who (hows.Full (length found)) plan found now
+-- there was no room for an input, and its pass is paused
+abbrev pub DidPause : Who → Plan → Base → List Row → List Row → Type 0
+DidPause who plan base found now = (has_room plan found ≡ false) × DidEnd who hows.Paused plan base found now
 
--- An input was entered; or there was no room for it, and its pass has ended for that.
-abbrev pub DidInput : Event → Bool → Plan → List Row → List Row → Type 0
-DidInput event true plan found now = (has_room plan found ≡ true) × (now ≡ with_event plan empty found event)
-DidInput event false plan found now = DidEndFull (maker_of event) plan found now
+-- An input was entered; or there was no room for it, and its pass is paused.
+abbrev pub DidInput : Event → Bool → Plan → Base → List Row → List Row → Type 0
+DidInput event true plan base found now = (has_room plan found ≡ true) × (now ≡ with_event plan base found event)
+DidInput event false plan base found now = DidPause (maker_of event) plan base found now
 
--- A line was entered, and this is the reply to it; or there was no room for it, and control has ended for that.
-abbrev pub DidLine : ℕ → List ℕ → Bool → List ℕ → Plan → List Row → List Row → Type 0
-DidLine stamp line true reply plan found now =
-    DidInput (Command stamp line) true plan found now × (reply ≡ shown plan empty now)
-DidLine stamp line false reply plan found now = DidInput (Command stamp line) false plan found now
+-- A line was entered, and this is the reply to it; or there was no room for it, and control is paused.
+abbrev pub DidLine : ℕ → List ℕ → Bool → List ℕ → Plan → Base → List Row → List Row → Type 0
+DidLine stamp line true reply plan base found now =
+    DidInput (Command stamp line) true plan base found now × (reply ≡ shown plan base now)
+DidLine stamp line false reply plan base found now = DidInput (Command stamp line) false plan base found now
 
--- The ticker made a tick; or nothing was due, and it goes on exactly while an input may come; or there was no room.
-abbrev pub DidTick : ℕ → TickTurn → Plan → List Row → List Row → Type 0
-DidTick stamp ticks.Made plan found now =
-    (has_room plan found ≡ true) × HasChangedBy plan empty found (moment_at empty found stamp)
-    × (now ≡ with_event plan empty found (Tick stamp))
-DidTick stamp ticks.Idle plan found now =
-    (has_room plan found ≡ true) × HasNothingDue plan empty found stamp × (¬ InputsEnded plan empty found) × (now ≡ found)
-DidTick stamp ticks.Ended plan found now =
-    (has_room plan found ≡ true) × HasNothingDue plan empty found stamp × InputsEnded plan empty found
-    × DidEnd Ticker hows.End plan found now
-DidTick stamp ticks.Full plan found now = DidEndFull Ticker plan found now
+-- The ticker made a tick; or it passed one over, and goes on exactly while an input may come. It is paused where an input
+-- is.
+abbrev pub DidTick : ℕ → TickTurn → Plan → Base → List Row → List Row → Type 0
+DidTick stamp ticks.Made plan base found now =
+    (has_room plan found ≡ true) × HasChangedBy plan base found (moment_at base found stamp)
+    × (now ≡ with_event plan base found (Tick stamp))
+DidTick stamp ticks.Idle plan base found now =
+    IsPassedOver plan base found stamp × (¬ InputsEnded plan base found) × (now ≡ found)
+DidTick stamp ticks.Ended plan base found now =
+    IsPassedOver plan base found stamp × InputsEnded plan base found × DidEnd Ticker (closing found) plan base found now
 
 -- whether the ticker has ended in such a turn
 abbrev pub ends_ticker : TickTurn → Bool
 ends_ticker ticks.Made = false
 ends_ticker ticks.Idle = false
 ends_ticker ticks.Ended = true
-ends_ticker ticks.Full = true
 
 -- whatever may be queued: an input hasn't ended, or the ticker
-abbrev pub MayQueue : Plan → List Row → Type 0
-MayQueue plan past = ¬ AllEnded empty (ticker_pass plan + 1) past
+abbrev pub MayQueue : Plan → Base → List Row → Type 0
+MayQueue plan base past = ¬ AllEnded base (ticker_pass plan + 1) past
 
--- An egress took all that waited; or nothing waits, and it goes on exactly while anything may be queued.
-abbrev pub DidDrain : Port → List Item → DrainTurn → Plan → List Row → List Row → Type 0
-DidDrain port batch drains.Took plan found now =
-    (queue plan empty (number_of port) found ≢ []) × (batch ≡ queue plan empty (number_of port) found)
-    × (now ≡ with_event plan empty found (Drain port (length batch)))
-DidDrain port batch drains.Idle plan found now =
-    (queue plan empty (number_of port) found ≡ []) × (batch ≡ []) × MayQueue plan found × (now ≡ found)
-DidDrain port batch drains.Ended plan found now =
-    (queue plan empty (number_of port) found ≡ []) × (batch ≡ []) × AllEnded empty (ticker_pass plan + 1) found
-    × DidEnd (Egress port) hows.End plan found now
+-- An egress took all that waited; or nothing waits, and it goes on exactly while anything may be queued. It is paused where
+-- an input is.
+abbrev pub DidDrain : Port → List Item → DrainTurn → Plan → Base → List Row → List Row → Type 0
+DidDrain port batch drains.Took plan base found now =
+    (queue plan base (number_of port) found ≢ []) × (batch ≡ queue plan base (number_of port) found)
+    × (now ≡ with_event plan base found (Drain port (length batch)))
+DidDrain port batch drains.Idle plan base found now =
+    (queue plan base (number_of port) found ≡ []) × (batch ≡ []) × MayQueue plan base found × (now ≡ found)
+DidDrain port batch drains.Ended plan base found now =
+    (queue plan base (number_of port) found ≡ []) × (batch ≡ []) × AllEnded base (ticker_pass plan + 1) found
+    × DidEnd (Egress port) (closing found) plan base found now
 
 -- whether an egress has ended in such a turn
 abbrev pub ends_egress : DrainTurn → Bool

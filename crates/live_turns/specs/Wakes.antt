@@ -10,7 +10,7 @@ use Rattle.savi_kinds.specs.PortSets.{is_member}
 use Rattle.hist_store.specs.Rows.{Row}
 use Rattle.table_lock.specs.declared.lock.sleeping.Woken.{Woken}
 use Rattle.table_lock.specs.Wakings.{woken_place, woken_seen}
-use Rattle.savi_history.specs.Bases.{empty}
+use Rattle.checkpoint.specs.Bases.{Base}
 use Rattle.savi_history.specs.Passes.{has_port}
 use Rattle.savi_history.specs.Queues.{queue}
 use Rattle.core_keep.specs.Pasts.{decoded}
@@ -29,14 +29,14 @@ abbrev pub HasAll : PortSet → List (Option Woken) → Type 0
 HasAll ports woken = (port : Port) → is_member ports (number_of port) ≡ true → was_woken woken (number_of port) ≡ true
 
 -- more items wait at the port than waited before
-abbrev pub HasGrown : Plan → List Row → List Row → Port → Type 0
-HasGrown plan found now port =
-    length (queue plan empty (number_of port) found) < length (queue plan empty (number_of port) now)
+abbrev pub HasGrown : Plan → Base → List Row → List Row → Port → Type 0
+HasGrown plan base found now port =
+    length (queue plan base (number_of port) found) < length (queue plan base (number_of port) now)
 
 -- each port of the plan whose queue has grown is one of these
-abbrev pub HasGrownPorts : PortSet → Plan → List Row → List Row → Type 0
-HasGrownPorts ports plan found now =
-    (port : Port) → has_port plan (number_of port) ≡ true → HasGrown plan found now port → is_member ports (number_of port) ≡ true
+abbrev pub HasGrownPorts : PortSet → Plan → Base → List Row → List Row → Type 0
+HasGrownPorts ports plan base found now =
+    (port : Port) → has_port plan (number_of port) ≡ true → HasGrown plan base found now port → is_member ports (number_of port) ≡ true
 
 -- these are the ports to which an entry may have queued something: all where it queued probes, and else those of its frame
 abbrev pub MayHaveQueued : Entry → PortSet → Type 0
@@ -44,9 +44,9 @@ MayHaveQueued entry ports =
     (port : Port) → (0 < entry.probes) ⊎ (is_member entry.outs (number_of port) ≡ true) → is_member ports (number_of port) ≡ true
 
 -- the egress of each port of the plan whose queue has grown was woken
-abbrev pub WokeGrown : List (Option Woken) → Plan → List Row → List Row → Type 0
-WokeGrown woken plan found now =
-    (port : Port) → has_port plan (number_of port) ≡ true → HasGrown plan found now port → was_woken woken (number_of port) ≡ true
+abbrev pub WokeGrown : List (Option Woken) → Plan → Base → List Row → List Row → Type 0
+WokeGrown woken plan base found now =
+    (port : Port) → has_port plan (number_of port) ≡ true → HasGrown plan base found now port → was_woken woken (number_of port) ≡ true
 
 -- a wake by a pass that had seen this history
 abbrev pub IsBehind : List Row → Option Woken → Type 0
@@ -58,5 +58,5 @@ abbrev pub AreBehind : List Row → List (Option Woken) → Type 0
 AreBehind now woken = All (IsBehind now) woken
 
 -- A turn did this, and by these wakes, each behind the turn, the egress of each port whose queue has grown in it was woken.
-abbrev pub Wakes : (Plan → List Row → List Row → Type 0) → List (Option Woken) → Plan → List Row → List Row → Type 0
-Wakes Did woken plan found now = Did plan found now × WokeGrown woken plan found now × AreBehind now woken
+abbrev pub Wakes : (Plan → Base → List Row → List Row → Type 0) → List (Option Woken) → Plan → Base → List Row → List Row → Type 0
+Wakes Did woken plan base found now = Did plan base found now × WokeGrown woken plan base found now × AreBehind now woken

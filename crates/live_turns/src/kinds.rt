@@ -5,12 +5,10 @@
 pub enum TickTurn {
     /// A tick was entered.
     Made,
-    /// Nothing was due, and an input may still come.
+    /// Nothing was due, or there was no room for a tick, and an input may still come.
     Idle,
-    /// Nothing was due and no input may come any more: the ticker has ended.
+    /// Nothing was due, or there was no room for a tick, and no input may come any more: the ticker has ended.
     Ended,
-    /// There was no room for a tick: the ticker has ended for that.
-    Full,
 }
 
 /// What came of a turn of an egress.

@@ -5,7 +5,7 @@
 ghost use Rattle.std.specs.Prelude.{◌≤◌, List, length, not};
 ghost use Rattle.savi_kinds.specs.declared.entry.Who.TheVariants.{Control, Egress, Ticker};
 ghost use Rattle.hist_store.specs.Rows.{Row};
-ghost use Rattle.savi_history.specs.Bases.{empty};
+ghost use Rattle.checkpoint.specs.Bases.{empty};
 ghost use Rattle.savi_history.specs.Legal.{MayEnd};
 ghost use Rattle.savi_core.specs.Steps.{IsClassed, event_of};
 ghost use Rattle.live_turns.specs.Seats.{IsEndedPass, IsAt, IsRunning, lock_plan};
@@ -27,7 +27,7 @@ use std::sync::Wait;
 use table_lock::TableLock;
 
 /// One turn of an ingress: enters a frame, which is an `Event::Frame`, or an `Event::Long` where it has more than 1,518
-/// octets. Where there is no room for it the pass ends for that, in the same turn. The answer is the pass again, and
+/// octets. Where there is no room for it the pass is paused, in the same turn. The answer is the pass again, and
 /// whether the frame was entered. It costs what `Core::step` costs.
 pub fn frame_turn<R: Wait, G: Gate>(
     rt: &R,
@@ -52,7 +52,7 @@ pub fn frame_turn<R: Wait, G: Gate>(
 }
 
 /// One turn of control: enters a line, and puts the reply to it into `reply`, in place of what it held. Where there is no
-/// room for the line, control ends for that, in the same turn. The answer is the pass again, and whether the line was
+/// room for the line, control is paused, in the same turn. The answer is the pass again, and whether the line was
 /// entered. It costs what `Core::step` and `Core::reply` cost.
 pub fn line_turn<R: Wait, G: Gate>(
     rt: &R,
@@ -101,9 +101,9 @@ pub fn end_turn<R: Wait, G: Gate>(
     Turns::after(pass, turn, woken)
 }
 
-/// One turn of the ticker, whose clock reads `stamp` (ms): makes a tick where an address has another state by then. Where
-/// nothing is due and no input may come any more the ticker ends, in the same turn; and so it does where there is no room
-/// for a tick. The answer is the pass again, and what came of the turn. It costs what `Core::step` costs.
+/// One turn of the ticker, whose clock reads `stamp` (ms): makes a tick where an address has another state by then, and
+/// there is room. Where it makes none and no input may come any more the ticker ends, in the same turn; it is paused where
+/// an input is. The answer is the pass again, and what came of the turn. It costs what `Core::step` costs.
 pub fn tick_turn<R: Wait, G: Gate>(
     rt: &R,
     lock: &TableLock<KeptCore>,
@@ -125,8 +125,8 @@ pub fn tick_turn<R: Wait, G: Gate>(
 }
 
 /// One turn of the egress of a port: takes all that waits there into the batch, in place of what it held. Where nothing
-/// waits and nothing may be queued any more the egress ends, in the same turn. The answer is the pass again, and what came
-/// of the turn. It costs what `Core::drain` costs.
+/// waits and nothing may be queued any more the egress ends, in the same turn; it is paused where an input is. The answer is
+/// the pass again, and what came of the turn. It costs what `Core::drain` costs.
 pub fn drain_turn<R: Wait, G: Gate>(
     rt: &R,
     lock: &TableLock<KeptCore>,

@@ -2,10 +2,11 @@
 
 ghost use Rattle.std.specs.Prelude.{◌≡◌, ◌+◌, ◌≤◌, true, length, MatchBool};
 ghost use Rattle.savi_kinds.specs.declared.entry.Who.TheVariants.{Control, Egress, Ticker};
-ghost use Rattle.savi_history.specs.Bases.{empty};
 ghost use Rattle.savi_history.specs.Events as events;
 ghost use Rattle.savi_history.specs.Legal.{InputsEnded, IsLegal, IsOpen, MayEnd};
 ghost use Rattle.savi_history.specs.Passes.{AllEnded, control_pass, has_pass, ticker_pass};
+ghost use Rattle.savi_history.specs.Replay.{closing};
+ghost use Rattle.savi_core.specs.Machines.{base_of};
 ghost use Rattle.savi_core.specs.Steps.{IsClassed, event_of};
 ghost use Rattle.live_turns.specs.Wakes.{HasGrownPorts, MayHaveQueued};
 ghost use Rattle.live_turns.specs.TurnKinds.{DidDrain, DidEnd, DidInput, DidLine, DidTick, IsFrame, MayQueue, maker_of};
@@ -15,23 +16,24 @@ use core_keep::KeptCore;
 use savi_core::{Batch, Core, Event, Reply, Stepped};
 use savi_kinds::{DEPTH_MOST, Entry, How, Port, PortSet, Who};
 
-/// Enters a frame, or ends its pass where there is no room for it. The answer is whether it was entered, and ports, among
+/// Enters a frame, or pauses its pass where there is no room for it. The answer is whether it was entered, and ports, among
 /// them each whose queue has grown.
 pub(crate) fn enter_frame(kept: &mut KeptCore, event: Event<'_>) -> (bool, PortSet)
-    requires open { IsOpen kept.old.core.value.plan empty kept.old.core.value.past (maker_of (event_of event)) }
+    requires open { IsOpen kept.old.core.value.plan (base_of kept.old.core.value) kept.old.core.value.past (maker_of (event_of event)) }
     requires frame { IsFrame (event_of event) }
     requires class { IsClassed event }
     ensures plan { kept.new.core.value.plan ≡ kept.old.core.value.plan }
-    ensures legal { IsLegal kept.old.core.value.plan empty kept.old.core.value.past }
-    ensures did { DidInput (event_of event.entry) result.0 kept.old.core.value.plan kept.old.core.value.past kept.new.core.value.past }
-    ensures grown { HasGrownPorts result.1 kept.old.core.value.plan kept.old.core.value.past kept.new.core.value.past }
+    ensures checkpoint { kept.new.core.value.checkpoint ≡ kept.old.core.value.checkpoint }
+    ensures legal { IsLegal kept.old.core.value.plan (base_of kept.old.core.value) kept.old.core.value.past }
+    ensures did { DidInput (event_of event.entry) result.0 kept.old.core.value.plan (base_of kept.old.core.value) kept.old.core.value.past kept.new.core.value.past }
+    ensures grown { HasGrownPorts result.1 kept.old.core.value.plan (base_of kept.old.core.value) kept.old.core.value.past kept.new.core.value.past }
 {
     let _len = kept.core.len();
     match kept.core.step(event) {
         Stepped::Done(entry) => (true, queued_to(entry)),
         Stepped::Nothing => (true, PortSet::empty()),
-        Stepped::Full { len } => {
-            end(kept, maker(event), How::Full(len));
+        Stepped::Full { len: _ } => {
+            end(kept, maker(event), How::Paused);
             (false, PortSet(u16::MAX))
         }
     }
@@ -70,14 +72,15 @@ fn maker(event: Event<'_>) -> Who
     }
 }
 
-/// Enters a line of control and puts the reply to it into `reply`, or ends control where there is no room for the line. The
-/// answer is whether it was entered.
+/// Enters a line of control and puts the reply to it into `reply`, or pauses control where there is no room for the line.
+/// The answer is whether it was entered.
 pub(crate) fn enter_line(kept: &mut KeptCore, stamp: u64, line: &[u8], reply: &mut Reply) -> bool
-    requires open { IsOpen kept.old.core.value.plan empty kept.old.core.value.past Control }
+    requires open { IsOpen kept.old.core.value.plan (base_of kept.old.core.value) kept.old.core.value.past Control }
     requires short { length line.now ≤ 120 }
     ensures plan { kept.new.core.value.plan ≡ kept.old.core.value.plan }
-    ensures legal { IsLegal kept.old.core.value.plan empty kept.old.core.value.past }
-    ensures did { DidLine stamp line.now result reply.new kept.old.core.value.plan kept.old.core.value.past kept.new.core.value.past }
+    ensures checkpoint { kept.new.core.value.checkpoint ≡ kept.old.core.value.checkpoint }
+    ensures legal { IsLegal kept.old.core.value.plan (base_of kept.old.core.value) kept.old.core.value.past }
+    ensures did { DidLine stamp line.now result reply.new kept.old.core.value.plan (base_of kept.old.core.value) kept.old.core.value.past kept.new.core.value.past }
 {
     let _len = kept.core.len();
     match kept.core.step(Event::Command { stamp, line }) {
@@ -85,8 +88,8 @@ pub(crate) fn enter_line(kept: &mut KeptCore, stamp: u64, line: &[u8], reply: &m
             kept.core.reply(reply);
             true
         }
-        Stepped::Full { len } => {
-            end(kept, Who::Control, How::Full(len));
+        Stepped::Full { len: _ } => {
+            end(kept, Who::Control, How::Paused);
             false
         }
     }
@@ -94,48 +97,48 @@ pub(crate) fn enter_line(kept: &mut KeptCore, stamp: u64, line: &[u8], reply: &m
 
 /// Ends a pass.
 pub(crate) fn end(kept: &mut KeptCore, who: Who, how: How)
-    requires open { IsOpen kept.old.core.value.plan empty kept.old.core.value.past who }
-    requires may { MayEnd kept.old.core.value.plan empty kept.old.core.value.past who how }
+    requires open { IsOpen kept.old.core.value.plan (base_of kept.old.core.value) kept.old.core.value.past who }
+    requires may { MayEnd kept.old.core.value.plan (base_of kept.old.core.value) kept.old.core.value.past who how }
     ensures plan { kept.new.core.value.plan ≡ kept.old.core.value.plan }
-    ensures legal { IsLegal kept.old.core.value.plan empty kept.old.core.value.past }
-    ensures did { DidEnd who how kept.old.core.value.plan kept.old.core.value.past kept.new.core.value.past }
+    ensures checkpoint { kept.new.core.value.checkpoint ≡ kept.old.core.value.checkpoint }
+    ensures legal { IsLegal kept.old.core.value.plan (base_of kept.old.core.value) kept.old.core.value.past }
+    ensures did { DidEnd who how kept.old.core.value.plan (base_of kept.old.core.value) kept.old.core.value.past kept.new.core.value.past }
 {
     let _len = kept.core.len();
     let _entry = kept.core.step(Event::End { who, how });
 }
 
-/// Lets time pass to this stamp. It ends the ticker where nothing was due and no input may come any more, and where there is
-/// no room for a tick.
+/// Lets time pass to this stamp. Where nothing was due, or there is no room for a tick, and no input may come any more, the
+/// ticker ends, and it is paused where an input is.
 pub(crate) fn tick(kept: &mut KeptCore, stamp: u64) -> TickTurn
-    requires open { IsOpen kept.old.core.value.plan empty kept.old.core.value.past Ticker }
+    requires open { IsOpen kept.old.core.value.plan (base_of kept.old.core.value) kept.old.core.value.past Ticker }
     ensures plan { kept.new.core.value.plan ≡ kept.old.core.value.plan }
-    ensures legal { IsLegal kept.old.core.value.plan empty kept.old.core.value.past }
-    ensures did { DidTick stamp result kept.old.core.value.plan kept.old.core.value.past kept.new.core.value.past }
+    ensures checkpoint { kept.new.core.value.checkpoint ≡ kept.old.core.value.checkpoint }
+    ensures legal { IsLegal kept.old.core.value.plan (base_of kept.old.core.value) kept.old.core.value.past }
+    ensures did { DidTick stamp result kept.old.core.value.plan (base_of kept.old.core.value) kept.old.core.value.past kept.new.core.value.past }
 {
     let _len = kept.core.len();
     match kept.core.step(Event::Tick { stamp }) {
         Stepped::Done(_) => TickTurn::Made,
-        Stepped::Nothing => {
+        Stepped::Nothing | Stepped::Full { len: _ } => {
             if has_input(&kept.core) {
                 return TickTurn::Idle;
             }
-            end(kept, Who::Ticker, How::End);
+            let how = last_reason(&kept.core);
+            end(kept, Who::Ticker, how);
             TickTurn::Ended
-        }
-        Stepped::Full { len } => {
-            end(kept, Who::Ticker, How::Full(len));
-            TickTurn::Full
         }
     }
 }
 
 /// Takes all that waits at a port into the batch, in place of what it held. It ends the egress of the port where nothing
-/// waits and nothing may be queued any more.
+/// waits and nothing may be queued any more; it is paused where an input is.
 pub(crate) fn drain(kept: &mut KeptCore, port: Port, batch: &mut Batch) -> DrainTurn
-    requires open { IsOpen kept.old.core.value.plan empty kept.old.core.value.past (Egress port) }
+    requires open { IsOpen kept.old.core.value.plan (base_of kept.old.core.value) kept.old.core.value.past (Egress port) }
     ensures plan { kept.new.core.value.plan ≡ kept.old.core.value.plan }
-    ensures legal { IsLegal kept.old.core.value.plan empty kept.old.core.value.past }
-    ensures did { DidDrain port batch.new result kept.old.core.value.plan kept.old.core.value.past kept.new.core.value.past }
+    ensures checkpoint { kept.new.core.value.checkpoint ≡ kept.old.core.value.checkpoint }
+    ensures legal { IsLegal kept.old.core.value.plan (base_of kept.old.core.value) kept.old.core.value.past }
+    ensures did { DidDrain port batch.new result kept.old.core.value.plan (base_of kept.old.core.value) kept.old.core.value.past kept.new.core.value.past }
 {
     let _stored = kept.core.history();
     let _len = kept.core.len();
@@ -145,22 +148,34 @@ pub(crate) fn drain(kept: &mut KeptCore, port: Port, batch: &mut Batch) -> Drain
             if may_queue(&kept.core) {
                 return DrainTurn::Idle;
             }
-            end(kept, Who::Egress(port), How::End);
+            let how = last_reason(&kept.core);
+            end(kept, Who::Egress(port), how);
             DrainTurn::Ended
         }
     }
 }
 
+// Why the ticker and the outputs end.
+fn last_reason(core: &Core) -> How
+    ensures { result ≡ closing core.now.past }
+{
+    if core.has_pause() {
+        How::Paused
+    } else {
+        How::End
+    }
+}
+
 // Whether an input may still come.
 fn has_input(core: &Core) -> bool
-    ensures { MatchBool result (¬ InputsEnded core.now.plan empty core.now.past) (InputsEnded core.now.plan empty core.now.past) }
+    ensures { MatchBool result (¬ InputsEnded core.now.plan (base_of core.now) core.now.past) (InputsEnded core.now.plan (base_of core.now) core.now.past) }
 {
     core.inputs_left() > 0
 }
 
 // Whether anything may still be queued: an input hasn't ended, or the ticker.
 fn may_queue(core: &Core) -> bool
-    ensures { MatchBool result (MayQueue core.now.plan core.now.past) (AllEnded empty (ticker_pass core.now.plan + 1) core.now.past) }
+    ensures { MatchBool result (MayQueue core.now.plan (base_of core.now) core.now.past) (AllEnded (base_of core.now) (ticker_pass core.now.plan + 1) core.now.past) }
 {
     has_input(core) || !core.ended(Who::Ticker)
 }

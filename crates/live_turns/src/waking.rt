@@ -1,8 +1,8 @@
 //! Where the workers of a session sleep at its lock, and who wakes them.
 //!
 //! The egress of a port sleeps at the place of the port's number while nothing waits there, and no other worker does. A turn
-//! by which a queue grew wakes the egress of its port, behind the turn. That it was woken then is all that is told of it; each
-//! sleep has an end.
+//! by which a queue grew wakes the egress of its port, behind the turn. That it was woken then is all that is told of it;
+//! each sleep has an end.
 
 ghost use Rattle.std.specs.Prelude.{◌≡◌, ◌≤◌, ◌<◌, ◌+◌, ℕ, true, None};
 ghost use Rattle.savi_kinds.specs.Ports.{number_of};
@@ -80,7 +80,7 @@ fn wake_next(lock: &TableLock<KeptCore>, pass: &Pass, ports: PortSet, number: u8
     }
 }
 
-// Behind a turn of the ticker wakes the egress of every port, and none where nothing was due. The answer is the wakes.
+// Behind a turn of the ticker wakes the egress of every port, and none where it passed a tick over. The answer is the wakes.
 pub(crate) fn wake_after(lock: &TableLock<KeptCore>, pass: &Pass, came: TickTurn) -> Wakes
     requires { IsPassOf kept_fixed lock.now pass.now }
     ensures behind { AreBehind (past_seen pass.now) result.items }
@@ -88,7 +88,7 @@ pub(crate) fn wake_after(lock: &TableLock<KeptCore>, pass: &Pass, came: TickTurn
 {
     match came {
         TickTurn::Idle => ArrayVec::new(),
-        TickTurn::Made | TickTurn::Ended | TickTurn::Full => wake_all(lock, pass),
+        TickTurn::Made | TickTurn::Ended => wake_all(lock, pass),
     }
 }
 

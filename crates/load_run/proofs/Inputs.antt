@@ -22,7 +22,7 @@ use Rattle.load_gen.specs.Captures.{sent_at, captures_of}
 use Rattle.load_gen.specs.LoadPlan.{said, load_ports}
 use Rattle.load_gen.specs.Sendings.{Sending, sendings}
 use Rattle.load_gen.proofs.Wholes.{loads_are_inputs}
-use Rattle.savi_history.specs.Bases.{empty}
+use Rattle.checkpoint.specs.Bases.{empty}
 use Rattle.savi_history.specs.ControlInputs.{control_end}
 use Rattle.savi_history.specs.Endings.{has_failed_write}
 use Rattle.savi_history.specs.PortInputs.{input_end}
@@ -56,7 +56,7 @@ input_of octets after ended_so want arrivals hows.Failed arrive never gave = abs
 input_of octets after ended_so want arrivals hows.Quit arrive never gave = absurd gave
 input_of octets after ended_so want arrivals (hows.Overlong at) arrive never gave = absurd gave
 input_of octets after ended_so want arrivals hows.Unwritten arrive never gave = absurd gave
-input_of octets after ended_so want arrivals (hows.Full len) arrive never gave = absurd gave
+input_of octets after ended_so want arrivals hows.Paused arrive never gave = absurd gave
 
 never_rose : Rose 0 0 → ⊥
 never_rose rose = omega (arith, rose)

@@ -1,10 +1,12 @@
 -- For each input of a load there is room in the history, so that every end is an ordinary one.
-use Rattle.std.proofs.Common.{◌≡◌, ◌≢◌, ℕ, zero, suc, ◌+◌, ◌*◌, ◌%◌, ◌<◌, ◌≤◌, ◌^◌, ◌==◌, ◌&&◌, nat_lt, nat_le, if◌then◌else◌, Bool, true, false, List, [], ◌∷◌, ◌++◌, length, map, filter, refl, sym, ap, ◌∙◌, subst, arith, length-append, Option, None, inl, inr}
+use Rattle.std.proofs.Common.{◌≡◌, ◌≢◌, ℕ, zero, suc, ◌+◌, ◌*◌, ◌%◌, ◌<◌, ◌≤◌, ◌^◌, ◌==◌, ◌&&◌, ◌||◌, nat_lt, nat_le, if◌then◌else◌, Bool, true, false, List, [], ◌∷◌, ◌++◌, length, map, filter, refl, sym, ap, ◌∙◌, subst, arith, length-append, Option, None, inl, inr}
 use Rattle.std.specs.List.{range_with_len}
 use Rattle.std.proofs.lemmas.Bool.{cases_eq}
 use Rattle.std.proofs.lemmas.Bool.Decides.{nat_tests}
 use Rattle.std.proofs.lemmas.List.{length-map}
 use Rattle.std.proofs.lemmas.List.FromFn.{length-map-range_with_len}
+use Rattle.savi_kinds.specs.declared.entry.Act.{Act}
+use Rattle.savi_kinds.specs.declared.entry.Act.TheVariants as acts
 use Rattle.savi_kinds.specs.declared.plan.Plan.{Plan}
 use Rattle.savi_kinds.specs.declared.plan.PortPlan.{PortPlan}
 use Rattle.savi_kinds.specs.declared.port.Port.{Port}
@@ -24,15 +26,16 @@ use Rattle.load_gen.specs.Frames.{mac_of, host_address}
 use Rattle.load_gen.specs.Inputs.{arrival_with}
 use Rattle.load_gen.specs.Sendings.{Sending, claim, drawn_packet, sendings}
 use Rattle.load_gen.proofs.Wholes.{length-data}
-use Rattle.savi_history.specs.Bases.{empty}
+use Rattle.checkpoint.specs.Bases.{empty}
+use Rattle.savi_history.specs.Endings.{has_pause, is_input, is_paused_input, is_paused_reason}
 use Rattle.savi_history.specs.Events.{Drain, End}
 use Rattle.savi_history.specs.Limits.{has_room}
 use Rattle.savi_history.specs.Merges.{enter, merge, merged}
 use Rattle.savi_history.specs.Passes.{pass_of, egress_pass, has_ended}
 use Rattle.savi_history.specs.Queues.{queue}
-use Rattle.savi_history.specs.Replay.{event_of, with_event, begun, with_drain, drained, entered, after, after_all, with_end, egress_ended, replayed}
+use Rattle.savi_history.specs.Replay.{event_of, with_event, begun, with_drain, drained, entered, after, after_all, closing, with_end, egress_ended, replayed}
 use Rattle.savi_history.specs.Turns.{Turn, Arrives, Commands, Ends, who_of, turn_at, turns, port_turns, control_turns, all_turns}
-use Rattle.load_run.specs.LoadHistory.{AreOrdinary, input_at, load_inputs, load_history, no_stops}
+use Rattle.load_run.specs.LoadHistory.{AreOrdinary, IsOrdinary, input_at, load_inputs, load_history, no_stops}
 
 -- frames of at most 100 octets, and then the end
 abbrev IsLight : Arrival → Type 0
@@ -47,6 +50,27 @@ IsSmall (Ends who how) = how ≡ hows.End
 abbrev AreSmall : List Turn → Type 0
 AreSmall [] = Unit {0}
 AreSmall (x ∷ xs) = IsSmall x × AreSmall xs
+
+-- where every end is an ordinary one, no input is paused
+
+never : (b : Bool) → (b && false) ≡ false
+never true = refl
+never false = refl
+
+unpaused : (act : Act) → IsOrdinary act → is_paused_input act ≡ false
+unpaused (acts.Frame port stamp at len) o = refl
+unpaused (acts.Long port stamp len) o = refl
+unpaused (acts.Tick stamp) o = refl
+unpaused (acts.Command stamp at len) o = refl
+unpaused (acts.Drain port count) o = refl
+unpaused (acts.End who how) o = ap (λ (h : How). is_input who && is_paused_reason h) o ∙ never (is_input who)
+
+no_pause : (past : List Row) → AreOrdinary past → has_pause past ≡ false
+no_pause [] o = refl
+no_pause (r ∷ past) o = ap (λ (b : Bool). b || has_pause past) (unpaused r.entry.act o.0) ∙ no_pause past o.1
+
+closed_so : (past : List Row) → AreOrdinary past → closing past ≡ hows.End
+closed_so past o = ap (λ (b : Bool). if b then hows.Paused else hows.End) (no_pause past o)
 
 -- of merged lists
 
@@ -261,7 +285,7 @@ module _ (plan : Plan) (five : length plan.ports ≡ 5) (entries : plan.entries 
       let event = event_of port (arrivals.Frame stamp octets) in
       let room : has_room plan past ≡ true =
       roomy (length past + 4130) plan.entries (held past + 1518) plan.bytes (omega (arith, was.few, within, entries)) (omega (arith, was.light, within, bytes)) in
-      subst (λ (b : Bool). Behind (n + 1) (if b then drained plan empty no_stops.ports plan.ports (with_event plan empty past event) else with_event plan empty past (End (passes.Ingress port) (hows.Full (length past)))))
+      subst (λ (b : Bool). Behind (n + 1) (if b then drained plan empty no_stops.ports plan.ports (with_event plan empty past event) else with_event plan empty past (End (passes.Ingress port) hows.Paused)))
       (sym room) (one_frame past n port stamp octets light was)
 
   one_turn : (past : List Row) (n : ℕ) (turn : Turn) → IsSmall turn → n ≤ 100009 → Behind n past → Behind (n + 1) (entered plan empty no_stops turn past)
@@ -286,9 +310,9 @@ module _ (plan : Plan) (five : length plan.ports ≡ 5) (entries : plan.entries 
   not_begun [] past = refl
   not_begun (q ∷ qs) past = not_begun qs past
 
-  one_ended : (past : List Row) (port : Port) (over : Bool) → AreOrdinary past → AreOrdinary (if over then past else with_event plan empty past (End (passes.Egress port) hows.End))
+  one_ended : (past : List Row) (port : Port) (over : Bool) → AreOrdinary past → AreOrdinary (if over then past else with_event plan empty past (End (passes.Egress port) (closing past)))
   one_ended past port true o = o
-  one_ended past port false o = (refl, o)
+  one_ended past port false o = (closed_so past o, o)
 
   all_ended : (ports : List PortPlan) (past : List Row) → AreOrdinary past → AreOrdinary (egress_ended plan empty ports past)
   all_ended [] past o = o
@@ -307,4 +331,4 @@ module _ (plan : Plan) (five : length plan.ports ≡ 5) (entries : plan.entries 
       let start : Behind 0 (begun plan empty no_stops.ports plan.ports []) = subst (λ (p : List Row). Behind 0 p) (sym (not_begun plan.ports [])) (record { few = omega arith; light = omega arith; ordinary = tt }) in
       let taken : List Row = after_all plan empty no_stops ts (begun plan empty no_stops.ports plan.ports []) in
       let turned : AreOrdinary taken = all_turned ts (begun plan empty no_stops.ports plan.ports []) 0 small (omega (arith, number)) start in
-      all_ended plan.ports (with_event plan empty taken (End passes.Ticker hows.End)) (refl, turned)
+      all_ended plan.ports (with_event plan empty taken (End passes.Ticker (closing taken))) (closed_so taken turned, turned)

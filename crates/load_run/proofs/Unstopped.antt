@@ -13,16 +13,16 @@ use Rattle.savi_kinds.specs.Arrivals as arrivals
 use Rattle.cli_lang.specs.Arrivals.{Line}
 use Rattle.cli_lang.specs.Arrivals as control
 use Rattle.hist_store.specs.Rows.{Row}
-use Rattle.savi_history.specs.Bases.{Base}
+use Rattle.checkpoint.specs.Bases.{Base}
 use Rattle.savi_history.specs.ControlInputs.{is_quit}
 use Rattle.savi_history.specs.ControlOutputs.{replies}
-use Rattle.savi_history.specs.Endings.{has_failed_write, is_failed_write_of}
+use Rattle.savi_history.specs.Endings.{has_failed_write, is_failed_reason, is_failed_write_of}
 use Rattle.savi_history.specs.Events.{Command, Drain, End}
 use Rattle.savi_history.specs.Limits.{has_room}
 use Rattle.savi_history.specs.Merges.{merged}
 use Rattle.savi_history.specs.Passes.{pass_of, egress_pass, has_ended}
 use Rattle.savi_history.specs.Queues.{queue}
-use Rattle.savi_history.specs.Replay.{Stops, is_stopped, pieces_by, event_of, with_event, with_failure, begun, with_drain, drained, with_line, entered, after, after_all, with_end, egress_ended, replayed}
+use Rattle.savi_history.specs.Replay.{Stops, is_stopped, pieces_by, event_of, with_event, with_failure, begun, with_drain, drained, with_line, entered, after, after_all, closing, with_end, egress_ended, replayed}
 use Rattle.savi_history.specs.Turns.{Turn, Arrives, Commands, Ends, who_of, turn_at, all_turns}
 use Rattle.load_run.specs.LoadHistory.{no_stops}
 
@@ -77,16 +77,16 @@ module _ (plan : Plan) (base : Base) (stops : Stops) where
   arrival_sound past port (arrivals.Long stamp len) is = is
 
   arrives_agrees : (past : List Row) (port : Port) (a : Arrival) (room : Bool)
-      → Agrees past (if room then drained plan base stops.ports plan.ports (with_event plan base past (event_of port a)) else with_event plan base past (End (passes.Ingress port) (hows.Full (length past))))
-      (if room then drained plan base no_stops.ports plan.ports (with_event plan base past (event_of port a)) else with_event plan base past (End (passes.Ingress port) (hows.Full (length past))))
+      → Agrees past (if room then drained plan base stops.ports plan.ports (with_event plan base past (event_of port a)) else with_event plan base past (End (passes.Ingress port) hows.Paused))
+      (if room then drained plan base no_stops.ports plan.ports (with_event plan base past (event_of port a)) else with_event plan base past (End (passes.Ingress port) hows.Paused))
   arrives_agrees past port a true is =
       let later = drained_agrees plan.ports (with_event plan base past (event_of port a)) is in
       (arrival_sound past port a later.0, later.1)
   arrives_agrees past port a false is = (is, refl)
 
   commands_agrees : (past : List Row) (line : Line) (room : Bool)
-      → Agrees past (if room then drained plan base stops.ports plan.ports (with_line plan base stops.control line past) else with_event plan base past (End passes.Control (hows.Full (length past))))
-      (if room then drained plan base no_stops.ports plan.ports (with_line plan base no_stops.control line past) else with_event plan base past (End passes.Control (hows.Full (length past))))
+      → Agrees past (if room then drained plan base stops.ports plan.ports (with_line plan base stops.control line past) else with_event plan base past (End passes.Control hows.Paused))
+      (if room then drained plan base no_stops.ports plan.ports (with_line plan base no_stops.control line past) else with_event plan base past (End passes.Control hows.Paused))
   commands_agrees past line true is =
       let later = drained_agrees plan.ports (with_line plan base stops.control line past) is in
       let first = line_agrees past line later.0 in
@@ -109,9 +109,9 @@ module _ (plan : Plan) (base : Base) (stops : Stops) where
       let first = after_agrees t past (has_ended base (pass_of plan (who_of t)) past) later.0 in
       (first.0, later.1 ∙ ap (λ (p : List Row). after_all plan base no_stops ts p) first.1)
 
-  end_sound : (past : List Row) (port : Port) (over : Bool) → has_failed_write (if over then past else with_event plan base past (End (passes.Egress port) hows.End)) ≡ false → has_failed_write past ≡ false
+  end_sound : (past : List Row) (port : Port) (over : Bool) → has_failed_write (if over then past else with_event plan base past (End (passes.Egress port) (closing past))) ≡ false → has_failed_write past ≡ false
   end_sound past port true is = is
-  end_sound past port false is = is
+  end_sound past port false is = neither (is_failed_reason (closing past)) (has_failed_write past) is
 
   ends_sound : (ports : List PortPlan) (past : List Row) → has_failed_write (egress_ended plan base ports past) ≡ false → has_failed_write past ≡ false
   ends_sound [] past is = is
@@ -123,8 +123,8 @@ module _ (plan : Plan) (base : Base) (stops : Stops) where
       let all : List Turn = merged turn_at (all_turns lines plan.ports inputs) in
       let start : List Row = begun plan base stops.ports plan.ports [] in
       let taken : List Row = after_all plan base stops all start in
-      let sound : has_failed_write taken ≡ false = ends_sound plan.ports (with_event plan base taken (End passes.Ticker hows.End)) is in
+      let sound : has_failed_write taken ≡ false = ends_sound plan.ports (with_event plan base taken (End passes.Ticker (closing taken))) is in
       let turns = all_agree all start sound in
       let starts = begun_agrees plan.ports [] turns.0 in
-      ap (λ (p : List Row). egress_ended plan base plan.ports (with_event plan base p (End passes.Ticker hows.End)))
+      ap (λ (p : List Row). egress_ended plan base plan.ports (with_event plan base p (End passes.Ticker (closing p))))
       (turns.1 ∙ ap (λ (p : List Row). after_all plan base no_stops all p) starts.1)

@@ -9,7 +9,7 @@ use Rattle.hist_store.specs.Rows.{Row}
 use Rattle.load_gen.specs.Captures.{sent_at}
 use Rattle.load_gen.specs.Inputs.{arrival_with}
 use Rattle.load_gen.specs.Sendings.{Sending, sendings}
-use Rattle.savi_history.specs.Bases.{empty}
+use Rattle.checkpoint.specs.Bases.{empty}
 use Rattle.savi_history.specs.Replay.{Stops, replayed}
 
 -- what comes in at a port: the frames that are sent there, each with its moment as its stamp, and then the end

@@ -2,8 +2,9 @@
 
 ghost use Rattle.std.specs.Prelude.{◌≡◌, ◌≤◌, IfOk};
 ghost use Rattle.load_gen.specs.LoadPlan.{IsLoadPlan};
-ghost use Rattle.savi_history.specs.Bases.{empty};
+ghost use Rattle.checkpoint.specs.Bases.{empty};
 ghost use Rattle.savi_history.specs.Legal.{IsFinished};
+ghost use Rattle.savi_core.specs.Machines.{base_of};
 ghost use Rattle.load_run.specs.LoadHistory.{AreOrdinary, load_history};
 
 use crate::ends::ends_of;
@@ -18,6 +19,7 @@ use std::alloc::{AllocError, Global};
 /// memory, which comes before anything was replayed: the load, its captures and the switch take all memory first.
 pub fn replay_load(alloc: Global, seed: u32, frames: u32) -> Result<Core, AllocError>
     ensures plan { IfOk result (λ core. IsLoadPlan core.plan) }
+    ensures base { IfOk result (λ core. base_of core ≡ empty) }
     ensures history { IfOk result (λ core. core.past ≡ load_history core.plan seed frames) }
     ensures ordinary { frames ≤ 100000 → IfOk result (λ core. AreOrdinary core.past) }
     ensures finished { IfOk result (λ core. IsFinished core.plan empty core.past) }

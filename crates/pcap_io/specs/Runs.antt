@@ -27,7 +27,7 @@ EndsAs kind seen place how.Failed octets = (seen ≡ false) × IsCut kind octets
 EndsAs kind seen place how.Quit octets = ⊥
 EndsAs kind seen place (how.Overlong at) octets = ⊥
 EndsAs kind seen place how.Unwritten octets = ⊥
-EndsAs kind seen place (how.Full len) octets = ⊥
+EndsAs kind seen place how.Paused octets = ⊥
 
 -- What is left at this place is the records of these arrivals, one after the other, and then ends so.
 abbrev pub IsRun : HeaderKind → Bool → ℕ → List Arrival → How → List ℕ → Type 0

@@ -178,7 +178,7 @@ counted_within (Ended how.Failed) counts answer X same within again event = absu
 counted_within (Ended how.Quit) counts answer X same within again event = absurd (cc (within))
 counted_within (Ended (how.Overlong at)) counts answer X same within again event = absurd (cc (within))
 counted_within (Ended how.Unwritten) counts answer X same within again event = absurd (cc (within))
-counted_within (Ended (how.Full len)) counts answer X same within again event = absurd (cc (within))
+counted_within (Ended how.Paused) counts answer X same within again event = absurd (cc (within))
 
 pub place_within : (now : State) (place : ℕ) → IsPlaced now → (s : Standing) × (now ≡ Reading s) × (s.place ≡ place) → place ≤ 2 ^ 62
 place_within now place placed reading = omega (arith, (subst IsPlaced reading.1 placed).placed, reading.2)
@@ -399,7 +399,7 @@ module _ {K Q : Type 0} (written : K → Option (List ℕ)) (faults : K → ℕ)
     idle_again (Ended how.Quit) idle = tt
     idle_again (Ended (how.Overlong at)) idle = tt
     idle_again (Ended how.Unwritten) idle = tt
-    idle_again (Ended (how.Full len)) idle = tt
+    idle_again (Ended how.Paused) idle = tt
 
 pub if_any : {X : Type 0} (o : Option X) (P : X → Type 0) → ((x : X) → P x) → IfSome o P
 if_any None P all = tt

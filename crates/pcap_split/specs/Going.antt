@@ -125,7 +125,7 @@ got_of how.Failed = Some got.Failed
 got_of how.Quit = None
 got_of (how.Overlong at) = None
 got_of how.Unwritten = None
-got_of (how.Full len) = None
+got_of how.Paused = None
 
 -- what a splitter whose reader has ended answers again and again
 abbrev pub last_got : State → Option SplitGot

@@ -102,12 +102,12 @@ ending_once s octets how.Quit f one other = absurd one
 ending_once s octets (how.Overlong at) f one other = absurd one
 ending_once s octets how.Failed f one other = absurd one
 ending_once s octets how.Unwritten f one other = absurd one
-ending_once s octets (how.Full len) f one other = absurd one
+ending_once s octets how.Paused f one other = absurd one
 ending_once s octets e how.Quit one other = absurd other
 ending_once s octets e (how.Overlong at) one other = absurd other
 ending_once s octets e how.Failed one other = absurd other
 ending_once s octets e how.Unwritten one other = absurd other
-ending_once s octets e (how.Full len) one other = absurd other
+ending_once s octets e how.Paused one other = absurd other
 
 -- where a block begins nothing ends
 no_ending : (s : Standing) (b : Block) (first rest : List ℕ) (e : How) → IsBlock s b first → EndsAs s e (first ++ rest) → ⊥
@@ -117,7 +117,7 @@ no_ending s b first rest how.Quit is ends = ends
 no_ending s b first rest (how.Overlong at) is ends = ends
 no_ending s b first rest how.Failed is ends = ends
 no_ending s b first rest how.Unwritten is ends = ends
-no_ending s b first rest (how.Full len) is ends = ends
+no_ending s b first rest how.Paused is ends = ends
 
 pub blocks_once : (blocks others : List Block) (e f : How) (s : Standing) (octets : List ℕ) → AreBlocks s blocks e octets → AreBlocks s others f octets → (blocks ≡ others) × (e ≡ f)
 blocks_once [] [] e f s octets one other = (refl, ending_once s octets e f one other)

@@ -94,7 +94,7 @@ answer_of how.Failed = Some next.Failed
 answer_of how.Quit = None
 answer_of (how.Overlong at) = None
 answer_of how.Unwritten = None
-answer_of (how.Full len) = None
+answer_of how.Paused = None
 
 -- what a reader keeps: sound places, and an ending that has an answer
 abbrev pub IsPlaced : State → Type 0

@@ -46,7 +46,7 @@ EndsAs s how.Quit octets = ⊥
 EndsAs s (how.Overlong at) octets = ⊥
 EndsAs s how.Failed octets = ⊥
 EndsAs s how.Unwritten octets = ⊥
-EndsAs s (how.Full len) octets = ⊥
+EndsAs s how.Paused octets = ⊥
 
 -- What is left here is these blocks, one behind the other, and then ends so.
 abbrev pub AreBlocks : Standing → List Block → How → List ℕ → Type 0

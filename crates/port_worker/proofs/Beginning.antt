@@ -14,7 +14,7 @@ use Rattle.savi_kinds.specs.ValidPlan.{numbers_of}
 use Rattle.savi_ends.specs.Octets.{IsFront}
 use Rattle.pcap_io.specs.Captures.{header_text}
 use Rattle.hist_store.specs.Rows.{Row}
-use Rattle.savi_history.specs.Bases.{empty}
+use Rattle.checkpoint.specs.Bases.{empty}
 use Rattle.savi_history.specs.Passes.{has_ended, has_port, egress_pass}
 use Rattle.savi_history.specs.Queues.{Item, sent}
 use Rattle.savi_history.specs.Legal.{IsOpen}
@@ -23,7 +23,7 @@ use Rattle.savi_history.specs.PortOutputs.{output_end, pieces, text_before_last_
 use Rattle.savi_history.proofs.PassNumbers.{number_at, known_at}
 use Rattle.savi_history.proofs.PortPlaces.{length-numbers}
 use Rattle.savi_history.proofs.Waiting.{ended_now, sent_end}
-use Rattle.savi_core.specs.Machines.{Machine}
+use Rattle.savi_core.specs.Machines.{Machine, base_of}
 use Rattle.port_worker.specs.declared.port_ends.PortEnds.{PortEnds}
 use Rattle.port_worker.specs.SentFrames.{OnlySink}
 use Rattle.port_worker.specs.Drains.{with_failed, IsWritten, IsBegun}
@@ -102,15 +102,17 @@ AllowedBelow plan place known stops past = (k : ℕ) → k < place → Allows (k
 -- the outputs of the ports below a place are begun
 pub record BeginsSoFar {S K C : Type 0} (written : K → Option (List ℕ)) (faults : K → ℕ) (place : ℕ) (first now : Machine) (old new : List (PortEnds S K C)) : Type 0 where
   pub plan : now.plan ≡ first.plan
+  pub base : base_of now ≡ empty
   pub sinks : PairsSoFar (OnlySink written faults) place old new
   pub fresh : (k : ℕ) → place ≤ k → k < length old → IsFresh first.plan now.past (number_at first.plan k)
   pub known : Stops
   pub outputs : (k : ℕ) (d : PortEnds S K C) → k < place → IsOutputOf written faults first.plan known now.past (get_or old k d) (get_or new k d)
   pub made_so : (stops : Stops) → AllowedBelow first.plan place known stops now.past → begun first.plan empty stops.ports (drop place first.plan.ports) now.past ≡ begun first.plan empty stops.ports first.plan.ports []
 
-pub begins_none : {S K C : Type 0} (written : K → Option (List ℕ)) (faults : K → ℕ) (first : Machine) (old : List (PortEnds S K C)) → first.past ≡ [] → BeginsSoFar written faults 0 first first old old
-begins_none written faults first old start = record {
+pub begins_none : {S K C : Type 0} (written : K → Option (List ℕ)) (faults : K → ℕ) (first : Machine) (old : List (PortEnds S K C)) → base_of first ≡ empty → first.past ≡ [] → BeginsSoFar written faults 0 first first old old
+begins_none written faults first old base_is start = record {
   plan = refl;
+  base = base_is;
   sinks = pairs_none (OnlySink written faults) old;
   fresh = λ k above within. rw start (record { running = refl; none = refl; unsent = refl; unsure = refl });
   known = record { ports = λ n. None; control = None };
@@ -144,7 +146,7 @@ module _ {S K C : Type 0} (written : K → Option (List ℕ)) (faults : K → �
       subst (λ (p : Plan). IsOpen p empty now.past (Egress x.port)) (sym so_far.plan)
       (record { known = ap (has_port first.plan) number_here ∙ known_at first.plan place (omega arith); running = fresh_here.running })
 
-  module _ (plan_is : next.plan ≡ now.plan) (only : OnlySink written faults x y) (begun_now : IsBegun written faults now.plan now.past next.past x y) where
+  module _ (plan_is : next.plan ≡ now.plan) (base_is : base_of next ≡ empty) (only : OnlySink written faults x y) (begun_now : IsBegun written faults now.plan now.past next.past x y) where
     abbrev made : Stops → List Row
     made stops = with_failure first.plan empty stops.ports x.port now.past
 
@@ -206,6 +208,7 @@ module _ {S K C : Type 0} (written : K → Option (List ℕ)) (faults : K → �
     pub begins_more : BeginsSoFar written faults (place + 1) first next old (set new place y)
     begins_more = record {
       plan = plan_is ∙ so_far.plan;
+      base = base_is;
       sinks = pairs_more (OnlySink written faults) place old new y so_far.sinks inside (subst (λ (p : PortEnds S K C). OnlySink written faults p y) (sym old_is) only);
       fresh = λ k above within. fresh_kept first.plan (number_at first.plan k) now.past next.past (leaves.keeps (number_at first.plan k) (apart k within (omega arith)) (passes_apart k within (omega arith))) (so_far.fresh k (omega arith) within);
       known = known_now;

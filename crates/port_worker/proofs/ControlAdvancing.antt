@@ -4,7 +4,7 @@ use Rattle.std.specs.List.{All}
 use Rattle.savi_kinds.specs.declared.plan.Plan.{Plan}
 use Rattle.savi_kinds.specs.Ports.{number_of}
 use Rattle.hist_store.specs.Rows.{Row}
-use Rattle.savi_history.specs.Bases.{empty}
+use Rattle.checkpoint.specs.Bases.{empty}
 use Rattle.savi_history.specs.Passes.{has_port, has_ended, control_pass}
 use Rattle.savi_history.specs.Queues.{queue}
 use Rattle.savi_history.specs.Replay.{Stops, drained, entered}

@@ -10,7 +10,7 @@ use Rattle.savi_ends.specs.Faults.{Rose}
 use Rattle.cli_lang.specs.Arrivals.{Line}
 use Rattle.cli_lang.specs.Arrivals as control
 use Rattle.hist_store.specs.Rows.{Row}
-use Rattle.savi_history.specs.Bases.{empty}
+use Rattle.checkpoint.specs.Bases.{empty}
 use Rattle.savi_history.specs.ControlFits.{AreBeforeRefusal}
 use Rattle.savi_history.specs.ControlInputs.{control_end, entered_lines}
 use Rattle.savi_history.specs.ControlOutputs.{FitsRepliesAt, replies}
@@ -85,7 +85,7 @@ module _ {S K C : Type 0} (left : S → Option (List ℕ)) (written : K → Opti
           used = runs.used;
           gave = came;
           fits = fits_control (left start.ends.source) (left c.ends.source) out.input (entered_lines now) (control_end now) entered came
-              (λ len full. subst (λ (ls : List Line). AreBeforeRefusal AreLines (left start.ends.source) (left c.ends.source) ls) (sym same.lines_same) (out.cut len (sym same.end_same ∙ full)));
+              (λ paused. subst (λ (ls : List Line). AreBeforeRefusal AreLines (left start.ends.source) (left c.ends.source) ls) (sym same.lines_same) (out.cut (sym same.end_same ∙ paused)));
           near = λ how at is. out.near how at (sym same.end_same ∙ is);
           took = took;
           fits_out = subst (λ (l : List Row). FitsRepliesAt plan empty (written start.ends.sink) (written c.ends.sink) l) (sym now_is)

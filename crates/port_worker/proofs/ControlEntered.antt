@@ -6,7 +6,7 @@ use Rattle.savi_kinds.specs.declared.entry.Who.TheVariants as passes
 use Rattle.savi_kinds.specs.declared.entry.How.TheVariants as hows
 use Rattle.cli_lang.specs.Arrivals.{Line}
 use Rattle.hist_store.specs.Rows.{Row}
-use Rattle.savi_history.specs.Bases.{empty}
+use Rattle.checkpoint.specs.Bases.{empty}
 use Rattle.savi_history.specs.Events.{Command}
 use Rattle.savi_history.specs.Limits.{has_room}
 use Rattle.savi_history.specs.Passes.{control_pass, has_ended, ticker_pass, pass_of}
@@ -43,11 +43,11 @@ module _ (plan : Plan) (stops : Stops) (past : List Row) where
 
     line_ends : (pass : ℕ) (b : Bool) → has_room plan past ≡ b → pass ≤ ticker_pass plan → control_pass plan ≢ pass → has_ended empty pass (entered plan empty stops (Commands line) past) ≡ has_ended empty pass past
     line_ends pass true room low other = rw room (ended_drained plan empty stops.ports plan.ports answered pass low ∙ reply_ends pass other)
-    line_ends pass false room low other = rw room (ended_other plan empty past Control (hows.Full (length past)) pass other)
+    line_ends pass false room low other = rw room (ended_other plan empty past Control hows.Paused pass other)
 
     line_quiet : (k : ℕ) (b : Bool) → has_room plan past ≡ b → k < length plan.ports → queue plan empty (number_at plan k) past ≡ [] → queue plan empty (number_at plan k) (entered plan empty stops (Commands line) past) ≡ []
     line_quiet k true room inside none = rw room (drained_empty plan empty stops.ports plan.ports answered k inside)
-    line_quiet k false room inside none = rw room (empty_end plan empty past Control (hows.Full (length past)) (number_at plan k) none)
+    line_quiet k false room inside none = rw room (empty_end plan empty past Control hows.Paused (number_at plan k) none)
 
     reply_longer : length past + 1 ≤ length answered
     reply_longer = behind_reply plan empty line mid (λ now. length past + 1 ≤ length now) (omega arith) (omega arith) (omega arith) stops.control
@@ -59,7 +59,7 @@ module _ (plan : Plan) (stops : Stops) (past : List Row) where
     line_below : (b : Bool) → has_room plan past ≡ b → has_ended empty (control_pass plan) (entered plan empty stops (Commands line) past) ≡ false → length past < plan.entries
     line_below true room running = room_below plan past room
     line_below false room running =
-        let ended : has_ended empty (control_pass plan) (entered plan empty stops (Commands line) past) ≡ true = rw room (ended_now plan empty past Control (hows.Full (length past))) in
+        let ended : has_ended empty (control_pass plan) (entered plan empty stops (Commands line) past) ≡ true = rw room (ended_now plan empty past Control hows.Paused) in
         let e : true ≡ false = sym ended ∙ running in
         cc
 

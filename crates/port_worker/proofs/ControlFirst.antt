@@ -4,7 +4,7 @@ use Rattle.savi_kinds.specs.declared.plan.Plan.{Plan}
 use Rattle.savi_kinds.specs.declared.entry.Who.TheVariants.{Control}
 use Rattle.savi_kinds.specs.declared.entry.How.TheVariants as hows
 use Rattle.hist_store.specs.Rows.{Row}
-use Rattle.savi_history.specs.Bases.{empty}
+use Rattle.checkpoint.specs.Bases.{empty}
 use Rattle.savi_history.specs.Passes.{has_ended, control_pass}
 use Rattle.savi_history.specs.Events.{End}
 use Rattle.savi_history.specs.Merges.{merged}

@@ -18,7 +18,7 @@ whole_of first after ended_so lines (hows.Overlong at) other came = came
 whole_of first after ended_so lines hows.Failed other came = absurd (other came.0)
 whole_of first after ended_so lines hows.Quit other came = absurd came
 whole_of first after ended_so lines hows.Unwritten other came = absurd came
-whole_of first after ended_so lines (hows.Full len) other came = absurd came
+whole_of first after ended_so lines hows.Paused other came = absurd came
 
 begins : (first : Option (List ℕ)) (input : Input) (lines : List Line) → entered.AreFirst input lines → IfSome first (λ octets. AreLines true octets input.arrivals input.ending) → fits.AreFirst (AreLines true) first lines
 begins None input lines front whole = tt
@@ -29,7 +29,7 @@ all_of first input lines how all whole =
     subst (λ (ls : List Line). IfSome first (λ octets. AreLines true octets ls how)) (sym all.all) (subst (λ (h : How). IfSome first (λ octets. AreLines true octets input.arrivals h)) all.ending whole)
 
 pub fits_control : (first left : Option (List ℕ)) (input : Input) (lines : List Line) (ended_so : Option How) → AreEntered input lines ended_so → IsControlInputOf first left ended_so input.arrivals input.ending
-    → ((len : ℕ) → ended_so ≡ Some (hows.Full len) → AreBeforeRefusal AreLines first left lines) → FitsControl AreLines first left lines ended_so
+    → (ended_so ≡ Some hows.Paused → AreBeforeRefusal AreLines first left lines) → FitsControl AreLines first left lines ended_so
 fits_control first left input lines (Some hows.End) are came cut =
     (all_of first input lines hows.End are (whole_of first left (Some hows.End) input.arrivals input.ending (λ same. cc) came), are.none)
 fits_control first left input lines (Some (hows.Malformed at)) are came cut =
@@ -45,7 +45,7 @@ fits_control first left input lines (Some hows.Failed) are came cut =
       },
       are.none,
     )
-fits_control first left input lines (Some (hows.Full len)) are came cut = (cut len refl, are.none)
+fits_control first left input lines (Some hows.Paused) are came cut = (cut refl, are.none)
 fits_control first left input lines (Some hows.Quit) are came cut =
     (begins first input lines are.0 (whole_of first left (Some hows.Quit) input.arrivals input.ending (λ same. cc) came), are.1)
 fits_control first left input lines (Some hows.Unwritten) are came cut =

@@ -9,7 +9,7 @@ use Rattle.savi_kinds.specs.ValidPlan.{numbers_of}
 use Rattle.savi_ends.specs.Faults.{Rose}
 use Rattle.cli_lang.specs.Arrivals.{Line}
 use Rattle.hist_store.specs.Rows.{Row}
-use Rattle.savi_history.specs.Bases.{empty}
+use Rattle.checkpoint.specs.Bases.{empty}
 use Rattle.savi_history.specs.ControlInputs.{is_quit, control_end}
 use Rattle.savi_history.specs.ControlOutputs.{replies}
 use Rattle.savi_history.specs.Events.{Command, End}

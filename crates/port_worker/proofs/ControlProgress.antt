@@ -85,7 +85,7 @@ pub record HeardOut {S K C : Type 0} (left : S → Option (List ℕ)) (plan : Pl
   pub split : taken ++ rest ≡ control_turns (Some input)
   pub came : IsControlInputOf (left first.ends.source) (left now.ends.source) (control_end past) input.arrivals input.ending
   pub near : (how : How) (at : ℕ) → control_end past ≡ Some how → IsFaultAt how at → GaveFew (left first.ends.source) (left now.ends.source) (at + longest_reach)
-  pub cut : (len : ℕ) → control_end past ≡ Some (hows.Full len) → AreBeforeRefusal AreLines (left first.ends.source) (left now.ends.source) (entered_lines past)
+  pub cut : control_end past ≡ Some hows.Paused → AreBeforeRefusal AreLines (left first.ends.source) (left now.ends.source) (entered_lines past)
 
 -- octets that come from a new reader are an input
 are_lines : (seen : Bool) (octets : List ℕ) (lines : List Line) (ending : How) → Comes false seen start octets (of_lines lines ending) → AreLines seen octets lines ending
@@ -131,10 +131,10 @@ came_whole first after ended_so lines (hows.Overlong at) seen whole = whole
 came_whole first after ended_so lines hows.Quit seen whole = seen
 came_whole first after ended_so lines hows.Failed seen whole = absurd seen
 came_whole first after ended_so lines hows.Unwritten seen whole = seen
-came_whole first after ended_so lines (hows.Full len) seen whole = seen
+came_whole first after ended_so lines hows.Paused seen whole = seen
 
-not_full : (ending : How) (len : ℕ) → IsSeenEnd ending → ending ≡ hows.Full len → ⊥
-not_full ending len seen same = subst IsSeenEnd same seen
+not_paused : (ending : How) → IsSeenEnd ending → ending ≡ hows.Paused → ⊥
+not_paused ending seen same = subst IsSeenEnd same seen
 
 of_turns : (plan : Plan) (lines : List Line) (ending : How) → AreOf plan (control_pass plan) (map (λ line. Commands line) lines ++ Ends Control ending ∷ [])
 of_turns plan [] ending = (refl, tt)
@@ -181,7 +181,7 @@ module _ {S K C : Type 0} (left : S → Option (List ℕ)) (plan : Plan) (past n
     }
 
     -- control has ended behind a line, or for want of room for it
-    pub line_out : ((len : ℕ) → control_end now ≡ Some (hows.Full len) → entered_lines now ≡ entered_lines past) → control_end now ≢ Some hows.Failed → ((how : How) (at : ℕ) → control_end now ≡ Some how → IsFaultAt how at → ⊥) → HeardOut left plan now first new (taken ++ Commands line ∷ [])
+    pub line_out : (control_end now ≡ Some hows.Paused → entered_lines now ≡ entered_lines past) → control_end now ≢ Some hows.Failed → ((how : How) (at : ℕ) → control_end now ≡ Some how → IsFaultAt how at → ⊥) → HeardOut left plan now first new (taken ++ Commands line ∷ [])
     line_out kept other sound =
         let whole = some_whole old.reader so_far.gave more (left first.ends.source) (left old.ends.source) heard so_far.takes in
         let held = holds_at old.reader so_far.gave (left first.ends.source) (left old.ends.source) more heard so_far.takes in
@@ -197,7 +197,7 @@ module _ {S K C : Type 0} (left : S → Option (List ℕ)) (plan : Plan) (past n
           came = came_whole (left first.ends.source) (left new.ends.source) (control_end now) (more ++ whole.behind) whole.ending whole.seen
               (are_whole (left first.ends.source) (more ++ whole.behind) whole.ending whole.whole);
           near = λ how at is fault. absurd (sound how at is fault);
-          cut = λ len full. record {
+          cut = λ paused. record {
             gave = so_far.gave;
             takes = takes_new;
             seen = held.seen;
@@ -206,7 +206,7 @@ module _ {S K C : Type 0} (left : S → Option (List ℕ)) (plan : Plan) (past n
             behind = held.behind;
             ending = held.ending;
             read = are_lines held.seen so_far.gave (entered_lines now ++ line ∷ held.behind) held.ending
-                (subst (λ (ls : List Line). Comes false held.seen start so_far.gave (of_lines (ls ++ line ∷ held.behind) held.ending)) (sym (kept len full ∙ so_far.entered))
+                (subst (λ (ls : List Line). Comes false held.seen start so_far.gave (of_lines (ls ++ line ∷ held.behind) held.ending)) (sym (kept paused ∙ so_far.entered))
                 (subst (λ (ls : List Line). Comes false held.seen start so_far.gave (of_lines ls held.ending)) (append_assoc so_far.before (line ∷ []) held.behind) held.read));
           };
         }
@@ -221,7 +221,7 @@ module _ {S K C : Type 0} (left : S → Option (List ℕ)) (plan : Plan) (past n
     split = append-nil (taken ++ Ends Control ending ∷ []) ∙ ap (λ (l : List Turn). l ++ Ends Control ending ∷ []) so_far.taken_is;
     came = came_whole (left first.ends.source) (left new.ends.source) (control_end now) so_far.before ending seen (are_whole (left first.ends.source) so_far.before ending whole);
     near = λ how at is fault. (so_far.gave, takes_new, few at (at_fault_as ending how at (sym now_ends ∙ is) fault));
-    cut = λ len full. absurd (not_full ending len seen (some_same ending (hows.Full len) (sym now_ends ∙ full)));
+    cut = λ paused. absurd (not_paused ending seen (some_same ending hows.Paused (sym now_ends ∙ paused)));
   }
 
   -- a read failed
@@ -234,5 +234,5 @@ module _ {S K C : Type 0} (left : S → Option (List ℕ)) (plan : Plan) (past n
     split = append-nil (taken ++ Ends Control hows.Failed ∷ []) ∙ ap (λ (l : List Turn). l ++ Ends Control hows.Failed ∷ []) so_far.taken_is;
     came = (now_ends, so_far.gave, takes_new, are_lines false so_far.gave so_far.before hows.Failed comes);
     near = λ how at is fault. absurd (at_fault_as hows.Failed how at (sym now_ends ∙ is) fault);
-    cut = λ len full. let e : hows.Failed ≡ hows.Full len = some_same hows.Failed (hows.Full len) (sym now_ends ∙ full) in cc;
+    cut = λ paused. let e : hows.Failed ≡ hows.Paused = some_same hows.Failed hows.Paused (sym now_ends ∙ paused) in cc;
   }

@@ -6,7 +6,7 @@ use Rattle.savi_kinds.specs.declared.entry.How.TheVariants as hows
 use Rattle.savi_ends.specs.Faults.{Rose}
 use Rattle.cli_lang.specs.Arrivals.{Line}
 use Rattle.hist_store.specs.Rows.{Row}
-use Rattle.savi_history.specs.Bases.{empty}
+use Rattle.checkpoint.specs.Bases.{empty}
 use Rattle.savi_history.specs.ControlFits.{AreBeforeRefusal}
 use Rattle.savi_history.specs.ControlInputs.{control_end}
 use Rattle.savi_history.specs.Passes.{control_pass, has_ended}
@@ -253,7 +253,7 @@ module _ {S K C : Type 0} (left : S → Option (List ℕ)) (written : K → Opti
     split = out.split;
     came = subst (λ (e : Option How). IsControlInputOf (left first.ends.source) (left c.ends.source) e out.input.arrivals out.input.ending) (sym same.end_same) out.came;
     near = λ how at is. out.near how at (sym same.end_same ∙ is);
-    cut = λ len full. subst (λ (ls : List Line). AreBeforeRefusal AreLines (left first.ends.source) (left c.ends.source) ls) (sym same.lines_same) (out.cut len (sym same.end_same ∙ full));
+    cut = λ paused. subst (λ (ls : List Line). AreBeforeRefusal AreLines (left first.ends.source) (left c.ends.source) ls) (sym same.lines_same) (out.cut (sym same.end_same ∙ paused));
   }
 
   progress_kept : (past now : List Row) (first c : ControlEnds S K C) (taken : List Turn) (a : LineAhead) → ControlSame plan empty past now → LineProgress left plan past first c taken a → LineProgress left plan now first c taken a

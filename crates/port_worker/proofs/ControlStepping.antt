@@ -10,7 +10,7 @@ use Rattle.savi_ends.specs.Octets.{Takes}
 use Rattle.cli_lang.specs.Arrivals.{Line}
 use Rattle.cli_lang.specs.Readers.{State, Comes, IsFaultAt, longest_reach}
 use Rattle.hist_store.specs.Rows.{Row}
-use Rattle.savi_history.specs.Bases.{empty}
+use Rattle.checkpoint.specs.Bases.{empty}
 use Rattle.savi_history.specs.ControlInputs.{control_end, entered_lines}
 use Rattle.savi_history.specs.Events.{Command, End}
 use Rattle.savi_history.specs.Limits.{has_room}
@@ -82,16 +82,16 @@ pub record GoesOn (plan : Plan) (line : Line) (past now : List Row) : Type 0 whe
 
 pub record IsOver (plan : Plan) (past now : List Row) : Type 0 where
   pub ended : has_ended empty (control_pass plan) now ≡ true
-  pub kept : (len : ℕ) → control_end now ≡ Some (hows.Full len) → entered_lines now ≡ entered_lines past
+  pub kept : control_end now ≡ Some hows.Paused → entered_lines now ≡ entered_lines past
   pub other : control_end now ≢ Some hows.Failed
   pub apart : (how : How) (at : ℕ) → control_end now ≡ Some how → IsFaultAt how at → ⊥
 
 abbrev pub LineMakes : Plan → Line → List Row → List Row → Type 0
 LineMakes plan line past now = GoesOn plan line past now ⊎ IsOver plan past now
 
-no_full : (how : How) (len : ℕ) → (how ≡ hows.Unwritten) ⊎ (how ≡ hows.Quit) → Some how ≡ Some (hows.Full len) → ⊥
-no_full how len (inl is) same = cc
-no_full how len (inr is) same = cc
+no_pause : (how : How) → (how ≡ hows.Unwritten) ⊎ (how ≡ hows.Quit) → Some how ≡ Some hows.Paused → ⊥
+no_pause how (inl is) same = cc
+no_pause how (inr is) same = cc
 
 no_failure : (how : How) → (how ≡ hows.Unwritten) ⊎ (how ≡ hows.Quit) → Some how ≡ Some hows.Failed → ⊥
 no_failure how (inl is) same = cc
@@ -109,7 +109,7 @@ module _ (plan : Plan) (stops : Stops) (line : Line) (past : List Row) where
   makes_same now later same (inl on) = inl (record { running = same.ended_same ∙ on.running; lines = same.lines_same ∙ on.lines; none = same.end_same ∙ on.none })
   makes_same now later same (inr over) = inr (record {
     ended = same.ended_same ∙ over.ended;
-    kept = λ len full. same.lines_same ∙ over.kept len (sym same.end_same ∙ full);
+    kept = λ paused. same.lines_same ∙ over.kept (sym same.end_same ∙ paused);
     other = λ failed. over.other (sym same.end_same ∙ failed);
     apart = λ how at is. over.apart how at (sym same.end_same ∙ is);
   })
@@ -117,7 +117,7 @@ module _ (plan : Plan) (stops : Stops) (line : Line) (past : List Row) where
   ends_so : (how : How) → (how ≡ hows.Unwritten) ⊎ (how ≡ hows.Quit) → LineMakes plan line past (with_event plan empty mid (End Control how))
   ends_so how which = inr (record {
     ended = ended_now plan empty mid Control how;
-    kept = λ len full. absurd (no_full how len which full);
+    kept = λ paused. absurd (no_pause how which paused);
     other = λ failed. no_failure how which failed;
     apart = λ ending at is fault. no_fault how which at (at_fault_as how ending at is fault);
   })
@@ -129,10 +129,10 @@ module _ (plan : Plan) (stops : Stops) (line : Line) (past : List Row) where
       behind_reply plan empty line mid (λ now. LineMakes plan line past now) (inl (record { running = running; lines = refl; none = none })) (ends_so hows.Unwritten (inl refl)) (ends_so hows.Quit (inr refl)) stops.control in
       rw room (makes_same answered (drained plan empty stops.ports plan.ports answered) (control_drained plan empty stops.ports plan.ports answered) behind)
   makes_at false room running none = rw room (inr (record {
-    ended = ended_now plan empty past Control (hows.Full (length past));
-    kept = λ len full. append-nil (entered_lines past);
+    ended = ended_now plan empty past Control hows.Paused;
+    kept = λ paused. append-nil (entered_lines past);
     other = λ failed. cc;
-    apart = λ ending at is fault. absurd (at_fault_as (hows.Full (length past)) ending at is fault);
+    apart = λ ending at is fault. absurd (at_fault_as hows.Paused ending at is fault);
   }))
 
   pub line_makes : has_ended empty (control_pass plan) past ≡ false → control_end past ≡ None → LineMakes plan line past (entered plan empty stops (Commands line) past)

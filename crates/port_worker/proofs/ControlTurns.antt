@@ -5,7 +5,7 @@ use Rattle.std.specs.List.{All}
 use Rattle.savi_kinds.specs.declared.plan.Plan.{Plan}
 use Rattle.savi_kinds.specs.Ports.{number_of}
 use Rattle.hist_store.specs.Rows.{Row}
-use Rattle.savi_history.specs.Bases.{empty}
+use Rattle.checkpoint.specs.Bases.{empty}
 use Rattle.savi_history.specs.Passes.{has_ended, pass_of, control_pass, ticker_pass}
 use Rattle.savi_history.specs.Turns.{Turn, who_of}
 use Rattle.savi_history.specs.Picks.{IsLeast}

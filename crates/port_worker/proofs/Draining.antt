@@ -11,13 +11,13 @@ use Rattle.savi_kinds.specs.declared.plan.PortPlan.{PortPlan}
 use Rattle.savi_kinds.specs.Ports.{number_of}
 use Rattle.savi_kinds.specs.ValidPlan.{numbers_of}
 use Rattle.hist_store.specs.Rows.{Row}
-use Rattle.savi_history.specs.Bases.{empty}
+use Rattle.checkpoint.specs.Bases.{empty}
 use Rattle.savi_history.specs.Passes.{has_ended, egress_pass}
 use Rattle.savi_history.specs.Replay.{Stops, pieces_by, with_drain, drained}
 use Rattle.savi_history.proofs.PassNumbers.{number_at, place_at}
 use Rattle.savi_history.proofs.PortPlaces.{length-numbers}
 use Rattle.savi_history.proofs.Ends.{Later}
-use Rattle.savi_core.specs.Machines.{Machine}
+use Rattle.savi_core.specs.Machines.{Machine, base_of}
 use Rattle.port_worker.specs.declared.port_ends.PortEnds.{PortEnds}
 use Rattle.port_worker.specs.SentFrames.{OnlySink}
 use Rattle.port_worker.specs.Drains.{waiting_at, IsDrainable, IsDrained}
@@ -100,15 +100,17 @@ pub record DrainedSoFar {S K C : Type 0} (written : K → Option (List ℕ)) (fa
 -- the queues of the ports below a place are drained and what they held is written
 pub record DrainsSoFar {S K C : Type 0} (written : K → Option (List ℕ)) (faults : K → ℕ) (place : ℕ) (first now : Machine) (old new : List (PortEnds S K C)) : Type 0 where
   pub plan : now.plan ≡ first.plan
+  pub base : base_of now ≡ empty
   pub sinks : PairsSoFar (OnlySink written faults) place old new
   pub later : Later empty first.past now.past
   pub drainable : (k : ℕ) (d : PortEnds S K C) → k < length old → IsDrainable first.plan now.past (get_or old k d).port
   pub alone : (k : ℕ) (d : PortEnds S K C) → k < length old → has_ended empty (egress_pass first.plan (number_of (get_or old k d).port)) first.past ≡ true → get_or new k d ≡ get_or old k d
   pub outputs : (start : List (PortEnds S K C)) (known : Stops) → AreOutputs written faults first.plan known first.past start old → DrainedSoFar written faults first.plan place known first.past now.past start new
 
-pub drains_none : {S K C : Type 0} (written : K → Option (List ℕ)) (faults : K → ℕ) (first : Machine) (old : List (PortEnds S K C)) → All (λ p. IsDrainable first.plan first.past p.port) old → DrainsSoFar written faults 0 first first old old
-drains_none written faults first old drainable = record {
+pub drains_none : {S K C : Type 0} (written : K → Option (List ℕ)) (faults : K → ℕ) (first : Machine) (old : List (PortEnds S K C)) → base_of first ≡ empty → All (λ p. IsDrainable first.plan first.past p.port) old → DrainsSoFar written faults 0 first first old old
+drains_none written faults first old base_is drainable = record {
   plan = refl;
+  base = base_is;
   sinks = pairs_none (OnlySink written faults) old;
   later = λ pass ended. ended;
   drainable = drainable;
@@ -118,7 +120,7 @@ drains_none written faults first old drainable = record {
 
 module _ {S K C : Type 0} (written : K → Option (List ℕ)) (faults : K → ℕ) (place : ℕ) (first now next : Machine) (old new : List (PortEnds S K C)) (x y : PortEnds S K C)
     (planned : ports_held old ≡ ports_planned first.plan) (rising : IsStrictlyIncreasing (numbers_of first.plan.ports)) (so_far : DrainsSoFar written faults place first now old new) (inside : place < length new)
-    (is : get_or new place y ≡ x) (plan_is : next.plan ≡ now.plan) (only : OnlySink written faults x y) (drained_now : IsDrained written faults now.plan now.past next.past x y) where
+    (is : get_or new place y ≡ x) (plan_is : next.plan ≡ now.plan) (base_is : base_of next ≡ empty) (only : OnlySink written faults x y) (drained_now : IsDrained written faults now.plan now.past next.past x y) where
   inside_old : place < length old
   inside_old = let size = so_far.sinks.size in omega arith
 
@@ -275,6 +277,7 @@ module _ {S K C : Type 0} (written : K → Option (List ℕ)) (faults : K → �
   pub drains_more : DrainsSoFar written faults (place + 1) first next old (set new place y)
   drains_more = record {
     plan = plan_is ∙ so_far.plan;
+    base = base_is;
     sinks = pairs_more (OnlySink written faults) place old new y so_far.sinks inside (subst (λ (p : PortEnds S K C). OnlySink written faults p y) (sym old_is) only);
     later = λ pass ended. leaves.later pass (so_far.later pass ended);
     drainable = λ k d within. drainable_at k d within (cases_eq k place);

@@ -15,13 +15,13 @@ use Rattle.savi_kinds.specs.Arrivals.{Input}
 use Rattle.savi_kinds.specs.ValidPlan.{numbers_of}
 use Rattle.pcap_io.specs.Readers.{Comes}
 use Rattle.hist_store.specs.Rows.{Row}
-use Rattle.savi_history.specs.Bases.{empty}
+use Rattle.checkpoint.specs.Bases.{empty}
 use Rattle.savi_history.specs.Passes.{AllEnded, has_ended, control_pass}
 use Rattle.savi_history.specs.Events.{End}
 use Rattle.savi_history.specs.Legal.{IsFinished}
 use Rattle.savi_history.specs.Turns.{Turn, turn_at, turns, port_turns}
 use Rattle.savi_history.specs.Merges.{merged}
-use Rattle.savi_history.specs.Replay.{begun, with_event, after_all, inputs_taken, egress_ended, replayed}
+use Rattle.savi_history.specs.Replay.{begun, with_event, after_all, inputs_taken, closing, egress_ended, replayed}
 use Rattle.savi_history.specs.PortInputs.{input_end}
 use Rattle.savi_history.proofs.ControlSame.{ControlSame, control_finished}
 use Rattle.savi_history.proofs.PortInputs.{same_finished}
@@ -238,10 +238,10 @@ module _ {S K C : Type 0} (left : S → Option (List ℕ)) (written : K → Opti
       ∙ ap (λ (l : List (List Turn)). after_all plan empty r.known (merged turn_at ((r.control_taken ++ over.rest) ∷ l)) begins) turns_are
       ∙ ap (λ (l : List Turn). after_all plan empty r.known (merged turn_at (l ∷ port_turns plan.ports inputs_of)) begins) over.split
 
-  end_same : (now : List Row) → now ≡ egress_ended plan empty plan.ports (with_event plan empty past (End Ticker hows.End)) → (n : ℕ) → input_end n now ≡ input_end n past
+  end_same : (now : List Row) → now ≡ egress_ended plan empty plan.ports (with_event plan empty past (End Ticker (closing past))) → (n : ℕ) → input_end n now ≡ input_end n past
   end_same now finished n = ap (λ (l : List Row). input_end n l) finished ∙ (same_finished plan empty past n).end_same
 
-  module _ (now : List Row) (finished : now ≡ egress_ended plan empty plan.ports (with_event plan empty past (End Ticker hows.End))) (outputs : All (λ p. IsOutputEnded plan past now (number_of p.port)) ports) where
+  module _ (now : List Row) (finished : now ≡ egress_ended plan empty plan.ports (with_event plan empty past (End Ticker (closing past)))) (outputs : All (λ p. IsOutputEnded plan past now (number_of p.port)) ports) where
     -- the output of a port, and what the end left of it
     output_at : (k : ℕ) (d : PortEnds S K C) → k < length first → IsOutput written sink_faults plan past (number_of (get_or first k d).port) (get_or first k d).ends.sink (get_or ports k d).ends.sink (r.known.ports (number_of (get_or first k d).port))
     output_at k d inside = (r.outputs.each k d inside).output
@@ -274,7 +274,7 @@ module _ {S K C : Type 0} (left : S → Option (List ℕ)) (written : K → Opti
           }
 
       replay_is : now ≡ replayed plan empty over.lines inputs_of r.known
-      replay_is = finished ∙ ap (λ (l : List Row). egress_ended plan empty plan.ports (with_event plan empty l (End Ticker hows.End))) past_is
+      replay_is = finished ∙ ap (λ (l : List Row). egress_ended plan empty plan.ports (with_event plan empty l (End Ticker (closing l)))) past_is
 
       pub serves : IsStrictlyIncreasing (numbers_of plan.ports) → ServesEnds left written source_faults sink_faults plan empty now ends_first ends first ports
       serves rising = record {

@@ -6,7 +6,7 @@ use Rattle.savi_kinds.specs.declared.entry.Who.TheVariants.{Ingress}
 use Rattle.savi_kinds.specs.declared.entry.How.TheVariants as hows
 use Rattle.savi_kinds.specs.Arrivals.{Arrival}
 use Rattle.hist_store.specs.Rows.{Row}
-use Rattle.savi_history.specs.Bases.{empty}
+use Rattle.checkpoint.specs.Bases.{empty}
 use Rattle.savi_history.specs.Limits.{has_room}
 use Rattle.savi_history.specs.Passes.{has_ended, pass_of, ticker_pass}
 use Rattle.savi_history.specs.Queues.{queue}
@@ -31,9 +31,9 @@ module _ (plan : Plan) (stops : Stops) (past : List Row) where
   ended_room port a pass low = ended_drained plan empty stops.ports plan.ports (with_event plan empty past (event_of port a)) pass low ∙ ended_arrival plan empty past port a pass
 
   ended_other_at : (port : Port) (a : Arrival) (pass : ℕ) (b : Bool) → pass ≤ ticker_pass plan → pass_of plan (Ingress port) ≢ pass
-      → has_ended empty pass (if b then drained plan empty stops.ports plan.ports (with_event plan empty past (event_of port a)) else with_event plan empty past (End (Ingress port) (hows.Full (length past)))) ≡ has_ended empty pass past
+      → has_ended empty pass (if b then drained plan empty stops.ports plan.ports (with_event plan empty past (event_of port a)) else with_event plan empty past (End (Ingress port) hows.Paused)) ≡ has_ended empty pass past
   ended_other_at port a pass true low other = ended_room port a pass low
-  ended_other_at port a pass false low other = ended_other plan empty past (Ingress port) (hows.Full (length past)) pass other
+  ended_other_at port a pass false low other = ended_other plan empty past (Ingress port) hows.Paused pass other
 
   pub ended_entered_other : (of : Port) (t : Turn) (pass : ℕ) → IsTurnOf of t → pass ≤ ticker_pass plan → pass_of plan (who_of t) ≢ pass → has_ended empty pass (entered plan empty stops t past) ≡ has_ended empty pass past
   ended_entered_other of (Arrives port a) pass is low other = ended_other_at port a pass (has_room plan past) low other
@@ -46,14 +46,14 @@ module _ (plan : Plan) (stops : Stops) (past : List Row) where
   ended_entered_open of (Ends who how) pass whose low is = cc
 
   pub ended_entered_done : (of : Port) (t : Turn) → IsTurnOf of t → ends_input plan past t ≡ true → has_ended empty (pass_of plan (who_of t)) (entered plan empty stops t past) ≡ true
-  ended_entered_done of (Arrives port a) whose is = rw (not_true (has_room plan past) is) (ended_now plan empty past (Ingress port) (hows.Full (length past)))
+  ended_entered_done of (Arrives port a) whose is = rw (not_true (has_room plan past) is) (ended_now plan empty past (Ingress port) hows.Paused)
   ended_entered_done of (Commands line) whose is = absurd whose
   ended_entered_done of (Ends who how) whose is = ended_now plan empty past who how
 
   quiet_at : (port : Port) (a : Arrival) (k : ℕ) (b : Bool) → k < length plan.ports → queue plan empty (number_at plan k) past ≡ []
-      → queue plan empty (number_at plan k) (if b then drained plan empty stops.ports plan.ports (with_event plan empty past (event_of port a)) else with_event plan empty past (End (Ingress port) (hows.Full (length past)))) ≡ []
+      → queue plan empty (number_at plan k) (if b then drained plan empty stops.ports plan.ports (with_event plan empty past (event_of port a)) else with_event plan empty past (End (Ingress port) hows.Paused)) ≡ []
   quiet_at port a k true inside none = drained_empty plan empty stops.ports plan.ports (with_event plan empty past (event_of port a)) k inside
-  quiet_at port a k false inside none = empty_end plan empty past (Ingress port) (hows.Full (length past)) (number_at plan k) none
+  quiet_at port a k false inside none = empty_end plan empty past (Ingress port) hows.Paused (number_at plan k) none
 
   pub quiet_entered : (of : Port) (t : Turn) (k : ℕ) → IsTurnOf of t → k < length plan.ports → queue plan empty (number_at plan k) past ≡ [] → queue plan empty (number_at plan k) (entered plan empty stops t past) ≡ []
   quiet_entered of (Arrives port a) k whose inside none = quiet_at port a k (has_room plan past) inside none

@@ -1,5 +1,5 @@
 -- The ends of the ticker and of each egress.
-use Rattle.std.proofs.Common.{◌≡◌, ◌≢◌, ℕ, suc, ◌+◌, ◌<◌, ◌≤◌, Bool, true, false, if◌then◌else◌, List, [], ◌∷◌, length, drop, refl, sym, ap, ◌∙◌, subst, arith, ◌⊎◌, inl, inr, add-one}
+use Rattle.std.proofs.Common.{◌≡◌, ◌≢◌, ℕ, suc, ◌+◌, ◌<◌, ◌≤◌, Bool, true, false, if◌then◌else◌, List, [], ◌∷◌, length, drop, refl, sym, ap, ◌∙◌, subst, arith, ◌⊎◌, inl, inr, add-one, Some}
 use Rattle.std.proofs.lemmas.Bool.{cases_eq}
 use Rattle.std.specs.List.Sorted.{IsStrictlyIncreasing}
 use Rattle.savi_kinds.specs.declared.port.Port.{Port}
@@ -8,21 +8,20 @@ use Rattle.savi_kinds.specs.declared.plan.PortPlan.{PortPlan}
 use Rattle.savi_kinds.specs.declared.entry.Who.{Who}
 use Rattle.savi_kinds.specs.declared.entry.Who.TheVariants.{Egress, Ticker}
 use Rattle.savi_kinds.specs.declared.entry.How.{How}
-use Rattle.savi_kinds.specs.declared.entry.How.TheVariants as hows
 use Rattle.savi_kinds.specs.Ports.{number_of}
 use Rattle.savi_kinds.specs.ValidPlan.{numbers_of}
 use Rattle.hist_store.specs.Rows.{Row}
-use Rattle.savi_history.specs.Bases.{empty}
+use Rattle.checkpoint.specs.Bases.{Base, empty}
 use Rattle.savi_history.specs.Passes.{AllEnded, control_pass, ticker_pass, egress_pass, has_ended, has_port, has_pass, place_of}
 use Rattle.savi_history.specs.Queues.{queue}
 use Rattle.savi_history.specs.Events.{End}
 use Rattle.savi_history.specs.Legal.{IsFinished}
 use Rattle.savi_history.specs.Replay as replay
-use Rattle.savi_history.specs.Replay.{with_end, egress_ended}
+use Rattle.savi_history.specs.Replay.{closing, with_end, egress_ended}
 use Rattle.savi_history.proofs.Ends.{later_event}
 use Rattle.savi_history.proofs.Waiting.{ended_now, empty_end, sent_end}
 use Rattle.savi_history.proofs.PassNumbers.{number_at, place_at, known_at}
-use Rattle.savi_core.specs.Machines.{Machine, with_event}
+use Rattle.savi_core.specs.Machines.{Machine, base_of, with_event}
 use Rattle.savi_core.specs.Steps.{Did}
 use Rattle.port_worker.specs.Outputs.{IsOutputEnded}
 use Rattle.port_worker.proofs.Planned.{numbers_differ}
@@ -38,26 +37,33 @@ did_end old who how new stepped.Nothing did = absurd did.1
 
 pub record FinishesSoFar (plan : Plan) (place : ℕ) (first now : Machine) : Type 0 where
   pub plan_is : now.plan ≡ plan
-  pub past : egress_ended plan empty (drop place plan.ports) now.past ≡ egress_ended plan empty plan.ports (replay.with_event plan empty first.past (End Ticker hows.End))
+  pub base_is : base_of now ≡ empty
+  pub closing_is : closing now.past ≡ closing first.past
+  pub past : egress_ended plan empty (drop place plan.ports) now.past ≡ egress_ended plan empty plan.ports (replay.with_event plan empty first.past (End Ticker (closing first.past)))
   pub ended : AllEnded empty (ticker_pass plan + 1 + place) now.past
   pub quiet : (q : ℕ) → queue plan empty q first.past ≡ [] → queue plan empty q now.past ≡ []
   pub outputs : (k : ℕ) → k < place → IsOutputEnded plan first.past now.past (number_at plan k)
   pub keeps : (k : ℕ) → place ≤ k → k < length plan.ports → KeepsOutput plan (number_at plan k) first.past now.past
 
-ended_at : (plan : Plan) (past : List Row) (pass : ℕ) → AllEnded empty (control_pass plan + 1) past → pass < ticker_pass plan + 1 → (pass ≡ ticker_pass plan) ⊎ (pass ≢ ticker_pass plan) → has_ended empty pass (replay.with_event plan empty past (End Ticker hows.End)) ≡ true
-ended_at plan past pass inputs below (inl same) = subst (λ (n : ℕ). has_ended empty n (replay.with_event plan empty past (End Ticker hows.End)) ≡ true) (sym same) (ended_now plan empty past Ticker hows.End)
-ended_at plan past pass inputs below (inr other) = later_event plan empty past (End Ticker hows.End) pass (inputs pass (omega arith))
+ended_at : (plan : Plan) (past : List Row) (how : How) (pass : ℕ) → AllEnded empty (control_pass plan + 1) past → pass < ticker_pass plan + 1 → (pass ≡ ticker_pass plan) ⊎ (pass ≢ ticker_pass plan) → has_ended empty pass (replay.with_event plan empty past (End Ticker how)) ≡ true
+ended_at plan past how pass inputs below (inl same) = subst (λ (n : ℕ). has_ended empty n (replay.with_event plan empty past (End Ticker how)) ≡ true) (sym same) (ended_now plan empty past Ticker how)
+ended_at plan past how pass inputs below (inr other) = later_event plan empty past (End Ticker how) pass (inputs pass (omega arith))
 
-pub finish_start : (first now : Machine) → AllEnded empty (control_pass first.plan + 1) first.past → now ≡ with_event first (End Ticker hows.End) → FinishesSoFar first.plan 0 first now
-finish_start first now inputs made =
-    let past_is : now.past ≡ replay.with_event first.plan empty first.past (End Ticker hows.End) = ap (λ (m : Machine). m.past) made in
+pub finish_start : (first now : Machine) (how : How) → base_of first ≡ empty → how ≡ closing first.past → AllEnded empty (control_pass first.plan + 1) first.past → now ≡ with_event first (End Ticker how) → FinishesSoFar first.plan 0 first now
+finish_start first now how base_is how_is inputs made =
+    let past_is : now.past ≡ replay.with_event first.plan empty first.past (End Ticker (closing first.past)) =
+    ap (λ (m : Machine). m.past) made
+    ∙ ap (λ (b : Base). replay.with_event first.plan b first.past (End Ticker how)) base_is
+    ∙ ap (λ (h : How). replay.with_event first.plan empty first.past (End Ticker h)) how_is in
     record {
       plan_is = ap (λ (m : Machine). m.plan) made;
+      base_is = ap base_of made ∙ base_is;
+      closing_is = ap closing past_is;
       past = ap (λ (l : List Row). egress_ended first.plan empty first.plan.ports l) past_is;
-      ended = λ pass below. rw past_is (ended_at first.plan first.past pass inputs (omega (arith, below)) (cases_eq pass (ticker_pass first.plan)));
-      quiet = λ q none. rw past_is (empty_end first.plan empty first.past Ticker hows.End q none);
+      ended = λ pass below. rw past_is (ended_at first.plan first.past (closing first.past) pass inputs (omega (arith, below)) (cases_eq pass (ticker_pass first.plan)));
+      quiet = λ q none. rw past_is (empty_end first.plan empty first.past Ticker (closing first.past) q none);
       outputs = λ k below. absurd (omega (arith, below));
-      keeps = λ k above inside. subst (λ (l : List Row). KeepsOutput first.plan (number_at first.plan k) first.past l) (sym past_is) (keeps_ticker first.plan first.past hows.End (number_at first.plan k));
+      keeps = λ k above inside. subst (λ (l : List Row). KeepsOutput first.plan (number_at first.plan k) first.past l) (sym past_is) (keeps_ticker first.plan first.past (closing first.past) (number_at first.plan k));
     }
 
 module _ (plan : Plan) (place : ℕ) (first now : Machine) (port : Port) (rising : IsStrictlyIncreasing (numbers_of plan.ports)) (inside : place < length plan.ports) (number_is : number_of port ≡ number_at plan place) (so_far : FinishesSoFar plan place first now) where
@@ -82,8 +88,10 @@ module _ (plan : Plan) (place : ℕ) (first now : Machine) (port : Port) (rising
   pub known_here : has_pass now.plan (Egress port) ≡ true
   known_here = ap (λ (p : Plan). has_port p (number_of port)) so_far.plan_is ∙ known
 
-  pub last_now : AllEnded empty (ticker_pass now.plan + 1) now.past
-  last_now = subst (λ (p : Plan). AllEnded empty (ticker_pass p + 1) now.past) (sym so_far.plan_is) ended_before
+  pub last_now : AllEnded (base_of now) (ticker_pass now.plan + 1) now.past
+  last_now =
+      subst (λ (b : Base). AllEnded b (ticker_pass now.plan + 1) now.past) (sym so_far.base_is)
+      (subst (λ (p : Plan). AllEnded empty (ticker_pass p + 1) now.past) (sym so_far.plan_is) ended_before)
 
   apart : (k : ℕ) → k ≢ place → k < length plan.ports → egress_pass plan (number_of port) ≢ egress_pass plan (number_at plan k)
   apart k other below same =
@@ -96,7 +104,7 @@ module _ (plan : Plan) (place : ℕ) (first now : Machine) (port : Port) (rising
   numbers_apart k other below same = numbers_differ plan k place rising below inside other (sym same ∙ number_is)
 
   -- the next history is this one, or that with the end of this egress
-  rest_by : (past : List Row) (q : PortPlan) → drop place plan.ports ≡ q ∷ drop (suc place) plan.ports → q.number ≡ port → with_end plan empty port now.past ≡ past → egress_ended plan empty (drop (place + 1) plan.ports) past ≡ egress_ended plan empty plan.ports (replay.with_event plan empty first.past (End Ticker hows.End))
+  rest_by : (past : List Row) (q : PortPlan) → drop place plan.ports ≡ q ∷ drop (suc place) plan.ports → q.number ≡ port → with_end plan empty port now.past ≡ past → egress_ended plan empty (drop (place + 1) plan.ports) past ≡ egress_ended plan empty plan.ports (replay.with_event plan empty first.past (End Ticker (closing first.past)))
   rest_by past q split port_is is =
       let one : egress_ended plan empty (drop place plan.ports) now.past ≡ egress_ended plan empty (drop (suc place) plan.ports) past =
       ap (λ (l : List PortPlan). egress_ended plan empty l now.past) split
@@ -122,9 +130,11 @@ module _ (plan : Plan) (place : ℕ) (first now : Machine) (port : Port) (rising
     outputs_over k below (inl same) = subst (λ (n : ℕ). IsOutputEnded plan first.past now.past n) (number_is ∙ ap (number_at plan) (sym same)) output_over
     outputs_over k below (inr other) = so_far.outputs k (omega (arith, below, other))
 
-    finish_over : (q : PortPlan) → drop place plan.ports ≡ q ∷ drop (suc place) plan.ports → q.number ≡ port → FinishesSoFar plan (place + 1) first (record { plan = plan; past = now.past })
+    finish_over : (q : PortPlan) → drop place plan.ports ≡ q ∷ drop (suc place) plan.ports → q.number ≡ port → FinishesSoFar plan (place + 1) first (record now { past = now.past })
     finish_over q split port_is = record {
-      plan_is = refl;
+      plan_is = so_far.plan_is;
+      base_is = so_far.base_is;
+      closing_is = so_far.closing_is;
       past = rest_by now.past q split port_is (rw over refl);
       ended = λ pass below. still_ended pass below (cases_eq pass (egress_pass plan (number_of port)));
       quiet = so_far.quiet;
@@ -135,20 +145,20 @@ module _ (plan : Plan) (place : ℕ) (first now : Machine) (port : Port) (rising
   -- where the egress ends now
   module _ (running : has_ended empty (egress_pass plan (number_of port)) now.past ≡ false) where
     abbrev ended_row : List Row
-    ended_row = replay.with_event plan empty now.past (End (Egress port) hows.End)
+    ended_row = replay.with_event plan empty now.past (End (Egress port) (closing now.past))
 
     ended_then : (pass : ℕ) → pass < ticker_pass plan + 1 + (place + 1) → (pass ≡ egress_pass plan (number_of port)) ⊎ (pass ≢ egress_pass plan (number_of port)) → has_ended empty pass ended_row ≡ true
-    ended_then pass below (inl same) = subst (λ (n : ℕ). has_ended empty n ended_row ≡ true) (sym same) (ended_now plan empty now.past (Egress port) hows.End)
-    ended_then pass below (inr other) = later_event plan empty now.past (End (Egress port) hows.End) pass (so_far.ended pass (below_it pass below other))
+    ended_then pass below (inl same) = subst (λ (n : ℕ). has_ended empty n ended_row ≡ true) (sym same) (ended_now plan empty now.past (Egress port) (closing now.past))
+    ended_then pass below (inr other) = later_event plan empty now.past (End (Egress port) (closing now.past)) pass (so_far.ended pass (below_it pass below other))
 
     keeps_next : (k : ℕ) → k ≢ place → k < length plan.ports → KeepsOutput plan (number_at plan k) now.past ended_row
-    keeps_next k other below = keeps_egress plan now.past port hows.End (number_at plan k) (numbers_apart k other below) (apart k other below)
+    keeps_next k other below = keeps_egress plan now.past port (closing now.past) (number_at plan k) (numbers_apart k other below) (apart k other below)
 
     output_now : IsOutputEnded plan first.past ended_row (number_of port)
     output_now = record {
-      sent_same = sent_end plan empty now.past (Egress port) hows.End (number_of port) ∙ keeps_here.sent_same;
+      sent_same = sent_end plan empty now.past (Egress port) (closing now.past) (number_of port) ∙ keeps_here.sent_same;
       sure_same = keeps_here.sure_same;
-      ended = λ open_first. end_here plan now.past port hows.End;
+      ended = λ open_first. end_here plan now.past port (closing now.past) ∙ ap (λ (h : How). Some h) so_far.closing_is;
       still = λ ended. let e : true ≡ false = sym ended ∙ sym keeps_here.ended_same ∙ running in cc;
     }
 
@@ -166,26 +176,28 @@ module _ (plan : Plan) (place : ℕ) (first now : Machine) (port : Port) (rising
     outputs_now k below (inl same) = subst (λ (n : ℕ). IsOutputEnded plan first.past ended_row n) (number_is ∙ ap (number_at plan) (sym same)) output_now
     outputs_now k below (inr other) = output_later k other (omega (arith, below, inside)) (so_far.outputs k (omega (arith, below, other)))
 
-    finish_step : (q : PortPlan) → drop place plan.ports ≡ q ∷ drop (suc place) plan.ports → q.number ≡ port → FinishesSoFar plan (place + 1) first (record { plan = plan; past = ended_row })
+    finish_step : (q : PortPlan) → drop place plan.ports ≡ q ∷ drop (suc place) plan.ports → q.number ≡ port → FinishesSoFar plan (place + 1) first (record now { past = ended_row })
     finish_step q split port_is = record {
-      plan_is = refl;
+      plan_is = so_far.plan_is;
+      base_is = so_far.base_is;
+      closing_is = so_far.closing_is;
       past = rest_by ended_row q split port_is (rw running refl);
       ended = λ pass below. ended_then pass below (cases_eq pass (egress_pass plan (number_of port)));
-      quiet = λ n none. empty_end plan empty now.past (Egress port) hows.End n (so_far.quiet n none);
+      quiet = λ n none. empty_end plan empty now.past (Egress port) (closing now.past) n (so_far.quiet n none);
       outputs = λ k below. outputs_now k below (cases_eq k place);
       keeps = λ k above below. keeps_then plan (number_at plan k) first.past now.past ended_row (so_far.keeps k (omega (arith, above)) below) (keeps_next k (λ same. absurd (omega (arith, above, same))) below);
     }
 
   finish_by : (b : Bool) → has_ended empty (egress_pass plan (number_of port)) now.past ≡ b → (q : PortPlan) → drop place plan.ports ≡ q ∷ drop (suc place) plan.ports → q.number ≡ port
-      → FinishesSoFar plan (place + 1) first (record { plan = plan; past = if b then now.past else replay.with_event plan empty now.past (End (Egress port) hows.End) })
+      → FinishesSoFar plan (place + 1) first (record now { past = if b then now.past else replay.with_event plan empty now.past (End (Egress port) (closing now.past)) })
   finish_by true is q split port_is = finish_over is q split port_is
   finish_by false is q split port_is = finish_step is q split port_is
 
-  pub finish_more : (next : Machine) → next.plan ≡ now.plan → next.past ≡ with_end now.plan empty port now.past → (q : PortPlan) → drop place plan.ports ≡ q ∷ drop (suc place) plan.ports → q.number ≡ port → FinishesSoFar plan (place + 1) first next
-  finish_more next plan_same past_is q split port_is =
-      let made : next.past ≡ with_end plan empty port now.past = past_is ∙ ap (λ (p : Plan). with_end p empty port now.past) so_far.plan_is in
-      let next_is : next ≡ record { plan = plan; past = with_end plan empty port now.past } =
-      ap (λ (p : Plan). record { plan = p; past = next.past }) (plan_same ∙ so_far.plan_is) ∙ ap (λ (l : List Row). record { plan = plan; past = l }) made in
+  pub finish_more : (next : Machine) → next ≡ record now { past = with_end now.plan (base_of now) port now.past } → (q : PortPlan) → drop place plan.ports ≡ q ∷ drop (suc place) plan.ports → q.number ≡ port → FinishesSoFar plan (place + 1) first next
+  finish_more next made q split port_is =
+      let ends : with_end now.plan (base_of now) port now.past ≡ with_end plan empty port now.past =
+      ap (λ (p : Plan). with_end p (base_of now) port now.past) so_far.plan_is ∙ ap (λ (b : Base). with_end plan b port now.past) so_far.base_is in
+      let next_is : next ≡ record now { past = with_end plan empty port now.past } = made ∙ ap (λ (l : List Row). record now { past = l }) ends in
       subst (λ (m : Machine). FinishesSoFar plan (place + 1) first m) (sym next_is)
       (finish_by (has_ended empty (egress_pass plan (number_of port)) now.past) refl q split port_is)
 

@@ -15,11 +15,11 @@ use Rattle.savi_ends.specs.Octets.{Takes}
 use Rattle.pcap_io.specs.Readers.{State, Comes, HasRead, longest_record, record_place}
 use Rattle.pcap_io.specs.Runs.{ended}
 use Rattle.hist_store.specs.Rows.{Row}
-use Rattle.savi_history.specs.Bases.{empty}
+use Rattle.checkpoint.specs.Bases.{empty}
 use Rattle.savi_history.specs.Limits.{has_room}
 use Rattle.savi_history.specs.Events.{End}
 use Rattle.savi_history.specs.Turns.{Turn, Arrives, Ends}
-use Rattle.savi_history.specs.Replay.{Stops, with_event, entered, egress_ended}
+use Rattle.savi_history.specs.Replay.{Stops, with_event, entered, closing, egress_ended}
 use Rattle.savi_history.specs.PortInputs.{arrived, input_end}
 use Rattle.savi_history.specs.Fits.{Fits, IsWhole, IsBroken}
 use Rattle.savi_history.proofs.PortInputs.{HoldsSame, IsTurnOf, more_entered, full_entered, end_entered, other_entered, same_finished}
@@ -281,7 +281,7 @@ arrival_broken : (R : Type 0) (plan : Plan) (stops : Stops) (past : List Row) (p
     → input_end (number_of port) (entered plan empty stops (Arrives port arrival) past) ≡ Some hows.Failed → R
 arrival_broken R plan stops past port arrival true room was is = was (sym (more_entered plan empty stops past port arrival room).end_same ∙ is)
 arrival_broken R plan stops past port arrival false room was is =
-    let e : Some (hows.Full (length past)) ≡ Some hows.Failed = sym (full_entered plan empty stops past port arrival room).ended_so ∙ is in cc
+    let e : Some hows.Paused ≡ Some hows.Failed = sym (full_entered plan empty stops past port arrival room).ended_so ∙ is in cc
 
 end_broken : (R : Type 0) (plan : Plan) (stops : Stops) (past : List Row) (port : Port) (how : How) → (how ≡ hows.Failed → R) → input_end (number_of port) (entered plan empty stops (Ends (Ingress port) how) past) ≡ Some hows.Failed → R
 end_broken R plan stops past port how failed is =
@@ -317,7 +317,7 @@ near_room : (first reader : State) (gave : List ℕ) (plan : Plan) (stops : Stop
     → IsNear first reader gave (input_end (number_of port) (entered plan empty stops (Arrives port arrival) past)) (ahead_after (not room))
 near_room first reader gave plan stops past port arrival true room taken = taken
 near_room first reader gave plan stops past port arrival false room taken = λ at is.
-    let e : Some (hows.Full (length past)) ≡ Some (hows.Malformed at) = sym (full_entered plan empty stops past port arrival room).ended_so ∙ is in cc
+    let e : Some hows.Paused ≡ Some (hows.Malformed at) = sym (full_entered plan empty stops past port arrival room).ended_so ∙ is in cc
 
 near_arrival : (first reader : State) (gave : List ℕ) (plan : Plan) (stops : Stops) (past : List Row) (port : Port) (arrival : Arrival) (b : Ahead) (turn : Turn) → turn ≡ Arrives port arrival → b ≡ ahead_after (ends_input plan past turn) → record_place reader ≡ record_place first + length gave
     → IsNear first reader gave (input_end (number_of port) (entered plan empty stops turn past)) b
@@ -432,7 +432,7 @@ pub record HasCause {S K C : Type 0} (left : S → Option (List ℕ)) (source_fa
   pub near : (at : ℕ) → input_end (number_of old.port) past ≡ Some (hows.Malformed at) → GaveFew (left old.ends.source) (left new.ends.source) (at + longest_record)
 
 pub fits_finished : {S K C : Type 0} (left : S → Option (List ℕ)) (source_faults : S → ℕ) (plan : Plan) (first old : List (PortEnds S K C)) (past now : List Row) → EachPair (FitsSoFar left source_faults past) first old → ((k : ℕ) (d : PortEnds S K C) → k < length old → (get_or old k d).ahead ≡ ahead.Done)
-    → now ≡ egress_ended plan empty plan.ports (with_event plan empty past (End Ticker hows.End)) → EachPair (IsFit left now) first old
+    → now ≡ egress_ended plan empty plan.ports (with_event plan empty past (End Ticker (closing past))) → EachPair (IsFit left now) first old
 fits_finished left source_faults plan first old past now so_far done now_is = record {
   size = so_far.size;
   each = λ k d within.

@@ -114,7 +114,7 @@ IsSeenEnd (hows.Malformed at) = Unit {0}
 IsSeenEnd (hows.Overlong at) = Unit {0}
 IsSeenEnd hows.Failed = ⊥
 IsSeenEnd hows.Unwritten = ⊥
-IsSeenEnd (hows.Full len) = ⊥
+IsSeenEnd hows.Paused = ⊥
 
 seen_end : (place : ℕ) (ending : How) (octets : List ℕ) → EndsAs false true place ending octets → IsSeenEnd ending
 seen_end place hows.End octets ends = tt
@@ -123,7 +123,7 @@ seen_end place (hows.Malformed at) octets ends = tt
 seen_end place (hows.Overlong at) octets ends = tt
 seen_end place hows.Failed octets ends = let e = ends.0 in cc
 seen_end place hows.Unwritten octets ends = ends
-seen_end place (hows.Full len) octets ends = ends
+seen_end place hows.Paused octets ends = ends
 
 run_ends : (lines : List Line) (place : ℕ) (ending : How) (octets : List ℕ) → IsRun false true place lines ending octets → IsSeenEnd ending
 run_ends [] place ending octets run = seen_end place ending octets run
@@ -147,7 +147,7 @@ end_readable place (hows.Malformed at) octets low ends = let e = ends.0 in omega
 end_readable place (hows.Overlong at) octets low ends = let e = ends.0 in omega arith
 end_readable place hows.Failed octets low ends = tt
 end_readable place hows.Unwritten octets low ends = ends
-end_readable place (hows.Full len) octets low ends = ends
+end_readable place hows.Paused octets low ends = ends
 
 run_readable : (lines : List Line) (place : ℕ) (ending : How) (octets : List ℕ) → place ≤ 2 ^ 62 → IsRun false true place lines ending octets → IsControlEnding ending
 run_readable [] place ending octets low run = end_readable place ending octets low run

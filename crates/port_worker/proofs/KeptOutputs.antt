@@ -11,7 +11,7 @@ use Rattle.savi_kinds.specs.Arrivals.{Arrival}
 use Rattle.savi_kinds.specs.Arrivals as arrivals
 use Rattle.pcap_io.specs.Captures.{capture_text}
 use Rattle.hist_store.specs.Rows.{Row}
-use Rattle.savi_history.specs.Bases.{empty}
+use Rattle.checkpoint.specs.Bases.{empty}
 use Rattle.savi_history.specs.Passes.{has_ended, egress_pass, pass_of, ticker_pass}
 use Rattle.savi_history.specs.Queues.{Item, queue, sent}
 use Rattle.savi_history.specs.Outputs.{sent_items}
@@ -143,8 +143,8 @@ end_here plan past port how = let same : (number_of port == number_of port) ≡ 
 
 pub closed_arrival : (plan : Plan) (past : List Row) (port : Port) (arrival : Arrival) (k : ℕ) → k < length plan.ports → has_ended empty (egress_pass plan (number_at plan k)) past ≡ true
     → queue plan empty (number_at plan k) (with_event plan empty past (event_of port arrival)) ≡ queue plan empty (number_at plan k) past
-closed_arrival plan past port (arrivals.Frame stamp octets) k inside ended = nothing_joins_frame plan past (number_at plan k) port stamp octets ended
-closed_arrival plan past port (arrivals.Long stamp len) k inside ended = nothing_joins_long plan past (number_at plan k) port stamp len ended
+closed_arrival plan past port (arrivals.Frame stamp octets) k inside ended = nothing_joins_frame plan empty past (number_at plan k) port stamp octets ended
+closed_arrival plan past port (arrivals.Long stamp len) k inside ended = nothing_joins_long plan empty past (number_at plan k) port stamp len ended
 
 end_arrival : (plan : Plan) (past : List Row) (port : Port) (arrival : Arrival) (n : ℕ) → output_end n (with_event plan empty past (event_of port arrival)) ≡ output_end n past
 end_arrival plan past port (arrivals.Frame stamp octets) n = refl

@@ -10,7 +10,7 @@ use Rattle.savi_kinds.specs.declared.entry.How.TheVariants as hows
 use Rattle.savi_kinds.specs.Ports.{number_of}
 use Rattle.savi_kinds.specs.Arrivals.{Arrival}
 use Rattle.hist_store.specs.Rows.{Row, held}
-use Rattle.savi_history.specs.Bases.{empty}
+use Rattle.checkpoint.specs.Bases.{empty}
 use Rattle.savi_history.specs.Limits.{has_room}
 use Rattle.savi_history.specs.Queues.{queue}
 use Rattle.savi_history.specs.Events.{Drain, End}
@@ -75,7 +75,7 @@ drained_longer plan stops (q ∷ qs) past =
     let more = drained_longer plan stops qs (with_drain plan empty stops.ports q.number count past) in
     omega arith
 
-longer_at : (plan : Plan) (stops : Stops) (past : List Row) (port : Port) (a : Arrival) (b : Bool) → length past + 1 ≤ length (if b then drained plan empty stops.ports plan.ports (with_event plan empty past (event_of port a)) else with_event plan empty past (End (Ingress port) (hows.Full (length past))))
+longer_at : (plan : Plan) (stops : Stops) (past : List Row) (port : Port) (a : Arrival) (b : Bool) → length past + 1 ≤ length (if b then drained plan empty stops.ports plan.ports (with_event plan empty past (event_of port a)) else with_event plan empty past (End (Ingress port) hows.Paused))
 longer_at plan stops past port a true = let more = drained_longer plan stops plan.ports (with_event plan empty past (event_of port a)) in omega arith
 longer_at plan stops past port a false = omega arith
 

@@ -13,7 +13,7 @@ use Rattle.savi_ends.specs.Octets.{IsFront}
 use Rattle.savi_ends.specs.Faults.{Rose}
 use Rattle.pcap_io.specs.Captures.{capture_text}
 use Rattle.hist_store.specs.Rows.{Row}
-use Rattle.savi_history.specs.Bases.{empty}
+use Rattle.checkpoint.specs.Bases.{empty}
 use Rattle.savi_history.specs.Passes.{has_ended, egress_pass}
 use Rattle.savi_history.specs.Queues.{Item, queue, sent}
 use Rattle.savi_history.specs.Outputs.{sent_items}

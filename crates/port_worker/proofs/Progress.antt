@@ -90,7 +90,7 @@ IsWholeEnd hows.Failed = ⊥
 IsWholeEnd hows.Quit = ⊥
 IsWholeEnd (hows.Overlong at) = ⊥
 IsWholeEnd hows.Unwritten = ⊥
-IsWholeEnd (hows.Full len) = ⊥
+IsWholeEnd hows.Paused = ⊥
 
 -- What was taken from a source is these arrivals and the one that is known, or these and no whole one, nor one at fault, in
 -- front of a read that failed.
@@ -273,7 +273,7 @@ run_end kind place hows.Quit octets ends = ends
 run_end kind place (hows.Overlong at) octets ends = ends
 run_end kind place hows.Failed octets ends = let unseen = ends.0 in cc
 run_end kind place hows.Unwritten octets ends = ends
-run_end kind place (hows.Full len) octets ends = ends
+run_end kind place hows.Paused octets ends = ends
 
 run_ends : (kind : HeaderKind) (arrivals : List Arrival) (place : ℕ) (ending : How) (octets : List ℕ) → IsRun kind true place arrivals ending octets → IsWholeEnd ending
 run_ends kind [] place ending octets run = run_end kind place ending octets run
@@ -294,7 +294,7 @@ whole_as Reads before after ended_so arrivals hows.Failed ends whole = absurd en
 whole_as Reads before after ended_so arrivals hows.Quit ends whole = ends
 whole_as Reads before after ended_so arrivals (hows.Overlong at) ends whole = ends
 whole_as Reads before after ended_so arrivals hows.Unwritten ends whole = ends
-whole_as Reads before after ended_so arrivals (hows.Full len) ends whole = ends
+whole_as Reads before after ended_so arrivals hows.Paused ends whole = ends
 
 module _ {S K C : Type 0} (left : S → Option (List ℕ)) (plan : Plan) (k : ℕ) (past : List Row) (old now new : PortEnds S K C) (taken : List Turn) (t : Turn)
     (port_is : now.port ≡ old.port) (pass : pass_of plan (Ingress old.port) ≡ k) (goes : Goes left old now taken)

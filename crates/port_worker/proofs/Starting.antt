@@ -1,5 +1,5 @@
 -- The state of a replay before the first turn, and what each turn may ask of it.
-use Rattle.std.proofs.Common.{◌≡◌, ◌≢◌, ℕ, zero, suc, ◌<◌, ◌≤◌, true, false, List, [], ◌∷◌, length, map, get_or, refl, sym, ap, ◌∙◌, subst, arith, Option, Some, None, IfSome}
+use Rattle.std.proofs.Common.{◌≡◌, ◌≢◌, ℕ, zero, suc, ◌*◌, ◌<◌, ◌≤◌, true, false, List, [], ◌∷◌, length, map, get_or, refl, sym, ap, ◌∙◌, subst, arith, Option, Some, None, IfSome}
 use Rattle.std.proofs.lemmas.List.{length-map, get_or-map, same_lists}
 use Rattle.std.proofs.lemmas.List.Elements.{All-nil}
 use Rattle.std.specs.List.{All}
@@ -11,7 +11,7 @@ use Rattle.savi_kinds.specs.Ports.{number_of}
 use Rattle.savi_kinds.specs.ValidPlan.{numbers_of}
 use Rattle.cli_lang.specs.Readers.{State, Running as RunningLines, Ended}
 use Rattle.hist_store.specs.Rows.{Row}
-use Rattle.savi_history.specs.Bases.{empty}
+use Rattle.checkpoint.specs.Bases.{Base, empty}
 use Rattle.savi_history.specs.Passes.{has_ended, has_port, pass_of, place_of, control_pass, ticker_pass}
 use Rattle.savi_history.specs.Queues.{queue}
 use Rattle.savi_history.specs.Legal.{IsOpen}
@@ -26,7 +26,8 @@ use Rattle.savi_history.proofs.PassNumbers.{number_at, place_at, known_at}
 use Rattle.savi_history.proofs.Waiting.{ended_now, ended_other, ended_begun, empty_end, empty_begun}
 use Rattle.savi_history.proofs.PortInputs.{HoldsSame, same_begun, same_control}
 use Rattle.savi_history.proofs.Reaching.{Done, Agrees, Reaches, joined}
-use Rattle.savi_core.specs.Machines.{Machine}
+use Rattle.savi_core.specs.Machines.{Machine, base_of, started}
+use Rattle.savi_core.proofs.Leaving.{start_is}
 use Rattle.port_worker.specs.declared.control_ends.ControlEnds.{ControlEnds}
 use Rattle.port_worker.specs.declared.control_ends.LineAhead.{LineAhead}
 use Rattle.port_worker.specs.declared.control_ends.LineAhead.TheVariants as line_ahead
@@ -104,13 +105,21 @@ opened_quiet : {S K C : Type 0} (plan : Plan) (before : List Row) (ends : Option
 opened_quiet plan before None n none = empty_end plan empty before Control hows.End n none
 opened_quiet plan before (Some c) n none = none
 
-pub opened_machine : {S K C : Type 0} (m : Machine) (ends : Option (ControlEnds S K C)) → (unheard m ends).past ≡ opened m.plan m.past ends
-opened_machine m None = refl
-opened_machine m (Some c) = refl
+-- a switch at its start goes on from nothing
+pub started_empty : (plan : Plan) → base_of (started plan) ≡ empty
+started_empty plan = start_is (16 * plan.per_port) (256 * 16)
+
+pub opened_machine : {S K C : Type 0} (m : Machine) → base_of m ≡ empty → (ends : Option (ControlEnds S K C)) → (unheard m ends).past ≡ opened m.plan m.past ends
+opened_machine m base_is None = ap (λ (b : Base). with_event m.plan b m.past (End Control hows.End)) base_is
+opened_machine m base_is (Some c) = refl
 
 pub opened_plan : {S K C : Type 0} (m : Machine) (ends : Option (ControlEnds S K C)) → (unheard m ends).plan ≡ m.plan
 opened_plan m None = refl
 opened_plan m (Some c) = refl
+
+pub opened_base : {S K C : Type 0} (m : Machine) (ends : Option (ControlEnds S K C)) → base_of (unheard m ends) ≡ base_of m
+opened_base m None = refl
+opened_base m (Some c) = refl
 
 running_hears : (state : State) → state ≡ RunningLines 0 [] → IsHearing state
 running_hears state is failed = let e : RunningLines 0 [] ≡ Ended hows.Failed = sym is ∙ failed in cc

@@ -14,7 +14,7 @@ use Rattle.savi_kinds.specs.Ports.{number_of}
 use Rattle.savi_kinds.specs.ValidPlan.{numbers_of}
 use Rattle.pcap_io.specs.Readers.{State}
 use Rattle.hist_store.specs.Rows.{Row}
-use Rattle.savi_history.specs.Bases.{empty}
+use Rattle.checkpoint.specs.Bases.{empty}
 use Rattle.savi_history.specs.Passes.{has_ended, pass_of, place_of, ticker_pass}
 use Rattle.savi_history.specs.Turns.{Turn, Arrives, Commands, Ends, who_of}
 use Rattle.savi_history.specs.Picks.{IsLeast}

@@ -10,7 +10,7 @@ use Rattle.cli_lang.specs.Arrivals.{Line, Arrive}
 use Rattle.cli_lang.specs.Arrivals as control
 use Rattle.cli_lang.specs.Readers.{IsFaultAt, longest_reach}
 use Rattle.hist_store.specs.Rows.{Row}
-use Rattle.savi_history.specs.Bases.{Base}
+use Rattle.checkpoint.specs.Bases.{Base}
 use Rattle.savi_history.specs.ControlFits.{FitsControl}
 use Rattle.savi_history.specs.ControlInputs.{entered_lines, control_end}
 use Rattle.savi_history.specs.ControlOutputs.{replies, FitsRepliesAt}
@@ -34,7 +34,7 @@ IsControlInputOf before after ended_so lines (hows.Overlong at) = IsWhole (AreLi
 IsControlInputOf before after ended_so lines hows.Failed = (ended_so ≡ Some hows.Failed) × (gave : List ℕ) × Takes before after gave × AreLines false gave lines hows.Failed
 IsControlInputOf before after ended_so lines hows.Quit = ⊥
 IsControlInputOf before after ended_so lines hows.Unwritten = ⊥
-IsControlInputOf before after ended_so lines (hows.Full len) = ⊥
+IsControlInputOf before after ended_so lines hows.Paused = ⊥
 
 -- What a history was to the ends of control. The octets of the source are this input, and what it gave up fits what the
 -- history holds of it; from the place of a line at fault on it gave up no more than the reader of lines reaches. The sink

@@ -8,7 +8,7 @@ use Rattle.savi_kinds.specs.Ports.{number_of}
 use Rattle.savi_ends.specs.Faults.{Rose}
 use Rattle.pcap_io.specs.Captures.{header_text}
 use Rattle.hist_store.specs.Rows.{Row}
-use Rattle.savi_history.specs.Bases.{empty}
+use Rattle.checkpoint.specs.Bases.{empty}
 use Rattle.savi_history.specs.Passes.{egress_pass, has_ended, has_port}
 use Rattle.savi_history.specs.Queues.{Item, queue}
 use Rattle.savi_history.specs.Events.{Drain, End}

@@ -6,10 +6,10 @@ use Rattle.savi_kinds.specs.Ports.{number_of}
 use Rattle.savi_kinds.specs.ValidPlan.{numbers_of}
 use Rattle.savi_ends.specs.Faults.{Rose}
 use Rattle.hist_store.specs.Rows.{Row}
-use Rattle.savi_history.specs.Bases.{empty}
+use Rattle.checkpoint.specs.Bases.{empty}
 use Rattle.savi_history.specs.Passes.{egress_pass, has_ended}
 use Rattle.savi_history.specs.Queues.{queue, sent}
-use Rattle.savi_history.specs.Replay.{Stops, is_stopped, pieces_by}
+use Rattle.savi_history.specs.Replay.{Stops, is_stopped, pieces_by, closing}
 use Rattle.savi_history.specs.PortOutputs.{output_end, pieces, text_before_last_drain, TookPieces, FitsOutputAt}
 use Rattle.port_worker.specs.declared.port_ends.PortEnds.{PortEnds}
 use Rattle.port_worker.specs.Pairs.{EachPair}
@@ -65,9 +65,9 @@ OutputsGoOn {S} {K} {C} written faults plan past now old new made =
     (first : List (PortEnds S K C)) (known : Stops) → AreOutputs written faults plan known past first old
     → (later : Stops) × AreOutputs written faults plan later now first new × MovesOn plan known later past now made
 
--- What the end of a replay leaves of an output: the same was sent, and it ended, or it had failed and stays so.
+-- What the end of a replay leaves of an output: the same was sent, and it ended or is paused, or it had failed and stays so.
 pub record IsOutputEnded (plan : Plan) (past now : List Row) (port : ℕ) : Type 0 where
   pub sent_same : sent plan empty port now ≡ sent plan empty port past
   pub sure_same : text_before_last_drain plan empty port now ≡ text_before_last_drain plan empty port past
-  pub ended : has_ended empty (egress_pass plan port) past ≡ false → output_end port now ≡ Some hows.End
+  pub ended : has_ended empty (egress_pass plan port) past ≡ false → output_end port now ≡ Some (closing past)
   pub still : has_ended empty (egress_pass plan port) past ≡ true → output_end port now ≡ output_end port past

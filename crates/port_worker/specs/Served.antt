@@ -10,7 +10,7 @@ use Rattle.savi_ends.specs.declared.world.Ends.{Ends}
 use Rattle.savi_ends.specs.Faults.{Rose}
 use Rattle.pcap_io.specs.Readers.{Comes, longest_record}
 use Rattle.hist_store.specs.Rows.{Row}
-use Rattle.savi_history.specs.Bases.{Base}
+use Rattle.checkpoint.specs.Bases.{Base}
 use Rattle.savi_history.specs.Fits.{Fits, IsWhole, IsBroken}
 use Rattle.savi_history.specs.Legal.{IsFinished}
 use Rattle.savi_history.specs.PortInputs.{arrived, input_end}
@@ -38,7 +38,7 @@ IsInputOf Arrives before after ended_so arrivals hows.Failed = (ended_so ≡ Som
 IsInputOf Arrives before after ended_so arrivals hows.Quit = ⊥
 IsInputOf Arrives before after ended_so arrivals (hows.Overlong at) = ⊥
 IsInputOf Arrives before after ended_so arrivals hows.Unwritten = ⊥
-IsInputOf Arrives before after ended_so arrivals (hows.Full len) = ⊥
+IsInputOf Arrives before after ended_so arrivals hows.Paused = ⊥
 
 -- What a history was to the ends of the port of this number. The octets of the source are this input, and what it gave up
 -- fits what the history holds of it; from a place at fault on it gave up no more than one record may have. The sink took the

@@ -6,16 +6,16 @@ use Rattle.savi_kinds.specs.declared.entry.Who.TheVariants.{Ingress}
 use Rattle.savi_kinds.specs.declared.entry.How.{How}
 use Rattle.savi_kinds.specs.Arrivals.{Arrival}
 use Rattle.hist_store.specs.Rows.{Row}
-use Rattle.savi_history.specs.Bases.{empty}
+use Rattle.checkpoint.specs.Bases.{empty}
 use Rattle.savi_history.specs.Limits.{has_room}
 use Rattle.savi_history.specs.ControlInputs.{is_quit}
 use Rattle.savi_history.specs.Events.{End}
-use Rattle.savi_history.specs.Legal.{IsOpen, IsFull}
+use Rattle.savi_history.specs.Legal.{IsOpen}
 use Rattle.port_worker.specs.declared.port_ends.Ahead.{Ahead}
 use Rattle.port_worker.specs.declared.port_ends.Ahead.TheVariants as ahead
 use Rattle.port_worker.specs.declared.port_ends.PortEnds.{PortEnds}
 use Rattle.port_worker.specs.SentFrames.{TookMore}
-use Rattle.savi_core.specs.Machines.{Machine}
+use Rattle.savi_core.specs.Machines.{Machine, base_of}
 use Rattle.savi_core.specs.declared.event.Stepped.{Stepped}
 use Rattle.savi_core.specs.declared.event.Stepped.TheVariants as stepped
 use Rattle.savi_history.specs.Turns.{Turn, Arrives, Commands, Ends}
@@ -36,9 +36,9 @@ Enters plan port turn old false new =
     (how : How) × (new ≡ with_event plan empty old (End (Ingress port) how)) × ((stops : Stops) → new ≡ entered plan empty stops turn old) × (ends_input plan old turn ≡ true)
 
 -- what holds of an answer that says that there was no room
-abbrev pub IfFull : Stepped → (ℕ → Type 0) → Type 0
+abbrev pub IfFull : Stepped → Type 0 → Type 0
 IfFull (stepped.Done entry) P = Unit {0}
-IfFull (stepped.Full len) P = P len
+IfFull (stepped.Full len) P = P
 IfFull stepped.Nothing P = Unit {0}
 
 -- what holds where an entry was made
@@ -47,9 +47,9 @@ IfDone (stepped.Done entry) P = P
 IfDone (stepped.Full len) P = Unit {0}
 IfDone stepped.Nothing P = Unit {0}
 
--- where there was no room, the pass of the port is open and may end for that
+-- where there was no room, the pass of the port is open and may be paused for that
 abbrev pub IsFullAt : Machine → Port → Stepped → Type 0
-IsFullAt m port answer = IfFull answer (λ len. IsOpen m.plan empty m.past (Ingress port) × IsFull m.plan m.past len)
+IsFullAt m port answer = IfFull answer (IsOpen m.plan (base_of m) m.past (Ingress port) × (has_room m.plan m.past ≡ false))
 
 -- One port before and after a step: only its sink, which took octets behind what it held, and what is known of its input
 -- have changed.

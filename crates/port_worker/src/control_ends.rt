@@ -110,11 +110,11 @@ impl<S: Source, K, C: Clock> ControlEnds<S, K, C> {
 
 impl<S, K: Sink, C> ControlEnds<S, K, C> {
     ghost use Rattle.savi_kinds.specs.declared.entry.Who.TheVariants.{Control};
-    ghost use Rattle.savi_history.specs.Bases.{empty};
+    ghost use Rattle.checkpoint.specs.Bases.{empty};
     ghost use Rattle.savi_history.specs.Passes.{control_pass, has_ended};
     ghost use Rattle.savi_history.specs.Legal.{IsOpen, MayEnd};
     ghost use Rattle.savi_history.specs.Events.{End};
-    ghost use Rattle.savi_core.specs.Machines.{with_event};
+    ghost use Rattle.savi_core.specs.Machines.{base_of, with_event};
     ghost use Rattle.savi_core.specs.Refused.{EndsWithCommand};
     ghost use Rattle.port_worker.specs.LineInputs.{IsLineSound, control_turn_of};
     ghost use Rattle.port_worker.specs.LineSteps.{EntersLine, IsAnswered, IsControlStepped, line_ahead_after};
@@ -125,8 +125,10 @@ impl<S, K: Sink, C> ControlEnds<S, K, C> {
     pub(crate) fn enter(&mut self, core: &mut Core, reply: &mut Reply) -> bool
         requires known { IsSome (control_turn_of self.old) }
         requires sound { IsLineSound self.old.reader self.old.ahead }
+        requires base { base_of core.old ≡ empty }
         requires open { IsOpen core.old.plan empty core.old.past Control }
         ensures plan { core.new.plan ≡ core.old.plan }
+        ensures base { base_of core.new ≡ empty }
         ensures entered { IfSome (control_turn_of self.old) (λ turn. EntersLine K.written K.faults core.old.plan turn result core.old.past core.new.past self.old.ends.sink self.new.ends.sink) }
         ensures stepped { IsControlStepped K.written K.faults self.old self.new }
         ensures ahead { self.new.ahead ≡ line_ahead_after (has_ended empty (control_pass core.old.plan) core.new.past) }
@@ -136,7 +138,7 @@ impl<S, K: Sink, C> ControlEnds<S, K, C> {
                 let line = &self.buf[..len as usize];
                 let quit = is_quit(line);
                 match core.step(Event::Command { stamp, line }) {
-                    Stepped::Full { len } => self.end(core, How::Full(len)),
+                    Stepped::Full { len: _ } => self.end(core, How::Paused),
                     Stepped::Done(_) | Stepped::Nothing => self.answer(core, quit, reply),
                 }
             }
@@ -152,9 +154,11 @@ impl<S, K: Sink, C> ControlEnds<S, K, C> {
     // answer is true.
     fn answer(&mut self, core: &mut Core, quit: bool, reply: &mut Reply) -> bool
         requires command { EndsWithCommand core.old.past }
+        requires base { base_of core.old ≡ empty }
         requires open { IsOpen core.old.plan empty core.old.past Control }
         ensures answer { result ≡ true }
         ensures plan { core.new.plan ≡ core.old.plan }
+        ensures base { base_of core.new ≡ empty }
         ensures answered { IsAnswered K.written K.faults core.old.plan quit core.old.past core.new.past self.old.ends.sink self.new.ends.sink }
         ensures stepped { IsControlStepped K.written K.faults self.old self.new }
         ensures ahead { self.new.ahead ≡ line_ahead_after (has_ended empty (control_pass core.old.plan) core.new.past) }
@@ -174,8 +178,8 @@ impl<S, K: Sink, C> ControlEnds<S, K, C> {
 
     // Ends control. The answer is false.
     fn end(&mut self, core: &mut Core, how: How) -> bool
-        requires open { IsOpen core.old.plan empty core.old.past Control }
-        requires may { MayEnd core.old.plan empty core.old.past Control how }
+        requires open { IsOpen core.old.plan (base_of core.old) core.old.past Control }
+        requires may { MayEnd core.old.plan (base_of core.old) core.old.past Control how }
         ensures answer { result ≡ false }
         ensures entered { core.new ≡ with_event core.old (End Control how) }
         ensures rest { self.new ≡ record self.old { ahead = ahead.Done } }

@@ -8,12 +8,12 @@ ghost use Rattle.savi_kinds.specs.declared.entry.Who.TheVariants.{Egress};
 ghost use Rattle.savi_kinds.specs.declared.entry.How.TheVariants as hows;
 ghost use Rattle.savi_ends.specs.Faults.{Rose};
 ghost use Rattle.pcap_io.specs.Captures.{header_text};
-ghost use Rattle.savi_history.specs.Bases.{empty};
+ghost use Rattle.checkpoint.specs.Bases.{empty};
 ghost use Rattle.savi_history.specs.Passes.{has_ended, egress_pass};
 ghost use Rattle.savi_history.specs.Legal.{IsOpen};
 ghost use Rattle.savi_history.specs.Events.{End};
 ghost use Rattle.savi_history.specs.Replay.{Stops, begun, drained};
-ghost use Rattle.savi_core.specs.Machines.{with_event};
+ghost use Rattle.savi_core.specs.Machines.{base_of, with_event};
 ghost use Rattle.port_worker.specs.Pairs.{EachPair};
 ghost use Rattle.port_worker.specs.SentFrames.{records, TookAs, OnlySink};
 ghost use Rattle.port_worker.specs.Drains.{IsBegun, IsDrained, IsDrainable};
@@ -29,10 +29,12 @@ use savi_kinds::{DEPTH_MOST, How, Port, Who};
 /// Begins the capture of each port, in order. Where a write fails the egress of that port ends for it, and the others go
 /// on.
 pub(crate) fn begin_all<S, K: Sink, C>(core: &mut Core, ports: &mut [PortEnds<S, K, C>])
+    requires base { base_of core.old ≡ empty }
     requires start { core.old.past ≡ [] }
     requires ports { ports_held ports.old ≡ ports_planned core.old.plan }
     requires rising { IsStrictlyIncreasing (numbers_of core.old.plan.ports) }
     ensures plan { core.new.plan ≡ core.old.plan }
+    ensures base { base_of core.new ≡ empty }
     ensures sinks { EachPair (OnlySink K.written K.faults) ports.old ports.new }
     ensures begun { (known : Stops) × AreOutputs K.written K.faults core.old.plan known core.new.past ports.old ports.new
         × ((stops : Stops) → ArePortsAllowed core.old.plan known stops core.new.past → core.new.past ≡ begun core.old.plan empty stops.ports core.old.plan.ports []) }
@@ -49,10 +51,12 @@ pub(crate) fn drain_all<S, K: Sink, C>(
     ports: &mut [PortEnds<S, K, C>],
     batch: &mut Batch,
 )
+    requires base { base_of core.old ≡ empty }
     requires ports { ports_held ports.old ≡ ports_planned core.old.plan }
     requires rising { IsStrictlyIncreasing (numbers_of core.old.plan.ports) }
     requires drainable { All (λ p. IsDrainable core.old.plan core.old.past p.port) ports.old }
     ensures plan { core.new.plan ≡ core.old.plan }
+    ensures base { base_of core.new ≡ empty }
     ensures sinks { EachPair (OnlySink K.written K.faults) ports.old ports.new }
     ensures outputs { OutputsGoOn K.written K.faults core.old.plan core.old.past core.new.past ports.old ports.new
         (λ stops. drained core.old.plan empty stops.ports core.old.plan.ports core.old.past) }
@@ -66,8 +70,10 @@ pub(crate) fn drain_all<S, K: Sink, C>(
 
 // Begins the capture of a port, or ends its egress where the write fails.
 fn begin_port<S, K: Sink, C>(core: &mut Core, port: &mut PortEnds<S, K, C>)
+    requires base { base_of core.old ≡ empty }
     requires open { IsOpen core.old.plan empty core.old.past (Egress port.old.port) }
     ensures plan { core.new.plan ≡ core.old.plan }
+    ensures base { base_of core.new ≡ empty }
     ensures sink { OnlySink K.written K.faults port.old port.new }
     ensures begun { IsBegun K.written K.faults core.old.plan core.old.past core.new.past port.old port.new }
 {
@@ -79,8 +85,10 @@ fn begin_port<S, K: Sink, C>(core: &mut Core, port: &mut PortEnds<S, K, C>)
 
 // Drains the queue of a port whole and writes what was taken, or ends its egress where a write fails.
 fn drain_port<S, K: Sink, C>(core: &mut Core, port: &mut PortEnds<S, K, C>, batch: &mut Batch)
+    requires base { base_of core.old ≡ empty }
     requires drainable { IsDrainable core.old.plan core.old.past port.old.port }
     ensures plan { core.new.plan ≡ core.old.plan }
+    ensures base { base_of core.new ≡ empty }
     ensures sink { OnlySink K.written K.faults port.old port.new }
     ensures drained { IsDrained K.written K.faults core.old.plan core.old.past core.new.past port.old port.new }
 {
@@ -93,7 +101,7 @@ fn drain_port<S, K: Sink, C>(core: &mut Core, port: &mut PortEnds<S, K, C>, batc
 
 // Ends the egress of a port at which a write failed.
 fn end_failed(core: &mut Core, port: Port)
-    requires open { IsOpen core.old.plan empty core.old.past (Egress port) }
+    requires open { IsOpen core.old.plan (base_of core.old) core.old.past (Egress port) }
     ensures { core.new ≡ with_event core.old (End (Egress port) hows.Failed) }
 {
     let _entry = core.step(Event::End {

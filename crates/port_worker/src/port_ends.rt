@@ -159,10 +159,10 @@ impl<S: Source, K, C: Clock> PortEnds<S, K, C> {
 impl<S, K, C> PortEnds<S, K, C> {
     ghost use Rattle.savi_kinds.specs.declared.entry.Who.TheVariants.{Ingress};
     ghost use Rattle.savi_kinds.specs.declared.entry.How.TheVariants as hows;
-    ghost use Rattle.savi_history.specs.Bases.{empty};
+    ghost use Rattle.checkpoint.specs.Bases.{empty};
     ghost use Rattle.savi_history.specs.Legal.{IsOpen, MayEnd};
     ghost use Rattle.savi_history.specs.Events.{End};
-    ghost use Rattle.savi_core.specs.Machines.{with_event};
+    ghost use Rattle.savi_core.specs.Machines.{base_of, with_event};
     ghost use Rattle.port_worker.specs.Inputs.{IsSoundAhead, turn_of};
     ghost use Rattle.port_worker.specs.Steps.{Enters, IsFullAt, IfFull, IfDone};
     ghost use Rattle.port_worker.specs.declared.port_ends.Ahead.TheVariants as ahead;
@@ -172,8 +172,10 @@ impl<S, K, C> PortEnds<S, K, C> {
     pub(crate) fn enter(&mut self, core: &mut Core) -> bool
         requires known { IsSome (turn_of self.old) }
         requires sound { IsSoundAhead self.old.reader self.old.ahead }
+        requires base { base_of core.old ≡ empty }
         requires open { IsOpen core.old.plan empty core.old.past (Ingress self.old.port) }
         ensures plan { core.new.plan ≡ core.old.plan }
+        ensures base { base_of core.new ≡ empty }
         ensures entered { IfSome (turn_of self.old) (λ turn. Enters core.old.plan self.old.port turn core.old.past result core.new.past) }
         ensures rest { self.new ≡ record self.old { ahead = self.new.ahead } }
         ensures arrived { result ≡ true → self.new.ahead ≡ ahead.Unread }
@@ -206,14 +208,14 @@ impl<S, K, C> PortEnds<S, K, C> {
         }
     }
 
-    // Goes on behind an arrival that was entered, or ends where there was no room for it.
+    // Goes on behind an arrival that was entered, or is paused where there was no room for it.
     fn settle(&mut self, core: &mut Core, stepped: Stepped) -> bool
         requires full { IsFullAt core.old self.old.port stepped }
-        ensures full { IfFull stepped (λ len. (result ≡ false) × (core.new ≡ with_event core.old (End (Ingress self.old.port) (hows.Full len))) × (self.new ≡ record self.old { ahead = ahead.Done })) }
+        ensures full { IfFull stepped ((result ≡ false) × (core.new ≡ with_event core.old (End (Ingress self.old.port) hows.Paused)) × (self.new ≡ record self.old { ahead = ahead.Done })) }
         ensures done { IfDone stepped ((result ≡ true) × (core.new ≡ core.old) × (self.new ≡ record self.old { ahead = ahead.Unread })) }
     {
         match stepped {
-            Stepped::Full { len } => self.end(core, How::Full(len)),
+            Stepped::Full { len: _ } => self.end(core, How::Paused),
             Stepped::Done(_) | Stepped::Nothing => {
                 self.ahead = Ahead::Unread;
                 true
@@ -223,8 +225,8 @@ impl<S, K, C> PortEnds<S, K, C> {
 
     // Ends the input. The answer is false.
     fn end(&mut self, core: &mut Core, how: How) -> bool
-        requires open { IsOpen core.old.plan empty core.old.past (Ingress self.old.port) }
-        requires may { MayEnd core.old.plan empty core.old.past (Ingress self.old.port) how }
+        requires open { IsOpen core.old.plan (base_of core.old) core.old.past (Ingress self.old.port) }
+        requires may { MayEnd core.old.plan (base_of core.old) core.old.past (Ingress self.old.port) how }
         ensures answer { result ≡ false }
         ensures entered { core.new ≡ with_event core.old (End (Ingress self.old.port) how) }
         ensures rest { self.new ≡ record self.old { ahead = ahead.Done } }

@@ -2,7 +2,8 @@
 
 ghost use Rattle.std.specs.Prelude.{◌≡◌, false, All, IfOk, IfErr};
 ghost use Rattle.savi_kinds.specs.ValidPlan.{IsValidPlan};
-ghost use Rattle.savi_history.specs.Bases.{empty};
+ghost use Rattle.checkpoint.specs.Bases.{empty};
+ghost use Rattle.savi_core.specs.Machines.{base_of};
 ghost use Rattle.port_worker.specs.Pairs.{EachPair};
 ghost use Rattle.port_worker.specs.LineInputs.{IsControlUnheard};
 ghost use Rattle.port_worker.specs.Replays.{ports_held, ports_planned, IsUnread};
@@ -46,6 +47,7 @@ pub fn replay_session<S: Source, K: Sink, C: Clock>(
     requires unheard { IsControlUnheard ready.control }
     ensures none { IfErr result (λ back. back ≡ ready) }
     ensures plan { IfOk result (λ closed. closed.core.plan ≡ plan) }
+    ensures base { IfOk result (λ closed. base_of closed.core ≡ empty) }
     ensures ports { IfOk result (λ closed. EachPair IsSamePort ready.ports.items closed.ready.ports.items) }
     ensures serves { IfOk result (λ closed. ServesEnds S.left K.written S.faults K.faults plan empty closed.core.past ready.control closed.ready.control ready.ports.items closed.ready.ports.items) }
 {

@@ -5,13 +5,13 @@ ghost use Rattle.std.specs.List.Sorted.{IsStrictlyIncreasing};
 ghost use Rattle.savi_kinds.specs.Ports.{number_of};
 ghost use Rattle.savi_kinds.specs.ValidPlan.{numbers_of, IsValidPlan};
 ghost use Rattle.savi_kinds.specs.declared.entry.Who.TheVariants.{Ingress, Control, Egress, Ticker};
-ghost use Rattle.savi_kinds.specs.declared.entry.How.TheVariants as hows;
-ghost use Rattle.savi_history.specs.Bases.{empty};
+ghost use Rattle.checkpoint.specs.Bases.{empty};
 ghost use Rattle.savi_history.specs.Passes.{AllEnded, control_pass, ticker_pass, has_ended, has_pass};
 ghost use Rattle.savi_history.specs.Queues.{queue};
 ghost use Rattle.savi_history.specs.Legal.{IsOpen, IsFinished};
 ghost use Rattle.savi_history.specs.Events.{End};
-ghost use Rattle.savi_history.specs.Replay.{entered, with_end, egress_ended, with_event};
+ghost use Rattle.savi_history.specs.Replay.{entered, closing, with_end, egress_ended, with_event};
+ghost use Rattle.savi_core.specs.Machines.{base_of, started};
 ghost use Rattle.port_worker.specs.declared.port_ends.PortEnds.{PortEnds};
 ghost use Rattle.port_worker.specs.Pairs.{EachPair};
 ghost use Rattle.port_worker.specs.Inputs.{IsSoundAhead, turn_of};
@@ -39,9 +39,9 @@ use savi_kinds::{How, Port, Who};
 /// control its input ends then. Of the inputs the turn with the least stamp is entered, of equals that of control before
 /// those of the ports, and that of the lower port, and an input ends at once. A line is answered in one write, right behind
 /// its entry. Behind an arrival or a line each queue that holds something is drained whole, in the order of the ports, and
-/// each frame is one write. An input for whose arrival or line the history has no room ends for that, and what is left of
-/// it isn't read; behind `quit` control ends so, and the ports go on. Where all have ended the ticker ends, and then each
-/// egress.
+/// each frame is one write. An input for whose arrival or line the history has no room is paused, and what is left of it
+/// isn't read; behind `quit` control ends so, and the ports go on. Where all have ended the ticker ends, and then each
+/// egress: they are paused where an input is.
 ///
 /// A read that fails ends its input, at once, and the other inputs go on. A write that fails at a port ends its egress, at
 /// once: what waits there is given up, later frames are cut there, nothing more is written to that sink, and the other ports
@@ -57,11 +57,12 @@ pub fn replay<S: Source, K: Sink, C: Clock>(
     reply: &mut Reply,
 )
     requires valid { IsValidPlan core.old.plan }
-    requires start { core.old.past ≡ [] }
+    requires start { core.old ≡ started core.old.plan }
     requires planned { ports_held ports.old ≡ ports_planned core.old.plan }
     requires unread { All IsUnread ports.old }
     requires unheard { IsControlUnheard control.old }
     ensures plan { core.new.plan ≡ core.old.plan }
+    ensures base { base_of core.new ≡ empty }
     ensures ports { EachPair IsSamePort ports.old ports.new }
     ensures serves { ServesEnds S.left K.written S.faults K.faults core.old.plan empty core.new.past control.old control.new ports.old ports.new }
 {
@@ -84,7 +85,7 @@ pub fn replay<S: Source, K: Sink, C: Clock>(
 
 // Without ends of control its input ends at once.
 fn end_unheard<S, K, C>(core: &mut Core, control: &Option<ControlEnds<S, K, C>>)
-    requires open { IsOpen core.old.plan empty core.old.past Control }
+    requires open { IsOpen core.old.plan (base_of core.old) core.old.past Control }
     ensures { core.new ≡ unheard core.old control.now }
 {
     if control.is_none() {
@@ -103,6 +104,7 @@ fn advance_control<S, K: Sink, C>(
     batch: &mut Batch,
     reply: &mut Reply,
 )
+    requires base { base_of core.old ≡ empty }
     requires planned { ports_held ports.old ≡ ports_planned core.old.plan }
     requires rising { IsStrictlyIncreasing (numbers_of core.old.plan.ports) }
     requires depth { core.old.plan.depth ≤ 256 }
@@ -110,6 +112,7 @@ fn advance_control<S, K: Sink, C>(
     requires open { IsOpen core.old.plan empty core.old.past Control }
     requires quiet { All (λ p. queue core.old.plan empty (number_of p.port) core.old.past ≡ []) ports.old }
     ensures plan { core.new.plan ≡ core.old.plan }
+    ensures base { base_of core.new ≡ empty }
     ensures stepped { IsControlAdvanced K.written K.faults control.old control.new }
     ensures ahead { AheadGoesOn K.written K.faults core.old.plan core.old.past core.new.past control.new ports.old }
     ensures sinks { EachPair (OnlySink K.written K.faults) ports.old ports.new }
@@ -132,6 +135,7 @@ fn advance<S, K: Sink, C>(
     place: usize,
     batch: &mut Batch,
 )
+    requires base { base_of core.old ≡ empty }
     requires inside { place < length ports.old }
     requires planned { ports_held ports.old ≡ ports_planned core.old.plan }
     requires rising { IsStrictlyIncreasing (numbers_of core.old.plan.ports) }
@@ -141,6 +145,7 @@ fn advance<S, K: Sink, C>(
     requires open { (d : PortEnds S K C) → IsOpen core.old.plan empty core.old.past (Ingress (slice_index_or ports.old place d).port) }
     requires quiet { All (λ p. queue core.old.plan empty (number_of p.port) core.old.past ≡ []) ports.old }
     ensures plan { core.new.plan ≡ core.old.plan }
+    ensures base { base_of core.new ≡ empty }
     ensures stepped { EachPair (IsStepped K.written K.faults) ports.old ports.new }
     ensures others { (k : ℕ) → (d : PortEnds S K C) → k ≢ place → k < length ports.old → (slice_index_or ports.new k d).ahead ≡ (slice_index_or ports.old k d).ahead }
     ensures ahead { (d : PortEnds S K C) → IfSome (turn_of (slice_index_or ports.old place d)) (λ turn. (slice_index_or ports.new place d).ahead ≡ ahead_after (ends_input core.old.plan core.old.past turn)) }
@@ -152,37 +157,51 @@ fn advance<S, K: Sink, C>(
     }
 }
 
-// Ends the ticker, and then each egress that hasn't ended, in the order of the ports.
+// Ends the ticker, and then each egress that hasn't ended, in the order of the ports: they are paused where an input is.
 fn finish<S, K, C>(core: &mut Core, ports: &[PortEnds<S, K, C>])
+    requires base { base_of core.old ≡ empty }
     requires planned { ports_held ports.now ≡ ports_planned core.old.plan }
     requires rising { IsStrictlyIncreasing (numbers_of core.old.plan.ports) }
     requires inputs { AllEnded empty (control_pass core.old.plan + 1) core.old.past }
     requires ticker { has_ended empty (ticker_pass core.old.plan) core.old.past ≡ false }
     requires quiet { All (λ p. queue core.old.plan empty (number_of p.port) core.old.past ≡ []) ports.now }
     ensures plan { core.new.plan ≡ core.old.plan }
-    ensures past { core.new.past ≡ egress_ended core.old.plan empty core.old.plan.ports (with_event core.old.plan empty core.old.past (End Ticker hows.End)) }
+    ensures base { base_of core.new ≡ empty }
+    ensures past { core.new.past ≡ egress_ended core.old.plan empty core.old.plan.ports (with_event core.old.plan empty core.old.past (End Ticker (closing core.old.past))) }
     ensures outputs { All (λ p. IsOutputEnded core.old.plan core.old.past core.new.past (number_of p.port)) ports.now }
     ensures finished { IsFinished core.old.plan empty core.new.past }
 {
+    let how = closing_reason(core);
     let _ticker = core.step(Event::End {
         who: Who::Ticker,
-        how: How::End,
+        how,
     });
     for place in 0..ports.len() {
-        end_egress(core, ports[place].port);
+        end_egress(core, ports[place].port, how);
     }
 }
 
-// Ends the egress of a port, where it hasn't ended.
-fn end_egress(core: &mut Core, port: Port)
+// Why the ticker and the outputs end: they are paused where an input is.
+fn closing_reason(core: &Core) -> How
+    ensures { result ≡ closing core.now.past }
+{
+    if core.has_pause() {
+        How::Paused
+    } else {
+        How::End
+    }
+}
+
+// Ends the egress of a port, where it hasn't ended, as the ticker did.
+fn end_egress(core: &mut Core, port: Port, how: How)
+    requires closing { how ≡ closing core.old.past }
     requires known { has_pass core.old.plan (Egress port) ≡ true }
-    requires last { AllEnded empty (ticker_pass core.old.plan + 1) core.old.past }
-    requires quiet { queue core.old.plan empty (number_of port) core.old.past ≡ [] }
-    ensures plan { core.new.plan ≡ core.old.plan }
-    ensures past { core.new.past ≡ with_end core.old.plan empty port core.old.past }
+    requires last { AllEnded (base_of core.old) (ticker_pass core.old.plan + 1) core.old.past }
+    requires quiet { queue core.old.plan (base_of core.old) (number_of port) core.old.past ≡ [] }
+    ensures { core.new ≡ record core.old { past = with_end core.old.plan (base_of core.old) port core.old.past } }
 {
     let who = Who::Egress(port);
     if !core.ended(who) {
-        let _egress = core.step(Event::End { who, how: How::End });
+        let _egress = core.step(Event::End { who, how });
     }
 }

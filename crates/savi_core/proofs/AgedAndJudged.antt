@@ -14,7 +14,7 @@ use Rattle.savi_access.specs.Rules.{AccessBase}
 use Rattle.savi_access.specs.Marks.{Mark}
 use Rattle.savi_access.specs.Plans.{rules_of}
 use Rattle.access_table.specs.Kept.{Kept as Table, Represents}
-use Rattle.savi_history.specs.Bases.{access_of}
+use Rattle.checkpoint.specs.Bases.{access_of}
 use Rattle.savi_history.specs.Moments.{last_moment, moment_at}
 use Rattle.savi_history.specs.Marks.{marks}
 use Rattle.savi_history.specs.Judged.{judged_of, verdict_of}

@@ -31,7 +31,7 @@ use Rattle.control_replies.specs.Counters.{counters_text}
 use Rattle.access_table.specs.Kept.{Kept as Table}
 use Rattle.savi_access.specs.Plans.{times_of}
 use Rattle.hist_store.specs.Rows.{Row}
-use Rattle.savi_history.specs.Bases.{Base, access_of}
+use Rattle.checkpoint.specs.Bases.{Base, access_of}
 use Rattle.savi_history.specs.Vlans.{the_vlan}
 use Rattle.savi_history.specs.Passes.{has_port, place_of}
 use Rattle.savi_history.specs.Moments.{last_moment}
@@ -130,7 +130,7 @@ refused_all plan base past refused refusal was text ends is some empty text_is =
     ∙ sym (answered plan base past refused ends is)
 
 -- the counters
-pub counters_are : (plan : Plan) (base : Base) (past : List Row) (moment : ℕ) (counts : Counts) (was now : List ℕ) → was ≡ [] → counts ≡ counts_of past → now ≡ was ++ counters_text counts → now ≡ reply_to plan base past moment (Ok ShowCounters)
+pub counters_are : (plan : Plan) (base : Base) (past : List Row) (moment : ℕ) (counts : Counts) (was now : List ℕ) → was ≡ [] → counts ≡ counts_of base past → now ≡ was ++ counters_text counts → now ≡ reply_to plan base past moment (Ok ShowCounters)
 counters_are plan base past moment counts was now empty is now_is =
     now_is ∙ ap (λ text. text ++ counters_text counts) empty ∙ ap counters_text is
 

@@ -21,7 +21,7 @@ use Rattle.frame_class.specs.Classes.{eth_of}
 use Rattle.bridge_fdb.specs.declared.station.Station.{Station}
 use Rattle.bridge_fdb.specs.Stations.{live_at, is_live, station_end}
 use Rattle.hist_store.specs.Rows.{Row}
-use Rattle.savi_history.specs.Bases.{Base}
+use Rattle.checkpoint.specs.Bases.{Base}
 use Rattle.savi_history.specs.Vlans.{the_vlan}
 use Rattle.savi_history.specs.Summary.{is_pass}
 use Rattle.savi_history.specs.Stations.{stations, after_entry, taught, ethernet_of, port_among, known_port}

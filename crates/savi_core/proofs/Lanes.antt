@@ -20,7 +20,7 @@ use Rattle.savi_kinds.specs.declared.address.Mac.{Mac}
 use Rattle.egress_ring.specs.declared.item.Item.{Item as Queued}
 use Rattle.egress_ring.specs.declared.item.Item.TheVariants as queued
 use Rattle.hist_store.specs.Rows.{Row}
-use Rattle.savi_history.specs.Bases.{Base}
+use Rattle.checkpoint.specs.Bases.{Base}
 use Rattle.savi_history.specs.Passes.{has_ended, has_port, has_pass, pass_of, egress_pass, is_end, role_of, is_trusted}
 use Rattle.savi_history.specs.Queues.{Item, item_of, room_at, probed, framed, waiting_after, queue}
 use Rattle.savi_history.proofs.Closed.{same_port}
@@ -65,12 +65,12 @@ one_changed f g (n ∷ ns) (suc p) within others =
 
 -- what lanes show
 
-abbrev pub laned : {A : Type 0} → ℕ → Bool → ℕ → List A → Lane A
-laned number trusted room items = record { number = number; trusted = trusted; room = room; items = items }
+abbrev pub laned : {A : Type 0} → ℕ → ℕ → Bool → ℕ → List A → Lane A
+laned depth number trusted room items = record { number = number; trusted = trusted; depth = depth; room = room; items = items }
 
 -- a lane shows the same in a longer history
 pub shown_more : (mac : Mac) (rows : List Row) (r : Row) (lane : Lane Queued) → AreThere rows lane → shown_lane mac (rows ++ r ∷ []) lane ≡ shown_lane mac rows lane
-shown_more mac rows r lane there = ap (λ (items : List Item). laned lane.number lane.trusted lane.room items) (shown_all mac rows (r ∷ []) lane.items there)
+shown_more mac rows r lane there = ap (λ (items : List Item). laned lane.depth lane.number lane.trusted lane.room items) (shown_all mac rows (r ∷ []) lane.items there)
 
 pub there_still : (rows : List Row) (r : Row) (lane : Lane Queued) → AreThere rows lane → AreThere (rows ++ r ∷ []) lane
 there_still rows r lane there = there_more rows (r ∷ []) lane.items there
@@ -84,7 +84,7 @@ module _ (mac : Mac) (rows : List Row) (r : Row) (outs : PortSet) (lane : Lane Q
 
   framed_at : (b c : Bool) → shown_lane mac (rows ++ r ∷ []) (if b then (if c then record lane { items = lane.items ++ queued.Frame (length rows) ∷ [] } else lane) else lane)
       ≡ (if b then (if c then record (shown_lane mac rows lane) { items = map (queued_item mac rows) lane.items ++ item_of r ∷ [] } else shown_lane mac rows lane) else shown_lane mac rows lane)
-  framed_at true true = ap (λ (items : List Item). laned lane.number lane.trusted lane.room items) pushed
+  framed_at true true = ap (λ (items : List Item). laned lane.depth lane.number lane.trusted lane.room items) pushed
   framed_at true false = shown_more mac rows r lane there
   framed_at false c = shown_more mac rows r lane there
 
@@ -105,14 +105,14 @@ module _ (mac : Mac) (rows : List Row) (r : Row) (outs : PortSet) (lane : Lane Q
 
 pub shown_drained : (mac : Mac) (rows : List Row) (r : Row) (count : ℕ) (lane : Lane Queued) → AreThere rows lane → shown_lane mac (rows ++ r ∷ []) (with_drained count lane) ≡ with_drained count (shown_lane mac rows lane)
 shown_drained mac rows r count lane there =
-    ap (λ (items : List Item). laned lane.number lane.trusted lane.room items)
+    ap (λ (items : List Item). laned lane.depth lane.number lane.trusted lane.room items)
     (sym (drop-map (queued_item mac (rows ++ r ∷ [])) count lane.items) ∙ ap (drop count) (shown_all mac rows (r ∷ []) lane.items there))
 
 pub there_drained : (rows : List Row) (r : Row) (count : ℕ) (lane : Lane Queued) → AreThere rows lane → AreThere (rows ++ r ∷ []) (with_drained count lane)
 there_drained rows r count lane there = All-drop (IsThere (rows ++ r ∷ [])) count lane.items (there_more rows (r ∷ []) lane.items there)
 
 closed_shown : (mac : Mac) (rows : List Row) (r : Row) (lane : Lane Queued) → AreThere rows lane → shown_lane mac (rows ++ r ∷ []) (record lane { room = 0 }) ≡ record (shown_lane mac rows lane) { room = 0 }
-closed_shown mac rows r lane there = ap (λ (items : List Item). laned lane.number lane.trusted 0 items) (shown_all mac rows (r ∷ []) lane.items there)
+closed_shown mac rows r lane there = ap (λ (items : List Item). laned lane.depth lane.number lane.trusted 0 items) (shown_all mac rows (r ∷ []) lane.items there)
 
 pub shown_ended : (mac : Mac) (rows : List Row) (r : Row) (how : How) (lane : Lane Queued) → AreThere rows lane → shown_lane mac (rows ++ r ∷ []) (with_ended how lane) ≡ with_ended how (shown_lane mac rows lane)
 shown_ended mac rows r hows.Failed lane there = refl
@@ -121,7 +121,7 @@ shown_ended mac rows r hows.Quit lane there = closed_shown mac rows r lane there
 shown_ended mac rows r (hows.Malformed at) lane there = closed_shown mac rows r lane there
 shown_ended mac rows r (hows.Overlong at) lane there = closed_shown mac rows r lane there
 shown_ended mac rows r hows.Unwritten lane there = closed_shown mac rows r lane there
-shown_ended mac rows r (hows.Full len) lane there = closed_shown mac rows r lane there
+shown_ended mac rows r hows.Paused lane there = closed_shown mac rows r lane there
 
 pub there_ended : (rows : List Row) (r : Row) (how : How) (lane : Lane Queued) → AreThere rows lane → AreThere (rows ++ r ∷ []) (with_ended how lane)
 there_ended rows r hows.Failed lane there = All-nil (IsThere (rows ++ r ∷ []))
@@ -130,7 +130,7 @@ there_ended rows r hows.Quit lane there = there_still rows r lane there
 there_ended rows r (hows.Malformed at) lane there = there_still rows r lane there
 there_ended rows r (hows.Overlong at) lane there = there_still rows r lane there
 there_ended rows r hows.Unwritten lane there = there_still rows r lane there
-there_ended rows r (hows.Full len) lane there = there_still rows r lane there
+there_ended rows r hows.Paused lane there = there_still rows r lane there
 
 -- cuts
 
@@ -164,7 +164,7 @@ module _ (by : ℕ → Lane Item) (named : (q : ℕ) → (by q).number ≡ q) (o
 
 -- the lane of a port once the probes of an entry with this act and these octets were offered
 abbrev pub probed_lane : Plan → Base → List Row → Act → List ℕ → ℕ → Lane Item
-probed_lane plan base past act octets q = laned q (is_trusted (role_of plan q)) (room_at plan base past q) (probed plan base past act octets q (queue plan base q past))
+probed_lane plan base past act octets q = laned plan.depth q (is_trusted (role_of plan q)) (room_at plan base past q) (probed plan base past act octets q (queue plan base q past))
 
 module _ (plan : Plan) (base : Base) (past : List Row) (r : Row) (q : ℕ) where
   -- an entry that ends no pass leaves the room as it is
@@ -175,17 +175,17 @@ module _ (plan : Plan) (base : Base) (past : List Row) (r : Row) (q : ℕ) where
   trust = is_trusted (role_of plan q)
 
   lane_at : (b c : Bool) (waiting : List Item)
-      → (if b then (if c then laned q trust (room_at plan base past q) (waiting ++ item_of r ∷ []) else laned q trust (room_at plan base past q) waiting) else laned q trust (room_at plan base past q) waiting)
-      ≡ laned q trust (room_at plan base past q) (if b then (if c then waiting ++ item_of r ∷ [] else waiting) else waiting)
+      → (if b then (if c then laned plan.depth q trust (room_at plan base past q) (waiting ++ item_of r ∷ []) else laned plan.depth q trust (room_at plan base past q) waiting) else laned plan.depth q trust (room_at plan base past q) waiting)
+      ≡ laned plan.depth q trust (room_at plan base past q) (if b then (if c then waiting ++ item_of r ∷ [] else waiting) else waiting)
   lane_at true true waiting = refl
   lane_at true false waiting = refl
   lane_at false c waiting = refl
 
   -- the lane of the new row, by what it lets wait and the room before it
-  stamped : (waiting : List Item) → queue plan base q (r ∷ past) ≡ waiting → is_end r.entry.act ≡ false → laned q trust (room_at plan base past q) waiting ≡ lane_of plan base (r ∷ past) q
+  stamped : (waiting : List Item) → queue plan base q (r ∷ past) ≡ waiting → is_end r.entry.act ≡ false → laned plan.depth q trust (room_at plan base past q) waiting ≡ lane_of plan base (r ∷ past) q
   stamped waiting items_are none =
-      ap (λ (items : List Item). laned q trust (room_at plan base past q) items) (sym items_are)
-      ∙ ap (λ (room : ℕ). laned q trust room (queue plan base q (r ∷ past))) (sym (room_kept none))
+      ap (λ (items : List Item). laned plan.depth q trust (room_at plan base past q) items) (sym items_are)
+      ∙ ap (λ (room : ℕ). laned plan.depth q trust room (queue plan base q (r ∷ past))) (sym (room_kept none))
 
   -- a frame joins behind the probes of its entry
   pub lane_framed : (port : Port) (stamp at len : ℕ) → r.entry.act ≡ acts.Frame port stamp at len → with_frame (item_of r) r.entry.outs (probed_lane plan base past (acts.Frame port stamp at len) r.octets q) ≡ lane_of plan base (r ∷ past) q
@@ -213,7 +213,7 @@ module _ (plan : Plan) (base : Base) (past : List Row) (r : Row) (q : ℕ) where
   -- an entry that leaves what waits and the room leaves the lane
   pub lane_kept : queue plan base q (r ∷ past) ≡ queue plan base q past → room_at plan base (r ∷ past) q ≡ room_at plan base past q → lane_of plan base past q ≡ lane_of plan base (r ∷ past) q
   lane_kept items_are room_is =
-      ap (λ (items : List Item). laned q trust (room_at plan base past q) items) (sym items_are) ∙ ap (λ (room : ℕ). laned q trust room (queue plan base q (r ∷ past))) (sym room_is)
+      ap (λ (items : List Item). laned plan.depth q trust (room_at plan base past q) items) (sym items_are) ∙ ap (λ (room : ℕ). laned plan.depth q trust room (queue plan base q (r ∷ past))) (sym room_is)
 
   -- a drain
 
@@ -268,28 +268,28 @@ lane_drained plan base past r port count act_is =
     ap (λ (a : Act). waiting_after plan base past (number_of port) r a (queue plan base (number_of port) past)) act_is
     ∙ ap (λ (b : Bool). if b then drop count (queue plan base (number_of port) past) else queue plan base (number_of port) past) (eq-eqb (number_of port) (number_of port) refl) in
     let trusted = is_trusted (role_of plan (number_of port)) in
-    ap (λ (items : List Item). laned (number_of port) trusted (room_at plan base past (number_of port)) items) (sym items_are)
-    ∙ ap (λ (room : ℕ). laned (number_of port) trusted room (queue plan base (number_of port) (r ∷ past))) (sym (room_kept plan base past r (number_of port) (ap is_end act_is)))
+    ap (λ (items : List Item). laned plan.depth (number_of port) trusted (room_at plan base past (number_of port)) items) (sym items_are)
+    ∙ ap (λ (room : ℕ). laned plan.depth (number_of port) trusted room (queue plan base (number_of port) (r ∷ past))) (sym (room_kept plan base past r (number_of port) (ap is_end act_is)))
 
 -- the lane of an egress that ended
 
 failed_waits : (plan : Plan) (base : Base) (past : List Row) (r : Row) (port : Port) (waiting : List Item) → [] ≡ waiting_after plan base past (number_of port) r (acts.End (Egress port) hows.Failed) waiting
 failed_waits plan base past r port waiting = sym (ap (λ (b : Bool). if b then [] else waiting) (eq-eqb (number_of port) (number_of port) refl))
 
-ended_at : (plan : Plan) (base : Base) (past : List Row) (r : Row) (port : Port) (how : How) → with_ended how (lane_of plan base past (number_of port)) ≡ laned (number_of port) (is_trusted (role_of plan (number_of port))) 0 (waiting_after plan base past (number_of port) r (acts.End (Egress port) how) (queue plan base (number_of port) past))
-ended_at plan base past r port hows.Failed = ap (λ (items : List Item). laned (number_of port) (is_trusted (role_of plan (number_of port))) 0 items) (failed_waits plan base past r port (queue plan base (number_of port) past))
+ended_at : (plan : Plan) (base : Base) (past : List Row) (r : Row) (port : Port) (how : How) → with_ended how (lane_of plan base past (number_of port)) ≡ laned plan.depth (number_of port) (is_trusted (role_of plan (number_of port))) 0 (waiting_after plan base past (number_of port) r (acts.End (Egress port) how) (queue plan base (number_of port) past))
+ended_at plan base past r port hows.Failed = ap (λ (items : List Item). laned plan.depth (number_of port) (is_trusted (role_of plan (number_of port))) 0 items) (failed_waits plan base past r port (queue plan base (number_of port) past))
 ended_at plan base past r port hows.End = refl
 ended_at plan base past r port hows.Quit = refl
 ended_at plan base past r port (hows.Malformed at) = refl
 ended_at plan base past r port (hows.Overlong at) = refl
 ended_at plan base past r port hows.Unwritten = refl
-ended_at plan base past r port (hows.Full len) = refl
+ended_at plan base past r port hows.Paused = refl
 
 pub lane_ended : (plan : Plan) (base : Base) (past : List Row) (r : Row) (port : Port) (how : How) → r.entry.act ≡ acts.End (Egress port) how → r.entry.by ≡ egress_pass plan (number_of port) → with_ended how (lane_of plan base past (number_of port)) ≡ lane_of plan base (r ∷ past) (number_of port)
 lane_ended plan base past r port how act_is by_is =
     ended_at plan base past r port how
-    ∙ ap (λ (a : Act). laned (number_of port) (is_trusted (role_of plan (number_of port))) 0 (waiting_after plan base past (number_of port) r a (queue plan base (number_of port) past))) (sym act_is)
-    ∙ ap (λ (room : ℕ). laned (number_of port) (is_trusted (role_of plan (number_of port))) room (queue plan base (number_of port) (r ∷ past))) (sym (room_now plan base past r (number_of port) by_is (ap is_end act_is)))
+    ∙ ap (λ (a : Act). laned plan.depth (number_of port) (is_trusted (role_of plan (number_of port))) 0 (waiting_after plan base past (number_of port) r a (queue plan base (number_of port) past))) (sym act_is)
+    ∙ ap (λ (room : ℕ). laned plan.depth (number_of port) (is_trusted (role_of plan (number_of port))) room (queue plan base (number_of port) (r ∷ past))) (sym (room_now plan base past r (number_of port) by_is (ap is_end act_is)))
 
 apart_waits : (plan : Plan) (base : Base) (past : List Row) (q : ℕ) (r : Row) (port : Port) (how : How) (waiting : List Item) → number_of port ≢ q → waiting_after plan base past q r (acts.End (Egress port) how) waiting ≡ waiting
 apart_waits plan base past q r port hows.Failed waiting other = ap (λ (b : Bool). if b then [] else waiting) (ne_eqb (number_of port) q other)
@@ -298,7 +298,7 @@ apart_waits plan base past q r port hows.Quit waiting other = refl
 apart_waits plan base past q r port (hows.Malformed at) waiting other = refl
 apart_waits plan base past q r port (hows.Overlong at) waiting other = refl
 apart_waits plan base past q r port hows.Unwritten waiting other = refl
-apart_waits plan base past q r port (hows.Full len) waiting other = refl
+apart_waits plan base past q r port hows.Paused waiting other = refl
 
 -- the lanes of the other ports
 pub lane_apart : (plan : Plan) (base : Base) (past : List Row) (r : Row) (q : ℕ) (port : Port) (how : How) → r.entry.act ≡ acts.End (Egress port) how → r.entry.by ≡ egress_pass plan (number_of port) → has_port plan (number_of port) ≡ true → has_port plan q ≡ true → number_of port ≢ q → lane_of plan base past q ≡ lane_of plan base (r ∷ past) q

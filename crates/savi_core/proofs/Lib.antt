@@ -6,6 +6,7 @@ pub mod Scopes
 pub mod Offering
 pub mod OneByOne
 pub mod Ending
+pub mod Reopening
 pub mod Frames
 pub mod Lanes
 pub mod Probing
@@ -14,6 +15,11 @@ pub mod Showing
 pub mod Counting
 pub mod Remembering
 pub mod Stepping
+pub mod Over
+pub mod Pausing
+pub mod Rising
+pub mod Leaving
+pub mod Turned
 pub mod Knowing
 pub mod Telling
 pub mod AgedAndJudged
@@ -24,4 +30,5 @@ pub mod Shutting
 pub mod Refusing
 pub mod Tallying
 pub mod Shown
+pub mod Keeping
 pub mod Answering

@@ -10,7 +10,7 @@ use Rattle.savi_kinds.specs.ValidPlan.{IsValidPlan, numbers_of}
 use Rattle.savi_access.specs.declared.sent.SentProbe.{SentProbe}
 use Rattle.egress_ring.specs.declared.item.Item.{Item as Queued}
 use Rattle.hist_store.specs.Rows.{Row}
-use Rattle.savi_history.specs.Bases.{Base}
+use Rattle.checkpoint.specs.Bases.{Base}
 use Rattle.savi_history.specs.Offers.{Offer, offer_of, offers}
 use Rattle.savi_history.specs.Queues.{Item, probe_item, is_probed, room_at, queue, offered_at, probed, queued_at, lost_at, over_ports, probes, lost}
 use Rattle.savi_history.proofs.Joining.{joined_more, joined_few, joined_within, room_low}

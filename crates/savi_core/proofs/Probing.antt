@@ -14,7 +14,7 @@ use Rattle.probe_write.specs.ProbeFrame.{probe_of}
 use Rattle.savi_access.specs.declared.sent.SentProbe.{SentProbe}
 use Rattle.egress_ring.specs.declared.item.Item.{Item as Queued}
 use Rattle.hist_store.specs.Rows.{Row}
-use Rattle.savi_history.specs.Bases.{Base}
+use Rattle.checkpoint.specs.Bases.{Base}
 use Rattle.savi_history.specs.ShutPorts.{is_shut}
 use Rattle.savi_history.specs.Offers.{Offer, offer_of, offers}
 use Rattle.savi_history.specs.Passes.{role_of, is_trusted}
@@ -43,12 +43,12 @@ sent_to shut sents lane = filter (λ sent. goes_to shut sent.probe lane) sents
 
 -- the lane once they were offered
 abbrev pub with_probes : (ℕ → Bool) → Mac → List SentProbe → Lane Item → Lane Item
-with_probes shut mac sents lane = laned lane.number lane.trusted lane.room (all_joined lane.room lane.items (map (probe_shown mac) (sent_to shut sents lane)))
+with_probes shut mac sents lane = laned lane.depth lane.number lane.trusted lane.room (all_joined lane.room lane.items (map (probe_shown mac) (sent_to shut sents lane)))
 
 module _ (shut : ℕ → Bool) (mac : Mac) (sent : SentProbe) where
   module _ (sents : List SentProbe) (lane : Lane Item) where
     joined_at : (b c : Bool) → with_probes shut mac sents (if b then (if c then record lane { items = lane.items ++ probe_shown mac sent ∷ [] } else lane) else lane)
-        ≡ laned lane.number lane.trusted lane.room (all_joined lane.room (if b then (if c then lane.items ++ probe_shown mac sent ∷ [] else lane.items) else lane.items) (map (probe_shown mac) (sent_to shut sents lane)))
+        ≡ laned lane.depth lane.number lane.trusted lane.room (all_joined lane.room (if b then (if c then lane.items ++ probe_shown mac sent ∷ [] else lane.items) else lane.items) (map (probe_shown mac) (sent_to shut sents lane)))
     joined_at true true = refl
     joined_at true false = refl
     joined_at false c = refl
@@ -61,12 +61,12 @@ module _ (shut : ℕ → Bool) (mac : Mac) (sent : SentProbe) where
     one_more : with_probes shut mac sents (with_probe shut (probe_shown mac sent) sent.probe lane) ≡ with_probes shut mac (sent ∷ sents) lane
     one_more =
         joined_at (goes_to shut sent.probe lane) (takes_one lane)
-        ∙ ap (λ (items : List Item). laned lane.number lane.trusted lane.room items) (front_at (goes_to shut sent.probe lane) (sent_to shut sents lane))
+        ∙ ap (λ (items : List Item). laned lane.depth lane.number lane.trusted lane.room items) (front_at (goes_to shut sent.probe lane) (sent_to shut sents lane))
 
   module _ (rows : List Row) (lane : Lane Queued) where
     shown_at : (b c : Bool) → shown_lane mac rows (if b then (if c then record lane { items = lane.items ++ ring_item sent ∷ [] } else lane) else lane)
         ≡ (if b then (if c then record (shown_lane mac rows lane) { items = map (queued_item mac rows) lane.items ++ probe_shown mac sent ∷ [] } else shown_lane mac rows lane) else shown_lane mac rows lane)
-    shown_at true true = ap (λ (items : List Item). laned lane.number lane.trusted lane.room items) (map-append (queued_item mac rows) lane.items (ring_item sent ∷ []))
+    shown_at true true = ap (λ (items : List Item). laned lane.depth lane.number lane.trusted lane.room items) (map-append (queued_item mac rows) lane.items (ring_item sent ∷ []))
     shown_at true false = refl
     shown_at false c = refl
 
@@ -136,7 +136,7 @@ module _ (plan : Plan) (base : Base) (past : List Row) (q : ℕ) where
     offered_is = sent_is sents ∙ ap (λ (all : List Offer). map (probe_item plan) (filter (λ (offer : Offer). is_probed plan base past q offer.probe) all)) came
 
     probed_is : with_probes (shut_by plan base past) plan.mac sents (lane_of plan base past q) ≡ probed_lane plan base past act octets q
-    probed_is = ap (λ (items : List Item). laned q (is_trusted (role_of plan q)) (room_at plan base past q) (all_joined (room_at plan base past q) (queue plan base q past) items)) offered_is
+    probed_is = ap (λ (items : List Item). laned plan.depth q (is_trusted (role_of plan q)) (room_at plan base past q) (all_joined (room_at plan base past q) (queue plan base q past) items)) offered_is
 
 -- The lanes that show the history's show, once all probes of an entry were offered, what waits then.
 pub show_probed : (plan : Plan) (base : Base) (past rows : List Row) (act : Act) (octets : List ℕ) (sents : List SentProbe) (rings : Rings) → shut_in rings.shut ≡ shut_by plan base past → map offer_of sents ≡ offers plan base past act octets

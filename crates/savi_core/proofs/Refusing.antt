@@ -5,7 +5,7 @@ use Rattle.savi_kinds.specs.declared.entry.Entry.{Entry}
 use Rattle.savi_kinds.specs.declared.entry.Act.{Act}
 use Rattle.cli_lang.specs.CommandOf.{command_of}
 use Rattle.control_replies.specs.declared.refusal.Refusal.{Refusal}
-use Rattle.savi_history.specs.Bases.{access_of}
+use Rattle.checkpoint.specs.Bases.{access_of}
 use Rattle.savi_history.specs.Moments.{moment_at}
 use Rattle.savi_history.specs.Commands.{rows_told, refusal_of}
 use Rattle.savi_history.specs.Marks.{marks}

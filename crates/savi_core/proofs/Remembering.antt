@@ -13,7 +13,7 @@ use Rattle.savi_kinds.specs.ValidPlan.{IsValidPlan, numbers_of}
 use Rattle.egress_ring.specs.declared.item.Item.{Item as Queued}
 use Rattle.hist_store.specs.Rows.{Row, held}
 use Rattle.hist_store.proofs.StoreLemmas.{held-append}
-use Rattle.savi_history.specs.Bases.{empty}
+use Rattle.checkpoint.specs.Bases.{empty}
 use Rattle.savi_history.specs.Passes.{has_ended, has_port, has_pass, pass_of, place_of, place_among, role_of, is_trusted, is_end, pass_count}
 use Rattle.savi_history.specs.Limits.{has_room}
 use Rattle.savi_history.specs.Queues.{Item, queue}
@@ -67,7 +67,7 @@ start_shown : (plan : Plan) (ports : List PortPlan) → ((k : ℕ) (d : PortPlan
     → map (shown_lane plan.mac []) (map (empty_lane plan.depth) ports) ≡ map (lane_of plan empty []) (numbers_of ports)
 start_shown plan [] roles = refl
 start_shown plan (p ∷ ports) roles =
-    ap (λ (role : Role). laned (number_of p.number) (is_trusted role) plan.depth [] ∷ map (shown_lane plan.mac []) (map (empty_lane plan.depth) ports)) (sym (roles 0 p (omega arith)))
+    ap (λ (role : Role). laned plan.depth (number_of p.number) (is_trusted role) plan.depth [] ∷ map (shown_lane plan.mac []) (map (empty_lane plan.depth) ports)) (sym (roles 0 p (omega arith)))
     ∙ ap (λ lanes. lane_of plan empty [] (number_of p.number) ∷ lanes) (start_shown plan ports (λ k d within. roles (suc k) d (omega (arith, within))))
 
 start_there : (depth : ℕ) (ports : List PortPlan) → All (AreThere []) (map (empty_lane depth) ports)

@@ -14,7 +14,7 @@ use Rattle.savi_kinds.specs.ValidPlan.{IsValidPlan, numbers_of}
 use Rattle.egress_ring.specs.declared.item.Item.{Item as Queued}
 use Rattle.egress_ring.specs.declared.item.Item.TheVariants as queued
 use Rattle.hist_store.specs.Rows.{Row}
-use Rattle.savi_history.specs.Bases.{Base}
+use Rattle.checkpoint.specs.Bases.{Base}
 use Rattle.savi_history.specs.Passes.{has_port, place_of}
 use Rattle.savi_history.specs.Queues.{Item, item_of, cuts}
 use Rattle.savi_history.proofs.PassNumbers.{known_at}

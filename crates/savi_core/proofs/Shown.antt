@@ -38,6 +38,14 @@ more_bindings times (row ∷ rows) more =
 abbrev row_with : Addr × AddrState → Row
 row_with pair = record { address = pair.0; state = pair.1 }
 
+-- the rows up to the next one, which is told
+pub row_more : (rows : List Row) (i : ℕ) (address : Addr) (state : AddrState) → i < length rows → Some (address, state) ≡ option_map pair_of (slice_get rows i) → take (i + 1) rows ≡ take i rows ++ record { address = address; state = state } ∷ []
+row_more rows i address state within told =
+    let row : Row = row_with (address, state) in
+    let at : slice_get rows i ≡ Some (get_or rows i row) = slice_get-get_or rows i row within in
+    let pair : (address, state) ≡ pair_of (get_or rows i row) = same_Some (address, state) (pair_of (get_or rows i row)) (told ∙ ap (option_map pair_of) at) in
+    take_more rows i row within ∙ ap (λ r. take i rows ++ r ∷ []) (sym (ap row_with pair))
+
 -- those of the rows up to the next one
 pub next_binding : (times : Times) (rows : List Row) (i : ℕ) (address : Addr) (state : AddrState) (was now : List ℕ)
     → i < length rows
@@ -47,10 +55,7 @@ pub next_binding : (times : Times) (rows : List Row) (i : ℕ) (address : Addr) 
     → now ≡ all_binding_lines times (take (i + 1) rows)
 next_binding times rows i address state was now within told was_is now_is =
     let row : Row = row_with (address, state) in
-    let at : slice_get rows i ≡ Some (get_or rows i row) = slice_get-get_or rows i row within in
-    let pair : (address, state) ≡ pair_of (get_or rows i row) = same_Some (address, state) (pair_of (get_or rows i row)) (told ∙ ap (option_map pair_of) at) in
-    let row_is : row ≡ get_or rows i row = ap row_with pair in
-    let more : take (i + 1) rows ≡ take i rows ++ row ∷ [] = take_more rows i row within ∙ ap (λ r. take i rows ++ r ∷ []) (sym row_is) in
+    let more : take (i + 1) rows ≡ take i rows ++ row ∷ [] = row_more rows i address state within told in
     now_is
     ∙ ap (λ text. text ++ binding_lines times row) was_is
     ∙ ap (λ text. all_binding_lines times (take i rows) ++ text) (sym (append-nil (binding_lines times row)))

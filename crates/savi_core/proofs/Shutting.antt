@@ -11,7 +11,7 @@ use Rattle.savi_kinds.specs.ValidPlan.{numbers_of}
 use Rattle.savi_access.specs.declared.sent.SentProbe.{SentProbe}
 use Rattle.control_replies.specs.declared.refusal.Refusal.TheVariants as refusals
 use Rattle.hist_store.specs.Rows.{Row}
-use Rattle.savi_history.specs.Bases.{Base}
+use Rattle.checkpoint.specs.Bases.{Base}
 use Rattle.savi_history.specs.Passes.{has_port}
 use Rattle.savi_history.specs.Commands.{port_refusal}
 use Rattle.savi_history.specs.ShutPorts.{is_heard_at, is_shut}

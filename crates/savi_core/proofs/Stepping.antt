@@ -16,6 +16,7 @@ use Rattle.savi_access.specs.declared.sent.SentProbe.{SentProbe}
 use Rattle.egress_ring.specs.declared.item.Item.{Item as Queued}
 use Rattle.egress_ring.specs.declared.item.Item.TheVariants as queued
 use Rattle.hist_store.specs.Rows.{Row, held}
+use Rattle.checkpoint.specs.Columns.{Columns, kept_base as base_kept}
 use Rattle.savi_history.specs.Offers.{offer_of, offers}
 use Rattle.savi_history.specs.Passes.{has_ended, has_port, pass_of, egress_pass, place_of, pass_count, is_end}
 use Rattle.savi_history.specs.Limits.{has_room}
@@ -48,8 +49,8 @@ use Rattle.savi_core.proofs.Remembering.{reverse_push, remembers_next, shut_stil
 abbrev pub row : Entry → List ℕ → Row
 row entry octets = record { entry = entry; octets = octets }
 
-abbrev pub machine : Plan → List Row → Machine
-machine plan past = record { plan = plan; past = past }
+abbrev pub machine : Plan → Columns → List Row → Machine
+machine plan checkpoint past = record { plan = plan; checkpoint = checkpoint; past = past }
 
 -- an input that may be put to a switch with room may come
 pub may_long : (m : Machine) (port : Port) (stamp len : ℕ) → MayStep m (events.Long port stamp len) → has_room m.plan m.past ≡ true → stamp < 2 ^ 64 → len < 2 ^ 32 → MayCome m.plan (base_of m) m.past (events.Long port stamp len)
@@ -65,9 +66,10 @@ pub may_tick : (m : Machine) (stamp : ℕ) → MayStep m (events.Tick stamp) →
 may_tick m stamp may room fits changed = record { open_pass = may; room = room; fits = fits; changed = changed }
 
 -- a switch with the row of an event behind the others, as a contract says it
-pub stepped_view : (plan : Plan) (rows : List Row) (e : Entry) (octets : List ℕ) (event : Event) (m : Machine) → machine plan (reverse rows) ≡ m → row e octets ≡ row_of plan (base_of (machine plan (reverse rows))) (reverse rows) event → machine plan (reverse (rows ++ row e octets ∷ [])) ≡ with_event m event
-stepped_view plan rows e octets event m view is_row =
-    ap (machine plan) (reverse_push rows (row e octets) ∙ ap (λ (r : Row). r ∷ reverse rows) is_row) ∙ ap (λ (x : Machine). with_event x event) view
+pub stepped_view : (plan : Plan) (checkpoint : Columns) (rows : List Row) (e : Entry) (octets : List ℕ) (event : Event) (m : Machine) → machine plan checkpoint (reverse rows) ≡ m
+    → row e octets ≡ row_of plan (base_kept checkpoint) (reverse rows) event → machine plan checkpoint (reverse (rows ++ row e octets ∷ [])) ≡ with_event m event
+stepped_view plan checkpoint rows e octets event m view is_row =
+    ap (machine plan checkpoint) (reverse_push rows (row e octets) ∙ ap (λ (r : Row). r ∷ reverse rows) is_row) ∙ ap (λ (x : Machine). with_event x event) view
 
 module _ {k : CoreState} (was : Remembers k) where
   -- the lanes once the probes of an entry were offered, whatever they are

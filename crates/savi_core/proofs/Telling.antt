@@ -23,7 +23,7 @@ use Rattle.savi_access.specs.Plans.{rules_of}
 use Rattle.savi_access.proofs.States.{told_past, told_before}
 use Rattle.access_table.specs.Kept.{Kept as Table, Represents, IsAgedTo}
 use Rattle.hist_store.specs.Rows.{Row}
-use Rattle.savi_history.specs.Bases.{Base, access_of}
+use Rattle.checkpoint.specs.Bases.{Base, access_of}
 use Rattle.savi_history.specs.Vlans.{the_vlan}
 use Rattle.savi_history.specs.Moments.{last_moment, moment_at}
 use Rattle.cli_lang.specs.CommandOf.{command_of}

@@ -12,7 +12,7 @@ use Rattle.savi_access.specs.Marks.{told}
 use Rattle.savi_access.specs.Plans.{rules_of}
 use Rattle.access_table.specs.Kept.{Kept as Table}
 use Rattle.access_table.proofs.Standing.{sent_between}
-use Rattle.savi_history.specs.Bases.{access_of}
+use Rattle.checkpoint.specs.Bases.{access_of}
 use Rattle.savi_history.specs.Vlans.{the_vlan}
 use Rattle.savi_history.specs.Moments.{last_moment}
 use Rattle.savi_history.specs.Marks.{marks}

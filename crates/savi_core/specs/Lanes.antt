@@ -14,7 +14,7 @@ use Rattle.savi_kinds.specs.PortSets.{is_member, set_of}
 use Rattle.fcfs_states.specs.declared.answer.Probe.{Probe}
 use Rattle.fcfs_states.specs.declared.answer.Probe.TheVariants.{Trusted, To}
 use Rattle.hist_store.specs.Rows.{Row}
-use Rattle.savi_history.specs.Bases.{Base}
+use Rattle.checkpoint.specs.Bases.{Base}
 use Rattle.savi_history.specs.Passes.{place_of, role_of, is_trusted}
 use Rattle.savi_history.specs.Queues.{Item, room_at, queue}
 
@@ -22,14 +22,15 @@ pub record Lane (A : Type 0) : Type 0 where
   -- of its port, and whether that is trusted
   pub number : ℕ
   pub trusted : Bool
-  -- how many items may wait
+  -- how many items may wait as long as its egress hasn't ended, and how many may now
+  pub depth : ℕ
   pub room : ℕ
   -- those that wait, the oldest first
   pub items : List A
 
 -- the lane of a port at the start of a switch
 abbrev pub empty_lane : {A : Type 0} → ℕ → PortPlan → Lane A
-empty_lane depth p = record { number = number_of p.number; trusted = is_trusted p.role; room = depth; items = [] }
+empty_lane depth p = record { number = number_of p.number; trusted = is_trusted p.role; depth = depth; room = depth; items = [] }
 
 -- as many items wait as may
 abbrev pub takes_none : {A : Type 0} → Lane A → Bool
@@ -84,13 +85,17 @@ abbrev pub with_ended : {A : Type 0} → How → Lane A → Lane A
 with_ended hows.Failed lane = record lane { room = 0; items = [] }
 with_ended how lane = record lane { room = 0 }
 
+-- the lane once a new history begins: items join again, unless its egress has ended for good
+abbrev pub with_reopened : {A : Type 0} → Bool → Lane A → Lane A
+with_reopened is_over lane = record lane { room = if is_over then 0 else lane.depth }
+
 -- the lane of a port by the history
 abbrev pub lane_of : Plan → Base → List Row → ℕ → Lane Item
-lane_of plan base past q = record { number = q; trusted = is_trusted (role_of plan q); room = room_at plan base past q; items = queue plan base q past }
+lane_of plan base past q = record { number = q; trusted = is_trusted (role_of plan q); depth = plan.depth; room = room_at plan base past q; items = queue plan base q past }
 
 -- a lane of no port, as what stands outside of a list of lanes
 abbrev pub no_lane : {A : Type 0} → Lane A
-no_lane = record { number = 0; trusted = false; room = 0; items = [] }
+no_lane = record { number = 0; trusted = false; depth = 0; room = 0; items = [] }
 
 -- the lanes once a pass has ended for this reason: the lane of a port whose egress it is has ended
 abbrev pub AreEnded : {A : Type 0} → Plan → Who → How → List (Lane A) → List (Lane A) → Type 0

@@ -3,6 +3,7 @@ pub mod Machines
 pub mod Steps
 pub mod PortTables
 pub mod PassMarks
+pub mod Ends
 pub mod Lanes
 pub mod Waits
 pub mod Rings
@@ -13,5 +14,5 @@ pub mod Tells
 pub mod Judges
 pub mod Obeys
 pub mod Refused
-pub mod Tallies
 pub mod Shows
+pub mod Turns

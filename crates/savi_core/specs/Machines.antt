@@ -1,26 +1,30 @@
--- A switch as contracts see it: its plan, and its history with the newest row first.
-use Rattle.std.specs.Prelude.{◌≡◌, ◌≤◌, true, length, ℕ, List, [], ◌∷◌, reverse, slice_get, slice_index, Option}
+-- A switch as contracts see it: its plan, what its history goes on from, as a copy keeps that, and the history with the newest
+-- row first.
+use Rattle.std.specs.Prelude.{◌≡◌, ◌≤◌, ◌*◌, true, length, ℕ, List, [], ◌∷◌, reverse, slice_get, slice_index, Option}
 use Rattle.savi_kinds.specs.declared.plan.Plan.{Plan}
 use Rattle.savi_kinds.specs.declared.port.Port.{Port}
 use Rattle.savi_kinds.specs.Ports.{number_of}
 use Rattle.savi_kinds.specs.ValidPlan.{numbers_of}
 use Rattle.hist_store.specs.Rows.{Row}
-use Rattle.savi_history.specs.Bases.{Base, empty}
+use Rattle.checkpoint.specs.Bases.{Base}
+use Rattle.checkpoint.specs.Columns.{Columns, nothing_before}
+use Rattle.checkpoint.specs.Columns as columns
 use Rattle.savi_history.specs.Passes.{has_port}
 use Rattle.savi_history.specs.Queues.{Item, queue}
 use Rattle.savi_history.specs.Events.{Event, row_of}
 
 pub record Machine : Type 0 where
   pub plan : Plan
+  pub checkpoint : Columns
   pub past : List Row
 
 -- the switch at its start
 abbrev pub started : Plan → Machine
-started plan = record { plan = plan; past = [] }
+started plan = record { plan = plan; checkpoint = nothing_before (16 * plan.per_port) (256 * 16); past = [] }
 
--- what its history goes on from: nothing came before
+-- what its history goes on from
 abbrev pub base_of : Machine → Base
-base_of m = empty
+base_of m = columns.kept_base m.checkpoint
 
 -- the switch with the row of this event in front
 abbrev pub with_event : Machine → Event → Machine

@@ -6,7 +6,7 @@ use Rattle.savi_kinds.specs.declared.entry.Act.TheVariants.{Frame, Long, Tick, C
 use Rattle.cli_lang.specs.CommandOf.{command_of}
 use Rattle.control_replies.specs.declared.refusal.Refusal.{Refusal}
 use Rattle.hist_store.specs.Rows.{Row}
-use Rattle.savi_history.specs.Bases.{Base, access_of}
+use Rattle.checkpoint.specs.Bases.{Base, access_of}
 use Rattle.savi_history.specs.Commands.{rows_told, refusal_of}
 use Rattle.savi_history.specs.Marks.{marks}
 

@@ -5,7 +5,7 @@ use Rattle.savi_kinds.specs.declared.port.PortSet.{PortSet}
 use Rattle.savi_kinds.specs.ValidPlan.{IsValidPlan}
 use Rattle.egress_ring.specs.declared.item.Item.{Item as Queued}
 use Rattle.hist_store.specs.Rows.{Row, held}
-use Rattle.savi_history.specs.Bases.{Base}
+use Rattle.checkpoint.specs.Bases.{Base}
 use Rattle.savi_history.specs.Limits.{IsWithinLimits}
 use Rattle.savi_history.specs.Moments.{last_moment}
 use Rattle.savi_history.specs.Passes.{has_ended, has_port, pass_count}

@@ -4,7 +4,7 @@ use Rattle.savi_kinds.specs.declared.plan.Plan.{Plan}
 use Rattle.hist_store.specs.Rows.{Row}
 use Rattle.savi_access.specs.Plans.{rules_of}
 use Rattle.access_table.specs.Kept.{Kept, Represents, IsAgedTo}
-use Rattle.savi_history.specs.Bases.{Base, access_of}
+use Rattle.checkpoint.specs.Bases.{Base, access_of}
 use Rattle.savi_history.specs.Marks.{marks}
 
 -- they are those that all that was told in the history leaves at this moment

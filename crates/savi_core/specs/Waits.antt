@@ -23,7 +23,7 @@ queued_item mac rows (entries.Probe due target) = record { moment = due; octets 
 
 -- the lane with what its items stand for
 abbrev pub shown_lane : Mac → List Row → Lane Queued → Lane Item
-shown_lane mac rows lane = record { number = lane.number; trusted = lane.trusted; room = lane.room; items = map (queued_item mac rows) lane.items }
+shown_lane mac rows lane = record { number = lane.number; trusted = lane.trusted; depth = lane.depth; room = lane.room; items = map (queued_item mac rows) lane.items }
 
 -- a probe, or the frame of a row that is there, of a size that a frame has
 abbrev pub IsThere : List Row → Queued → Type 0

@@ -1,22 +1,28 @@
 //! The machine.
 
-ghost use Rattle.std.specs.Prelude.{◌≡◌, ◌≤◌, ◌<◌, true, false, ◌&&◌, ◌||◌, ℕ, List, [], length, reverse, IfOk, IsSomeAnd, Some, ◌+◌, Option};
+ghost use Rattle.std.specs.Prelude.{◌≡◌, ◌≤◌, ◌<◌, true, false, not, ◌&&◌, ◌||◌, ℕ, List, [], length, slice_get, reverse, IfOk, IsSomeAnd, Some, ◌+◌, Option};
+ghost use Rattle.std.specs.Bool.{OnTrue};
 ghost use Rattle.savi_kinds.specs.Ports.{number_of};
 ghost use Rattle.savi_kinds.specs.ValidPlan.{IsValidPlan, IsWithin};
 ghost use Rattle.savi_history.specs.Passes.{has_port, has_pass, pass_of, control_pass, has_ended};
 ghost use Rattle.savi_history.specs.Limits.{has_room};
 ghost use Rattle.savi_history.specs.Moments.{last_moment};
+ghost use Rattle.control_replies.specs.Counting.{counter_at};
+ghost use Rattle.checkpoint.specs.BaseLines.{base_texts};
 ghost use Rattle.savi_history.specs.Shown.{counts_of, reply_to, shown};
 ghost use Rattle.savi_history.specs.Events as events;
-ghost use Rattle.savi_history.specs.Legal.{IsLegal};
+ghost use Rattle.savi_history.specs.Endings.{has_pause};
+ghost use Rattle.savi_history.specs.Legal.{IsLegal, IsFinished};
 ghost use Rattle.savi_core.specs.Machines.{HasShortQueues, base_of, started, row_at, queue_at, port_number_at, with_event};
 ghost use Rattle.savi_core.specs.Counts.{open_below};
+ghost use Rattle.savi_core.specs.Turns.{IsTurned};
 ghost use Rattle.savi_core.specs.Refused.{EndsWithCommand};
 ghost use Rattle.frame_class.specs.Reading.{IsClassOf};
 ghost use Rattle.savi_core.specs.Steps.{event_of, IsClassed, MayStep, Did, Drained, entry_of};
 
 use crate::batch::Batch;
 use crate::commands::{fault_refusal, obey};
+use crate::ends::Ends;
 use crate::entries::{moment_at, plain_entry};
 use crate::event::{Event, Stepped};
 use crate::judging::{age, judge, judge_long};
@@ -25,58 +31,70 @@ use crate::ports::Ports;
 use crate::queues::Queues;
 use crate::shows::{show_bindings, show_ports, show_stations, times_of};
 use crate::stations::{outs, teach};
-use crate::tally::Tally;
+use crate::turning::{keep_ends, keep_requests, keep_rows, keep_stations};
 use access_table::AccessTable;
 use bridge_fdb::Fdb;
+use checkpoint::Checkpoint;
 use cli_lang::{CmdFault, Command, command};
 use control_replies::{Counts, Refusal, Reply};
 use frame_class::Class;
-use hist_store::Hist;
-use savi_kinds::{Act, ENTRIES_RESERVED, Entry, FRAME_OCTETS_MOST, How, Moment, Plan, Port, Who};
+use hist_store::{Hist, JournalLine};
+use savi_history::histories_tell_rightly;
+use savi_kinds::{
+    Act, ENTRIES_RESERVED, Entry, FRAME_OCTETS_MOST, How, Moment, PORTS_MOST, Plan, Port, Who,
+};
+use savi_segments::a_table_goes_on_from_its_states;
 use std::alloc::{AllocError, Global};
 use std::marker::Model;
 
 /// A switch that guards messages, validates sources, learns stations, and sends what passes to the port of its destination
 /// where that is known.
-/// Contracts see its plan, and its history with the newest row first; the history is always legal. All memory is taken by
-/// `make`.
+/// Contracts see its plan, what its history goes on from, and the history with the newest row first, which is always legal.
+/// All memory is taken by `make`.
 #[derive(Drop)]
 pub struct Core {
     ports: Ports,
+    checkpoint: Checkpoint,
     hist: Hist,
     moment: Moment,
     passes: Passes,
+    // how passes have ended for good
+    ends: Ends,
     queues: Queues,
     access: AccessTable,
     fdb: Fdb,
-    tally: Tally,
+    tally: Counts,
     // why the newest entry was refused, where it is a command's
     refused: Option<Refusal>,
 }
 
 impl Model for Core {
-    ghost use Rattle.std.specs.Prelude.{◌≡◌, ◌+◌, reverse};
-    ghost use Rattle.savi_history.specs.Bases.{empty};
+    ghost use Rattle.std.specs.Prelude.{◌≡◌, ◌+◌, ◌*◌, reverse};
+    ghost use Rattle.savi_history.specs.Shown.{counts_of};
+    ghost use Rattle.checkpoint.specs.Columns.{kept_base as base_kept};
     ghost use Rattle.savi_history.specs.Passes.{control_pass};
     ghost use Rattle.savi_core.specs.Machines.{Machine};
+    ghost use Rattle.savi_core.specs.Ends.{AreEnds};
     ghost use Rattle.savi_core.specs.Remembers.{Remembers};
     ghost use Rattle.savi_core.specs.Knows.{Knows};
     ghost use Rattle.savi_core.specs.Tells.{Tells};
     ghost use Rattle.savi_core.specs.Refused.{IsRefusal};
-    ghost use Rattle.savi_core.specs.Tallies.{tally_of};
 
     ghost Value = { Machine };
 
-    ghost view = { λ c. record { plan = c.ports; past = reverse c.hist.rows } };
+    ghost view = { λ c. record { plan = c.ports; checkpoint = c.checkpoint; past = reverse c.hist.rows } };
 
-    ghost invariant = { λ c. Remembers (record { plan = c.ports; base = empty; rows = c.hist.rows; moment = c.moment; ended = c.passes.ended; shut = c.queues.shut; lanes = c.queues.lanes })
+    ghost invariant = { λ c. Remembers (record { plan = c.ports; base = base_kept c.checkpoint; rows = c.hist.rows; moment = c.moment; ended = c.passes.ended; shut = c.queues.shut; lanes = c.queues.lanes })
         × (c.hist.entry_room ≡ c.ports.entries)
         × (c.hist.byte_room ≡ c.ports.bytes)
         × (c.passes.inputs ≡ control_pass c.ports + 1)
-        × Knows c.fdb c.moment empty (reverse c.hist.rows)
-        × Tells c.ports empty (reverse c.hist.rows) c.moment c.access
-        × IsRefusal c.ports empty (reverse c.hist.rows) c.refused
-        × (c.tally ≡ tally_of (reverse c.hist.rows)) };
+        × Knows c.fdb c.moment (base_kept c.checkpoint) (reverse c.hist.rows)
+        × Tells c.ports (base_kept c.checkpoint) (reverse c.hist.rows) c.moment c.access
+        × IsRefusal c.ports (base_kept c.checkpoint) (reverse c.hist.rows) c.refused
+        × (c.tally ≡ counts_of (base_kept c.checkpoint) (reverse c.hist.rows))
+        × AreEnds c.ports (base_kept c.checkpoint) (reverse c.hist.rows) c.ends
+        × (c.checkpoint.row_room ≡ 16 * c.ports.per_port)
+        × (c.checkpoint.station_room ≡ 256 * 16) };
 }
 
 impl Core {
@@ -85,20 +103,23 @@ impl Core {
         requires { IsValidPlan plan }
         ensures { IfOk result (λ core. core ≡ started plan) }
     {
+        let checkpoint = Checkpoint::make(alloc, plan.per_port, PORTS_MOST as u32)?;
         let hist = Hist::make(alloc, plan.entries, plan.bytes)?;
         let queues = Queues::make(alloc, plan.ports.as_slice(), plan.depth)?;
         let access = AccessTable::make(alloc, &plan)?;
         let fdb = Fdb::make(alloc)?;
-        let passes = Passes::make(plan.ports.as_slice().len() as u32 + 1);
+        let inputs = plan.ports.as_slice().len() as u32 + 1;
         Ok(Core {
             ports: Ports::make(plan),
+            checkpoint,
             hist,
             moment: 0,
-            passes,
+            passes: Passes::make(inputs),
+            ends: Ends::make(inputs),
             queues,
             access,
             fdb,
-            tally: Tally::new(),
+            tally: Counts::none(),
             refused: None,
         })
     }
@@ -219,6 +240,14 @@ impl Core {
         self.passes.inputs_left()
     }
 
+    /// Whether an input is paused in this history: so many of them have ended, and not for good. Then the ticker and the
+    /// outputs are paused too, and the history goes on in a next one. O(1).
+    pub fn has_pause(&self) -> bool
+        ensures { result ≡ has_pause self.now.past }
+    {
+        self.passes.inputs_left() < self.ends.inputs_left()
+    }
+
     /// Puts into a reply, in place of what it held, what the newest entry is answered, which is a command's: why it is
     /// refused; else, for a `show`, what the switch knows with that entry and at its moment; else `ok`. O(rows shown), in
     /// one pass: for `show stations` beside those passed over that have ended, and for `show ports` O(16 times the number
@@ -259,11 +288,19 @@ impl Core {
         }
     }
 
+    /// The number at a place among those of `show counters`, from 0, as of the last entry. O(1).
+    pub fn count(&self, i: u32) -> u64
+        requires { i < 27 }
+        ensures { result ≡ counter_at i (counts_of (base_of self.now) self.now.past) }
+    {
+        self.counts().at(i)
+    }
+
     // What is counted of the history's entries.
     fn counts(&self) -> &Counts
-        ensures { result.now ≡ counts_of self.now.past }
+        ensures { result.now ≡ counts_of (base_of self.now) self.now.past }
     {
-        self.tally.counts()
+        &self.tally
     }
 
     /// Whether there is room for another input: 4,130 entries are kept free for drains and ends, and room for the octets of
@@ -274,6 +311,47 @@ impl Core {
         let plan = self.ports.plan();
         self.hist.len() + ENTRIES_RESERVED < plan.entries
             && self.hist.held() + FRAME_OCTETS_MOST as u64 <= plan.bytes
+    }
+
+    /// Whether the history has no room for another input, so that it is to be closed, and the next one goes on. O(1).
+    pub fn full(&self) -> bool
+        ensures { result ≡ not (has_room self.now.plan self.now.past) }
+    {
+        !self.has_room()
+    }
+
+    /// Goes on in a new segment, from what this one leaves, which is finished and in which an input is paused. Tables and
+    /// stations stay where they are. It takes no memory, and costs O(n) in the addresses and the stations that are kept and
+    /// in the entries that were made, and O(n^2) in the requests, at most 256.
+    pub fn turn(&mut self)
+        requires finished { IsFinished self.old.plan (base_of self.old) self.old.past }
+        requires paused { has_pause self.old.past ≡ true }
+        ensures { IsTurned self.old self.new }
+    {
+        histories_tell_rightly();
+        a_table_goes_on_from_its_states();
+        // each row that is kept has octets, none above 255, as the law on what is told asks
+        let _entries = self.hist.len();
+        let ports = self.ports.plan().ports.as_slice().len() as u32;
+        self.checkpoint
+            .begin(self.moment, self.queues.shut_ports(), &self.tally);
+        keep_ends(&mut self.checkpoint, &self.ends, 2 * ports + 2);
+        keep_rows(&mut self.checkpoint, &self.access);
+        keep_requests(&mut self.checkpoint, &self.access, self.moment);
+        keep_stations(&mut self.checkpoint, &self.fdb, self.moment);
+        self.hist.clear();
+        self.passes = self.ends.passes();
+        self.queues.reopen(ports + 2, &self.ends);
+        self.refused = None;
+    }
+
+    /// Writes the i-th line of what the history goes on from, counting from 0, in place of what the buffer held, and answers
+    /// true; or answers false where there are no more lines. The line is without its line feed. O(1).
+    pub fn put_base(&self, i: u32, into: &mut JournalLine) -> bool
+        ensures line { OnTrue result (Some into.new.items ≡ slice_get (base_texts self.now.plan (base_of self.now)) i) }
+        ensures past { result ≡ false → length (base_texts self.now.plan (base_of self.now)) ≤ i }
+    {
+        self.checkpoint.put_line(self.ports.plan(), i, into)
     }
 
     // Enters a frame.
@@ -472,6 +550,7 @@ impl Core {
     {
         let entry = self.end_entry(who, how);
         self.passes.end(entry.by);
+        self.ends.put(entry.by, how);
         self.queues.end(&self.ports, who, how);
         self.moment = entry.moment;
         self.tally.add(&entry);

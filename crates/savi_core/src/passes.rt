@@ -3,17 +3,14 @@
 ghost use Rattle.std.specs.Prelude.{◌≡◌, ◌≤◌, ◌<◌, true, false, slice_index_or, slice_set};
 ghost use Rattle.savi_core.specs.PassMarks.{all_open, open_among};
 
-use savi_kinds::PORTS_MOST;
+use checkpoint::ENDED_MOST;
 use std::marker::Model;
-
-/// The most passes of a switch: an ingress and an egress for each port, control and the ticker.
-const PASSES_MOST: usize = 2 * PORTS_MOST + 2;
 
 /// Which passes have ended, by number, and how many inputs have not. The inputs have the first numbers.
 #[derive(Drop)]
 pub struct Passes {
     inputs: u32,
-    ended: [bool; PASSES_MOST],
+    ended: [bool; ENDED_MOST],
     inputs_left: u32,
 }
 
@@ -36,8 +33,19 @@ impl Passes {
     {
         Passes {
             inputs,
-            ended: [false; PASSES_MOST],
+            ended: [false; ENDED_MOST],
             inputs_left: inputs,
+        }
+    }
+
+    /// The same passes once more. O(1).
+    pub fn copy(&self) -> Passes
+        ensures { result ≡ self.now }
+    {
+        Passes {
+            inputs: self.inputs,
+            ended: self.ended,
+            inputs_left: self.inputs_left,
         }
     }
 

@@ -1,7 +1,7 @@
 //! The queue of one port, with all that decides on what joins it.
 
 ghost use Rattle.std.specs.Prelude.{◌≡◌, ◌≤◌, not, [], length, map, take, drop, All, IfOk, Some, None, if◌then◌else◌};
-ghost use Rattle.savi_core.specs.Lanes.{empty_lane, goes_at, goes_to, takes_one, takes_none, with_offered, with_probe, with_drained, with_ended};
+ghost use Rattle.savi_core.specs.Lanes.{empty_lane, goes_at, goes_to, takes_one, takes_none, with_offered, with_probe, with_drained, with_ended, with_reopened};
 ghost use Rattle.egress_ring.specs.declared.item.Item.TheVariants as entries;
 ghost use Rattle.savi_core.specs.Rings.{ring_item, shut_in};
 ghost use Rattle.savi_core.specs.Waits.{AreThere, IsThere, queued_item};
@@ -34,7 +34,7 @@ impl Model for PortQueue {
 
     ghost Value = { Lane Queued };
 
-    ghost view = { λ q. record { number = number_of q.port; trusted = q.trusted; room = q.room; items = q.ring.items } };
+    ghost view = { λ q. record { number = number_of q.port; trusted = q.trusted; depth = q.ring.depth; room = q.room; items = q.ring.items } };
 
     ghost invariant = { λ q. q.room ≤ q.ring.depth };
 }
@@ -135,6 +135,13 @@ impl PortQueue {
             How::Failed => self.ring.wipe(),
             _ => {}
         }
+    }
+
+    /// Items may join again, unless the port's egress has ended for good. O(1).
+    pub fn reopen(&mut self, is_over: bool)
+        ensures { self.new ≡ with_reopened is_over self.old }
+    {
+        self.room = if is_over { 0 } else { self.ring.depth() };
     }
 }
 

@@ -1,6 +1,6 @@
 //! The queues of all ports, in the order of the plan.
 
-ghost use Rattle.std.specs.Prelude.{◌≡◌, ◌<◌, ◌≤◌, ◌&&◌, not, ℕ, false, true, [], length, map, take, IfOk, slice_index_or, slice_set};
+ghost use Rattle.std.specs.Prelude.{◌≡◌, ◌+◌, ◌<◌, ◌≤◌, ◌&&◌, not, ℕ, false, true, [], length, map, take, IfOk, slice_index_or, slice_set};
 ghost use Rattle.egress_ring.specs.declared.item.Item.TheVariants as entries;
 ghost use Rattle.savi_core.specs.Lanes.{cut_at, empty_lane, with_frame, with_drained, no_lane, AreEnded};
 ghost use Rattle.savi_kinds.specs.Ports.{number_of};
@@ -8,9 +8,11 @@ ghost use Rattle.savi_kinds.specs.PortSets.{is_member, no_ports};
 ghost use Rattle.savi_kinds.specs.ValidPlan.{IsValidPlan, numbers_of};
 ghost use Rattle.savi_history.specs.Passes.{has_port, has_pass};
 ghost use Rattle.savi_core.specs.Rings.{Rings, uncounted, rings_after_probe, shut_in, with_shut};
+ghost use Rattle.savi_core.specs.Turns.{reopened};
 ghost use Rattle.savi_core.specs.Waits.{AreThere, queued_item};
 
 use crate::batch::Batch;
+use crate::ends::Ends;
 use crate::port_queue::PortQueue;
 use crate::port_sets::{first, minus, without};
 use crate::ports::Ports;
@@ -161,6 +163,24 @@ impl Queues {
         ensures taken { into.new ≡ take count (map (queued_item mac hist.now.rows) (slice_index_or self.old.lanes place no_lane).items) }
     {
         self.queues[place].drain(hist, mac, count, into);
+    }
+
+    /// A new history begins: items may join again at each port whose egress hasn't ended for good. `first` is the number of
+    /// the first port's egress pass. O(ports), at most 16.
+    pub fn reopen(&mut self, first: u32, ends: &Ends)
+        requires { first + length self.old.lanes ≤ 34 }
+        ensures { self.new ≡ record self.old { lanes = reopened first ends.now.ends self.old.lanes } }
+    {
+        for place in 0..self.queues.len() {
+            self.queues[place].reopen(ends.is_over(first + place as u32));
+        }
+    }
+
+    /// The ports that are shut. O(1).
+    pub fn shut_ports(&self) -> PortSet
+        ensures { result ≡ self.now.shut }
+    {
+        self.shut
     }
 
     /// A pass of the plan has ended for this reason. Where it is an egress nothing joins at its port any more, and after a

@@ -30,7 +30,7 @@ use Rattle.savi_access.proofs.PlanRules.{own_ports, unspecified_off_link}
 use Rattle.savi_access.proofs.Living.{lives_at}
 use Rattle.savi_access.proofs.States.{off_link}
 use Rattle.savi_access.proofs.FirstCome.{keeps_first}
-use Rattle.savi_history.specs.Bases.{Base, access_of}
+use Rattle.checkpoint.specs.Bases.{Base, access_of}
 use Rattle.savi_history.specs.Vlans.{the_vlan}
 use Rattle.savi_history.specs.Limits.{IsWithinLimits}
 use Rattle.savi_history.specs.Moments.{last_moment, moment_at}

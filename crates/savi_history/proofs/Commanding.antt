@@ -32,7 +32,7 @@ use Rattle.savi_access.specs.Plans.{rules_of, has_port, role_of, method_in}
 use Rattle.savi_access.proofs.States.{told_past, told_before}
 use Rattle.savi_access.proofs.Keeping.{told_follows}
 use Rattle.savi_access.proofs.PlanRules.{own_ports}
-use Rattle.savi_history.specs.Bases.{Base, access_of}
+use Rattle.checkpoint.specs.Bases.{Base, access_of}
 use Rattle.savi_history.specs.Limits.{IsWithinLimits}
 use Rattle.savi_history.specs.Vlans.{the_vlan}
 use Rattle.savi_history.specs.Passes.{is_trusted}

@@ -12,7 +12,7 @@ use Rattle.savi_kinds.specs.Arrivals.{Arrival}
 use Rattle.savi_kinds.specs.Arrivals as arrivals
 use Rattle.cli_lang.specs.Arrivals.{Line}
 use Rattle.hist_store.specs.Rows.{Row}
-use Rattle.savi_history.specs.Bases.{Base}
+use Rattle.checkpoint.specs.Bases.{Base}
 use Rattle.savi_history.specs.Passes.{pass_of, has_ended, has_port, control_pass, egress_pass}
 use Rattle.savi_history.specs.Limits.{has_room}
 use Rattle.savi_history.specs.Queues.{queue}
@@ -21,7 +21,7 @@ use Rattle.savi_history.specs.Turns.{Turn, Arrives, Commands, Ends, who_of}
 use Rattle.savi_history.specs.Events.{Command, Drain, End}
 use Rattle.savi_history.specs.ControlInputs.{entered_lines, control_end}
 use Rattle.savi_history.specs.ControlOutputs.{replies}
-use Rattle.savi_history.specs.Replay.{PortStops, Stops, is_stopped, pieces_by, event_of, with_event, with_failure, begun, with_drain, drained, entered, after, with_end, egress_ended}
+use Rattle.savi_history.specs.Replay.{PortStops, Stops, is_stopped, pieces_by, event_of, with_event, with_failure, begun, with_drain, drained, entered, after, closing, with_end, egress_ended}
 use Rattle.savi_history.proofs.PassNumbers.{known_at}
 use Rattle.savi_history.proofs.PortPlaces.{place_within}
 use Rattle.savi_history.proofs.Replaying.{IsAt, IsOurs, anything}
@@ -81,12 +81,12 @@ module _ (plan : Plan) (base : Base) where
     ended_same = ended_other plan base past (passes.Egress port) how (control_pass plan) (λ same. absurd (omega (arith, same)));
   }
 
-  pub control_ticker : (past : List Row) → ControlSame plan base past (with_event plan base past (End passes.Ticker hows.End))
+  pub control_ticker : (past : List Row) → ControlSame plan base past (with_event plan base past (End passes.Ticker (closing past)))
   control_ticker past = record {
     lines_same = append-nil (entered_lines past);
     end_same = refl;
     replies_same = append-nil (replies plan base past);
-    ended_same = ended_other plan base past passes.Ticker hows.End (control_pass plan) (λ same. absurd (omega (arith, same)));
+    ended_same = ended_other plan base past passes.Ticker (closing past) (control_pass plan) (λ same. absurd (omega (arith, same)));
   }
 
   failure_at : (past : List Row) (port : Port) (b : Bool) → ControlSame plan base past (if b then with_event plan base past (End (passes.Egress port) hows.Failed) else past)
@@ -119,9 +119,9 @@ module _ (plan : Plan) (base : Base) where
       let mid = with_drain plan base stops q.number (length (queue plan base (number_of q.number) past)) past in
       control_then past mid (drained plan base stops qs mid) (control_drain stops past q.number (length (queue plan base (number_of q.number) past))) (control_drained stops qs mid)
 
-  close_at : (past : List Row) (port : Port) (b : Bool) → ControlSame plan base past (if b then past else with_event plan base past (End (passes.Egress port) hows.End))
+  close_at : (past : List Row) (port : Port) (b : Bool) → ControlSame plan base past (if b then past else with_event plan base past (End (passes.Egress port) (closing past)))
   close_at past port true = control_self past
-  close_at past port false = control_egress past port hows.End
+  close_at past port false = control_egress past port (closing past)
 
   pub control_close : (past : List Row) (port : Port) → ControlSame plan base past (with_end plan base port past)
   control_close past port = close_at past port (has_ended base (egress_pass plan (number_of port)) past)
@@ -133,19 +133,19 @@ module _ (plan : Plan) (base : Base) where
       control_then past mid (egress_ended plan base qs mid) (control_close past q.number) (control_closed qs mid)
 
   -- behind the ends of all inputs control does nothing more
-  pub control_finished : (past : List Row) → ControlSame plan base past (egress_ended plan base plan.ports (with_event plan base past (End passes.Ticker hows.End)))
+  pub control_finished : (past : List Row) → ControlSame plan base past (egress_ended plan base plan.ports (with_event plan base past (End passes.Ticker (closing past))))
   control_finished past =
-      let ticked = with_event plan base past (End passes.Ticker hows.End) in
+      let ticked = with_event plan base past (End passes.Ticker (closing past)) in
       control_then past ticked (egress_ended plan base plan.ports ticked) (control_ticker past) (control_closed plan.ports ticked)
 
   -- turns of ports
 
   arrival_at : (stops : Stops) (past : List Row) (port : Port) (a : Arrival) (b : Bool) → IsAt plan (number_of port)
-      → ControlSame plan base past (if b then drained plan base stops.ports plan.ports (with_event plan base past (event_of port a)) else with_event plan base past (End (passes.Ingress port) (hows.Full (length past))))
+      → ControlSame plan base past (if b then drained plan base stops.ports plan.ports (with_event plan base past (event_of port a)) else with_event plan base past (End (passes.Ingress port) hows.Paused))
   arrival_at stops past port a true at =
       let mid = with_event plan base past (event_of port a) in
       control_then past mid (drained plan base stops.ports plan.ports mid) (control_arrival past port a) (control_drained stops.ports plan.ports mid)
-  arrival_at stops past port a false at = control_ingress past port (hows.Full (length past)) at
+  arrival_at stops past port a false at = control_ingress past port hows.Paused at
 
   pub control_entered : (stops : Stops) (t : Turn) (past : List Row) → IsOurs plan anything t → is_control t ≡ false → ControlSame plan base past (entered plan base stops t past)
   control_entered stops (Arrives port a) past ours other = arrival_at stops past port a (has_room plan past) ours

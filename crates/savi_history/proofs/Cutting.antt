@@ -9,7 +9,7 @@ use Rattle.savi_kinds.specs.declared.port.PortSet.{PortSet}
 use Rattle.savi_kinds.specs.declared.entry.Act.{Act}
 use Rattle.savi_kinds.specs.PortSets.{is_member}
 use Rattle.hist_store.specs.Rows.{Row}
-use Rattle.savi_history.specs.Bases.{Base}
+use Rattle.checkpoint.specs.Bases.{Base}
 use Rattle.savi_history.specs.Passes.{has_port, place_of}
 use Rattle.savi_history.specs.Queues.{Item, item_of, room_at, all_joined, offered_at, queue, is_closed, cuts}
 use Rattle.savi_history.specs.QueueLaws.{frame_to, IsLeftOut, AreCut}

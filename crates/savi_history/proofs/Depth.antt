@@ -10,7 +10,7 @@ use Rattle.savi_kinds.specs.declared.entry.How.TheVariants as hows
 use Rattle.savi_kinds.specs.Ports.{number_of}
 use Rattle.savi_kinds.specs.PortSets.{is_member}
 use Rattle.hist_store.specs.Rows.{Row}
-use Rattle.savi_history.specs.Bases.{Base}
+use Rattle.checkpoint.specs.Bases.{Base}
 use Rattle.savi_history.specs.Queues.{Item, item_of, room_at, joined_queue, offered_at, probed, waiting_after, queue}
 use Rattle.savi_history.proofs.Joining.{joined_within, room_low}
 
@@ -30,7 +30,7 @@ ended_fewer plan base past q r (passes.Egress p) hows.Quit items = omega arith
 ended_fewer plan base past q r (passes.Egress p) (hows.Malformed at) items = omega arith
 ended_fewer plan base past q r (passes.Egress p) (hows.Overlong at) items = omega arith
 ended_fewer plan base past q r (passes.Egress p) hows.Unwritten items = omega arith
-ended_fewer plan base past q r (passes.Egress p) (hows.Full len) items = omega arith
+ended_fewer plan base past q r (passes.Egress p) hows.Paused items = omega arith
 ended_fewer plan base past q r (passes.Ingress p) how items = omega arith
 ended_fewer plan base past q r passes.Control how items = omega arith
 ended_fewer plan base past q r passes.Ticker how items = omega arith

@@ -6,7 +6,7 @@ use Rattle.savi_kinds.specs.declared.plan.Plan.{Plan}
 use Rattle.savi_kinds.specs.declared.entry.Who.TheVariants.{Ingress, Control, Ticker, Egress}
 use Rattle.savi_kinds.specs.Ports.{number_of}
 use Rattle.hist_store.specs.Rows.{Row}
-use Rattle.savi_history.specs.Bases.{empty}
+use Rattle.checkpoint.specs.Bases.{empty}
 use Rattle.savi_history.specs.Passes.{has_ended, has_port, pass_of, egress_pass}
 use Rattle.savi_history.specs.Events as events
 use Rattle.savi_history.specs.Events.{row_of}

@@ -10,7 +10,7 @@ use Rattle.savi_kinds.specs.Ports.{number_of}
 use Rattle.savi_kinds.specs.Arrivals.{Arrival}
 use Rattle.cli_lang.specs.Arrivals.{Line}
 use Rattle.hist_store.specs.Rows.{Row}
-use Rattle.savi_history.specs.Bases.{Base}
+use Rattle.checkpoint.specs.Bases.{Base}
 use Rattle.savi_history.specs.Limits.{has_room}
 use Rattle.savi_history.specs.Passes.{pass_of, has_ended}
 use Rattle.savi_history.specs.Queues.{queue}
@@ -55,14 +55,14 @@ later_drained plan base stops (q ∷ qs) past pass is =
     later_drained plan base stops qs (with_drain plan base stops q.number count past) pass (later_drain plan base stops q.number (count == 0) count past pass is)
 
 later_arrival : (plan : Plan) (base : Base) (stops : Stops) (port : Port) (arrival : Arrival) (past : List Row) (b : Bool)
-    → Later base past (if b then drained plan base stops.ports plan.ports (with_event plan base past (event_of port arrival)) else with_event plan base past (End (passes.Ingress port) (hows.Full (length past))))
+    → Later base past (if b then drained plan base stops.ports plan.ports (with_event plan base past (event_of port arrival)) else with_event plan base past (End (passes.Ingress port) hows.Paused))
 later_arrival plan base stops port arrival past true pass is = later_drained plan base stops.ports plan.ports _ pass (later_event plan base past (event_of port arrival) pass is)
-later_arrival plan base stops port arrival past false pass is = later_event plan base past (End (passes.Ingress port) (hows.Full (length past))) pass is
+later_arrival plan base stops port arrival past false pass is = later_event plan base past (End (passes.Ingress port) hows.Paused) pass is
 
 later_line : (plan : Plan) (base : Base) (stops : Stops) (line : Line) (past : List Row) (b : Bool)
     → Later base past (if b
     then drained plan base stops.ports plan.ports (with_reply plan base stops.control line (with_event plan base past (Command line.stamp line.command)))
-    else with_event plan base past (End passes.Control (hows.Full (length past))))
+    else with_event plan base past (End passes.Control hows.Paused))
 later_line plan base stops line past true pass is =
     let commanded = with_event plan base past (Command line.stamp line.command) in
     let is_commanded : has_ended base pass commanded ≡ true = later_event plan base past (Command line.stamp line.command) pass is in
@@ -70,7 +70,7 @@ later_line plan base stops line past true pass is =
     (behind_reply plan base line commanded (λ now. has_ended base pass now ≡ true) is_commanded
     (later_event plan base commanded (End passes.Control hows.Unwritten) pass is_commanded)
     (later_event plan base commanded (End passes.Control hows.Quit) pass is_commanded) stops.control)
-later_line plan base stops line past false pass is = later_event plan base past (End passes.Control (hows.Full (length past))) pass is
+later_line plan base stops line past false pass is = later_event plan base past (End passes.Control hows.Paused) pass is
 
 later_entered : (plan : Plan) (base : Base) (stops : Stops) (turn : Turn) (past : List Row) → Later base past (entered plan base stops turn past)
 later_entered plan base stops (Arrives port arrival) past = later_arrival plan base stops port arrival past (has_room plan past)

@@ -12,7 +12,7 @@ use Rattle.savi_kinds.specs.Arrivals.{Arrival, Input}
 use Rattle.cli_lang.specs.Arrivals.{Line}
 use Rattle.cli_lang.specs.Arrivals as control
 use Rattle.hist_store.specs.Rows.{Row}
-use Rattle.savi_history.specs.Bases.{empty}
+use Rattle.checkpoint.specs.Bases.{empty}
 use Rattle.savi_history.specs.Limits.{has_room}
 use Rattle.savi_history.specs.Passes.{pass_of, has_ended, control_pass}
 use Rattle.savi_history.specs.Events.{Command, End}
@@ -117,7 +117,7 @@ module _ (plan : Plan) (stops : Stops) (input : control.Input) (fits : IsControl
   ends_so (hows.Overlong at) past is so all none = record { all = sym all; ending = so; none = none }
   ends_so hows.Failed past is so all none = record { all = sym all; ending = so; none = none }
   ends_so hows.Unwritten past is so all none = absurd is
-  ends_so (hows.Full len) past is so all none = absurd is
+  ends_so hows.Paused past is so all none = absurd is
 
   -- control ends, and what was entered fits that
   over_now : (past : List Row) (how : How) → AreEntered input (entered_lines past) (Some how) → IsOver (with_event plan empty past (End passes.Control how))
@@ -147,12 +147,12 @@ module _ (plan : Plan) (stops : Stops) (input : control.Input) (fits : IsControl
       running = running;
     })
 
-    command_at : (b : Bool) → State ts (if b then drained plan empty stops.ports plan.ports (with_reply plan empty stops.control line mid) else with_event plan empty past (End passes.Control (hows.Full (length past))))
+    command_at : (b : Bool) → State ts (if b then drained plan empty stops.ports plan.ports (with_reply plan empty stops.control line mid) else with_event plan empty past (End passes.Control hows.Paused))
     command_at true =
         let answered = with_reply plan empty stops.control line mid in
         state_same ts answered (drained plan empty stops.ports plan.ports answered) (control_drained plan empty stops.ports plan.ports answered)
         (replied_at (is_stopped stops.control (length (replies plan empty mid))) (is_quit line) refl)
-    command_at false = inr (over_now past (hows.Full (length past)) (record { refused = line; behind = rest; all = all; none = none }))
+    command_at false = inr (over_now past hows.Paused (record { refused = line; behind = rest; all = all; none = none }))
 
   head_is : (x y : Turn) (xs ys : List Turn) → x ∷ xs ≡ y ∷ ys → (x ≡ y) × (xs ≡ ys)
   head_is x y xs ys e = (cc, cc)

@@ -12,7 +12,7 @@ use Rattle.savi_kinds.specs.declared.entry.Act.TheVariants as acts
 use Rattle.savi_kinds.specs.declared.entry.Act.{Act}
 use Rattle.savi_kinds.specs.declared.entry.Who.TheVariants as passes
 use Rattle.savi_kinds.specs.declared.entry.How.TheVariants as hows
-use Rattle.savi_kinds.specs.Arrivals.{Arrival, Input}
+use Rattle.savi_kinds.specs.Arrivals.{Input}
 use Rattle.savi_kinds.specs.Arrivals as arrivals
 use Rattle.v6_chain.specs.Kinds.{kind_of}
 use Rattle.nd_read.specs.Messages.{named}
@@ -21,7 +21,7 @@ use Rattle.frame_class.specs.ClassOf.{class_of}
 use Rattle.ra_guard.specs.GuardOf.{guard_of}
 use Rattle.cli_lang.specs.Arrivals as control
 use Rattle.hist_store.specs.Rows.{Row}
-use Rattle.savi_history.specs.Bases.{empty}
+use Rattle.checkpoint.specs.Bases.{empty}
 use Rattle.savi_history.specs.Merges.{merged}
 use Rattle.savi_history.specs.Turns.{Arrives, Commands, Ends, turn_at, all_turns}
 use Rattle.savi_history.specs.Replay.{Stops, replayed}

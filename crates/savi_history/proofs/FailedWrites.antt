@@ -18,14 +18,14 @@ use Rattle.savi_kinds.specs.Arrivals as arrivals
 use Rattle.cli_lang.specs.Arrivals.{Line}
 use Rattle.cli_lang.specs.Arrivals as control
 use Rattle.hist_store.specs.Rows.{Row}
-use Rattle.savi_history.specs.Bases.{Base}
+use Rattle.checkpoint.specs.Bases.{Base}
 use Rattle.savi_history.specs.Passes.{pass_of, control_pass, egress_pass, has_ended}
 use Rattle.savi_history.specs.Queues.{queue}
 use Rattle.savi_history.specs.Events.{Command, Drain, End}
-use Rattle.savi_history.specs.Replay.{Stops, is_stopped, pieces_by, event_of, with_event, with_failure, begun, with_reply, replayed}
+use Rattle.savi_history.specs.Replay.{Stops, is_stopped, pieces_by, event_of, with_event, with_failure, begun, with_reply, replayed, closing}
 use Rattle.savi_history.specs.PortOutputs.{output_end, output_ended_by, output_ended_behind}
 use Rattle.savi_history.specs.ControlInputs.{control_end, control_ended_by, control_ended_behind}
-use Rattle.savi_history.specs.Endings.{has_failed_write, is_failed_write, is_failed_write_of, is_failed_reason, is_unwritten_reason}
+use Rattle.savi_history.specs.Endings.{has_pause, has_failed_write, is_failed_write, is_failed_write_of, is_failed_reason, is_unwritten_reason}
 use Rattle.savi_history.proofs.Ends.{Later, later_event}
 use Rattle.savi_history.proofs.Replying.{behind_reply}
 use Rattle.savi_history.proofs.Replaying.{IsAt, anything, EndsInput, IsKept, all_control, replay_has, at_place}
@@ -44,7 +44,7 @@ unwritten_how (hows.Malformed at) is = cc
 unwritten_how (hows.Overlong at) is = cc
 unwritten_how hows.Failed is = cc
 unwritten_how hows.Unwritten is = refl
-unwritten_how (hows.Full len) is = cc
+unwritten_how hows.Paused is = cc
 
 -- the history says of a port of the plan that a write failed there, or of control
 abbrev IsTold : Plan → List Row → Type 0
@@ -108,8 +108,8 @@ module _ (plan : Plan) (base : Base) (stops : Stops) where
   tells_input past passes.Ticker how is running tells = absurd is
   tells_input past (passes.Egress port) how is running tells = absurd is
 
-  tells_ticker : (past : List Row) → Tells plan base past → Tells plan base (with_event plan base past (End passes.Ticker hows.End))
-  tells_ticker past tells = tells_kept past (with_event plan base past (End passes.Ticker hows.End)) (record { failed_same = refl; ends_same = λ n. refl; control_same = refl; later = later_event plan base past (End passes.Ticker hows.End) }) tells
+  tells_ticker : (past : List Row) → Tells plan base past → Tells plan base (with_event plan base past (End passes.Ticker (closing past)))
+  tells_ticker past tells = tells_kept past (with_event plan base past (End passes.Ticker (closing past))) (record { failed_same = refl; ends_same = λ n. refl; control_same = refl; later = later_event plan base past (End passes.Ticker (closing past)) }) tells
 
   -- behind the end of an egress its own output has ended
   ended_behind : (past : List Row) (port : Port) (how : How) → Tells plan base past → (n : ℕ) → (number_of port ≡ n) ⊎ (number_of port ≢ n) → IsSome (output_end n (with_event plan base past (End (passes.Egress port) how)))
@@ -144,16 +144,20 @@ module _ (plan : Plan) (base : Base) (stops : Stops) where
       let open_now : has_ended base (egress_pass plan n) past ≡ false = subst (λ (m : ℕ). has_ended base (egress_pass plan m) past ≡ false) same running in
       cc
 
-  told_close : (past : List Row) (port : Port) → has_ended base (egress_pass plan (number_of port)) past ≡ false → Tells plan base past → IsTold plan past → IsTold plan (with_event plan base past (End (passes.Egress port) hows.End))
+  told_close : (past : List Row) (port : Port) → has_ended base (egress_pass plan (number_of port)) past ≡ false → Tells plan base past → IsTold plan past → IsTold plan (with_event plan base past (End (passes.Egress port) (closing past)))
   told_close past port running tells (inl was) = inl (was.0, was.1, rw (apart (number_of port) was.0 (not_this past port was.0 tells running was.2)) was.2)
   told_close past port running tells (inr was) = inr was
 
-  tells_close : (past : List Row) (port : Port) (b : Bool) → has_ended base (egress_pass plan (number_of port)) past ≡ b → Tells plan base past → Tells plan base (if b then past else with_event plan base past (End (passes.Egress port) hows.End))
+  closing_fails_not : (b : Bool) → is_failed_reason (if b then hows.Paused else hows.End) ≡ false
+  closing_fails_not true = refl
+  closing_fails_not false = refl
+
+  tells_close : (past : List Row) (port : Port) (b : Bool) → has_ended base (egress_pass plan (number_of port)) past ≡ b → Tells plan base past → Tells plan base (if b then past else with_event plan base past (End (passes.Egress port) (closing past)))
   tells_close past port true running tells = tells
   tells_close past port false running tells = record {
-    failed = λ is. told_close past port running tells (tells.failed is);
-    ended = λ n. ended_behind past port hows.End tells n (cases_eq (number_of port) n);
-    control = λ is. later_event plan base past (End (passes.Egress port) hows.End) (control_pass plan) (tells.control is);
+    failed = λ is. told_close past port running tells (tells.failed (sym (ap (λ (b : Bool). b || has_failed_write past) (closing_fails_not (has_pause past))) ∙ is));
+    ended = λ n. ended_behind past port (closing past) tells n (cases_eq (number_of port) n);
+    control = λ is. later_event plan base past (End (passes.Egress port) (closing past)) (control_pass plan) (tells.control is);
   }
 
   tells_each : IsKept plan base stops anything (λ past. Tells plan base past)

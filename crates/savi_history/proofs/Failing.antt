@@ -16,11 +16,11 @@ use Rattle.savi_kinds.specs.Arrivals as arrivals
 use Rattle.cli_lang.specs.Arrivals.{Line}
 use Rattle.cli_lang.specs.Arrivals as control
 use Rattle.hist_store.specs.Rows.{Row}
-use Rattle.savi_history.specs.Bases.{Base}
+use Rattle.checkpoint.specs.Bases.{Base}
 use Rattle.savi_history.specs.Passes.{pass_of, place_of, control_pass, egress_pass, has_ended}
 use Rattle.savi_history.specs.Queues.{queue}
 use Rattle.savi_history.specs.Events.{Command, Drain, End}
-use Rattle.savi_history.specs.Replay.{Stops, is_stopped, pieces_by, event_of, with_event, with_failure, begun, with_drain, with_reply, with_end, replayed}
+use Rattle.savi_history.specs.Replay.{Stops, is_stopped, pieces_by, event_of, with_event, with_failure, begun, with_drain, with_reply, closing, with_end, replayed}
 use Rattle.savi_history.specs.PortInputs.{input_end}
 use Rattle.savi_history.specs.ControlInputs.{control_end}
 use Rattle.savi_history.specs.Endings.{has_failed, is_failed_reason}
@@ -52,7 +52,7 @@ failed_how (hows.Malformed at) is = cc
 failed_how (hows.Overlong at) is = cc
 failed_how hows.Failed is = refl
 failed_how hows.Unwritten is = cc
-failed_how (hows.Full len) is = cc
+failed_how hows.Paused is = cc
 
 module _ (plan : Plan) (base : Base) (stops : Stops) where
   -- what changes neither
@@ -156,8 +156,8 @@ module _ (plan : Plan) (base : Base) (stops : Stops) where
       let tells_mid = tells_kept past mid (record { failed_same = refl; ends_same = λ n. refl; control_same = refl; later = λ pass is. is }) tells in
       behind_reply plan base line mid (λ now. Tells plan base now) tells_mid (tells_control mid tells_mid hows.Unwritten running) (tells_control mid tells_mid hows.Quit running) stops.control
 
-  tells_ticker : (past : List Row) → Tells plan base past → Tells plan base (with_event plan base past (End passes.Ticker hows.End))
-  tells_ticker past tells = tells_kept past (with_event plan base past (End passes.Ticker hows.End)) (record { failed_same = refl; ends_same = λ n. refl; control_same = refl; later = later_event plan base past (End passes.Ticker hows.End) }) tells
+  tells_ticker : (past : List Row) → Tells plan base past → Tells plan base (with_event plan base past (End passes.Ticker (closing past)))
+  tells_ticker past tells = tells_kept past (with_event plan base past (End passes.Ticker (closing past))) (record { failed_same = refl; ends_same = λ n. refl; control_same = refl; later = later_event plan base past (End passes.Ticker (closing past)) }) tells
 
   tells_end : (past : List Row) (who : Who) (how : How) → EndsInput plan anything who how → has_ended base (pass_of plan who) past ≡ false → Tells plan base past → Tells plan base (with_event plan base past (End who how))
   tells_end past (passes.Ingress port) how is running tells = tells_ended past tells port how running (λ reason. is)
@@ -165,9 +165,9 @@ module _ (plan : Plan) (base : Base) (stops : Stops) where
   tells_end past passes.Ticker how is running tells = absurd is
   tells_end past (passes.Egress port) how is running tells = absurd is
 
-  keeps_close : (past : List Row) (port : Port) (b : Bool) → Keeps past (if b then past else with_event plan base past (End (passes.Egress port) hows.End))
+  keeps_close : (past : List Row) (port : Port) (b : Bool) → Keeps past (if b then past else with_event plan base past (End (passes.Egress port) (closing past)))
   keeps_close past port true = record { failed_same = refl; ends_same = λ n. refl; control_same = refl; later = λ pass is. is }
-  keeps_close past port false = record { failed_same = refl; ends_same = λ n. refl; control_same = refl; later = later_event plan base past (End (passes.Egress port) hows.End) }
+  keeps_close past port false = record { failed_same = refl; ends_same = λ n. refl; control_same = refl; later = later_event plan base past (End (passes.Egress port) (closing past)) }
 
   tells_each : IsKept plan base stops anything (λ past. Tells plan base past)
   tells_each = record {

@@ -15,13 +15,13 @@ use Rattle.savi_kinds.specs.Arrivals.{Arrival, Input}
 use Rattle.cli_lang.specs.Arrivals.{Line}
 use Rattle.cli_lang.specs.Arrivals as control
 use Rattle.hist_store.specs.Rows.{Row}
-use Rattle.savi_history.specs.Bases.{Base}
+use Rattle.checkpoint.specs.Bases.{Base}
 use Rattle.savi_history.specs.Passes.{pass_of, has_ended, place_of, pass_count, control_pass, ticker_pass, egress_pass}
 use Rattle.savi_history.specs.Events.{End}
 use Rattle.savi_history.specs.Legal.{IsFinished}
 use Rattle.savi_history.specs.Merges.{enter, merge, merged}
 use Rattle.savi_history.specs.Turns.{Turn, Arrives, Commands, Ends, turn_at, port_turns, control_turns, all_turns}
-use Rattle.savi_history.specs.Replay.{Stops, with_event, begun, with_end, after, after_all, egress_ended, replayed}
+use Rattle.savi_history.specs.Replay.{Stops, with_event, begun, closing, with_end, after, after_all, egress_ended, replayed}
 use Rattle.savi_history.proofs.Ends.{Later, later_event, later_after, after_open}
 use Rattle.savi_history.proofs.Waiting.{ended_now}
 use Rattle.savi_history.proofs.PassNumbers.{number_at, place_at}
@@ -112,17 +112,17 @@ ended_all plan base stops pass (Ends who how ∷ xs) past (inl here) =
     later_all plan base stops xs (after plan base stops (Ends who how) past) pass (subst (λ (n : ℕ). has_ended base n (after plan base stops (Ends who how) past) ≡ true) here (ended_here plan base stops who how past))
 ended_all plan base stops pass (Ends who how ∷ xs) past (inr there) = ended_all plan base stops pass xs (after plan base stops (Ends who how) past) there
 
-later_end_at : (plan : Plan) (base : Base) (port : Port) (past : List Row) (b : Bool) → Later base past (if b then past else with_event plan base past (End (passes.Egress port) hows.End))
+later_end_at : (plan : Plan) (base : Base) (port : Port) (past : List Row) (b : Bool) → Later base past (if b then past else with_event plan base past (End (passes.Egress port) (closing past)))
 later_end_at plan base port past true pass is = is
-later_end_at plan base port past false pass is = later_event plan base past (End (passes.Egress port) hows.End) pass is
+later_end_at plan base port past false pass is = later_event plan base past (End (passes.Egress port) (closing past)) pass is
 
 pub later_end : (plan : Plan) (base : Base) (port : Port) (past : List Row) → Later base past (with_end plan base port past)
 later_end plan base port past = later_end_at plan base port past (has_ended base (egress_pass plan (number_of port)) past)
 
 ended_by_end_at : (plan : Plan) (base : Base) (port : Port) (past : List Row) (b : Bool) → has_ended base (egress_pass plan (number_of port)) past ≡ b
-    → has_ended base (egress_pass plan (number_of port)) (if b then past else with_event plan base past (End (passes.Egress port) hows.End)) ≡ true
+    → has_ended base (egress_pass plan (number_of port)) (if b then past else with_event plan base past (End (passes.Egress port) (closing past))) ≡ true
 ended_by_end_at plan base port past true is = is
-ended_by_end_at plan base port past false is = ended_now plan base past (passes.Egress port) hows.End
+ended_by_end_at plan base port past false is = ended_now plan base past (passes.Egress port) (closing past)
 
 -- an egress has ended then, as it had or now
 pub ended_by_end : (plan : Plan) (base : Base) (port : Port) (past : List Row) → has_ended base (egress_pass plan (number_of port)) (with_end plan base port past) ≡ true
@@ -146,7 +146,7 @@ module _ (plan : Plan) (base : Base) (lines : Option control.Input) (inputs : Li
 
   through : (pass : ℕ) → has_ended base pass before ≡ true → has_ended base pass (replayed plan base lines inputs stops) ≡ true
   through pass is =
-      later_egress plan base plan.ports (with_event plan base before (End passes.Ticker hows.End)) pass (later_event plan base before (End passes.Ticker hows.End) pass is)
+      later_egress plan base plan.ports (with_event plan base before (End passes.Ticker (closing before))) pass (later_event plan base before (End passes.Ticker (closing before)) pass is)
 
   ingress_ended : (pass : ℕ) → pass < length plan.ports → has_ended base pass before ≡ true
   ingress_ended pass inside =
@@ -161,7 +161,7 @@ module _ (plan : Plan) (base : Base) (lines : Option control.Input) (inputs : Li
   finished_low pass (inr outside) below = subst (λ (n : ℕ). has_ended base n before ≡ true) (omega arith) control_ended
 
   ticker_ended : has_ended base (ticker_pass plan) (replayed plan base lines inputs stops) ≡ true
-  ticker_ended = later_egress plan base plan.ports (with_event plan base before (End passes.Ticker hows.End)) (ticker_pass plan) (ended_now plan base before passes.Ticker hows.End)
+  ticker_ended = later_egress plan base plan.ports (with_event plan base before (End passes.Ticker (closing before))) (ticker_pass plan) (ended_now plan base before passes.Ticker (closing before))
 
   finished_high : (pass : ℕ) → (pass ≡ ticker_pass plan) ⊎ (pass ≢ ticker_pass plan) → length plan.ports + 1 ≤ pass → pass < pass_count plan → has_ended base pass (replayed plan base lines inputs stops) ≡ true
   finished_high pass (inl same) above below = subst (λ (n : ℕ). has_ended base n (replayed plan base lines inputs stops) ≡ true) (sym same) ticker_ended
@@ -170,7 +170,7 @@ module _ (plan : Plan) (base : Base) (lines : Option control.Input) (inputs : Li
       let inside : k < length plan.ports = omega arith in
       let place = place_at plan k rising inside in
       let is : egress_pass plan (number_at plan k) ≡ pass = omega arith in
-      subst (λ (n : ℕ). has_ended base n (replayed plan base lines inputs stops) ≡ true) is (egress_all plan base plan.ports (with_event plan base before (End passes.Ticker hows.End)) k inside)
+      subst (λ (n : ℕ). has_ended base n (replayed plan base lines inputs stops) ≡ true) is (egress_all plan base plan.ports (with_event plan base before (End passes.Ticker (closing before))) k inside)
 
   finished_at : (pass : ℕ) → (pass < length plan.ports + 1) ⊎ (length plan.ports + 1 ≤ pass) → pass < pass_count plan → has_ended base pass (replayed plan base lines inputs stops) ≡ true
   finished_at pass (inl low) below = through pass (finished_low pass (cases_lt pass (length plan.ports)) low)

@@ -19,14 +19,15 @@ use Rattle.savi_kinds.specs.Arrivals as arrivals
 use Rattle.cli_lang.specs.Arrivals.{Line}
 use Rattle.cli_lang.specs.Arrivals as control
 use Rattle.hist_store.specs.Rows.{Row}
-use Rattle.savi_history.specs.Bases.{empty}
+use Rattle.checkpoint.specs.Bases.{empty}
 use Rattle.savi_history.specs.Passes.{egress_pass, has_ended, has_port}
 use Rattle.savi_history.specs.Queues.{Item, queue, sent}
 use Rattle.savi_history.specs.Outputs.{sent_items}
 use Rattle.savi_history.specs.Events.{Command, Drain, End}
+use Rattle.savi_history.specs.Endings.{has_pause}
 use Rattle.savi_history.specs.Legal.{IsLegal}
 use Rattle.savi_history.specs.Readable.{IsInput, IsControl}
-use Rattle.savi_history.specs.Replay.{Stops, is_stopped, pieces_by, event_of, with_event, with_failure, begun, with_reply, replayed}
+use Rattle.savi_history.specs.Replay.{Stops, is_stopped, pieces_by, event_of, with_event, with_failure, begun, with_reply, replayed, closing}
 use Rattle.savi_history.specs.PortOutputs.{output_end, pieces, TookPieces, text_before_last_drain, FitsOutput, FitsOutputAt}
 use Rattle.pcap_io.specs.Captures.{capture_text}
 use Rattle.savi_history.proofs.PassNumbers.{number_at, known_at, place_at}
@@ -167,7 +168,7 @@ module _ (plan : Plan) (stops : Stops) (n : ℕ) (known : has_port plan n ≡ tr
       let test = is_stopped (stops.ports (number_of port)) (pieces_by plan empty (number_of port) mid) in
       let legal_past = (legal_mid mid port test legal).1 in
       let waits : 0 < length (queue plan empty n past) = subst (λ (m : ℕ). 0 < length (queue plan empty m past)) here (some_positive (queue plan empty (number_of port) past) is) in
-      let running = waits_open plan past n legal_past known waits in
+      let running = waits_open plan empty past n legal_past known waits in
       drained_here past port count test here (ap (λ (m : ℕ). is_stopped (stops.ports m) (pieces_by plan empty m mid)) (sym here)) (open_output past legal_past running) (has legal_past)
   has_drain_at past port false (inr other) is has legal =
       let count = length (queue plan empty (number_of port) past) in
@@ -178,21 +179,25 @@ module _ (plan : Plan) (stops : Stops) (n : ℕ) (known : has_port plan n ≡ tr
 
   -- ends of outputs
 
+  fine_closing : (b : Bool) (items : List Item) (text : List ℕ) → is_stopped stop (suc (length items)) ≡ false → Fine stop (Some (if b then hows.Paused else hows.End)) items text
+  fine_closing true items text fine = fine
+  fine_closing false items text fine = fine
+
   has_close_at : (past : List Row) (port : Port) (b : Bool) → (number_of port ≡ n) ⊎ (number_of port ≢ n) → has_ended empty (egress_pass plan (number_of port)) past ≡ b → Has past
-      → Has (if b then past else with_event plan empty past (End (passes.Egress port) hows.End))
+      → Has (if b then past else with_event plan empty past (End (passes.Egress port) (closing past)))
   has_close_at past port true where_is is has legal = has legal
   has_close_at past port false (inl here) is has legal =
-      let now = with_event plan empty past (End (passes.Egress port) hows.End) in
+      let now = with_event plan empty past (End (passes.Egress port) (closing past)) in
       let same : (number_of port == n) ≡ true = subst (λ (m : ℕ). (number_of port == m) ≡ true) here (itself (number_of port)) in
       let running : has_ended empty (egress_pass plan n) past ≡ false = subst (λ (m : ℕ). has_ended empty (egress_pass plan m) past ≡ false) here is in
       let was = open_output past legal.1 running in
       let not_stopped : is_stopped stop (suc (length (sent plan empty n past))) ≡ false =
       subst (λ (o : Option How). Fine stop o (sent plan empty n past) (text_before_last_drain plan empty n past)) was (has legal.1) in
-      let ends : output_end n now ≡ Some hows.End = rw same refl in
-      let sent_now : sent plan empty n now ≡ sent plan empty n past = sent_end plan empty past (passes.Egress port) hows.End n in
+      let ends : output_end n now ≡ Some (closing past) = rw same refl in
+      let sent_now : sent plan empty n now ≡ sent plan empty n past = sent_end plan empty past (passes.Egress port) (closing past) n in
       subst (λ (o : Option How). Fine stop o (sent plan empty n now) (text_before_last_drain plan empty n now)) (sym ends)
-      (ap (λ (items : List Item). is_stopped stop (suc (length items))) sent_now ∙ not_stopped)
-  has_close_at past port false (inr other) is has legal = stands_same past (with_event plan empty past (End (passes.Egress port) hows.End)) (same_other past port hows.End other) (has legal.1)
+      (fine_closing (has_pause past) (sent plan empty n now) (text_before_last_drain plan empty n now) (ap (λ (items : List Item). is_stopped stop (suc (length items))) sent_now ∙ not_stopped))
+  has_close_at past port false (inr other) is has legal = stands_same past (with_event plan empty past (End (passes.Egress port) (closing past))) (same_other past port (closing past) other) (has legal.1)
 
   has_each : IsKept plan empty stops anything Has
   has_each = record {
@@ -200,7 +205,7 @@ module _ (plan : Plan) (stops : Stops) (n : ℕ) (known : has_port plan n ≡ tr
     commands = λ past line comes running has legal. stands_command past line (has (legal_command past line legal));
     ends = λ past who how is running has legal. stands_same past (with_event plan empty past (End who how)) (same_input past who how is) (has legal.1);
     ticks = λ past has legal.
-        stands_same past (with_event plan empty past (End passes.Ticker hows.End)) (record { end_same = refl; sent_same = sent_end plan empty past passes.Ticker hows.End n; text_same = refl }) (has legal.1);
+        stands_same past (with_event plan empty past (End passes.Ticker (closing past))) (record { end_same = refl; sent_same = sent_end plan empty past passes.Ticker (closing past) n; text_same = refl }) (has legal.1);
     drains = λ past port at has. has_drain_at past port (length (queue plan empty (number_of port) past) == 0) (cases_eq (number_of port) n) refl has;
     closes = λ past port at has. has_close_at past port (has_ended empty (egress_pass plan (number_of port)) past) (cases_eq (number_of port) n) refl has;
   }

@@ -16,7 +16,7 @@ use Rattle.savi_ends.specs.Octets.{behind}
 use Rattle.cli_lang.specs.Arrivals.{Line}
 use Rattle.cli_lang.specs.Arrivals as control
 use Rattle.hist_store.specs.Rows.{Row}
-use Rattle.savi_history.specs.Bases.{empty}
+use Rattle.checkpoint.specs.Bases.{empty}
 use Rattle.savi_history.specs.Passes.{pass_of, has_ended, control_pass}
 use Rattle.savi_history.specs.Queues.{queue}
 use Rattle.savi_history.specs.Events.{Command, End}
@@ -25,7 +25,7 @@ use Rattle.savi_history.specs.ControlOutputs.{replies, IsUnwritten, FitsReplies,
 use Rattle.savi_history.specs.PortOutputs.{TookPieces}
 use Rattle.savi_history.specs.Readable.{IsControlEnding, IsControl}
 use Rattle.savi_history.specs.Shown.{shown}
-use Rattle.savi_history.specs.Replay.{Stops, is_stopped, event_of, with_event, begun, with_drain, with_reply, with_end, replayed}
+use Rattle.savi_history.specs.Replay.{Stops, is_stopped, event_of, with_event, begun, with_drain, with_reply, closing, with_end, replayed}
 use Rattle.savi_history.proofs.ControlSame.{ControlSame, control_arrival, control_ingress, control_ticker, control_begun, control_drain, control_close}
 use Rattle.savi_history.proofs.Replaying.{Controlled, MayControl, EndsInput, IsKept, replay_has}
 use Rattle.savi_history.proofs.Waiting.{ended_now}
@@ -40,7 +40,7 @@ Fine stop (Some (hows.Malformed at)) count = is_stopped stop count ≡ false
 Fine stop (Some (hows.Overlong at)) count = is_stopped stop count ≡ false
 Fine stop (Some hows.Failed) count = is_stopped stop count ≡ false
 Fine stop (Some hows.Unwritten) count = (written : ℕ) × (count ≡ suc written) × (is_stopped stop written ≡ false) × (is_stopped stop count ≡ true)
-Fine stop (Some (hows.Full len)) count = is_stopped stop count ≡ false
+Fine stop (Some hows.Paused) count = is_stopped stop count ≡ false
 
 -- every reason but that a reply could not be written
 abbrev IsOther : How → Type 0
@@ -50,7 +50,7 @@ IsOther (hows.Malformed at) = Unit {0}
 IsOther (hows.Overlong at) = Unit {0}
 IsOther hows.Failed = Unit {0}
 IsOther hows.Unwritten = ⊥
-IsOther (hows.Full len) = Unit {0}
+IsOther hows.Paused = Unit {0}
 
 fine_other : (stop : Option ℕ) (how : How) (count : ℕ) → IsOther how → is_stopped stop count ≡ false → Fine stop (Some how) count
 fine_other stop hows.End count other running = running
@@ -59,11 +59,11 @@ fine_other stop (hows.Malformed at) count other running = running
 fine_other stop (hows.Overlong at) count other running = running
 fine_other stop hows.Failed count other running = running
 fine_other stop hows.Unwritten count other running = absurd other
-fine_other stop (hows.Full len) count other running = running
+fine_other stop hows.Paused count other running = running
 
 -- control's input may end so
 abbrev read_lines : Controlled
-read_lines = record { Comes = λ line. Unit {0}; Closes = IsOther; full = λ line len comes. tt }
+read_lines = record { Comes = λ line. Unit {0}; Closes = IsOther; paused = λ line comes. tt }
 
 other_ending : (how : How) → IsControlEnding how → IsOther how
 other_ending hows.End is = tt
@@ -72,7 +72,7 @@ other_ending (hows.Malformed at) is = tt
 other_ending (hows.Overlong at) is = tt
 other_ending hows.Failed is = tt
 other_ending hows.Unwritten is = absurd is
-other_ending (hows.Full len) is = absurd is
+other_ending hows.Paused is = absurd is
 
 may_read : (lines : Option control.Input) → IsControl lines → MayControl read_lines lines
 may_read None is = tt
@@ -146,7 +146,7 @@ module _ (plan : Plan) (stops : Stops) where
     arrives = λ past port a stands. stands_same past (with_event plan empty past (event_of port a)) (control_arrival plan empty past port a) stands;
     commands = λ past line comes running stands. stands_command past line running stands;
     ends = stands_input;
-    ticks = λ past stands. stands_same past (with_event plan empty past (End passes.Ticker hows.End)) (control_ticker plan empty past) stands;
+    ticks = λ past stands. stands_same past (with_event plan empty past (End passes.Ticker (closing past))) (control_ticker plan empty past) stands;
     drains = λ past port at stands.
         let count = length (queue plan empty (number_of port) past) in
         stands_same past (with_drain plan empty stops.ports port count past) (control_drain plan empty stops.ports past port count) stands;
@@ -196,7 +196,7 @@ fits_replies stop (hows.Malformed at) before after texts fine took = took_all st
 fits_replies stop (hows.Overlong at) before after texts fine took = took_all stop before after texts fine took
 fits_replies stop hows.Failed before after texts fine took = took_all stop before after texts fine took
 fits_replies stop hows.Unwritten before after texts fine took = took_front stop before after texts fine took
-fits_replies stop (hows.Full len) before after texts fine took = took_all stop before after texts fine took
+fits_replies stop hows.Paused before after texts fine took = took_all stop before after texts fine took
 
 fits_by : (stop : Option ℕ) (o : Option How) (before after : Option (List ℕ)) (texts : List (List ℕ)) → is_some o ≡ true → Fine stop o (length texts) → TookPieces before after texts stop → FitsReplies before after texts o
 fits_by stop None before after texts some fine took = cc

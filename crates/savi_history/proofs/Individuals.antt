@@ -27,7 +27,7 @@ use Rattle.savi_access.specs.Rules.{AccessRules, AccessBase}
 use Rattle.savi_access.specs.Marks.{Mark}
 use Rattle.savi_access.specs.Judged.{judged}
 use Rattle.savi_access.specs.Plans.{rules_of}
-use Rattle.savi_history.specs.Bases.{Base, access_of}
+use Rattle.checkpoint.specs.Bases.{Base, access_of}
 use Rattle.savi_history.specs.Vlans.{the_vlan}
 use Rattle.savi_history.specs.Moments.{moment_at}
 use Rattle.savi_history.specs.ShutPorts.{is_shut}

@@ -19,16 +19,17 @@ use Rattle.savi_kinds.specs.Arrivals as arrivals
 use Rattle.cli_lang.specs.Arrivals.{Line}
 use Rattle.cli_lang.specs.Arrivals as control
 use Rattle.hist_store.specs.Rows.{Row}
-use Rattle.savi_history.specs.Bases.{empty}
+use Rattle.checkpoint.specs.Bases.{empty}
 use Rattle.savi_history.specs.Limits.{has_room}
 use Rattle.savi_history.specs.Passes.{pass_of, has_ended, has_port, place_of, place_among, control_pass, ticker_pass, egress_pass, AllEnded}
 use Rattle.savi_history.specs.Queues.{queue}
 use Rattle.savi_history.specs.Events.{Event, Command, Drain, End}
-use Rattle.savi_history.specs.Legal.{IsLegal, IsOpen, MayCome}
+use Rattle.savi_history.specs.Endings.{has_pause}
+use Rattle.savi_history.specs.Legal.{IsLegal, IsOpen, InputsEnded, HasNothingToSend, MayEndTicker, MayEndEgress, MayCome}
 use Rattle.savi_history.specs.Readable.{IsArrival, IsEnding, IsInput, IsLineInRange, IsControlEnding, IsControl}
 use Rattle.savi_history.specs.Merges.{enter, merge, merged}
 use Rattle.savi_history.specs.Turns.{Turn, Arrives, Commands, Ends, who_of, turn_at, turns, port_turns, control_turns, all_turns}
-use Rattle.savi_history.specs.Replay.{Stops, is_stopped, pieces_by, event_of, with_event, with_failure, begun, with_drain, drained, with_reply, entered, after, after_all, with_end, egress_ended, replayed}
+use Rattle.savi_history.specs.Replay.{Stops, is_stopped, pieces_by, event_of, with_event, with_failure, begun, with_drain, drained, with_reply, entered, after, after_all, closing, with_end, egress_ended, replayed}
 use Rattle.savi_history.proofs.Replying.{behind_reply}
 use Rattle.savi_history.proofs.Ends.{later_event}
 use Rattle.savi_history.proofs.Waiting.{ended_now, ended_other, ended_arrival, ended_failure, ended_drained, ended_begun, empty_end, empty_begun, drained_empty}
@@ -68,9 +69,9 @@ place_in [] x is = cc
 place_in (n ∷ ns) x is = place_in_at ns n x (n == x) is (λ there. place_in ns x there)
 
 module _ (plan : Plan) (stops : Stops) where
-  ticked_at : (past : List Row) (pass : ℕ) → AllEnded empty (control_pass plan + 1) past → pass < ticker_pass plan + 1 → (pass ≡ ticker_pass plan) ⊎ (pass ≢ ticker_pass plan) → has_ended empty pass (with_event plan empty past (End passes.Ticker hows.End)) ≡ true
-  ticked_at past pass inputs below (inl same) = subst (λ (n : ℕ). has_ended empty n (with_event plan empty past (End passes.Ticker hows.End)) ≡ true) (sym same) (ended_now plan empty past passes.Ticker hows.End)
-  ticked_at past pass inputs below (inr other) = later_event plan empty past (End passes.Ticker hows.End) pass (inputs pass (omega arith))
+  ticked_at : (past : List Row) (pass : ℕ) → AllEnded empty (control_pass plan + 1) past → pass < ticker_pass plan + 1 → (pass ≡ ticker_pass plan) ⊎ (pass ≢ ticker_pass plan) → has_ended empty pass (with_event plan empty past (End passes.Ticker (closing past))) ≡ true
+  ticked_at past pass inputs below (inl same) = subst (λ (n : ℕ). has_ended empty n (with_event plan empty past (End passes.Ticker (closing past))) ≡ true) (sym same) (ended_now plan empty past passes.Ticker (closing past))
+  ticked_at past pass inputs below (inr other) = later_event plan empty past (End passes.Ticker (closing past)) pass (inputs pass (omega arith))
 
   legal_event : (past : List Row) (event : Event) → IsLegal plan empty past → MayCome plan empty past event → IsLegal plan empty (with_event plan empty past event)
   legal_event past event legal may = ((event, may, refl), legal)
@@ -91,7 +92,7 @@ module _ (plan : Plan) (stops : Stops) where
   legal_drain_at past port false is legal known =
       let count = length (queue plan empty (number_of port) past) in
       let some : 0 < length (queue plan empty (number_of port) past) = grind (arith, nat_tests) in
-      let running : has_ended empty (egress_pass plan (number_of port)) past ≡ false = waits_open plan past (number_of port) legal known some in
+      let running : has_ended empty (egress_pass plan (number_of port)) past ≡ false = waits_open plan empty past (number_of port) legal known some in
       legal_failure (with_event plan empty past (Drain port count)) port
       (legal_event past (Drain port count) legal (record { known = known; running = running }, omega arith, omega arith))
       (record { known = known; running = running })
@@ -138,7 +139,7 @@ module _ (plan : Plan) (stops : Stops) where
   may_end_ingress past port (hows.Overlong at) is_open fits = absurd fits
   may_end_ingress past port hows.Failed is_open fits = (is_open, tt)
   may_end_ingress past port hows.Unwritten is_open fits = absurd fits
-  may_end_ingress past port (hows.Full len) is_open fits = absurd fits
+  may_end_ingress past port hows.Paused is_open fits = absurd fits
 
   good_end : (past : List Row) (who : Who) (how : How) → IsGood plan past → pass_of plan who ≤ control_pass plan → MayCome plan empty past (End who how) → IsGood plan (with_event plan empty past (End who how))
   good_end past who how good low may = record {
@@ -148,7 +149,7 @@ module _ (plan : Plan) (stops : Stops) where
   }
 
   good_arrival : (past : List Row) (port : Port) (a : Arrival) (b : Bool) → has_room plan past ≡ b → IsGood plan past → has_port plan (number_of port) ≡ true → IsArrival a → has_ended empty (pass_of plan (passes.Ingress port)) past ≡ false
-      → IsGood plan (if b then drained plan empty stops.ports plan.ports (with_event plan empty past (event_of port a)) else with_event plan empty past (End (passes.Ingress port) (hows.Full (length past))))
+      → IsGood plan (if b then drained plan empty stops.ports plan.ports (with_event plan empty past (event_of port a)) else with_event plan empty past (End (passes.Ingress port) hows.Paused))
   good_arrival past port a true room good known fits running =
       let entered_row = with_event plan empty past (event_of port a) in
       record {
@@ -158,7 +159,7 @@ module _ (plan : Plan) (stops : Stops) where
       }
   good_arrival past port a false room good known fits running =
       let below = place_below port known in
-      good_end past (passes.Ingress port) (hows.Full (length past)) good (omega arith) (record { known = known; running = running }, record { no_room = room; all = refl })
+      good_end past (passes.Ingress port) hows.Paused good (omega arith) (record { known = known; running = running }, room)
 
   -- behind the entry of a line its reply is legal, whether that is written or not
   legal_reply : (past : List Row) (line : Line) → IsLegal plan empty past → has_ended empty (control_pass plan) past ≡ false → IsLegal plan empty (with_reply plan empty stops.control line past)
@@ -177,7 +178,7 @@ module _ (plan : Plan) (stops : Stops) where
   good_line : (past : List Row) (line : Line) (b : Bool) → has_room plan past ≡ b → IsGood plan past → IsLineInRange line → has_ended empty (control_pass plan) past ≡ false
       → IsGood plan (if b
       then drained plan empty stops.ports plan.ports (with_reply plan empty stops.control line (with_event plan empty past (Command line.stamp line.command)))
-      else with_event plan empty past (End passes.Control (hows.Full (length past))))
+      else with_event plan empty past (End passes.Control hows.Paused))
   good_line past line true room good fits running =
       let commanded = with_event plan empty past (Command line.stamp line.command) in
       let answered = with_reply plan empty stops.control line commanded in
@@ -188,7 +189,7 @@ module _ (plan : Plan) (stops : Stops) where
         quiet = λ k inside. drained_empty plan empty stops.ports plan.ports answered k inside;
       }
   good_line past line false room good fits running =
-      good_end past passes.Control (hows.Full (length past)) good (omega arith) (record { known = refl; running = running }, record { no_room = room; all = refl })
+      good_end past passes.Control hows.Paused good (omega arith) (record { known = refl; running = running }, room)
 
   may_end_control : (past : List Row) (how : How) → IsOpen plan empty past passes.Control → IsControlEnding how → MayCome plan empty past (End passes.Control how)
   may_end_control past hows.End is_open fits = (is_open, tt)
@@ -197,7 +198,7 @@ module _ (plan : Plan) (stops : Stops) where
   may_end_control past (hows.Overlong at) is_open fits = (is_open, fits)
   may_end_control past hows.Failed is_open fits = (is_open, tt)
   may_end_control past hows.Unwritten is_open fits = absurd fits
-  may_end_control past (hows.Full len) is_open fits = absurd fits
+  may_end_control past hows.Paused is_open fits = absurd fits
 
   good_entered : (t : Turn) (past : List Row) → IsGood plan past → IsTurn plan t → has_ended empty (pass_of plan (who_of t)) past ≡ false → IsGood plan (entered plan empty stops t past)
   good_entered (Arrives port a) past good fits running = good_arrival past port a (has_room plan past) refl good fits.0 fits.1 running
@@ -251,15 +252,24 @@ module _ (plan : Plan) (stops : Stops) where
   turns_control None fits = (tt, tt)
   turns_control (Some input) fits = turns_lines input.arrivals input.ending fits.arrivals fits.ending
 
+  -- the ticker and an egress may end as the inputs did
+  ticker_closes : (past : List Row) (b : Bool) → has_pause past ≡ b → InputsEnded plan empty past → MayEndTicker plan empty past (if b then hows.Paused else hows.End)
+  ticker_closes past true is ended = (ended, is)
+  ticker_closes past false is ended = (ended, is)
+
+  egress_closes : (past : List Row) (q : ℕ) (b : Bool) → has_pause past ≡ b → HasNothingToSend plan empty past q → MayEndEgress plan empty past q (if b then hows.Paused else hows.End)
+  egress_closes past q true is quiet = (quiet, is)
+  egress_closes past q false is quiet = (quiet, is)
+
   -- where all else has ended and nothing waits, an egress that is open may end
   legal_end_at : (past : List Row) (port : Port) (b : Bool) → has_ended empty (egress_pass plan (number_of port)) past ≡ b → has_port plan (number_of port) ≡ true → IsLegal plan empty past → AllEnded empty (ticker_pass plan + 1) past → queue plan empty (number_of port) past ≡ []
-      → IsLegal plan empty (if b then past else with_event plan empty past (End (passes.Egress port) hows.End))
+      → IsLegal plan empty (if b then past else with_event plan empty past (End (passes.Egress port) (closing past)))
   legal_end_at past port true is known legal ended quiet = legal
-  legal_end_at past port false is known legal ended quiet = legal_event past (End (passes.Egress port) hows.End) legal (record { known = known; running = is }, (ended, quiet))
+  legal_end_at past port false is known legal ended quiet = legal_event past (End (passes.Egress port) (closing past)) legal (record { known = known; running = is }, egress_closes past (number_of port) (has_pause past) refl (ended, quiet))
 
-  empty_end_at : (past : List Row) (port : Port) (q : ℕ) (b : Bool) → queue plan empty q past ≡ [] → queue plan empty q (if b then past else with_event plan empty past (End (passes.Egress port) hows.End)) ≡ []
+  empty_end_at : (past : List Row) (port : Port) (q : ℕ) (b : Bool) → queue plan empty q past ≡ [] → queue plan empty q (if b then past else with_event plan empty past (End (passes.Egress port) (closing past))) ≡ []
   empty_end_at past port q true quiet = quiet
-  empty_end_at past port q false quiet = empty_end plan empty past (passes.Egress port) hows.End q quiet
+  empty_end_at past port q false quiet = empty_end plan empty past (passes.Egress port) (closing past) q quiet
 
   legal_egress : (ports : List PortPlan) (past : List Row) → AreKnown plan ports → IsLegal plan empty past → AllEnded empty (ticker_pass plan + 1) past
       → ((k : ℕ) → k < length ports → queue plan empty (get_or (numbers_of ports) k 0) past ≡ []) → IsLegal plan empty (egress_ended plan empty ports past)
@@ -284,12 +294,12 @@ module _ (plan : Plan) (stops : Stops) where
       } in
       let good : IsGood plan before = good_all (merged turn_at (all_turns lines plan.ports inputs)) started (turns_merge (control_turns lines) (merged turn_at (port_turns plan.ports inputs)) (turns_control lines control_is) (turns_ports plan.ports inputs all_known are)) good_start in
       let inputs_ended : AllEnded empty (control_pass plan + 1) before = λ pass below. finished_low plan empty lines inputs stops rising size pass (cases_lt pass (length plan.ports)) below in
-      let ticked = with_event plan empty before (End passes.Ticker hows.End) in
+      let ticked = with_event plan empty before (End passes.Ticker (closing before)) in
       legal_egress plan.ports ticked
       all_known
-      (legal_event before (End passes.Ticker hows.End) good.legal (record { known = refl; running = good.ticking }, inputs_ended))
+      (legal_event before (End passes.Ticker (closing before)) good.legal (record { known = refl; running = good.ticking }, ticker_closes before (has_pause before) refl inputs_ended))
       (λ pass below. ticked_at before pass inputs_ended below (cases_eq pass (ticker_pass plan)))
-      (λ k inside. empty_end plan empty before passes.Ticker hows.End (number_at plan k) (good.quiet k inside))
+      (λ k inside. empty_end plan empty before passes.Ticker (closing before) (number_at plan k) (good.quiet k inside))
 
 pub replay_is_legal : (plan : Plan) (lines : Option control.Input) (inputs : List Input) (stops : Stops) → IsStrictlyIncreasing (numbers_of plan.ports) → length inputs ≡ length plan.ports → IsControl lines → All IsInput inputs → IsLegal plan empty (replayed plan empty lines inputs stops)
 replay_is_legal plan lines inputs stops rising size control_is are = replay_legal plan stops lines inputs rising size control_is are

@@ -41,6 +41,7 @@ pub mod FittingReplies
 pub mod WithoutControl
 pub mod EnteringLines
 pub mod Telling
+pub mod Counting
 pub mod Starting
 pub mod CameFirst
 pub mod Ticking

@@ -10,7 +10,7 @@ use Rattle.savi_kinds.specs.declared.entry.How.TheVariants as hows
 use Rattle.hist_store.specs.Rows.{Row}
 use Rattle.hist_store.specs.EndTexts.{IsReasonOf}
 use Rattle.hist_store.specs.LineTexts.{FitsLine}
-use Rattle.savi_history.specs.Bases.{Base}
+use Rattle.checkpoint.specs.Bases.{Base}
 use Rattle.savi_history.specs.Events.{Event, Frame, Long, Command, Tick, Drain, End, row_of}
 use Rattle.savi_history.specs.Legal.{MayEnd, MayCome, Stands, IsLegal}
 
@@ -21,7 +21,7 @@ reason_of plan base past (Ingress p) (hows.Malformed at) may = tt
 reason_of plan base past (Ingress p) (hows.Overlong at) may = absurd may
 reason_of plan base past (Ingress p) hows.Failed may = tt
 reason_of plan base past (Ingress p) hows.Unwritten may = absurd may
-reason_of plan base past (Ingress p) (hows.Full len) may = tt
+reason_of plan base past (Ingress p) hows.Paused may = tt
 reason_of plan base past Control how may = tt
 reason_of plan base past Ticker hows.End may = tt
 reason_of plan base past Ticker hows.Quit may = absurd may
@@ -29,14 +29,14 @@ reason_of plan base past Ticker (hows.Malformed at) may = absurd may
 reason_of plan base past Ticker (hows.Overlong at) may = absurd may
 reason_of plan base past Ticker hows.Failed may = absurd may
 reason_of plan base past Ticker hows.Unwritten may = absurd may
-reason_of plan base past Ticker (hows.Full len) may = tt
+reason_of plan base past Ticker hows.Paused may = tt
 reason_of plan base past (Egress p) hows.End may = tt
 reason_of plan base past (Egress p) hows.Quit may = absurd may
 reason_of plan base past (Egress p) (hows.Malformed at) may = absurd may
 reason_of plan base past (Egress p) (hows.Overlong at) may = absurd may
 reason_of plan base past (Egress p) hows.Failed may = tt
 reason_of plan base past (Egress p) hows.Unwritten may = absurd may
-reason_of plan base past (Egress p) (hows.Full len) may = absurd may
+reason_of plan base past (Egress p) hows.Paused may = tt
 
 row_fits : (plan : Plan) (base : Base) (past : List Row) (event : Event) → MayCome plan base past event → FitsLine (row_of plan base past event)
 row_fits plan base past (Frame port stamp octets) may = (refl, refl, may.1)

@@ -12,7 +12,7 @@ use Rattle.savi_kinds.specs.Ports.{number_of}
 use Rattle.savi_kinds.specs.PortSets.{is_member}
 use Rattle.savi_kinds.specs.ValidPlan.{numbers_of}
 use Rattle.hist_store.specs.Rows.{Row}
-use Rattle.savi_history.specs.Bases.{Base}
+use Rattle.checkpoint.specs.Bases.{Base}
 use Rattle.savi_history.specs.Queues.{Item, item_of, room_at, joined_queue, all_joined, offered_at, waiting_after, taken_by, queue, sent, queued_at, lost_at, over_ports, probes, lost}
 use Rattle.savi_history.specs.QueueLaws.{frame_to, all_offered, room_left, added, came, is_failure_at, NeverFailed, probes_taken, probes_left, IsCounted, AreCounted}
 use Rattle.savi_history.specs.Events.{Event, Frame, Long, Command, Tick, Drain, End, row_of, command_act, frame_act}
@@ -43,7 +43,7 @@ end_leaves plan base past q r (passes.Egress p) hows.Quit waiting other = refl
 end_leaves plan base past q r (passes.Egress p) (hows.Malformed at) waiting other = refl
 end_leaves plan base past q r (passes.Egress p) (hows.Overlong at) waiting other = refl
 end_leaves plan base past q r (passes.Egress p) hows.Unwritten waiting other = refl
-end_leaves plan base past q r (passes.Egress p) (hows.Full len) waiting other = refl
+end_leaves plan base past q r (passes.Egress p) hows.Paused waiting other = refl
 end_leaves plan base past q r (passes.Ingress p) how waiting other = refl
 end_leaves plan base past q r passes.Control how waiting other = refl
 end_leaves plan base past q r passes.Ticker how waiting other = refl

@@ -1,5 +1,5 @@
 -- A line of a legal history tells the event.
-use Rattle.std.proofs.Common.{◌≡◌, ℕ, ◌^◌, ◌<◌, List, [], ◌∷◌, length, decimal, codes, refl, sym, ◌∙◌, arith}
+use Rattle.std.proofs.Common.{◌≡◌, ℕ, ◌^◌, ◌<◌, List, [], ◌∷◌, decimal, codes, refl, sym, ◌∙◌, arith}
 use Rattle.std.proofs.lemmas.Fmt.{decimal_injective}
 use Rattle.hex.specs.Hex.{IsBytes}
 use Rattle.savi_kinds.specs.declared.plan.Plan.{Plan}
@@ -15,68 +15,68 @@ use Rattle.hist_store.specs.PortTexts.{port_text, members_text}
 use Rattle.hist_store.specs.VerdictTexts.{entry_verdict_text}
 use Rattle.hist_store.specs.EndTexts.{who_text, how_fields}
 use Rattle.hist_store.specs.LineTexts.{hex_text, line_fields}
-use Rattle.savi_history.specs.Bases.{Base}
+use Rattle.checkpoint.specs.Bases.{Base}
 use Rattle.savi_history.specs.Events.{Event, Frame, Long, Command, Tick, Drain, End, row_of}
 use Rattle.savi_history.specs.Legal.{MayEndIngress, MayEndControl, MayEndTicker, MayEndEgress, MayEnd, MayCome, IsLegal}
 use Rattle.hist_store.proofs.OnePort.{first_apart, port_by_text, who_by_text}
 use Rattle.savi_history.proofs.Depth.{queue_within}
-use Rattle.savi_history.proofs.OneValue.{octets_by_text, how_by_text, IsReasonAt}
+use Rattle.savi_history.proofs.OneValue.{octets_by_text, how_by_text, IsReason}
 
 -- events
 
--- the numbers of an event have 64 bits, its octets are octets, and a full history had this length
-abbrev IsWithin : ℕ → Event → Type 0
-IsWithin size (Frame port stamp octets) = (stamp < 2 ^ 64) × IsBytes octets
-IsWithin size (Long port stamp len) = (stamp < 2 ^ 64) × (len < 2 ^ 64)
-IsWithin size (Command stamp line) = (stamp < 2 ^ 64) × IsBytes line
-IsWithin size (Tick stamp) = stamp < 2 ^ 64
-IsWithin size (Drain port count) = count < 2 ^ 64
-IsWithin size (End who how) = IsReasonAt size how
+-- the numbers of an event have 64 bits, and its octets are octets
+abbrev IsWithin : Event → Type 0
+IsWithin (Frame port stamp octets) = (stamp < 2 ^ 64) × IsBytes octets
+IsWithin (Long port stamp len) = (stamp < 2 ^ 64) × (len < 2 ^ 64)
+IsWithin (Command stamp line) = (stamp < 2 ^ 64) × IsBytes line
+IsWithin (Tick stamp) = stamp < 2 ^ 64
+IsWithin (Drain port count) = count < 2 ^ 64
+IsWithin (End who how) = IsReason how
 
-reason_ingress : (plan : Plan) (past : List Row) (how : How) → MayEndIngress plan past how → IsReasonAt (length past) how
+reason_ingress : (plan : Plan) (past : List Row) (how : How) → MayEndIngress plan past how → IsReason how
 reason_ingress plan past hows.End may = tt
 reason_ingress plan past hows.Quit may = tt
 reason_ingress plan past (hows.Malformed at) may = may
 reason_ingress plan past (hows.Overlong at) may = absurd may
 reason_ingress plan past hows.Failed may = tt
 reason_ingress plan past hows.Unwritten may = tt
-reason_ingress plan past (hows.Full len) may = may.all
+reason_ingress plan past hows.Paused may = tt
 
-reason_control : (plan : Plan) (past : List Row) (how : How) → MayEndControl plan past how → IsReasonAt (length past) how
+reason_control : (plan : Plan) (past : List Row) (how : How) → MayEndControl plan past how → IsReason how
 reason_control plan past hows.End may = tt
 reason_control plan past hows.Quit may = tt
 reason_control plan past (hows.Malformed at) may = may
 reason_control plan past (hows.Overlong at) may = may
 reason_control plan past hows.Failed may = tt
 reason_control plan past hows.Unwritten may = tt
-reason_control plan past (hows.Full len) may = may.all
+reason_control plan past hows.Paused may = tt
 
-reason_ticker : (plan : Plan) (base : Base) (past : List Row) (how : How) → MayEndTicker plan base past how → IsReasonAt (length past) how
+reason_ticker : (plan : Plan) (base : Base) (past : List Row) (how : How) → MayEndTicker plan base past how → IsReason how
 reason_ticker plan base past hows.End may = tt
 reason_ticker plan base past hows.Quit may = tt
 reason_ticker plan base past (hows.Malformed at) may = absurd may
 reason_ticker plan base past (hows.Overlong at) may = absurd may
 reason_ticker plan base past hows.Failed may = tt
 reason_ticker plan base past hows.Unwritten may = tt
-reason_ticker plan base past (hows.Full len) may = may.all
+reason_ticker plan base past hows.Paused may = tt
 
-reason_egress : (plan : Plan) (base : Base) (past : List Row) (q : ℕ) (how : How) → MayEndEgress plan base past q how → IsReasonAt (length past) how
+reason_egress : (plan : Plan) (base : Base) (past : List Row) (q : ℕ) (how : How) → MayEndEgress plan base past q how → IsReason how
 reason_egress plan base past q hows.End may = tt
 reason_egress plan base past q hows.Quit may = tt
 reason_egress plan base past q (hows.Malformed at) may = absurd may
 reason_egress plan base past q (hows.Overlong at) may = absurd may
 reason_egress plan base past q hows.Failed may = tt
 reason_egress plan base past q hows.Unwritten may = tt
-reason_egress plan base past q (hows.Full len) may = absurd may
+reason_egress plan base past q hows.Paused may = tt
 
-reason : (plan : Plan) (base : Base) (past : List Row) (who : Who) (how : How) → MayEnd plan base past who how → IsReasonAt (length past) how
+reason : (plan : Plan) (base : Base) (past : List Row) (who : Who) (how : How) → MayEnd plan base past who how → IsReason how
 reason plan base past (passes.Ingress p) how may = reason_ingress plan past how may
 reason plan base past passes.Control how may = reason_control plan past how may
 reason plan base past passes.Ticker how may = reason_ticker plan base past how may
 reason plan base past (passes.Egress p) how may = reason_egress plan base past (number_of p) how may
 
 within : (plan : Plan) (base : Base) (past : List Row) (event : Event) → IsValidPlan plan → IsLegal plan base past → MayCome plan base past event
-    → IsBytes (row_of plan base past event).octets → IsWithin (length past) event
+    → IsBytes (row_of plan base past event).octets → IsWithin event
 within plan base past (Frame port stamp octets) valid legal may bytes = (may.0.fits, bytes)
 within plan base past (Long port stamp len) valid legal may bytes = let small = may.2 in (may.0.fits, omega (arith, small))
 within plan base past (Command stamp line) valid legal may bytes = (may.0.fits, bytes)
@@ -132,33 +132,33 @@ second e = cc
 first : {s t : List ℕ} {l m : List (List ℕ)} → s ∷ l ≡ t ∷ m → s ≡ t
 first e = cc
 
-event_same : (size : ℕ) (c c' : Computed) (a b : Event) → IsWithin size a → IsWithin size b → event_fields c a ≡ event_fields c' b → a ≡ b
-event_same size c c' (Frame p s xs) (Frame q t ys) fits fits' e =
+event_same : (c c' : Computed) (a b : Event) → IsWithin a → IsWithin b → event_fields c a ≡ event_fields c' b → a ≡ b
+event_same c c' (Frame p s xs) (Frame q t ys) fits fits' e =
     let port = port_by_text p q (first (second e)) in
     let stamp = decimal_injective s t fits.0 fits'.0 (first (second (second e))) in
     let octets = octets_by_text xs ys fits.1 fits'.1 (first (second (second (second e)))) in
     cc (port, stamp, octets)
-event_same size c c' (Long p s m) (Long q t n) fits fits' e =
+event_same c c' (Long p s m) (Long q t n) fits fits' e =
     let port = port_by_text p q (first (second e)) in
     let stamp = decimal_injective s t fits.0 fits'.0 (first (second (second e))) in
     let len = decimal_injective m n fits.1 fits'.1 (first (second (second (second e)))) in
     cc (port, stamp, len)
-event_same size c c' (Command s xs) (Command t ys) fits fits' e =
+event_same c c' (Command s xs) (Command t ys) fits fits' e =
     let stamp = decimal_injective s t fits.0 fits'.0 (first (second e)) in
     let line = octets_by_text xs ys fits.1 fits'.1 (first (second (second e))) in
     cc (stamp, line)
-event_same size c c' (Tick s) (Tick t) fits fits' e =
+event_same c c' (Tick s) (Tick t) fits fits' e =
     let stamp = decimal_injective s t fits fits' (first (second e)) in
     cc stamp
-event_same size c c' (Drain p m) (Drain q n) fits fits' e =
+event_same c c' (Drain p m) (Drain q n) fits fits' e =
     let port = port_by_text p q (first (second e)) in
     let count = decimal_injective m n fits fits' (first (second (second e))) in
     cc (port, count)
-event_same size c c' (End w h) (End w' h') fits fits' e =
+event_same c c' (End w h) (End w' h') fits fits' e =
     let who = who_by_text w w' (first (second e)) in
-    let how = how_by_text size h h' fits fits' (second (second e)) in
+    let how = how_by_text h h' fits fits' (second (second e)) in
     cc (who, how)
-event_same size c c' a b fits fits' e = absurd (first_apart (first e) refl)
+event_same c c' a b fits fits' e = absurd (first_apart (first e) refl)
 
 -- two events with the same line, after the same past
 pub event_by_line : (plan plan' : Plan) (base : Base) (past : List Row) (n n' : ℕ) (a b : Event) → IsValidPlan plan → IsValidPlan plan' → IsLegal plan base past → IsLegal plan' base past
@@ -168,5 +168,5 @@ event_by_line plan plan' base past n n' a b valid valid' legal legal' may may' b
     let r = (row_of plan base past a).entry in
     let r' = (row_of plan' base past b).entry in
     let lines = sym (fields_of_row n plan base past a) ∙ e ∙ fields_of_row n' plan' base past b in
-    event_same (length past) (computed r) (computed r') a b
+    event_same (computed r) (computed r') a b
     (within plan base past a valid legal may bytes) (within plan' base past b valid' legal' may' bytes') (second (second (second lines)))

@@ -8,7 +8,7 @@ use Rattle.savi_kinds.specs.ValidPlan.{IsValidPlan}
 use Rattle.hist_store.specs.Rows.{Row}
 use Rattle.hist_store.specs.LineTexts.{line_fields}
 use Rattle.hist_store.specs.JournalTexts.{header_lines, entry_lines, journal_end_line, journal_text}
-use Rattle.savi_history.specs.Bases.{Base, empty}
+use Rattle.checkpoint.specs.Bases.{Base, empty}
 use Rattle.savi_history.specs.Events.{Event, row_of}
 use Rattle.savi_history.specs.Legal.{IsLegal}
 use Rattle.savi_history.specs.Journals.{without_names, IsAddressText, IsJournalOf, IsSame}

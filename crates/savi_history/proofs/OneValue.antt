@@ -98,22 +98,27 @@ switch_by_text true false on off apart e = absurd (apart e)
 switch_by_text false true on off apart e = absurd (apart (sym e))
 switch_by_text false false on off apart e = refl
 
--- a reason whose place is a number of 64 bits, and whose length is this one
-abbrev pub IsReasonAt : ℕ → How → Type 0
-IsReasonAt count hows.End = Unit {0}
-IsReasonAt count hows.Quit = Unit {0}
-IsReasonAt count (hows.Malformed at) = at < 2 ^ 64
-IsReasonAt count (hows.Overlong at) = at < 2 ^ 64
-IsReasonAt count hows.Failed = Unit {0}
-IsReasonAt count hows.Unwritten = Unit {0}
-IsReasonAt count (hows.Full len) = len ≡ count
+-- a reason whose place is a number of 64 bits
+abbrev pub IsReason : How → Type 0
+IsReason hows.End = Unit {0}
+IsReason hows.Quit = Unit {0}
+IsReason (hows.Malformed at) = at < 2 ^ 64
+IsReason (hows.Overlong at) = at < 2 ^ 64
+IsReason hows.Failed = Unit {0}
+IsReason hows.Unwritten = Unit {0}
+IsReason hows.Paused = Unit {0}
 
-pub how_by_text : (count : ℕ) (a b : How) → IsReasonAt count a → IsReasonAt count b → how_fields a ≡ how_fields b → a ≡ b
-how_by_text count hows.End hows.End p q e = refl
-how_by_text count hows.Quit hows.Quit p q e = refl
-how_by_text count hows.Failed hows.Failed p q e = refl
-how_by_text count hows.Unwritten hows.Unwritten p q e = refl
-how_by_text count (hows.Full m) (hows.Full n) p q e = ap hows.Full (p ∙ sym q)
-how_by_text count (hows.Malformed m) (hows.Malformed n) p q e = let text : decimal m ≡ decimal n = cc in ap hows.Malformed (decimal_injective m n p q text)
-how_by_text count (hows.Overlong m) (hows.Overlong n) p q e = let text : decimal m ≡ decimal n = cc in ap hows.Overlong (decimal_injective m n p q text)
-how_by_text count a b p q e = cc
+first_field : {s t : List ℕ} {l m : List (List ℕ)} → s ∷ l ≡ t ∷ m → s ≡ t
+first_field e = cc
+
+pub how_by_text : (a b : How) → IsReason a → IsReason b → how_fields a ≡ how_fields b → a ≡ b
+how_by_text hows.End hows.End p q e = refl
+how_by_text hows.Quit hows.Quit p q e = refl
+how_by_text hows.Failed hows.Failed p q e = refl
+how_by_text hows.Unwritten hows.Unwritten p q e = refl
+how_by_text hows.Paused hows.Paused p q e = refl
+how_by_text hows.Failed hows.Paused p q e = absurd (first_apart (first_field e) refl)
+how_by_text hows.Paused hows.Failed p q e = absurd (first_apart (first_field e) refl)
+how_by_text (hows.Malformed m) (hows.Malformed n) p q e = let text : decimal m ≡ decimal n = cc in ap hows.Malformed (decimal_injective m n p q text)
+how_by_text (hows.Overlong m) (hows.Overlong n) p q e = let text : decimal m ≡ decimal n = cc in ap hows.Overlong (decimal_injective m n p q text)
+how_by_text a b p q e = cc

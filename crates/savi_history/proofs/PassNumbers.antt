@@ -4,6 +4,7 @@ use Rattle.std.proofs.lemmas.Bool.Decides.{nat_tests}
 use Rattle.std.proofs.lemmas.List.{length-map}
 use Rattle.std.specs.List.{list_any}
 use Rattle.std.specs.List.Sorted.{IsStrictlyIncreasing}
+use Rattle.checkpoint.proofs.ByVlan.{lower_apart}
 use Rattle.savi_kinds.specs.declared.plan.Plan.{Plan}
 use Rattle.savi_kinds.specs.Ports.{number_of}
 use Rattle.savi_kinds.specs.ValidPlan.{numbers_of}
@@ -27,14 +28,11 @@ first_below n (m ∷ ns) (suc j) rising inside =
 same_test : (n : ℕ) → (n == n) ≡ true
 same_test n = grind (arith, nat_tests)
 
-below_test : (n m : ℕ) → n < m → (n == m) ≡ false
-below_test n m below = grind (arith, nat_tests)
-
 place_at_from : (ns : List ℕ) (k : ℕ) → IsStrictlyIncreasing ns → k < length ns → place_among ns (get_or ns k 0) ≡ k
 place_at_from [] k rising inside = absurd (omega arith)
 place_at_from (n ∷ ns) zero rising inside = rw (same_test n) refl
 place_at_from (n ∷ ns) (suc k) rising inside =
-    rw (below_test n (get_or ns k 0) (first_below n ns k rising (omega arith)))
+    rw (lower_apart n (get_or ns k 0) (first_below n ns k rising (omega arith)))
     (ap (λ (p : ℕ). suc p) (place_at_from ns k (rising_tail n ns rising) (omega arith)))
 
 -- the place of the port at a place

@@ -12,13 +12,13 @@ use Rattle.savi_kinds.specs.Arrivals.{Arrival}
 use Rattle.savi_kinds.specs.Arrivals as arrivals
 use Rattle.cli_lang.specs.Arrivals.{Line}
 use Rattle.hist_store.specs.Rows.{Row}
-use Rattle.savi_history.specs.Bases.{Base}
+use Rattle.checkpoint.specs.Bases.{Base}
 use Rattle.savi_history.specs.Limits.{has_room}
 use Rattle.savi_history.specs.Passes.{has_ended, egress_pass}
 use Rattle.savi_history.specs.Queues.{queue}
 use Rattle.savi_history.specs.Events.{Command, Drain, End}
 use Rattle.savi_history.specs.Turns.{Turn, Arrives, Commands, Ends}
-use Rattle.savi_history.specs.Replay.{PortStops, Stops, is_stopped, pieces_by, event_of, with_event, with_failure, begun, with_drain, drained, with_reply, entered, with_end, egress_ended}
+use Rattle.savi_history.specs.Replay.{PortStops, Stops, is_stopped, pieces_by, event_of, with_event, with_failure, begun, with_drain, drained, with_reply, entered, closing, with_end, egress_ended}
 use Rattle.savi_history.specs.PortInputs.{arrived, input_end}
 use Rattle.savi_history.proofs.Replying.{behind_reply}
 
@@ -77,7 +77,7 @@ line_at plan base stops past line n true room =
     rw room (holds_then n past answered (drained plan base stops.ports plan.ports answered)
     (holds_then n past commanded answered (record { arrivals_same = append-nil (arrived n past); end_same = refl }) (reply_same plan base stops.control line commanded n))
     (same_drained plan base stops.ports plan.ports answered n))
-line_at plan base stops past line n false room = rw room (same_control plan base past (hows.Full (length past)) n)
+line_at plan base stops past line n false room = rw room (same_control plan base past hows.Paused n)
 
 -- a line on control is no port's
 pub same_line : (plan : Plan) (base : Base) (stops : Stops) (past : List Row) (line : Line) (n : ℕ) → HoldsSame n past (entered plan base stops (Commands line) past)
@@ -86,7 +86,7 @@ same_line plan base stops past line n = line_at plan base stops past line n (has
 same_ticker : (plan : Plan) (base : Base) (past : List Row) (how : How) (n : ℕ) → HoldsSame n past (with_event plan base past (End Ticker how))
 same_ticker plan base past how n = record { arrivals_same = append-nil (arrived n past); end_same = refl }
 
-same_end_at : (plan : Plan) (base : Base) (past : List Row) (port : Port) (n : ℕ) (b : Bool) → HoldsSame n past (if b then past else with_event plan base past (End (Egress port) hows.End))
+same_end_at : (plan : Plan) (base : Base) (past : List Row) (port : Port) (n : ℕ) (b : Bool) → HoldsSame n past (if b then past else with_event plan base past (End (Egress port) (closing past)))
 same_end_at plan base past port n true = record { arrivals_same = refl; end_same = refl }
 same_end_at plan base past port n false = record { arrivals_same = append-nil (arrived n past); end_same = refl }
 
@@ -97,10 +97,10 @@ same_egress plan base (q ∷ qs) past n =
     holds_then n past later (egress_ended plan base qs later) (same_end_at plan base past q.number n (has_ended base (egress_pass plan (number_of q.number)) past)) (same_egress plan base qs later n)
 
 -- behind the ends of all inputs nothing more comes in
-pub same_finished : (plan : Plan) (base : Base) (past : List Row) (n : ℕ) → HoldsSame n past (egress_ended plan base plan.ports (with_event plan base past (End Ticker hows.End)))
+pub same_finished : (plan : Plan) (base : Base) (past : List Row) (n : ℕ) → HoldsSame n past (egress_ended plan base plan.ports (with_event plan base past (End Ticker (closing past))))
 same_finished plan base past n =
-    let later = with_event plan base past (End Ticker hows.End) in
-    holds_then n past later (egress_ended plan base plan.ports later) (same_ticker plan base past hows.End n) (same_egress plan base plan.ports later n)
+    let later = with_event plan base past (End Ticker (closing past)) in
+    holds_then n past later (egress_ended plan base plan.ports later) (same_ticker plan base past (closing past) n) (same_egress plan base plan.ports later n)
 
 -- a turn at its own port
 
@@ -138,8 +138,8 @@ pub record HoldsEnd (n : ℕ) (old new : List Row) (how : How) : Type 0 where
 pub end_entered : (plan : Plan) (base : Base) (past : List Row) (port : Port) (how : How) → HoldsEnd (number_of port) past (with_event plan base past (End (Ingress port) how)) how
 end_entered plan base past port how = record { arrivals_same = append-nil (arrived (number_of port) past); ended_so = rw (itself (number_of port)) refl }
 
-pub full_entered : (plan : Plan) (base : Base) (stops : Stops) (past : List Row) (port : Port) (arrival : Arrival) → has_room plan past ≡ false → HoldsEnd (number_of port) past (entered plan base stops (Arrives port arrival) past) (hows.Full (length past))
-full_entered plan base stops past port arrival room = rw room (end_entered plan base past port (hows.Full (length past)))
+pub full_entered : (plan : Plan) (base : Base) (stops : Stops) (past : List Row) (port : Port) (arrival : Arrival) → has_room plan past ≡ false → HoldsEnd (number_of port) past (entered plan base stops (Arrives port arrival) past) hows.Paused
+full_entered plan base stops past port arrival room = rw room (end_entered plan base past port hows.Paused)
 
 -- a turn at another port
 
@@ -157,7 +157,7 @@ other_at : (plan : Plan) (base : Base) (stops : Stops) (past : List Row) (port :
 other_at plan base stops past port arrival n true room other =
     let later = with_event plan base past (event_of port arrival) in
     rw room (holds_then n past later (drained plan base stops.ports plan.ports later) (record { arrivals_same = arrival_other plan base past port arrival n other; end_same = arrival_end plan base past port arrival n }) (same_drained plan base stops.ports plan.ports later n))
-other_at plan base stops past port arrival n false room other = rw room (end_other plan base past port (hows.Full (length past)) n other)
+other_at plan base stops past port arrival n false room other = rw room (end_other plan base past port hows.Paused n other)
 
 -- the turn is one of this port
 abbrev pub IsTurnOf : Port → Turn → Type 0

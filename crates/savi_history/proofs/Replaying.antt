@@ -14,14 +14,14 @@ use Rattle.savi_kinds.specs.Arrivals.{Arrival, Input}
 use Rattle.cli_lang.specs.Arrivals.{Line}
 use Rattle.cli_lang.specs.Arrivals as control
 use Rattle.hist_store.specs.Rows.{Row}
-use Rattle.savi_history.specs.Bases.{Base}
+use Rattle.checkpoint.specs.Bases.{Base}
 use Rattle.savi_history.specs.Limits.{has_room}
 use Rattle.savi_history.specs.Passes.{pass_of, control_pass, has_ended}
 use Rattle.savi_history.specs.Queues.{queue}
 use Rattle.savi_history.specs.Events.{Command, End}
 use Rattle.savi_history.specs.Merges.{enter, merge, merged}
 use Rattle.savi_history.specs.Turns.{Turn, Arrives, Commands, Ends, who_of, turn_at, turns, port_turns, control_turns, all_turns}
-use Rattle.savi_history.specs.Replay.{Stops, event_of, with_event, begun, with_drain, drained, with_reply, entered, after, after_all, with_end, egress_ended, replayed}
+use Rattle.savi_history.specs.Replay.{Stops, event_of, with_event, begun, with_drain, drained, with_reply, entered, after, after_all, closing, with_end, egress_ended, replayed}
 use Rattle.savi_history.proofs.PassNumbers.{number_at}
 
 -- the port at a place of the plan has this number
@@ -36,7 +36,7 @@ pub record Controlled : Type 1 where
   pub Comes : Line → Type 0
   pub Closes : How → Type 0
   -- for a line that comes in there may be no room
-  pub full : (line : Line) (len : ℕ) → Comes line → Closes (hows.Full len)
+  pub paused : (line : Line) → Comes line → Closes hows.Paused
 
 -- this may be control's input
 abbrev pub MayControl : Controlled → Option control.Input → Type 0
@@ -45,7 +45,7 @@ MayControl may (Some input) = All may.Comes input.arrivals × may.Closes input.e
 
 -- whatever control does
 abbrev pub anything : Controlled
-anything = record { Comes = λ line. Unit {0}; Closes = λ how. Unit {0}; full = λ line len comes. tt }
+anything = record { Comes = λ line. Unit {0}; Closes = λ how. Unit {0}; paused = λ line comes. tt }
 
 pub all_control : (lines : Option control.Input) → MayControl anything lines
 all_control None = tt
@@ -120,7 +120,7 @@ pub record IsKept (plan : Plan) (base : Base) (stops : Stops) (may : Controlled)
   pub arrives : (past : List Row) (port : Port) (a : Arrival) → Has past → Has (with_event plan base past (event_of port a))
   pub commands : (past : List Row) (line : Line) → may.Comes line → has_ended base (control_pass plan) past ≡ false → Has past → Has (with_reply plan base stops.control line (with_event plan base past (Command line.stamp line.command)))
   pub ends : (past : List Row) (who : Who) (how : How) → EndsInput plan may who how → has_ended base (pass_of plan who) past ≡ false → Has past → Has (with_event plan base past (End who how))
-  pub ticks : (past : List Row) → Has past → Has (with_event plan base past (End passes.Ticker hows.End))
+  pub ticks : (past : List Row) → Has past → Has (with_event plan base past (End passes.Ticker (closing past)))
   pub drains : (past : List Row) (port : Port) → IsAt plan (number_of port) → Has past → Has (with_drain plan base stops.ports port (length (queue plan base (number_of port) past)) past)
   pub closes : (past : List Row) (port : Port) → IsAt plan (number_of port) → Has past → Has (with_end plan base port past)
 
@@ -132,17 +132,17 @@ module _ (plan : Plan) (base : Base) (stops : Stops) (may : Controlled) (Has : L
       (kept.drains past q.number (at 0 (omega arith)) has)
 
   has_arrival : (past : List Row) (port : Port) (a : Arrival) (b : Bool) → IsAt plan (number_of port) → has_ended base (pass_of plan (passes.Ingress port)) past ≡ false → Has past
-      → Has (if b then drained plan base stops.ports plan.ports (with_event plan base past (event_of port a)) else with_event plan base past (End (passes.Ingress port) (hows.Full (length past))))
+      → Has (if b then drained plan base stops.ports plan.ports (with_event plan base past (event_of port a)) else with_event plan base past (End (passes.Ingress port) hows.Paused))
   has_arrival past port a true at running has = has_drained plan.ports (with_event plan base past (event_of port a)) (at_place plan) (kept.arrives past port a has)
-  has_arrival past port a false at running has = kept.ends past (passes.Ingress port) (hows.Full (length past)) at running has
+  has_arrival past port a false at running has = kept.ends past (passes.Ingress port) hows.Paused at running has
 
   has_line : (past : List Row) (line : Line) (b : Bool) → may.Comes line → has_ended base (control_pass plan) past ≡ false → Has past
       → Has (if b
       then drained plan base stops.ports plan.ports (with_reply plan base stops.control line (with_event plan base past (Command line.stamp line.command)))
-      else with_event plan base past (End passes.Control (hows.Full (length past))))
+      else with_event plan base past (End passes.Control hows.Paused))
   has_line past line true comes running has =
       has_drained plan.ports (with_reply plan base stops.control line (with_event plan base past (Command line.stamp line.command))) (at_place plan) (kept.commands past line comes running has)
-  has_line past line false comes running has = kept.ends past passes.Control (hows.Full (length past)) (may.full line (length past) comes) running has
+  has_line past line false comes running has = kept.ends past passes.Control hows.Paused (may.paused line comes) running has
 
   has_entered : (turn : Turn) (past : List Row) → IsOurs plan may turn → has_ended base (pass_of plan (who_of turn)) past ≡ false → Has past → Has (entered plan base stops turn past)
   has_entered (Arrives port arrival) past ours running has = has_arrival past port arrival (has_room plan past) ours running has
@@ -167,5 +167,5 @@ module _ (plan : Plan) (base : Base) (stops : Stops) (may : Controlled) (Has : L
       let started : List Row = begun plan base stops.ports plan.ports [] in
       let all : List Turn = merged turn_at (all_turns lines plan.ports inputs) in
       let before : List Row = after_all plan base stops all started in
-      has_closed plan.ports (with_event plan base before (End passes.Ticker hows.End)) (at_place plan)
+      has_closed plan.ports (with_event plan base before (End passes.Ticker (closing before))) (at_place plan)
       (kept.ticks before (has_all all started (all_ours plan may lines inputs is) has))

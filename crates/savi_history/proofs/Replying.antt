@@ -5,7 +5,7 @@ use Rattle.savi_kinds.specs.declared.entry.Who.TheVariants.{Control}
 use Rattle.savi_kinds.specs.declared.entry.How.TheVariants as hows
 use Rattle.cli_lang.specs.Arrivals.{Line}
 use Rattle.hist_store.specs.Rows.{Row}
-use Rattle.savi_history.specs.Bases.{Base}
+use Rattle.checkpoint.specs.Bases.{Base}
 use Rattle.savi_history.specs.ControlInputs.{is_quit}
 use Rattle.savi_history.specs.ControlOutputs.{replies}
 use Rattle.savi_history.specs.Events.{End}

@@ -22,7 +22,7 @@ use Rattle.control_replies.specs.declared.refusal.Refusal.TheVariants as refusal
 use Rattle.savi_access.specs.declared.row.Row.{Row as AddressRow}
 use Rattle.hist_store.specs.Rows.{Row}
 use Rattle.savi_access.specs.Judged.{drops}
-use Rattle.savi_history.specs.Bases.{Base}
+use Rattle.checkpoint.specs.Bases.{Base}
 use Rattle.savi_history.specs.Vlans.{the_vlan}
 use Rattle.savi_history.specs.Moments.{moment_at}
 use Rattle.savi_history.specs.Passes.{has_port}

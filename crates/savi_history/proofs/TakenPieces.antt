@@ -52,7 +52,7 @@ Fine stop (Some hows.Quit) items text = ⊥
 Fine stop (Some (hows.Malformed at)) items text = ⊥
 Fine stop (Some (hows.Overlong at)) items text = ⊥
 Fine stop (Some hows.Unwritten) items text = ⊥
-Fine stop (Some (hows.Full len)) items text = ⊥
+Fine stop (Some hows.Paused) items text = is_stopped stop (suc (length items)) ≡ false
 
 -- a sink that didn't stop took all
 took_all : (stop : Option ℕ) (before after : Option (List ℕ)) (items : List Item) → is_stopped stop (suc (length items)) ≡ false → TookPieces before after (pieces items) stop → after ≡ behind before (capture_text (sent_items items))
@@ -114,4 +114,4 @@ fits_taken stop hows.Quit before after items text fine took = fine
 fits_taken stop (hows.Malformed at) before after items text fine took = fine
 fits_taken stop (hows.Overlong at) before after items text fine took = fine
 fits_taken stop hows.Unwritten before after items text fine took = fine
-fits_taken stop (hows.Full len) before after items text fine took = fine
+fits_taken stop hows.Paused before after items text fine took = took_all stop before after items fine took

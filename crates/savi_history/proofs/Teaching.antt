@@ -13,7 +13,7 @@ use Rattle.bridge_fdb.specs.Stations.{station_number, mac_number, station_of, st
 use Rattle.bridge_fdb.specs.Learning.{is_known, is_full, with_station, learned}
 use Rattle.bridge_fdb.proofs.Within.{IsWithinLimits-filter, IsWithinLimits-learned}
 use Rattle.hist_store.specs.Rows.{Row}
-use Rattle.savi_history.specs.Bases.{Base}
+use Rattle.checkpoint.specs.Bases.{Base}
 use Rattle.savi_history.specs.Moments.{last_moment}
 use Rattle.savi_history.specs.Summary.{is_pass}
 use Rattle.savi_history.specs.StationLimits.{IsKnownAt, AreStationsAt}

@@ -23,7 +23,7 @@ use Rattle.savi_access.proofs.PlanRules.{own_ports, unspecified_off_link}
 use Rattle.savi_access.proofs.Lifetimes.{lifetimes}
 use Rattle.savi_access.proofs.Keeping.{judged_marks}
 use Rattle.savi_access.proofs.Passing.{accessed}
-use Rattle.savi_history.specs.Bases.{Base, access_of}
+use Rattle.checkpoint.specs.Bases.{Base, access_of}
 use Rattle.savi_history.specs.Limits.{IsWithinLimits}
 use Rattle.savi_history.specs.Moments.{last_moment, moment_at}
 use Rattle.savi_history.specs.Vlans.{the_vlan}

@@ -32,7 +32,7 @@ use Rattle.savi_access.specs.Marks.{Mark, Told, Asked, Met, told}
 use Rattle.savi_access.specs.Judged.{Judged, judged_without}
 use Rattle.savi_access.specs.Plans.{rules_of, role_of}
 use Rattle.savi_access.proofs.Trusting.{without}
-use Rattle.savi_history.specs.Bases.{Base, access_of}
+use Rattle.checkpoint.specs.Bases.{Base, access_of}
 use Rattle.savi_history.specs.Moments.{moment_at}
 use Rattle.savi_history.specs.Vlans.{the_vlan}
 use Rattle.fcfs_states.specs.declared.event.Ev.TheVariants.{Fix, Clear}
@@ -56,11 +56,11 @@ probe_without past None = refl
 probe_without past (Some rule) = refl
 
 -- a state of which ageing sends no probe: the operator's, or none
-abbrev IsQuiet : State → Type 0
-IsQuiet row = row.state.fcfs ≡ NoBind
+abbrev HasNothingToSend : State → Type 0
+HasNothingToSend row = row.state.fcfs ≡ NoBind
 
 abbrev AreQuiet : List State → Type 0
-AreQuiet rows = All IsQuiet rows
+AreQuiet rows = All HasNothingToSend rows
 
 nobody_asks : (k : Times) (t : ℕ) → (aged k t NoBind).probes ≡ []
 unfolding aged aged_by
@@ -69,10 +69,10 @@ nobody_asks k t = refl
 no_sends : (k : Times) (t : ℕ) (rows : List State) → AreQuiet rows → all_sends k t rows ≡ []
 no_sends k t [] quiet = refl
 no_sends k t (row ∷ rows) quiet =
-    let here : row.state.fcfs ≡ NoBind = All-head IsQuiet row rows quiet in
+    let here : row.state.fcfs ≡ NoBind = All-head HasNothingToSend row rows quiet in
     ap (λ (fcfs : Fcfs). sent_of (address_of row) (aged k t fcfs).probes ++ all_sends k t rows) here
     ∙ ap (λ (probes : List (ℕ × Probe)). sent_of (address_of row) probes ++ all_sends k t rows) (nobody_asks k t)
-    ∙ no_sends k t rows (All-tail IsQuiet row rows quiet)
+    ∙ no_sends k t rows (All-tail HasNothingToSend row rows quiet)
 
 -- the operator's event leaves such a state
 quiet_event : (r : AddrRules) (named : Named) (s : AddrState) → ((named.event ≡ Clear) ⊎ ((port : Port) × (named.event ≡ Fix port))) → (outcome_of r named s).1.fcfs ≡ NoBind
@@ -85,12 +85,12 @@ quiet_event r named s is = by_method (r.method_of named.vlan named.address) is
 
 quiet_rows : (a : ℕ) (state : AddrState) (rows : List State) → state.fcfs ≡ NoBind → AreQuiet rows → AreQuiet (with_state a state rows)
 quiet_rows a state rows quiet all =
-    All-append IsQuiet (filter (is_below address_of a) rows) (rows_of a state ++ filter (is_above address_of a) rows) (All-filter (is_below address_of a) IsQuiet rows all)
-    (All-append IsQuiet (rows_of a state) (filter (is_above address_of a) rows) (own (has_state state)) (All-filter (is_above address_of a) IsQuiet rows all))
+    All-append HasNothingToSend (filter (is_below address_of a) rows) (rows_of a state ++ filter (is_above address_of a) rows) (All-filter (is_below address_of a) HasNothingToSend rows all)
+    (All-append HasNothingToSend (rows_of a state) (filter (is_above address_of a) rows) (own (has_state state)) (All-filter (is_above address_of a) HasNothingToSend rows all))
   where
     own : (b : Bool) → AreQuiet (if b then address_row a state ∷ [] else [])
-    own true = All-cons IsQuiet (address_row a state) [] quiet (All-nil IsQuiet)
-    own false = All-nil IsQuiet
+    own true = All-cons HasNothingToSend (address_row a state) [] quiet (All-nil HasNothingToSend)
+    own false = All-nil HasNothingToSend
 
 quiet_after : (r : AddrRules) (base : AddrBase) (vlan : ℕ) (marks : List Mark) → AreQuiet (base.rows vlan) → All IsOfOperator marks → AreQuiet (rows_after r base (told marks) vlan)
 quiet_after r base vlan [] quiet all = quiet
@@ -158,7 +158,7 @@ module _ (plan : Plan) (base : Base) (off : plan.savi ≡ false) where
 
   module _ (bare : base.rows the_vlan ≡ []) where
     quiet_base : AreQuiet (base.rows the_vlan)
-    quiet_base = subst AreQuiet (sym bare) (All-nil IsQuiet)
+    quiet_base = subst AreQuiet (sym bare) (All-nil HasNothingToSend)
 
     none_due : (past : List Row) (moment : ℕ) → due_by plan base past moment ≡ []
     none_due past moment =

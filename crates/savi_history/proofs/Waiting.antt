@@ -14,7 +14,7 @@ use Rattle.savi_kinds.specs.ValidPlan.{numbers_of}
 use Rattle.savi_kinds.specs.Arrivals.{Arrival}
 use Rattle.savi_kinds.specs.Arrivals as arrivals
 use Rattle.hist_store.specs.Rows.{Row}
-use Rattle.savi_history.specs.Bases.{Base}
+use Rattle.checkpoint.specs.Bases.{Base}
 use Rattle.savi_history.specs.Passes.{pass_of, has_ended, ticker_pass}
 use Rattle.savi_history.specs.Queues.{Item, queue, sent}
 use Rattle.savi_history.specs.Events.{Drain, End}
@@ -83,7 +83,7 @@ empty_end plan base past (passes.Egress p) (hows.Malformed at) q is = is
 empty_end plan base past (passes.Egress p) (hows.Overlong at) q is = is
 empty_end plan base past (passes.Egress p) hows.Failed q is = rw is (empty_failed (number_of p == q))
 empty_end plan base past (passes.Egress p) hows.Unwritten q is = is
-empty_end plan base past (passes.Egress p) (hows.Full len) q is = is
+empty_end plan base past (passes.Egress p) hows.Paused q is = is
 
 empty_failure_at : (plan : Plan) (base : Base) (past : List Row) (port : Port) (q : ℕ) (b : Bool) → queue plan base q past ≡ [] → queue plan base q (if b then with_event plan base past (End (passes.Egress port) hows.Failed) else past) ≡ []
 empty_failure_at plan base past port q true is = empty_end plan base past (passes.Egress port) hows.Failed q is

@@ -11,12 +11,12 @@ use Rattle.savi_kinds.specs.Ports.{number_of}
 use Rattle.savi_kinds.specs.ValidPlan.{numbers_of}
 use Rattle.savi_kinds.specs.Arrivals.{Input}
 use Rattle.hist_store.specs.Rows.{Row}
-use Rattle.savi_history.specs.Bases.{empty}
+use Rattle.checkpoint.specs.Bases.{empty}
 use Rattle.savi_history.specs.Passes.{has_ended, control_pass}
 use Rattle.savi_history.specs.Queues.{queue}
 use Rattle.savi_history.specs.Events.{End}
 use Rattle.savi_history.specs.ControlInputs.{entered_lines, control_end}
-use Rattle.savi_history.specs.Replay.{Stops, event_of, with_event, begun, with_drain, with_end, replayed}
+use Rattle.savi_history.specs.Replay.{Stops, event_of, with_event, begun, with_drain, closing, with_end, replayed}
 use Rattle.savi_history.proofs.ControlSame.{ControlSame, control_arrival, control_ingress, control_ticker, control_begun, control_drain, control_close}
 use Rattle.savi_history.proofs.Replaying.{Controlled, EndsInput, IsKept, replay_has}
 use Rattle.savi_history.proofs.Finished.{replay_finished}
@@ -24,7 +24,7 @@ use Rattle.savi_history.proofs.FittingReplies.{stands_replayed}
 
 -- no line comes, and control may end so alone
 abbrev silent : Controlled
-silent = record { Comes = λ line. ⊥; Closes = λ how. how ≡ hows.End; full = λ line len comes. absurd comes }
+silent = record { Comes = λ line. ⊥; Closes = λ how. how ≡ hows.End; paused = λ line comes. absurd comes }
 
 -- no line was entered, and control has ended so or not at all
 record IsSilent (past : List Row) : Type 0 where
@@ -50,7 +50,7 @@ module _ (plan : Plan) (stops : Stops) where
     arrives = λ past port a was. silent_same past (with_event plan empty past (event_of port a)) (control_arrival plan empty past port a) was;
     commands = λ past line comes running was. absurd comes;
     ends = λ past who how is running was. silent_end past who how is was;
-    ticks = λ past was. silent_same past (with_event plan empty past (End passes.Ticker hows.End)) (control_ticker plan empty past) was;
+    ticks = λ past was. silent_same past (with_event plan empty past (End passes.Ticker (closing past))) (control_ticker plan empty past) was;
     drains = λ past port at was.
         let count = length (queue plan empty (number_of port) past) in
         silent_same past (with_drain plan empty stops.ports port count past) (control_drain plan empty stops.ports past port count) was;

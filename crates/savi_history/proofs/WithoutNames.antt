@@ -25,7 +25,7 @@ use Rattle.savi_kinds.specs.Ports.{number_of}
 use Rattle.savi_kinds.specs.PortSets.{is_member, set_of}
 use Rattle.savi_kinds.specs.ValidPlan.{numbers_of}
 use Rattle.hist_store.specs.Rows.{Row}
-use Rattle.savi_history.specs.Bases.{Base, access_of}
+use Rattle.checkpoint.specs.Bases.{Base, access_of}
 use Rattle.savi_history.specs.Passes.{role_among, is_trusted, pass_of, egress_pass, place_among, has_ended}
 use Rattle.savi_history.specs.Offers.{Offer, offer_of, due_by, in_answer, probes_of, offers}
 use Rattle.savi_history.specs.Moments.{last_moment, moment_at}
@@ -307,7 +307,7 @@ module _ (plan : Plan) (base : Base) where
   ended_kept past q r (passes.Egress port) (hows.Malformed at) waiting = refl
   ended_kept past q r (passes.Egress port) (hows.Overlong at) waiting = refl
   ended_kept past q r (passes.Egress port) hows.Unwritten waiting = refl
-  ended_kept past q r (passes.Egress port) (hows.Full len) waiting = refl
+  ended_kept past q r (passes.Egress port) hows.Paused waiting = refl
   ended_kept past q r (passes.Ingress port) how waiting = refl
   ended_kept past q r passes.Control how waiting = refl
   ended_kept past q r passes.Ticker how waiting = refl

@@ -11,7 +11,7 @@ use Rattle.savi_access.specs.Marks.{newest_moment}
 use Rattle.savi_access.specs.Legal.{AreMarks}
 use Rattle.savi_access.specs.Access.{IsIpv6, HasAccess}
 use Rattle.savi_access.specs.Plans.{rules_of, role_of}
-use Rattle.savi_history.specs.Bases.{Base, access_of}
+use Rattle.checkpoint.specs.Bases.{Base, access_of}
 use Rattle.savi_history.specs.Moments.{last_moment}
 use Rattle.savi_history.specs.Vlans.{the_vlan}
 use Rattle.savi_history.specs.ShutPorts.{is_shut}

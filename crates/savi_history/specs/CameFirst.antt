@@ -15,7 +15,7 @@ use Rattle.savi_access.specs.States.{IsLiveAfter}
 use Rattle.savi_access.specs.FirstCome.{IsKeptOn}
 use Rattle.savi_access.specs.Marks.{Mark, told}
 use Rattle.savi_access.specs.Plans.{rules_of, role_of}
-use Rattle.savi_history.specs.Bases.{Base, access_of}
+use Rattle.checkpoint.specs.Bases.{Base, access_of}
 use Rattle.savi_history.specs.Vlans.{the_vlan}
 use Rattle.savi_history.specs.Moments.{last_moment}
 use Rattle.savi_history.specs.Marks.{marks}

@@ -68,7 +68,7 @@ FitsControl Arrives before after lines (Some (hows.Malformed at)) =
 FitsControl Arrives before after lines (Some (hows.Overlong at)) =
     IsWhole (Arrives true) before lines (hows.Overlong at) × HasNoQuit lines
 FitsControl Arrives before after lines (Some hows.Failed) = AreBeforeFault Arrives before after lines × HasNoQuit lines
-FitsControl Arrives before after lines (Some (hows.Full len)) = AreBeforeRefusal Arrives before after lines × HasNoQuit lines
+FitsControl Arrives before after lines (Some hows.Paused) = AreBeforeRefusal Arrives before after lines × HasNoQuit lines
 FitsControl Arrives before after lines (Some hows.Quit) = AreFirst (Arrives true) before lines × EndsAtQuit lines
 FitsControl Arrives before after lines (Some hows.Unwritten) = AreFirst (Arrives true) before lines × HasNoQuitBefore lines
 FitsControl Arrives before after lines None = ⊥

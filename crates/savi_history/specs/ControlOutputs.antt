@@ -8,7 +8,7 @@ use Rattle.savi_kinds.specs.declared.entry.How.{How}
 use Rattle.savi_kinds.specs.declared.entry.How.TheVariants as hows
 use Rattle.savi_ends.specs.Octets.{behind, IsFront}
 use Rattle.hist_store.specs.Rows.{Row}
-use Rattle.savi_history.specs.Bases.{Base}
+use Rattle.checkpoint.specs.Bases.{Base}
 use Rattle.savi_history.specs.ControlInputs.{control_end}
 use Rattle.savi_history.specs.Shown.{shown}
 
@@ -43,7 +43,7 @@ FitsReplies before after replies (Some (hows.Malformed at)) = after ≡ behind b
 FitsReplies before after replies (Some (hows.Overlong at)) = after ≡ behind before (concat replies)
 FitsReplies before after replies (Some hows.Failed) = after ≡ behind before (concat replies)
 FitsReplies before after replies (Some hows.Unwritten) = IsUnwritten before after replies
-FitsReplies before after replies (Some (hows.Full len)) = after ≡ behind before (concat replies)
+FitsReplies before after replies (Some hows.Paused) = after ≡ behind before (concat replies)
 FitsReplies before after replies None = ⊥
 
 -- the same after a history

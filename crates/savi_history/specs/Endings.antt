@@ -17,7 +17,7 @@ is_malformed_reason (hows.Malformed at) = true
 is_malformed_reason (hows.Overlong at) = true
 is_malformed_reason hows.Failed = false
 is_malformed_reason hows.Unwritten = false
-is_malformed_reason (hows.Full len) = false
+is_malformed_reason hows.Paused = false
 
 -- a read of the input failed, or a write of the output
 abbrev pub is_failed_reason : How → Bool
@@ -27,7 +27,7 @@ is_failed_reason (hows.Malformed at) = false
 is_failed_reason (hows.Overlong at) = false
 is_failed_reason hows.Failed = true
 is_failed_reason hows.Unwritten = false
-is_failed_reason (hows.Full len) = false
+is_failed_reason hows.Paused = false
 
 -- a reply could not be written
 abbrev pub is_unwritten_reason : How → Bool
@@ -37,17 +37,17 @@ is_unwritten_reason (hows.Malformed at) = false
 is_unwritten_reason (hows.Overlong at) = false
 is_unwritten_reason hows.Failed = false
 is_unwritten_reason hows.Unwritten = true
-is_unwritten_reason (hows.Full len) = false
+is_unwritten_reason hows.Paused = false
 
--- there was no room for what was to come
-abbrev pub is_full_reason : How → Bool
-is_full_reason hows.End = false
-is_full_reason hows.Quit = false
-is_full_reason (hows.Malformed at) = false
-is_full_reason (hows.Overlong at) = false
-is_full_reason hows.Failed = false
-is_full_reason hows.Unwritten = false
-is_full_reason (hows.Full len) = true
+-- there was no room for what was to come: the pass goes on in the next segment
+abbrev pub is_paused_reason : How → Bool
+is_paused_reason hows.End = false
+is_paused_reason hows.Quit = false
+is_paused_reason (hows.Malformed at) = false
+is_paused_reason (hows.Overlong at) = false
+is_paused_reason hows.Failed = false
+is_paused_reason hows.Unwritten = false
+is_paused_reason hows.Paused = true
 
 -- an end with a reason of which this holds
 abbrev pub ends_with : (How → Bool) → Act → Bool
@@ -92,8 +92,17 @@ is_failed_write (acts.End who how) = is_failed_write_of who how
 abbrev pub is_malformed_end : Act → Bool
 is_malformed_end act = ends_with is_malformed_reason act
 
-abbrev pub is_full_end : Act → Bool
-is_full_end act = ends_with is_full_reason act
+abbrev pub is_paused_end : Act → Bool
+is_paused_end act = ends_with is_paused_reason act
+
+-- an input is paused
+abbrev pub is_paused_input : Act → Bool
+is_paused_input (acts.Frame port stamp at len) = false
+is_paused_input (acts.Long port stamp len) = false
+is_paused_input (acts.Tick stamp) = false
+is_paused_input (acts.Command stamp at len) = false
+is_paused_input (acts.Drain port count) = false
+is_paused_input (acts.End who how) = is_input who && is_paused_reason how
 
 -- an input of the history was malformed, or a line of it was too long
 abbrev pub has_malformed : List Row → Bool
@@ -107,6 +116,10 @@ has_failed rows = list_any (λ r. is_failed_end r.entry.act) rows
 abbrev pub has_failed_write : List Row → Bool
 has_failed_write rows = list_any (λ r. is_failed_write r.entry.act) rows
 
--- a pass of the history ended for want of room
-abbrev pub has_full : List Row → Bool
-has_full rows = list_any (λ r. is_full_end r.entry.act) rows
+-- a pass of the history was paused for want of room
+abbrev pub has_paused_end : List Row → Bool
+has_paused_end rows = list_any (λ r. is_paused_end r.entry.act) rows
+
+-- an input of the history was paused for want of room: so the history goes on in a next segment
+abbrev pub has_pause : List Row → Bool
+has_pause rows = list_any (λ r. is_paused_input r.entry.act) rows

@@ -12,7 +12,7 @@ use Rattle.savi_kinds.specs.declared.entry.How.{How}
 use Rattle.savi_kinds.specs.Ports.{number_of}
 use Rattle.savi_kinds.specs.PortSets.{no_ports}
 use Rattle.hist_store.specs.Rows.{Row, held}
-use Rattle.savi_history.specs.Bases.{Base}
+use Rattle.checkpoint.specs.Bases.{Base}
 use Rattle.savi_history.specs.Passes.{pass_of}
 use Rattle.savi_history.specs.Moments.{last_moment, moment_at}
 pub use Rattle.savi_history.specs.Vlans.{the_vlan}

@@ -32,7 +32,7 @@ abbrev pub Fits : (Bool → List ℕ → List Arrival → How → Type 0)
 Fits Arrives before after arrivals (Some hows.End) = IsWhole (Arrives true) before arrivals hows.End
 Fits Arrives before after arrivals (Some (hows.Malformed at)) = IsWhole (Arrives true) before arrivals (hows.Malformed at)
 Fits Arrives before after arrivals (Some hows.Failed) = IsBroken (Arrives false) before after arrivals
-Fits Arrives before after arrivals (Some (hows.Full len)) = IsCut (Arrives true) before after arrivals
+Fits Arrives before after arrivals (Some hows.Paused) = IsCut (Arrives true) before after arrivals
 Fits Arrives before after arrivals (Some hows.Quit) = ⊥
 Fits Arrives before after arrivals (Some (hows.Overlong at)) = ⊥
 Fits Arrives before after arrivals (Some hows.Unwritten) = ⊥

@@ -10,7 +10,7 @@ use Rattle.savi_kinds.specs.Ports.{number_of}
 use Rattle.frame_class.specs.ClassOf.{class_of}
 use Rattle.hist_store.specs.Rows.{Row}
 use Rattle.savi_access.specs.Judged.{Judged}
-use Rattle.savi_history.specs.Bases.{Base}
+use Rattle.checkpoint.specs.Bases.{Base}
 use Rattle.savi_history.specs.ShutPorts.{is_shut}
 use Rattle.savi_history.specs.Moments.{moment_at}
 use Rattle.savi_history.specs.Marks.{marks, judged_after}

@@ -8,9 +8,10 @@ use Rattle.savi_kinds.specs.declared.entry.How.{How}
 use Rattle.savi_kinds.specs.declared.entry.How.TheVariants as hows
 use Rattle.savi_kinds.specs.Ports.{number_of}
 use Rattle.hist_store.specs.Rows.{Row}
-use Rattle.savi_history.specs.Bases.{Base}
+use Rattle.checkpoint.specs.Bases.{Base}
 use Rattle.savi_history.specs.Passes.{has_pass, pass_of, pass_count, control_pass, ticker_pass, has_ended, AllEnded}
 use Rattle.savi_history.specs.Limits.{has_room}
+use Rattle.savi_history.specs.Endings.{has_pause}
 use Rattle.savi_history.specs.Queues.{queue}
 use Rattle.savi_history.specs.Moments.{moment_at}
 use Rattle.savi_history.specs.Ticks.{HasChangedBy}
@@ -47,16 +48,11 @@ pub record MayTick (plan : Plan) (base : Base) (past : List Row) (stamp : ℕ) :
   pub fits : IsU64 stamp
   pub changed : HasChangedBy plan base past (moment_at base past stamp)
 
--- the history has no room, and this is its length
-pub record IsFull (plan : Plan) (past : List Row) (len : ℕ) : Type 0 where
-  pub no_room : has_room plan past ≡ false
-  pub all : len ≡ length past
-
 -- every ingress pass and control have ended
 abbrev pub InputsEnded : Plan → Base → List Row → Type 0
 InputsEnded plan base past = AllEnded base (control_pass plan + 1) past
 
--- the reasons for which an ingress pass may end
+-- the reasons for which an ingress pass may end: it may be paused where there is no room for another input
 abbrev pub MayEndIngress : Plan → List Row → How → Type 0
 MayEndIngress plan past hows.End = Unit {0}
 MayEndIngress plan past hows.Quit = ⊥
@@ -64,7 +60,7 @@ MayEndIngress plan past (hows.Malformed at) = IsU64 at
 MayEndIngress plan past (hows.Overlong at) = ⊥
 MayEndIngress plan past hows.Failed = Unit {0}
 MayEndIngress plan past hows.Unwritten = ⊥
-MayEndIngress plan past (hows.Full len) = IsFull plan past len
+MayEndIngress plan past hows.Paused = has_room plan past ≡ false
 
 abbrev pub MayEndControl : Plan → List Row → How → Type 0
 MayEndControl plan past hows.End = Unit {0}
@@ -73,27 +69,31 @@ MayEndControl plan past (hows.Malformed at) = IsU64 at
 MayEndControl plan past (hows.Overlong at) = IsU64 at
 MayEndControl plan past hows.Failed = Unit {0}
 MayEndControl plan past hows.Unwritten = Unit {0}
-MayEndControl plan past (hows.Full len) = IsFull plan past len
+MayEndControl plan past hows.Paused = has_room plan past ≡ false
 
--- the ticker goes on while an input may come
+-- the ticker goes on while an input may come; it is paused where an input is
 abbrev pub MayEndTicker : Plan → Base → List Row → How → Type 0
-MayEndTicker plan base past hows.End = InputsEnded plan base past
+MayEndTicker plan base past hows.End = InputsEnded plan base past × (has_pause past ≡ false)
 MayEndTicker plan base past hows.Quit = ⊥
 MayEndTicker plan base past (hows.Malformed at) = ⊥
 MayEndTicker plan base past (hows.Overlong at) = ⊥
 MayEndTicker plan base past hows.Failed = ⊥
 MayEndTicker plan base past hows.Unwritten = ⊥
-MayEndTicker plan base past (hows.Full len) = IsFull plan past len
+MayEndTicker plan base past hows.Paused = InputsEnded plan base past × (has_pause past ≡ true)
 
--- an egress goes on while anything may be queued or waits
+-- all passes but those of egresses have ended, and nothing waits at q
+abbrev pub HasNothingToSend : Plan → Base → List Row → ℕ → Type 0
+HasNothingToSend plan base past q = AllEnded base (ticker_pass plan + 1) past × (queue plan base q past ≡ [])
+
+-- an egress goes on while anything may be queued or waits; it is paused where an input is
 abbrev pub MayEndEgress : Plan → Base → List Row → ℕ → How → Type 0
-MayEndEgress plan base past q hows.End = AllEnded base (ticker_pass plan + 1) past × (queue plan base q past ≡ [])
+MayEndEgress plan base past q hows.End = HasNothingToSend plan base past q × (has_pause past ≡ false)
 MayEndEgress plan base past q hows.Quit = ⊥
 MayEndEgress plan base past q (hows.Malformed at) = ⊥
 MayEndEgress plan base past q (hows.Overlong at) = ⊥
 MayEndEgress plan base past q hows.Failed = Unit {0}
 MayEndEgress plan base past q hows.Unwritten = ⊥
-MayEndEgress plan base past q (hows.Full len) = ⊥
+MayEndEgress plan base past q hows.Paused = HasNothingToSend plan base past q × (has_pause past ≡ true)
 
 abbrev pub MayEnd : Plan → Base → List Row → Who → How → Type 0
 MayEnd plan base past (Ingress p) how = MayEndIngress plan past how

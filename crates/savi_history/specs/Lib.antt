@@ -1,5 +1,4 @@
 pub mod Vlans
-pub mod Bases
 pub mod StationLimits
 pub mod Stations
 pub mod StationLaws

@@ -2,7 +2,7 @@
 -- before the last entry's, and every other entry has the last one's.
 use Rattle.std.specs.Prelude.{ℕ, ◌^◌, min, max, List, [], ◌∷◌}
 use Rattle.hist_store.specs.Rows.{Row}
-use Rattle.savi_history.specs.Bases.{Base}
+use Rattle.checkpoint.specs.Bases.{Base}
 
 abbrev pub last_moment : Base → List Row → ℕ
 last_moment base [] = base.moment

@@ -14,7 +14,7 @@ use Rattle.savi_kinds.specs.Ports.{number_of}
 use Rattle.savi_kinds.specs.PortSets.{no_ports, set_of, is_member}
 use Rattle.savi_kinds.specs.ValidPlan.{numbers_of}
 use Rattle.hist_store.specs.Rows.{Row}
-use Rattle.savi_history.specs.Bases.{Base}
+use Rattle.checkpoint.specs.Bases.{Base}
 use Rattle.savi_history.specs.Passes.{is_trusted}
 use Rattle.savi_history.specs.ShutPorts.{is_shut}
 use Rattle.savi_history.specs.Stations.{known_port}

@@ -13,7 +13,7 @@ use Rattle.savi_kinds.specs.Ports.{number_of}
 use Rattle.savi_kinds.specs.ValidPlan.{numbers_of}
 use Rattle.hist_store.specs.Rows.{Row}
 pub use Rattle.savi_access.specs.Plans.{has_port, role_among, role_of}
-use Rattle.savi_history.specs.Bases.{Base}
+use Rattle.checkpoint.specs.Bases.{Base}
 
 abbrev pub is_trusted : Role → Bool
 is_trusted roles.Host = false
@@ -64,7 +64,7 @@ is_end (End who how) = true
 
 -- whether a pass has ended
 abbrev pub has_ended : Base → ℕ → List Row → Bool
-has_ended base pass [] = list_any (λ n. n == pass) base.ended
+has_ended base pass [] = list_any (λ ended. ended.0 == pass) base.ended
 has_ended base pass (r ∷ past) = (is_end r.entry.act && (r.entry.by == pass)) || has_ended base pass past
 
 -- each pass up to a number has ended

@@ -12,7 +12,7 @@ use Rattle.savi_kinds.specs.Ports.{number_of}
 use Rattle.savi_ends.specs.Octets.{behind, IsFront}
 use Rattle.pcap_io.specs.Captures.{header_text, record_text, capture_text}
 use Rattle.hist_store.specs.Rows.{Row}
-use Rattle.savi_history.specs.Bases.{Base}
+use Rattle.checkpoint.specs.Bases.{Base}
 use Rattle.savi_history.specs.Queues.{Item, sent}
 use Rattle.savi_history.specs.Outputs.{sent_items}
 
@@ -63,12 +63,12 @@ text_before_last_drain plan base port (r ∷ past) = text_before_last plan base 
 -- of it that holds all that the drains before the last one took. An output ends in no other way.
 abbrev pub FitsOutput : Option (List ℕ) → Option (List ℕ) → List ℕ → List ℕ → Option How → Type 0
 FitsOutput before after output sure (Some hows.End) = after ≡ behind before output
+FitsOutput before after output sure (Some hows.Paused) = after ≡ behind before output
 FitsOutput before after output sure (Some hows.Failed) = (octets : List ℕ) × (after ≡ behind before octets) × IsFront octets output × IsFront sure octets
 FitsOutput before after output sure (Some hows.Quit) = ⊥
 FitsOutput before after output sure (Some (hows.Malformed at)) = ⊥
 FitsOutput before after output sure (Some (hows.Overlong at)) = ⊥
 FitsOutput before after output sure (Some hows.Unwritten) = ⊥
-FitsOutput before after output sure (Some (hows.Full len)) = ⊥
 FitsOutput before after output sure None = ⊥
 
 -- the same of a port after a history

@@ -16,7 +16,7 @@ use Rattle.fcfs_states.specs.declared.answer.Probe.{Probe}
 use Rattle.fcfs_states.specs.declared.answer.Probe.TheVariants.{Trusted, To}
 use Rattle.probe_write.specs.ProbeFrame.{probe_of}
 use Rattle.hist_store.specs.Rows.{Row}
-use Rattle.savi_history.specs.Bases.{Base}
+use Rattle.checkpoint.specs.Bases.{Base}
 use Rattle.savi_history.specs.Passes.{egress_pass, has_ended, role_of, is_trusted}
 use Rattle.savi_history.specs.ShutPorts.{is_shut}
 use Rattle.savi_history.specs.Offers.{Offer, offers}

@@ -20,7 +20,7 @@ IsEnding (hows.Malformed at) = IsU64 at
 IsEnding (hows.Overlong at) = ⊥
 IsEnding hows.Failed = Unit {0}
 IsEnding hows.Unwritten = ⊥
-IsEnding (hows.Full len) = ⊥
+IsEnding hows.Paused = ⊥
 
 pub record IsInput (input : Input) : Type 0 where
   pub arrivals : All IsArrival input.arrivals
@@ -38,7 +38,7 @@ IsControlEnding (hows.Malformed at) = IsU64 at
 IsControlEnding (hows.Overlong at) = IsU64 at
 IsControlEnding hows.Failed = Unit {0}
 IsControlEnding hows.Unwritten = ⊥
-IsControlEnding (hows.Full len) = ⊥
+IsControlEnding hows.Paused = ⊥
 
 pub record IsControlInput (input : control.Input) : Type 0 where
   pub arrivals : All IsLineInRange input.arrivals

@@ -7,6 +7,7 @@ use Rattle.savi_kinds.specs.declared.port.Port.{Port}
 use Rattle.savi_kinds.specs.declared.plan.Plan.{Plan}
 use Rattle.savi_kinds.specs.declared.plan.PortPlan.{PortPlan}
 use Rattle.savi_kinds.specs.declared.entry.Who.TheVariants.{Ingress, Control, Ticker, Egress}
+use Rattle.savi_kinds.specs.declared.entry.How.{How}
 use Rattle.savi_kinds.specs.declared.entry.How.TheVariants as hows
 use Rattle.savi_kinds.specs.Ports.{number_of}
 use Rattle.savi_kinds.specs.Arrivals.{Arrival, Input}
@@ -14,9 +15,10 @@ use Rattle.savi_kinds.specs.Arrivals as arrivals
 use Rattle.cli_lang.specs.Arrivals.{Line}
 use Rattle.cli_lang.specs.Arrivals as control
 use Rattle.hist_store.specs.Rows.{Row}
-use Rattle.savi_history.specs.Bases.{Base}
+use Rattle.checkpoint.specs.Bases.{Base}
 use Rattle.savi_history.specs.Passes.{pass_of, egress_pass, has_ended}
 use Rattle.savi_history.specs.Limits.{has_room}
+use Rattle.savi_history.specs.Endings.{has_pause}
 use Rattle.savi_history.specs.Queues.{queue, sent}
 use Rattle.savi_history.specs.Events.{Event, Frame, Long, Command, Drain, End, row_of}
 use Rattle.savi_history.specs.ControlInputs.{is_quit}
@@ -87,16 +89,17 @@ abbrev pub with_line : Plan → Base → Option ℕ → Line → List Row → Li
 with_line plan base stop line past =
     with_reply plan base stop line (with_event plan base past (Command line.stamp line.command))
 
--- an arrival or a line is entered and the queues are drained, or there is no room and its input ends; an ending is entered
+-- an arrival or a line is entered and the queues are drained, or there is no room and its input is paused; an ending is
+-- entered
 abbrev pub entered : Plan → Base → Stops → Turn → List Row → List Row
 entered plan base stops (Arrives port arrival) past =
     if has_room plan past
     then drained plan base stops.ports plan.ports (with_event plan base past (event_of port arrival))
-    else with_event plan base past (End (Ingress port) (hows.Full (length past)))
+    else with_event plan base past (End (Ingress port) hows.Paused)
 entered plan base stops (Commands line) past =
     if has_room plan past
     then drained plan base stops.ports plan.ports (with_line plan base stops.control line past)
-    else with_event plan base past (End Control (hows.Full (length past)))
+    else with_event plan base past (End Control hows.Paused)
 entered plan base stops (Ends who how) past = with_event plan base past (End who how)
 
 -- what comes behind the end of its input is passed over
@@ -108,15 +111,23 @@ abbrev pub after_all : Plan → Base → Stops → List Turn → List Row → Li
 after_all plan base stops [] past = past
 after_all plan base stops (turn ∷ turns) past = after_all plan base stops turns (after plan base stops turn past)
 
+-- why the ticker and the outputs end: they are paused where an input is
+abbrev pub closing : List Row → How
+closing past = if has_pause past then hows.Paused else hows.End
+
 -- an egress that hasn't ended ends
 abbrev pub with_end : Plan → Base → Port → List Row → List Row
 with_end plan base port past =
-    if has_ended base (egress_pass plan (number_of port)) past then past else with_event plan base past (End (Egress port) hows.End)
+    if has_ended base (egress_pass plan (number_of port)) past then past else with_event plan base past (End (Egress port) (closing past))
 
 -- so does the egress of each of these ports
 abbrev pub egress_ended : Plan → Base → List PortPlan → List Row → List Row
 egress_ended plan base [] past = past
 egress_ended plan base (q ∷ qs) past = egress_ended plan base qs (with_end plan base q.number past)
+
+-- the ticker ends, and each egress
+abbrev pub closed : Plan → Base → List Row → List Row
+closed plan base past = egress_ended plan base plan.ports (with_event plan base past (End Ticker (closing past)))
 
 -- the turns of all inputs, taken behind the beginnings of the outputs
 abbrev pub inputs_taken : Plan → Base → Option control.Input → List Input → Stops → List Row
@@ -126,6 +137,4 @@ inputs_taken plan base lines inputs stops =
 -- The history of a replay of control's input, where it has one, and of these inputs, one for each port of the plan in its
 -- order, whose sinks fail so.
 abbrev pub replayed : Plan → Base → Option control.Input → List Input → Stops → List Row
-replayed plan base lines inputs stops =
-    egress_ended plan base plan.ports
-    (with_event plan base (inputs_taken plan base lines inputs stops) (End Ticker hows.End))
+replayed plan base lines inputs stops = closed plan base (inputs_taken plan base lines inputs stops)

@@ -1,13 +1,9 @@
 -- What a command is answered on control: why it is refused; `ok`; or, for a `show`, what the switch knows. A command is
 -- refused by what stood before its entry; a `show` reads the history with the entry and the probes that fell due by then.
-use Rattle.std.specs.Prelude.{ℕ, ◌==◌, Bool, false, List, [], ◌∷◌, length, map, count_ones, Option, Some, None, Result, Ok, Err}
+use Rattle.std.specs.Prelude.{ℕ, List, [], ◌∷◌, length, map, Option, Some, None, Result, Ok, Err}
 use Rattle.savi_kinds.specs.declared.plan.Plan.{Plan}
 use Rattle.savi_kinds.specs.declared.plan.PortPlan.{PortPlan}
-use Rattle.savi_kinds.specs.declared.verdict.Rule.{Rule}
-use Rattle.savi_kinds.specs.declared.verdict.Verdict.{Verdict}
-use Rattle.savi_kinds.specs.declared.verdict.Verdict.TheVariants.{Pass, Drop}
 use Rattle.savi_kinds.specs.Ports.{number_of}
-use Rattle.savi_kinds.specs.Rules.{rule_number}
 use Rattle.dhcp_states.specs.Requests.{requests_at_port}
 use Rattle.savi_access.specs.Rows.{count_at}
 use Rattle.bridge_fdb.specs.Stations.{live_at, station_told}
@@ -22,34 +18,22 @@ use Rattle.control_replies.specs.declared.counts.Counts.{Counts}
 use Rattle.control_replies.specs.Replies.{refusal_text, ok_text}
 use Rattle.control_replies.specs.Bindings.{bindings_text}
 use Rattle.control_replies.specs.Shows.{ports_text, stations_text}
-use Rattle.control_replies.specs.Counters.{all_rules, counters_text}
+use Rattle.control_replies.specs.Counters.{counters_text}
+use Rattle.control_replies.specs.Counting.{counted_with}
 use Rattle.savi_access.specs.Marks.{open_requests}
 use Rattle.savi_access.specs.Plans.{times_of}
-use Rattle.savi_history.specs.Bases.{Base, access_of}
+use Rattle.checkpoint.specs.Bases.{Base, access_of}
 use Rattle.savi_history.specs.Vlans.{the_vlan}
 use Rattle.savi_history.specs.ShutPorts.{is_shut}
 use Rattle.savi_history.specs.Commands.{rows_told, fault_refusal, refusal_of}
 use Rattle.savi_history.specs.Marks.{marks}
 use Rattle.savi_history.specs.Queues.{queue}
 use Rattle.savi_history.specs.Stations.{stations}
-use Rattle.savi_history.specs.Summary.{is_pass, total, number_with}
 
--- a frame was dropped by this rule
-abbrev pub is_drop_by : Rule → Option Verdict → Bool
-is_drop_by rule None = false
-is_drop_by rule (Some (Pass scope)) = false
-is_drop_by rule (Some (Drop by)) = rule_number by == rule_number rule
-
--- what a history counts: how many frames each rule dropped, how many passed, how often a frame was left out at a port, and
--- how many probes were queued and left out
-abbrev pub counts_of : List Row → Counts
-counts_of past = record {
-  by_rule = map (λ rule. number_with (λ r. is_drop_by rule r.entry.verdict) past) all_rules;
-  pass = number_with (λ r. is_pass r.entry.verdict) past;
-  cut = total (λ r. count_ones r.entry.cuts.0) past;
-  probes = total (λ r. r.entry.probes) past;
-  lost = total (λ r. r.entry.lost) past;
-}
+-- what is counted up to the end of a history
+abbrev pub counts_of : Base → List Row → Counts
+counts_of base [] = base.counts
+counts_of base (r ∷ past) = counted_with r.entry (counts_of base past)
 
 -- what is told of a port at this moment
 abbrev pub port_row : Plan → Base → List Row → ℕ → PortPlan → PortRow
@@ -67,7 +51,7 @@ abbrev pub reply_to : Plan → Base → List Row → ℕ → Result Command CmdF
 reply_to plan base past moment (Err fault) = refusal_text (fault_refusal fault)
 reply_to plan base past moment (Ok ShowBindings) = bindings_text (times_of plan) (rows_told plan (access_of base) (marks plan base past) moment)
 reply_to plan base past moment (Ok ShowPorts) = ports_text (map (port_row plan base past moment) plan.ports)
-reply_to plan base past moment (Ok ShowCounters) = counters_text (counts_of past)
+reply_to plan base past moment (Ok ShowCounters) = counters_text (counts_of base past)
 reply_to plan base past moment (Ok ShowStations) = stations_text (map station_told (live_at moment (stations the_vlan base past)))
 reply_to plan base past moment (Ok (Clear address)) = ok_text
 reply_to plan base past moment (Ok (Static address port)) = ok_text

@@ -12,7 +12,7 @@ use Rattle.cli_lang.specs.declared.kinds.Command.TheVariants.{ShowBindings, Show
 use Rattle.cli_lang.specs.declared.kinds.CmdFault.{CmdFault}
 use Rattle.cli_lang.specs.CommandOf.{command_of}
 use Rattle.hist_store.specs.Rows.{Row}
-use Rattle.savi_history.specs.Bases.{Base}
+use Rattle.checkpoint.specs.Bases.{Base}
 use Rattle.savi_history.specs.Passes.{has_port}
 
 -- A `shut` or an `open` of a port is answered `ok` where the port is one of the plan; else it is refused, and no port is

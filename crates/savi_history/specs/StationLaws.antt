@@ -11,7 +11,7 @@ use Rattle.savi_kinds.specs.PortSets.{is_member}
 use Rattle.savi_kinds.specs.Macs.{is_group}
 use Rattle.bridge_fdb.specs.declared.station.Station.{Station}
 use Rattle.hist_store.specs.Rows.{Row}
-use Rattle.savi_history.specs.Bases.{Base}
+use Rattle.checkpoint.specs.Bases.{Base}
 use Rattle.savi_history.specs.Vlans.{the_vlan}
 use Rattle.savi_history.specs.Passes.{has_port}
 use Rattle.savi_history.specs.ShutPorts.{is_shut}

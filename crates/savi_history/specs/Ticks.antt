@@ -8,7 +8,7 @@ use Rattle.savi_access.specs.States.{state_at}
 use Rattle.savi_access.specs.Probes.{HasChanged}
 use Rattle.savi_access.specs.Marks.{told, open_requests}
 use Rattle.savi_access.specs.Plans.{rules_of}
-use Rattle.savi_history.specs.Bases.{Base, access_of}
+use Rattle.checkpoint.specs.Bases.{Base, access_of}
 use Rattle.savi_history.specs.Moments.{last_moment, moment_at}
 use Rattle.savi_history.specs.Vlans.{the_vlan}
 use Rattle.savi_history.specs.ShutPorts.{is_shut}

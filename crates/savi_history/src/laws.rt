@@ -8,7 +8,7 @@ ghost use Rattle.savi_kinds.specs.declared.entry.How.TheVariants as hows;
 ghost use Rattle.savi_kinds.specs.declared.plan.Plan.{Plan};
 ghost use Rattle.hist_store.specs.JournalTexts.{address_text};
 ghost use Rattle.hist_store.specs.Rows.{Row};
-ghost use Rattle.savi_history.specs.Bases.{Base, empty, access_of};
+ghost use Rattle.checkpoint.specs.Bases.{Base, empty, access_of};
 ghost use Rattle.savi_history.specs.Legal.{IsLegal, IsFinished, MayCome};
 ghost use Rattle.savi_history.specs.CameFirst.{IsLiveAtEnd, IsLostSince, AllKeepWhoCameFirst};
 ghost use Rattle.savi_history.specs.Events.{Frame, outs_of};
@@ -78,9 +78,9 @@ pub fn packets_pass_where_their_source_is_live()
 {}
 
 /// First come, first served, over histories of a switch that validates sources. Where an address is live at a port after the
-/// first entries of a legal history, and a later entry is a frame that passes at another port of a host or a server with that
-/// address as its source, its first port had lost it by one of three causes (`all`). The same of a frame that comes in next
-/// (`next`).
+/// first entries of a legal history, and a later entry is a frame that passes at another port of a host or a server with
+/// that address as its source, its first port had lost it by one of three causes (`all`). The same of a frame that comes in
+/// next (`next`).
 pub fn histories_keep_who_came_first()
     ensures all { (plan : Plan) (base : Base) (past : List Row) → IsValidPlan plan → IsWithinLimits plan base → plan.savi ≡ true
         → IsLegal plan base past → All (λ r. IsBytes r.octets) past → AllKeepWhoCameFirst plan base past }

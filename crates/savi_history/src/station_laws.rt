@@ -3,7 +3,7 @@
 ghost use Rattle.std.specs.Prelude.{ℕ, List, All};
 ghost use Rattle.savi_kinds.specs.declared.plan.Plan.{Plan};
 ghost use Rattle.hist_store.specs.Rows.{Row};
-ghost use Rattle.savi_history.specs.Bases.{Base};
+ghost use Rattle.checkpoint.specs.Bases.{Base};
 ghost use Rattle.savi_history.specs.Moments.{last_moment};
 ghost use Rattle.savi_history.specs.Limits.{IsWithinLimits};
 ghost use Rattle.savi_history.specs.Legal.{IsLegal};

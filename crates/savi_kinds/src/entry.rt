@@ -2,7 +2,7 @@ use crate::address::Moment;
 use crate::port::{Port, PortSet};
 use crate::verdict::Verdict;
 
-/// A pass: one of the activities that make entries, each of which ends once.
+/// A pass: one of the activities that make entries. Each ends once in a segment of the history.
 #[derive(Clone, Copy, PartialEq, Eq, Debug)]
 pub enum Who {
     Ingress(Port),
@@ -11,7 +11,7 @@ pub enum Who {
     Egress(Port),
 }
 
-/// Why a pass ended.
+/// Why a pass ended, for good or in this segment of the history.
 #[derive(Clone, Copy, PartialEq, Eq, Debug)]
 pub enum How {
     /// Its input was read to the end, or nothing was left to do.
@@ -26,8 +26,8 @@ pub enum How {
     Failed,
     /// A reply could not be written.
     Unwritten,
-    /// The history had this many entries and no room for another input.
-    Full(u64),
+    /// The history had no room for another input: the pass goes on in the next segment.
+    Paused,
 }
 
 /// What an entry of the history records.

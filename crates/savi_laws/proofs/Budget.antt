@@ -34,7 +34,7 @@ use Rattle.savi_access.specs.Plans.{rules_of}
 use Rattle.savi_access.proofs.AllSends.{sends-late}
 use Rattle.savi_access.proofs.Orders.{order-length}
 use Rattle.savi_access.proofs.TablesOf.{table_at, rows-later, changes}
-use Rattle.savi_history.specs.Bases.{Base, access_of}
+use Rattle.checkpoint.specs.Bases.{Base, access_of}
 use Rattle.savi_history.specs.Vlans.{the_vlan}
 use Rattle.savi_history.specs.Moments.{last_moment, moment_at}
 use Rattle.savi_history.specs.Limits.{IsWithinLimits}

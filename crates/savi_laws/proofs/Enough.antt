@@ -7,14 +7,15 @@ use Rattle.savi_kinds.specs.declared.entry.Who.TheVariants as passes
 use Rattle.savi_kinds.specs.declared.entry.How.{How}
 use Rattle.savi_kinds.specs.declared.entry.How.TheVariants as hows
 use Rattle.hist_store.specs.Rows.{Row, held}
-use Rattle.savi_history.specs.Bases.{Base}
+use Rattle.checkpoint.specs.Bases.{Base}
 use Rattle.savi_history.specs.Vlans.{the_vlan}
 use Rattle.savi_history.specs.Limits.{IsWithinLimits, has_room}
 use Rattle.savi_history.specs.Passes.{pass_of, pass_count, has_ended}
-use Rattle.savi_history.specs.Endings.{has_full, is_full_reason}
+use Rattle.savi_history.specs.Endings.{has_pause, has_paused_end, is_paused_reason}
 use Rattle.savi_history.specs.Legal.{IsLegal, Stands, MayCome, MayEnd, IsOpen}
 use Rattle.savi_history.specs.Events.{Event, Frame, Long, Command, Tick, Drain, End, row_of}
 use Rattle.savi_laws.specs.Budgets.{input_count, causes, entries_most, Suffices}
+use Rattle.savi_laws.proofs.Pauses.{no_pause}
 use Rattle.savi_laws.proofs.FewEnds.{open_below, pass_low}
 use Rattle.savi_laws.proofs.Budget.{entries_few}
 
@@ -77,24 +78,24 @@ module _ (plan : Plan) (base : Base) (few_ports : length plan.ports ≤ 16) (wit
     bytes = fewer_octets (held past) (length r.octets) plan.bytes suffices.bytes;
   }
 
-  is_not_full : (past : List Row) (who : Who) (len : ℕ) → has_room plan past ≡ true → MayEnd plan base past who (hows.Full len) → ⊥
-  is_not_full past (passes.Ingress p) len room may = false≢true (sym may.no_room ∙ room)
-  is_not_full past passes.Control len room may = false≢true (sym may.no_room ∙ room)
-  is_not_full past passes.Ticker len room may = false≢true (sym may.no_room ∙ room)
-  is_not_full past (passes.Egress p) len room may = may
+  is_not_paused : (past : List Row) (who : Who) → has_room plan past ≡ true → has_pause past ≡ false → MayEnd plan base past who hows.Paused → ⊥
+  is_not_paused past (passes.Ingress p) room none may = false≢true (sym may ∙ room)
+  is_not_paused past passes.Control room none may = false≢true (sym may ∙ room)
+  is_not_paused past passes.Ticker room none may = false≢true (sym none ∙ may.1)
+  is_not_paused past (passes.Egress p) room none may = false≢true (sym none ∙ may.1)
 
-  -- no pass ends for want of room that there is
-  ends_well : (past : List Row) (who : Who) (how : How) → has_room plan past ≡ true → MayEnd plan base past who how → is_full_reason how ≡ false
-  ends_well past who hows.End room may = refl
-  ends_well past who hows.Quit room may = refl
-  ends_well past who (hows.Malformed at) room may = refl
-  ends_well past who (hows.Overlong at) room may = refl
-  ends_well past who hows.Failed room may = refl
-  ends_well past who hows.Unwritten room may = refl
-  ends_well past who (hows.Full len) room may = absurd (is_not_full past who len room may)
+  -- no pass is paused where there is room and no input was paused before
+  ends_well : (past : List Row) (who : Who) (how : How) → has_room plan past ≡ true → has_pause past ≡ false → MayEnd plan base past who how → is_paused_reason how ≡ false
+  ends_well past who hows.End room none may = refl
+  ends_well past who hows.Quit room none may = refl
+  ends_well past who (hows.Malformed at) room none may = refl
+  ends_well past who (hows.Overlong at) room none may = refl
+  ends_well past who hows.Failed room none may = refl
+  ends_well past who hows.Unwritten room none may = refl
+  ends_well past who hows.Paused room none may = absurd (is_not_paused past who room none may)
 
   abbrev EndsWell : List Row → Type 0
-  EndsWell past = Suffices plan (causes base past) (held past) → has_full past ≡ false
+  EndsWell past = Suffices plan (causes base past) (held past) → has_paused_end past ≡ false
 
   well_event : (past : List Row) (event : Event) → IsLegal plan base past → MayCome plan base past event → EndsWell past → EndsWell (row_of plan base past event ∷ past)
   well_event past (Frame port stamp octets) legal may well suffices = well (before past (row_of plan base past (Frame port stamp octets)) (omega arith) suffices)
@@ -104,7 +105,8 @@ module _ (plan : Plan) (base : Base) (few_ports : length plan.ports ≤ 16) (wit
   well_event past (Drain port count) legal may well suffices = well (before past (row_of plan base past (Drain port count)) (omega arith) suffices)
   well_event past (End who how) legal may well suffices =
       let enough : Suffices plan (causes base past) (held past) = before past (row_of plan base past (End who how)) (omega arith) suffices in
-      or_false (is_full_reason how) (has_full past) (ends_well past who how (open_has_room past who legal may.0 enough) may.1) (well enough)
+      let none : has_paused_end past ≡ false = well enough in
+      or_false (is_paused_reason how) (has_paused_end past) (ends_well past who how (open_has_room past who legal may.0 enough) (no_pause past none) may.1) none
 
   pub none_full : (past : List Row) → IsLegal plan base past → EndsWell past
   none_full [] legal suffices = refl

@@ -21,7 +21,7 @@ use Rattle.fcfs_states.proofs.AgeingLemmas.{rank}
 use Rattle.mix_rules.specs.declared.state.AddrState.{AddrState}
 use Rattle.hist_store.specs.Rows.{Row}
 use Rattle.savi_access.specs.Judged.{judged}
-use Rattle.savi_history.specs.Bases.{empty}
+use Rattle.checkpoint.specs.Bases.{empty}
 use Rattle.savi_history.specs.Judged.{verdict_of}
 use Rattle.savi_history.specs.Limits.{has_room}
 use Rattle.savi_history.specs.Passes.{has_ended}

@@ -11,7 +11,7 @@ use Rattle.savi_kinds.specs.Ports.{number_of}
 use Rattle.savi_kinds.specs.ValidPlan.{numbers_of}
 use Rattle.std.proofs.lemmas.List.{length-map}
 use Rattle.hist_store.specs.Rows.{Row}
-use Rattle.savi_history.specs.Bases.{Base}
+use Rattle.checkpoint.specs.Bases.{Base}
 use Rattle.savi_history.specs.Passes.{place_among, place_of, pass_of, pass_count, has_pass, has_ended, is_end}
 use Rattle.savi_history.specs.Legal.{IsLegal, Stands, MayCome}
 use Rattle.savi_history.specs.Events.{Event, Frame, Long, Command, Tick, Drain, End, row_of}

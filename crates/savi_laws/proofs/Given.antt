@@ -17,7 +17,7 @@ use Rattle.savi_kinds.specs.Arrivals as arrivals
 use Rattle.cli_lang.specs.Arrivals.{Line}
 use Rattle.cli_lang.specs.Arrivals as control
 use Rattle.hist_store.specs.Rows.{Row, held}
-use Rattle.savi_history.specs.Bases.{Base}
+use Rattle.checkpoint.specs.Bases.{Base}
 use Rattle.savi_history.specs.Passes.{pass_of, egress_pass, has_ended}
 use Rattle.savi_history.specs.Limits.{has_room}
 use Rattle.savi_history.specs.Queues.{queue}
@@ -28,7 +28,7 @@ use Rattle.savi_history.specs.PortInputs.{arrived, arrived_by}
 use Rattle.savi_history.specs.Events.{Event, Frame, Long, Command, Tick, Drain, End, row_of}
 use Rattle.savi_history.specs.Merges.{enter, merge, merged}
 use Rattle.savi_history.specs.Turns.{Turn, Arrives, Commands, Ends, who_of, turn_at, turns, port_turns, control_turns, all_turns}
-use Rattle.savi_history.specs.Replay.{Stops, is_stopped, pieces_by, event_of, with_event, with_failure, begun, with_drain, drained, with_reply, with_line, entered, after, after_all, with_end, egress_ended, inputs_taken, replayed}
+use Rattle.savi_history.specs.Replay.{Stops, is_stopped, pieces_by, event_of, with_event, with_failure, begun, with_drain, drained, with_reply, with_line, entered, after, after_all, closing, with_end, egress_ended, inputs_taken, replayed}
 use Rattle.savi_laws.specs.Budgets.{input_count, given_count, given_octets, kept_of, lines_of, arrivals_of, all_arrived}
 
 pub sum_ones : {X : Type 0} (xs : List X) → sum_by (λ x. 1) xs ≡ length xs
@@ -135,14 +135,14 @@ module _ (of_arrival : Arrival → ℕ) (of_line : Line → ℕ) where
 
       entered_low : (turn : Turn) (past : List Row) → weight (entered plan base stops turn past) ≤ of_turn turn + weight past
       entered_low (Arrives port arrival) past =
-          if_low (has_room plan past) (drained plan base stops.ports plan.ports (with_event plan base past (event_of port arrival))) (with_event plan base past (End (passes.Ingress port) (hows.Full (length past)))) (of_arrival arrival + weight past)
+          if_low (has_room plan past) (drained plan base stops.ports plan.ports (with_event plan base past (event_of port arrival))) (with_event plan base past (End (passes.Ingress port) hows.Paused)) (of_arrival arrival + weight past)
           (drained_low plan.ports (with_event plan base past (event_of port arrival)) (of_arrival arrival + weight past) (arrival_low past port arrival))
-          (omega (arith, weighs.ends past (passes.Ingress port) (hows.Full (length past))))
+          (omega (arith, weighs.ends past (passes.Ingress port) hows.Paused))
       entered_low (Commands line) past =
-          if_low (has_room plan past) (drained plan base stops.ports plan.ports (with_line plan base stops.control line past)) (with_event plan base past (End passes.Control (hows.Full (length past)))) (of_line line + weight past)
+          if_low (has_room plan past) (drained plan base stops.ports plan.ports (with_line plan base stops.control line past)) (with_event plan base past (End passes.Control hows.Paused)) (of_line line + weight past)
           (drained_low plan.ports (with_line plan base stops.control line past) (of_line line + weight past)
           (reply_low (with_event plan base past (Command line.stamp line.command)) line (of_line line + weight past) (weighs.line past line.stamp line.command)))
-          (omega (arith, weighs.ends past passes.Control (hows.Full (length past))))
+          (omega (arith, weighs.ends past passes.Control hows.Paused))
       entered_low (Ends who how) past = omega (arith, weighs.ends past who how)
 
       after_low : (turns : List Turn) (past : List Row) → weight (after_all plan base stops turns past) ≤ of_turns turns + weight past
@@ -158,15 +158,15 @@ module _ (of_arrival : Arrival → ℕ) (of_line : Line → ℕ) where
       ended_low [] past n low = low
       ended_low (q ∷ qs) past n low =
           ended_low qs (with_end plan base q.number past) n
-          (if_low (has_ended base (egress_pass plan (number_of q.number)) past) past (with_event plan base past (End (passes.Egress q.number) hows.End)) n low
-          (omega (arith, weighs.ends past (passes.Egress q.number) hows.End, low)))
+          (if_low (has_ended base (egress_pass plan (number_of q.number)) past) past (with_event plan base past (End (passes.Egress q.number) (closing past))) n low
+          (omega (arith, weighs.ends past (passes.Egress q.number) (closing past), low)))
 
       replay_most : (lines : Option control.Input) (inputs : List Input) → weight (replayed plan base lines inputs stops) ≤ sum_by of_line (lines_of lines) + sum_by of_arrival (arrivals_of inputs)
       replay_most lines inputs =
-          ended_low plan.ports (with_event plan base (inputs_taken plan base lines inputs stops) (End passes.Ticker hows.End)) (sum_by of_line (lines_of lines) + sum_by of_arrival (arrivals_of inputs))
+          ended_low plan.ports (with_event plan base (inputs_taken plan base lines inputs stops) (End passes.Ticker (closing (inputs_taken plan base lines inputs stops)))) (sum_by of_line (lines_of lines) + sum_by of_arrival (arrivals_of inputs))
           (omega (
             arith,
-            weighs.ends (inputs_taken plan base lines inputs stops) passes.Ticker hows.End,
+            weighs.ends (inputs_taken plan base lines inputs stops) passes.Ticker (closing (inputs_taken plan base lines inputs stops)),
             after_low (merged turn_at (all_turns lines plan.ports inputs)) (begun plan base stops.ports plan.ports []),
             begun_low plan.ports [] 0 (omega (arith, weighs.none)),
             all_most lines plan.ports inputs,

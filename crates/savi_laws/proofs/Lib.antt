@@ -6,6 +6,8 @@ pub mod Raising
 pub mod OwnVlan
 pub mod FewEnds
 pub mod Given
+pub mod Pauses
+pub mod Progress
 pub mod ReplayBudget
 pub mod Weights
 pub mod FewLeases

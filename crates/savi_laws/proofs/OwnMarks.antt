@@ -27,7 +27,7 @@ use Rattle.savi_access.specs.Marks.{Mark, told}
 use Rattle.savi_access.specs.Judged.{Judged, answer_to, answered, drops, passes, from_unspecified, followed, sourced, validated, judged_for, judged_by, judged}
 use Rattle.savi_access.specs.Plans.{rules_of, role_of}
 use Rattle.savi_access.proofs.MarksOn.{moved_by, own_marks}
-use Rattle.savi_history.specs.Bases.{Base, access_of}
+use Rattle.checkpoint.specs.Bases.{Base, access_of}
 use Rattle.savi_history.specs.Vlans.{the_vlan}
 use Rattle.savi_history.specs.Moments.{moment_at}
 use Rattle.savi_history.specs.Marks.{marks, judged_at}

@@ -47,7 +47,7 @@ use Rattle.savi_access.specs.Plans.{rules_of}
 use Rattle.savi_access.proofs.Held.{held_once}
 use Rattle.savi_access.proofs.Holding.{held-told, told-held, more-held}
 use Rattle.savi_access.proofs.MarksOn.{state_of-own, state_of-other}
-use Rattle.savi_history.specs.Bases.{Base, access_of}
+use Rattle.checkpoint.specs.Bases.{Base, access_of}
 use Rattle.savi_history.specs.Vlans.{the_vlan}
 use Rattle.savi_history.specs.ShutPorts.{is_shut}
 use Rattle.savi_history.specs.Moments.{moment_at}

@@ -17,20 +17,21 @@ use Rattle.savi_kinds.specs.Arrivals as arrivals
 use Rattle.cli_lang.specs.Arrivals.{Line}
 use Rattle.cli_lang.specs.Arrivals as control
 use Rattle.hist_store.specs.Rows.{Row, held}
-use Rattle.savi_history.specs.Bases.{Base, empty}
+use Rattle.checkpoint.specs.Bases.{Base, empty}
 use Rattle.savi_history.specs.Passes.{pass_of, pass_count, egress_pass, has_ended}
 use Rattle.savi_history.specs.Limits.{has_room}
 use Rattle.savi_history.specs.Queues.{queue}
-use Rattle.savi_history.specs.Endings.{has_full, is_full_reason}
+use Rattle.savi_history.specs.Endings.{has_paused_end, is_paused_reason}
 use Rattle.savi_history.specs.ControlInputs.{is_quit}
 use Rattle.savi_history.specs.ControlOutputs.{replies}
 use Rattle.savi_history.specs.Readable.{IsInput, IsEnding, IsControl, IsControlEnding}
 use Rattle.savi_history.specs.Events.{Frame, Long, Command, Drain, End, row_of}
 use Rattle.savi_history.specs.Merges.{enter, merge, merged}
 use Rattle.savi_history.specs.Turns.{Turn, Arrives, Commands, Ends, who_of, turn_at, turns, port_turns, control_turns, all_turns}
-use Rattle.savi_history.specs.Replay.{Stops, is_stopped, pieces_by, event_of, with_event, with_failure, begun, with_drain, drained, with_reply, with_line, entered, after, after_all, with_end, egress_ended, inputs_taken, replayed}
+use Rattle.savi_history.specs.Replay.{Stops, is_stopped, pieces_by, event_of, with_event, with_failure, begun, with_drain, drained, with_reply, with_line, entered, after, after_all, closing, with_end, egress_ended, inputs_taken, replayed}
 use Rattle.savi_history.proofs.Legality.{replay_is_legal}
 use Rattle.savi_laws.specs.Budgets.{input_count, given_count, given_octets, lines_of, arrivals_of, replay_entries, SufficesForReplay}
+use Rattle.savi_laws.proofs.Pauses.{closes_well}
 use Rattle.savi_laws.proofs.FewEnds.{ends, open_below, few_ends}
 use Rattle.savi_laws.proofs.Given.{replay_given}
 
@@ -38,29 +39,29 @@ use Rattle.savi_laws.proofs.Given.{replay_given}
 abbrev EndsWell : Turn → Type 0
 EndsWell (Arrives port arrival) = Unit {0}
 EndsWell (Commands line) = Unit {0}
-EndsWell (Ends who how) = is_full_reason how ≡ false
+EndsWell (Ends who how) = is_paused_reason how ≡ false
 
 abbrev AllEndWell : List Turn → Type 0
 AllEndWell [] = Unit {0}
 AllEndWell (x ∷ xs) = EndsWell x × AllEndWell xs
 
-ending_well : (how : How) → IsEnding how → is_full_reason how ≡ false
+ending_well : (how : How) → IsEnding how → is_paused_reason how ≡ false
 ending_well hows.End is = refl
 ending_well hows.Quit is = refl
 ending_well (hows.Malformed at) is = refl
 ending_well (hows.Overlong at) is = refl
 ending_well hows.Failed is = refl
 ending_well hows.Unwritten is = refl
-ending_well (hows.Full len) is = absurd is
+ending_well hows.Paused is = absurd is
 
-control_well : (how : How) → IsControlEnding how → is_full_reason how ≡ false
+control_well : (how : How) → IsControlEnding how → is_paused_reason how ≡ false
 control_well hows.End is = refl
 control_well hows.Quit is = refl
 control_well (hows.Malformed at) is = refl
 control_well (hows.Overlong at) is = refl
 control_well hows.Failed is = refl
 control_well hows.Unwritten is = refl
-control_well (hows.Full len) is = absurd is
+control_well hows.Paused is = absurd is
 
 well_first : (b : Bool) (x y : Turn) (xs ys : List Turn) → EndsWell x → EndsWell y → AllEndWell xs → AllEndWell ys → AllEndWell (if b then y ∷ ys else x ∷ xs)
 well_first true x y xs ys one two first second = (two, second)
@@ -75,11 +76,11 @@ well_merge : (xs ys : List Turn) → AllEndWell xs → AllEndWell ys → AllEndW
 well_merge [] ys one two = two
 well_merge (x ∷ xs) ys one two = well_enter x (merge turn_at xs) one.0 (λ zs all. well_merge xs zs one.1 all) ys two
 
-well_port : (port : Port) (before : List Arrival) (how : How) → is_full_reason how ≡ false → AllEndWell (map (λ a. Arrives port a) before ++ Ends (passes.Ingress port) how ∷ [])
+well_port : (port : Port) (before : List Arrival) (how : How) → is_paused_reason how ≡ false → AllEndWell (map (λ a. Arrives port a) before ++ Ends (passes.Ingress port) how ∷ [])
 well_port port [] how is = (is, tt)
 well_port port (a ∷ before) how is = (tt, well_port port before how is)
 
-well_lines : (lines : List Line) (how : How) → is_full_reason how ≡ false → AllEndWell (map (λ line. Commands line) lines ++ Ends passes.Control how ∷ [])
+well_lines : (lines : List Line) (how : How) → is_paused_reason how ≡ false → AllEndWell (map (λ line. Commands line) lines ++ Ends passes.Control how ∷ [])
 well_lines [] how is = (is, tt)
 well_lines (line ∷ lines) how is = (tt, well_lines lines how is)
 
@@ -162,7 +163,7 @@ module _ (plan : Plan) where
   -- so many drains may still come before another input; with room for all no pass ended for want of it
   record Sized (spare : ℕ) (past : List Row) : Type 0 where
     size : length past + spare ≤ ends past + (length plan.ports + 1) * input_count past
-    full : Budget past → has_full past ≡ false
+    full : Budget past → has_paused_end past ≡ false
 
   module _ (base : Base) (stops : Stops) where
     sized_less : (spare : ℕ) (past : List Row) → Sized (suc spare) past → Sized spare past
@@ -171,12 +172,13 @@ module _ (plan : Plan) where
     sized_none : (spare : ℕ) (past : List Row) → Sized spare past → Sized 0 past
     sized_none spare past sized = record { size = size_none (length past) spare (ends past) (most past) sized.size; full = sized.full }
 
-    -- an end for another reason than want of room
-    sized_end : (spare : ℕ) (past : List Row) (who : Who) (how : How) → is_full_reason how ≡ false → Sized spare past → Sized spare (with_event plan base past (End who how))
+    -- an end for another reason than want of room, where none was for it
+    sized_end : (spare : ℕ) (past : List Row) (who : Who) (how : How) → (has_paused_end past ≡ false → is_paused_reason how ≡ false) → Sized spare past → Sized spare (with_event plan base past (End who how))
     sized_end spare past who how other sized = record {
       size = size_end (length past) spare (ends past) (most past) sized.size;
-      full = λ budget. or_false (is_full_reason how) (has_full past) other
-          (sized.full (record { entries = budget_end (ends past) (most past) plan.entries budget.entries; bytes = bytes_less 0 (held past) plan.bytes budget.bytes }));
+      full = λ budget.
+          let none : has_paused_end past ≡ false = sized.full (record { entries = budget_end (ends past) (most past) plan.entries budget.entries; bytes = bytes_less 0 (held past) plan.bytes budget.bytes }) in
+          or_false (is_paused_reason how) (has_paused_end past) (other none) none;
     }
 
     roomy : (past : List Row) → length past + 4130 < plan.entries → held past + 1518 ≤ plan.bytes → has_room plan past ≡ true
@@ -185,8 +187,8 @@ module _ (plan : Plan) where
         (lt-ltb (length past + 4130) plan.entries entries) (le-leb (held past + 1518) plan.bytes bytes)
 
     -- an end for want of room, where there is none
-    sized_full : (past : List Row) (who : Who) (len : ℕ) → has_room plan past ≡ false → Sized 0 past → Sized 0 (with_event plan base past (End who (hows.Full len)))
-    sized_full past who len none sized = record {
+    sized_full : (past : List Row) (who : Who) → has_room plan past ≡ false → Sized 0 past → Sized 0 (with_event plan base past (End who hows.Paused))
+    sized_full past who none sized = record {
       size = size_end (length past) 0 (ends past) (most past) sized.size;
       full = λ budget. absurd (false≢true (sym none ∙ roomy past (room_entries (length past) (ends past) (most past) plan.entries sized.size budget.entries) (room_bytes (held past) plan.bytes budget.bytes)));
     }
@@ -201,7 +203,7 @@ module _ (plan : Plan) where
     more : (past : List Row) → (length plan.ports + 1) * suc (input_count past) ≡ most past + (length plan.ports + 1)
     more past = mul-suc (length plan.ports + 1) (input_count past)
 
-    sized_input : (past : List Row) (r : Row) → ends (r ∷ past) ≡ ends past → input_count (r ∷ past) ≡ suc (input_count past) → (has_full past ≡ false → has_full (r ∷ past) ≡ false) → Sized 0 past → Sized (length plan.ports) (r ∷ past)
+    sized_input : (past : List Row) (r : Row) → ends (r ∷ past) ≡ ends past → input_count (r ∷ past) ≡ suc (input_count past) → (has_paused_end past ≡ false → has_paused_end (r ∷ past) ≡ false) → Sized 0 past → Sized (length plan.ports) (r ∷ past)
     sized_input past r no_end one_more no_full sized =
         let total : most (r ∷ past) ≡ most past + (length plan.ports + 1) = ap (λ (k : ℕ). (length plan.ports + 1) * k) one_more ∙ more past in
         record {
@@ -229,7 +231,7 @@ module _ (plan : Plan) where
     sized_failure : (spare : ℕ) (past : List Row) (port : Port) → Sized spare past → Sized spare (with_failure plan base stops.ports port past)
     sized_failure spare past port sized =
         sized_if spare (is_stopped (stops.ports (number_of port)) (pieces_by plan base (number_of port) past)) (with_event plan base past (End (passes.Egress port) hows.Failed)) past
-        (sized_end spare past (passes.Egress port) hows.Failed refl sized) sized
+        (sized_end spare past (passes.Egress port) hows.Failed (λ none. refl) sized) sized
 
     sized_begun : (qs : List PortPlan) (past : List Row) → Sized 0 past → Sized 0 (begun plan base stops.ports qs past)
     sized_begun [] past sized = sized
@@ -250,25 +252,25 @@ module _ (plan : Plan) where
     sized_reply spare past line sized =
         sized_if spare (is_stopped stops.control (length (replies plan base past))) (with_event plan base past (End passes.Control hows.Unwritten))
         (if is_quit line then with_event plan base past (End passes.Control hows.Quit) else past)
-        (sized_end spare past passes.Control hows.Unwritten refl sized)
-        (sized_if spare (is_quit line) (with_event plan base past (End passes.Control hows.Quit)) past (sized_end spare past passes.Control hows.Quit refl sized) sized)
+        (sized_end spare past passes.Control hows.Unwritten (λ none. refl) sized)
+        (sized_if spare (is_quit line) (with_event plan base past (End passes.Control hows.Quit)) past (sized_end spare past passes.Control hows.Quit (λ none. refl) sized) sized)
 
     arrived : (past : List Row) (port : Port) (arrival : Arrival) (b : Bool) → has_room plan past ≡ b → Sized 0 past
-        → Sized 0 (if b then drained plan base stops.ports plan.ports (with_event plan base past (event_of port arrival)) else with_event plan base past (End (passes.Ingress port) (hows.Full (length past))))
+        → Sized 0 (if b then drained plan base stops.ports plan.ports (with_event plan base past (event_of port arrival)) else with_event plan base past (End (passes.Ingress port) hows.Paused))
     arrived past port arrival true is sized = sized_drained plan.ports (with_event plan base past (event_of port arrival)) (sized_frame past port arrival sized)
-    arrived past port arrival false none sized = sized_full past (passes.Ingress port) (length past) none sized
+    arrived past port arrival false none sized = sized_full past (passes.Ingress port) none sized
 
     lined : (past : List Row) (line : Line) (b : Bool) → has_room plan past ≡ b → Sized 0 past
-        → Sized 0 (if b then drained plan base stops.ports plan.ports (with_line plan base stops.control line past) else with_event plan base past (End passes.Control (hows.Full (length past))))
+        → Sized 0 (if b then drained plan base stops.ports plan.ports (with_line plan base stops.control line past) else with_event plan base past (End passes.Control hows.Paused))
     lined past line true is sized =
         sized_drained plan.ports (with_line plan base stops.control line past)
         (sized_reply (length plan.ports) (with_event plan base past (Command line.stamp line.command)) line (sized_line past line.stamp line.command sized))
-    lined past line false none sized = sized_full past passes.Control (length past) none sized
+    lined past line false none sized = sized_full past passes.Control none sized
 
     sized_entered : (turn : Turn) (past : List Row) → EndsWell turn → Sized 0 past → Sized 0 (entered plan base stops turn past)
     sized_entered (Arrives port arrival) past well sized = arrived past port arrival (has_room plan past) refl sized
     sized_entered (Commands line) past well sized = lined past line (has_room plan past) refl sized
-    sized_entered (Ends who how) past well sized = sized_end 0 past who how well sized
+    sized_entered (Ends who how) past well sized = sized_end 0 past who how (λ none. well) sized
 
     sized_all : (turns : List Turn) (past : List Row) → AllEndWell turns → Sized 0 past → Sized 0 (after_all plan base stops turns past)
     sized_all [] past well sized = sized
@@ -280,16 +282,16 @@ module _ (plan : Plan) where
     sized_ends [] past sized = sized
     sized_ends (q ∷ qs) past sized =
         sized_ends qs (with_end plan base q.number past)
-        (sized_if 0 (has_ended base (egress_pass plan (number_of q.number)) past) past (with_event plan base past (End (passes.Egress q.number) hows.End)) sized
-        (sized_end 0 past (passes.Egress q.number) hows.End refl sized))
+        (sized_if 0 (has_ended base (egress_pass plan (number_of q.number)) past) past (with_event plan base past (End (passes.Egress q.number) (closing past))) sized
+        (sized_end 0 past (passes.Egress q.number) (closing past) (closes_well past) sized))
 
     sized_start : Sized 0 []
     sized_start = record { size = omega arith; full = λ budget. refl }
 
     sized_replay : (lines : Option control.Input) (inputs : List Input) → IsControl lines → All IsInput inputs → Sized 0 (replayed plan base lines inputs stops)
     sized_replay lines inputs is are =
-        sized_ends plan.ports (with_event plan base (inputs_taken plan base lines inputs stops) (End passes.Ticker hows.End))
-        (sized_end 0 (inputs_taken plan base lines inputs stops) passes.Ticker hows.End refl
+        sized_ends plan.ports (with_event plan base (inputs_taken plan base lines inputs stops) (End passes.Ticker (closing (inputs_taken plan base lines inputs stops))))
+        (sized_end 0 (inputs_taken plan base lines inputs stops) passes.Ticker (closing (inputs_taken plan base lines inputs stops)) (closes_well (inputs_taken plan base lines inputs stops))
         (sized_all (merged turn_at (all_turns lines plan.ports inputs)) (begun plan base stops.ports plan.ports [])
         (well_merge (control_turns lines) (merged turn_at (port_turns plan.ports inputs)) (well_control lines is) (well_ports plan.ports inputs are))
         (sized_begun plan.ports [] sized_start)))
@@ -304,7 +306,7 @@ module _ (plan : Plan) (valid : IsValidPlan plan) (lines : Option control.Input)
       let sized : Sized plan 0 (replayed plan empty lines inputs stops) = sized_replay plan empty stops lines inputs is are in
       in_all (length (replayed plan empty lines inputs stops)) (ends (replayed plan empty lines inputs stops)) (most plan (replayed plan empty lines inputs stops)) sized.size replay_ends
 
-  pub replay_not_full : SufficesForReplay plan (input_count (replayed plan empty lines inputs stops)) (held (replayed plan empty lines inputs stops)) → has_full (replayed plan empty lines inputs stops) ≡ false
+  pub replay_not_full : SufficesForReplay plan (input_count (replayed plan empty lines inputs stops)) (held (replayed plan empty lines inputs stops)) → has_paused_end (replayed plan empty lines inputs stops) ≡ false
   replay_not_full suffices =
       let sized : Sized plan 0 (replayed plan empty lines inputs stops) = sized_replay plan empty stops lines inputs is are in
       sized.full (record {
@@ -313,7 +315,7 @@ module _ (plan : Plan) (valid : IsValidPlan plan) (lines : Option control.Input)
       })
 
   -- so what its inputs have suffices
-  pub given_not_full : SufficesForReplay plan (given_count (lines_of lines) (arrivals_of inputs)) (given_octets (lines_of lines) (arrivals_of inputs)) → has_full (replayed plan empty lines inputs stops) ≡ false
+  pub given_not_full : SufficesForReplay plan (given_count (lines_of lines) (arrivals_of inputs)) (given_octets (lines_of lines) (arrivals_of inputs)) → has_paused_end (replayed plan empty lines inputs stops) ≡ false
   given_not_full suffices =
       let given : (input_count (replayed plan empty lines inputs stops) ≤ given_count (lines_of lines) (arrivals_of inputs)) × (held (replayed plan empty lines inputs stops) ≤ given_octets (lines_of lines) (arrivals_of inputs)) =
       replay_given plan empty lines inputs stops in

@@ -27,7 +27,7 @@ use Rattle.control_replies.specs.declared.refusal.Refusal.TheVariants.{TrustedPo
 use Rattle.hist_store.specs.Rows.{Row, held}
 use Rattle.savi_access.specs.Judged.{judged}
 use Rattle.savi_access.specs.Marks.{Met}
-use Rattle.savi_history.specs.Bases.{empty}
+use Rattle.checkpoint.specs.Bases.{empty}
 use Rattle.savi_history.specs.Marks.{marks}
 use Rattle.savi_history.specs.Judged.{judged_of}
 use Rattle.savi_history.specs.ControlInputs.{entered_lines}

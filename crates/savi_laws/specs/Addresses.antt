@@ -23,7 +23,7 @@ use Rattle.savi_access.specs.Tables.{rows_at}
 use Rattle.savi_access.specs.Marks.{told}
 use Rattle.savi_access.specs.Judged.{Judged, answered_or}
 use Rattle.savi_access.specs.Plans.{rules_of, role_of}
-use Rattle.savi_history.specs.Bases.{Base, access_of}
+use Rattle.checkpoint.specs.Bases.{Base, access_of}
 use Rattle.savi_history.specs.ShutPorts.{is_shut}
 use Rattle.savi_history.specs.Marks.{marks}
 

@@ -7,7 +7,7 @@ use Rattle.savi_kinds.specs.Ports.{number_of}
 use Rattle.cli_lang.specs.Arrivals.{Line}
 use Rattle.cli_lang.specs.Arrivals as control
 use Rattle.hist_store.specs.Rows.{Row}
-use Rattle.savi_history.specs.Bases.{Base}
+use Rattle.checkpoint.specs.Bases.{Base}
 use Rattle.savi_history.specs.Vlans.{the_vlan}
 use Rattle.savi_history.specs.PortInputs.{arrived}
 use Rattle.savi_laws.specs.Answered.{inputs}

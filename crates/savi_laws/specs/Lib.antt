@@ -5,4 +5,5 @@ pub mod Raised
 pub mod VlanMarks
 pub mod Budgets
 pub mod LateTicks
+pub mod Progress
 pub mod Refusals

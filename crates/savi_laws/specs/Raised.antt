@@ -12,7 +12,7 @@ use Rattle.savi_access.specs.Tables.{held_at}
 use Rattle.savi_access.specs.Rules.{AccessBase}
 use Rattle.savi_access.specs.Marks.{Mark, Told, Met, told, open_requests}
 use Rattle.savi_access.specs.Plans.{rules_of}
-use Rattle.savi_history.specs.Bases.{Base, access_of}
+use Rattle.checkpoint.specs.Bases.{Base, access_of}
 
 -- how many addresses the port of this number holds at t after these marks
 abbrev pub held_after : Plan → Base → List Mark → ℕ → ℕ → ℕ

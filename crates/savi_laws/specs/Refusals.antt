@@ -5,7 +5,7 @@ use Rattle.cli_lang.specs.CommandOf.{command_of}
 use Rattle.control_replies.specs.declared.refusal.Refusal.{Refusal}
 use Rattle.bridge_fdb.specs.Stations.{live_at}
 use Rattle.hist_store.specs.Rows.{Row}
-use Rattle.savi_history.specs.Bases.{Base, access_of}
+use Rattle.checkpoint.specs.Bases.{Base, access_of}
 use Rattle.savi_history.specs.Moments.{moment_at}
 use Rattle.savi_history.specs.Passes.{has_ended}
 use Rattle.savi_history.specs.ShutPorts.{is_shut}

@@ -20,9 +20,9 @@ ghost use Rattle.savi_access.specs.Rules.{AccessRules, AccessBase};
 ghost use Rattle.savi_access.specs.Marks.{Mark};
 ghost use Rattle.savi_access.specs.Judged.{judged, followed};
 ghost use Rattle.savi_access.specs.Plans.{rules_of};
-ghost use Rattle.savi_history.specs.Bases.{Base, access_of, empty};
+ghost use Rattle.checkpoint.specs.Bases.{Base, access_of, empty};
 ghost use Rattle.savi_history.specs.ControlInputs.{entered_lines};
-ghost use Rattle.savi_history.specs.Endings.{has_full};
+ghost use Rattle.savi_history.specs.Endings.{has_paused_end};
 ghost use Rattle.savi_history.specs.Readable.{IsInput, IsControl};
 ghost use Rattle.savi_history.specs.Replay.{Stops, with_event, replayed};
 ghost use Rattle.savi_history.specs.Events.{Event, Command, judged_of, the_vlan};
@@ -40,6 +40,7 @@ ghost use Rattle.savi_laws.specs.Addresses.{told_on, address_at, port_has_room, 
 ghost use Rattle.savi_laws.specs.Raised.{held_after, HoldsAfter, GivesLease};
 ghost use Rattle.savi_laws.specs.Budgets.{input_count, given_count, given_octets, lines_of, arrivals_of, all_arrived};
 ghost use Rattle.savi_laws.specs.Budgets.{replay_entries, SufficesForReplay, causes, entries_most, Suffices};
+ghost use Rattle.savi_laws.specs.Progress.{has_step};
 ghost use Rattle.savi_laws.specs.VlanMarks.{in_vlan, IsSameIn};
 
 /// Frames, longer frames and lines with their moments decide all verdicts, and to which ports frames go: ticks, drains and
@@ -138,8 +139,8 @@ pub fn a_frame_reads_its_own_vlan()
 
 /// A replay comes to at most 34 entries and, for each frame, longer frame and line that went in, one more than the plan has
 /// ports: its own, and a drain of each port. With room for so many beside the 4,130 entries that stay free, and for the
-/// octets that came in beside those of the longest frame, no input ends for want of room. No more goes in than its inputs
-/// have; so room for all that they have suffices.
+/// octets that came in beside those of the longest frame, no input is paused for want of room. No more goes in than its
+/// inputs have; so room for all that they have suffices.
 pub fn a_budget_suffices_for_a_replay()
     ensures entries { (plan : Plan) (lines : Option control.Input) (inputs : List Input) (stops : Stops)
         → IsValidPlan plan → length inputs ≡ length plan.ports → IsControl lines → All IsInput inputs
@@ -147,7 +148,7 @@ pub fn a_budget_suffices_for_a_replay()
     ensures room { (plan : Plan) (lines : Option control.Input) (inputs : List Input) (stops : Stops)
         → IsValidPlan plan → length inputs ≡ length plan.ports → IsControl lines → All IsInput inputs
         → let past = replayed plan empty lines inputs stops in
-        SufficesForReplay plan (input_count past) (held past) → has_full past ≡ false }
+        SufficesForReplay plan (input_count past) (held past) → has_paused_end past ≡ false }
     ensures given { (plan : Plan) (base : Base) (lines : Option control.Input) (inputs : List Input) (stops : Stops)
         → let past = replayed plan base lines inputs stops in
         (input_count past ≤ given_count (lines_of lines) (arrivals_of inputs))
@@ -155,14 +156,14 @@ pub fn a_budget_suffices_for_a_replay()
     ensures enough { (plan : Plan) (lines : Option control.Input) (inputs : List Input) (stops : Stops)
         → IsValidPlan plan → length inputs ≡ length plan.ports → IsControl lines → All IsInput inputs
         → SufficesForReplay plan (given_count (lines_of lines) (arrivals_of inputs)) (given_octets (lines_of lines) (arrivals_of inputs))
-        → has_full (replayed plan empty lines inputs stops) ≡ false }
+        → has_paused_end (replayed plan empty lines inputs stops) ≡ false }
 {}
 
 /// A legal history comes to at most 34 entries, and 256 for each frame, longer frame and line that came in, and for each
 /// address that had a state before: ticks, drains and ends among them. With room for so many beside the 4,130 entries that
 /// stay free, and for the octets that came in beside those of the longest frame, an input may come as long as its pass is
-/// open, and no pass ends for want of room. All that came in are the lines that the history holds, and what it holds of the
-/// plan's ports.
+/// open, and no pass is paused for want of room. All that came in are the lines that the history holds, and what it holds of
+/// the plan's ports.
 pub fn a_budget_always_suffices()
     ensures entries { (plan : Plan) (base : Base) (past : List Row)
         → IsValidPlan plan → IsWithinLimits plan base → IsLegal plan base past
@@ -172,8 +173,15 @@ pub fn a_budget_always_suffices()
         → Suffices plan (causes base past) (held past) → has_room plan past ≡ true }
     ensures ends { (plan : Plan) (base : Base) (past : List Row)
         → IsValidPlan plan → IsWithinLimits plan base → IsLegal plan base past
-        → Suffices plan (causes base past) (held past) → has_full past ≡ false }
+        → Suffices plan (causes base past) (held past) → has_paused_end past ≡ false }
     ensures given { (plan : Plan) (base : Base) (past : List Row) → IsLegal plan base past
         → (input_count past ≤ given_count (entered_lines past) (all_arrived plan past))
         × (held past ≤ given_octets (entered_lines past) (all_arrived plan past)) }
+{}
+
+/// A legal history in which a pass is paused for want of room has an entry with a stamp, or an end that is no pause: so each
+/// segment of a session brings it on.
+pub fn a_pause_comes_behind_a_step()
+    ensures { (plan : Plan) (base : Base) (past : List Row)
+        → IsValidPlan plan → IsLegal plan base past → has_paused_end past ≡ true → has_step past ≡ true }
 {}

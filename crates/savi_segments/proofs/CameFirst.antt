@@ -32,7 +32,7 @@ use Rattle.savi_access.proofs.PlanRules.{own_ports, unspecified_off_link}
 use Rattle.savi_access.proofs.Living.{lives_at}
 use Rattle.savi_access.proofs.States.{off_link}
 use Rattle.savi_access.proofs.FirstCome.{keeps_first}
-use Rattle.savi_history.specs.Bases.{Base, empty, access_of}
+use Rattle.checkpoint.specs.Bases.{Base, empty, access_of}
 use Rattle.savi_history.specs.Vlans.{the_vlan}
 use Rattle.savi_history.specs.Limits.{IsWithinLimits}
 use Rattle.savi_history.specs.Moments.{last_moment, moment_at}
@@ -44,13 +44,12 @@ use Rattle.savi_history.specs.CameFirst.{IsLiveAtEnd, IsLostSince}
 use Rattle.savi_history.specs.Legal.{IsLegal}
 use Rattle.savi_history.proofs.Starting.{empty_within}
 use Rattle.savi_history.proofs.Telling.{risen, told_rightly, next_told}
-use Rattle.savi_segments.specs.Checkpoints.{after}
 use Rattle.savi_segments.specs.Segments.{base_after, joined, AreOctets, AreLegal}
 use Rattle.savi_segments.specs.Steps.{Step, Enters, Turns, with_row, gone, rows_in, newest_rows, newest_base}
 use Rattle.savi_segments.proofs.Behind.{told_joined}
 use Rattle.savi_segments.proofs.MarksJoined.{turns, newest_whole, marks_joined}
 use Rattle.savi_segments.proofs.Reading.{LeaveLimits, moment_cut, tells_cut, judged_alike}
-use Rattle.savi_segments.proofs.Splitting.{segments_within, leave_same}
+use Rattle.savi_segments.proofs.Splitting.{is_first, left, segments_within, leave_same}
 
 turn_later : (from t later : ℕ) (past : List Named) → t ≤ later → AreInTurn named_moment from t past → AreInTurn named_moment from later past
 turn_later from t later [] order turn = omega (arith, order, turn)
@@ -82,39 +81,35 @@ module _ (limits : LeaveLimits) (plan : Plan) (valid : IsValidPlan plan) where
   times : AreTimes r.addresses.times
   times = base_times r.addresses start.addresses starts.access.addresses
 
-  -- what the joined rows of segments leave
-  abbrev left : List (List Row) → Base
-  left segments = after plan empty (joined segments)
-
-  left_within : (segments : List (List Row)) → AreLegal plan segments → IsWithinLimits plan (left segments)
+  left_within : (segments : List (List Row)) → AreLegal plan segments → IsWithinLimits plan (left plan segments)
   left_within segments legal = subst (IsWithinLimits plan) (leave_same limits plan valid segments legal) (segments_within limits plan valid segments legal)
 
-  goes_on : (segment : List Row) (before : List (List Row)) → AreLegal plan before → IsLegal plan (base_after plan before) segment → IsLegal plan (left before) segment
+  goes_on : (segment : List Row) (before : List (List Row)) → AreLegal plan before → IsLegal plan (base_after plan before) segment → IsLegal plan (left plan before) segment
   goes_on segment before legal right = subst (λ (base : Base). IsLegal plan base segment) (leave_same limits plan valid before legal) right
 
   module _ (segment : List Row) (before : List (List Row)) (legal : AreLegal plan (segment ∷ before)) where
-    within_mid : IsWithinLimits plan (left before)
+    within_mid : IsWithinLimits plan (left plan before)
     within_mid = left_within before legal.2
 
-    legal_mid : IsLegal plan (left before) segment
+    legal_mid : IsLegal plan (left plan before) segment
     legal_mid = goes_on segment before legal.2 legal.0
 
-    tells : marks plan empty (segment ++ joined before) ≡ marks plan (left before) segment ++ marks plan empty (joined before)
-    tells = tells_cut plan valid empty starts (joined before) within_mid segment legal_mid legal.1
+    tells : marks plan empty (segment ++ joined before) ≡ marks plan (left plan before) segment ++ marks plan empty (joined before)
+    tells = tells_cut plan valid empty starts (joined before) (is_first before) within_mid segment legal_mid legal.1
 
-    last : last_moment empty (segment ++ joined before) ≡ last_moment (left before) segment
-    last = moment_cut plan valid empty starts (joined before) within_mid segment
+    last : last_moment empty (segment ++ joined before) ≡ last_moment (left plan before) segment
+    last = moment_cut plan valid empty starts (joined before) (is_first before) within_mid segment
 
   -- what segments told may be told one after the other
   joined_told : (segments : List (List Row)) → AreLegal plan segments → IsTold plan empty (joined segments)
   joined_told [] legal = record { right = tt; last = omega arith }
   joined_told (segment ∷ before) legal =
       let early : List Mark = marks plan empty (joined before) in
-      let late : List Mark = marks plan (left before) segment in
+      let late : List Mark = marks plan (left plan before) segment in
       let first : IsTold plan empty (joined before) = joined_told before legal.2 in
-      let behind : IsTold plan (left before) segment =
-      told_rightly plan valid (left before) (within_mid segment before legal) segment (legal_mid segment before legal) legal.1 in
-      let low : newest_moment start (late ++ early) ≤ last_moment (left before) segment =
+      let behind : IsTold plan (left plan before) segment =
+      told_rightly plan valid (left plan before) (within_mid segment before legal) segment (legal_mid segment before legal) legal.1 in
+      let low : newest_moment start (late ++ early) ≤ last_moment (left plan before) segment =
       omega (arith, newest_whole r start tables times early (last_moment empty (joined before)) late first.last, behind.last) in
       record {
         right = subst (AreMarks r start) (sym (tells segment before legal)) (marks_joined r start tables times early (last_moment empty (joined before)) first.right first.last late behind.right);
@@ -143,11 +138,11 @@ module _ (limits : LeaveLimits) (plan : Plan) (valid : IsValidPlan plan) where
   fronted row (segment ∷ before) legal =
       let bytes : AreOctets segment = All-tail (λ (x : Row). IsBytes x.octets) row segment legal.1 in
       let rest : AreLegal plan (segment ∷ before) = (legal.0.1, bytes, legal.2) in
-      let here : IsLegal plan (left before) (row ∷ segment) = legal_mid (row ∷ segment) before legal in
-      let within_here : IsWithinLimits plan (left before) = within_mid segment before rest in
+      let here : IsLegal plan (left plan before) (row ∷ segment) = legal_mid (row ∷ segment) before legal in
+      let within_here : IsWithinLimits plan (left plan before) = within_mid segment before rest in
       let early : List Mark = marks plan empty (joined before) in
-      let front : HasFront row.entry.moment (marks plan (left before) segment) (marks plan (left before) (row ∷ segment)) =
-      (next_told plan valid (left before) within_here row segment here legal.1).front in
+      let front : HasFront row.entry.moment (marks plan (left plan before) segment) (marks plan (left plan before) (row ∷ segment)) =
+      (next_told plan valid (left plan before) within_here row segment here legal.1).front in
       record {
         legal = rest;
         front = record {
@@ -155,12 +150,12 @@ module _ (limits : LeaveLimits) (plan : Plan) (valid : IsValidPlan plan) where
           is =
               tells (row ∷ segment) before legal
               ∙ ap (λ (l : List Mark). l ++ early) front.is
-              ∙ append_assoc front.new (marks plan (left before) segment) early
+              ∙ append_assoc front.new (marks plan (left plan before) segment) early
               ∙ ap (λ (l : List Mark). front.new ++ l) (sym (tells segment before rest));
           moments = front.moments;
         };
         last = refl;
-        later = subst (λ (m : ℕ). m ≤ row.entry.moment) (sym (last segment before rest)) (risen plan valid (left before) within_here row segment here);
+        later = subst (λ (m : ℕ). m ≤ row.entry.moment) (sym (last segment before rest)) (risen plan valid (left plan before) within_here row segment here);
       }
 
   module _ (first : List (List Row)) where
@@ -204,7 +199,7 @@ module _ (limits : LeaveLimits) (plan : Plan) (valid : IsValidPlan plan) where
   same_verdict (segment ∷ before) legal q stamp octets known =
       ap (λ (base : Base). verdict_of plan base segment q stamp octets) (leave_same limits plan valid before legal.2)
       ∙ sym (ap (λ (j : Judged). j.verdict)
-      (judged_alike plan valid empty starts (joined before) (within_mid segment before legal) segment (legal_mid segment before legal) legal.1 q stamp octets known))
+      (judged_alike plan valid empty starts (joined before) (is_first before) (within_mid segment before legal) segment (legal_mid segment before legal) legal.1 q stamp octets known))
 
   -- a frame that passes does so at a port that isn't shut
   unshut : (shut : Bool) (told : List Mark) (port : Port) (t : ℕ) (class : Class) → IsPass (Some (judged_after plan empty shut told port t class).verdict) → IsPass (Some (judged r start the_vlan port t told class).verdict)

@@ -1,8 +1,10 @@
 pub mod Passing
 pub mod Behind
 pub mod MarksJoined
+pub mod Elsewhere
 pub mod Reading
 pub mod Splitting
 pub mod CameFirst
 pub mod Tables
 pub mod Worked
+pub mod WorkedSession

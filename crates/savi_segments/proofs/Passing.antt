@@ -1,9 +1,10 @@
 -- Numbers that pass a test, among those of a list.
-use Rattle.std.proofs.Common.{◌≡◌, ℕ, zero, suc, ◌<◌, ◌==◌, ◌||◌, Bool, true, false, if◌then◌else◌, List, [], ◌∷◌, ◌++◌, All, refl, sym, ap, ◌∙◌, inl, inr, arith}
+use Rattle.std.proofs.Common.{◌≡◌, ℕ, zero, suc, ◌<◌, ◌==◌, ◌||◌, Bool, true, false, if◌then◌else◌, Option, Some, None, List, [], ◌∷◌, ◌++◌, All, refl, sym, ap, subst, ◌∙◌, inl, inr, arith}
 use Rattle.std.specs.List.{filter, list_any}
 use Rattle.std.proofs.lemmas.Bool.{cases_Bool, cases_eq, eqb-true, eq-eqb, or_left, or_right, or_cases, false≢true}
-use Rattle.std.proofs.lemmas.List.Elements.{All-nil, All-cons, All-push, All-weaker}
-use Rattle.savi_segments.specs.Checkpoints.{up_to}
+use Rattle.std.proofs.lemmas.List.Elements.{All-nil, All-cons, All-push, All-weaker, All-head, All-tail}
+use Rattle.savi_kinds.specs.declared.entry.How.{How}
+use Rattle.savi_segments.specs.Checkpoints.{up_to, end_among, with_pass_end, ends_of}
 
 -- whether this number is one of these
 abbrev pub is_in : ℕ → List ℕ → Bool
@@ -94,3 +95,57 @@ in_below (suc k) n there =
         | inr none ↦ absurd (false≢true none)
       ]
     ]
+
+-- the ends of passes
+
+front_none : (n m : ℕ) (end : Option How) (ends : List (ℕ × How)) → (m ≡ n → end ≡ None) → end_among n ends ≡ None → end_among n (with_pass_end m end ends) ≡ None
+front_none n m None ends none rest = rest
+front_none n m (Some how) ends none rest =
+    elim (cases_Bool (m == n)) [
+      | inl here ↦ let e : Some how ≡ None = none (eqb-true m n here) in cc
+      | inr apart ↦ rw apart rest
+    ]
+
+-- a pass without an end has none among those of passes
+no_end : (end : ℕ → Option How) (n : ℕ) (ns : List ℕ) → end n ≡ None → end_among n (ends_of end ns) ≡ None
+no_end end n [] none = refl
+no_end end n (m ∷ ns) none = front_none n m (end m) (ends_of end ns) (λ same. ap end same ∙ none) (no_end end n ns none)
+
+front_here : (n : ℕ) (end : Option How) (ends : List (ℕ × How)) → (end ≡ None → end_among n ends ≡ None) → end_among n (with_pass_end n end ends) ≡ end
+front_here n None ends none = none refl
+front_here n (Some how) ends none = rw (eq-eqb n n refl) refl
+
+front_other : (n m : ℕ) (end : Option How) (ends : List (ℕ × How)) → (m == n) ≡ false → end_among n (with_pass_end m end ends) ≡ end_among n ends
+front_other n m None ends apart = refl
+front_other n m (Some how) ends apart = rw apart refl
+
+-- among the ends of passes each of them has its own
+pub in_ends : (end : ℕ → Option How) (n : ℕ) (ns : List ℕ) → is_in n ns ≡ true → end_among n (ends_of end ns) ≡ end n
+in_ends end n [] there = absurd (false≢true there)
+in_ends end n (m ∷ ns) there =
+    elim (cases_Bool (m == n)) [
+      | inl here ↦
+          subst (λ (k : ℕ). end_among n (with_pass_end k (end k) (ends_of end ns)) ≡ end n) (sym (eqb-true m n here))
+          (front_here n (end n) (ends_of end ns) (λ none. no_end end n ns none))
+      | inr apart ↦ front_other n m (end m) (ends_of end ns) apart ∙ in_ends end n ns (sym (ap (λ (b : Bool). b || is_in n ns) apart) ∙ there)
+    ]
+
+-- where each pass of a list ended alike the ends of all are the same
+pub same_ends : (one other : ℕ → Option How) (ns : List ℕ) → ((n : ℕ) → is_in n ns ≡ true → one n ≡ other n) → ends_of one ns ≡ ends_of other ns
+same_ends one other [] agree = refl
+same_ends one other (n ∷ ns) agree =
+    ap (λ (end : Option How). with_pass_end n end (ends_of one ns)) (agree n (or_left (n == n) (is_in n ns) (eq-eqb n n refl)))
+    ∙ ap (λ (ends : List (ℕ × How)). with_pass_end n (other n) ends) (same_ends one other ns (λ m there. agree m (or_right (n == m) (is_in m ns) there)))
+
+pub none_end : (end : ℕ → Option How) (ns : List ℕ) → ((n : ℕ) → end n ≡ None) → ends_of end ns ≡ []
+none_end end [] none = refl
+none_end end (n ∷ ns) none = ap (λ (o : Option How). with_pass_end n o (ends_of end ns)) (none n) ∙ none_end end ns none
+
+front_all : (P : ℕ → Type 0) (n : ℕ) (end : Option How) (ends : List (ℕ × How)) → P n → All (λ (ended : ℕ × How). P ended.0) ends → All (λ (ended : ℕ × How). P ended.0) (with_pass_end n end ends)
+front_all P n None ends here rest = rest
+front_all P n (Some how) ends here rest = All-cons (λ (ended : ℕ × How). P ended.0) (n, how) ends here rest
+
+-- what holds of passes holds of their ends
+pub all_ends : (P : ℕ → Type 0) (end : ℕ → Option How) (ns : List ℕ) → All P ns → All (λ (ended : ℕ × How). P ended.0) (ends_of end ns)
+all_ends P end [] all = All-nil (λ (ended : ℕ × How). P ended.0)
+all_ends P end (n ∷ ns) all = front_all P n (end n) (ends_of end ns) (All-head P n ns all) (all_ends P end ns (All-tail P n ns all))

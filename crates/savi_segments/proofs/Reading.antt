@@ -1,10 +1,11 @@
 -- A history that goes on from what earlier rows left reads as it does behind them. The earlier rows needn't be legal.
-use Rattle.std.proofs.Common.{◌≡◌, ℕ, ◌^◌, ◌==◌, min, max, ◌<◌, ◌≤◌, ◌&&◌, ◌||◌, not, Bool, true, false, Option, Some, None, Result, Ok, Err, List, [], ◌∷◌, ◌++◌, filter, refl, sym, ap, ◌∙◌, subst, arith}
+use Rattle.std.proofs.Common.{◌≡◌, ℕ, ◌^◌, min, max, ◌<◌, ◌≤◌, ◌&&◌, not, Bool, true, false, Option, Some, None, Result, Ok, Err, List, [], ◌∷◌, ◌++◌, filter, refl, sym, ap, ◌∙◌, subst, arith}
 use Rattle.std.proofs.lemmas.List.Elements.{All-tail, All-filter}
 use Rattle.hex.specs.Hex.{IsBytes}
 use Rattle.savi_kinds.specs.declared.plan.Plan.{Plan}
 use Rattle.savi_kinds.specs.declared.port.Port.{Port}
 use Rattle.savi_kinds.specs.declared.port.PortSet.{PortSet}
+use Rattle.savi_kinds.specs.declared.entry.How.{How}
 use Rattle.savi_kinds.specs.declared.verdict.Verdict.{Verdict}
 use Rattle.savi_kinds.specs.Ports.{number_of}
 use Rattle.savi_kinds.specs.PortSets.{is_member, set_of}
@@ -22,6 +23,7 @@ use Rattle.fcfs_states.specs.declared.event.Ev.TheVariants.{Fix, Clear}
 use Rattle.bridge_fdb.specs.declared.station.Station.{Station}
 use Rattle.bridge_fdb.specs.Stations.{live_at}
 use Rattle.hist_store.specs.Rows.{Row}
+use Rattle.control_replies.specs.declared.counts.Counts.{Counts}
 use Rattle.control_replies.specs.declared.refusal.Refusal.{Refusal}
 use Rattle.savi_access.specs.declared.row.Row.{Row as AddressRow}
 use Rattle.savi_access.specs.Bases.{AreTables}
@@ -36,7 +38,7 @@ use Rattle.savi_access.specs.Judged.{Judged, judged}
 use Rattle.savi_access.specs.Plans.{rules_of}
 use Rattle.savi_access.proofs.AllSends.{sends-late}
 use Rattle.savi_access.proofs.StatesKept.{base_times, base_tables}
-use Rattle.savi_history.specs.Bases.{Base, access_of}
+use Rattle.checkpoint.specs.Bases.{Base, access_of}
 use Rattle.savi_history.specs.Vlans.{the_vlan}
 use Rattle.savi_history.specs.Passes.{has_port, pass_count}
 use Rattle.savi_history.specs.ShutPorts.{shut_after, is_shut}
@@ -46,6 +48,8 @@ use Rattle.savi_history.specs.Marks.{marks, judged_after}
 use Rattle.savi_history.specs.Judged.{judged_of, verdict_of}
 use Rattle.savi_history.specs.Stations.{stations, after_entry, port_among, ethernet_of}
 use Rattle.savi_history.specs.Outs.{outs, outs_by, without_shut}
+use Rattle.control_replies.specs.Counting.{counted_with}
+use Rattle.savi_history.specs.Shown.{counts_of}
 use Rattle.savi_history.specs.Offers.{due_by}
 use Rattle.savi_history.specs.Limits.{IsWithinLimits}
 use Rattle.savi_history.specs.Accesses.{IsTold}
@@ -53,14 +57,21 @@ use Rattle.savi_history.specs.Events.{Event, Frame, Long, Command, Tick, Drain, 
 use Rattle.savi_history.specs.Legal.{MayCome, Stands, IsLegal}
 use Rattle.savi_history.proofs.Telling.{risen, told_rightly}
 use Rattle.savi_history.proofs.Teaching.{stations_stay}
-use Rattle.savi_segments.specs.Checkpoints.{up_to, is_end_for_good, has_ended_for_good, after}
+use Rattle.savi_history.proofs.Counting.{counts_stay}
+use Rattle.savi_segments.specs.Checkpoints.{up_to, ended_after, end_of, ends_of, after}
 use Rattle.savi_segments.specs.Segments.{AreOctets}
 use Rattle.savi_segments.specs.Readings.{with_behind, ReadsAs}
-use Rattle.savi_segments.proofs.Passing.{in_filtered, same_filtered, below_in, in_below, all_in, all_below}
+use Rattle.savi_segments.proofs.Passing.{in_filtered, same_filtered, below_in, in_below, all_in, all_below, in_ends, same_ends, all_ends}
 use Rattle.savi_segments.proofs.MarksJoined.{turns}
+use Rattle.savi_segments.proofs.Elsewhere.{after_bare}
 use Rattle.savi_segments.proofs.Behind.{rows_cut, states_cut, requests_cut, named_cut, judged_cut}
 
-module _ (plan : Plan) (valid : IsValidPlan plan) (base : Base) (within : IsWithinLimits plan base) (first : List Row) (within_mid : IsWithinLimits plan (after plan base first)) where
+-- a base at the start of a switch or not
+abbrev pub started : Bool → Base → Base
+started begins base = record base { is_start = begins }
+
+-- It is read from what they left, whether that is said to be the start of a switch or not.
+module _ (plan : Plan) (valid : IsValidPlan plan) (base : Base) (within : IsWithinLimits plan base) (first : List Row) (begins : Bool) (within_mid : IsWithinLimits plan (started begins (after plan base first))) where
   abbrev r : AccessRules
   r = rules_of plan
 
@@ -68,7 +79,7 @@ module _ (plan : Plan) (valid : IsValidPlan plan) (base : Base) (within : IsWith
   start = access_of base
 
   abbrev mid : Base
-  mid = after plan base first
+  mid = started begins (after plan base first)
 
   abbrev before : List Mark
   before = marks plan base first
@@ -93,9 +104,13 @@ module _ (plan : Plan) (valid : IsValidPlan plan) (base : Base) (within : IsWith
   shut_cut [] q known = sym (in_filtered (λ number. is_shut plan base number first) q (numbers_of plan.ports) known)
   shut_cut (row ∷ late) q known = ap (λ (b : Bool). shut_after plan q row.octets row.entry.act b) (shut_cut late q known)
 
-  pub ended_cut : (late : List Row) (pass : ℕ) → pass < pass_count plan → has_ended_for_good base pass (late ++ first) ≡ has_ended_for_good mid pass late
-  ended_cut [] pass low = sym (in_filtered (λ number. has_ended_for_good base number first) pass (up_to (pass_count plan)) (below_in (pass_count plan) pass low))
-  ended_cut (row ∷ late) pass low = ap (λ (b : Bool). (is_end_for_good row.entry.act && (row.entry.by == pass)) || b) (ended_cut late pass low)
+  pub ended_cut : (late : List Row) (pass : ℕ) → pass < pass_count plan → end_of base pass (late ++ first) ≡ end_of mid pass late
+  ended_cut [] pass low = sym (in_ends (λ number. end_of base number first) pass (up_to (pass_count plan)) (below_in (pass_count plan) pass low))
+  ended_cut (row ∷ late) pass low = ap (λ (end : Option How). ended_after pass row.entry.by row.entry.act end) (ended_cut late pass low)
+
+  pub counts_cut : (late : List Row) → counts_of base (late ++ first) ≡ counts_of mid late
+  counts_cut [] = refl
+  counts_cut (row ∷ late) = ap (λ (counts : Counts). counted_with row.entry counts) (counts_cut late)
 
   pub stations_cut : (late : List Row) (vlan : ℕ) → stations vlan base (late ++ first) ≡ stations vlan mid late
   stations_cut [] vlan = refl
@@ -237,6 +252,7 @@ module _ (plan : Plan) (valid : IsValidPlan plan) (base : Base) (within : IsWith
       shut = λ q known. shut_cut late q known;
       ended = λ pass below. ended_cut late pass below;
       known = λ vlan. stations_cut late vlan;
+      counts = counts_cut late;
       states = states_alike;
       requests = requests_alike;
       judged = judged_alike;
@@ -254,9 +270,9 @@ module _ (plan : Plan) (valid : IsValidPlan plan) (base : Base) (within : IsWith
         ap (λ (m : ℕ). open_requests start vlan (marks plan base (late ++ first)) m) (moment_cut late)
         ∙ requests_alike (last_moment mid late) vlan (omega arith)
 
-    ended_left : filter (λ pass. has_ended_for_good base pass (late ++ first)) (up_to (pass_count plan)) ≡ filter (λ pass. has_ended_for_good mid pass late) (up_to (pass_count plan))
+    ended_left : ends_of (λ pass. end_of base pass (late ++ first)) (up_to (pass_count plan)) ≡ ends_of (λ pass. end_of mid pass late) (up_to (pass_count plan))
     ended_left =
-        same_filtered (λ pass. has_ended_for_good base pass (late ++ first)) (λ pass. has_ended_for_good mid pass late) (up_to (pass_count plan))
+        same_ends (λ pass. end_of base pass (late ++ first)) (λ pass. end_of mid pass late) (up_to (pass_count plan))
         (λ pass there. ended_cut late pass (in_below (pass_count plan) pass there))
 
     shut_left : filter (λ number. is_shut plan base number (late ++ first)) (numbers_of plan.ports) ≡ filter (λ number. is_shut plan mid number late) (numbers_of plan.ports)
@@ -270,13 +286,16 @@ module _ (plan : Plan) (valid : IsValidPlan plan) (base : Base) (within : IsWith
         let moment = moment_cut late in
         let ended = ended_left in
         let shut = shut_left in
+        let counts = counts_cut late in
         λ i. record {
+          is_start = false;
           moment = moment i;
           ended = ended i;
           shut = shut i;
           stations = λ vlan. stations_cut late vlan i;
           rows = λ vlan. rows_left vlan i;
           requests = λ vlan. requests_left vlan i;
+          counts = counts i;
         }
 
 -- the states and the requests that legal histories leave are within their limits
@@ -288,8 +307,10 @@ LeaveLimits =
 -- so is all that they leave
 pub after_within : LeaveLimits → (plan : Plan) → IsValidPlan plan → (base : Base) → IsWithinLimits plan base → (past : List Row) → IsLegal plan base past → AreOctets past → IsWithinLimits plan (after plan base past)
 after_within limits plan valid base within past legal bytes = record {
-  ended = All-filter (λ pass. has_ended_for_good base pass past) (λ pass. pass < pass_count plan) (up_to (pass_count plan)) (all_below (pass_count plan));
+  ended = all_ends (λ pass. pass < pass_count plan) (λ pass. end_of base pass past) (up_to (pass_count plan)) (all_below (pass_count plan));
   shut = All-filter (λ number. is_shut plan base number past) (λ number. has_port plan number ≡ true) (numbers_of plan.ports) (all_in (numbers_of plan.ports));
   stations = λ vlan. stations_stay plan base past vlan within legal;
   access = limits plan base past valid within legal bytes;
+  counts = counts_stay base past within.counts;
+  elsewhere = λ vlan other. after_bare plan base vlan other (within.elsewhere vlan other) past;
 }

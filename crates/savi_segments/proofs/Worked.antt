@@ -1,5 +1,5 @@
--- A worked history in two segments, computed: a host claims an address in the first, and falls silent; another host's packets
--- come in the second. No premise of the laws is empty.
+-- A worked history in two segments, computed: a host claims an address in the first, and falls silent; another host's
+-- packets come in the second. No premise of the laws is empty.
 use Rattle.std.proofs.Common.{◌≡◌, ℕ, zero, suc, nat_lt, true, List, [], ◌∷◌, refl, lit≤, None, arith}
 use Rattle.std.specs.List.{list_all}
 use Rattle.std.specs.List.Sorted.{IsStrictlyIncreasing}
@@ -21,7 +21,7 @@ use Rattle.ra_guard.specs.GuardOf.{guard_of}
 use Rattle.fcfs_states.specs.Aged.{aged, aged_by}
 use Rattle.hist_store.specs.Rows.{Row}
 use Rattle.savi_access.specs.Judged.{judged}
-use Rattle.savi_history.specs.Bases.{empty}
+use Rattle.checkpoint.specs.Bases.{empty}
 use Rattle.savi_history.specs.Judged.{verdict_of}
 use Rattle.savi_history.specs.CameFirst.{IsLiveAtEnd}
 use Rattle.savi_history.specs.Events.{Frame, row_of}
@@ -112,7 +112,7 @@ pub other_passes_behind_all : verdict_of plan empty (joined (gone first steps)) 
 unfolding class_of nd_of named message_passes kind_of guard_of judged aged aged_by
 other_passes_behind_all = refl
 
-all_octets : (xs : List ℕ) → list_all (λ x. nat_lt x 256) xs ≡ true → IsBytes xs
+pub all_octets : (xs : List ℕ) → list_all (λ x. nat_lt x 256) xs ≡ true → IsBytes xs
 all_octets [] low i = lit≤ tt
 all_octets (x ∷ xs) low zero = ltb-true x 256 (and_parts (nat_lt x 256) (list_all (λ y. nat_lt y 256) xs) low).0
 all_octets (x ∷ xs) low (suc i) = all_octets xs (and_parts (nat_lt x 256) (list_all (λ y. nat_lt y 256) xs) low).1 i

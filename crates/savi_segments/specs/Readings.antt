@@ -8,7 +8,7 @@ use Rattle.savi_access.specs.States.{state_at}
 use Rattle.savi_access.specs.Marks.{Mark, told, open_requests}
 use Rattle.savi_access.specs.Judged.{Judged}
 use Rattle.savi_access.specs.Plans.{rules_of}
-use Rattle.savi_history.specs.Bases.{Base, access_of}
+use Rattle.checkpoint.specs.Bases.{Base, access_of}
 use Rattle.savi_history.specs.Passes.{has_port, pass_count}
 use Rattle.savi_history.specs.ShutPorts.{is_shut}
 use Rattle.savi_history.specs.Moments.{last_moment}
@@ -16,21 +16,24 @@ use Rattle.savi_history.specs.Marks.{marks}
 use Rattle.savi_history.specs.Stations.{stations}
 use Rattle.savi_history.specs.Offers.{due_by}
 use Rattle.savi_history.specs.Events.{judged_of, outs_of}
-use Rattle.savi_segments.specs.Checkpoints.{has_ended_for_good}
+use Rattle.savi_history.specs.Shown.{counts_of}
+use Rattle.savi_segments.specs.Checkpoints.{end_of}
 
 -- the same verdict and probe, with these marks behind the others
 abbrev pub with_behind : List Mark → Judged → Judged
 with_behind early judged = record { verdict = judged.verdict; marks = judged.marks ++ early; probe = judged.probe }
 
 -- Rows read from `mid`, and the same rows read behind earlier ones: one moment, the marks joined, and the same of ports of
--- the plan that are shut, of its passes, of stations, and of states, requests and probes at each moment from the last one on.
--- A frame that comes next at a port of the plan is judged alike and goes to the same ports.
+-- the plan that are shut, of how its passes have ended for good, of stations and counts, and of states, requests and probes
+-- at each moment from the last one on. A frame that comes next at a port of the plan is judged alike and goes to the same
+-- ports.
 pub record ReadsAs (plan : Plan) (base : Base) (early : List Row) (mid : Base) (late : List Row) : Type 0 where
   pub moment : last_moment base (late ++ early) ≡ last_moment mid late
   pub tells : marks plan base (late ++ early) ≡ marks plan mid late ++ marks plan base early
   pub shut : (q : ℕ) → has_port plan q ≡ true → is_shut plan base q (late ++ early) ≡ is_shut plan mid q late
-  pub ended : (pass : ℕ) → pass < pass_count plan → has_ended_for_good base pass (late ++ early) ≡ has_ended_for_good mid pass late
+  pub ended : (pass : ℕ) → pass < pass_count plan → end_of base pass (late ++ early) ≡ end_of mid pass late
   pub known : (vlan : ℕ) → stations vlan base (late ++ early) ≡ stations vlan mid late
+  pub counts : counts_of base (late ++ early) ≡ counts_of mid late
   pub states : (t vlan a : ℕ) → last_moment mid late ≤ t
       → state_at (rules_of plan).addresses (access_of base).addresses (told (marks plan base (late ++ early))) t vlan a
       ≡ state_at (rules_of plan).addresses (access_of mid).addresses (told (marks plan mid late)) t vlan a

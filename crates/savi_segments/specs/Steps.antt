@@ -2,7 +2,7 @@
 use Rattle.std.specs.Prelude.{List, [], ◌∷◌}
 use Rattle.savi_kinds.specs.declared.plan.Plan.{Plan}
 use Rattle.hist_store.specs.Rows.{Row}
-use Rattle.savi_history.specs.Bases.{Base, empty}
+use Rattle.checkpoint.specs.Bases.{Base, empty}
 use Rattle.savi_segments.specs.Segments.{base_after}
 
 -- a row enters, or a new segment begins

@@ -20,7 +20,7 @@ ghost use Rattle.savi_access.specs.Marks.{Mark, newest_moment, base_at};
 ghost use Rattle.savi_access.specs.Legal.{AreMarks};
 ghost use Rattle.access_table.specs.Kept.{Kept, Represents};
 ghost use Rattle.hist_store.specs.Rows.{Row};
-ghost use Rattle.savi_history.specs.Bases.{Base, empty};
+ghost use Rattle.checkpoint.specs.Bases.{Base, empty};
 ghost use Rattle.savi_history.specs.CameFirst.{IsLiveAtEnd, IsLostSince};
 ghost use Rattle.savi_history.specs.Judged.{verdict_of};
 ghost use Rattle.savi_history.specs.Legal.{IsLegal};
@@ -46,14 +46,16 @@ pub fn a_history_is_read_from_its_turns()
     histories_tell_rightly();
 }
 
-/// What legal segments leave is within the limits, so that another one may go on from there (`within`). It is what their
-/// joined rows leave from the start of a switch (`same`), though these needn't be legal: room and the places of octets are
-/// counted within a segment. And the newest segment reads as it does behind all rows before it (`reads`).
+/// What legal segments leave is within the limits, so that another one may go on from there (`within`). Where there is one,
+/// it is what their joined rows leave from the start of a switch (`same`), though these needn't be legal: room and the
+/// places of octets are counted within a segment. And the newest segment reads as it does behind all rows before it
+/// (`reads`).
 pub fn segments_leave_what_their_rows_leave()
     ensures within { (plan : Plan) (segments : List (List Row))
         → IsValidPlan plan → AreLegal plan segments → IsWithinLimits plan (base_after plan segments) }
-    ensures same { (plan : Plan) (segments : List (List Row))
-        → IsValidPlan plan → AreLegal plan segments → base_after plan segments ≡ after plan empty (joined segments) }
+    ensures same { (plan : Plan) (segment : List Row) (before : List (List Row))
+        → IsValidPlan plan → AreLegal plan (segment ∷ before)
+        → base_after plan (segment ∷ before) ≡ after plan empty (joined (segment ∷ before)) }
     ensures reads { (plan : Plan) (segment : List Row) (before : List (List Row))
         → IsValidPlan plan → AreLegal plan (segment ∷ before)
         → ReadsAs plan empty (joined before) (base_after plan before) segment }

@@ -40,11 +40,11 @@ ending_once seen place octets how.Failed how.Failed one other = refl
 ending_once seen place octets how.Quit f one other = absurd one
 ending_once seen place octets (how.Overlong at) f one other = absurd one
 ending_once seen place octets how.Unwritten f one other = absurd one
-ending_once seen place octets (how.Full len) f one other = absurd one
+ending_once seen place octets how.Paused f one other = absurd one
 ending_once seen place octets e how.Quit one other = absurd other
 ending_once seen place octets e (how.Overlong at) one other = absurd other
 ending_once seen place octets e how.Unwritten one other = absurd other
-ending_once seen place octets e (how.Full len) one other = absurd other
+ending_once seen place octets e how.Paused one other = absurd other
 
 -- the size of a record is in its front
 record_size : (octets : List ℕ) (a : Arrival) → IsRecordOf octets a → (length octets ≡ 4 + length_in octets) × (length_in octets ≤ 262144)
@@ -89,7 +89,7 @@ no_ending seen place first rest a how.Failed is within ends = no_cut first rest 
 no_ending seen place first rest a how.Quit is within ends = ends
 no_ending seen place first rest a (how.Overlong at) is within ends = ends
 no_ending seen place first rest a how.Unwritten is within ends = ends
-no_ending seen place first rest a (how.Full len) is within ends = ends
+no_ending seen place first rest a how.Paused is within ends = ends
 
 -- the first records of the same octets are the same octets
 first_once : (first rest first' rest' : List ℕ) (a b : Arrival) → first ++ rest ≡ first' ++ rest' → IsRecordOf first a → IsRecordOf first' b → (first ≡ first') × (rest ≡ rest')

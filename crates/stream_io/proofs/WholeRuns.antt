@@ -103,7 +103,7 @@ unread ending (next.Frame stamp len) old new is stamps = absurd (no_frame ending
     no_frame (how.Overlong at) stamp len is = cc
     no_frame how.Failed stamp len is = cc
     no_frame how.Unwritten stamp len is = cc
-    no_frame (how.Full n) stamp len is = cc
+    no_frame how.Paused stamp len is = cc
 unread ending (next.Long stamp len) old new is stamps = absurd (no_long ending stamp len is)
   where
     no_long : (ending : How) (stamp len : ℕ) → answer_of ending ≡ Some (next.Long stamp len) → ⊥
@@ -113,7 +113,7 @@ unread ending (next.Long stamp len) old new is stamps = absurd (no_long ending s
     no_long (how.Overlong at) stamp len is = cc
     no_long how.Failed stamp len is = cc
     no_long how.Unwritten stamp len is = cc
-    no_long (how.Full n) stamp len is = cc
+    no_long how.Paused stamp len is = cc
 unread ending next.End old new is stamps = stamps
 unread ending (next.Malformed at) old new is stamps = stamps
 unread ending next.Failed old new is stamps = stamps

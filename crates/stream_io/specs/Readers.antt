@@ -106,7 +106,7 @@ answer_of how.Failed = Some next.Failed
 answer_of how.Quit = None
 answer_of (how.Overlong at) = None
 answer_of how.Unwritten = None
-answer_of (how.Full len) = None
+answer_of how.Paused = None
 
 -- what a reader that has ended answers again and again
 abbrev pub last_answer : State → Option Next

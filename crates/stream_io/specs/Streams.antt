@@ -24,7 +24,7 @@ EndsAs seen place how.Failed octets = (seen ≡ false) × IsCut octets × ¬ IsA
 EndsAs seen place how.Quit octets = ⊥
 EndsAs seen place (how.Overlong at) octets = ⊥
 EndsAs seen place how.Unwritten octets = ⊥
-EndsAs seen place (how.Full len) octets = ⊥
+EndsAs seen place how.Paused octets = ⊥
 
 -- What is left at this place is the records of these arrivals, one after the other, and then ends so.
 abbrev pub IsRun : Bool → ℕ → List Arrival → How → List ℕ → Type 0

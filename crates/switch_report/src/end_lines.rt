@@ -5,10 +5,10 @@ ghost use Rattle.savi_ends.specs.Faults.{Rose};
 ghost use Rattle.savi_ends.specs.Writes.{Extends};
 ghost use Rattle.savi_history.specs.EndLines.{end_line, end_lines, entry_line};
 
-use crate::end_line::{EndLine, put_entry_line};
+use crate::end_line::{EndLine, put_end_line, put_entry_line};
 use hist_store::Hist;
 use savi_ends::{Put, Sink};
-use savi_kinds::{Act, How, Who};
+use savi_kinds::{How, Who};
 
 /// Writes the lines of a history's ends in order, one write a line, until all are written or a write fails.
 ///
@@ -29,14 +29,14 @@ pub fn tell_ends<K: Sink>(hist: &Hist, sink: &mut K) -> Put
     Put::Done
 }
 
-/// Writes the line of one end, unless it is an ordinary one or one by `quit`, which have none.
+/// Writes the line of one end, unless it is an ordinary one, one by `quit` or a pause, which have none.
 pub fn tell_end<K: Sink>(who: Who, how: How, sink: &mut K) -> Put
     ensures extends { Extends result (K.written sink.old) (K.written sink.new) (end_line who how) }
     ensures later { K.faults sink.old ≤ K.faults sink.new }
     ensures cause { result ≡ Put.Failed → Rose (K.faults sink.old) (K.faults sink.new) }
 {
     let mut line = EndLine::new();
-    put_entry_line(Act::End { who, how }, &mut line);
+    put_end_line(&mut line, who, how);
     tell_line(sink, line.as_slice())
 }
 
@@ -44,9 +44,9 @@ pub fn tell_end<K: Sink>(who: Who, how: How, sink: &mut K) -> Put
 // end of which an operator has to know.
 fn put_line_at(hist: &Hist, n: u64, into: &mut EndLine)
     requires { n < length hist.now.rows }
-    ensures { IsSomeAnd (slice_get hist.now.rows n) (λ row. into.new.items ≡ entry_line row.entry.act) }
+    ensures { IsSomeAnd (slice_get hist.now.rows n) (λ row. into.new.items ≡ entry_line n row.entry.act) }
 {
-    put_entry_line(hist.entry(n).act, into);
+    put_entry_line(n, hist.entry(n).act, into);
 }
 
 // Writes a line, if there is one.

@@ -1,7 +1,7 @@
 //! How the inputs and the outputs of a history ended.
 
 ghost use Rattle.std.specs.Prelude.{◌≡◌, reverse};
-ghost use Rattle.savi_history.specs.Endings.{is_malformed_end, is_failed_end, is_failed_write, is_full_end, has_malformed, has_failed, has_failed_write, has_full};
+ghost use Rattle.savi_history.specs.Endings.{is_malformed_end, is_failed_end, is_failed_write, is_paused_end, has_malformed, has_failed, has_failed_write, has_paused_end};
 
 use hist_store::Hist;
 use savi_kinds::{Act, How, Who};
@@ -42,12 +42,12 @@ pub fn has_failed_write(hist: &Hist) -> bool
     false
 }
 
-/// Whether a pass of the history ended for want of room. O(n) in the entries.
-pub fn has_full(hist: &Hist) -> bool
-    ensures { result ≡ has_full (reverse hist.now.rows) }
+/// Whether a pass of the history was paused for want of room. O(n) in the entries.
+pub fn has_paused_end(hist: &Hist) -> bool
+    ensures { result ≡ has_paused_end (reverse hist.now.rows) }
 {
     for n in 0..hist.len() {
-        if is_full_end(hist.entry(n).act) {
+        if is_paused_end(hist.entry(n).act) {
             return true;
         }
     }
@@ -94,12 +94,12 @@ fn is_failed_write(act: Act) -> bool
     }
 }
 
-// Whether an entry is the end of an input for which there was no room.
-fn is_full_end(act: Act) -> bool
-    ensures { result ≡ is_full_end act }
+// Whether an entry is the end of a pass that was paused for want of room.
+fn is_paused_end(act: Act) -> bool
+    ensures { result ≡ is_paused_end act }
 {
     match act {
-        Act::End { who: _, how } => matches!(how, How::Full(_)),
+        Act::End { who: _, how } => matches!(how, How::Paused),
         _ => false,
     }
 }

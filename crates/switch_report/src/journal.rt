@@ -9,7 +9,7 @@ ghost use Rattle.savi_ends.specs.Faults.{Rose};
 ghost use Rattle.savi_ends.specs.Writes.{Extends};
 ghost use Rattle.hist_store.specs.LineTexts.{FitsLine};
 ghost use Rattle.hist_store.specs.JournalTexts.{address_text, journal_text};
-ghost use Rattle.savi_history.specs.Bases.{empty};
+ghost use Rattle.checkpoint.specs.Bases.{empty};
 ghost use Rattle.savi_history.specs.Legal.{IsLegal};
 ghost use Rattle.savi_history.specs.Journals.{IsAddress, IsJournalOf};
 ghost use Rattle.switch_report.specs.Buffers.{Holds};

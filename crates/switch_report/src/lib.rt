@@ -21,7 +21,7 @@ pub use check_line::{
     CHECK_LINE_OCTETS, CheckLine, FIELD_TEXT_OCTETS, put_bad_line, put_good, put_wrong,
 };
 pub use end_lines::{tell_end, tell_ends};
-pub use ending::{has_failed, has_failed_write, has_full, has_malformed};
+pub use ending::{has_failed, has_failed_write, has_malformed, has_paused_end};
 pub use journal::write_journal;
 pub use run_lines::{
     port_name, tell_config, tell_malformed, tell_memory, tell_unopened, tell_unread,

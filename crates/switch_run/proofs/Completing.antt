@@ -30,10 +30,10 @@ use Rattle.hist_store.specs.Rows.{Row}
 use Rattle.journal_check.specs.declared.answer.Checked.{Checked}
 use Rattle.journal_check.specs.declared.answer.Checked.TheVariants as answers
 use Rattle.journal_check.specs.Laws.{IsFinishedJournal}
-use Rattle.savi_history.specs.Bases.{empty}
+use Rattle.checkpoint.specs.Bases.{empty}
 use Rattle.savi_history.specs.ControlFits.{FitsControl}
 use Rattle.savi_history.specs.ControlInputs.{control_end, entered_lines}
-use Rattle.savi_history.specs.Endings.{has_failed, has_failed_write, has_malformed, has_full, is_failed_reason, is_malformed_reason}
+use Rattle.savi_history.specs.Endings.{has_failed, has_failed_write, has_malformed, has_paused_end, is_failed_reason, is_malformed_reason}
 use Rattle.savi_history.specs.PortInputs.{arrived, input_end}
 use Rattle.live_session.specs.LiveControl.{AreLiveLines}
 use Rattle.live_session.specs.LiveInputs.{FitsInput}
@@ -55,7 +55,7 @@ use Rattle.switch_run.proofs.LearnClauses.{AllClauses}
 use Rattle.switch_run.proofs.LearnFaults.{ends_among}
 use Rattle.switch_run.proofs.Faulting.{ended_alone, no_input, unwritten_fault}
 use Rattle.switch_run.proofs.LegalFailures.{number_of_place, plan_element}
-use Rattle.switch_run.proofs.LegalFaults.{IsMalformedAt, full_has_no_room, legal_malformed}
+use Rattle.switch_run.proofs.LegalFaults.{IsMalformedAt, paused_has_no_room, legal_malformed}
 use Rattle.switch_run.proofs.WholeInputs.{both_told, lines_not_malformed, live_not_malformed, told_of, whole_not_heard_malformed, whole_not_malformed}
 
 -- statuses
@@ -98,12 +98,12 @@ malformed_by status false false true h is e = refl
 malformed_by status false false false true is e = absurd (omega (arith, is, e))
 malformed_by status false false false false is e = absurd (omega (arith, is, e))
 
-full_by : (status : ℕ) (f w m h : Bool) → status ≡ (if f then 5 else if w then 6 else if m then 4 else if h then 8 else 0) → status ≡ 8 → h ≡ true
-full_by status true w m h is e = absurd (omega (arith, is, e))
-full_by status false true m h is e = absurd (omega (arith, is, e))
-full_by status false false true h is e = absurd (omega (arith, is, e))
-full_by status false false false true is e = refl
-full_by status false false false false is e = absurd (omega (arith, is, e))
+paused_by : (status : ℕ) (f w m h : Bool) → status ≡ (if f then 5 else if w then 6 else if m then 4 else if h then 8 else 0) → status ≡ 8 → h ≡ true
+paused_by status true w m h is e = absurd (omega (arith, is, e))
+paused_by status false true m h is e = absurd (omega (arith, is, e))
+paused_by status false false true h is e = absurd (omega (arith, is, e))
+paused_by status false false false true is e = refl
+paused_by status false false false false is e = absurd (omega (arith, is, e))
 
 -- no opening failed where the world's count didn't rise
 not_risen : (before now : ℕ) → before ≡ 0 → now ≡ before → Rose before now → ⊥
@@ -176,8 +176,8 @@ module _ {S K C : Type 0} (left : S → Option (List ℕ)) (written : K → Opti
   replay_limited : status ≡ 8 → IsAtLimit s.plan past
   replay_limited eight =
       let r = s.session.did.reported in
-      let full : has_full past ≡ true = full_by status (has_failed past) (has_failed_write past || not (r.journal_written && r.summed.summary_written)) (has_malformed past) (has_full past) r.summed.cause eight in
-      record { no_room = full_has_no_room s.plan empty past s.session.did.legal full; full = full }
+      let paused : has_paused_end past ≡ true = paused_by status (has_failed past) (has_failed_write past || not (r.journal_written && r.summed.summary_written)) (has_malformed past) (has_paused_end past) r.summed.cause eight in
+      record { no_room = paused_has_no_room s.plan empty past s.session.did.legal paused; paused = paused }
 
   module _ (whole : AreWhole false left old s.plan) where
     replay_at : IsMalformedAt s.plan past → ⊥
@@ -195,7 +195,7 @@ module _ {S K C : Type 0} (left : S → Option (List ℕ)) (written : K → Opti
     replay_sound : status ≡ 4 → ⊥
     replay_sound four =
         let r = s.session.did.reported in
-        let bad : has_malformed past ≡ true = malformed_by status (has_failed past) (has_failed_write past || not (r.journal_written && r.summed.summary_written)) (has_malformed past) (has_full past) r.summed.cause four in
+        let bad : has_malformed past ≡ true = malformed_by status (has_failed past) (has_failed_write past || not (r.journal_written && r.summed.summary_written)) (has_malformed past) (has_paused_end past) r.summed.cause four in
         replay_at (legal_malformed s.plan empty past s.session.did.legal bad)
 
 -- a live session
@@ -219,8 +219,8 @@ module _ {S K C : Type 0} (left : S → Option (List ℕ)) (written : K → Opti
     live_limited eight =
         let past = s.session.past in
         let r = s.session.reported in
-        let full : has_full past ≡ true = full_by status (has_failed past) (has_failed_write past || not (r.journal_written && r.summed.summary_written)) (has_malformed past) (has_full past) r.summed.cause eight in
-        record { no_room = full_has_no_room s.plan empty past s.session.legal full; full = full }
+        let paused : has_paused_end past ≡ true = paused_by status (has_failed past) (has_failed_write past || not (r.journal_written && r.summed.summary_written)) (has_malformed past) (has_paused_end past) r.summed.cause eight in
+        record { no_room = paused_has_no_room s.plan empty past s.session.legal paused; paused = paused }
 
     module _ (whole : AreWhole true left old s.plan) where
       live_at : IsMalformedAt s.plan s.session.past → ⊥
@@ -239,7 +239,7 @@ module _ {S K C : Type 0} (left : S → Option (List ℕ)) (written : K → Opti
       live_sound four =
           let past = s.session.past in
           let r = s.session.reported in
-          let bad : has_malformed past ≡ true = malformed_by status (has_failed past) (has_failed_write past || not (r.journal_written && r.summed.summary_written)) (has_malformed past) (has_full past) r.summed.cause four in
+          let bad : has_malformed past ≡ true = malformed_by status (has_failed past) (has_failed_write past || not (r.journal_written && r.summed.summary_written)) (has_malformed past) (has_paused_end past) r.summed.cause four in
           live_at (legal_malformed s.plan empty past s.session.legal bad)
 
 -- learning

@@ -7,7 +7,7 @@ use Rattle.savi_ends.specs.declared.world.Std.TheVariants.{Out}
 use Rattle.savi_ends.specs.declared.world.Ends.{Ends}
 use Rattle.savi_ends.specs.Places.{Place, Book, PortKey, ControlKey, OthersStay}
 use Rattle.hist_store.specs.Rows.{Row}
-use Rattle.savi_history.specs.Endings.{has_failed, has_failed_write, has_malformed, has_full}
+use Rattle.savi_history.specs.Endings.{has_failed, has_failed_write, has_malformed, has_paused_end}
 use Rattle.port_worker.specs.declared.port_ends.PortEnds.{PortEnds}
 use Rattle.port_worker.specs.declared.session.Ready.{Ready}
 use Rattle.switch_ports.specs.Named.{control_key}
@@ -49,8 +49,8 @@ not_quiet false false false false e = let t : false ≡ true = e in cc
 summed_is : {K : Type 0} (written : K → Option (List ℕ)) (faults : K → ℕ) (Says : List ℕ → Type 0) (past : List Row) (journal_written : Bool) (old new : Place K) (status : ℕ) → IsSummed written faults Says past journal_written old new status → IsOneOf statuses status × (IsOneOf quiet_statuses status → ⊥)
 summed_is written faults Says past journal_written old new status summed =
     let w = has_failed_write past || not (journal_written && summed.summary_written) in (
-      subst (λ (n : ℕ). IsOneOf statuses n) (sym summed.cause) (is_status (has_failed past) w (has_malformed past) (has_full past)),
-      λ one_of. not_quiet (has_failed past) w (has_malformed past) (has_full past) (subst (λ (n : ℕ). IsOneOf quiet_statuses n) summed.cause one_of),
+      subst (λ (n : ℕ). IsOneOf statuses n) (sym summed.cause) (is_status (has_failed past) w (has_malformed past) (has_paused_end past)),
+      λ one_of. not_quiet (has_failed past) w (has_malformed past) (has_paused_end past) (subst (λ (n : ℕ). IsOneOf quiet_statuses n) summed.cause one_of),
     )
 
 -- a place that wasn't touched has its end back

@@ -12,8 +12,8 @@ use Rattle.savi_ends.specs.declared.world.Ends.{Ends}
 use Rattle.savi_ends.specs.Places.{Place, Book, PortKey, ControlKey}
 use Rattle.cli_lang.specs.Arrivals as control
 use Rattle.hist_store.specs.Rows.{Row}
-use Rattle.savi_history.specs.Bases.{empty}
-use Rattle.savi_history.specs.Endings.{has_failed, has_failed_write, has_malformed, has_full}
+use Rattle.checkpoint.specs.Bases.{empty}
+use Rattle.savi_history.specs.Endings.{has_failed, has_failed_write, has_malformed, has_paused_end}
 use Rattle.savi_history.specs.ControlInputs.{control_end}
 use Rattle.savi_history.specs.PortInputs.{input_end}
 use Rattle.savi_history.specs.PortOutputs.{output_end}
@@ -106,7 +106,7 @@ module _ {S K C : Type 0} (left : S → Option (List ℕ)) (written : K → Opti
 
   replay_read : status ≡ 5 → ((key : PortKey) × HasReadFault source_faults new key) ⊎ ((names : ControlKey) × EndHasFault (λ e. source_faults e.source) (new.control names))
   replay_read five =
-      let failed : has_failed r.past ≡ true = failed_by status (has_failed r.past) (has_failed_write r.past || not (r.reported.journal_written && r.reported.summed.summary_written)) (has_malformed r.past) (has_full r.past) r.reported.summed.cause five in
+      let failed : has_failed r.past ≡ true = failed_by status (has_failed r.past) (has_failed_write r.past || not (r.reported.journal_written && r.reported.summed.summary_written)) (has_malformed r.past) (has_paused_end r.past) r.reported.summed.cause five in
       read_at (subst (λ (l : List Row). IsOfInput plan l) (sym r.serves.replay) (failed_at_input plan empty r.serves.lines r.serves.inputs r.serves.stops (ap has_failed (sym r.serves.replay) ∙ failed)))
 
 -- a read failed where the status is 5
@@ -149,7 +149,7 @@ replay_write : {S K C : Type 0} (left : S → Option (List ℕ)) (written : K �
 replay_write left written source_faults sink_faults plan Says old new status rising six r =
     let w = r.reported.journal_written && r.reported.summed.summary_written in
     fault_of left written source_faults sink_faults plan Says old new status rising r
-    (which_unwritten (has_failed_write r.past) w (unwritten_by status (has_failed r.past) (has_failed_write r.past || not w) (has_malformed r.past) (has_full r.past) r.reported.summed.cause six))
+    (which_unwritten (has_failed_write r.past) w (unwritten_by status (has_failed r.past) (has_failed_write r.past || not w) (has_malformed r.past) (has_paused_end r.past) r.reported.summed.cause six))
 
 -- a write failed where the status is 6
 pub write_fault_of : {S K C : Type 0} (left : S → Option (List ℕ)) (written : K → Option (List ℕ)) (source_faults : S → ℕ) (sink_faults : K → ℕ) (Says : List ℕ → Type 0) (old new : Book S K C) (file : List ℕ) (status : ℕ) → status ≡ 6
@@ -196,7 +196,7 @@ module _ {S K C : Type 0} (left : S → Option (List ℕ)) (written : K → Opti
   live_read : status ≡ 5 → ((key : PortKey) × HasReadFault source_faults new key) ⊎ ((names : ControlKey) × EndHasFault (λ e. source_faults e.source) (new.control names))
   live_read five =
       let w = has_failed_write r.past || not (r.reported.journal_written && r.reported.summed.summary_written) in
-      live_read_at (legal_failed plan empty r.past r.legal (failed_by status (has_failed r.past) w (has_malformed r.past) (has_full r.past) r.reported.summed.cause five))
+      live_read_at (legal_failed plan empty r.past r.legal (failed_by status (has_failed r.past) w (has_malformed r.past) (has_paused_end r.past) r.reported.summed.cause five))
 
   live_fault : (has_failed_write r.past ≡ true) ⊎ ((r.reported.journal_written && r.reported.summed.summary_written) ≡ false) → HasSomeWriteFault sink_faults new
   live_fault (inl failed) = live_write_at (legal_failed_write plan empty r.past r.legal failed)
@@ -205,7 +205,7 @@ module _ {S K C : Type 0} (left : S → Option (List ℕ)) (written : K → Opti
   live_write : status ≡ 6 → HasSomeWriteFault sink_faults new
   live_write six =
       let w = r.reported.journal_written && r.reported.summed.summary_written in
-      live_fault (which_unwritten (has_failed_write r.past) w (unwritten_by status (has_failed r.past) (has_failed_write r.past || not w) (has_malformed r.past) (has_full r.past) r.reported.summed.cause six))
+      live_fault (which_unwritten (has_failed_write r.past) w (unwritten_by status (has_failed r.past) (has_failed_write r.past || not w) (has_malformed r.past) (has_paused_end r.past) r.reported.summed.cause six))
 
 pub live_read_fault : {S K C : Type 0} (left : S → Option (List ℕ)) (written : K → Option (List ℕ)) (source_faults : S → ℕ) (sink_faults : K → ℕ) (readings : C → Option (List ℕ)) (Says : List ℕ → Type 0) (old new : Book S K C) (file : List ℕ) (status : ℕ) → status ≡ 5
     → IsFileUnread left source_faults file Says old new status ⊎ IsServeSession left written source_faults sink_faults readings file Says old new status → HasSomeReadFault source_faults file new

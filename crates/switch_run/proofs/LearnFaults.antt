@@ -134,7 +134,7 @@ failed_is (hows.Malformed at) is = let t : false ≡ true = is in cc
 failed_is (hows.Overlong at) is = let t : false ≡ true = is in cc
 failed_is hows.Failed is = refl
 failed_is hows.Unwritten is = let t : false ≡ true = is in cc
-failed_is (hows.Full len) is = let t : false ≡ true = is in cc
+failed_is hows.Paused is = let t : false ≡ true = is in cc
 
 five_by : (f w m : Bool) → ◌≡◌ {A = ℕ} (if f then 5 else if w then 6 else if m then 4 else 0) 5 → f ≡ true
 five_by true w m is = refl

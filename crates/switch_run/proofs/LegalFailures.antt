@@ -12,7 +12,7 @@ use Rattle.savi_kinds.specs.declared.entry.How.TheVariants as hows
 use Rattle.savi_kinds.specs.Ports.{number_of}
 use Rattle.savi_kinds.specs.ValidPlan.{numbers_of}
 use Rattle.hist_store.specs.Rows.{Row}
-use Rattle.savi_history.specs.Bases.{Base}
+use Rattle.checkpoint.specs.Bases.{Base}
 use Rattle.savi_history.specs.Passes.{pass_of, place_of, control_pass, egress_pass, has_ended, has_port}
 use Rattle.savi_history.specs.Events.{Event, Frame, Long, Command, Tick, Drain, End, row_of}
 use Rattle.savi_history.specs.Legal.{IsLegal, IsOpen, MayCome}
@@ -40,7 +40,7 @@ failed_how (hows.Malformed at) is = cc
 failed_how (hows.Overlong at) is = cc
 failed_how hows.Failed is = refl
 failed_how hows.Unwritten is = cc
-failed_how (hows.Full len) is = cc
+failed_how hows.Paused is = cc
 
 unwritten_how : (how : How) → is_unwritten_reason how ≡ true → how ≡ hows.Unwritten
 unwritten_how hows.End is = cc
@@ -49,7 +49,7 @@ unwritten_how (hows.Malformed at) is = cc
 unwritten_how (hows.Overlong at) is = cc
 unwritten_how hows.Failed is = cc
 unwritten_how hows.Unwritten is = refl
-unwritten_how (hows.Full len) is = cc
+unwritten_how hows.Paused is = cc
 
 pub itself : (n : ℕ) → (n == n) ≡ true
 itself n = eq-eqb n n refl

@@ -1,6 +1,6 @@
 -- An input that is malformed in a legal history is that of a port of the plan, or control's; and a history in which a pass
--- ended for want of room has none.
-use Rattle.std.proofs.Common.{◌≡◌, ℕ, ◌+◌, ◌<◌, ◌≤◌, ◌==◌, ◌||◌, nat_lt, nat_le, Bool, true, false, List, [], ◌∷◌, get_or, length, refl, sym, ◌∙◌, subst, arith, if◌then◌else◌, ◌⊎◌, inl, inr, Option, Some, IsSome}
+-- is paused has no room for another input.
+use Rattle.std.proofs.Common.{◌≡◌, ℕ, ◌+◌, ◌<◌, ◌≤◌, ◌==◌, ◌&&◌, ◌||◌, nat_lt, nat_le, Bool, true, false, List, [], ◌∷◌, get_or, length, refl, ap, sym, ◌∙◌, subst, arith, if◌then◌else◌, ◌⊎◌, inl, inr, Option, Some, IsSome}
 use Rattle.std.proofs.lemmas.Bool.{ne_eqb, cond-false, cond-true, ltb-true, leb-true, lt-ltb, le-leb, and_parts, and_from}
 use Rattle.savi_kinds.specs.declared.port.Port.{Port}
 use Rattle.savi_kinds.specs.declared.plan.Plan.{Plan}
@@ -11,14 +11,14 @@ use Rattle.savi_kinds.specs.declared.entry.How.TheVariants as hows
 use Rattle.savi_kinds.specs.Ports.{number_of}
 use Rattle.savi_kinds.specs.ValidPlan.{numbers_of}
 use Rattle.hist_store.specs.Rows.{Row, held}
-use Rattle.savi_history.specs.Bases.{Base}
+use Rattle.checkpoint.specs.Bases.{Base}
 use Rattle.savi_history.specs.Passes.{place_of, control_pass, has_ended, has_port}
 use Rattle.savi_history.specs.Limits.{has_room}
 use Rattle.savi_history.specs.Events.{Event, Frame, Long, Command, Tick, Drain, End, row_of}
 use Rattle.savi_history.specs.Legal.{IsLegal, IsOpen, MayCome, MayEnd, MayEndEgress, MayEndTicker}
 use Rattle.savi_history.specs.PortInputs.{input_end}
 use Rattle.savi_history.specs.ControlInputs.{control_end}
-use Rattle.savi_history.specs.Endings.{has_full, has_malformed, is_full_reason, is_malformed_reason}
+use Rattle.savi_history.specs.Endings.{has_malformed, has_pause, has_paused_end, is_input, is_malformed_reason, is_paused_reason}
 use Rattle.savi_history.proofs.PortPlaces.{placed, place_within}
 use Rattle.switch_run.proofs.LegalFailures.{Tells, apart_now, itself, tells_legal}
 
@@ -36,7 +36,7 @@ ticker_sound plan base past (hows.Malformed at) may is = may
 ticker_sound plan base past (hows.Overlong at) may is = may
 ticker_sound plan base past hows.Failed may is = may
 ticker_sound plan base past hows.Unwritten may is = may
-ticker_sound plan base past (hows.Full len) may is = cc
+ticker_sound plan base past hows.Paused may is = cc
 
 egress_sound : (plan : Plan) (base : Base) (past : List Row) (q : ℕ) (how : How) → MayEndEgress plan base past q how → is_malformed_reason how ≡ true → ⊥
 egress_sound plan base past q hows.End may is = cc
@@ -45,7 +45,7 @@ egress_sound plan base past q (hows.Malformed at) may is = may
 egress_sound plan base past q (hows.Overlong at) may is = may
 egress_sound plan base past q hows.Failed may is = cc
 egress_sound plan base past q hows.Unwritten may is = may
-egress_sound plan base past q (hows.Full len) may is = may
+egress_sound plan base past q hows.Paused may is = cc
 
 module _ (plan : Plan) (base : Base) where
   malformed_at : (past : List Row) (p : Port) (how : How) → has_port plan (number_of p) ≡ true → is_malformed_reason how ≡ true → IsMalformedAt plan (row_of plan base past (End (passes.Ingress p) how) ∷ past)
@@ -123,38 +123,55 @@ module _ (plan : Plan) (base : Base) where
       and_from (nat_lt (length past + 4130) plan.entries) (nat_le (held past + 1518) plan.bytes)
       (lt-ltb (length past + 4130) plan.entries (omega (arith, entries))) (le-leb (held past + 1518) plan.bytes (omega (arith, bytes)))
 
-  -- a pass ends for want of room only where there is none
-  not_full : (past : List Row) (who : Who) (how : How) → has_room plan past ≡ true → MayEnd plan base past who how → is_full_reason how ≡ false
-  not_full past who hows.End room may = refl
-  not_full past who hows.Quit room may = refl
-  not_full past who (hows.Malformed at) room may = refl
-  not_full past who (hows.Overlong at) room may = refl
-  not_full past who hows.Failed room may = refl
-  not_full past who hows.Unwritten room may = refl
-  not_full past (passes.Ingress p) (hows.Full len) room may = absurd (let none : true ≡ false = sym room ∙ may.no_room in cc)
-  not_full past passes.Control (hows.Full len) room may = absurd (let none : true ≡ false = sym room ∙ may.no_room in cc)
-  not_full past passes.Ticker (hows.Full len) room may = absurd (let none : true ≡ false = sym room ∙ may.no_room in cc)
-  not_full past (passes.Egress p) (hows.Full len) room may = absurd may
+  -- no pass is paused
+  record IsUnpaused (past : List Row) : Type 0 where
+    passes : has_paused_end past ≡ false
+    inputs : has_pause past ≡ false
 
-  roomy_event : (past : List Row) (event : Event) → MayCome plan base past event → has_room plan past ≡ true → has_full past ≡ false → has_full (row_of plan base past event ∷ past) ≡ false
-  roomy_event past (Frame p stamp octets) may room before = before
-  roomy_event past (Long p stamp len) may room before = before
-  roomy_event past (Command stamp line) may room before = before
-  roomy_event past (Tick stamp) may room before = before
-  roomy_event past (Drain p count) may room before = before
-  roomy_event past (End who how) may room before = rw (not_full past who how room may.1) before
+  -- an input is paused only where there is no room for another, and another pass only where an input is
+  not_paused : (past : List Row) (who : Who) (how : How) → has_room plan past ≡ true → has_pause past ≡ false → MayEnd plan base past who how → is_paused_reason how ≡ false
+  not_paused past who hows.End room none may = refl
+  not_paused past who hows.Quit room none may = refl
+  not_paused past who (hows.Malformed at) room none may = refl
+  not_paused past who (hows.Overlong at) room none may = refl
+  not_paused past who hows.Failed room none may = refl
+  not_paused past who hows.Unwritten room none may = refl
+  not_paused past (passes.Ingress p) hows.Paused room none may = absurd (let both : true ≡ false = sym room ∙ may in cc)
+  not_paused past passes.Control hows.Paused room none may = absurd (let both : true ≡ false = sym room ∙ may in cc)
+  not_paused past passes.Ticker hows.Paused room none may = absurd (let both : true ≡ false = sym may.1 ∙ none in cc)
+  not_paused past (passes.Egress p) hows.Paused room none may = absurd (let both : true ≡ false = sym may.1 ∙ none in cc)
 
-  roomy_legal : (past : List Row) → IsLegal plan base past → has_room plan past ≡ true → has_full past ≡ false
-  roomy_legal [] legal room = refl
+  no_input : (who : Who) → (is_input who && false) ≡ false
+  no_input (passes.Ingress p) = refl
+  no_input passes.Control = refl
+  no_input passes.Ticker = refl
+  no_input (passes.Egress p) = refl
+
+  roomy_end : (past : List Row) (who : Who) (how : How) → is_paused_reason how ≡ false → IsUnpaused past → IsUnpaused (row_of plan base past (End who how) ∷ past)
+  roomy_end past who how other before = record {
+    passes = ap (λ (b : Bool). b || has_paused_end past) other ∙ before.passes;
+    inputs = ap (λ (b : Bool). (is_input who && b) || has_pause past) other ∙ ap (λ (b : Bool). b || has_pause past) (no_input who) ∙ before.inputs;
+  }
+
+  roomy_event : (past : List Row) (event : Event) → MayCome plan base past event → has_room plan past ≡ true → IsUnpaused past → IsUnpaused (row_of plan base past event ∷ past)
+  roomy_event past (Frame p stamp octets) may room before = record { passes = before.passes; inputs = before.inputs }
+  roomy_event past (Long p stamp len) may room before = record { passes = before.passes; inputs = before.inputs }
+  roomy_event past (Command stamp line) may room before = record { passes = before.passes; inputs = before.inputs }
+  roomy_event past (Tick stamp) may room before = record { passes = before.passes; inputs = before.inputs }
+  roomy_event past (Drain p count) may room before = record { passes = before.passes; inputs = before.inputs }
+  roomy_event past (End who how) may room before = roomy_end past who how (not_paused past who how room before.inputs may.1) before
+
+  roomy_legal : (past : List Row) → IsLegal plan base past → has_room plan past ≡ true → IsUnpaused past
+  roomy_legal [] legal room = record { passes = refl; inputs = refl }
   roomy_legal (r ∷ past) legal room =
       let event = legal.0.0 in
       let row_is : r ≡ row_of plan base past event = legal.0.2 in
       let room_before = roomy_before r past room in
-      subst (λ (x : Row). has_full (x ∷ past) ≡ false) (sym row_is) (roomy_event past event legal.0.1 room_before (roomy_legal past legal.1 room_before))
+      subst (λ (x : Row). IsUnpaused (x ∷ past)) (sym row_is) (roomy_event past event legal.0.1 room_before (roomy_legal past legal.1 room_before))
 
-  room_by : (past : List Row) (b : Bool) → (b ≡ true → has_full past ≡ false) → has_full past ≡ true → b ≡ false
-  room_by past true none full = absurd (let both : true ≡ false = sym full ∙ none refl in cc)
-  room_by past false none full = refl
+  room_by : (past : List Row) (b : Bool) → (b ≡ true → has_paused_end past ≡ false) → has_paused_end past ≡ true → b ≡ false
+  room_by past true none paused = absurd (let both : true ≡ false = sym paused ∙ none refl in cc)
+  room_by past false none paused = refl
 
-  pub full_has_no_room : (past : List Row) → IsLegal plan base past → has_full past ≡ true → has_room plan past ≡ false
-  full_has_no_room past legal full = room_by past (has_room plan past) (roomy_legal past legal) full
+  pub paused_has_no_room : (past : List Row) → IsLegal plan base past → has_paused_end past ≡ true → has_room plan past ≡ false
+  paused_has_no_room past legal paused = room_by past (has_room plan past) (λ room. (roomy_legal past legal room).passes) paused

@@ -15,7 +15,7 @@ use Rattle.savi_ends.specs.declared.world.Std.TheVariants.{Out}
 use Rattle.savi_ends.specs.declared.world.Ends.{Ends}
 use Rattle.savi_ends.specs.Places.{Place, Book, PortKey, ControlKey, IsPortOut, IsControlOut, IsControlKept}
 use Rattle.hist_store.specs.Rows.{Row}
-use Rattle.savi_history.specs.Bases.{empty}
+use Rattle.checkpoint.specs.Bases.{empty}
 use Rattle.live_session.specs.LiveRows.{ControlRow, TickerRow}
 use Rattle.live_session.specs.LiveSession.{PortRow, ControlOf}
 use Rattle.live_switch.specs.declared.ready.Ready.{Ready}

@@ -5,7 +5,7 @@ use Rattle.savi_ends.specs.declared.world.Std.TheVariants.{Out}
 use Rattle.savi_ends.specs.Octets.{behind}
 use Rattle.savi_ends.specs.Places.{Place, Book}
 use Rattle.hist_store.specs.Rows.{Row}
-use Rattle.savi_history.specs.Bases.{empty}
+use Rattle.checkpoint.specs.Bases.{empty}
 use Rattle.savi_history.specs.Legal.{IsFinished, IsLegal}
 use Rattle.savi_history.specs.Summary.{Summary, summary_of, summary_text}
 use Rattle.load_gen.specs.LoadPlan.{IsLoadPlan}

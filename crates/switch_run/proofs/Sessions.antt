@@ -6,11 +6,11 @@ use Rattle.savi_kinds.specs.declared.plan.Plan.{Plan}
 use Rattle.savi_ends.specs.declared.world.Ends.{Ends}
 use Rattle.hist_store.specs.Rows.{Row}
 use Rattle.hist_store.specs.JournalTexts.{journal_text, address_text}
-use Rattle.savi_history.specs.Bases.{empty}
+use Rattle.checkpoint.specs.Bases.{Base, empty}
 use Rattle.savi_history.specs.Legal.{IsLegal}
 use Rattle.savi_history.specs.Journals.{IsJournalOf}
 use Rattle.cli_lang.specs.Arrivals.{Input}
-use Rattle.savi_core.specs.Machines.{Machine}
+use Rattle.savi_core.specs.Machines.{Machine, base_of}
 use Rattle.port_worker.specs.declared.control_ends.ControlEnds.{ControlEnds}
 use Rattle.port_worker.specs.declared.session.Ready.{Ready}
 use Rattle.port_worker.specs.ControlServed.{ServesControl}
@@ -20,6 +20,16 @@ use Rattle.live_session.specs.LiveSession.{ControlOf, IsLive}
 use Rattle.live_switch.specs.declared.ready.Ready as live
 use Rattle.switch_run.specs.Played.{IsPlayed}
 use Rattle.switch_run.specs.Live.{IsLivePlayed}
+
+-- the history of a switch that nothing came before
+pub legal_from_nothing : (core : Machine) → base_of core ≡ empty → IsLegal core.plan (base_of core) core.past → IsLegal core.plan empty core.past
+legal_from_nothing core start legal = subst (λ (base : Base). IsLegal core.plan base core.past) start legal
+
+-- the same of the plan and the rows that the switch lends
+pub legal_as_lent : (core : Machine) (lent : Plan) (rows : List Row) → base_of core ≡ empty → lent ≡ core.plan → reverse rows ≡ core.past → IsLegal core.plan (base_of core) core.past → IsLegal lent empty (reverse rows)
+legal_as_lent core lent rows start lent_is rows_are legal =
+    subst (λ (plan : Plan). IsLegal plan empty (reverse rows)) (sym lent_is)
+    (subst (λ (past : List Row). IsLegal core.plan empty past) (sym rows_are) (legal_from_nothing core start legal))
 
 pub played_of : {S K C : Type 0} (left : S → Option (List ℕ)) (written : K → Option (List ℕ)) (source_faults : S → ℕ) (sink_faults : K → ℕ) (plan lent : Plan) (rows : List Row) (core : Machine) (old new : Ready S K C) (journal journal' : K) (journal_written : Bool)
     → ServesEnds left written source_faults sink_faults plan empty core.past old.control new.control old.ports.items new.ports.items

@@ -63,7 +63,7 @@ whole_not_malformed Pcap before after arrivals (hows.Overlong at) reason fits wh
 whole_not_malformed Stream before after arrivals (hows.Overlong at) reason fits whole = fits
 whole_not_malformed format before after arrivals hows.Failed reason fits whole = cc
 whole_not_malformed format before after arrivals hows.Unwritten reason fits whole = cc
-whole_not_malformed format before after arrivals (hows.Full len) reason fits whole = cc
+whole_not_malformed format before after arrivals hows.Paused reason fits whole = cc
 
 -- the same of an input that learning heard
 pub whole_not_heard_malformed : (before after : Option (List ℕ)) (ended_so : Option How) (arrivals : List Arrival) (how : How) → is_malformed_reason how ≡ true → IsInputOf (Arrive classic_kinds) before after ended_so arrivals how → IsSomeAnd before (IsWholeInput Pcap) → ⊥
@@ -73,7 +73,7 @@ whole_not_heard_malformed before after ended_so arrivals (hows.Malformed at) rea
 whole_not_heard_malformed before after ended_so arrivals (hows.Overlong at) reason gave whole = gave
 whole_not_heard_malformed before after ended_so arrivals hows.Failed reason gave whole = cc
 whole_not_heard_malformed before after ended_so arrivals hows.Unwritten reason gave whole = cc
-whole_not_heard_malformed before after ended_so arrivals (hows.Full len) reason gave whole = cc
+whole_not_heard_malformed before after ended_so arrivals hows.Paused reason gave whole = cc
 
 -- nor whole lines, and malformed without a `quit`
 
@@ -133,7 +133,7 @@ lines_not_malformed before after lines (hows.Malformed at) reason fits whole = l
 lines_not_malformed before after lines (hows.Overlong at) reason fits whole = lines_at false before lines (hows.Overlong at) reason (run_of before lines (hows.Overlong at) fits.0) fits.1 whole
 lines_not_malformed before after lines hows.Failed reason fits whole = cc
 lines_not_malformed before after lines hows.Unwritten reason fits whole = cc
-lines_not_malformed before after lines (hows.Full len) reason fits whole = cc
+lines_not_malformed before after lines hows.Paused reason fits whole = cc
 
 pub live_not_malformed : (before after : Option (List ℕ)) (lines : List Line) (how : How) → is_malformed_reason how ≡ true → FitsControl AreLiveLines before after lines (Some how) → IsSomeAnd before (AreWholeLines true) → ⊥
 live_not_malformed before after lines hows.End reason fits whole = cc
@@ -142,7 +142,7 @@ live_not_malformed before after lines (hows.Malformed at) reason fits whole = li
 live_not_malformed before after lines (hows.Overlong at) reason fits whole = lines_at true before lines (hows.Overlong at) reason fits.0 fits.1 whole
 live_not_malformed before after lines hows.Failed reason fits whole = cc
 live_not_malformed before after lines hows.Unwritten reason fits whole = cc
-live_not_malformed before after lines (hows.Full len) reason fits whole = cc
+live_not_malformed before after lines hows.Paused reason fits whole = cc
 
 -- places
 

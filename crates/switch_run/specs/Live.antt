@@ -6,7 +6,7 @@ use Rattle.savi_ends.specs.declared.world.Ends.{Ends}
 use Rattle.savi_ends.specs.Places.{Place, Book, ControlKey}
 use Rattle.hist_store.specs.Rows.{Row}
 use Rattle.hist_store.specs.JournalTexts.{journal_text, address_text}
-use Rattle.savi_history.specs.Bases.{empty}
+use Rattle.checkpoint.specs.Bases.{empty}
 use Rattle.savi_history.specs.Journals.{IsJournalOf}
 use Rattle.savi_history.specs.Legal.{IsLegal, IsFinished}
 use Rattle.live_session.specs.LiveRows.{ControlRow, NoControlRow, TickerRow}

@@ -3,7 +3,7 @@ use Rattle.std.specs.Prelude.{ℕ, Bool, List, reverse, Option}
 use Rattle.savi_kinds.specs.declared.plan.Plan.{Plan}
 use Rattle.hist_store.specs.Rows.{Row}
 use Rattle.hist_store.specs.JournalTexts.{journal_text, address_text}
-use Rattle.savi_history.specs.Bases.{empty}
+use Rattle.checkpoint.specs.Bases.{empty}
 use Rattle.savi_history.specs.Journals.{IsJournalOf}
 use Rattle.savi_history.specs.Legal.{IsLegal}
 use Rattle.port_worker.specs.declared.session.Ready.{Ready}

@@ -11,9 +11,9 @@ use Rattle.pcap_io.specs.Runs.{Arrive}
 use Rattle.cli_lang.specs.Arrivals as control
 use Rattle.hist_store.specs.Rows.{Row}
 use Rattle.hist_store.specs.JournalTexts.{journal_text, address_text}
-use Rattle.savi_history.specs.Bases.{empty}
+use Rattle.checkpoint.specs.Bases.{empty}
 use Rattle.savi_history.specs.Legal.{IsLegal}
-use Rattle.savi_history.specs.Endings.{has_failed, has_failed_write, has_malformed, has_full}
+use Rattle.savi_history.specs.Endings.{has_failed, has_failed_write, has_malformed, has_paused_end}
 use Rattle.savi_history.specs.EndLines.{end_lines}
 use Rattle.savi_history.specs.Adverts.{IsGuarded}
 use Rattle.savi_history.specs.Accesses.{AllPassedRightly}
@@ -32,7 +32,7 @@ use Rattle.switch_run.specs.Causes.{IsUnserved, Keeps, KeepsAll, IsOffPlanSame, 
 -- read, a failed write, a malformed input and want of room.
 abbrev pub status_of : Bool → List Row → ℕ
 status_of written past =
-    if has_failed past then 5 else if has_failed_write past || not written then 6 else if has_malformed past then 4 else if has_full past then 8 else 0
+    if has_failed past then 5 else if has_failed_write past || not written then 6 else if has_malformed past then 4 else if has_paused_end past then 8 else 0
 
 -- A sink took these lines, or a write of it failed, which changes no status.
 abbrev pub ToldBy : {K : Type 0} → (K → ℕ) → (K → Option (List ℕ)) → K → K → List ℕ → Type 0
@@ -183,8 +183,8 @@ pub record IsNoPlan {S K C : Type 0} (replay : Bool) (left : S → Option (List 
   pub errors : Says (config_line fault)
 
 -- There was no memory. The input of the configuration is as it was, or kept, and it was read to its end, or one octet further
--- than a configuration may have, where no read failed. Either no port, no output and no ends of control were touched, or the ends of all ports of the plan, of control,
--- where the plan names it, and of the journal are kept, and no others were touched.
+-- than a configuration may have, where no read failed. Either no port, no output and no ends of control were touched, or the
+-- ends of all ports of the plan, of control, where the plan names it, and of the journal are kept, and no others were touched.
 pub record IsUnplayed {S K C : Type 0} (replay : Bool) (left : S → Option (List ℕ)) (written : K → Option (List ℕ)) (source_faults : S → ℕ) (file : List ℕ) (old new : Book S K C) : Type 0 where
   pub input : (new.inputs file ≡ old.inputs file) ⊎ (IsReadThrough left (old.inputs file) (new.inputs file) × EndHasNoFault source_faults (new.inputs file))
   pub ends : IsUnserved old new ⊎ ((plan : Plan) × IsConfigured replay left (old.inputs file) plan × KeepsAll (not replay) left written plan old new × IsOffPlanSame plan old new)

@@ -15,7 +15,7 @@ use Rattle.pcapng_io.specs.Runs.{Event, Arrive}
 use Rattle.cli_lang.specs.Arrivals.{Line, IsRun}
 use Rattle.hist_store.specs.Rows.{Row}
 use Rattle.savi_history.specs.ControlInputs.{is_quit}
-use Rattle.savi_history.specs.Endings.{has_full}
+use Rattle.savi_history.specs.Endings.{has_paused_end}
 use Rattle.savi_history.specs.Limits.{has_room}
 use Rattle.journal_check.specs.Laws.{IsFinishedJournal}
 use Rattle.live_session.specs.LiveInputs.{AreCapture, AreStream}
@@ -65,10 +65,10 @@ pub record IsUnhindered {S K C : Type 0} (replay : Bool) (left : S → Option (L
   pub whole : AreInputsWhole plan
   pub faultless : IsFaultless source_faults sink_faults file old new
 
--- a history came to its plan's limit: no other input has room in it, and a pass ended for want of room
+-- a history came to its plan's limit: no other input has room in it, and a pass was paused for want of room
 pub record IsAtLimit (plan : Plan) (past : List Row) : Type 0 where
   pub no_room : has_room plan past ≡ false
-  pub full : has_full past ≡ true
+  pub paused : has_paused_end past ≡ true
 
 -- a run goes through: it answers 0, or 1, before its session, or 8, where this holds
 abbrev pub GoesThrough : Type 0 → ℕ → Type 0

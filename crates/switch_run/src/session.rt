@@ -8,7 +8,7 @@ ghost use Rattle.port_worker.specs.Served.{IsSamePort};
 ghost use Rattle.run_config.specs.Configs.{IsBuilt};
 ghost use Rattle.hist_store.specs.JournalTexts.{address_text, journal_text};
 ghost use Rattle.savi_kinds.specs.ValidPlan.{IsValidPlan};
-ghost use Rattle.savi_history.specs.Bases.{empty};
+ghost use Rattle.checkpoint.specs.Bases.{empty};
 ghost use Rattle.savi_history.specs.Legal.{IsLegal};
 ghost use Rattle.savi_history.specs.Journals.{IsJournalOf};
 ghost use Rattle.switch_run.specs.Causes.{TookOrPart};

@@ -15,7 +15,7 @@ use crate::top::{MALFORMED, NO_MEMORY, READ_FAULT, TOO_LONG, WRITE_FAULT};
 use hist_store::Hist;
 use savi_ends::{Put, Sink, Std, World};
 use switch_report::{
-    Summary, has_failed, has_failed_write, has_full, has_malformed, put_summary, sum_up,
+    Summary, has_failed, has_failed_write, has_malformed, has_paused_end, put_summary, sum_up,
     tell_memory,
 };
 
@@ -53,7 +53,7 @@ fn status_by(hist: &Hist, written: bool) -> u8
         WRITE_FAULT
     } else if has_malformed(hist) {
         MALFORMED
-    } else if has_full(hist) {
+    } else if has_paused_end(hist) {
         TOO_LONG
     } else {
         0

@@ -51,7 +51,7 @@ pub const READ_FAULT: u8 = 5;
 pub const WRITE_FAULT: u8 = 6;
 /// Something could not be opened.
 pub const OPEN_FAULT: u8 = 7;
-/// There was no room in the history for what came in, or for a tick.
+/// There was no room in the history for what came in.
 pub const TOO_LONG: u8 = 8;
 
 /// Does what the words behind the program's name ask for, over this world, and answers the status.

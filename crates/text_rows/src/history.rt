@@ -10,7 +10,7 @@ use savi_ends::MemSink;
 use savi_kinds::{Act, Entry, How, PortSet, Who};
 use std::alloc::{AllocError, Global};
 use switch_report::{
-    has_failed, has_failed_write, has_full, has_malformed, put_summary, sum_up, tell_ends,
+    has_failed, has_failed_write, has_malformed, has_paused_end, put_summary, sum_up, tell_ends,
 };
 
 /// The most ends of a history.
@@ -61,7 +61,7 @@ impl History {
     }
 
     /// Prints whether an input was malformed, whether a read of one failed, whether a write of an output failed, whether
-    /// there was no room, and the summary.
+    /// a pass was paused, and the summary.
     pub fn print_kinds(&self, rt: &impl Print) -> anyhow::Result<()> {
         let hist = &self.hist;
         if hist.len() > ENDS_MOST {
@@ -70,7 +70,7 @@ impl History {
         print!(rt; " malformed {}", has_malformed(hist))?;
         print!(rt; " failed {}", has_failed(hist))?;
         print!(rt; " failed write {}", has_failed_write(hist))?;
-        print!(rt; " full {}", has_full(hist))?;
+        print!(rt; " paused {}", has_paused_end(hist))?;
         let summary = put_summary(sum_up(hist));
         print!(rt; " {}", str::from_utf8(summary.as_slice())?)?;
         Ok(())
@@ -122,7 +122,7 @@ fn how_of(text: &str) -> anyhow::Result<How> {
         "overlong" => Ok(How::Overlong(place)),
         "failed" => Ok(How::Failed),
         "unwritten" => Ok(How::Unwritten),
-        "full" => Ok(How::Full(place)),
+        "paused" => Ok(How::Paused),
         _ => bail!("no end: {text}"),
     }
 }

@@ -20,7 +20,11 @@ put_number-requires-2 c = omega (arith, digits c.args.n (omega (arith, c.ranges.
 pub put_act-requires-clause-room : goal.put_act-requires-clause-room
 put_act-requires-clause-room c = omega (arith, digits c.args.n (omega (arith, c.ranges.n.fits)), ap length c.clear.ensures, c.put_decimal.ensures.size, c.put_number.ensures.size, c.put_number-2.ensures.size)
 
-pub returns : goal.returns
-returns c =
+pub returns-clause-text : goal.returns-clause-text
+returns-clause-text c =
     let rest = act_fields c.args.e.now c.args.octets.now c.args.e.now.act in
-    rw (c.put_act.ensures, c.put_number-2.ensures.text, c.put_number.ensures.text, c.put_decimal.ensures.text, c.clear.ensures, c.from.ensures) (joined_in_order (decimal c.args.n) (decimal c.args.e.now.by) (decimal c.args.e.now.moment) rest)
+    rw (c.put_act.ensures.text, c.put_number-2.ensures.text, c.put_number.ensures.text, c.put_decimal.ensures.text, c.clear.ensures, c.from.ensures) (joined_in_order (decimal c.args.n) (decimal c.args.e.now.by) (decimal c.args.e.now.moment) rest)
+
+pub returns-clause-room : goal.returns-clause-room
+returns-clause-room c =
+    omega (arith, digits c.args.n (omega (arith, c.ranges.n.fits)), ap length c.clear.ensures, c.put_decimal.ensures.size, c.put_number.ensures.size, c.put_number-2.ensures.size, c.put_act.ensures.size)

@@ -1,8 +1,8 @@
 use Rattle.std.proofs.Common.{◌≡◌, ◌+◌, ◌<◌, ℕ, true, true≢false, List, length, get_or, ap, sym, ◌∙◌, subst, below_more}
 use Rattle.savi_kinds.specs.declared.plan.Plan.{Plan}
 use Rattle.savi_kinds.specs.declared.plan.PortPlan.{PortPlan}
-use Rattle.savi_history.specs.Bases.{empty}
 use Rattle.savi_history.specs.Passes.{has_ended}
+use Rattle.savi_core.specs.Machines.{base_of}
 use Rattle.journal_check.proofs.OpenPasses.{known_there, egress_there}
 use Rattle.journal_check.proofs.coming.have_ended.Goals as goal
 
@@ -23,7 +23,7 @@ returns-then-not-ended c =
     let within = subst (λ (ps : List PortPlan). k < length ps) ports c.loop-port-test.true in
     let pass = egress_there m.plan k p c.history-history.ensures.valid.ports within (c.port-item.is ∙ ap (λ (ps : List PortPlan). get_or ps k p) ports) in (
       λ no. absurd (true≢false (sym no)),
-      λ all. absurd (true≢false (sym (all k within) ∙ sym (ap (λ (n : ℕ). has_ended empty n m.past) pass) ∙ sym c.ended.ensures ∙ c.if-not-ended.true)),
+      λ all. absurd (true≢false (sym (all k within) ∙ sym (ap (λ (n : ℕ). has_ended (base_of m) n m.past) pass) ∙ sym c.ended.ensures ∙ c.if-not-ended.true)),
     )
 
 pub loop-port-preserved : goal.loop-port-preserved
@@ -34,5 +34,5 @@ loop-port-preserved c =
     let p = c.port-item.result in
     let within = subst (λ (ps : List PortPlan). k < length ps) ports c.loop-port-test.true in
     let pass = egress_there m.plan k p c.history-history.ensures.valid.ports within (c.port-item.is ∙ ap (λ (ps : List PortPlan). get_or ps k p) ports) in
-    let last : has_ended empty (length m.plan.ports + 2 + k) m.past ≡ true = sym (ap (λ (n : ℕ). has_ended empty n m.past) pass) ∙ sym c.ended.ensures ∙ c.if-not-ended.false in
-    below_more (λ (place : ℕ). has_ended empty (length m.plan.ports + 2 + place) m.past ≡ true) k c.loop-port.invariant last
+    let last : has_ended (base_of m) (length m.plan.ports + 2 + k) m.past ≡ true = sym (ap (λ (n : ℕ). has_ended (base_of m) n m.past) pass) ∙ sym c.ended.ensures ∙ c.if-not-ended.false in
+    below_more (λ (place : ℕ). has_ended (base_of m) (length m.plan.ports + 2 + place) m.past ≡ true) k c.loop-port.invariant last

@@ -1,8 +1,8 @@
 use Rattle.std.proofs.Common.{◌≡◌, true≢false, List, [], ◌∷◌, length, refl, ap, sym, ◌∙◌, arith}
 use Rattle.std.proofs.lemmas.Bool.Decides.{nat_tests}
-use Rattle.savi_history.specs.Bases.{empty}
 use Rattle.savi_history.specs.Queues.{Item, queue}
 use Rattle.savi_kinds.specs.Ports.{number_of}
+use Rattle.savi_core.specs.Machines.{base_of}
 use Rattle.journal_check.proofs.coming.is_drained.Goals as goal
 
 none_of : (items : List Item) → length items ≡ 0 → items ≡ []
@@ -18,7 +18,7 @@ returns-then-not-is_ticker_through c = (
 pub returns : goal.returns
 returns c =
     let m = c.args.core.now in
-    let waits = queue m.plan empty (number_of c.args.port) m.past in (
+    let waits = queue m.plan (base_of m) (number_of c.args.port) m.past in (
       λ yes. let none : c.queued.result ≡ 0 = grind (arith, nat_tests) in (c.is_ticker_through.ensures.0 c.if-not-is_ticker_through.false, none_of waits (sym c.queued.ensures ∙ none)),
       λ both. let none : c.queued.result ≡ 0 = c.queued.ensures ∙ ap length both.1 in grind (arith, nat_tests),
     )

@@ -1,4 +1,4 @@
-use Rattle.std.specs.Prelude.{◌≡◌, ◌≤◌}
+use Rattle.std.specs.Prelude.{◌≡◌}
 use Rattle.savi_ends.specs.Octets.{in_front}
 use Rattle.hist_store.specs.TextOfLines.{lines_text}
 use Rattle.journal_check.specs.Pieces.{GaveSome, to_come}

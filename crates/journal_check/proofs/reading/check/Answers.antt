@@ -6,7 +6,7 @@ use Rattle.journal_check.proofs.FeedPlaces.{in_front_none}
 use Rattle.journal_check.proofs.Whole.{answer_behind, answer_bad, answer_only, answer_good, answer_journal}
 use Rattle.journal_check.specs.declared.answer.Checked.{Checked}
 use Rattle.journal_check.specs.Answers.{IfRead, IsBadHeader}
-use Rattle.journal_check.proofs.JudgedAs.{never_memory, failed_is, not_failed}
+use Rattle.journal_check.proofs.JudgedAs.{never_memory, failed_is}
 use Rattle.journal_check.proofs.HeaderRead.{header_read}
 use Rattle.journal_check.proofs.Given.{gave_more, gave_none}
 use Rattle.journal_check.proofs.reading.check.Goals as goal

@@ -1,6 +1,7 @@
-use Rattle.std.proofs.Common.{IfSome, sym, subst, ◌∙◌}
+use Rattle.std.proofs.Common.{◌*◌, IfSome, ap, sym, subst, ◌∙◌}
 use Rattle.savi_ends.specs.Octets.{in_front}
-use Rattle.savi_core.specs.Machines.{Machine}
+use Rattle.savi_core.specs.Machines.{Machine, base_of}
+use Rattle.savi_core.proofs.Leaving.{start_is}
 use Rattle.hist_store.specs.JournalTexts.{address_text, journal_header_text}
 use Rattle.journal_check.specs.Pieces.{to_come}
 use Rattle.journal_check.specs.Answers.{IfRead, IsAnswerBehind}
@@ -9,6 +10,9 @@ use Rattle.journal_check.specs.declared.answer.Checked.{Checked}
 use Rattle.journal_check.proofs.JudgedAs.{never_memory, failed_is, not_failed}
 use Rattle.journal_check.proofs.Given.{gave_none}
 use Rattle.journal_check.proofs.reading.check_behind.Goals as goal
+
+pub check_entries-requires-clause-base : goal.check_entries-requires-clause-base
+check_entries-requires-clause-base g c = ap base_of c.in-Ok.ensures ∙ start_is (16 * c.args.plan.per_port) (256 * 16)
 
 pub returns-in-Ok-clause-answer : goal.returns-in-Ok-clause-answer
 returns-in-Ok-clause-answer g c =

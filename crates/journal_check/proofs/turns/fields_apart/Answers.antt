@@ -11,4 +11,4 @@ returns c = λ have field other says apart told told'.
     let wants = line_fields c.args.n want in
     let haves = line_fields c.args.n have in
     c.first_apart.ensures wants haves field other (line_spaceless wants (line_row c.args.n want (λ i. let fits = c.type_inv.octets i in omega arith))) (line_spaceless haves (line_row c.args.n have says.octets))
-    (c.as_slice.ensures.value ∙ c.put_line.ensures) says.text apart told told'
+    (c.as_slice.ensures.value ∙ c.put_line.ensures.text) says.text apart told told'

@@ -2,6 +2,7 @@ use Rattle.std.proofs.Common.{◌∙◌, ap, Option}
 use Rattle.arrayvec.specs.ArrayVec.{ArrayVec}
 use Rattle.table_lock.specs.declared.lock.sleeping.Woken.{Woken}
 use Rattle.savi_kinds.specs.declared.entry.Who.TheVariants.{Egress}
+use Rattle.savi_core.specs.Machines.{base_of}
 use Rattle.core_keep.specs.declared.keep.KeptCore.{KeptCore}
 use Rattle.core_keep.specs.Pasts.{coded}
 use Rattle.table_lock.specs.Passes.{pass_number, pass_seen, pass_sleeps_at}
@@ -29,7 +30,7 @@ leave-requires-clause-history g c =
     (ap kept_fixed c.value.ensures.value ∙ c.enter-held.ensures.fixed) in
     may_leave c.args.lock.now (Egress c.args.port) c.args.turns.pass c.requires.running c.into_pass.result c.enter-held.result.number c.value.result.now c.drain-came.new.kept c.enter-held.result.place.me.0.seen c.into_pass.ensures c.enter-held.ensures.number found
     (ap (λ (k : KeptCore). coded k.core.value.past) c.value.ensures.value ∙ c.enter-held.ensures.seen)
-    (drain_one c.value.result.now.core.value.plan c.value.result.now.core.value.past c.drain-came.new.kept.core.value.past c.args.port c.drain-came.new.batch c.drain-came.result c.drain-came.ensures.did)
+    (drain_one c.value.result.now.core.value.plan (base_of c.value.result.now.core.value) c.value.result.now.core.value.past c.drain-came.new.kept.core.value.past c.args.port c.drain-came.new.batch c.drain-came.result c.drain-came.ensures.did)
 
 pub returns-clause-turned : goal.returns-clause-turned
 returns-clause-turned g c =
@@ -47,7 +48,7 @@ returns-clause-wakes g c =
     (ap (λ (k : KeptCore). coded k.core.value.past) c.value.ensures.value ∙ c.enter-held.ensures.seen) c.enter-held.ensures.extends c.enter-held.ensures.own
     (ap kept_fixed c.value.ensures.value ∙ c.enter-held.ensures.fixed) in
     turned c.args.lock.now (Egress c.args.port) c.args.turns.pass c.requires.running c.value.result.now c.drain-came.new.kept c.after.result.pass found (ap pass_seen c.after.ensures.pass ∙ c.leave.ensures.seen)
-    (Wakes (DidDrain c.args.port c.drain-came.new.batch c.drain-came.result) c.after.result.woken.items) c.drain-came.ensures.legal (c.drain-came.ensures.did, (none_grown_drain c.value.result.now.core.value.plan c.value.result.now.core.value.past c.args.port c.drain-came.new.batch c.drain-came.result c.drain-came.new.kept.core.value.past c.after.result.woken.items c.drain-came.ensures.did), (none_behind c.drain-came.new.kept.core.value.past c.after.result.woken.items (ap (λ (woken : ArrayVec (Option Woken)). woken.items) c.after.ensures.woken ∙ c.new.ensures)))
+    (Wakes (DidDrain c.args.port c.drain-came.new.batch c.drain-came.result) c.after.result.woken.items) c.drain-came.ensures.legal (c.drain-came.ensures.did, (none_grown_drain c.value.result.now.core.value.plan (base_of c.value.result.now.core.value) c.value.result.now.core.value.past c.args.port c.drain-came.new.batch c.drain-came.result c.drain-came.new.kept.core.value.past c.after.result.woken.items c.drain-came.ensures.did), (none_behind c.drain-came.new.kept.core.value.past c.after.result.woken.items (ap (λ (woken : ArrayVec (Option Woken)). woken.items) c.after.ensures.woken ∙ c.new.ensures)))
 
 pub returns-clause-state : goal.returns-clause-state
 returns-clause-state g c =
@@ -57,4 +58,4 @@ returns-clause-state g c =
     (ap kept_fixed c.value.ensures.value ∙ c.enter-held.ensures.fixed) in
     stands c.args.lock.now (Egress c.args.port) c.args.turns.pass c.requires.running c.value.result.now c.drain-came.new.kept c.after.result.pass found (ap pass_seen c.after.ensures.pass ∙ c.leave.ensures.seen)
     c.into_pass.result c.enter-held.result.number (ends_egress c.drain-came.result) c.into_pass.ensures c.enter-held.ensures.number (left_of c.args.lock.now c.enter-held.result.lock.now c.leave.result c.after.result.pass c.enter-held.ensures.lock c.after.ensures.pass c.leave.ensures.pass) (ap pass_number c.after.ensures.pass ∙ c.leave.ensures.number) (ap pass_sleeps_at c.after.ensures.pass ∙ c.leave.ensures.sleeps ∙ c.enter-held.ensures.sleeps)
-    (drain_state c.value.result.now.core.value.plan c.value.result.now.core.value.past c.drain-came.new.kept.core.value.past c.args.port c.drain-came.new.batch c.drain-came.result found.opens.running c.drain-came.ensures.did)
+    (drain_state c.value.result.now.core.value.plan (base_of c.value.result.now.core.value) c.value.result.now.core.value.past c.drain-came.new.kept.core.value.past c.args.port c.drain-came.new.batch c.drain-came.result found.opens.running c.drain-came.ensures.did)

@@ -5,7 +5,7 @@ use Rattle.port_worker.proofs.Beginning.{begins_none, begins_more, begins_all, o
 use Rattle.port_worker.proofs.outputs.begin_all.Goals as goal
 
 pub loop-place-init : goal.loop-place-init
-loop-place-init g c = begins_none g.K.Sink.written g.K.Sink.faults c.args.core.now c.args.ports.now c.requires.start
+loop-place-init g c = begins_none g.K.Sink.written g.K.Sink.faults c.args.core.now c.args.ports.now c.requires.base c.requires.start
 
 pub begin_port-requires : goal.begin_port-requires
 begin_port-requires g c =
@@ -15,6 +15,7 @@ begin_port-requires g c =
     let inside : place < length new = omega arith in
     let x = get_or new place c.index-ports-place.result in
     record {
+      base = c.loop-place.invariant.base;
       «open» = open_here g.K.Sink.written g.K.Sink.faults place c.args.core.now c.loop-place.core c.loop-place.core old new x x c.requires.ports c.requires.rising c.loop-place.invariant inside (get_or_default new place _ _ inside);
     }
 
@@ -27,7 +28,7 @@ loop-place-preserved g c =
     let x = get_or new place c.index-ports-place.result in
     let y = c.begin_port.new.port in
     begins_more g.K.Sink.written g.K.Sink.faults place c.args.core.now c.loop-place.core c.begin_port.new.core old new x y c.requires.ports c.requires.rising c.loop-place.invariant inside (get_or_default new place _ _ inside)
-    c.begin_port.ensures.plan c.begin_port.ensures.sink c.begin_port.ensures.begun
+    c.begin_port.ensures.plan c.begin_port.ensures.base c.begin_port.ensures.sink c.begin_port.ensures.begun
 
 pub returns-clause-begun : goal.returns-clause-begun
 returns-clause-begun g c =

@@ -13,7 +13,7 @@ loop-place-preserved g c =
     let x = get_or new place c.index-ports-place.result in
     let y = c.drain_port.new.port in
     drains_more g.K.Sink.written g.K.Sink.faults place c.args.core.now c.loop-place.core c.drain_port.new.core old new x y c.requires.ports c.requires.rising c.loop-place.invariant inside (get_or_default new place _ _ inside)
-    c.drain_port.ensures.plan c.drain_port.ensures.sink c.drain_port.ensures.drained
+    c.drain_port.ensures.plan c.drain_port.ensures.base c.drain_port.ensures.sink c.drain_port.ensures.drained
 
 pub returns-clause-outputs : goal.returns-clause-outputs
 returns-clause-outputs g c =

@@ -2,19 +2,18 @@ use Rattle.std.proofs.Common.{◌≡◌, ◌≢◌, ℕ, suc, ◌+◌, ◌-◌, 
 use Rattle.std.specs.List.{All}
 use Rattle.savi_kinds.specs.declared.plan.Plan.{Plan}
 use Rattle.savi_kinds.specs.declared.entry.Who.TheVariants.{Ingress, Control, Ticker}
-use Rattle.savi_kinds.specs.declared.entry.How.TheVariants as hows
 use Rattle.savi_kinds.specs.Ports.{number_of}
 use Rattle.hist_store.specs.Rows.{Row}
-use Rattle.savi_history.specs.Bases.{empty}
+use Rattle.checkpoint.specs.Bases.{Base, empty}
 use Rattle.savi_history.specs.Passes.{AllEnded, control_pass, ticker_pass, has_ended}
 use Rattle.savi_history.specs.Queues.{queue}
 use Rattle.savi_history.specs.Events.{End}
 use Rattle.savi_history.specs.Legal.{IsOpen, IsFinished}
 use Rattle.savi_history.specs.Picks.{IsPick, IsLeast}
-use Rattle.savi_history.specs.Replay.{with_event, egress_ended, entered}
+use Rattle.savi_history.specs.Replay.{with_event, closing, egress_ended, entered}
 use Rattle.savi_history.specs.PortInputs.{input_end}
 use Rattle.savi_history.proofs.PortInputs.{same_finished}
-use Rattle.savi_core.specs.Machines.{Machine}
+use Rattle.savi_core.specs.Machines.{Machine, base_of}
 use Rattle.port_worker.specs.declared.port_ends.PortEnds.{PortEnds}
 use Rattle.port_worker.specs.ControlOutputs.{AheadGoesOn, ControlGoesOn}
 use Rattle.port_worker.specs.Inputs.{turn_of, turn_moment}
@@ -29,7 +28,7 @@ use Rattle.port_worker.proofs.Measures.{undone}
 use Rattle.port_worker.proofs.Running.{Running, look_step, look_undone}
 use Rattle.port_worker.proofs.Stepping.{turn_step, fits_step, smaller, turn_known, running_j, inside}
 use Rattle.port_worker.proofs.Later.{looked_later}
-use Rattle.port_worker.proofs.Starting.{opened, opened_machine, opened_plan, start, holds, control_open, planned_now, sound_now, quiet_now, input_open}
+use Rattle.port_worker.proofs.Starting.{opened, opened_machine, opened_plan, opened_base, started_empty, start, holds, control_open, planned_now, sound_now, quiet_now, input_open}
 use Rattle.port_worker.proofs.Ending.{inputs_ended, serves, done_at}
 use Rattle.port_worker.proofs.Fitting.{FitsSoFar, fits_started, fits_looked, fits_finished, causes_finished}
 use Rattle.port_worker.proofs.turns.replay.Goals as goal
@@ -45,12 +44,16 @@ behind_control numbers place other least = subst (λ (n : ℕ). IsLeast numbers 
 at_control : (numbers : List (Option ℕ)) (place : ℕ) → place ≡ 0 → IsLeast numbers place → IsLeast numbers 0
 at_control numbers place here least = subst (λ (n : ℕ). IsLeast numbers n) here least
 
+pub begin_all-requires-clause-base : goal.begin_all-requires-clause-base
+begin_all-requires-clause-base g c = ap base_of c.requires.start ∙ started_empty c.args.core.now.plan
+
 pub end_unheard-requires : goal.end_unheard-requires
 end_unheard-requires g c =
     let begun = c.begin_all.ensures.begun in
     record {
-      «open» = control_open g.S.Source.left g.K.Sink.written g.S.Source.faults g.K.Sink.faults c.args.core.now.plan c.args.control.now c.args.ports.now c.begin_all.new.ports c.requires.planned c.requires.valid.ports c.begin_all.new.core.past begun.0 c.requires.unread c.begin_all.ensures.sinks begun.1 begun.2 c.requires.unheard
-          c.begin_all.new.core.plan c.begin_all.ensures.plan;
+      «open» = subst (λ (b : Base). IsOpen c.begin_all.new.core.plan b c.begin_all.new.core.past Control) (sym c.begin_all.ensures.base)
+          (control_open g.S.Source.left g.K.Sink.written g.S.Source.faults g.K.Sink.faults c.args.core.now.plan c.args.control.now c.args.ports.now c.begin_all.new.ports c.requires.planned c.requires.valid.ports c.begin_all.new.core.past begun.0 c.requires.unread c.begin_all.ensures.sinks begun.1 begun.2 c.requires.unheard
+          c.begin_all.new.core.plan c.begin_all.ensures.plan);
     }
 
 pub turns-init : goal.turns-init
@@ -63,9 +66,10 @@ turns-init g c =
     let begun = c.begin_all.ensures.begun in
     let made = c.end_unheard.ensures in
     let past_is : c.end_unheard.new.core.past ≡ opened plan before ends =
-    ap (λ (m : Machine). m.past) made ∙ opened_machine c.begin_all.new.core ends ∙ ap (λ (p : Plan). opened p before ends) c.begin_all.ensures.plan in
+    ap (λ (m : Machine). m.past) made ∙ opened_machine c.begin_all.new.core c.begin_all.ensures.base ends ∙ ap (λ (p : Plan). opened p before ends) c.begin_all.ensures.plan in
     record {
       same_plan = ap (λ (m : Machine). m.plan) made ∙ opened_plan c.begin_all.new.core ends ∙ c.begin_all.ensures.plan;
+      same_base = ap base_of made ∙ opened_base c.begin_all.new.core ends ∙ c.begin_all.ensures.base;
       runs = subst (λ (l : List Row). Running g.S.Source.left g.K.Sink.written g.S.Source.faults g.K.Sink.faults plan ends ends first ports l) (sym past_is)
           (start g.S.Source.left g.K.Sink.written g.S.Source.faults g.K.Sink.faults plan ends first ports c.requires.planned c.requires.valid.ports before begun.0 c.requires.unread c.begin_all.ensures.sinks begun.1 begun.2 c.requires.unheard);
       fits = subst (λ (l : List Row). EachPair (FitsSoFar g.S.Source.left g.S.Source.faults l) first ports) (sym past_is)
@@ -139,8 +143,8 @@ returns-in_default-clause-serves g c =
     let runs = look_step g.S.Source.left g.K.Sink.written g.S.Source.faults g.K.Sink.faults plan ends_first first c.turns.control ends c.turns.ports ports past c.turns.invariant.runs c.look_control.ensures.looked c.look_all.ensures.looked in
     let now = c.finish.new.core.past in
     let none : IsPick (control_moment ends ∷ map turn_moment ports) None = subst (λ (o : Option ℕ). IsPick (control_moment ends ∷ map turn_moment ports) o) (nothing c.next_of.result c.in_default.not-Some) c.next_of.ensures in
-    let finished : now ≡ egress_ended plan empty plan.ports (with_event plan empty past (End Ticker hows.End)) =
-    subst (λ (p : Plan). now ≡ egress_ended p empty p.ports (with_event p empty past (End Ticker hows.End))) c.turns.invariant.same_plan c.finish.ensures.past in
+    let finished : now ≡ egress_ended plan empty plan.ports (with_event plan empty past (End Ticker (closing past))) =
+    subst (λ (p : Plan). now ≡ egress_ended p empty p.ports (with_event p empty past (End Ticker (closing past)))) c.turns.invariant.same_plan c.finish.ensures.past in
     let outputs = subst (λ (p : Plan). All (λ q. IsOutputEnded p past now (number_of q.port)) ports) c.turns.invariant.same_plan c.finish.ensures.outputs in
     let fits = fits_looked g.S.Source.left g.S.Source.faults past first c.turns.ports ports c.turns.invariant.fits c.look_all.ensures.looked in
     serves g.S.Source.left g.K.Sink.written g.S.Source.faults g.K.Sink.faults plan ends_first ends first ports past c.requires.planned runs heard known none now finished outputs
@@ -252,6 +256,7 @@ turns-preserved-then-place-eq0 g c =
     let turned = control_turn g.S.Source.left g.K.Sink.written g.S.Source.faults g.K.Sink.faults plan first ports new past now c.requires.planned known c.advance_control.ensures.sinks ends_first ends c_new runs heard least c.advance_control.ensures.stepped aheads goes in
     record {
       same_plan = c.advance_control.ensures.plan ∙ c.turns.invariant.same_plan;
+      same_base = c.advance_control.ensures.base;
       runs = turned.runs;
       fits = turned.fits (fits_looked g.S.Source.left g.S.Source.faults past first c.turns.ports ports c.turns.invariant.fits c.look_all.ensures.looked);
     }
@@ -378,6 +383,7 @@ turns-preserved g c =
     subst (λ (p : Plan). (d : P) → IfSome (turn_of (get_or ports j d)) (λ t. (get_or new j d).ahead ≡ ahead_after (ends_input p past t))) c.turns.invariant.same_plan c.advance.ensures.ahead in
     record {
       same_plan = c.advance.ensures.plan ∙ c.turns.invariant.same_plan;
+      same_base = c.advance.ensures.base;
       runs = turn_step g.S.Source.left g.K.Sink.written g.S.Source.faults g.K.Sink.faults plan ends_first ends first ports new past now j c.requires.planned c.requires.valid.ports runs heard known least c.advance.ensures.stepped c.advance.ensures.others goes ahead_is;
       fits = fits_step g.S.Source.left g.K.Sink.written g.S.Source.faults g.K.Sink.faults plan ends_first ends first ports new past now j c.requires.planned c.requires.valid.ports runs heard known least c.advance.ensures.stepped c.advance.ensures.others goes ahead_is
           (fits_looked g.S.Source.left g.S.Source.faults past first c.turns.ports ports c.turns.invariant.fits c.look_all.ensures.looked);

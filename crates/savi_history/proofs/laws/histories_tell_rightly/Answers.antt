@@ -1,5 +1,5 @@
 use Rattle.savi_access.specs.Plans.{rules_of}
-use Rattle.savi_history.specs.Bases.{access_of}
+use Rattle.checkpoint.specs.Bases.{access_of}
 use Rattle.savi_history.specs.Moments.{last_moment}
 use Rattle.savi_history.specs.Marks.{marks}
 use Rattle.savi_history.proofs.Telling.{early, told_rightly}

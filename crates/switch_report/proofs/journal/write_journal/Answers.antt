@@ -7,7 +7,7 @@ use Rattle.savi_kinds.specs.ValidPlan.{nets_of}
 use Rattle.hist_store.specs.Rows.{Row}
 use Rattle.hist_store.specs.LineTexts.{FitsLine}
 use Rattle.hist_store.specs.JournalTexts.{address_text, journal_text}
-use Rattle.savi_history.specs.Bases.{empty}
+use Rattle.checkpoint.specs.Bases.{empty}
 use Rattle.savi_history.specs.Journals.{IsAddress}
 use Rattle.savi_history.proofs.Lines.{fits_oldest}
 use Rattle.switch_report.proofs.journal.write_journal.Goals as goal

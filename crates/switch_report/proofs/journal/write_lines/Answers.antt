@@ -15,7 +15,7 @@ loop-n-preserved g c =
     let row : Row = record { entry = c.entry-entry.result; octets = c.octets.result.now } in
     let was = c.loop-n.invariant in
     let text : List ℕ = with_lines c.args.buffer.now.octets c.args.hist.now.rows n in
-    let line : c.as_slice.result.now ≡ line_text n row = c.as_slice.ensures.value ∙ c.put_line.ensures in
+    let line : c.as_slice.result.now ≡ line_text n row = c.as_slice.ensures.value ∙ c.put_line.ensures.text in
     let more = holds-more _ (g.K.Sink.written c.loop-n.sink) _ c.loop-n.buffer.octets c.write_line.new.buffer.octets text (c.as_slice.result.now ++ 10 ∷ []) was.holds (c.in-Done.ensures.done refl) in
     record {
       room = c.in-Done.ensures.room ∙ was.room;
@@ -33,7 +33,7 @@ returns-in-Failed-clause-part g c = λ failed.
     let rows : List Row = c.args.hist.now.rows in
     let row : Row = record { entry = c.entry-entry.result; octets = c.octets.result.now } in
     let text : List ℕ = with_lines c.args.buffer.now.octets rows n in
-    let line : c.as_slice.result.now ≡ line_text n row = c.as_slice.ensures.value ∙ c.put_line.ensures in
+    let line : c.as_slice.result.now ≡ line_text n row = c.as_slice.ensures.value ∙ c.put_line.ensures.text in
     let before = g.K.Sink.written c.args.sink.now in
     let after = g.K.Sink.written c.write_line.new.sink in
     let part = part-held before (g.K.Sink.written c.loop-n.sink) after c.loop-n.buffer.octets text (c.as_slice.result.now ++ 10 ∷ []) c.loop-n.invariant.holds (c.write_line.ensures.part c.in-Failed.is) in

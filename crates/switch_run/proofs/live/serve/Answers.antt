@@ -1,5 +1,9 @@
-use Rattle.switch_run.proofs.Sessions.{same_live, served_of}
+use Rattle.switch_run.proofs.Sessions.{legal_as_lent, same_live, served_of}
 use Rattle.switch_run.proofs.live.serve.Goals as goal
+
+pub finish_journal-journal_written-requires-clause-legal : goal.finish_journal-journal_written-requires-clause-legal
+finish_journal-journal_written-requires-clause-legal g c =
+    legal_as_lent c.in-Ok-session.closed.core c.plan.result.now c.history.result.now.rows c.in-Ok-session.ensures.base c.plan.ensures c.history.ensures.rows c.history.ensures.legal
 
 pub returns-clause-control : goal.returns-clause-control
 returns-clause-control g c =

@@ -1,4 +1,4 @@
-use Rattle.std.proofs.Common.{◌≡◌, ◌∙◌, sym, ap, length}
+use Rattle.std.proofs.Common.{◌∙◌, sym, ap, length}
 use Rattle.std.proofs.lemmas.List.{length-reverse}
 use Rattle.savi_core.specs.Machines.{Machine}
 use Rattle.core_keep.proofs.PastsRead.{size_coded}

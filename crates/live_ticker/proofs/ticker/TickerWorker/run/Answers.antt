@@ -4,7 +4,7 @@ use Rattle.core_keep.specs.Seen.{past_seen}
 use Rattle.live_turns.specs.Seats.{IsNewPass, lock_plan}
 use Rattle.live_turns.proofs.Seating.{new_runs}
 use Rattle.live_turns.specs.declared.kinds.TickTurn.TheVariants as ticks
-use Rattle.live_ticker.proofs.Reading.{at_as, full_row, idle_tick, last_row, made_tick, nothing_yet, row_as, turned_as}
+use Rattle.live_ticker.proofs.Reading.{at_as, idle_tick, last_row, made_tick, nothing_yet, row_as, turned_as}
 use Rattle.live_ticker.proofs.ticker.TickerWorker.run.Goals as goal
 
 pub loop-init : goal.loop-init
@@ -44,11 +44,3 @@ returns-in-Ended-clause-row g c =
     let turn = turned_as lock c.loop.turns.pass next c.wait-stamp.result c.tick_turn-next.result.1 ticks.Ended c.in-Ended.is c.tick_turn-next.ensures.turned in
     row_as g.C.Clock.readings (lock_plan lock) next c.ended.result.pass c.args.self.clock c.wait-stamp.new.self c.ended.result.clock c.ended.ensures.pass c.ended.ensures.clock
     (last_row g.C.Clock.readings lock c.loop.turns.pass next c.wait-stamp.result c.args.self.clock c.loop.clock c.wait-stamp.new.self c.loop.invariant.ticked c.wait-stamp.ensures turn)
-
-pub returns-in-Full-clause-row : goal.returns-in-Full-clause-row
-returns-in-Full-clause-row g c =
-    let lock = c.args.lock.now in
-    let next = c.tick_turn-next.result.0.pass in
-    let turn = turned_as lock c.loop.turns.pass next c.wait-stamp.result c.tick_turn-next.result.1 ticks.Full c.in-Full.is c.tick_turn-next.ensures.turned in
-    row_as g.C.Clock.readings (lock_plan lock) next c.ended-in-Full.result.pass c.args.self.clock c.wait-stamp.new.self c.ended-in-Full.result.clock c.ended-in-Full.ensures.pass c.ended-in-Full.ensures.clock
-    (full_row g.C.Clock.readings lock c.loop.turns.pass next c.wait-stamp.result c.args.self.clock c.loop.clock c.wait-stamp.new.self c.loop.invariant.ticked c.wait-stamp.ensures turn)

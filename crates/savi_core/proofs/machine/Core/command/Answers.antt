@@ -1,4 +1,4 @@
-use Rattle.std.proofs.Common.{true, ℕ, ◌≡◌, ◌^◌, min, max, List, length, reverse, refl, sym, subst, ap, ◌∙◌, arith}
+use Rattle.std.proofs.Common.{ℕ, ◌≡◌, ◌^◌, min, max, List, length, reverse, refl, sym, subst, ap, ◌∙◌, arith}
 use Rattle.savi_kinds.specs.declared.plan.Plan.{Plan}
 use Rattle.savi_kinds.specs.declared.port.PortSet.{PortSet}
 use Rattle.savi_kinds.specs.declared.entry.Entry.{Entry}
@@ -7,8 +7,8 @@ use Rattle.cli_lang.specs.CommandOf.{command_of}
 use Rattle.savi_access.specs.Plans.{rules_of}
 use Rattle.access_table.specs.Kept.{Represents, IsAgedTo}
 use Rattle.hist_store.specs.Rows.{held}
-use Rattle.savi_history.specs.Bases.{empty, access_of}
-use Rattle.savi_history.specs.Limits.{has_room}
+use Rattle.checkpoint.specs.Columns.{kept_base as base_kept}
+use Rattle.checkpoint.specs.Bases.{access_of}
 use Rattle.savi_history.specs.Moments.{moment_at}
 use Rattle.savi_history.specs.Marks.{marks}
 use Rattle.savi_history.specs.Events as events
@@ -33,11 +33,12 @@ use Rattle.savi_core.proofs.Remembering.{room_for, held-reverse}
 use Rattle.savi_core.proofs.Stepping.{row, may_command, remembers_command, stepped_view}
 use Rattle.savi_core.proofs.Shutting.{shut_aged}
 use Rattle.savi_core.proofs.Refusing.{is_refusal}
-use Rattle.savi_core.proofs.Tallying.{few_counted_before, counted_too}
+use Rattle.savi_core.proofs.Tallying.{counted_too}
+use Rattle.savi_core.proofs.Over.{ends_still}
 use Rattle.savi_core.proofs.machine.Core.command.Goals.{After-append}
 use Rattle.savi_core.proofs.machine.Core.command.Goals as goal
 
-moment_is : (c : After-append) → c.moment_at-moment.result ≡ moment_at empty (reverse c.self.inside.hist.rows) c.args.stamp
+moment_is : (c : After-append) → c.moment_at-moment.result ≡ moment_at (base_kept c.self.inside.checkpoint) (reverse c.self.inside.hist.rows) c.args.stamp
 moment_is c = c.moment_at-moment.ensures ∙ ap (λ n. max n (min c.args.stamp (2 ^ 62))) c.self.invariant.0.last
 
 pub age-requires-clause-moment : goal.age-requires-clause-moment
@@ -49,13 +50,13 @@ age-requires-clause-ready c = subst (λ (p : Plan). IsAgedTo (rules_of p) c.self
 pub obey-self-inside-requires-clause-moment : goal.obey-self-inside-requires-clause-moment
 obey-self-inside-requires-clause-moment c = early_now c.self.invariant.0 c.args.stamp c.moment_at-moment.result (c.moment_at-moment.ensures ∙ ap (λ n. max n (min c.args.stamp (2 ^ 62))) c.self.invariant.0.last)
 
-ages : (c : After-append) → Ages (rules_of c.self.inside.ports) c.self.inside.moment c.moment_at-moment.result c.age.new.access c.self.inside.queues c.age.new.queues (access_of empty) (marks c.self.inside.ports empty (reverse c.self.inside.hist.rows))
+ages : (c : After-append) → Ages (rules_of c.self.inside.ports) c.self.inside.moment c.moment_at-moment.result c.age.new.access c.self.inside.queues c.age.new.queues (access_of (base_kept c.self.inside.checkpoint)) (marks c.self.inside.ports (base_kept c.self.inside.checkpoint) (reverse c.self.inside.hist.rows))
 ages c =
     let inside = c.self.inside in
     aged_here c.self.invariant.0 inside.access c.self.invariant.5 c.plan.result.now c.plan.ensures.plan c.moment_at-moment.result (omega (arith, c.moment_at-moment.ensures)) c.age.new.access inside.queues c.age.new.queues c.age.ensures.aged
 
 abbrev inner : (c : After-append) → Machine
-inner c = record { plan = c.self.inside.ports; past = reverse c.self.inside.hist.rows }
+inner c = record { plan = c.self.inside.ports; checkpoint = c.self.inside.checkpoint; past = reverse c.self.inside.hist.rows }
 
 abbrev line_act : (c : After-append) → Act
 line_act c = events.command_act (reverse c.self.inside.hist.rows) c.args.stamp c.args.line.now
@@ -70,7 +71,7 @@ at_is c = c.held.ensures ∙ sym (held-reverse c.self.inside.hist.rows)
 inner_is : (c : After-append) → stored c ≡ entry_of (inner c) (events.Command c.args.stamp c.args.line.now)
 inner_is c =
     let inside = c.self.inside in
-    let counts = counts_aged c.self.invariant.0 inside.access c.self.invariant.5 c.age.new.access inside.queues c.age.new.queues refl refl c.moment_at-moment.result c.args.stamp (moment_is c) (ages c) (line_act c) c.args.line.now (command_offers c.self.inside.ports empty (reverse c.self.inside.hist.rows) c.args.stamp (held (reverse c.self.inside.hist.rows)) (length c.args.line.now) c.args.line.now) in
+    let counts = counts_aged c.self.invariant.0 inside.access c.self.invariant.5 c.age.new.access inside.queues c.age.new.queues refl refl c.moment_at-moment.result c.args.stamp (moment_is c) (ages c) (line_act c) c.args.line.now (command_offers c.self.inside.ports (base_kept c.self.inside.checkpoint) (reverse c.self.inside.hist.rows) c.args.stamp (held (reverse c.self.inside.hist.rows)) (length c.args.line.now) c.args.line.now) in
     ap (λ (e : Entry). record e { probes = c.queued.result; lost = c.lost.result }) c.plain_entry.ensures
     ∙ command_entry_is (inner c) c.args.stamp c.args.line.now c.pass_of-by.result c.moment_at-moment.result c.held.result c.queued.result c.lost.result
     c.pass_of-by.ensures (moment_is c) (at_is c) (c.queued.ensures ∙ counts.0) (c.lost.ensures ∙ counts.1)
@@ -78,26 +79,26 @@ inner_is c =
 stored_is : (c : After-append) → stored c ≡ entry_of c.args.self.now (events.Command c.args.stamp c.args.line.now)
 stored_is c = inner_is c ∙ ap (λ (m : Machine). entry_of m (events.Command c.args.stamp c.args.line.now)) c.self.view_is
 
-may : (c : After-append) → MayCome c.self.inside.ports empty (reverse c.self.inside.hist.rows) (events.Command c.args.stamp c.args.line.now)
+may : (c : After-append) → MayCome c.self.inside.ports (base_kept c.self.inside.checkpoint) (reverse c.self.inside.hist.rows) (events.Command c.args.stamp c.args.line.now)
 may c =
     let event = events.Command c.args.stamp c.args.line.now in
     subst (λ (m : Machine). MayCome m.plan (base_of m) m.past event) (sym c.self.view_is) (may_command c.args.self.now c.args.stamp c.args.line.now c.requires (sym c.has_room.ensures ∙ c.if-not-has_room.false) c.ranges.stamp.fits)
 
 -- what becomes of the line
-obeyed : (c : After-append) → Obeys c.self.inside.ports c.moment_at-moment.result (command_of c.args.line.now) c.obey-self-inside.new.access c.age.new.queues c.obey-self-inside.new.queues c.obey-self-inside.result (access_of empty) (marks c.self.inside.ports empty (reverse c.self.inside.hist.rows))
-obeyed c = c.obey-self-inside.ensures.obeyed (access_of empty) (marks c.self.inside.ports empty (reverse c.self.inside.hist.rows)) (ages c).states
+obeyed : (c : After-append) → Obeys c.self.inside.ports c.moment_at-moment.result (command_of c.args.line.now) c.obey-self-inside.new.access c.age.new.queues c.obey-self-inside.new.queues c.obey-self-inside.result (access_of (base_kept c.self.inside.checkpoint)) (marks c.self.inside.ports (base_kept c.self.inside.checkpoint) (reverse c.self.inside.hist.rows))
+obeyed c = c.obey-self-inside.ensures.obeyed (access_of (base_kept c.self.inside.checkpoint)) (marks c.self.inside.ports (base_kept c.self.inside.checkpoint) (reverse c.self.inside.hist.rows)) (ages c).states
 
-states : (c : After-append) → Represents (rules_of c.self.inside.ports) (access_of empty) (commanded c.self.inside.ports (access_of empty) (moment_at empty (reverse c.self.inside.hist.rows) c.args.stamp) (command_of c.args.line.now) (marks c.self.inside.ports empty (reverse c.self.inside.hist.rows))) (moment_at empty (reverse c.self.inside.hist.rows) c.args.stamp) c.obey-self-inside.new.access
+states : (c : After-append) → Represents (rules_of c.self.inside.ports) (access_of (base_kept c.self.inside.checkpoint)) (commanded c.self.inside.ports (access_of (base_kept c.self.inside.checkpoint)) (moment_at (base_kept c.self.inside.checkpoint) (reverse c.self.inside.hist.rows) c.args.stamp) (command_of c.args.line.now) (marks c.self.inside.ports (base_kept c.self.inside.checkpoint) (reverse c.self.inside.hist.rows))) (moment_at (base_kept c.self.inside.checkpoint) (reverse c.self.inside.hist.rows) c.args.stamp) c.obey-self-inside.new.access
 states c =
-    subst (λ (t : ℕ). Represents (rules_of c.self.inside.ports) (access_of empty) (commanded c.self.inside.ports (access_of empty) t (command_of c.args.line.now) (marks c.self.inside.ports empty (reverse c.self.inside.hist.rows))) t c.obey-self-inside.new.access) (moment_is c) (obeyed c).states
+    subst (λ (t : ℕ). Represents (rules_of c.self.inside.ports) (access_of (base_kept c.self.inside.checkpoint)) (commanded c.self.inside.ports (access_of (base_kept c.self.inside.checkpoint)) t (command_of c.args.line.now) (marks c.self.inside.ports (base_kept c.self.inside.checkpoint) (reverse c.self.inside.hist.rows))) t c.obey-self-inside.new.access) (moment_is c) (obeyed c).states
 
-ready : (c : After-append) → IsAgedTo (rules_of c.self.inside.ports) (moment_at empty (reverse c.self.inside.hist.rows) c.args.stamp) c.obey-self-inside.new.access
+ready : (c : After-append) → IsAgedTo (rules_of c.self.inside.ports) (moment_at (base_kept c.self.inside.checkpoint) (reverse c.self.inside.hist.rows) c.args.stamp) c.obey-self-inside.new.access
 ready c = subst (λ (t : ℕ). IsAgedTo (rules_of c.self.inside.ports) t c.obey-self-inside.new.access) (moment_is c) c.obey-self-inside.ensures.ready
 
-refusal_is : (c : After-append) → c.obey-self-inside.result ≡ refusal_of c.self.inside.ports (rows_told c.self.inside.ports (access_of empty) (marks c.self.inside.ports empty (reverse c.self.inside.hist.rows)) (moment_at empty (reverse c.self.inside.hist.rows) c.args.stamp)) (command_of c.args.line.now)
+refusal_is : (c : After-append) → c.obey-self-inside.result ≡ refusal_of c.self.inside.ports (rows_told c.self.inside.ports (access_of (base_kept c.self.inside.checkpoint)) (marks c.self.inside.ports (base_kept c.self.inside.checkpoint) (reverse c.self.inside.hist.rows)) (moment_at (base_kept c.self.inside.checkpoint) (reverse c.self.inside.hist.rows) c.args.stamp)) (command_of c.args.line.now)
 refusal_is c =
     (obeyed c).refusal
-    ∙ ap (λ (t : ℕ). refusal_of c.self.inside.ports (rows_told c.self.inside.ports (access_of empty) (marks c.self.inside.ports empty (reverse c.self.inside.hist.rows)) t) (command_of c.args.line.now)) (moment_is c)
+    ∙ ap (λ (t : ℕ). refusal_of c.self.inside.ports (rows_told c.self.inside.ports (access_of (base_kept c.self.inside.checkpoint)) (marks c.self.inside.ports (base_kept c.self.inside.checkpoint) (reverse c.self.inside.hist.rows)) t) (command_of c.args.line.now)) (moment_is c)
 
 still_shut : (c : After-append) → c.age.new.queues.shut ≡ c.self.inside.queues.shut
 still_shut c = shut_aged _ _ _ _ c.self.inside.queues c.age.new.queues _ _ (ages c)
@@ -111,18 +112,13 @@ append-requires-clause-bytes c =
     let may_come = subst (λ (m : Machine). MayCome m.plan (base_of m) m.past event) (sym c.self.view_is) (may_command c.args.self.now c.args.stamp c.args.line.now c.requires (sym c.has_room.ensures ∙ c.if-not-has_room.false) c.ranges.stamp.fits) in
     omega (arith, (room_for c.self.invariant.0 may_come.0.room).1, may_come.1, c.self.invariant.2)
 
-pub add-requires : goal.add-requires
-add-requires c =
-    let room = subst (λ (m : Machine). has_room m.plan m.past ≡ true) (sym c.self.view_is) (sym c.has_room.ensures ∙ c.if-not-has_room.false) in
-    few_counted_before c.self.invariant.0 c.self.inside.tally c.self.invariant.7 room
-
 pub invariant_of-self : goal.invariant_of-self
 invariant_of-self c =
     let inside = c.self.inside in
     let line = c.args.line.now in
-    let shows = shows_aged c.self.invariant.0 inside.access c.self.invariant.5 c.age.new.access inside.queues c.age.new.queues refl refl c.moment_at-moment.result c.args.stamp (moment_is c) (ages c) (line_act c) line (command_offers c.self.inside.ports empty (reverse c.self.inside.hist.rows) c.args.stamp (held (reverse c.self.inside.hist.rows)) (length c.args.line.now) c.args.line.now) in
-    let shows_then : Show c.self.inside.ports c.self.inside.hist.rows c.obey-self-inside.new.queues.lanes (probed_lane c.self.inside.ports empty (reverse c.self.inside.hist.rows) (line_act c) c.args.line.now) =
-    subst (λ (lanes : List (Lane Queued)). Show c.self.inside.ports c.self.inside.hist.rows lanes (probed_lane c.self.inside.ports empty (reverse c.self.inside.hist.rows) (line_act c) c.args.line.now)) (sym (ap (λ (r : Rings). r.lanes) (obeyed c).rest)) shows in
+    let shows = shows_aged c.self.invariant.0 inside.access c.self.invariant.5 c.age.new.access inside.queues c.age.new.queues refl refl c.moment_at-moment.result c.args.stamp (moment_is c) (ages c) (line_act c) line (command_offers c.self.inside.ports (base_kept c.self.inside.checkpoint) (reverse c.self.inside.hist.rows) c.args.stamp (held (reverse c.self.inside.hist.rows)) (length c.args.line.now) c.args.line.now) in
+    let shows_then : Show c.self.inside.ports c.self.inside.hist.rows c.obey-self-inside.new.queues.lanes (probed_lane c.self.inside.ports (base_kept c.self.inside.checkpoint) (reverse c.self.inside.hist.rows) (line_act c) c.args.line.now) =
+    subst (λ (lanes : List (Lane Queued)). Show c.self.inside.ports c.self.inside.hist.rows lanes (probed_lane c.self.inside.ports (base_kept c.self.inside.checkpoint) (reverse c.self.inside.hist.rows) (line_act c) c.args.line.now)) (sym (ap (λ (r : Rings). r.lanes) (obeyed c).rest)) shows in
     rw c.append.ensures (
       remembers_command c.self.invariant.0 c.args.stamp line (stored c) c.obey-self-inside.new.queues.shut c.obey-self-inside.new.queues.lanes (may c) (inner_is c) (shut_is c) shows_then,
       c.self.invariant.1,
@@ -132,6 +128,9 @@ invariant_of-self c =
       tells_command c.self.invariant.0 inside.access c.self.invariant.5 c.args.stamp line (stored c) c.obey-self-inside.new.access (inner_is c) (states c) (ready c),
       is_refusal c.self.invariant.0 c.args.stamp line (stored c) c.obey-self-inside.result (inner_is c) (refusal_is c),
       counted_too c.self.invariant.0 inside.tally c.add.new.self (stored c) line c.self.invariant.7 c.add.ensures,
+      ends_still c.self.invariant.0 inside.ends c.self.invariant.8 (events.Command c.args.stamp line) (stored c) line (inner_is c) tt,
+      c.self.invariant.9,
+      c.self.invariant.10,
     )
 
 pub returns : goal.returns
@@ -139,6 +138,6 @@ returns c =
     let inside = c.self.inside in (
       sym c.has_room.ensures ∙ c.if-not-has_room.false,
       tt,
-      rw c.append.ensures (stepped_view inside.ports inside.hist.rows (stored c) c.args.line.now (events.Command c.args.stamp c.args.line.now) c.args.self.now c.self.view_is (ap (λ (x : Entry). row x c.args.line.now) (inner_is c))),
+      rw c.append.ensures (stepped_view inside.ports c.self.inside.checkpoint inside.hist.rows (stored c) c.args.line.now (events.Command c.args.stamp c.args.line.now) c.args.self.now c.self.view_is (ap (λ (x : Entry). row x c.args.line.now) (inner_is c))),
       stored_is c,
     )

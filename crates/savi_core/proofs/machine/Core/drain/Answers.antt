@@ -4,7 +4,7 @@ use Rattle.savi_kinds.specs.Ports.{number_of}
 use Rattle.savi_kinds.specs.declared.plan.Plan.{Plan}
 use Rattle.savi_kinds.specs.declared.entry.Entry.{Entry}
 use Rattle.savi_kinds.specs.declared.entry.Who.TheVariants.{Egress}
-use Rattle.savi_history.specs.Bases.{empty}
+use Rattle.checkpoint.specs.Columns.{kept_base as base_kept}
 use Rattle.savi_history.specs.Passes.{has_port}
 use Rattle.savi_history.specs.Queues.{Item, queue}
 use Rattle.savi_history.specs.Events as events
@@ -22,7 +22,8 @@ use Rattle.savi_core.proofs.Knowing.{knows_drain}
 use Rattle.savi_core.proofs.Telling.{tells_drain}
 use Rattle.savi_core.proofs.Shutting.{shut_as}
 use Rattle.savi_core.proofs.Refusing.{no_refusal}
-use Rattle.savi_core.proofs.Tallying.{few_counted, counted_too}
+use Rattle.savi_core.proofs.Tallying.{counted_too}
+use Rattle.savi_core.proofs.Over.{ends_still}
 use Rattle.savi_core.proofs.machine.Core.drain.Goals as goal
 
 pub len-requires : goal.len-requires
@@ -38,8 +39,8 @@ returns-then-count-eq0 c =
     let number = number_of c.args.port in
     let known : has_port inside.ports number ≡ true = ap (λ (m : Machine). has_port m.plan number) c.self.view_is ∙ c.requires.port in
     let size = waits_at c.self.invariant.0 number c.place_of-place.result no_lane known c.place_of-place.ensures.place in
-    let none : length (queue inside.ports empty number (reverse inside.hist.rows)) ≡ 0 = omega (arith, size, c.len.ensures, c.min-count.ensures, c.if-count-eq0.true, c.requires.most.0) in
-    (ap (λ (m : Machine). queue_at m c.args.port) (sym c.self.view_is) ∙ nil_from_length (queue inside.ports empty number (reverse inside.hist.rows)) none, c.clear.ensures, refl)
+    let none : length (queue inside.ports (base_kept c.self.inside.checkpoint) number (reverse inside.hist.rows)) ≡ 0 = omega (arith, size, c.len.ensures, c.min-count.ensures, c.if-count-eq0.true, c.requires.most.0) in
+    (ap (λ (m : Machine). queue_at m c.args.port) (sym c.self.view_is) ∙ nil_from_length (queue inside.ports (base_kept c.self.inside.checkpoint) number (reverse inside.hist.rows)) none, c.clear.ensures, refl)
 
 pub drain-requires-clause-place : goal.drain-requires-clause-place
 drain-requires-clause-place c =
@@ -54,14 +55,6 @@ drain-requires-clause-there c =
     let number = number_of c.args.port in
     let known : has_port inside.ports number ≡ true = ap (λ (m : Machine). has_port m.plan number) c.self.view_is ∙ c.requires.port in
     there_in c.self.invariant.0.queues number c.place_of-place.result no_lane known c.place_of-place.ensures.place
-
-pub add-requires : goal.add-requires
-add-requires c =
-    let inside = c.self.inside in
-    let number = number_of c.args.port in
-    let known : has_port inside.ports number ≡ true = ap (λ (m : Machine). has_port m.plan number) c.self.view_is ∙ c.requires.port in
-    let size = waits_at c.self.invariant.0 number c.place_of-place.result no_lane known c.place_of-place.ensures.place in
-    few_counted c.self.invariant.0 inside.tally c.self.invariant.7 (drain_fits c.self.invariant.0 number known (omega (arith, size, c.len.ensures, c.min-count.ensures, c.if-count-eq0.false)))
 
 pub append-requires-clause-room : goal.append-requires-clause-room
 append-requires-clause-room c =
@@ -82,9 +75,9 @@ invariant_of-self c =
     let known : has_port inside.ports number ≡ true = ap (λ (m : Machine). has_port m.plan number) c.self.view_is ∙ c.requires.port in
     let size = waits_at c.self.invariant.0 number c.place_of-place.result no_lane known c.place_of-place.ensures.place in
     let least : 1 ≤ count = omega (arith, c.if-count-eq0.false) in
-    let most : count ≤ length (queue inside.ports empty number (reverse rows)) = omega (arith, size, c.len.ensures, c.min-count.ensures) in
-    let open_pass : IsOpen inside.ports empty (reverse rows) (Egress c.args.port) =
-    record { known = known; running = waits_open inside.ports (reverse rows) number c.self.invariant.0.legal known (omega (arith, least, most)) } in
+    let most : count ≤ length (queue inside.ports (base_kept c.self.inside.checkpoint) number (reverse rows)) = omega (arith, size, c.len.ensures, c.min-count.ensures) in
+    let open_pass : IsOpen inside.ports (base_kept c.self.inside.checkpoint) (reverse rows) (Egress c.args.port) =
+    record { known = known; running = waits_open inside.ports (base_kept c.self.inside.checkpoint) (reverse rows) number c.self.invariant.0.legal known (omega (arith, least, most)) } in
     let e_is = subst (λ (m : Machine). e ≡ entry_of m event) (sym c.self.view_is) c.drain_entry-entry.ensures in
     rw c.append.ensures (
       shut_as (sym (ap (λ (r : Rings). r.shut) c.drain.ensures.left)) (remembers_drain c.self.invariant.0 c.args.port count c.place_of-place.result no_lane e c.drain.new.self.lanes (open_pass, least, most) e_is c.place_of-place.ensures.place (ap (λ (r : Rings). r.lanes) c.drain.ensures.left)),
@@ -95,6 +88,9 @@ invariant_of-self c =
       tells_drain c.self.invariant.0 inside.access c.self.invariant.5 c.args.port count e e_is,
       no_refusal c.self.invariant.0 (events.Drain c.args.port count) e [] inside.refused e_is tt,
       counted_too c.self.invariant.0 inside.tally c.add.new.self e [] c.self.invariant.7 c.add.ensures,
+      ends_still c.self.invariant.0 inside.ends c.self.invariant.8 (events.Drain c.args.port count) e [] e_is tt,
+      c.self.invariant.9,
+      c.self.invariant.10,
     )
 
 pub returns : goal.returns
@@ -107,7 +103,7 @@ returns c =
     let count = c.min-count.result in
     let e = c.drain_entry-entry.result in
     let known : has_port inside.ports number ≡ true = ap (λ (x : Machine). has_port x.plan number) c.self.view_is ∙ c.requires.port in
-    let queue_is : queue inside.ports empty number (reverse rows) ≡ queue_at m port = ap (λ (x : Machine). queue_at x port) c.self.view_is in
+    let queue_is : queue inside.ports (base_kept c.self.inside.checkpoint) number (reverse rows) ≡ queue_at m port = ap (λ (x : Machine). queue_at x port) c.self.view_is in
     let size = waits_at c.self.invariant.0 number c.place_of-place.result no_lane known c.place_of-place.ensures.place in
     let items_are = ap (λ (lane : Lane Item). lane.items) (lane_at c.self.invariant.0.queues number c.place_of-place.result no_lane known c.place_of-place.ensures.place) in
     let waits : c.len.result ≡ length (queue_at m port) = omega (arith, c.len.ensures, size, ap length queue_is) in
@@ -116,7 +112,7 @@ returns c =
       (λ none. c.if-count-eq0.false (omega (arith, count_is, ap length none))),
       c.drain.ensures.taken ∙ ap (λ (p : Plan). take count (map (queued_item p.mac rows) (get_or inside.queues.lanes c.place_of-place.result no_lane).items)) c.plan.ensures.plan
           ∙ ap (take count) (items_are ∙ queue_is) ∙ ap (λ n. take n (queue_at m port)) count_is,
-      rw c.append.ensures (stepped_view inside.ports rows e [] (events.Drain port count) m c.self.view_is (ap (λ (x : Entry). row x []) e_is)
+      rw c.append.ensures (stepped_view inside.ports c.self.inside.checkpoint rows e [] (events.Drain port count) m c.self.view_is (ap (λ (x : Entry). row x []) e_is)
           ∙ ap (λ n. with_event m (events.Drain port n)) count_is),
       c.drain_entry-entry.ensures ∙ ap (λ n. entry_of m (events.Drain port n)) count_is,
     )

@@ -1,7 +1,7 @@
 use Rattle.std.proofs.Common.{subst}
 use Rattle.savi_kinds.specs.Ports.{number_of}
 use Rattle.std.specs.Prelude.{reverse}
-use Rattle.savi_history.specs.Bases.{empty}
+use Rattle.checkpoint.specs.Columns.{kept_base as base_kept}
 use Rattle.savi_core.specs.Machines.{HasShortQueues}
 use Rattle.savi_history.proofs.Depth.{queue_within}
 use Rattle.savi_core.proofs.machine.Core.len.Goals as goal
@@ -10,4 +10,4 @@ pub returns-clause-within : goal.returns-clause-within
 returns-clause-within c =
     let inside = c.self.inside in
     subst HasShortQueues c.self.view_is
-    (λ port known. queue_within inside.ports empty (number_of port) (reverse inside.hist.rows))
+    (λ port known. queue_within inside.ports (base_kept c.self.inside.checkpoint) (number_of port) (reverse inside.hist.rows))

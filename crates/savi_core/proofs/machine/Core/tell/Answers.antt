@@ -25,7 +25,7 @@ pub returns-in-Ok-ShowPorts : goal.returns-in-Ok-ShowPorts
 returns-in-Ok-ShowPorts c =
     let order_is : c.args.order ≡ Ok ShowPorts = search rules in
     let inside = c.self.inside in
-    let inner : Machine = record { plan = inside.ports; past = reverse inside.hist.rows } in
+    let inner : Machine = record { plan = inside.ports; checkpoint = inside.checkpoint; past = reverse inside.hist.rows } in
     seen inner c.args.self.now c.args.order ShowPorts c.show_ports.new.into c.self.view_is order_is
     (ports_are c.self.invariant.0 inside.access inside.queues c.show_ports.new.into c.self.invariant.5 refl refl c.show_ports.ensures)
 
@@ -40,6 +40,6 @@ pub returns-in-Ok-ShowStations : goal.returns-in-Ok-ShowStations
 returns-in-Ok-ShowStations c =
     let order_is : c.args.order ≡ Ok ShowStations = search rules in
     let inside = c.self.inside in
-    let inner : Machine = record { plan = inside.ports; past = reverse inside.hist.rows } in
+    let inner : Machine = record { plan = inside.ports; checkpoint = inside.checkpoint; past = reverse inside.hist.rows } in
     seen inner c.args.self.now c.args.order ShowStations c.show_stations.new.into c.self.view_is order_is
     (stations_are c.self.invariant.0 inside.fdb c.show_stations.new.into c.self.invariant.4 c.show_stations.ensures)

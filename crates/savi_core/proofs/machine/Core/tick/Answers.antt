@@ -1,12 +1,12 @@
-use Rattle.std.proofs.Common.{true, ℕ, ◌≡◌, ◌≤◌, ◌^◌, min, max, false, [], reverse, refl, sym, subst, ap, ◌∙◌, arith}
+use Rattle.std.proofs.Common.{ℕ, ◌≡◌, ◌≤◌, ◌^◌, min, max, false, [], reverse, refl, sym, subst, ap, ◌∙◌, arith}
 use Rattle.std.proofs.lemmas.Bool.{false≢true}
 use Rattle.savi_kinds.specs.declared.plan.Plan.{Plan}
 use Rattle.savi_kinds.specs.declared.entry.Entry.{Entry}
 use Rattle.savi_kinds.specs.declared.entry.Act.TheVariants as acts
 use Rattle.savi_access.specs.Plans.{rules_of}
 use Rattle.access_table.specs.Kept.{Kept as Table, IsAgedTo}
-use Rattle.savi_history.specs.Bases.{empty, access_of}
-use Rattle.savi_history.specs.Limits.{has_room}
+use Rattle.checkpoint.specs.Columns.{kept_base as base_kept}
+use Rattle.checkpoint.specs.Bases.{access_of}
 use Rattle.savi_history.specs.Moments.{last_moment, moment_at}
 use Rattle.savi_history.specs.Marks.{marks}
 use Rattle.savi_history.specs.Offers.{due_by}
@@ -15,7 +15,8 @@ use Rattle.savi_history.specs.Events as events
 use Rattle.savi_history.specs.Legal.{MayCome}
 use Rattle.savi_core.proofs.Shutting.{shut_aged, shut_as}
 use Rattle.savi_core.proofs.Refusing.{no_refusal}
-use Rattle.savi_core.proofs.Tallying.{few_counted_before, counted_too}
+use Rattle.savi_core.proofs.Tallying.{counted_too}
+use Rattle.savi_core.proofs.Over.{ends_still}
 use Rattle.savi_core.specs.Machines.{Machine, base_of}
 use Rattle.savi_core.specs.Judges.{Ages}
 use Rattle.savi_core.specs.Tells.{Tells}
@@ -35,14 +36,14 @@ returns-then-not-is_due c =
     let inside = c.self.inside in
     let rows = inside.hist.rows in
     let stamp = c.args.stamp in
-    let moment_is : c.moment_at-moment.result ≡ moment_at empty (reverse rows) stamp = c.moment_at-moment.ensures ∙ ap (λ n. max n (min c.args.stamp (2 ^ 62))) c.self.invariant.0.last in
-    let later : last_moment empty (reverse rows) ≤ c.moment_at-moment.result = omega (arith, moment_is) in
+    let moment_is : c.moment_at-moment.result ≡ moment_at (base_kept c.self.inside.checkpoint) (reverse rows) stamp = c.moment_at-moment.ensures ∙ ap (λ n. max n (min c.args.stamp (2 ^ 62))) c.self.invariant.0.last in
+    let later : last_moment (base_kept c.self.inside.checkpoint) (reverse rows) ≤ c.moment_at-moment.result = omega (arith, moment_is) in
     let not_due : c.is_due.result ≡ false = c.if-not-is_due.true in
-    let idle : (¬ HasChangedBy inside.ports empty (reverse rows) c.moment_at-moment.result) × (due_by inside.ports empty (reverse rows) c.moment_at-moment.result ≡ []) = (
+    let idle : (¬ HasChangedBy inside.ports (base_kept c.self.inside.checkpoint) (reverse rows) c.moment_at-moment.result) × (due_by inside.ports (base_kept c.self.inside.checkpoint) (reverse rows) c.moment_at-moment.result ≡ []) = (
       λ changed. absurd (false≢true (sym not_due ∙ c.is_due.ensures.changes.1 (due_tick c.self.invariant.0 inside.access c.self.invariant.5 c.moment_at-moment.result later changed))),
       tick_silent c.self.invariant.0 inside.access c.self.invariant.5 c.moment_at-moment.result later (c.is_due.ensures.silent not_due),
     ) in
-    let idle_then = subst (λ (t : ℕ). (¬ HasChangedBy inside.ports empty (reverse rows) t) × (due_by inside.ports empty (reverse rows) t ≡ [])) moment_is idle in (
+    let idle_then = subst (λ (t : ℕ). (¬ HasChangedBy inside.ports (base_kept c.self.inside.checkpoint) (reverse rows) t) × (due_by inside.ports (base_kept c.self.inside.checkpoint) (reverse rows) t ≡ [])) moment_is idle in (
       sym c.has_room.ensures ∙ c.if-not-has_room.false,
       subst (λ (m : Machine). IsIdle m (events.Tick stamp)) c.self.view_is idle_then,
       c.self.view_is,
@@ -50,7 +51,7 @@ returns-then-not-is_due c =
 
 -- something is
 
-moment_is : (c : goal.After-append) → c.moment_at-moment.result ≡ moment_at empty (reverse c.self.inside.hist.rows) c.args.stamp
+moment_is : (c : goal.After-append) → c.moment_at-moment.result ≡ moment_at (base_kept c.self.inside.checkpoint) (reverse c.self.inside.hist.rows) c.args.stamp
 moment_is c = c.moment_at-moment.ensures ∙ ap (λ n. max n (min c.args.stamp (2 ^ 62))) c.self.invariant.0.last
 
 pub age-requires-clause-moment : goal.age-requires-clause-moment
@@ -61,29 +62,29 @@ age-requires-clause-ready c =
     subst (λ (a : Table). IsAgedTo (rules_of c.plan.result.now) c.self.inside.moment a) (sym c.is_due.ensures.same)
     (subst (λ (p : Plan). IsAgedTo (rules_of p) c.self.inside.moment c.self.inside.access) (sym c.plan.ensures.plan) c.self.invariant.5.ready)
 
-changed : (c : goal.After-append) → HasChangedBy c.self.inside.ports empty (reverse c.self.inside.hist.rows) (moment_at empty (reverse c.self.inside.hist.rows) c.args.stamp)
+changed : (c : goal.After-append) → HasChangedBy c.self.inside.ports (base_kept c.self.inside.checkpoint) (reverse c.self.inside.hist.rows) (moment_at (base_kept c.self.inside.checkpoint) (reverse c.self.inside.hist.rows) c.args.stamp)
 changed c =
     let inside = c.self.inside in
-    let later : last_moment empty (reverse inside.hist.rows) ≤ c.moment_at-moment.result = omega (arith, moment_is c) in
-    subst (λ (t : ℕ). HasChangedBy inside.ports empty (reverse inside.hist.rows) t) (moment_is c)
+    let later : last_moment (base_kept c.self.inside.checkpoint) (reverse inside.hist.rows) ≤ c.moment_at-moment.result = omega (arith, moment_is c) in
+    subst (λ (t : ℕ). HasChangedBy inside.ports (base_kept c.self.inside.checkpoint) (reverse inside.hist.rows) t) (moment_is c)
     (tick_due c.self.invariant.0 inside.access c.self.invariant.5 c.moment_at-moment.result later (c.is_due.ensures.changes.0 c.if-not-is_due.false))
 
 -- the table as it is after it was asked
-told_still : (c : goal.After-append) → Tells c.self.inside.ports empty (reverse c.self.inside.hist.rows) c.self.inside.moment c.is_due.new.self
-told_still c = subst (λ (a : Table). Tells c.self.inside.ports empty (reverse c.self.inside.hist.rows) c.self.inside.moment a) (sym c.is_due.ensures.same) c.self.invariant.5
+told_still : (c : goal.After-append) → Tells c.self.inside.ports (base_kept c.self.inside.checkpoint) (reverse c.self.inside.hist.rows) c.self.inside.moment c.is_due.new.self
+told_still c = subst (λ (a : Table). Tells c.self.inside.ports (base_kept c.self.inside.checkpoint) (reverse c.self.inside.hist.rows) c.self.inside.moment a) (sym c.is_due.ensures.same) c.self.invariant.5
 
-ages : (c : goal.After-append) → Ages (rules_of c.self.inside.ports) c.self.inside.moment c.moment_at-moment.result c.age.new.access c.self.inside.queues c.age.new.queues (access_of empty) (marks c.self.inside.ports empty (reverse c.self.inside.hist.rows))
+ages : (c : goal.After-append) → Ages (rules_of c.self.inside.ports) c.self.inside.moment c.moment_at-moment.result c.age.new.access c.self.inside.queues c.age.new.queues (access_of (base_kept c.self.inside.checkpoint)) (marks c.self.inside.ports (base_kept c.self.inside.checkpoint) (reverse c.self.inside.hist.rows))
 ages c =
     let inside = c.self.inside in
     aged_here c.self.invariant.0 c.is_due.new.self (told_still c) c.plan.result.now c.plan.ensures.plan c.moment_at-moment.result (omega (arith, c.moment_at-moment.ensures)) c.age.new.access inside.queues c.age.new.queues c.age.ensures.aged
 
-ready : (c : goal.After-append) → IsAgedTo (rules_of c.self.inside.ports) (moment_at empty (reverse c.self.inside.hist.rows) c.args.stamp) c.age.new.access
+ready : (c : goal.After-append) → IsAgedTo (rules_of c.self.inside.ports) (moment_at (base_kept c.self.inside.checkpoint) (reverse c.self.inside.hist.rows) c.args.stamp) c.age.new.access
 ready c =
     subst (λ (t : ℕ). IsAgedTo (rules_of c.self.inside.ports) t c.age.new.access) (moment_is c)
     (subst (λ (p : Plan). IsAgedTo (rules_of p) c.moment_at-moment.result c.age.new.access) c.plan.ensures.plan c.age.ensures.ready)
 
 abbrev inner : (c : goal.After-append) → Machine
-inner c = record { plan = c.self.inside.ports; past = reverse c.self.inside.hist.rows }
+inner c = record { plan = c.self.inside.ports; checkpoint = c.self.inside.checkpoint; past = reverse c.self.inside.hist.rows }
 
 abbrev stored : (c : goal.After-append) → Entry
 stored c = record c.plain_entry.result { probes = c.queued.result; lost = c.lost.result }
@@ -96,7 +97,7 @@ still_shut c = shut_aged _ _ _ _ c.self.inside.queues c.age.new.queues _ _ (ages
 inner_is : (c : goal.After-append) → stored c ≡ entry_of (inner c) (events.Tick c.args.stamp)
 inner_is c =
     let inside = c.self.inside in
-    let counts = counts_aged c.self.invariant.0 c.is_due.new.self (told_still c) c.age.new.access inside.queues c.age.new.queues refl refl c.moment_at-moment.result c.args.stamp (moment_is c) (ages c) (acts.Tick c.args.stamp) [] (tick_offers inside.ports empty (reverse inside.hist.rows) c.args.stamp []) in
+    let counts = counts_aged c.self.invariant.0 c.is_due.new.self (told_still c) c.age.new.access inside.queues c.age.new.queues refl refl c.moment_at-moment.result c.args.stamp (moment_is c) (ages c) (acts.Tick c.args.stamp) [] (tick_offers inside.ports (base_kept c.self.inside.checkpoint) (reverse inside.hist.rows) c.args.stamp []) in
     ap (λ (e : Entry). record e { probes = c.queued.result; lost = c.lost.result }) c.plain_entry.ensures
     ∙ tick_entry_is (inner c) c.args.stamp c.pass_of-by.result c.moment_at-moment.result c.queued.result c.lost.result
     c.pass_of-by.ensures (moment_is c) (c.queued.ensures ∙ counts.0) (c.lost.ensures ∙ counts.1)
@@ -107,17 +108,12 @@ stored_is c = inner_is c ∙ ap (λ (m : Machine). entry_of m (events.Tick c.arg
 due : (c : goal.After-append) → IsDue c.args.self.now (events.Tick c.args.stamp)
 due c = subst (λ (m : Machine). IsDue m (events.Tick c.args.stamp)) c.self.view_is (changed c)
 
-pub add-requires : goal.add-requires
-add-requires c =
-    let room = subst (λ (m : Machine). has_room m.plan m.past ≡ true) (sym c.self.view_is) (sym c.has_room.ensures ∙ c.if-not-has_room.false) in
-    few_counted_before c.self.invariant.0 c.self.inside.tally c.self.invariant.7 room
-
 pub invariant_of-self-2 : goal.invariant_of-self-2
 invariant_of-self-2 c =
     let inside = c.self.inside in
     let event = events.Tick c.args.stamp in
     let may = subst (λ (m : Machine). MayCome m.plan (base_of m) m.past event) (sym c.self.view_is) (may_tick c.args.self.now c.args.stamp c.requires (sym c.has_room.ensures ∙ c.if-not-has_room.false) c.ranges.stamp.fits (due c)) in
-    let shows = shows_aged c.self.invariant.0 c.is_due.new.self (told_still c) c.age.new.access inside.queues c.age.new.queues refl refl c.moment_at-moment.result c.args.stamp (moment_is c) (ages c) (acts.Tick c.args.stamp) [] (tick_offers inside.ports empty (reverse inside.hist.rows) c.args.stamp []) in
+    let shows = shows_aged c.self.invariant.0 c.is_due.new.self (told_still c) c.age.new.access inside.queues c.age.new.queues refl refl c.moment_at-moment.result c.args.stamp (moment_is c) (ages c) (acts.Tick c.args.stamp) [] (tick_offers inside.ports (base_kept c.self.inside.checkpoint) (reverse inside.hist.rows) c.args.stamp []) in
     let states = states_aged c.self.invariant.0 c.is_due.new.self (told_still c) c.age.new.access inside.queues c.age.new.queues refl refl c.moment_at-moment.result c.args.stamp (moment_is c) (ages c) in
     rw c.append.ensures (
       shut_as (sym (still_shut c)) (remembers_tick c.self.invariant.0 c.args.stamp (stored c) c.age.new.queues.lanes may (inner_is c) shows),
@@ -128,6 +124,9 @@ invariant_of-self-2 c =
       tells_tick c.self.invariant.0 c.is_due.new.self (told_still c) c.args.stamp (stored c) c.age.new.access (inner_is c) states (ready c),
       no_refusal c.self.invariant.0 event (stored c) [] inside.refused (inner_is c) tt,
       counted_too c.self.invariant.0 inside.tally c.add.new.self (stored c) [] c.self.invariant.7 c.add.ensures,
+      ends_still c.self.invariant.0 inside.ends c.self.invariant.8 event (stored c) [] (inner_is c) tt,
+      c.self.invariant.9,
+      c.self.invariant.10,
     )
 
 pub returns : goal.returns
@@ -135,6 +134,6 @@ returns c =
     let inside = c.self.inside in (
       sym c.has_room.ensures ∙ c.if-not-has_room.false,
       due c,
-      rw c.append.ensures (stepped_view inside.ports inside.hist.rows (stored c) [] (events.Tick c.args.stamp) c.args.self.now c.self.view_is (ap (λ (x : Entry). row x []) (inner_is c))),
+      rw c.append.ensures (stepped_view inside.ports c.self.inside.checkpoint inside.hist.rows (stored c) [] (events.Tick c.args.stamp) c.args.self.now c.self.view_is (ap (λ (x : Entry). row x []) (inner_is c))),
       stored_is c,
     )

@@ -1,0 +1,11 @@
+pub mod Digits
+pub mod ByVlan
+pub mod Places
+pub mod Placing
+pub mod PartLines
+pub mod Keeping
+pub mod Lines
+pub mod Heads
+pub mod Passes
+pub mod Found
+pub mod Worked

@@ -1,0 +1,6 @@
+use Rattle.std.proofs.Common.{◌≡◌, take}
+use Rattle.savi_core.specs.Turns.{with_rows}
+use Rattle.savi_core.proofs.turning.keep_rows.Given as goal
+
+abbrev pub invariant-loop-i : goal.invariant-loop-i
+invariant-loop-i l = l.into ≡ with_rows (take l.i l.access.addresses.rows) l.fn.into
