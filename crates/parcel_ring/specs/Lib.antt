@@ -1,0 +1,4 @@
+pub mod Handed
+pub mod Parcels
+pub mod Lent
+pub mod Sides
