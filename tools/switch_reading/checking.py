@@ -14,6 +14,8 @@ HOWS = {
     "in": ("end", "malformed", "failed", "paused"), "ticker": ("end", "paused"), "out": ("end", "failed", "paused"),
     "control": ("end", "quit", "malformed", "overlong", "failed", "unwritten", "paused"),
 }
+# The first line of each version.
+VERSIONS = {b"savi-journal 1": 1, b"savi-journal 2": 2}
 # The passes that take inputs.
 TAKERS = ("in", "control")
 # The ways of an end that have a number.
@@ -87,8 +89,16 @@ class History(Switch):
 
     def __init__(self, plan):
         super().__init__(plan)
-        # The passes that have ended, and whether an input among them is paused.
-        self.over, self.has_pause = set(), False
+        # The passes that have ended or are paused, whether an input among them is, and the entries of the segments before.
+        self.over, self.has_pause, self.before = set(), False, 0
+
+    def number(self):
+        """The number of the next entry, over all segments."""
+        return self.before + len(self.entries)
+
+    def turn(self):
+        self.over, self.has_pause, self.before = set(self.ended), False, self.number()
+        super().turn()
 
     def number_of(self, kind, n):
         """The number of a pass, or None where it isn't in the plan."""
@@ -132,11 +142,11 @@ class Checker:
     def answer(self):
         try:
             self.history = History(self.read_head())
-            return self.read_entries()
+            return self.read_segments()
         except BadLine:
             return f"bad line {self.at}"
         except Wrong as fault:
-            return f"wrong at entry {self.number}: want {fault.args[0]} have {fault.args[1]}"
+            return f"wrong at entry {self.entry}: want {fault.args[0]} have {fault.args[1]}"
 
     # The head.
 
@@ -147,7 +157,8 @@ class Checker:
         return text_of(rest, pattern)
 
     def read_head(self):
-        if self.line() != b"savi-journal 1":
+        self.version = VERSIONS.get(self.line())
+        if self.version is None:
             raise BadLine
         top = {"mac": self.value("mac", b"[0-9a-f:]+"), "savi": "on", "unknown": "drop", "per_port": 1, "depth": 1,
                "entries": 4131, "bytes": 1518, "probe_gap_ms": 1, "test_ms": 60000, "binding_s": 1}
@@ -203,31 +214,41 @@ class Checker:
             raise BadLine
         return (*found, method)
 
-    # The entries.
+    # The segments.
+
+    def read_segments(self):
+        """Where a segment is paused the next one follows, which version 1 doesn't have."""
+        self.read_entries()
+        while self.history.has_pause and self.version == 2:
+            self.history.turn()
+            self.read_base()
+            self.read_entries()
+        self.at += 1
+        if self.at <= len(self.lines) or self.rest or self.history.has_pause:
+            raise BadLine
+        return f"good: {self.history.number()} entries"
+
+    def read_base(self):
+        """What the segment that begins goes on from, and `begin`: each line is the computed one."""
+        for wanted in (*self.history.base_lines(), "begin"):
+            if self.line() != wanted.encode("ascii"):
+                raise BadLine
 
     def read_entries(self):
         history = self.history
         takers = {
             b"F": self.frame, b"L": self.long, b"T": self.tick, b"C": self.command, b"D": self.drain, b"E": self.end,
         }
-        while True:
-            self.number = len(history.entries)
-            line = self.line()
-            if line.startswith(b"end"):
-                break
+        while not (line := self.line()).startswith(b"end"):
             words = line.split(b" ")
-            if len(words) < 5 or number(words[0]) != self.number:
+            if len(words) < 5 or number(words[0]) != len(history.entries):
                 raise BadLine
-            head = number(words[1], 2**32 - 1), number(words[2])
+            self.entry, head = history.number(), (number(words[1], 2**32 - 1), number(words[2]))
             if words[3] not in takers:
                 raise BadLine
             takers[words[3]](head, words[4:])
-        if line != b"end %d" % self.number or len(history.over) != 2 * len(history.ports) + 2:
+        if line != b"end %d" % len(history.entries) or len(history.over) != 2 * len(history.ports) + 2:
             raise BadLine
-        self.at += 1
-        if self.at <= len(self.lines) or self.rest:
-            raise BadLine
-        return f"good: {self.number} entries"
 
     def fields(self, words, *readers):
         if len(words) != len(readers):
@@ -260,7 +281,8 @@ class Checker:
         history = self.history
         want(history.is_open("ticker") and not history.is_full() and not history.is_idle(stamp), "T")
         history.begin(stamp)
-        history.enter(history.ticker_pass, f"T {stamp} {history.probes} {history.lost}")
+        text = f"T {stamp} {history.probes} {history.lost}"
+        history.enter(history.ticker_pass, text, probes=history.probes, lost=history.lost)
         self.compare(head, computed)
 
     def command(self, head, words):
@@ -292,7 +314,7 @@ class Checker:
         if kind == "out":
             history.end_output(n, how)
         else:
-            history.end(history.number_of(kind, n), "")
+            history.end(history.number_of(kind, n), b" ".join(words).decode("ascii"))
         self.compare(head)
 
     def may_end(self, kind, n, how):

@@ -143,12 +143,7 @@ def show_ports(switch):
 
 
 def show_counters(switch):
-    judged = [entry.verdict for entry in switch.entries if entry.verdict is not None]
-    rows = [f"{rule} {judged.count(rule)}" for rule in RULES]
-    rows.append(f"Pass {sum(not isinstance(verdict, str) for verdict in judged)}")
-    rows.append(f"Cut {sum(len(entry.cuts) for entry in switch.entries)}")
-    rows.append(f"Probes {sum(entry.probes for entry in switch.entries)}")
-    return rows + [f"Lost {sum(entry.lost for entry in switch.entries)}"]
+    return [f"{name} {switch.counts[name]}" for name in (*RULES, "Pass", "Cut", "Probes", "Lost")]
 
 
 def show_stations(switch):

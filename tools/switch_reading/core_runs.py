@@ -9,10 +9,6 @@ from .switch import LATEST, Switch
 class Machine(Switch):
     """A switch whose events come one by one: each answers whether an entry was made, or the word for what else became of it."""
 
-    def __init__(self, plan):
-        super().__init__(plan)
-        self.ended = set()
-
     def is_idle(self, stamp):
         """Whether no address has another state by the moment of a tick."""
         moment = max(self.moment, min(stamp, LATEST))
@@ -53,7 +49,8 @@ class Scene:
         """What becomes of an event where no entry is made, and what is printed behind an entry."""
         machine = self.machine
         full = f"Full {{ len: {len(machine.entries)} }}"
-        if word in ("frame", "long", "end") and ("in", first) in machine.ended or word == "fail" and int(first) in machine.closed:
+        has_ended = word in ("frame", "long", "end") and machine.ingress_pass[int(first)] in machine.ended
+        if has_ended or word == "fail" and int(first) in machine.closed:
             return None, []
         if word in ("frame", "long", "command", "tick") and machine.is_full():
             return full, []
@@ -69,7 +66,6 @@ class Scene:
             machine.tick(int(first))
         elif word == "end":
             machine.end(machine.ingress_pass[int(first)], f"in{first} end")
-            machine.ended.add(("in", first))
         elif word == "fail":
             machine.end_output(int(first), "failed")
         elif word == "drain":

@@ -1,4 +1,4 @@
-"""Journals (docs/FORMATS.md, The journal): the plan of one, and its entries one by one."""
+"""Journals (docs/FORMATS.md, The journal): the plan of one, and its entries one by one, of all segments."""
 import functools
 import re
 from dataclasses import dataclass
@@ -32,6 +32,14 @@ FORMS = {
     "D": form(NUMBER, NUMBER),
     "E": form("(control|ticker|in[0-9]+|out[0-9]+)", "(end|quit|failed|unwritten|paused|(?:malformed|overlong) [0-9]+)"),
 }
+# What a segment goes on from, line by line.
+KEY, TWO = "[0-9a-f:.]+", "(?:yes|no)"
+BASE = form("(?:" + "|".join((
+    f"moment {NUMBER}", f"shut {SET}", f"count [A-Za-z0-9]+ {NUMBER}", f"fixed {KEY} {NUMBER}", f"bound {KEY} {NUMBER} (?:-|{NUMBER})",
+    f"fcfs {KEY} (?:valid {NUMBER} (?:-|{NUMBER})|(?:tentative|testing-lt|testing-vp {NUMBER}) {NUMBER} {NUMBER} {TWO})",
+    f"request {NUMBER} {NUMBER} {NUMBER} {DIGITS} {NUMBER}", f"station {KEY} {NUMBER} {NUMBER}",
+    "ended (?:control|in[0-9]+|out[0-9]+) (?:end|quit|failed|unwritten|(?:malformed|overlong) [0-9]+)",
+)) + ")")
 
 
 class Fault(Exception):
@@ -43,7 +51,8 @@ class Fault(Exception):
 
 @dataclass(slots=True)
 class Entry:
-    """Moments and stamps are in ms. What an entry of its kind hasn't is None, 0 or empty."""
+    """`number` is counted over all segments, as the check of a journal counts. Moments and stamps are in ms. What an entry of
+    its kind hasn't is None, 0 or empty."""
 
     number: int
     by: int
@@ -120,8 +129,9 @@ class Journal:
         return match[1] if match else self.fail(f"`{key}` and its value are expected, and here stands {shown(line)}")
 
     def read_head(self):
-        if (line := self.line("`savi-journal 1`")) != "savi-journal 1":
-            self.fail(f"no journal of version 1, which begins with `savi-journal 1`: {shown(line)}")
+        self.version = {"savi-journal 1": 1, "savi-journal 2": 2}.get(line := self.line("`savi-journal 2`"))
+        if self.version is None:
+            self.fail(f"no journal of version 1 or 2, which begins with `savi-journal` and that number: {shown(line)}")
         top = {"mac": self.value("mac", "([0-9a-f:]+)")}
         top |= {"savi": self.value("savi", "(on|off)"), "unknown": self.value("unknown", "(drop|pass)")}
         top |= {name: int(self.value(key, NUMBER)) for key, name in HEAD_NUMBERS.items()}
@@ -152,24 +162,41 @@ class Journal:
                 self.fail(f"a port, a prefix or `begin` is expected, and here stands {shown(line)}")
         return ports, prefixes
 
-    # The entries.
+    # The segments.
 
     def entries(self):
-        number, moment = 0, 0
+        """The entries of all segments. A segment in which passes are paused has another one behind it."""
+        self.before, self.moment, self.is_paused = 0, 0, False
+        yield from self.segment()
+        while self.is_paused and self.version == 2:
+            self.is_paused = False
+            self.read_base()
+            yield from self.segment()
+        self.at += 1
+        if (line := next(self.lines, "")):
+            self.fail(f"a line behind the journal's end: {shown(line)}")
+
+    def read_base(self):
+        while (line := self.line("what the next segment goes on from")) != "begin":
+            if not BASE.fullmatch(line):
+                self.fail(f"what a segment goes on from is expected, or `begin`, and here stands {shown(line)}")
+
+    def segment(self):
+        number = 0
         while not (line := self.line(f"entry {number} or `end {number}`")).startswith("end "):
             match = ENTRY.fullmatch(line) or self.fail(f"no entry: {shown(line)}")
             found, by, now = int(match[1]), int(match[2]), int(match[3])
             if found != number:
                 self.fail(f"entry {number} is expected, and here stands entry {found}")
-            if now < moment:
-                self.fail(f"entry {number} is earlier than the one before it, by {moment - now} ms")
-            yield self.read_entry(Entry(number, by, now, match[4]), match[5])
-            number, moment = number + 1, now
+            if now < self.moment:
+                self.fail(f"entry {number} is earlier than the one before it, by {self.moment - now} ms")
+            entry = self.read_entry(Entry(self.before + number, by, now, match[4]), match[5])
+            self.is_paused |= entry.how == "paused"
+            yield entry
+            number, self.moment = number + 1, now
         if line != f"end {number}":
             self.fail(f"`end {number}` is expected, and here stands {shown(line)}")
-        self.at += 1
-        if (line := next(self.lines, "")):
-            self.fail(f"a line behind the journal's end: {shown(line)}")
+        self.before += number
 
     def read_entry(self, entry, text):
         match = FORMS[entry.kind].fullmatch(text)

@@ -158,7 +158,7 @@ def told_setting(line, name):
 
 def header(line, before):
     told = {
-        "version": {"savi-journal 1": "1"}.get(line), "mac": told_mac(line),
+        "version": {"savi-journal 1": "One", "savi-journal 2": "Two"}.get(line), "mac": told_mac(line),
         "savi": {"savi on": "true", "savi off": "false"}.get(line),
         "unknown drop": {"unknown drop": "true", "unknown pass": "false"}.get(line),
     }

@@ -4,7 +4,7 @@ import random
 import struct
 
 from . import capture, commands
-from .session import CONTROL, Replay
+from .session import CONTROL, STATUSES, Replay, Segment
 
 # The most octets of records that go in one write, and the most items of one drain.
 GATHERED, DRAINED = 65536, 256
@@ -80,7 +80,9 @@ class Worker:
 
 
 class Live(Replay):
-    """`inputs` and `control` are as those of a replay. `holds` has for a pass and the number of a turn which other pass has
+    """A live session keeps to one segment: an input for which there is no room is paused, and that is its end.
+
+    `inputs` and `control` are as those of a replay. `holds` has for a pass and the number of a turn which other pass has
     to come by first, and for which turn. The order of the turns is drawn by `seed`."""
 
     def __init__(self, plan, inputs, control=None, fails=None, ticker=None, holds=None, seed=0):
@@ -101,6 +103,7 @@ class Live(Replay):
             worker = self.random.choice(able)
             if not worker.go_on():
                 running.remove(worker)
+        self.segments.append(Segment([], self.switch.entries))
 
     def may_go_on(self, worker):
         holds = self.holds.get((worker.by, worker.came), []) if worker.place == TURN else []
@@ -129,6 +132,24 @@ class Live(Replay):
         if not is_written or commands.is_quit(line.text):
             yield TURN
             self.end_input(source, "quit" if is_written else "unwritten")
+
+    def taken(self, source):
+        """What comes next of an input; or None where there is no room for it, and the input is paused."""
+        if self.switch.is_full():
+            source.is_over = True
+            self.note("paused", f"{source.title}: history full at {len(self.switch.entries)}")
+            self.switch.end(source.by, f"{source.name} paused")
+            return None
+        arrival = source.head()
+        source.at += 1
+        return arrival
+
+    def closing(self):
+        """How the ticker and the outputs end: they are paused where an input is."""
+        return "paused" if "paused" in self.causes else "end"
+
+    def status(self):
+        return next((status for cause, status in (*STATUSES, ("paused", 8)) if cause in self.causes), 0)
 
     def inputs_are_over(self):
         return all(source.is_over for source in self.inputs.values())

@@ -8,7 +8,7 @@ from .states import Scope
 from .switch import Switch
 
 # The causes of a status behind a session, the first that applies.
-STATUSES = (("failed input", 5), ("failed output", 6), ("at fault", 4), ("full", 8))
+STATUSES = (("failed input", 5), ("failed output", 6), ("at fault", 4))
 
 CONTROL = 0
 
@@ -45,13 +45,21 @@ class Output:
         return True
 
 
+@dataclass
+class Segment:
+    """A segment that is closed: what it went on from, where it isn't the first, and its entries."""
+
+    base: list
+    entries: list
+
+
 class Replay:
     """`captures` has what each port's input brings, by the port's number, as (arrivals, how it ends). `fails` has the number
     of the write that fails, from 1, by port, and by 0 for control's output."""
 
     def __init__(self, plan, captures, control=None, fails=None, floods=False):
         self.plan, self.switch = plan, Switch(plan, floods)
-        self.lines, self.causes = [], set()
+        self.lines, self.causes, self.segments, self.base = [], set(), [], []
         fails = fails or {}
         self.outputs = {n: Output(fails.get(n, 0)) for n in (CONTROL, *self.switch.ports)}
         self.inputs = {CONTROL: Input(*(control or ([], "end")), self.switch.control_pass, "control", "control")}
@@ -63,11 +71,27 @@ class Replay:
         for n in self.switch.ports:
             self.write(n, capture.HEADER)
         while self.look():
+            if self.switch.is_full():
+                self.pause()
             self.turn()
-        self.switch.end(self.switch.ticker_pass, f"ticker {self.closing()}")
+        self.close("end")
+
+    def pause(self):
+        """Pauses all that is open, and goes on in the next segment."""
+        for source in self.inputs.values():
+            if not source.is_over:
+                self.switch.end(source.by, f"{source.name} paused")
+        self.close("paused")
+        self.switch.turn()
+        self.base = list(self.switch.base_lines())
+
+    def close(self, how):
+        """Ends the ticker and the outputs, which closes the segment."""
+        self.switch.end(self.switch.ticker_pass, f"ticker {how}")
         for n in self.switch.ports:
             if n not in self.switch.closed:
-                self.switch.end_output(n, self.closing())
+                self.switch.end_output(n, how)
+        self.segments.append(Segment(self.base, self.switch.entries))
 
     def look(self):
         """Ends each input that has nothing more, control first. Answers whether one has."""
@@ -80,9 +104,8 @@ class Replay:
         """Takes the arrival with the least stamp, of control first and then of the lower port; and drains the queues."""
         number = min((n for n in self.inputs if not self.inputs[n].is_over), key=lambda n: (self.inputs[n].head().stamp, n))
         source = self.inputs[number]
-        arrival = self.taken(source)
-        if arrival is None:
-            return
+        arrival = source.head()
+        source.at += 1
         if number == CONTROL:
             self.command(source, arrival)
         else:
@@ -90,15 +113,6 @@ class Replay:
         for n, items in self.switch.queues.items():
             if items:
                 self.drain(n)
-
-    def taken(self, source):
-        """What comes next of an input; or None where there is no room for it, and the input is paused."""
-        if self.switch.is_full():
-            self.end_input(source, "paused")
-            return None
-        arrival = source.head()
-        source.at += 1
-        return arrival
 
     def enter(self, port, arrival):
         """Enters what came in at a port."""
@@ -126,13 +140,8 @@ class Replay:
             self.note("failed output", f"port {port}: write failed")
         return is_written
 
-    def closing(self):
-        """How the ticker and the outputs end: they are paused where an input is."""
-        return "paused" if "full" in self.causes else "end"
-
     def end_input(self, source, how):
         source.is_over = True
-        before = len(self.switch.entries)
         self.switch.end(source.by, f"{source.name} {how}")
         word, _, place = how.partition(" ")
         if word == "failed":
@@ -143,8 +152,6 @@ class Replay:
             self.note("at fault", f"{source.title}: malformed at {place}")
         elif word == "overlong":
             self.note("at fault", f"{source.title}: overlong line at {place}")
-        elif word == "paused":
-            self.note("full", f"{source.title}: history full at {before}")
 
     def note(self, cause, line):
         self.causes.add(cause)
@@ -153,8 +160,12 @@ class Replay:
     def status(self):
         return next((status for cause, status in STATUSES if cause in self.causes), 0)
 
+    def entries(self):
+        """The entries of all segments."""
+        return [entry for segment in self.segments for entry in segment.entries]
+
     def summary(self):
-        entries = self.switch.entries
+        entries = self.entries()
         judged = [entry.verdict for entry in entries if entry.verdict is not None]
         passed = sum(isinstance(verdict, Scope) for verdict in judged)
         probes, lost = sum(entry.probes for entry in entries), sum(entry.lost for entry in entries)
@@ -165,17 +176,20 @@ class Replay:
     def journal(self):
         """The text of the journal, in pieces."""
         yield head(self.plan)
-        for n, entry in enumerate(self.switch.entries):
-            yield f"{n} {entry.by} {entry.moment} {entry.text}\n"
-        yield f"end {len(self.switch.entries)}\n"
+        for segment in self.segments:
+            yield from (f"{line}\n" for line in (*segment.base, "begin"))
+            for n, entry in enumerate(segment.entries):
+                yield f"{n} {entry.by} {entry.moment} {entry.text}\n"
+            yield f"end {len(segment.entries)}\n"
 
 
 def head(plan):
+    """The lines in front of the first segment."""
     lines = [
-        "savi-journal 1", f"mac {mac_text(plan.mac)}", f"savi {'on' if plan.savi else 'off'}",
+        "savi-journal 2", f"mac {mac_text(plan.mac)}", f"savi {'on' if plan.savi else 'off'}",
         f"unknown {'drop' if plan.drop_unknown else 'pass'}", f"per_port {plan.per_port}", f"depth {plan.depth}",
         f"entries {plan.entries}", f"bytes {plan.bytes}", f"gap {plan.gap}", f"test {plan.test}", f"binding {plan.life}",
     ]
     lines += [f"port {port.number} {port.role} {port.format}" for port in plan.ports]
     lines += [f"prefix {prefix_text(net, length)} {method}" for net, length, method in plan.prefixes]
-    return "".join(f"{line}\n" for line in lines + ["begin"])
+    return "".join(f"{line}\n" for line in lines)

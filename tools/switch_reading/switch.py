@@ -1,11 +1,14 @@
-"""The switch: one event, one entry of the history (docs/RULES.md, docs/TROUBLE.md)."""
+"""The switch: one event, one entry of the history, which goes on in segments (docs/RULES.md, docs/TROUBLE.md)."""
+import collections
 from dataclasses import dataclass, field
 
 from . import commands
+from .plan import address_text, mac_text
 from .frame import ADVERTISEMENT, DHCP_CLIENT, DHCP_SERVER, ICMPV6, MLD_OF_HOSTS, ROUTER_SOLICITATION, SOLICITED_NODES
 from .frame import guard, internet_sum, read_frame
 from .dhcp import DECLINE, RELEASE, REPLY
-from .states import ALL, DAD, NA, SENT, TRUSTED, TRUSTED_DAD, TRUSTED_NA, TRUSTED_ONLY, Address, Scope
+from .states import ALL, DAD, NA, NONE, SENT, TEST_CLAIM, TRUSTED, TRUSTED_DAD, TRUSTED_NA, TRUSTED_ONLY, VALID
+from .states import Address, Scope
 
 # Entries that are kept back for drains and ends, and octets for one more frame.
 ENTRIES_KEPT, OCTETS_KEPT = 4130, 1518
@@ -47,6 +50,20 @@ def digits(octets):
     return octets.hex() or "-"
 
 
+def state_lines(key, state):
+    """The lines of the state of an address: where it is fixed, where DHCPv6 bound it, and what it has by first come."""
+    if state.fixed is not None:
+        yield f"fixed {key} {state.fixed}"
+    if state.bound:
+        yield f"bound {key} {state.bound[0]} {commands.moment_text(state.bound[1])}"
+    first = state.first
+    if first.state == VALID:
+        yield f"fcfs {key} {first.state} {first.port} {first.until}"
+    elif first.state != NONE:
+        claimant = f" {first.claimant}" if first.state == TEST_CLAIM else ""
+        yield f"fcfs {key} {first.state} {first.port}{claimant} {first.since} {'yes' if first.two else 'no'}"
+
+
 def probe_frame(mac, target):
     """A solicitation as in duplicate address detection, from the switch (RFC 4861 section 4.3, RFC 2464 section 7)."""
     low = target & 0xFFFFFF
@@ -72,9 +89,12 @@ class Switch:
         self.control_pass, self.ticker_pass = len(numbers), len(numbers) + 1
         self.ingress_pass = {n: at for at, n in enumerate(numbers)}
         self.egress_pass = {n: len(numbers) + 2 + at for at, n in enumerate(numbers)}
-        self.entries, self.octets, self.moment = [], 0, 0
+        # The entries of the segment that goes on, their octets, and what is counted of those of all segments.
+        self.entries, self.octets, self.moment, self.counts = [], 0, 0, collections.Counter()
         self.addresses, self.requests, self.stations = {}, {}, {}
         self.shut, self.closed = set(), set()
+        # How passes have ended for good, by their numbers.
+        self.ended = {}
         self.queues = {n: [] for n in numbers}
         self.probes = self.lost = 0
 
@@ -84,7 +104,11 @@ class Switch:
         return len(self.entries) >= self.plan.entries - ENTRIES_KEPT or self.octets + OCTETS_KEPT > self.plan.bytes
 
     def enter(self, by, text, **fields):
-        self.entries.append(Entry(by, self.moment, text, **fields))
+        entry = Entry(by, self.moment, text, **fields)
+        self.entries.append(entry)
+        if entry.verdict is not None:
+            self.counts["Pass" if isinstance(entry.verdict, Scope) else entry.verdict] += 1
+        self.counts.update(Cut=len(entry.cuts), Probes=entry.probes, Lost=entry.lost)
 
     def begin(self, stamp):
         """Comes to the moment of an event, and lets every address age."""
@@ -135,7 +159,30 @@ class Switch:
         return items
 
     def end(self, by, text):
+        """A pass ends; `text` is which one, and how."""
         self.enter(by, f"E {text}")
+        who, _, how = text.partition(" ")
+        if how != "paused":
+            self.ended[by] = who, how
+
+    def turn(self):
+        """Goes on in the next segment: an output that didn't fail is open again."""
+        self.entries, self.octets = [], 0
+        self.closed = {port for port, by in self.egress_pass.items() if by in self.ended}
+
+    def base_lines(self):
+        """What a segment goes on from that begins now, line by line (docs/FORMATS.md)."""
+        yield f"moment {self.moment}"
+        yield f"shut {set_text(sorted(self.shut))}"
+        yield from (f"count {row}" for row in commands.show_counters(self))
+        for address, state in sorted(self.addresses.items()):
+            yield from state_lines(address_text(address), state)
+        for (port, transaction, client), until in sorted(self.requests.items(), key=lambda item: item[0][1:]):
+            yield f"request 1 {port} {transaction} {digits(client)} {until}"
+        for mac, (port, last) in sorted(self.stations.items()):
+            if self.is_live(mac):
+                yield f"station {mac_text(mac)} {port} {last}"
+        yield from (f"ended {who} {how}" for _, (who, how) in sorted(self.ended.items()))
 
     def end_output(self, port, how):
         self.end(self.egress_pass[port], f"out{port} {how}")

@@ -98,7 +98,7 @@ def replay(plan, frames, lines="", rest=None, fails=None):
 def judged(run):
     """Each frame as PORT@STAMP VERDICT OUTS PROBES."""
     rows = []
-    for entry in run.switch.entries:
+    for entry in run.entries():
         words = entry.text.split()
         if words[0] == "F":
             rows.append(f"{words[1]}@{words[2]} {words[4]} {words[5]} {words[7]}")

@@ -209,16 +209,19 @@ WORKED = {
     "a read of the end behind a line without a line feed fails": ([SHUT], ["ok"], ["status 5", "control: read failed"]),
     "a read behind 120 octets of a line fails": ([UNVERIFIED], [], ["status 5", "control: read failed"]),
     "a read behind 121 octets of a line fails": ([UNVERIFIED], [], ["status 4", "control: overlong line at 0"]),
-    # Room for seven entries, and for thirteen octets.
+    # A segment has room for seven entries, or for thirteen octets.
     "a history that is full of commands": (
-        [], ["end"] + ports(*[NOTHING] * 5),
-        ["status 8", "control: history full at 7", "6 5 1001 C 1001 show_ports 0 0", "7 5 1001 E control paused", "end 14"]),
+        [], ["end"] + ports(*[NOTHING] * 5) + ["ok"],
+        SILENT + ["6 5 1001 C 1001 show_ports 0 0", "7 5 1001 E control paused", "end 14", "moment 1001", "ended in5 end",
+                  "0 5 1002 C 1002 quit 0 0", "1 5 1002 E control quit", "end 8"]),
     "a history that is full for a command and a frame": (
-        [], ["end"] * 3,
-        ["status 8", "control: history full at 7", "port 1: history full at 8", "7 5 1002 E control paused",
-         "8 0 1002 E in1 paused"]),
+        ["1@5000 PACKET drop-Unverified - 1"], ["end"] * 4,
+        SILENT + ["7 5 1002 E control paused", "8 0 1002 E in1 paused", "end 15", "moment 1002",
+                  "0 5 1003 C 1003 show_bindings 0 0", "1 5 1003 E control end", "3 10 5000 D 4 1", "4 0 5000 E in1 end"]),
     "a history whose octets are full of commands": (
-        [], ["end"], ["status 8", "control: history full at 6", "6 5 1000 E control paused"]),
+        [], ["end"] + ports(*[NOTHING] * 5),
+        SILENT + ["6 5 1000 E control paused", "end 13", "moment 1000", "0 5 1001 C 1001 show_ports 0 0",
+                  "1 5 1001 E control end", "end 8"]),
     # Sources aren't validated.
     "commands where sources aren't validated": (
         ["1@1000 PACKET pass-all 3,4,5 0", "2@1001 listener_report drop-PortDown - 0"],

@@ -8,7 +8,7 @@ from .session import CONTROL
 
 HEADER = "d4c3b2a1020004000000000000000000ffff000001000000"
 
-EMPTY_JOURNAL = """savi-journal 1
+EMPTY_JOURNAL = """savi-journal 2
 mac 02:00:00:00:00:01
 savi on
 unknown drop
@@ -110,7 +110,8 @@ REPLIES = (
 
 
 def entries(run):
-    return [f"{n} {entry.by} {entry.moment} {entry.text}" for n, entry in enumerate(run.switch.entries)]
+    """The entries of all segments, each with its number in its segment."""
+    return [f"{n} {entry.by} {entry.moment} {entry.text}" for segment in run.segments for n, entry in enumerate(segment.entries)]
 
 
 def check(same):
@@ -190,11 +191,15 @@ def check_full(same):
     kinds = [entry.split()[3] for entry in entries(run)]
     same(name, "its first frame, drains and end are", kinds[3:7], ["F", "D", "D", "E"])
     same(name, "entry 6 is", entries(run)[6], "6 0 1000 E in1 paused")
-    same(name, "what comes behind it is", [entry.split(" ", 4)[4] for entry in entries(run)[7:]],
+    same(name, "what comes behind it is", [entry.split(" ", 4)[4] for entry in entries(run)[7:11]],
          ["ticker paused", "out1 paused", "out2 paused", "out3 paused"])
-    same(name, "the entries are", len(kinds), 11)
-    same(name, "standard error is", run.lines, ["port 1: history full at 6"])
-    same(name, "the status is", run.status(), 8)
+    same(name, "the second segment is", "".join(kinds[11:]), "FDDFDDEEEEE")
+    same(name, "it begins and ends by", [entries(run)[11][:22], entries(run)[21]], ["0 0 1001 F 1 1001 3333", "10 7 1002 E out3 end"])
+    same(name, "it goes on from", [line for line in run.segments[1].base if not line.endswith(" 0")],
+         ["moment 1000", "shut -", "count Pass 1", "station 02:00:00:00:00:22 1 1000", "ended in2 end", "ended in3 end",
+          "ended control end"])
+    same(name, "standard error is", run.lines, [])
+    same(name, "the status is", run.status(), 0)
 
 
 def check_failed_output(same):

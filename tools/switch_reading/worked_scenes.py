@@ -257,11 +257,15 @@ WORKED = {
          "2 0 5000 F 1 5000 PACKET drop-Unverified - - 1 0",
          "4 0 5000 F 1 4000 PACKET drop-Unverified - - 0 0",
          "5 0 5000 E in1 malformed 164"]),
-    # Port 1 is trusted, 2 and 3 are hosts'. Room for one frame, then for all.
+    # Port 1 is trusted, 2 and 3 are hosts'. Room for one frame behind three ends; in the next segment for both others.
     "a history that is full behind its first frame": (
-        ["1@1000 ADVERT pass-all 2,3 0"],
-        ["status 8", "port 1: history full at 6", "3 0 1000 F 1 1000 ADVERT pass-all 2,3 - 0 0", "4 6 1000 D 2 1",
-         "5 7 1000 D 3 1", "6 0 1000 E in1 paused", "7 4 1000 E ticker paused", "8 5 1000 E out1 paused", "end 11"]),
+        ["1@1000 ADVERT pass-all 2,3 0", "1@1001 ADVERT pass-all 2,3 0", "1@1002 ADVERT pass-all 2,3 0"],
+        ["status 0", "entries 22 frames 3 passed 3 dropped 0 probes 0 lost 0 cut 0",
+         "3 0 1000 F 1 1000 ADVERT pass-all 2,3 - 0 0", "4 6 1000 D 2 1", "5 7 1000 D 3 1", "6 0 1000 E in1 paused",
+         "7 4 1000 E ticker paused", "8 5 1000 E out1 paused", "moment 1000", "shut -", "count Pass 1",
+         "station 02:00:00:00:00:22 1 1000", "ended in2 end", "ended in3 end", "ended control end",
+         "0 0 1001 F 1 1001 ADVERT pass-all 2,3 - 0 0", "3 0 1002 F 1 1002 ADVERT pass-all 2,3 - 0 0", "6 0 1002 E in1 end",
+         "7 4 1002 E ticker end", "8 5 1002 E out1 end", "end 11"]),
     "an output that fails at its second frame": (
         ["1@1000 ADVERT pass-all 2,3 0",
          "1@1001 ADVERT pass-all 2,3 0",

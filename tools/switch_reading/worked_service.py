@@ -119,5 +119,5 @@ def check_pool(same):
 def check_offload(same):
     """Segments that were joined to one frame."""
     run = replay(plan_of(), [(4, 1000, bytes(2962)), (1, 1001, bytes(1519))])
-    rows = [entry.text for entry in run.switch.entries if entry.text.startswith("L")]
+    rows = [entry.text for entry in run.entries() if entry.text.startswith("L")]
     same("joined segments", "they come to", rows, ["L 4 1000 2962 drop-Malformed 0 0", "L 1 1001 1519 drop-Malformed 0 0"])

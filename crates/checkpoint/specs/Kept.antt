@@ -22,6 +22,13 @@ pub record IsKept (rows : List (ℕ × Row)) (parts : List Part) (requests : Lis
   pub requests_by : IsByVlan requests
   pub stations_by : IsByVlan stations
 
+-- no column has more than there is room for
+pub record IsWithinRoom (row_room station_room rows requests stations ended : ℕ) : Type 0 where
+  pub few_rows : rows ≤ row_room
+  pub few_requests : requests ≤ 256
+  pub few_stations : stations ≤ station_room
+  pub few_ended : ended ≤ 34
+
 -- there is room for so many rows, of which each has three parts at most, for so many stations, for 256 requests and 34 passes
 pub record HasRoom (row_room station_room rows parts requests stations ended : ℕ) : Type 0 where
   pub for_rows : row_room ≤ rows

@@ -48,9 +48,9 @@ pub struct Checkpoint {
 }
 
 impl Model for Checkpoint {
-    ghost use Rattle.std.specs.Prelude.{◌≤◌, ◌*◌, vec_capacity};
+    ghost use Rattle.std.specs.Prelude.{◌≤◌, ◌*◌, length, vec_capacity};
     ghost use Rattle.checkpoint.specs.Columns.{Columns};
-    ghost use Rattle.checkpoint.specs.Kept.{IsKept, HasRoom};
+    ghost use Rattle.checkpoint.specs.Kept.{IsKept, IsWithinRoom, HasRoom};
 
     ghost Value = { Columns };
 
@@ -68,7 +68,8 @@ impl Model for Checkpoint {
     } };
 
     ghost invariant = { λ c. IsKept c.rows.items c.parts.items c.requests.items c.places.items c.stations.items
-        × HasRoom c.row_room c.station_room (vec_capacity c.rows) (vec_capacity c.parts) (vec_capacity c.requests) (vec_capacity c.stations) (vec_capacity c.ended) };
+        × HasRoom c.row_room c.station_room (vec_capacity c.rows) (vec_capacity c.parts) (vec_capacity c.requests) (vec_capacity c.stations) (vec_capacity c.ended)
+        × IsWithinRoom c.row_room c.station_room (length c.rows.items) (length c.requests.items) (length c.stations.items) (length c.ended.items) };
 }
 
 impl Checkpoint {

@@ -1,6 +1,6 @@
 //! The lines of a base.
 
-ghost use Rattle.std.specs.Prelude.{◌≡◌, ◌<◌, ◌≤◌, [], Some, false, length, map, slice_get};
+ghost use Rattle.std.specs.Prelude.{◌≡◌, ◌+◌, ◌*◌, ◌<◌, ◌≤◌, [], Some, true, false, length, map, slice_get};
 ghost use Rattle.std.specs.Bool.{OnTrue};
 ghost use Rattle.hist_store.specs.TextOfLines.{joined};
 ghost use Rattle.checkpoint.specs.Columns.{kept_base};
@@ -27,6 +27,7 @@ impl Checkpoint {
         requires { HasNothingElsewhere plan.now (kept_base self.now) }
         ensures line { OnTrue result (Some into.new.items ≡ slice_get (base_texts plan.now (kept_base self.now)) i) }
         ensures past { result ≡ false → length (base_texts plan.now (kept_base self.now)) ≤ i }
+        ensures few { result ≡ true → i < 319 + 3 * self.now.row_room + self.now.station_room }
     {
         into.clear();
         if self.is_start {
@@ -58,6 +59,7 @@ impl Checkpoint {
         requires plan { HasNothingElsewhere plan.now (kept_base self.now) }
         ensures line { OnTrue result (Some into.new.items ≡ slice_get (map joined (column_lines plan.now (kept_base self.now))) i) }
         ensures past { result ≡ false → length (column_lines plan.now (kept_base self.now)) ≤ i }
+        ensures few { result ≡ true → i < 290 + 3 * self.now.row_room + self.now.station_room }
     {
         if i < self.parts.len() {
             self.parts[i].put(into);

@@ -2,7 +2,7 @@
 
 ghost use Rattle.std.specs.Prelude.{◌≡◌, ◌≤◌, ℕ, List, true, false, Some, IfOk, IfSome};
 ghost use Rattle.savi_kinds.specs.Ports.{number_of};
-ghost use Rattle.savi_ends.specs.Faults.{Rose};
+ghost use Rattle.savi_ends.specs.Faults.{RoseOnce};
 
 use crate::frames::{FIRST_OF_1, FIRST_OF_2, FIRST_OF_3, SECOND_OF_1, SECOND_OF_2, SECOND_OF_3};
 use crate::held_clock::HeldClock;
@@ -216,7 +216,7 @@ impl<'a> HeldWorld<'a> {
 // Counts an opening that failed.
 fn fault(faults: &mut u64) -> OpenFailed
     ensures later { faults.old ≤ faults.new }
-    ensures rose { Rose faults.old faults.new }
+    ensures once { RoseOnce faults.old faults.new }
 {
     *faults = faults.saturating_add(1);
     OpenFailed

@@ -34,10 +34,9 @@ written_next line xs i x old items new within is was added =
     written_each line xs i x old items new within was (added ∙ ap (λ y. items ++ lines_text (line y ∷ [])) is)
 
 -- the parts of a header, one behind another
-pub header_in_order : (words limits times ports prefixes begin : List (List (List ℕ))) (first second third fourth fifth last : List ℕ) → first ≡ lines_text words → second ≡ first ++ lines_text limits → third ≡ second ++ lines_text times → fourth ≡ third ++ lines_text ports → fifth ≡ fourth ++ lines_text prefixes → last ≡ fifth ++ lines_text begin → last ≡ lines_text (words ++ limits ++ times ++ ports ++ prefixes ++ begin)
-header_in_order words limits times ports prefixes begin first second third fourth fifth last a b c d e f =
+pub header_in_order : (words limits times ports prefixes : List (List (List ℕ))) (first second third fourth last : List ℕ) → first ≡ lines_text words → second ≡ first ++ lines_text limits → third ≡ second ++ lines_text times → fourth ≡ third ++ lines_text ports → last ≡ fourth ++ lines_text prefixes → last ≡ lines_text (words ++ limits ++ times ++ ports ++ prefixes)
+header_in_order words limits times ports prefixes first second third fourth last a b c d e =
     let two = written_more [] first second words limits a b in
     let three = written_more [] second third (words ++ limits) times two c in
     let four = written_more [] third fourth (words ++ limits ++ times) ports three d in
-    let five = written_more [] fourth fifth (words ++ limits ++ times ++ ports) prefixes four e in
-    written_more [] fifth last (words ++ limits ++ times ++ ports ++ prefixes) begin five f
+    written_more [] fourth last (words ++ limits ++ times ++ ports) prefixes four e

@@ -200,13 +200,13 @@ fits_said entry octets (Command stamp at len) fits = fits
 fits_said entry octets (Drain port count) fits = fits
 fits_said entry octets (End who how) fits = fits
 
-fields_said : (entry : Entry) (octets : List ℕ) (act : Act) → act_fields entry octets act ≡ act_fields (entry_said entry) octets (act_said act)
-fields_said entry octets (Frame port stamp at len) = refl
-fields_said entry octets (Long port stamp len) = refl
-fields_said entry octets (Tick stamp) = refl
-fields_said entry octets (Command stamp at len) = refl
-fields_said entry octets (Drain port count) = refl
-fields_said entry octets (End who how) = refl
+pub act_fields_said : (entry : Entry) (octets : List ℕ) (act : Act) → act_fields entry octets act ≡ act_fields (entry_said entry) octets (act_said act)
+act_fields_said entry octets (Frame port stamp at len) = refl
+act_fields_said entry octets (Long port stamp len) = refl
+act_fields_said entry octets (Tick stamp) = refl
+act_fields_said entry octets (Command stamp at len) = refl
+act_fields_said entry octets (Drain port count) = refl
+act_fields_said entry octets (End who how) = refl
 
 pub written_says : (n : ℕ) (row : Row) → n < 2 ^ 64 → IsInRange (entry_said row.entry) → IsBytes row.octets → FitsLine row → SaysEntry (line_text n row) n (row_said row)
 written_says n row small numbers bytes fits = record {
@@ -214,5 +214,5 @@ written_says n row small numbers bytes fits = record {
   numbers = numbers;
   octets = bytes;
   fits = fits_said row.entry row.octets row.entry.act fits;
-  text = ap (λ (fields : List (List ℕ)). joined (decimal n ∷ decimal row.entry.by ∷ decimal row.entry.moment ∷ fields)) (fields_said row.entry row.octets row.entry.act);
+  text = ap (λ (fields : List (List ℕ)). joined (decimal n ∷ decimal row.entry.by ∷ decimal row.entry.moment ∷ fields)) (act_fields_said row.entry row.octets row.entry.act);
 }

@@ -55,7 +55,7 @@ pub word_avoids : (c : ℕ) (t : List ℕ) → c ≤ 32 → IsWord t → Avoids 
 word_avoids c [] low is = tt
 word_avoids c (x ∷ xs) low is = let above : 32 < x = is.0 in (λ same. omega arith, word_avoids c xs low is.1)
 
-avoids_append : (c : ℕ) (s t : List ℕ) → Avoids c s → Avoids c t → Avoids c (s ++ t)
+pub avoids_append : (c : ℕ) (s t : List ℕ) → Avoids c s → Avoids c t → Avoids c (s ++ t)
 avoids_append c [] t a b = b
 avoids_append c (x ∷ s) t a b = (a.0, avoids_append c s t a.1 b)
 
@@ -76,7 +76,8 @@ not_parted c [] (y ∷ a) s p e = cc
 not_parted c (x ∷ w) [] s p e = let heads : x ≡ c = cc in p.0 heads
 not_parted c (x ∷ w) (y ∷ a) s p e = let tails : w ≡ a ++ c ∷ s = cc in not_parted c w a s p.1 tails
 
-joined_avoids : (ws : List (List ℕ)) → IsLine ws → Avoids 10 (joined ws)
+-- no line feed stands in a line
+pub joined_avoids : (ws : List (List ℕ)) → IsLine ws → Avoids 10 (joined ws)
 joined_avoids [] is = absurd is
 joined_avoids (w ∷ []) is = word_avoids 10 w (omega arith) is.0
 joined_avoids (w ∷ v ∷ ws) is =

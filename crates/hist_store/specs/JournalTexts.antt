@@ -1,5 +1,6 @@
--- The journal: what the plan is, then a line for each entry, numbered from 0, and how many there are.
-use Rattle.std.specs.Prelude.{ℕ, ◌+◌, Bool, List, [], ◌∷◌, ◌++◌, length, map, codes, decimal}
+-- The journal: what the plan is, then the segments of the history. A segment has the lines of what it goes on from, of which
+-- the first one has none, then a line for each of its entries, numbered from 0, and how many there are.
+use Rattle.std.specs.Prelude.{ℕ, ◌+◌, ◌≡◌, ◌⊎◌, Bool, List, [], ◌∷◌, ◌++◌, length, map, codes, decimal}
 use Rattle.savi_kinds.specs.declared.plan.Plan.{Plan}
 use Rattle.savi_kinds.specs.declared.plan.PortPlan.{PortPlan}
 use Rattle.savi_kinds.specs.declared.plan.PrefixPlan.{PrefixPlan}
@@ -12,6 +13,8 @@ use Rattle.savi_kinds.specs.declared.address.Prefix.{Prefix}
 use Rattle.savi_kinds.specs.PlanWords.{role_word, method_word, format_word, savi_word, unknown_word}
 use Rattle.savi_kinds.specs.MacText.{mac_text}
 use Rattle.savi_kinds.specs.AddrText.{addr_text}
+use Rattle.hist_store.specs.declared.version.Version.{Version}
+use Rattle.hist_store.specs.declared.version.Version.TheVariants as versions
 use Rattle.hist_store.specs.Rows.{Row}
 use Rattle.hist_store.specs.TextOfLines.{lines_text}
 use Rattle.hist_store.specs.PortTexts.{port_text}
@@ -44,9 +47,13 @@ prefix_fields text_of plan = prefix_line text_of plan.prefix plan.method
 abbrev pub setting : List ℕ → ℕ → List (List ℕ)
 setting name value = name ∷ decimal value ∷ []
 
+abbrev pub version_word : Version → List ℕ
+version_word versions.One = codes "1"
+version_word versions.Two = codes "2"
+
 -- the version of this text
-abbrev pub version_line : List (List ℕ)
-version_line = codes "savi-journal" ∷ codes "1" ∷ []
+abbrev pub version_line : Version → List (List ℕ)
+version_line version = codes "savi-journal" ∷ version_word version ∷ []
 
 -- the switch's own address
 abbrev pub mac_line : Mac → List (List ℕ)
@@ -60,8 +67,8 @@ savi_line savi = codes "savi" ∷ savi_word savi ∷ []
 abbrev pub unknown_line : Bool → List (List ℕ)
 unknown_line drop_unknown = codes "unknown" ∷ unknown_word drop_unknown ∷ []
 
-abbrev pub word_lines : Plan → List (List (List ℕ))
-word_lines plan = version_line ∷ mac_line plan.mac ∷ savi_line plan.savi ∷ unknown_line plan.drop_unknown ∷ []
+abbrev pub word_lines : Version → Plan → List (List (List ℕ))
+word_lines version plan = version_line version ∷ mac_line plan.mac ∷ savi_line plan.savi ∷ unknown_line plan.drop_unknown ∷ []
 
 abbrev pub limit_lines : Plan → List (List (List ℕ))
 limit_lines plan =
@@ -79,29 +86,61 @@ time_lines plan =
     ∷ setting (codes "binding") plan.life
     ∷ []
 
+-- the version, the settings, the ports and the prefixes
+abbrev pub header_lines : Version → (ℕ → List ℕ) → Plan → List (List (List ℕ))
+header_lines version text_of plan = word_lines version plan ++ limit_lines plan ++ time_lines plan ++ map journal_port_fields plan.ports ++ map (prefix_fields text_of) plan.prefixes
+
+-- behind this line the entries of a segment stand
 abbrev pub begin_line : List (List ℕ)
 begin_line = codes "begin" ∷ []
-
--- the settings, the ports and the prefixes, and `begin`
-abbrev pub header_lines : (ℕ → List ℕ) → Plan → List (List (List ℕ))
-header_lines text_of plan = word_lines plan ++ limit_lines plan ++ time_lines plan ++ map journal_port_fields plan.ports ++ map (prefix_fields text_of) plan.prefixes ++ begin_line ∷ []
 
 -- the lines of the entries, the first of which has this number
 abbrev pub entry_lines : ℕ → List Row → List (List (List ℕ))
 entry_lines n [] = []
 entry_lines n (row ∷ rows) = line_fields n row ∷ entry_lines (n + 1) rows
 
+-- how many entries the segment has
 abbrev pub journal_end_line : ℕ → List (List ℕ)
 journal_end_line count = setting (codes "end") count
+
+-- A segment of a history: the lines that say what it goes on from, and its rows, the oldest first. What the lines say is for
+-- those to define who know what a history may go on from.
+pub record Segment : Type 0 where
+  pub base_lines : List (List (List ℕ))
+  pub rows : List Row
+
+-- the first segment goes on from nothing
+abbrev pub first_segment : List Row → Segment
+first_segment rows = record { base_lines = []; rows = rows }
+
+abbrev pub segment_lines : Segment → List (List (List ℕ))
+segment_lines segment = segment.base_lines ++ begin_line ∷ (entry_lines 0 segment.rows ++ journal_end_line (length segment.rows) ∷ [])
+
+-- the lines of these segments, the oldest first
+abbrev pub segments_lines : List Segment → List (List (List ℕ))
+segments_lines [] = []
+segments_lines (segment ∷ later) = segment_lines segment ++ segments_lines later
 
 -- The texts, each line with its line feed.
 
 abbrev pub journal_header_text : (ℕ → List ℕ) → Plan → List ℕ
-journal_header_text text_of plan = lines_text (header_lines text_of plan)
+journal_header_text text_of plan = lines_text (header_lines versions.Two text_of plan)
+
+abbrev pub journal_begin_text : List ℕ
+journal_begin_text = lines_text (begin_line ∷ [])
 
 abbrev pub journal_end_text : ℕ → List ℕ
 journal_end_text count = lines_text (journal_end_line count ∷ [])
 
--- the journal of these rows, the oldest first
-abbrev pub journal_text : (ℕ → List ℕ) → Plan → List Row → List ℕ
-journal_text text_of plan rows = lines_text (header_lines text_of plan ++ entry_lines 0 rows ++ journal_end_line (length rows) ∷ [])
+-- the journal of these segments, the oldest first, in a version of the text
+abbrev pub journal_text_of : Version → (ℕ → List ℕ) → Plan → List Segment → List ℕ
+journal_text_of version text_of plan segments = lines_text (header_lines version text_of plan ++ segments_lines segments)
+
+-- the same as it is written
+abbrev pub journal_text : (ℕ → List ℕ) → Plan → List Segment → List ℕ
+journal_text text_of plan segments = journal_text_of versions.Two text_of plan segments
+
+-- The text stands for the plan and these segments: it is their journal, or, of one segment, a text of version 1.
+abbrev pub StandsFor : (ℕ → List ℕ) → Plan → List Segment → List ℕ → Type 0
+StandsFor text_of plan segments text =
+    (text ≡ journal_text text_of plan segments) ⊎ ((length segments ≡ 1) × (text ≡ journal_text_of versions.One text_of plan segments))

@@ -2,14 +2,15 @@ ghost use Rattle.std.specs.Prelude.{◌≡◌, ◌+◌, ◌*◌, ◌≤◌, [], 
 ghost use Rattle.arrayvec.specs.ArrayVec.{array_vec_len};
 ghost use Rattle.savi_kinds.specs.Characters.{space};
 ghost use Rattle.hist_store.specs.TextOfLines.{lines_text};
-ghost use Rattle.hist_store.specs.JournalTexts.{address_text, journal_end_text, journal_header_text, limit_lines, journal_port_fields, prefix_fields, prefix_text_by, setting, time_lines, word_lines};
+ghost use Rattle.hist_store.specs.declared.version.Version.TheVariants.{Two};
+ghost use Rattle.hist_store.specs.JournalTexts.{address_text, journal_begin_text, journal_end_text, journal_header_text, limit_lines, journal_port_fields, prefix_fields, prefix_text_by, setting, time_lines, word_lines};
 
 use crate::pieces::{JournalLine, put_decimal, put_number, put_octets, put_word};
 use crate::port_fields::put_port_field;
 use savi_kinds::{Addr, Plan, PortPlan, PrefixPlan, put_addr, put_mac, savi_word, unknown_word};
 
-/// Writes the journal's header, in place of what the buffer held: the lines from `savi-journal 1` to `begin`,
-/// each with its line feed. The addresses are written after RFC 5952.
+/// Writes the journal's header, in place of what the buffer held: `savi-journal 2` and the lines of the plan, each with its
+/// line feed. The addresses are written after RFC 5952.
 ///
 /// With at most 16 ports and 32 prefixes, as many as a valid plan has, all lines fit.
 pub fn put_header(plan: &Plan, into: &mut JournalLine)
@@ -23,11 +24,17 @@ pub fn put_header(plan: &Plan, into: &mut JournalLine)
     put_time_lines(into, plan);
     put_port_lines(into, plan.ports.as_slice());
     put_prefix_lines(into, plan.prefixes.as_slice());
+}
+
+/// Writes the line behind which the entries of a segment stand, in place of what the buffer held. It has its line feed. O(1).
+pub fn put_begin(into: &mut JournalLine)
+    ensures { into.new.items ≡ journal_begin_text }
+{
+    into.clear();
     put_octets(into, b"begin\n");
 }
 
-/// Writes the journal's last line, in place of what the buffer held: how many entries there are. It has its
-/// line feed.
+/// Writes the last line of a segment, in place of what the buffer held: how many entries it has. It has its line feed. O(1).
 pub fn put_end(count: u64, into: &mut JournalLine)
     ensures { into.new.items ≡ journal_end_text count }
 {
@@ -38,11 +45,11 @@ pub fn put_end(count: u64, into: &mut JournalLine)
 // Appends the lines whose values are words.
 fn put_word_lines(into: &mut JournalLine, plan: &Plan)
     requires { array_vec_len into.old + 59 ≤ 3400 }
-    ensures text { into.new.items ≡ into.old.items ++ lines_text (word_lines plan.now) }
+    ensures text { into.new.items ≡ into.old.items ++ lines_text (word_lines Two plan.now) }
     ensures size { array_vec_len into.new ≤ array_vec_len into.old + 59 }
 {
     let mac = put_mac(plan.mac);
-    put_octets(into, b"savi-journal 1\n");
+    put_octets(into, b"savi-journal 2\n");
     put_word_line(into, "mac", mac.as_str());
     put_word_line(into, "savi", savi_word(plan.savi));
     put_word_line(into, "unknown", unknown_word(plan.drop_unknown));

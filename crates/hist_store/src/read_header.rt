@@ -1,4 +1,4 @@
-//! The lines of a journal's header and its last line, read one by one.
+//! The lines of a journal's header, and those around the entries of a segment, read one by one.
 //!
 //! Each reader takes exactly the lines that are printed, in their one spelling: whose value would be printed otherwise, as
 //! a MAC address in upper case, is none. The order of the lines is the caller's to keep, but for that of ports and prefixes.
@@ -13,20 +13,29 @@ ghost use Rattle.savi_kinds.specs.declared.port.Port.{Port};
 ghost use Rattle.savi_kinds.specs.MacText.{HasSixOctets};
 ghost use Rattle.savi_kinds.specs.Prefixes.{IsPrefix, first_of};
 ghost use Rattle.savi_kinds.specs.PlanWords.{role_word, method_word, format_word};
+ghost use Rattle.hist_store.specs.declared.version.Version.{Version};
 ghost use Rattle.hist_store.specs.TextOfLines.{joined};
 ghost use Rattle.hist_store.specs.JournalTexts.{address_text, prefix_text_by, version_line, mac_line, savi_line, unknown_line, setting, journal_port_line, prefix_line, begin_line, journal_end_line};
 ghost use Rattle.hist_store.specs.HeaderLines.{IsNextPort, IsNextPrefix};
 
 use crate::read_fields::{behind, is_word, read_number, take_field, take_port};
+use crate::version::Version;
 use savi_kinds::{
     Addr, Format, Mac, Method, Port, Prefix, Role, put_addr, put_mac, read_mac, read_prefix,
 };
 
-/// Whether a line is the first one of a journal. O(1).
-pub fn is_version_line(line: &[u8]) -> bool
-    ensures { IsTrue result ↔ (line.now ≡ joined version_line) }
+/// Reads the first line of a journal: the version of its text. `None` exactly where the line isn't one. O(1).
+pub fn read_version_line(line: &[u8]) -> Option<Version>
+    ensures read { IfSome result (λ version. line.now ≡ joined (version_line version)) }
+    ensures whole { (version : Version) → line.now ≡ joined (version_line version) → result ≡ Some version }
 {
-    is_word(line, "savi-journal 1")
+    if is_word(line, "savi-journal 2") {
+        return Some(Version::Two);
+    }
+    if is_word(line, "savi-journal 1") {
+        return Some(Version::One);
+    }
+    None
 }
 
 /// Reads the line of the switch's own MAC address. `None` exactly where the line isn't one. O(1).
@@ -73,7 +82,7 @@ pub fn read_unknown_line(line: &[u8]) -> Option<bool>
 }
 
 /// Reads the line of a setting of this name, whose value is a number of 64 bits: a limit, a time in ms, or, by the name
-/// `end`, how many entries the journal has. `None` exactly where the line isn't one. O(n).
+/// `end`, how many entries a segment has. `None` exactly where the line isn't one. O(n).
 pub fn read_setting(line: &[u8], name: &str) -> Option<u64>
     ensures read { IfSome result (λ value. (line.now ≡ joined (setting name.now value)) × (value < 2 ^ 64)) }
     ensures whole { (value : ℕ) → value < 2 ^ 64 → line.now ≡ joined (setting name.now value) → result ≡ Some value }
@@ -124,7 +133,7 @@ pub fn read_prefix_line(line: &[u8], last: Option<Prefix>) -> Option<(Prefix, Me
     }
 }
 
-/// Whether a line is the one behind which the entries stand. O(1).
+/// Whether a line is the one behind which the entries of a segment stand. O(1).
 pub fn is_begin_line(line: &[u8]) -> bool
     ensures { IsTrue result ↔ (line.now ≡ joined begin_line) }
 {

@@ -1,5 +1,5 @@
 -- What is computed of an event in a legal history fits its field of a line.
-use Rattle.std.proofs.Common.{◌≡◌, ℕ, ◌-◌, ◌*◌, ◌^◌, ◌<◌, ◌≤◌, if◌then◌else◌, Bool, true, false, Option, Some, None, List, [], ◌∷◌, length, ap, ◌∙◌, arith, length-append}
+use Rattle.std.proofs.Common.{◌≡◌, ℕ, ◌-◌, ◌*◌, ◌^◌, ◌<◌, ◌≤◌, if◌then◌else◌, Bool, true, false, List, [], ◌∷◌, length, arith, length-append}
 use Rattle.std.specs.List.{filter}
 use Rattle.std.proofs.lemmas.Nat.{or_of_16, pow_below}
 use Rattle.std.proofs.lemmas.List.{length-map}
@@ -12,23 +12,13 @@ use Rattle.savi_kinds.specs.declared.entry.Who.{Who}
 use Rattle.savi_kinds.specs.Ports.{number_of}
 use Rattle.savi_kinds.specs.PortSets.{set_of}
 use Rattle.savi_kinds.specs.ValidPlan.{IsValidPlan, numbers_of}
-use Rattle.savi_access.specs.declared.sent.SentProbe.{SentProbe}
-use Rattle.savi_access.specs.Sends.{all_sends}
-use Rattle.savi_access.specs.Bases.{AddrRules, AddrBase}
-use Rattle.savi_access.specs.NamedMarks.{Named}
-use Rattle.savi_access.specs.Tables.{rows_after, rows_at}
-use Rattle.savi_access.specs.Probes.{probes_between}
-use Rattle.savi_access.specs.Limits.{IsAddrBase}
-use Rattle.savi_access.proofs.StatesKept.{base_times}
-use Rattle.savi_access.proofs.Orders.{order-length}
-use Rattle.savi_access.proofs.AllSends.{few_sends, sends-late}
 use Rattle.savi_access.proofs.RowCounts.{few_rows}
 use Rattle.savi_access.specs.Marks.{told}
 use Rattle.savi_access.specs.Plans.{rules_of}
 use Rattle.savi_access.proofs.States.{told_past, told_before}
 use Rattle.hist_store.specs.Rows.{Row}
 use Rattle.savi_history.specs.Accesses.{IsTold}
-use Rattle.checkpoint.specs.Bases.{access_of, empty}
+use Rattle.checkpoint.specs.Bases.{Base, access_of}
 use Rattle.savi_history.specs.Passes.{has_pass, pass_of}
 use Rattle.savi_history.specs.Moments.{last_moment, moment_at}
 use Rattle.savi_history.specs.Vlans.{the_vlan}
@@ -36,12 +26,13 @@ use Rattle.savi_history.specs.Marks.{marks}
 use Rattle.savi_history.specs.Judged.{judged_of}
 use Rattle.savi_history.specs.Offers.{Offer, offer_of, offers, due_by, in_answer, probes_of}
 use Rattle.savi_history.specs.Queues.{is_probed, probe_item, room_at, queue, offered_at, queued_at, lost_at, over_ports, probes, lost}
+use Rattle.savi_history.specs.Limits.{IsWithinLimits}
 use Rattle.savi_history.specs.Legal.{IsLegal}
 use Rattle.savi_history.proofs.Depth.{queue_within}
 use Rattle.savi_history.proofs.Joining.{joined_within, room_low}
-use Rattle.savi_history.proofs.Starting.{empty_within}
 use Rattle.savi_history.proofs.Telling.{AreOctets, told_rightly}
 use Rattle.savi_core.proofs.Places.{length-numbers, pass_within}
+use Rattle.savi_core.proofs.Telling.{few_between, one_answer}
 
 -- the number of a pass
 
@@ -60,73 +51,62 @@ set_fits test (p ∷ ports) = set_more (test (number_of p.number)) (number_of p.
 
 -- the probes that fall due
 
-few_between : (r : AddrRules) (base : AddrBase) (past : List Named) (from t vlan : ℕ) → IsAddrBase r base → from ≤ t → length (probes_between r base past from t vlan) ≤ 3 * length (rows_at r base past from vlan)
-few_between r base past from t vlan is after =
-    let rows = rows_at r base past from vlan in
-    let same : length (probes_between r base past from t vlan) ≡ length (all_sends r.times t rows) = ap length (sends-late r.times (base_times r base is) from t (rows_after r base past vlan) after) ∙ order-length (all_sends r.times t rows) in
-    omega (arith, same, few_sends r.times (base_times r base is) t rows)
-
-one_answer : (o : Option SentProbe) → length (in_answer o) ≤ 1
-one_answer None = omega arith
-one_answer (Some sent) = omega arith
-
-module _ (plan : Plan) (valid : IsValidPlan plan) (past : List Row) (legal : IsLegal plan empty past) (octets_are : AreOctets past) where
-  few_due : (moment : ℕ) → last_moment empty past ≤ moment → length (due_by plan empty past moment) ≤ 3072
+module _ (plan : Plan) (valid : IsValidPlan plan) (base : Base) (within : IsWithinLimits plan base) (past : List Row) (legal : IsLegal plan base past) (octets_are : AreOctets past) where
+  few_due : (moment : ℕ) → last_moment base past ≤ moment → length (due_by plan base past moment) ≤ 3072
   few_due moment later =
       let r = rules_of plan in
-      let base = access_of empty in
-      let all = marks plan empty past in
-      let from = last_moment empty past in
-      let within = empty_within plan valid in
-      let told_is : IsTold plan empty past = told_rightly plan valid empty within past legal octets_are in
+      let access = access_of base in
+      let all = marks plan base past in
+      let from = last_moment base past in
+      let told_is : IsTold plan base past = told_rightly plan valid base within past legal octets_are in
       omega (
         arith,
-        few_between r.addresses base.addresses (told all) from moment the_vlan within.access.addresses later,
-        few_rows r.addresses base.addresses (told all) from the_vlan within.access.addresses (told_past r base all told_is.right) (told_before r base all from told_is.right told_is.last),
+        few_between r.addresses access.addresses (told all) from moment the_vlan within.access.addresses later,
+        few_rows r.addresses access.addresses (told all) from the_vlan within.access.addresses (told_past r access all told_is.right) (told_before r access all from told_is.right told_is.last),
         valid.per_port.1,
       )
 
-  few_probes : (act : Act) (octets : List ℕ) → length (probes_of plan empty past act octets) ≤ 3073
+  few_probes : (act : Act) (octets : List ℕ) → length (probes_of plan base past act octets) ≤ 3073
   few_probes (acts.Frame port stamp at len) octets =
-      let due : length (due_by plan empty past (moment_at empty past stamp)) ≤ 3072 = few_due (moment_at empty past stamp) (omega arith) in
-      let answer = (judged_of plan empty past port stamp octets).probe in
-      omega (arith, due, one_answer answer, length-append (due_by plan empty past (moment_at empty past stamp)) (in_answer answer))
-  few_probes (acts.Long port stamp len) octets = omega (arith, few_due (moment_at empty past stamp) (omega arith))
-  few_probes (acts.Tick stamp) octets = omega (arith, few_due (moment_at empty past stamp) (omega arith))
-  few_probes (acts.Command stamp at len) octets = omega (arith, few_due (moment_at empty past stamp) (omega arith))
+      let due : length (due_by plan base past (moment_at base past stamp)) ≤ 3072 = few_due (moment_at base past stamp) (omega arith) in
+      let answer = (judged_of plan base past port stamp octets).probe in
+      omega (arith, due, one_answer answer, length-append (due_by plan base past (moment_at base past stamp)) (in_answer answer))
+  few_probes (acts.Long port stamp len) octets = omega (arith, few_due (moment_at base past stamp) (omega arith))
+  few_probes (acts.Tick stamp) octets = omega (arith, few_due (moment_at base past stamp) (omega arith))
+  few_probes (acts.Command stamp at len) octets = omega (arith, few_due (moment_at base past stamp) (omega arith))
   few_probes (acts.Drain port count) octets = omega arith
   few_probes (acts.End who how) octets = omega arith
 
-  few_offers : (act : Act) (octets : List ℕ) → length (offers plan empty past act octets) ≤ 3073
+  few_offers : (act : Act) (octets : List ℕ) → length (offers plan base past act octets) ≤ 3073
   unfolding offers
-  few_offers act octets = omega (arith, length-map (probes_of plan empty past act octets) offer_of, few_probes act octets)
+  few_offers act octets = omega (arith, length-map (probes_of plan base past act octets) offer_of, few_probes act octets)
 
   -- no port takes more than the plan's depth, and none is offered more than there is
 
-  queued_few : (act : Act) (octets : List ℕ) (ns : List ℕ) → over_ports ns (queued_at plan empty past act octets) ≤ 256 * length ns
+  queued_few : (act : Act) (octets : List ℕ) (ns : List ℕ) → over_ports ns (queued_at plan base past act octets) ≤ 256 * length ns
   queued_few act octets [] = omega arith
   queued_few act octets (n ∷ ns) =
       omega (
         arith,
         queued_few act octets ns,
         valid.depth.1,
-        joined_within (room_at plan empty past n) plan.depth (queue plan empty n past) (offered_at plan empty past act octets n) (room_low plan empty past n) (queue_within plan empty n past),
+        joined_within (room_at plan base past n) plan.depth (queue plan base n past) (offered_at plan base past act octets n) (room_low plan base past n) (queue_within plan base n past),
       )
 
-  few_offered : (act : Act) (octets : List ℕ) (n : ℕ) → length (offered_at plan empty past act octets n) ≤ 3073
+  few_offered : (act : Act) (octets : List ℕ) (n : ℕ) → length (offered_at plan base past act octets n) ≤ 3073
   few_offered act octets n =
-      let is_for_it : Offer → Bool = λ offer. is_probed plan empty past n offer.probe in
-      let all = offers plan empty past act octets in
+      let is_for_it : Offer → Bool = λ offer. is_probed plan base past n offer.probe in
+      let all = offers plan base past act octets in
       omega (arith, length-map (filter is_for_it all) (probe_item plan), length-filter is_for_it all, count_by-le-length is_for_it all, few_offers act octets)
 
-  lost_few : (act : Act) (octets : List ℕ) (ns : List ℕ) → over_ports ns (lost_at plan empty past act octets) ≤ 3073 * length ns
+  lost_few : (act : Act) (octets : List ℕ) (ns : List ℕ) → over_ports ns (lost_at plan base past act octets) ≤ 3073 * length ns
   lost_few act octets [] = omega arith
   lost_few act octets (n ∷ ns) = omega (arith, lost_few act octets ns, few_offered act octets n)
 
-  pub probes_fit : (act : Act) (octets : List ℕ) → probes plan empty past act octets < 2 ^ 32
+  pub probes_fit : (act : Act) (octets : List ℕ) → probes plan base past act octets < 2 ^ 32
   unfolding probes
   probes_fit act octets = omega (arith, queued_few act octets (numbers_of plan.ports), length-numbers plan.ports, valid.port_count.1)
 
-  pub lost_fits : (act : Act) (octets : List ℕ) → lost plan empty past act octets < 2 ^ 32
+  pub lost_fits : (act : Act) (octets : List ℕ) → lost plan base past act octets < 2 ^ 32
   unfolding lost
   lost_fits act octets = omega (arith, lost_few act octets (numbers_of plan.ports), length-numbers plan.ports, valid.port_count.1)

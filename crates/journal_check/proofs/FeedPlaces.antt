@@ -54,7 +54,7 @@ pub plain_append : (s t : List ℕ) → HasNoFeed s → HasNoFeed t → HasNoFee
 plain_append [] t a b = b
 plain_append (x ∷ s) t a b = (a.0, plain_append s t a.1 b)
 
-no_feed_in : (line octets more : List ℕ) → HasNoFeed octets → octets ≡ line ++ 10 ∷ more → ⊥
+pub no_feed_in : (line octets more : List ℕ) → HasNoFeed octets → octets ≡ line ++ 10 ∷ more → ⊥
 no_feed_in [] [] more plain e = cc
 no_feed_in [] (x ∷ octets) more plain e = let feed : x ≡ 10 = cc in plain.0 feed
 no_feed_in (y ∷ line) [] more plain e = cc

@@ -1,5 +1,5 @@
 -- No line of a journal's header is longer than 3,400 octets.
-use Rattle.std.proofs.Common.{◌≡◌, ◌*◌, ◌^◌, ◌<◌, ◌≤◌, ℕ, Bool, true, false, if◌then◌else◌, List, [], ◌∷◌, ◌++◌, length, map, decimal, codes, All, subst, arith, lit≤, length-append}
+use Rattle.std.proofs.Common.{◌*◌, ◌^◌, ◌<◌, ◌≤◌, ℕ, Bool, true, false, if◌then◌else◌, List, [], ◌∷◌, ◌++◌, length, map, decimal, codes, All, subst, arith, lit≤, length-append}
 use Rattle.std.specs.List.{join_with_byte}
 use Rattle.std.proofs.lemmas.Fmt.{length-decimal-le}
 use Rattle.std.proofs.lemmas.List.Elements.{All-head, All-tail}
@@ -21,8 +21,11 @@ use Rattle.savi_kinds.specs.ValidPlan.{IsPlanPrefix, nets_of}
 use Rattle.savi_kinds.proofs.AddrWritten.{most_len}
 use Rattle.hist_store.specs.TextOfLines.{joined}
 use Rattle.hist_store.specs.PortTexts.{port_text}
-use Rattle.hist_store.specs.JournalTexts.{address_text, prefix_text_by, journal_port_fields, prefix_fields, setting, word_lines, limit_lines, time_lines, begin_line, header_lines}
-use Rattle.journal_check.specs.Headers.{LineFields, IsPlan, ComesNext}
+use Rattle.hist_store.specs.declared.version.Version.{Version}
+use Rattle.hist_store.specs.declared.version.Version.TheVariants.{One, Two}
+use Rattle.hist_store.specs.JournalTexts.{address_text, prefix_text_by, journal_port_fields, prefix_fields, setting, version_word, word_lines, limit_lines, time_lines, begin_line}
+use Rattle.savi_history.proofs.Headers.{seconds_bound}
+use Rattle.journal_check.specs.Headers.{LineFields, IsPlan, ComesNext, plan_lines}
 
 abbrev AreShort : List LineFields → Type 0
 AreShort [] = Unit {0}
@@ -119,9 +122,13 @@ prefixes_short (p ∷ prefixes) are =
       prefixes_short prefixes (All-tail IsPlanPrefix p.prefix (nets_of prefixes) are),
     )
 
-words_short : (plan : Plan) → HasSixOctets plan.mac → AreShort (word_lines plan)
-words_short plan six = (
-  two_short (codes "savi-journal") (codes "1") (lit≤ tt) (lit≤ tt),
+version_short : (version : Version) → length (version_word version) ≤ 100
+version_short One = lit≤ tt
+version_short Two = lit≤ tt
+
+words_short : (version : Version) (plan : Plan) → HasSixOctets plan.mac → AreShort (word_lines version plan)
+words_short version plan six = (
+  two_short (codes "savi-journal") (version_word version) (lit≤ tt) (version_short version),
   (
     two_short (codes "mac") (mac_text plan.mac) (lit≤ tt) (mac_short plan.mac six),
     (
@@ -131,11 +138,8 @@ words_short plan six = (
   ),
 )
 
-life_short : (ms seconds : ℕ) → ms ≡ 1000 * seconds → seconds ≤ 86400 → ms ≤ 86400000
-life_short ms seconds is low = omega (arith, is, low)
-
-header_short : (plan : Plan) → IsPlan plan → AreShort (header_lines address_text plan)
-header_short plan is =
+header_short : (version : Version) (plan : Plan) → IsPlan plan → AreShort (plan_lines version plan)
+header_short version plan is =
     let valid = is.valid in
     let limits : AreShort (limit_lines plan) = (
       setting_short (codes "per_port") plan.per_port 64 (lit≤ tt) valid.per_port.1 (omega arith),
@@ -151,18 +155,18 @@ header_short plan is =
       setting_short (codes "gap") plan.gap 59999 (lit≤ tt) valid.gap.1 (omega arith),
       (
         setting_short (codes "test") plan.test 60000 (lit≤ tt) valid.test.1 (omega arith),
-        (setting_short (codes "binding") plan.life 86400000 (lit≤ tt) (life_short plan.life valid.life.0 valid.life.1 valid.life.2.1) (omega arith), tt),
+        (setting_short (codes "binding") plan.life 86400000 (lit≤ tt) (seconds_bound plan.life valid.life.0 valid.life.1 valid.life.2.1) (omega arith), tt),
       ),
     ) in
     let begin : AreShort (begin_line ∷ []) = (lit≤ tt, tt) in
-    let two = short_append (word_lines plan) (limit_lines plan) (words_short plan is.mac) limits in
-    let three = short_append (word_lines plan ++ limit_lines plan) (time_lines plan) two times in
-    let four = short_append (word_lines plan ++ limit_lines plan ++ time_lines plan) (map journal_port_fields plan.ports) three (ports_short plan.ports) in
-    let five = short_append (word_lines plan ++ limit_lines plan ++ time_lines plan ++ map journal_port_fields plan.ports) (map (prefix_fields address_text) plan.prefixes) four (prefixes_short plan.prefixes valid.plan_prefixes) in
-    short_append (word_lines plan ++ limit_lines plan ++ time_lines plan ++ map journal_port_fields plan.ports ++ map (prefix_fields address_text) plan.prefixes) (begin_line ∷ []) five begin
+    let two = short_append (word_lines version plan) (limit_lines plan) (words_short version plan is.mac) limits in
+    let three = short_append (word_lines version plan ++ limit_lines plan) (time_lines plan) two times in
+    let four = short_append (word_lines version plan ++ limit_lines plan ++ time_lines plan) (map journal_port_fields plan.ports) three (ports_short plan.ports) in
+    let five = short_append (word_lines version plan ++ limit_lines plan ++ time_lines plan ++ map journal_port_fields plan.ports) (map (prefix_fields address_text) plan.prefixes) four (prefixes_short plan.prefixes valid.plan_prefixes) in
+    short_append (word_lines version plan ++ limit_lines plan ++ time_lines plan ++ map journal_port_fields plan.ports ++ map (prefix_fields address_text) plan.prefixes) (begin_line ∷ []) five begin
 
 -- no line that comes next in a header is longer
 pub next_short : (lines : List LineFields) (next : LineFields) → ComesNext lines next → length (joined next) ≤ 3400
 next_short lines next comes =
-    let all = short_behind lines (next ∷ comes.more) (subst AreShort comes.header (header_short comes.plan comes.is_plan)) in
+    let all = short_behind lines (next ∷ comes.more) (subst AreShort comes.header (header_short comes.version comes.plan comes.is_plan)) in
     all.0

@@ -10,26 +10,25 @@ use Rattle.savi_kinds.specs.declared.address.Prefix.{Prefix}
 use Rattle.savi_kinds.specs.Prefixes.{first_of}
 use Rattle.savi_kinds.specs.ValidPlan.{IsPlanPrefix}
 use Rattle.hist_store.specs.TextOfLines.{joined, lines_text}
-use Rattle.hist_store.specs.JournalTexts.{address_text, journal_port_fields, prefix_fields, begin_line, header_lines, journal_header_text}
+use Rattle.hist_store.specs.JournalTexts.{address_text, journal_port_fields, prefix_fields, begin_line}
 use Rattle.hist_store.proofs.LineLemmas.{lines_text-append}
 use Rattle.hist_store.proofs.OnePort.{the_port}
 use Rattle.hist_store.proofs.Words.{IsLine, IsLines, parted}
 use Rattle.savi_ends.specs.Octets.{in_front}
 use Rattle.savi_ends.proofs.Octets.{in_front_again}
 use Rattle.savi_history.specs.Journals.{IsAddress}
-use Rattle.savi_history.proofs.AddressTexts.{written-IsAddressText}
-use Rattle.savi_history.proofs.Fields.{lines_header}
 use Rattle.journal_check.specs.declared.answer.Checked.{Checked}
 use Rattle.journal_check.specs.declared.answer.Checked.TheVariants.{Good, Wrong, BadLine, Failed, NoMemory}
 use Rattle.journal_check.specs.declared.settings.Settings.{Settings}
 use Rattle.journal_check.specs.Feeds.{HasNoFeed, BeginsWithNoLine}
-use Rattle.journal_check.specs.Headers.{LineFields, IsPlan, ComesNext, HasNoNext}
+use Rattle.journal_check.specs.Headers.{LineFields, IsPlan, ComesNext, HasNoNext, plan_lines, head_text}
 use Rattle.journal_check.specs.SettingLines.{setting_lines, AreSettings, IsRead, IsNotNext, before}
 use Rattle.journal_check.specs.ListLines.{list_lines, plan_by, port_by, AreLists, IsNotListed, IsListed}
 use Rattle.journal_check.specs.Answers.{IfRead, IsBadHeader}
 use Rattle.journal_check.proofs.LineFronts.{line_avoids, avoids_plain, plain_avoids}
 use Rattle.journal_check.proofs.FeedPlaces.{in_front_none}
 use Rattle.journal_check.proofs.HeaderSizes.{next_short}
+use Rattle.journal_check.proofs.OneHeader.{head_is}
 use Rattle.journal_check.proofs.NextListed.{not_listed}
 
 -- one more line was taken
@@ -72,7 +71,7 @@ plan_is s ports prefixes a l some = record {
   nameless = ap (λ (ps : List PortPlan). plan_by s ps prefixes) l.nameless;
 }
 
-header_by : (s : Settings) (ports : List PortPlan) (prefixes : List PrefixPlan) → header_lines address_text (plan_by s ports prefixes) ≡ setting_lines s ++ (list_lines ports prefixes ++ begin_line ∷ [])
+header_by : (s : Settings) (ports : List PortPlan) (prefixes : List PrefixPlan) → plan_lines s.version (plan_by s ports prefixes) ≡ setting_lines s ++ (list_lines ports prefixes ++ begin_line ∷ [])
 header_by s ports prefixes = refl
 
 abbrev the_first : PortPlan
@@ -97,7 +96,7 @@ settings_valid s a = plan_is s (the_first ∷ []) [] a first_listed (lit< tt)
 abbrev last_lines : List LineFields
 last_lines = journal_port_fields the_first ∷ begin_line ∷ []
 
-settings_header : (s : Settings) → header_lines address_text (plan_by s (the_first ∷ []) []) ≡ setting_lines s ++ last_lines
+settings_header : (s : Settings) → plan_lines s.version (plan_by s (the_first ∷ []) []) ≡ setting_lines s ++ last_lines
 settings_header s = refl
 
 -- lines, cut in front of one
@@ -119,6 +118,7 @@ comes_some k s a low =
     let cut = cut_at (setting_lines s) k low in (
       cut.next,
       record {
+        version = s.version;
         plan = plan_by s (the_first ∷ []) [];
         is_plan = settings_valid s a;
         more = cut.more ++ last_lines;
@@ -141,7 +141,7 @@ behind_lines (l ∷ ls) ms is = behind_lines ls ms is.1
 
 next_line_is : (lines : List LineFields) (next : LineFields) → ComesNext lines next → IsLine next
 next_line_is lines next comes =
-    let all = behind_lines lines (next ∷ comes.more) (subst IsLines comes.header (lines_header address_text written-IsAddressText comes.plan)) in
+    let all = behind_lines lines (next ∷ comes.more) (subst IsLines comes.header (head_is comes.version comes.plan)) in
     all.0
 
 -- the line that was taken is none that comes next
@@ -172,12 +172,12 @@ front s ports prefixes = setting_lines s ++ list_lines ports prefixes
 list_comes : (s : Settings) (ports : List PortPlan) (prefixes : List PrefixPlan) → AreSettings s → AreLists ports prefixes → (next : LineFields) × ComesNext (front s ports prefixes) next
 list_comes s [] [] a l = (
   journal_port_fields the_first,
-  record { plan = plan_by s (the_first ∷ []) []; is_plan = settings_valid s a; more = begin_line ∷ []; header = refl },
+  record { version = s.version; plan = plan_by s (the_first ∷ []) []; is_plan = settings_valid s a; more = begin_line ∷ []; header = refl },
 )
 list_comes s [] (x ∷ prefixes) a l = let none = l.behind_port (omega arith) in absurd (omega (arith, none))
 list_comes s (p ∷ ports) prefixes a l = (
   begin_line,
-  record { plan = plan_by s (p ∷ ports) prefixes; is_plan = plan_is s (p ∷ ports) prefixes a l (omega arith); more = []; header = refl },
+  record { version = s.version; plan = plan_by s (p ∷ ports) prefixes; is_plan = plan_is s (p ∷ ports) prefixes a l (omega arith); more = []; header = refl },
 )
 
 front_size : (s : Settings) (ports : List PortPlan) (prefixes : List PrefixPlan) → length (front s ports prefixes) ≡ length ports + length prefixes + 11
@@ -227,7 +227,7 @@ list_more line ports prefixes ports' prefixes' whole mid after told taken listed
 
 -- the whole header was taken
 pub told_header : (s : Settings) (ports : List PortPlan) (prefixes : List PrefixPlan) (whole mid after : Option (List ℕ)) → whole ≡ in_front (lines_text (setting_lines s)) mid
-    → mid ≡ in_front (lines_text (list_lines ports prefixes ++ begin_line ∷ [])) after → whole ≡ in_front (journal_header_text address_text (plan_by s ports prefixes)) after
+    → mid ≡ in_front (lines_text (list_lines ports prefixes ++ begin_line ∷ [])) after → whole ≡ in_front (head_text s.version (plan_by s ports prefixes)) after
 told_header s ports prefixes whole mid after first second =
     let lists = list_lines ports prefixes ++ begin_line ∷ [] in
     first ∙ ap (in_front (lines_text (setting_lines s))) second ∙ in_front_again (lines_text (setting_lines s)) (lines_text lists) after

@@ -8,10 +8,14 @@ pub mod OneHeader
 pub mod SaidFields
 pub mod OneFault
 pub mod OneAnswer
+pub mod SegmentTexts
 pub mod OneText
 pub mod GoodJournals
 pub mod Nameless
 pub mod FeedPlaces
+pub mod SeenTexts
+pub mod BaseWords
+pub mod OpeningLines
 pub mod Filling
 pub mod Given
 pub mod ShortLines

@@ -1,13 +1,9 @@
 -- Two fronts of one text, each made of lines: they are the same, or one goes on where the other ends.
 use Rattle.std.proofs.Common.{◌≡◌, ◌⊎◌, ℕ, List, [], ◌∷◌, ◌++◌, refl, ap₂, sym, ◌∙◌, inl, inr, arith, append_assoc}
 use Rattle.hist_store.specs.TextOfLines.{joined, lines_text}
-use Rattle.hist_store.proofs.Words.{Avoids, IsLine, IsLines, word_avoids, parted, joined_same}
+use Rattle.hist_store.proofs.Words.{Avoids, IsLine, IsLines, avoids_append, word_avoids, parted, joined_same}
 use Rattle.journal_check.specs.Feeds.{HasNoFeed}
 use Rattle.journal_check.specs.Headers.{LineFields}
-
-avoids_append : (c : ℕ) (s t : List ℕ) → Avoids c s → Avoids c t → Avoids c (s ++ t)
-avoids_append c [] t a b = b
-avoids_append c (x ∷ s) t a b = (a.0, avoids_append c s t a.1 b)
 
 -- no line has a line feed
 pub line_avoids : (ws : LineFields) → IsLine ws → Avoids 10 (joined ws)

@@ -1,5 +1,5 @@
--- A finished history of a plan is one of the plan without its names, with the same journal.
-use Rattle.std.proofs.Common.{◌≡◌, ◌+◌, ◌*◌, ◌==◌, ◌≤◌, ℕ, List, [], ◌∷◌, ◌++◌, length, map, reverse, refl, ap, sym, ◌∙◌, subst}
+-- The segments of a session of a plan are those of the plan without its names, with the same journal.
+use Rattle.std.proofs.Common.{◌≡◌, ◌+◌, ◌*◌, ◌==◌, ◌≤◌, ℕ, List, [], ◌∷◌, ◌++◌, length, map, reverse, refl, ap, ap₂, sym, ◌∙◌, subst, inl, inr}
 use Rattle.std.specs.List.{list_any}
 use Rattle.std.specs.List.Sorted.{IsStrictlyIncreasing}
 use Rattle.savi_kinds.specs.declared.plan.Plan.{Plan}
@@ -13,12 +13,15 @@ use Rattle.savi_kinds.specs.Ports.{number_of}
 use Rattle.savi_kinds.specs.ValidPlan.{IsValidPlan, IsWithin}
 use Rattle.hist_store.specs.Rows.{Row}
 use Rattle.hist_store.specs.TextOfLines.{lines_text}
-use Rattle.hist_store.specs.JournalTexts.{address_text, begin_line, journal_end_line, entry_lines, header_lines, journal_text, limit_lines, journal_port_fields, prefix_fields, time_lines, word_lines}
+use Rattle.hist_store.specs.declared.version.Version.{Version}
+use Rattle.hist_store.specs.declared.version.Version.TheVariants.{One, Two}
+use Rattle.hist_store.specs.JournalTexts.{Segment, StandsFor, address_text, header_lines, journal_port_fields, journal_text_of, limit_lines, prefix_fields, segments_lines, time_lines, word_lines}
 use Rattle.savi_access.specs.Probes.{HasChanged}
 use Rattle.savi_access.specs.Rules.{AccessRules}
 use Rattle.savi_access.specs.Marks.{Mark, told}
 use Rattle.savi_access.specs.Plans.{rules_of}
-use Rattle.checkpoint.specs.Bases.{Base, access_of, empty}
+use Rattle.checkpoint.specs.Bases.{Base, access_of}
+use Rattle.checkpoint.specs.BaseLines.{base_lines}
 use Rattle.savi_history.specs.Vlans.{the_vlan}
 use Rattle.savi_history.specs.Passes.{has_pass, pass_of, has_ended, AllEnded}
 use Rattle.savi_history.specs.Moments.{last_moment, moment_at}
@@ -27,6 +30,10 @@ use Rattle.savi_history.specs.Events.{Event, Frame, Long, Command, Tick, Drain, 
 use Rattle.savi_history.specs.Queues.{Item}
 use Rattle.savi_history.specs.Legal.{IsOpen, InputsEnded, HasNothingToSend, IsFinished, IsLegal, MayArrive, MayTick, MayEnd, MayCome}
 use Rattle.savi_history.specs.Journals.{without_names, without_port_names}
+use Rattle.savi_segments.specs.Checkpoints.{after}
+use Rattle.savi_segments.specs.Segments.{AreLegal, HasClosed, HasTurned, HaveTurned, IsWholeSession, base_after, joined as all_rows}
+use Rattle.savi_segments.specs.Journals.{journal_segments}
+use Rattle.savi_segments.proofs.SameNames.{after_same, base_lines_same}
 use Rattle.savi_history.proofs.WithoutNames.{numbers_kept, count_kept, rules_kept, marks_kept, queue_kept, row_kept}
 use Rattle.journal_check.specs.Headers.{LineFields}
 use Rattle.journal_check.specs.Laws.{JournalsLackNames, WrittenIsGood}
@@ -158,39 +165,96 @@ port_lines_kept : (ports : List PortPlan) → map journal_port_fields (map witho
 port_lines_kept [] = refl
 port_lines_kept (p ∷ ports) = ap (λ (lines : List LineFields). journal_port_fields p ∷ lines) (port_lines_kept ports)
 
-header_kept : (plan : Plan) → header_lines address_text (without_names plan) ≡ header_lines address_text plan
-header_kept plan =
-    ap (λ (lines : List LineFields). word_lines plan ++ limit_lines plan ++ time_lines plan ++ lines ++ map (prefix_fields address_text) plan.prefixes ++ begin_line ∷ []) (port_lines_kept plan.ports)
-
-journal_kept : (plan : Plan) (rows : List Row) → journal_text address_text (without_names plan) rows ≡ journal_text address_text plan rows
-journal_kept plan rows = ap (λ (lines : List LineFields). lines_text (lines ++ entry_lines 0 rows ++ journal_end_line (length rows) ∷ [])) (header_kept plan)
+header_kept : (version : Version) (plan : Plan) → header_lines version address_text (without_names plan) ≡ header_lines version address_text plan
+header_kept version plan =
+    ap (λ (lines : List LineFields). word_lines version plan ++ limit_lines plan ++ time_lines plan ++ lines ++ map (prefix_fields address_text) plan.prefixes) (port_lines_kept plan.ports)
 
 nameless_twice : (ports : List PortPlan) → map without_port_names (map without_port_names ports) ≡ map without_port_names ports
 nameless_twice [] = refl
 nameless_twice (p ∷ ports) = ap (λ (ps : List PortPlan). without_port_names p ∷ ps) (nameless_twice ports)
 
+bare_twice : (plan : Plan) → without_names (without_names plan) ≡ without_names plan
+bare_twice plan = ap (λ (ps : List PortPlan). record (without_names plan) { ports = ps }) (nameless_twice plan.ports)
+
+-- segments
+
+module _ (plan : Plan) where
+  abbrev bare_plan : Plan
+  bare_plan = without_names plan
+
+  base_kept : (segments : List (List Row)) → base_after bare_plan segments ≡ base_after plan segments
+  base_kept [] = refl
+  base_kept (segment ∷ before) =
+      ap (λ (base : Base). after bare_plan base segment) (base_kept before) ∙ after_same bare_plan plan (bare_twice plan) (base_after plan before) segment
+
+  lines_kept : (segments : List (List Row)) → base_lines bare_plan (base_after bare_plan segments) ≡ base_lines plan (base_after plan segments)
+  lines_kept segments = ap (base_lines bare_plan) (base_kept segments) ∙ base_lines_same bare_plan plan (bare_twice plan) (base_after plan segments)
+
+  segments_kept : (segments : List (List Row)) → journal_segments bare_plan segments ≡ journal_segments plan segments
+  segments_kept [] = refl
+  segments_kept (segment ∷ before) =
+      ap₂ (λ (told : List Segment) (lines : List LineFields). told ++ record { base_lines = lines; rows = reverse segment } ∷ []) (segments_kept before) (lines_kept before)
+
+  legal_all : (segments : List (List Row)) → AreLegal plan segments → AreLegal bare_plan segments
+  legal_all [] legal = tt
+  legal_all (segment ∷ before) legal = (
+    subst (λ (base : Base). IsLegal bare_plan base segment) (sym (base_kept before)) (legal_kept plan (base_after plan before) segment legal.0),
+    legal.1,
+    legal_all before legal.2,
+  )
+
+  finished_all : (segment : List Row) (before : List (List Row)) → IsFinished plan (base_after plan before) segment → IsFinished bare_plan (base_after bare_plan before) segment
+  finished_all segment before finished =
+      subst (λ (base : Base). IsFinished bare_plan base segment) (sym (base_kept before)) (finished_kept plan (base_after plan before) segment finished)
+
+  turned_one : (segments : List (List Row)) → HasTurned plan segments → HasTurned bare_plan segments
+  turned_one [] turned = tt
+  turned_one (segment ∷ before) turned = (finished_all segment before turned.0, turned.1)
+
+  turned_all : (segments : List (List Row)) → HaveTurned plan segments → HaveTurned bare_plan segments
+  turned_all [] turned = tt
+  turned_all (segment ∷ before) turned = (turned_one before turned.0, turned_all before turned.1)
+
+  closed_kept : (segments : List (List Row)) → HasClosed plan segments → HasClosed bare_plan segments
+  closed_kept [] closed = closed
+  closed_kept (segment ∷ before) closed = (finished_all segment before closed.0, closed.1)
+
+  session_kept : (segments : List (List Row)) → IsWholeSession plan segments → IsWholeSession bare_plan segments
+  session_kept segments session =
+      record { legal = legal_all segments session.legal; turned = turned_all segments session.turned; closed = closed_kept segments session.closed }
+
+  journal_kept : (version : Version) (segments : List (List Row))
+      → journal_text_of version address_text bare_plan (journal_segments bare_plan segments) ≡ journal_text_of version address_text plan (journal_segments plan segments)
+  journal_kept version segments =
+      ap₂ (λ (lines : List LineFields) (told : List Segment). lines_text (lines ++ segments_lines told)) (header_kept version plan) (segments_kept segments)
+
+  stands_kept : (segments : List (List Row)) (octets : List ℕ) → StandsFor address_text plan (journal_segments plan segments) octets → StandsFor address_text bare_plan (journal_segments bare_plan segments) octets
+  stands_kept segments octets (inl two) = inl (two ∙ sym (journal_kept Two segments))
+  stands_kept segments octets (inr one) = inr (ap (λ (told : List Segment). length told) (segments_kept segments) ∙ one.0, one.1 ∙ sym (journal_kept One segments))
+
 pub journals_lack_names : JournalsLackNames
-journals_lack_names plan past octets is = record {
+journals_lack_names plan segments octets is = record {
   valid = valid_kept plan is.valid;
   addresses = is.addresses;
-  legal = legal_kept plan empty past is.legal;
-  octets = is.octets;
-  journal = is.journal ∙ sym (journal_kept plan (reverse past));
+  some = is.some;
+  legal = legal_all plan segments is.legal;
+  journal = stands_kept plan segments octets is.journal;
 }
 
 pub written_is_good : WrittenIsGood
-written_is_good plan past octets six is finished =
-    let bare_journal = journals_lack_names plan past octets is in
-    journal_is_good octets (length past) (record {
+written_is_good plan segments octets six is session within =
+    let bare_journal = journals_lack_names plan segments octets is in
+    journal_is_good octets (length (all_rows segments)) (record {
       plan = without_names plan;
-      past = past;
+      segments = segments;
       plan_is = record {
         valid = bare_journal.valid;
         mac = six;
         addresses = bare_journal.addresses;
-        nameless = ap (λ (ps : List PortPlan). record (without_names plan) { ports = ps }) (nameless_twice plan.ports);
+        nameless = bare_twice plan;
       };
       journal = bare_journal;
-      finished = finished_kept plan empty past finished;
+      session = session_kept plan segments session;
       count = refl;
+      within = within;
     })

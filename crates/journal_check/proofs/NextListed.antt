@@ -1,8 +1,8 @@
 -- Which line comes next behind those of ports and prefixes, in the header of a plan.
-use Rattle.std.proofs.Common.{◌≡◌, ◌≢◌, ◌⊎◌, ◌==◌, ◌<◌, ◌≤◌, ℕ, false, List, [], ◌∷◌, ◌++◌, length, map, drop, All, refl, ap, ap₂, sym, ◌∙◌, inl, inr, subst, arith, append_assoc, length-append}
+use Rattle.std.proofs.Common.{◌≡◌, ◌≢◌, ◌⊎◌, ◌<◌, ◌≤◌, ℕ, List, [], ◌∷◌, ◌++◌, length, map, drop, All, refl, ap, ap₂, sym, ◌∙◌, inl, inr, subst, arith, append_assoc, length-append}
 use Rattle.std.specs.List.{AllPairs}
 use Rattle.std.specs.List.Sorted.{IsStrictlyIncreasing}
-use Rattle.std.proofs.lemmas.List.{get_or_at, length-map, map-append}
+use Rattle.std.proofs.lemmas.List.{get_or_at, map-append}
 use Rattle.std.proofs.lemmas.List.Elements.{All-head, All-tail}
 use Rattle.savi_kinds.specs.declared.plan.Plan.{Plan}
 use Rattle.savi_kinds.specs.declared.plan.PortPlan.{PortPlan}
@@ -18,7 +18,9 @@ use Rattle.hist_store.specs.JournalTexts.{address_text, begin_line, journal_port
 use Rattle.hist_store.proofs.HeaderRead.{prefix_read}
 use Rattle.hist_store.proofs.OnePort.{first_apart, port_by_text}
 use Rattle.savi_history.specs.Journals.{IsAddress}
+use Rattle.savi_history.proofs.Headers.{second_apart}
 use Rattle.savi_history.proofs.OneValue.{method_by_text}
+use Rattle.savi_history.proofs.PortPlaces.{length-numbers}
 use Rattle.journal_check.specs.declared.settings.Settings.{Settings}
 use Rattle.journal_check.specs.Headers.{LineFields, ComesNext}
 use Rattle.journal_check.specs.SettingLines.{setting_lines}
@@ -40,9 +42,6 @@ three_same e = record { first = cc; second = cc; rest = cc }
 
 field_same : {s t : List ℕ} {l m : LineFields} {ls ms : List LineFields} → (s ∷ l) ∷ ls ≡ (t ∷ m) ∷ ms → s ≡ t
 field_same e = cc
-
-second_apart : {z x y : ℕ} {s t : List ℕ} → z ∷ x ∷ s ≡ z ∷ y ∷ t → (x == y) ≡ false → ⊥
-second_apart {z} {x} {y} {s} {t} e other = let tails : x ∷ s ≡ y ∷ t = cc in first_apart tails other
 
 -- ports
 
@@ -148,9 +147,6 @@ port_next : (xs : List PrefixPlan) (next : LineFields) (more later : List LineFi
 port_next [] next more later q e = (refl, head_line e)
 port_next (x ∷ xs) next more later q e = absurd (second_apart (field_same e) refl)
 
-numbers_size : (ports : List PortPlan) → length (numbers_of ports) ≡ length ports
-numbers_size ports = length-map ports (λ (p : PortPlan). number_of p.number)
-
 All-middle : (P : Prefix → Type 0) (xs : List Prefix) (x : Prefix) (ys : List Prefix) → All P (xs ++ x ∷ ys) → P x
 All-middle P xs x ys all =
     let size = length-append xs (x ∷ ys) in
@@ -180,8 +176,8 @@ module _ (s : Settings) (ports : List PortPlan) (prefixes : List PrefixPlan) (li
       let valid = comes.is_plan.valid in
       let port = port_next prefixes next comes.more (map journal_port_fields more.later ++ rest) more.next more.mid_is in
       let sizes = ap length more.numbers in
-      let whole = numbers_size comes.plan.ports in
-      let these = numbers_size ports in
+      let whole = length-numbers comes.plan.ports in
+      let these = length-numbers ports in
       let parts = length-append (numbers_of ports) (number_of more.next.number ∷ numbers_of more.later) in
       let most = valid.port_count.1 in
       let may : MayAddPort ports prefixes more.next.number = record {
@@ -220,8 +216,8 @@ module _ (s : Settings) (ports : List PortPlan) (prefixes : List PrefixPlan) (li
   not_behind are none (inr more) = not_port none more
   not_behind are none (inl all) =
       let sizes = ap length all.numbers in
-      let whole = numbers_size comes.plan.ports in
-      let these = numbers_size ports in
+      let whole = length-numbers comes.plan.ports in
+      let these = length-numbers ports in
       let least = comes.is_plan.valid.port_count.0 in
       let some : 0 < length ports = omega (arith, sizes, whole, these, least) in
       let written : AreWritten comes.plan.prefixes = record { plan_prefixes = comes.is_plan.valid.plan_prefixes; addresses = comes.is_plan.addresses } in

@@ -1,114 +1,230 @@
--- A text has one answer. Two pasts are compared from their oldest rows on.
-use Rattle.std.proofs.Common.{◌≡◌, ℕ, List, [], ◌∷◌, ◌++◌, length, refl, ap, sym, ◌∙◌, inl, inr, subst, append_assoc}
+-- A text has one answer. Two histories are compared from their oldest rows on, segment by segment.
+use Rattle.std.proofs.Common.{◌≡◌, ◌⊎◌, ℕ, List, [], ◌∷◌, ◌++◌, length, Option, Some, None, refl, ap, sym, ◌∙◌, inl, inr, subst}
+use Rattle.std.proofs.lemmas.List.{append_cancel_left}
 use Rattle.savi_kinds.specs.declared.plan.Plan.{Plan}
+use Rattle.savi_kinds.specs.ValidPlan.{IsValidPlan}
 use Rattle.hist_store.specs.Rows.{Row}
 use Rattle.hist_store.specs.TextOfLines.{lines_text}
+use Rattle.hist_store.specs.declared.version.Version.{Version}
+use Rattle.hist_store.specs.declared.version.Version.TheVariants.{One, Two}
 use Rattle.hist_store.specs.LineTexts.{line_text}
 use Rattle.hist_store.specs.EntryLines.{SaysEntry, row_said}
-use Rattle.checkpoint.specs.Bases.{empty}
+use Rattle.hist_store.specs.JournalTexts.{journal_end_text}
+use Rattle.checkpoint.specs.Bases.{Base}
+use Rattle.savi_history.specs.Limits.{IsWithinLimits}
 use Rattle.savi_history.specs.Events.{Event, row_of}
 use Rattle.savi_history.specs.Legal.{Stands, IsLegal}
+use Rattle.savi_segments.specs.Segments.{AreLegal, HasTurned, HaveTurned, base_after}
 use Rattle.journal_check.specs.declared.answer.Checked.{Checked}
 use Rattle.journal_check.specs.declared.answer.Checked.TheVariants.{BadLine}
+use Rattle.journal_check.specs.Seen.{seen}
+use Rattle.journal_check.specs.Headers.{plan_lines}
+use Rattle.journal_check.specs.Fronts.{front_lines, opening_lines}
 use Rattle.journal_check.specs.Answers.{past_text, IsAnswerTo, IsBadHeader, IsAnswerBehind}
 use Rattle.journal_check.specs.Laws.{AreSaid, HasOneAnswer}
 use Rattle.journal_check.specs.Differing.{row_event}
 use Rattle.journal_check.proofs.LegalFields.{legal_said}
-use Rattle.journal_check.proofs.OneHeader.{header, bad_once, not_bad, one_plan}
+use Rattle.journal_check.proofs.OneHeader.{bad_once, not_bad, one_plan}
 use Rattle.journal_check.proofs.OneFault.{event_said, stood_event}
-use Rattle.journal_check.proofs.OneAnswer.{entry_once, judge_once, judge_stands}
+use Rattle.journal_check.proofs.OneAnswer.{entry_not_last, entry_once, judge_once, judge_stands, judge_turns}
+use Rattle.journal_check.proofs.SegmentTexts.{behind_opening, behind_row}
 
--- rows behind a past, the oldest first
+abbrev Segments : Type 0
+Segments = List (List Row)
 
--- the row may stand behind the past, and its line says it
-record IsNext (plan : Plan) (past : List Row) (row : Row) : Type 0 where
-  stands : Stands plan empty past row
-  says : SaysEntry (line_text (length past) row) (length past) (row_said row)
+-- what legal segments leave is within the limits
+abbrev pub LeaveWithin : Type 0
+LeaveWithin = (plan : Plan) (segments : Segments) → IsValidPlan plan → AreLegal plan segments → IsWithinLimits plan (base_after plan segments)
 
-abbrev AreNext : Plan → List Row → List Row → Type 0
-AreNext plan past [] = Unit {0}
-AreNext plan past (row ∷ rows) = IsNext plan past row × AreNext plan (row ∷ past) rows
+-- What comes behind a history, the oldest first: a row, or the turn to the next segment.
+abbrev Step : Type 0
+Step = Option Row
 
--- the past behind rows
-abbrev after : List Row → List Row → List Row
-after past [] = past
-after past (row ∷ rows) = after (row ∷ past) rows
+one_not_two : (version : Version) → version ≡ Two → version ≡ One → ⊥
+one_not_two version two one = let apart : Two ≡ One = sym two ∙ one in cc
 
--- the lines of rows, and a rest
-abbrev text_from : List Row → List Row → List ℕ → List ℕ
-text_from past [] rest = rest
-text_from past (row ∷ rows) rest = line_text (length past) row ++ 10 ∷ text_from (row ∷ past) rows rest
+some_segment : (segment : List Row) (before : Segments) → segment ∷ before ≡ [] → ⊥
+some_segment segment before e = cc
 
--- the past, turned, in front of rows
-abbrev turned : List Row → List Row → List Row
-turned [] rows = rows
-turned (row ∷ past) rows = turned past (row ∷ rows)
+-- where a segment is closed the version has a next one
+is_two : (version : Version) (segment : List Row) (before : Segments) → (version ≡ One → segment ∷ before ≡ []) → version ≡ Two
+is_two One segment before one = absurd (some_segment segment before (one refl))
+is_two Two segment before one = refl
 
-next_turned : (plan : Plan) (past rows : List Row) → IsLegal plan empty past → AreSaid past → AreNext plan past rows → AreNext plan [] (turned past rows)
-next_turned plan [] rows legal said next = next
-next_turned plan (row ∷ past) rows legal said next = next_turned plan past (row ∷ rows) legal.1 said.1 (record { stands = legal.0; says = said.0 }, next)
+module _ (version : Version) (plan : Plan) where
+  -- the row may stand behind the past, and its line says it
+  record IsNext (base : Base) (past : List Row) (row : Row) : Type 0 where
+    stands : Stands plan base past row
+    says : SaysEntry (line_text (length past) row) (length past) (row_said row)
 
-after_turned : (past rows : List Row) → after [] (turned past rows) ≡ after past rows
-after_turned [] rows = refl
-after_turned (row ∷ past) rows = after_turned past (row ∷ rows)
+  -- the segment is left for a next one, which the version has
+  record IsLeft (closed : Segments) (past : List Row) : Type 0 where
+    turned : HasTurned plan (past ∷ closed)
+    two : version ≡ Two
 
-line_behind : (text line rest : List ℕ) → text ++ line ++ 10 ∷ [] ++ rest ≡ text ++ (line ++ 10 ∷ rest)
-line_behind text line rest = append_assoc (text ++ line) (10 ∷ []) rest ∙ append_assoc text line (10 ∷ rest)
+  abbrev AreNext : Segments → List Row → List Step → Type 0
+  AreNext closed past [] = Unit {0}
+  AreNext closed past (Some row ∷ steps) = IsNext (base_after plan closed) past row × AreNext closed (row ∷ past) steps
+  AreNext closed past (None ∷ steps) = IsLeft closed past × AreNext (past ∷ closed) [] steps
 
-text_turned : (plan : Plan) (past rows : List Row) (rest : List ℕ) → past_text plan past ++ text_from past rows rest ≡ lines_text (header plan) ++ text_from [] (turned past rows) rest
-text_turned plan [] rows rest = refl
-text_turned plan (row ∷ past) rows rest =
-    line_behind (past_text plan past) (line_text (length past) row) (text_from (row ∷ past) rows rest) ∙ text_turned plan past (row ∷ rows) rest
+  -- the lines of the steps, and a rest
+  abbrev text_from : Segments → List Row → List Step → List ℕ → List ℕ
+  text_from closed past [] rest = rest
+  text_from closed past (Some row ∷ steps) rest = line_text (length past) row ++ 10 ∷ text_from closed (row ∷ past) steps rest
+  text_from closed past (None ∷ steps) rest =
+      journal_end_text (length past) ++ (lines_text (opening_lines plan (base_after plan (past ∷ closed))) ++ text_from (past ∷ closed) [] steps rest)
 
--- two rows with one line behind one past
-row_once : (plan : Plan) (past : List Row) (a b : Row) → IsNext plan past a → IsNext plan past b → row_said a ≡ row_said b → a ≡ b
-row_once plan past a b next next' same =
-    let event : next.stands.0 ≡ next'.stands.0 =
-    sym (stood_event plan past a next.stands) ∙ sym (event_said a) ∙ ap row_event same ∙ event_said b ∙ stood_event plan past b next'.stands in
-    next.stands.2 ∙ ap (λ (e : Event). row_of plan empty past e) event ∙ sym next'.stands.2
+  -- what is answered of the rest behind the steps
+  abbrev IsAnswerFrom : Segments → List Row → List Step → List ℕ → Checked → Type 0
+  IsAnswerFrom closed past [] rest a = IsAnswerTo version plan closed past rest a
+  IsAnswerFrom closed past (Some row ∷ steps) rest a = IsAnswerFrom closed (row ∷ past) steps rest a
+  IsAnswerFrom closed past (None ∷ steps) rest a = IsAnswerFrom (past ∷ closed) [] steps rest a
 
-once_from : (plan : Plan) (past rows rows' : List Row) (rest rest' : List ℕ) (a b : Checked) → AreNext plan past rows → AreNext plan past rows' → text_from past rows rest ≡ text_from past rows' rest'
-    → IsAnswerTo plan (after past rows) rest a → IsAnswerTo plan (after past rows') rest' b → a ≡ b
-once_from plan past [] [] rest rest' a b next next' text judges judges' =
-    judge_once plan past rest a b judges (subst (λ (t : List ℕ). IsAnswerTo plan past t b) (sym text) judges')
-once_from plan past [] (row ∷ rows) rest rest' a b next next' text judges judges' =
-    absurd (judge_stands plan past rest (text_from (row ∷ past) rows rest') row a next'.0.stands next'.0.says text judges)
-once_from plan past (row ∷ rows) [] rest rest' a b next next' text judges judges' =
-    absurd (judge_stands plan past rest' (text_from (row ∷ past) rows rest) row b next.0.stands next.0.says (sym text) judges')
-once_from plan past (row ∷ rows) (row' ∷ rows') rest rest' a b next next' text judges judges' =
-    let parts = entry_once (line_text (length past) row) (line_text (length past) row') (length past) (row_said row) (row_said row')
-    (text_from (row ∷ past) rows rest) (text_from (row' ∷ past) rows' rest') next.0.says next'.0.says text in
-    let same : row ≡ row' = row_once plan past row row' next.0 next'.0 parts.0 in
-    let next'' = subst (λ (r : Row). AreNext plan (r ∷ past) rows') (sym same) next'.1 in
-    let text' : text_from (row ∷ past) rows rest ≡ text_from (row ∷ past) rows' rest' = parts.1 ∙ ap (λ (r : Row). text_from (r ∷ past) rows' rest') (sym same) in
-    let judges'' = subst (λ (r : Row). IsAnswerTo plan (after (r ∷ past) rows') rest' b) (sym same) judges' in
-    once_from plan (row ∷ past) rows rows' rest rest' a b next.1 next'' text' judges judges''
+  -- the rows of a past, the oldest first, in front of steps
+  abbrev rows_before : List Row → List Step → List Step
+  rows_before [] steps = steps
+  rows_before (row ∷ past) steps = rows_before past (Some row ∷ steps)
+
+  -- the segments, the oldest first, in front of steps
+  abbrev segments_before : Segments → List Step → List Step
+  segments_before [] steps = steps
+  segments_before (segment ∷ before) steps = segments_before before (rows_before segment (None ∷ steps))
+
+  -- all steps of a history
+  abbrev all_steps : Segments → List Row → List Step
+  all_steps closed past = segments_before closed (rows_before past [])
+
+  next_rows : (closed : Segments) (past : List Row) (steps : List Step) → IsLegal plan (base_after plan closed) past → AreSaid past → AreNext closed past steps → AreNext closed [] (rows_before past steps)
+  next_rows closed [] steps legal said next = next
+  next_rows closed (row ∷ past) steps legal said next = next_rows closed past (Some row ∷ steps) legal.1 said.1 (record { stands = legal.0; says = said.0 }, next)
+
+  text_rows : (closed : Segments) (past : List Row) (steps : List Step) (rest : List ℕ)
+      → past_text version plan closed past ++ text_from closed past steps rest ≡ past_text version plan closed [] ++ text_from closed [] (rows_before past steps) rest
+  text_rows closed [] steps rest = refl
+  text_rows closed (row ∷ past) steps rest =
+      behind_row (past_text version plan closed past) (line_text (length past) row) (text_from closed (row ∷ past) steps rest) ∙ text_rows closed past (Some row ∷ steps) rest
+
+  answer_rows : (closed : Segments) (past : List Row) (steps : List Step) (rest : List ℕ) (a : Checked) → IsAnswerFrom closed past steps rest a → IsAnswerFrom closed [] (rows_before past steps) rest a
+  answer_rows closed [] steps rest a is = is
+  answer_rows closed (row ∷ past) steps rest a is = answer_rows closed past (Some row ∷ steps) rest a is
+
+  module _ (within : LeaveWithin) (valid : IsValidPlan plan) where
+    said_in : (segment : List Row) (before : Segments) → AreLegal plan (segment ∷ before) → AreSaid segment
+    said_in segment before legal = legal_said plan valid (base_after plan before) (within plan before valid legal.2) segment legal.0 legal.1
+
+    next_segments : (closed : Segments) (steps : List Step) → AreLegal plan closed → HaveTurned plan closed → HasTurned plan closed → (version ≡ One → closed ≡ []) → AreNext closed [] steps → AreNext [] [] (segments_before closed steps)
+    next_segments [] steps legal turned last one next = next
+    next_segments (segment ∷ before) steps legal turned last one next =
+        let two : version ≡ Two = is_two version segment before one in
+        next_segments before (rows_before segment (None ∷ steps)) legal.2 turned.1 turned.0 (λ is. absurd (one_not_two version two is))
+        (next_rows before segment (None ∷ steps) legal.0 (said_in segment before legal) (record { turned = last; two = two }, next))
+
+  text_segments : (closed : Segments) (steps : List Step) (rest : List ℕ)
+      → past_text version plan closed [] ++ text_from closed [] steps rest ≡ past_text version plan [] [] ++ text_from [] [] (segments_before closed steps) rest
+  text_segments [] steps rest = refl
+  text_segments (segment ∷ before) steps rest =
+      behind_opening version plan before segment (text_from (segment ∷ before) [] steps rest)
+      ∙ text_rows before segment (None ∷ steps) rest
+      ∙ text_segments before (rows_before segment (None ∷ steps)) rest
+
+  answer_segments : (closed : Segments) (steps : List Step) (rest : List ℕ) (a : Checked) → IsAnswerFrom closed [] steps rest a → IsAnswerFrom [] [] (segments_before closed steps) rest a
+  answer_segments [] steps rest a is = is
+  answer_segments (segment ∷ before) steps rest a is =
+      answer_segments before (rows_before segment (None ∷ steps)) rest a (answer_rows before segment (None ∷ steps) rest a is)
+
+  -- two rows with one line behind one past
+  row_once : (base : Base) (past : List Row) (a b : Row) → IsNext base past a → IsNext base past b → row_said a ≡ row_said b → a ≡ b
+  row_once base past a b next next' same =
+      let event : next.stands.0 ≡ next'.stands.0 =
+      sym (stood_event plan base past a next.stands) ∙ sym (event_said a) ∙ ap row_event same ∙ event_said b ∙ stood_event plan base past b next'.stands in
+      next.stands.2 ∙ ap (λ (e : Event). row_of plan base past e) event ∙ sym next'.stands.2
+
+  -- a row and a turn have no text in common
+  row_or_turn : (closed : Segments) (past : List Row) (row : Row) (more rest : List ℕ) → IsNext (base_after plan closed) past row → line_text (length past) row ++ 10 ∷ more ≡ journal_end_text (length past) ++ rest → ⊥
+  row_or_turn closed past row more rest next e = entry_not_last (line_text (length past) row) (length past) (length past) (row_said row) more rest next.says e
+
+  once_from : (closed : Segments) (past : List Row) (steps steps' : List Step) (rest rest' : List ℕ) (a b : Checked) → AreNext closed past steps → AreNext closed past steps'
+      → text_from closed past steps rest ≡ text_from closed past steps' rest' → IsAnswerFrom closed past steps rest a → IsAnswerFrom closed past steps' rest' b → a ≡ b
+  once_from closed past [] [] rest rest' a b next next' text judges judges' =
+      judge_once version plan closed past rest a b judges (subst (λ (t : List ℕ). IsAnswerTo version plan closed past t b) (sym text) judges')
+  once_from closed past [] (Some row ∷ steps) rest rest' a b next next' text judges judges' =
+      absurd (judge_stands version plan closed past rest (text_from closed (row ∷ past) steps rest') row a next'.0.stands next'.0.says text judges)
+  once_from closed past [] (None ∷ steps) rest rest' a b next next' text judges judges' =
+      absurd (judge_turns version plan closed past rest (text_from (past ∷ closed) [] steps rest') a next'.0.turned next'.0.two text judges)
+  once_from closed past (Some row ∷ steps) [] rest rest' a b next next' text judges judges' =
+      absurd (judge_stands version plan closed past rest' (text_from closed (row ∷ past) steps rest) row b next.0.stands next.0.says (sym text) judges')
+  once_from closed past (None ∷ steps) [] rest rest' a b next next' text judges judges' =
+      absurd (judge_turns version plan closed past rest' (text_from (past ∷ closed) [] steps rest) b next.0.turned next.0.two (sym text) judges')
+  once_from closed past (Some row ∷ steps) (None ∷ steps') rest rest' a b next next' text judges judges' =
+      absurd (row_or_turn closed past row (text_from closed (row ∷ past) steps rest) (lines_text (opening_lines plan (base_after plan (past ∷ closed))) ++ text_from (past ∷ closed) [] steps' rest') next.0 text)
+  once_from closed past (None ∷ steps) (Some row ∷ steps') rest rest' a b next next' text judges judges' =
+      absurd (row_or_turn closed past row (text_from closed (row ∷ past) steps' rest') (lines_text (opening_lines plan (base_after plan (past ∷ closed))) ++ text_from (past ∷ closed) [] steps rest) next'.0 (sym text))
+  once_from closed past (None ∷ steps) (None ∷ steps') rest rest' a b next next' text judges judges' =
+      let opening = lines_text (opening_lines plan (base_after plan (past ∷ closed))) in
+      let one = text_from (past ∷ closed) [] steps rest in
+      let other = text_from (past ∷ closed) [] steps' rest' in
+      once_from (past ∷ closed) [] steps steps' rest rest' a b next.1 next'.1
+      (append_cancel_left opening one other (append_cancel_left (journal_end_text (length past)) (opening ++ one) (opening ++ other) text)) judges judges'
+  once_from closed past (Some row ∷ steps) (Some row' ∷ steps') rest rest' a b next next' text judges judges' =
+      let base = base_after plan closed in
+      let parts = entry_once (line_text (length past) row) (line_text (length past) row') (length past) (row_said row) (row_said row')
+      (text_from closed (row ∷ past) steps rest) (text_from closed (row' ∷ past) steps' rest') next.0.says next'.0.says text in
+      let same : row ≡ row' = row_once base past row row' next.0 next'.0 parts.0 in
+      let next'' = subst (λ (r : Row). AreNext closed (r ∷ past) steps') (sym same) next'.1 in
+      let text' : text_from closed (row ∷ past) steps rest ≡ text_from closed (row ∷ past) steps' rest' = parts.1 ∙ ap (λ (r : Row). text_from closed (r ∷ past) steps' rest') (sym same) in
+      let judges'' = subst (λ (r : Row). IsAnswerFrom closed (r ∷ past) steps' rest' b) (sym same) judges' in
+      once_from closed (row ∷ past) steps steps' rest rest' a b next.1 next'' text' judges judges''
 
 -- whole texts
 
-whole_text : (octets : List ℕ) (a : Checked) (x : IsAnswerBehind octets a) → octets ≡ lines_text (header x.plan) ++ text_from [] (turned x.past []) x.rest
-whole_text octets a x = x.begins.text ∙ text_turned x.plan x.past [] x.rest
+module _ (within : LeaveWithin) (octets : List ℕ) (a : Checked) (x : IsAnswerBehind octets a) where
+  abbrev steps_of : List Step
+  steps_of = all_steps x.version x.plan x.closed x.past
 
-whole_next : (octets : List ℕ) (a : Checked) (x : IsAnswerBehind octets a) → AreNext x.plan [] (turned x.past [])
-whole_next octets a x = next_turned x.plan x.past [] x.begins.legal (legal_said x.plan x.begins.plan_is.valid x.past x.begins.legal x.begins.bytes) tt
+  whole_text : octets ≡ lines_text (plan_lines x.version x.plan) ++ text_from x.version x.plan [] [] steps_of x.rest
+  whole_text =
+      x.begins.text ∙ text_rows x.version x.plan x.closed x.past [] x.rest
+      ∙ text_segments x.version x.plan x.closed (rows_before x.version x.plan x.past []) x.rest
 
-whole_judges : (octets : List ℕ) (a : Checked) (x : IsAnswerBehind octets a) → IsAnswerTo x.plan (after [] (turned x.past [])) x.rest a
-whole_judges octets a x = subst (λ (past : List Row). IsAnswerTo x.plan past x.rest a) (sym (after_turned x.past [])) x.judges
+  whole_next : AreNext x.version x.plan [] [] steps_of
+  whole_next =
+      let valid = x.begins.plan_is.valid in
+      next_segments x.version x.plan within valid x.closed (rows_before x.version x.plan x.past []) x.begins.legal.2 x.begins.turned.1 x.begins.turned.0 x.begins.one
+      (next_rows x.version x.plan x.closed x.past [] x.begins.legal.0 (said_in x.version x.plan within valid x.past x.closed x.begins.legal) tt)
 
-behind_once : (octets : List ℕ) (a b : Checked) → IsAnswerBehind octets a → IsAnswerBehind octets b → a ≡ b
-behind_once octets a b x y =
-    let rows = turned x.past [] in
-    let rows' = turned y.past [] in
-    let parts = one_plan x.plan y.plan (text_from [] rows x.rest) (text_from [] rows' y.rest) x.begins.plan_is y.begins.plan_is (sym (whole_text octets a x) ∙ whole_text octets b y) in
-    let next = subst (λ (p : Plan). AreNext p [] rows') (sym parts.0) (whole_next octets b y) in
-    let judges = subst (λ (p : Plan). IsAnswerTo p (after [] rows') y.rest b) (sym parts.0) (whole_judges octets b y) in
-    once_from x.plan [] rows rows' x.rest y.rest a b (whole_next octets a x) next parts.1 (whole_judges octets a x) judges
+  whole_judges : IsAnswerFrom x.version x.plan [] [] steps_of x.rest a
+  whole_judges =
+      answer_segments x.version x.plan x.closed (rows_before x.version x.plan x.past []) x.rest a (answer_rows x.version x.plan x.closed x.past [] x.rest a x.judges)
 
-header_apart : (octets : List ℕ) (a b : Checked) → IsBadHeader octets a → IsAnswerBehind octets b → ⊥
-header_apart octets a b x y = not_bad octets x.0 y.plan (text_from [] (turned y.past []) y.rest) x.1 y.begins.plan_is (whole_text octets b y)
+-- two answers behind one header
+record IsFrom (version : Version) (plan : Plan) (steps : List Step) (rest : List ℕ) (a : Checked) : Type 0 where
+  next : AreNext version plan [] [] steps
+  judges : IsAnswerFrom version plan [] [] steps rest a
 
-pub one_answer : HasOneAnswer
-one_answer octets a b (inl x) (inl y) = x.2 ∙ ap BadLine (bad_once octets x.0 y.0 x.1 y.1) ∙ sym y.2
-one_answer octets a b (inl x) (inr y) = absurd (header_apart octets a b x y)
-one_answer octets a b (inr x) (inl y) = absurd (header_apart octets b a y x)
-one_answer octets a b (inr x) (inr y) = behind_once octets a b x y
+behind_once : LeaveWithin → (octets : List ℕ) (a b : Checked) → IsAnswerBehind octets a → IsAnswerBehind octets b → a ≡ b
+behind_once within octets a b x y =
+    let steps = steps_of within octets a x in
+    let steps' = steps_of within octets b y in
+    let same = one_plan x.version y.version x.plan y.plan (text_from x.version x.plan [] [] steps x.rest) (text_from y.version y.plan [] [] steps' y.rest) x.begins.plan_is y.begins.plan_is
+    (sym (whole_text within octets a x) ∙ whole_text within octets b y) in
+    let other : IsFrom y.version y.plan steps' y.rest b = record { next = whole_next within octets b y; judges = whole_judges within octets b y } in
+    let other' : IsFrom x.version x.plan steps' y.rest b =
+    subst (λ (v : Version). IsFrom v x.plan steps' y.rest b) (sym same.versions) (subst (λ (p : Plan). IsFrom y.version p steps' y.rest b) (sym same.plans) other) in
+    let text : text_from x.version x.plan [] [] steps x.rest ≡ text_from x.version x.plan [] [] steps' y.rest =
+    same.rests ∙ ap (λ (p : Plan). text_from y.version p [] [] steps' y.rest) (sym same.plans)
+    ∙ ap (λ (v : Version). text_from v x.plan [] [] steps' y.rest) (sym same.versions) in
+    once_from x.version x.plan [] [] steps steps' x.rest y.rest a b (whole_next within octets a x) other'.next text (whole_judges within octets a x) other'.judges
+
+header_apart : LeaveWithin → (octets : List ℕ) (a b : Checked) → IsBadHeader octets a → IsAnswerBehind octets b → ⊥
+header_apart within octets a b x y =
+    not_bad octets x.0 y.version y.plan (text_from y.version y.plan [] [] (steps_of within octets b y) y.rest) x.1 y.begins.plan_is (whole_text within octets b y)
+
+-- an answer of the octets that are seen
+pub seen_once : LeaveWithin → (octets : List ℕ) (a b : Checked) → IsBadHeader octets a ⊎ IsAnswerBehind octets a → IsBadHeader octets b ⊎ IsAnswerBehind octets b → a ≡ b
+seen_once within octets a b (inl x) (inl y) = x.2 ∙ ap BadLine (bad_once octets x.0 y.0 x.1 y.1) ∙ sym y.2
+seen_once within octets a b (inl x) (inr y) = absurd (header_apart within octets a b x y)
+seen_once within octets a b (inr x) (inl y) = absurd (header_apart within octets b a y x)
+seen_once within octets a b (inr x) (inr y) = behind_once within octets a b x y
+
+pub one_answer : LeaveWithin → HasOneAnswer
+one_answer within = λ octets a b x y. seen_once within (seen octets) a b x y

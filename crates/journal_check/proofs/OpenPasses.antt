@@ -17,12 +17,12 @@ use Rattle.hist_store.specs.Rows.{Row}
 use Rattle.hist_store.specs.EndTexts.{IsReasonOf}
 use Rattle.hist_store.specs.EntryLines.{IsHowInRange}
 use Rattle.checkpoint.specs.Bases.{Base}
-use Rattle.savi_history.specs.Passes.{has_pass, has_port, pass_of, place_of, egress_pass, has_ended, AllEnded}
+use Rattle.savi_history.specs.Passes.{has_pass, pass_of, place_of, egress_pass, has_ended, AllEnded}
 use Rattle.savi_history.specs.Endings.{has_pause}
 use Rattle.savi_history.specs.Legal.{IsOpen, IsFinished, MayEnd}
-use Rattle.savi_history.proofs.PassNumbers.{number_at, known_at, place_at}
+use Rattle.savi_history.proofs.PassNumbers.{number_at, place_at}
 use Rattle.savi_core.specs.Counts.{open_below}
-use Rattle.savi_core.proofs.Counting.{open_below-some}
+use Rattle.savi_core.proofs.Counting.{all_ended}
 use Rattle.journal_check.specs.EgressEnds.{HaveEgressEnded}
 
 pub open_iff : (plan : Plan) (base : Base) (past : List Row) (who : Who) (ended : Bool) → has_pass plan who ≡ true → ended ≡ has_ended base (pass_of plan who) past → IsTrue (not ended) ↔ IsOpen plan base past who
@@ -32,14 +32,7 @@ open_iff plan base past who false known is = (λ yes. record { known = known; ru
 pub closed_iff : (plan : Plan) (base : Base) (past : List Row) (who : Who) → has_pass plan who ≡ false → IsTrue false ↔ IsOpen plan base past who
 closed_iff plan base past who unknown = (λ no. absurd (true≢false (sym no)), λ open_pass. absurd (true≢false (sym open_pass.known ∙ unknown)))
 
--- all have ended where none is open
-
-ended_at : (base : Base) (past : List Row) (n pass : ℕ) (b : Bool) → open_below base past n ≡ 0 → pass < n → has_ended base pass past ≡ b → has_ended base pass past ≡ true
-ended_at base past n pass true none within is = is
-ended_at base past n pass false none within is = let some = open_below-some base past pass n within is in absurd (omega (arith, some, none))
-
-pub ended_all : (base : Base) (past : List Row) (n : ℕ) → open_below base past n ≡ 0 → AllEnded base n past
-ended_all base past n none = λ pass within. ended_at base past n pass (has_ended base pass past) none within refl
+-- none is open where all have ended
 
 pub none_open : (base : Base) (past : List Row) (n : ℕ) → AllEnded base n past → open_below base past n ≡ 0
 none_open base past zero all = refl
@@ -76,7 +69,7 @@ egress_ended plan base past all = λ place within. all (length plan.ports + 2 + 
 pub through : (plan : Plan) (base : Base) (past : List Row) → open_below base past (length plan.ports + 1) ≡ 0 → has_ended base (length plan.ports + 1) past ≡ true → AllEnded base (length plan.ports + 1 + 1) past
 through plan base past none ticker = λ pass within.
     elim (cases_lt pass (length plan.ports + 1)) [
-      | inl input ↦ ended_all base past (length plan.ports + 1) none pass input
+      | inl input ↦ all_ended base past (length plan.ports + 1) none pass input
       | inr behind ↦ let number : length plan.ports + 1 ≡ pass = omega (arith, within, behind) in subst (λ (n : ℕ). has_ended base n past ≡ true) number ticker
     ]
 
@@ -113,9 +106,6 @@ may_other plan base past (passes.Egress port) hows.Unwritten reason range not_en
 
 number_there : (plan : Plan) (k : ℕ) (p : PortPlan) → k < length plan.ports → p ≡ get_or plan.ports k p → number_at plan k ≡ number_of p.number
 number_there plan k p within is = get_or-map (λ (q : PortPlan). number_of q.number) plan.ports k p 0 within ∙ ap (λ (q : PortPlan). number_of q.number) (sym is)
-
-pub known_there : (plan : Plan) (k : ℕ) (p : PortPlan) → k < length plan.ports → p ≡ get_or plan.ports k p → has_port plan (number_of p.number) ≡ true
-known_there plan k p within is = subst (λ (n : ℕ). has_port plan n ≡ true) (number_there plan k p within is) (known_at plan k within)
 
 pub egress_there : (plan : Plan) (k : ℕ) (p : PortPlan) → IsStrictlyIncreasing (numbers_of plan.ports) → k < length plan.ports → p ≡ get_or plan.ports k p → egress_pass plan (number_of p.number) ≡ length plan.ports + 2 + k
 egress_there plan k p rising within is =

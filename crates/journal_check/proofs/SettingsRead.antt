@@ -7,9 +7,10 @@ use Rattle.savi_kinds.specs.MacText.{HasSixOctets}
 use Rattle.savi_kinds.specs.Macs.{is_group}
 use Rattle.savi_kinds.specs.ValidPlan.{IsValidPlan, IsWithin, IsSeconds}
 use Rattle.hist_store.specs.TextOfLines.{joined}
-use Rattle.hist_store.specs.JournalTexts.{address_text, header_lines, setting}
+use Rattle.hist_store.specs.declared.version.Version.{Version}
+use Rattle.hist_store.specs.JournalTexts.{setting, version_line}
 use Rattle.journal_check.specs.declared.settings.Settings.{Settings}
-use Rattle.journal_check.specs.Headers.{LineFields, ComesNext}
+use Rattle.journal_check.specs.Headers.{LineFields, ComesNext, plan_lines}
 use Rattle.journal_check.specs.SettingLines.{setting_lines, AreSettings, before, IsNotNext}
 
 -- the line behind the first k lines
@@ -19,7 +20,7 @@ nth_at [] next more (suc k) low = absurd (omega (arith, low))
 nth_at (y ∷ ys) next more (suc k) low = nth_at ys next more k (omega (arith, low))
 
 -- what comes next is the line of the plan with that number
-pub next_is : (settings : Settings) (k : ℕ) (next : LineFields) (comes : ComesNext (before k settings) next) → k ≤ 11 → get_or (header_lines address_text comes.plan) k [] ≡ next
+pub next_is : (settings : Settings) (k : ℕ) (next : LineFields) (comes : ComesNext (before k settings) next) → k ≤ 11 → get_or (plan_lines comes.version comes.plan) k [] ≡ next
 next_is settings k next comes low = ap (λ (lines : List LineFields). get_or lines k []) comes.header ∙ nth_at (setting_lines settings) next comes.more k low
 
 -- what was read can't be none
@@ -30,7 +31,7 @@ value_same : {name a b : List ℕ} → name ∷ a ∷ [] ≡ name ∷ b ∷ [] �
 value_same e = cc
 
 -- a line that is none in the place of line k
-pub line_not : (settings : Settings) (k : ℕ) (line : List ℕ) → k ≤ 11 → ((next : LineFields) (comes : ComesNext (before k settings) next) → line ≡ joined (get_or (header_lines address_text comes.plan) k []) → ⊥) → IsNotNext k line settings
+pub line_not : (settings : Settings) (k : ℕ) (line : List ℕ) → k ≤ 11 → ((next : LineFields) (comes : ComesNext (before k settings) next) → line ≡ joined (get_or (plan_lines comes.version comes.plan) k []) → ⊥) → IsNotNext k line settings
 line_not settings k line low none = λ next comes e. none next comes (e ∙ ap joined (sym (next_is settings k next comes low)))
 
 -- the gap of a plan that begins with these settings
@@ -59,13 +60,13 @@ test_not settings line read test are is low whole =
 
 -- a setting that is none
 pub setting_not : (settings : Settings) (k : ℕ) (name : List ℕ) (value_of : Plan → ℕ) (least most : ℕ) (line : List ℕ) → k ≤ 11 → most < 2 ^ 64
-    → ((plan : Plan) → get_or (header_lines address_text plan) k [] ≡ setting name (value_of plan)) → ((plan : Plan) → IsValidPlan plan → IsWithin least most (value_of plan))
+    → ((version : Version) (plan : Plan) → get_or (plan_lines version plan) k [] ≡ setting name (value_of plan)) → ((plan : Plan) → IsValidPlan plan → IsWithin least most (value_of plan))
     → ((value : ℕ) → value < 2 ^ 64 → IsWithin least most value → line ≡ joined (setting name value) → ⊥) → IsNotNext k line settings
 setting_not settings k name value_of least most line low fits at within none = λ next comes e.
     let is = next_is settings k next comes low in
     let inside = within comes.plan comes.is_plan.valid in
     let high = inside.1 in
-    none (value_of comes.plan) (omega (arith, high, fits)) inside (e ∙ ap joined (sym is ∙ at comes.plan))
+    none (value_of comes.plan) (omega (arith, high, fits)) inside (e ∙ ap joined (sym is ∙ at comes.version comes.plan))
 
 pub with_per_port : (s : Settings) (v : ℕ) → AreSettings s → IsWithin 1 64 v → AreSettings (record s { per_port = v })
 with_per_port s v a w = record { six = a.six; unicast = a.unicast; per_port = w; depth = a.depth; entries = a.entries; bytes = a.bytes; gap = a.gap; test = a.test; gap_first = a.gap_first; life = a.life }
@@ -93,3 +94,14 @@ seconds v w whole = let low = w.0 in let high = w.1 in (v / 1000, omega (arith, 
 
 pub with_life : (s : Settings) (v : ℕ) → AreSettings s → IsWithin 1000 86400000 v → v % 1000 ≡ 0 → AreSettings (record s { life = v })
 with_life s v a w whole = record { six = a.six; unicast = a.unicast; per_port = a.per_port; depth = a.depth; entries = a.entries; bytes = a.bytes; gap = a.gap; test = a.test; gap_first = a.gap_first; life = seconds v w whole }
+
+pub with_version : (s : Settings) (version : Version) → AreSettings s → AreSettings (record s { version = version })
+with_version s version a = record { six = a.six; unicast = a.unicast; per_port = a.per_port; depth = a.depth; entries = a.entries; bytes = a.bytes; gap = a.gap; test = a.test; gap_first = a.gap_first; life = a.life }
+
+-- a first line of no version
+pub version_not : (settings : Settings) (line : List ℕ) → ((version : Version) → line ≡ joined (version_line version) → ⊥) → IsNotNext 0 line settings
+version_not settings line none = λ next comes e. none comes.version (e ∙ ap joined (sym (next_is settings 0 next comes (lit≤ tt))))
+
+-- what was read can't be none
+pub no_version : (o : Option Version) (version : Version) → o ≡ None → o ≡ Some version → ⊥
+no_version o version none some = cc

@@ -1,12 +1,15 @@
 pub mod Feeds
+pub mod Seen
 pub mod Pieces
 pub mod Headers
+pub mod Fronts
 pub mod SettingLines
 pub mod ListLines
 pub mod Differing
 pub mod Puts
 pub mod EgressEnds
 pub mod Turns
+pub mod Openings
 pub mod Judging
 pub mod Answers
 pub mod Laws

@@ -1,5 +1,5 @@
 -- A text that is read in pieces: what is held of it, what is to come, and what taking a line comes to.
-use Rattle.std.specs.Prelude.{◌≡◌, ◌+◌, ◌<◌, ◌≤◌, ℕ, List, [], ◌∷◌, ◌++◌, length, take, drop, Option, IfSome}
+use Rattle.std.specs.Prelude.{◌≡◌, ◌+◌, ◌-◌, ◌^◌, ◌<◌, ◌≤◌, ℕ, List, [], ◌∷◌, ◌++◌, length, take, drop, Option, Some, None, IfSome}
 use Rattle.savi_kinds.specs.Characters.{line_feed}
 use Rattle.savi_ends.specs.Octets.{in_front, Takes}
 use Rattle.journal_check.specs.declared.lines.Lines.{Lines}
@@ -8,6 +8,7 @@ use Rattle.journal_check.specs.declared.lines.Cut.TheVariants as cuts
 use Rattle.journal_check.specs.declared.lines.Taken.{Taken}
 use Rattle.journal_check.specs.declared.lines.Taken.TheVariants as takes
 use Rattle.journal_check.specs.Feeds.{HasNoFeed, BeginsWithNoLine}
+use Rattle.journal_check.specs.Seen.{seen_to}
 
 -- a source gave up some octets, perhaps none, of those that it had left, the first ones of them
 abbrev pub GaveSome : Option (List ℕ) → Option (List ℕ) → Type 0
@@ -18,8 +19,21 @@ abbrev pub held_octets : Lines → List ℕ
 held_octets lines = drop lines.at (take lines.end lines.piece)
 
 -- the octets that are held, in front of what the source has left
+abbrev pub octets_ahead : Lines → Option (List ℕ) → Option (List ℕ)
+octets_ahead lines left = in_front (held_octets lines) left
+
+-- what is seen of octets where lines end at this place or before it, where the octets are told
+abbrev pub seen_if_told : ℕ → Option (List ℕ) → Option (List ℕ)
+seen_if_told place None = None
+seen_if_told place (Some octets) = Some (seen_to octets place)
+
+-- what is seen of them, up to place 2^62 of the text
 abbrev pub to_come : Lines → Option (List ℕ) → Option (List ℕ)
-to_come lines left = in_front (held_octets lines) left
+to_come lines left = seen_if_told (2 ^ 62 - lines.place) (octets_ahead lines left)
+
+-- some octets were passed, and counted
+abbrev pub HasPassed : Lines → Option (List ℕ) → Lines → Option (List ℕ) → Type 0
+HasPassed old before new after = (octets : List ℕ) × (octets_ahead old before ≡ in_front octets (octets_ahead new after)) × (new.place ≡ old.place + length octets)
 
 -- Octets of the line moved behind those before: up to its line feed, or all that were held, of which there were some; or
 -- there is no room for them.

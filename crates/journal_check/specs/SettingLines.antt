@@ -10,7 +10,7 @@ use Rattle.journal_check.specs.Headers.{LineFields, ComesNext}
 
 abbrev pub setting_lines : Settings → List LineFields
 setting_lines settings =
-    version_line
+    version_line settings.version
     ∷ mac_line settings.mac
     ∷ savi_line settings.savi
     ∷ unknown_line settings.drop_unknown

@@ -4,9 +4,10 @@ ghost use Rattle.std.specs.Prelude.{◌≡◌, ◌≢◌, ◌+◌, ◌<◌, ◌�
 ghost use Rattle.savi_ends.specs.Octets.{in_front};
 ghost use Rattle.savi_ends.specs.Faults.{Rose};
 ghost use Rattle.hist_store.specs.TextOfLines.{lines_text};
-ghost use Rattle.hist_store.specs.JournalTexts.{address_text, begin_line, header_lines, journal_header_text};
-ghost use Rattle.journal_check.specs.Pieces.{GaveSome, to_come};
-ghost use Rattle.journal_check.specs.Headers.{IsPlan};
+ghost use Rattle.hist_store.specs.declared.version.Version.TheVariants.{Two};
+ghost use Rattle.hist_store.specs.JournalTexts.{begin_line};
+ghost use Rattle.journal_check.specs.Pieces.{GaveSome, HasPassed, to_come};
+ghost use Rattle.journal_check.specs.Headers.{IsPlan, plan_lines, head_text};
 ghost use Rattle.journal_check.specs.SettingLines.{AreSettings, setting_lines};
 ghost use Rattle.journal_check.specs.ListLines.{AreLists, list_lines, plan_by};
 ghost use Rattle.journal_check.specs.declared.settings.Settings.{Settings};
@@ -19,38 +20,40 @@ use crate::lines::{Lines, Taken};
 use crate::lists::{Added, Lists};
 use crate::settings::{SETTING_LINES, Settings};
 use arrayvec::ArrayVec;
-use hist_store::JournalLine;
+use hist_store::{JournalLine, Version};
 use savi_ends::Source;
 use savi_kinds::{Plan, PortPlans, PrefixPlans, Text};
 use std::alloc::Global;
 
-/// Reads the header, whose lines are the first ones of a text, and gives the plan that it says, without names. `Err` is what
-/// the text is where it has none, or that a read failed. The lists are empty, and no memory is taken.
+/// Reads the header, whose lines are the first ones of a text, and gives its version and the plan that it says, without
+/// names. `Err` is what the text is where it has none, or that a read failed. The lists are empty, and no memory is taken.
 pub fn read_header<S: Source>(
     alloc: Global,
     lists: Lists,
     lines: &mut Lines,
     source: &mut S,
-) -> Result<Plan, Judged>
+) -> Result<(Version, Plan), Judged>
     requires { (lists.ports.items ≡ []) × (lists.prefixes.items ≡ []) }
     ensures later { S.faults source.old ≤ S.faults source.new }
     ensures cause { IfErr result (λ judged. judged ≡ Judged.Failed → Rose (S.faults source.old) (S.faults source.new)) }
     ensures still { result ≢ Err Judged.Failed → S.faults source.new ≡ S.faults source.old }
     ensures gave { GaveSome (S.left source.old) (S.left source.new) }
-    ensures plan { IfOk result (λ plan. IsPlan plan
-        × (to_come lines.old (S.left source.old) ≡ in_front (journal_header_text address_text plan) (to_come lines.new (S.left source.new)))) }
+    ensures plan { IfOk result (λ read. IsPlan read.1
+        × (to_come lines.old (S.left source.old) ≡ in_front (head_text read.0 read.1) (to_come lines.new (S.left source.new)))) }
+    ensures passed { IfOk result (λ read. HasPassed lines.old (S.left source.old) lines.new (S.left source.new)) }
     ensures bad { IfErr result (λ judged. IfRead (checked_of judged) (IfSome (to_come lines.old (S.left source.old)) (λ octets. IsBadHeader octets (checked_of judged)))) }
 {
     let mut line = ArrayVec::new();
     let settings = read_settings(lines, source, &mut line)?;
     let lists = read_lists(alloc, lists, lines, source, &mut line)?;
-    Ok(plan_of(alloc, &settings, lists))
+    let version = settings.version;
+    Ok((version, plan_of(alloc, &settings, lists)))
 }
 
-/// How many lines the header of a plan has.
+/// How many lines the header of a plan has, with the `begin` of the first segment: as many in each version. O(1).
 pub fn header_length(plan: &Plan) -> u64
     requires { IsPlan plan.now }
-    ensures length { result ≡ length (header_lines address_text plan.now) }
+    ensures length { result ≡ length (plan_lines Two plan.now) }
     ensures short { result < 64 }
 {
     let ports = plan.ports.as_slice().len() as u64;
@@ -70,6 +73,7 @@ fn read_settings<S: Source>(
     ensures gave { GaveSome (S.left source.old) (S.left source.new) }
     ensures settings { IfOk result (λ settings. AreSettings settings
         × (to_come lines.old (S.left source.old) ≡ in_front (lines_text (setting_lines settings)) (to_come lines.new (S.left source.new)))) }
+    ensures passed { IfOk result (λ settings. HasPassed lines.old (S.left source.old) lines.new (S.left source.new)) }
     ensures bad { IfErr result (λ judged. IfRead (checked_of judged) (IfSome (to_come lines.old (S.left source.old)) (λ octets. IsBadHeader octets (checked_of judged)))) }
 {
     let mut settings = Settings::new();
@@ -111,6 +115,7 @@ fn read_lists<S: Source>(
     ensures gave { GaveSome (S.left source.old) (S.left source.new) }
     ensures lists { IfOk result (λ lists. AreLists lists.ports.items lists.prefixes.items × (0 < length lists.ports.items)
         × (to_come lines.old (S.left source.old) ≡ in_front (lines_text (list_lines lists.ports.items lists.prefixes.items ++ begin_line ∷ [])) (to_come lines.new (S.left source.new)))) }
+    ensures passed { IfOk result (λ lists. HasPassed lines.old (S.left source.old) lines.new (S.left source.new)) }
     ensures bad { IfErr result (λ judged. IfRead (checked_of judged) ((settings : Settings) → AreSettings settings
         → IfSome (in_front (lines_text (setting_lines settings)) (to_come lines.old (S.left source.old))) (λ octets. IsBadHeader octets (checked_of judged)))) }
 {

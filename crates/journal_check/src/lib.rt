@@ -1,9 +1,10 @@
-//! Checks the journal of a switch: whether a text is the journal of a finished history that a switch may have, and if not,
+//! Checks the journal of a switch: whether a text is the journal of a whole session that a switch may have, and if not,
 //! where the first fault is.
 //!
 //! A journal is read in one pass. Its header gives the plan, and a switch of that plan enters each event again: an entry
-//! stands where it is the one that the switch makes. So a journal tells what happened without trust in who wrote it.
-//! All memory is taken before the first entry is judged; nothing is taken for an entry.
+//! stands where it is the one that the switch makes. Where a segment ends for a next one, the switch goes on, and the
+//! lines of what it goes on from are those that it gives. So a journal tells what happened without trust in who wrote it.
+//! All memory is taken before the first entry is judged, that of one segment; nothing is taken for an entry or a segment.
 #![tactic(auto)]
 
 mod answer;
@@ -14,6 +15,7 @@ mod header;
 mod laws;
 mod lines;
 mod lists;
+mod openings;
 mod putting;
 mod ranges;
 mod reading;

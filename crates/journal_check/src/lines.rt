@@ -1,6 +1,6 @@
 //! The lines of a text that a source gives up in pieces.
 
-ghost use Rattle.std.specs.Prelude.{◌≤◌};
+ghost use Rattle.std.specs.Prelude.{◌≤◌, ◌^◌};
 
 use crate::feeds::line_front;
 use hist_store::JournalLine;
@@ -9,6 +9,9 @@ use savi_ends::{Got, Source};
 /// How many octets are read at once, at most.
 const PIECE_OCTETS: usize = 16_384;
 
+/// The place at which a line that is taken ends, at most, counted from the first octet of the text on.
+const LAST_PLACE: u64 = 1 << 62;
+
 /// A text, of which a piece is held.
 #[derive(Drop)]
 pub struct Lines {
@@ -16,8 +19,11 @@ pub struct Lines {
     // where what is held begins in the piece, and where it ends
     at: usize,
     end: usize,
+    // how many octets of the text the lines that were taken have
+    place: u64,
     ghost within: { at ≤ end },
     ghost room: { end ≤ 16384 },
+    ghost placed: { place ≤ 2 ^ 62 },
 }
 
 /// What came of taking a line.
@@ -25,7 +31,7 @@ pub struct Lines {
 pub enum Taken {
     /// The line that was taken, without its line feed.
     Line,
-    /// No line: the text ends before a line feed, or has too many octets before it.
+    /// No line: the text ends before a line feed, or has too many octets before it, or the line ends behind the last place.
     Broken,
     /// A read failed.
     Failed,
@@ -51,19 +57,21 @@ enum Cut {
 }
 
 impl Lines {
-    ghost use Rattle.std.specs.Prelude.{◌≡◌, ◌≢◌, ◌<◌, ◌≤◌, [], length};
+    ghost use Rattle.std.specs.Prelude.{◌≡◌, ◌≢◌, ◌+◌, ◌^◌, ◌<◌, ◌≤◌, [], length};
     ghost use Rattle.savi_ends.specs.Octets.{NothingLeft};
     ghost use Rattle.savi_ends.specs.Faults.{Rose};
-    ghost use Rattle.journal_check.specs.Pieces.{Cuts, GaveSome, TookLine, held_octets, to_come};
+    ghost use Rattle.journal_check.specs.Pieces.{Cuts, GaveSome, HasPassed, TookLine, held_octets, to_come, octets_ahead};
 
     /// A text of which nothing was read yet.
     pub fn new() -> Lines
-        ensures { held_octets result ≡ [] }
+        ensures held { held_octets result ≡ [] }
+        ensures place { result.place ≡ 0 }
     {
         Lines {
             piece: [0; PIECE_OCTETS],
             at: 0,
             end: 0,
+            place: 0,
         }
     }
 
@@ -75,6 +83,8 @@ impl Lines {
         ensures still { result ≢ Taken.Failed → S.faults source.new ≡ S.faults source.old }
         ensures gave { GaveSome (S.left source.old) (S.left source.new) }
         ensures taken { TookLine result line.new.items (to_come self.old (S.left source.old)) (to_come self.new (S.left source.new)) }
+        ensures passed { result ≡ Taken.Line → HasPassed self.old (S.left source.old) self.new (S.left source.new) }
+        ensures further { result ≡ Taken.Line → self.old.place < self.new.place }
     {
         line.clear();
         'pieces: loop {
@@ -85,7 +95,7 @@ impl Lines {
             }
             match self.cut(line) {
                 Cut::Part => {}
-                Cut::Whole => return Taken::Line,
+                Cut::Whole => return self.pass(line.len()),
                 Cut::Long => return Taken::Broken,
             }
         }
@@ -97,10 +107,11 @@ impl Lines {
         ensures cause { result ≡ Behind.Failed → Rose (S.faults source.old) (S.faults source.new) }
         ensures still { result ≢ Behind.Failed → S.faults source.new ≡ S.faults source.old }
         ensures gave { GaveSome (S.left source.old) (S.left source.new) }
-        ensures same { to_come self.new (S.left source.new) ≡ to_come self.old (S.left source.old) }
+        ensures same { octets_ahead self.new (S.left source.new) ≡ octets_ahead self.old (S.left source.old) }
+        ensures place { self.new.place ≡ self.old.place }
         ensures more { result ≡ Behind.More → self.new.at < self.new.end }
         ensures some { result ≡ Behind.More → 0 < length (held_octets self.new) }
-        ensures nothing { result ≡ Behind.Nothing → NothingLeft (to_come self.old (S.left source.old)) }
+        ensures nothing { result ≡ Behind.Nothing → NothingLeft (octets_ahead self.old (S.left source.old)) }
     {
         if self.at < self.end {
             return Behind::More;
@@ -119,7 +130,8 @@ impl Lines {
     // Moves what is held behind what the buffer holds, up to a line feed, which is passed over.
     fn cut(&mut self, line: &mut JournalLine) -> Cut
         requires { self.old.at < self.old.end }
-        ensures { Cuts result self.old self.new line.old.items line.new.items }
+        ensures cut { Cuts result self.old self.new line.old.items line.new.items }
+        ensures place { self.new.place ≡ self.old.place }
     {
         let held = &self.piece[self.at..self.end];
         let part = line_front(held);
@@ -136,5 +148,21 @@ impl Lines {
             self.at += len;
             Cut::Part
         }
+    }
+
+    // Passes a line of so many octets and its line feed, if it doesn't end behind the last place.
+    fn pass(&mut self, octets: usize) -> Taken
+        requires { octets ≤ 3400 }
+        ensures same { held_octets self.new ≡ held_octets self.old }
+        ensures line { result ≡ Taken.Line → self.new.place ≡ self.old.place + octets + 1 }
+        ensures broken { result ≡ Taken.Broken → 2 ^ 62 < self.old.place + octets + 1 }
+        ensures never { result ≢ Taken.Failed }
+    {
+        let end = self.place + octets as u64 + 1;
+        if end > LAST_PLACE {
+            return Taken::Broken;
+        }
+        self.place = end;
+        Taken::Line
     }
 }

@@ -1,34 +1,40 @@
 //! The check of a whole text.
 
-ghost use Rattle.std.specs.Prelude.{◌≡◌, ◌≢◌, ◌⊎◌, ◌≤◌, ℕ, [], IfOk, IfSome};
+ghost use Rattle.std.specs.Prelude.{◌≡◌, ◌≢◌, ◌⊎◌, ◌↔◌, ◌≤◌, ◌<◌, ◌^◌, ℕ, true, [], IfOk, IfSome, IsTrue};
 ghost use Rattle.savi_ends.specs.Octets.{in_front};
 ghost use Rattle.savi_ends.specs.Faults.{Rose};
-ghost use Rattle.hist_store.specs.JournalTexts.{address_text, journal_header_text};
+ghost use Rattle.hist_store.specs.declared.version.Version.{Version};
 ghost use Rattle.checkpoint.specs.Bases.{empty};
-ghost use Rattle.savi_history.specs.Legal.{IsFinished};
+ghost use Rattle.savi_history.specs.Endings.{has_pause};
 ghost use Rattle.savi_core.specs.Machines.{base_of, started};
 ghost use Rattle.journal_check.specs.Pieces.{GaveSome, to_come};
-ghost use Rattle.journal_check.specs.Headers.{IsPlan};
-ghost use Rattle.journal_check.specs.Answers.{Ends, HasReadHeader, IfRead, IsAnswer, IsAnswerBehind, next_line};
+ghost use Rattle.journal_check.specs.Headers.{IsPlan, head_text};
+ghost use Rattle.journal_check.specs.Answers.{Ends, HasReadHeader, IfRead, IsAnswer, IsAnswerBehind};
 ghost use Rattle.journal_check.specs.Judging.{checked_of};
 ghost use Rattle.journal_check.specs.Laws.{IsFinishedJournal};
 
 use crate::answer::{Checked, Judged};
+use crate::apart::Apart;
 use crate::header::{header_length, read_header};
+use crate::laws::octets_have_one_answer;
 use crate::lines::{Behind, Lines, Taken};
 use crate::lists::Lists;
+use crate::openings::{Before, begin_segment};
 use crate::turns::{Turn, take_turn};
 use arrayvec::ArrayVec;
+use hist_store::Version;
 use savi_core::{Batch, Core};
 use savi_ends::Source;
 use savi_kinds::Plan;
 use std::alloc::{AllocError, Global};
 
-/// Checks the text that a source gives up. It costs what a switch takes for the events, beside O(n) in the octets.
+/// Checks the text that a source gives up, in either version. It costs what a switch takes for the events and for going on
+/// from segment to segment, beside O(n) in the octets; the memory is that of one segment.
 ///
-/// The answer is the one that the octets have (`specs/Answers.antt`), where the source tells them: `Good` exactly where they
-/// are the journal of a finished history. `Failed` comes exactly where a read failed, and no read is tried again. All memory
-/// is taken before the first entry is judged: `NoMemory` comes only where nothing was read, or the header.
+/// The answer is the one that the octets have (`specs/Answers.antt`), where the source tells them: `Good` exactly where
+/// they are the journal of a whole session, in at most 2^62 octets. `Failed` comes exactly where a read failed, and no
+/// read is tried again. All memory is taken before the first entry is judged: `NoMemory` comes only where nothing was
+/// read, or the header.
 pub fn check<S: Source>(alloc: Global, source: &mut S) -> Checked
     ensures later { S.faults source.old ≤ S.faults source.new }
     ensures cause { result ≡ Checked.Failed → Rose (S.faults source.old) (S.faults source.new) }
@@ -40,31 +46,38 @@ pub fn check<S: Source>(alloc: Global, source: &mut S) -> Checked
     ensures good { (entries : ℕ) → result ≡ Checked.Good entries → IfSome (S.left source.old) (λ octets. IsFinishedJournal octets entries) }
     ensures journal { (entries : ℕ) → IfRead result (IfSome (S.left source.old) (λ octets. IsFinishedJournal octets entries → result ≡ Checked.Good entries)) }
 {
+    octets_have_one_answer();
     let Ok(lists) = Lists::make(alloc) else {
         return Checked::NoMemory;
     };
     let mut lines = Lines::new();
     match read_header(alloc, lists, &mut lines, source) {
-        Ok(plan) => check_behind(alloc, plan, &mut lines, source),
+        Ok((version, plan)) => check_behind(alloc, version, plan, &mut lines, source),
         Err(judged) => judged.checked(),
     }
 }
 
 // Checks what stands behind the header of a plan. The last memory is taken before anything of that is read.
-fn check_behind<S: Source>(alloc: Global, plan: Plan, lines: &mut Lines, source: &mut S) -> Checked
+fn check_behind<S: Source>(
+    alloc: Global,
+    version: Version,
+    plan: Plan,
+    lines: &mut Lines,
+    source: &mut S,
+) -> Checked
     requires { IsPlan plan }
     ensures later { S.faults source.old ≤ S.faults source.new }
     ensures cause { result ≡ Checked.Failed → Rose (S.faults source.old) (S.faults source.new) }
     ensures still { result ≢ Checked.Failed → S.faults source.new ≡ S.faults source.old }
     ensures gave { GaveSome (S.left source.old) (S.left source.new) }
     ensures memory { result ≡ Checked.NoMemory → (source.new ≡ source.old) × (lines.new ≡ lines.old) }
-    ensures answer { IfRead result (IfSome (in_front (journal_header_text address_text plan) (to_come lines.old (S.left source.old)))
+    ensures answer { IfRead result (IfSome (in_front (head_text version plan) (to_come lines.old (S.left source.old)))
         (λ octets. IsAnswerBehind octets result)) }
 {
     match make(alloc, plan) {
         Ok(made) => {
             let (mut core, mut batch) = made;
-            check_entries(&mut core, &mut batch, lines, source).checked()
+            check_segments(version, &mut core, &mut batch, lines, source).checked()
         }
         Err(_) => Checked::NoMemory,
     }
@@ -80,8 +93,10 @@ fn make(alloc: Global, plan: Plan) -> Result<(Core, Batch), AllocError>
     Ok((core, batch))
 }
 
-// Judges the lines behind the header, with a switch at its start.
-fn check_entries<S: Source>(
+// Judges the lines behind the header, with a switch at its start, which goes on where a segment ends and a next one may
+// follow.
+fn check_segments<S: Source>(
+    version: Version,
     core: &mut Core,
     batch: &mut Batch,
     lines: &mut Lines,
@@ -94,57 +109,79 @@ fn check_entries<S: Source>(
     ensures cause { result ≡ Judged.Failed → Rose (S.faults source.old) (S.faults source.new) }
     ensures still { result ≢ Judged.Failed → S.faults source.new ≡ S.faults source.old }
     ensures gave { GaveSome (S.left source.old) (S.left source.new) }
-    ensures answer { IfRead (checked_of result) (IfSome (in_front (journal_header_text address_text core.old.plan) (to_come lines.old (S.left source.old)))
+    ensures answer { IfRead (checked_of result) (IfSome (in_front (head_text version core.old.plan) (to_come lines.old (S.left source.old)))
         (λ octets. IsAnswerBehind octets (checked_of result))) }
 {
     let mut line = ArrayVec::new();
-    'entries: loop {
-        let entry = core.len();
+    let mut before = Before {
+        lines: header_length(core.plan()),
+        entries: 0,
+    };
+    'turns: loop {
+        let entry = before.entries + core.len();
+        let number = before.lines + core.len() + 1;
         match lines.next(source, &mut line) {
             Taken::Line => {}
-            Taken::Broken => return bad_line(core),
+            Taken::Broken => return Judged::BadLine { n: number },
             Taken::Failed => return Judged::Failed,
         }
         match take_turn(core, batch, line.as_slice()) {
             Turn::Stands => {}
-            Turn::Wrong(apart) => {
-                return Judged::Wrong {
-                    entry,
-                    want: apart.want,
-                    have: apart.have,
-                };
+            Turn::Wrong(apart) => return wrong(entry, apart),
+            Turn::Bad => return Judged::BadLine { n: number },
+            Turn::Last => {
+                if !goes_on(version, core) {
+                    return finish(core, entry, number, lines, source);
+                }
+                match begin_segment(core, before, lines, source, &mut line) {
+                    Ok(next) => before = next,
+                    Err(judged) => return judged,
+                }
             }
-            Turn::Last => return finish(core, lines, source),
-            Turn::Bad => return bad_line(core),
         }
     }
 }
 
-// The line behind those of the header and of the entries.
-fn bad_line(core: &Core) -> Judged
-    requires { IsPlan core.now.plan }
-    ensures { checked_of result ≡ Checked.BadLine (next_line core.now.plan core.now.past) }
+// The entry of this number is the first that can't stand.
+fn wrong(entry: u64, apart: Apart) -> Judged
+    ensures { result ≡ Judged.Wrong entry apart.want apart.have }
 {
-    Judged::BadLine {
-        n: header_length(core.plan()) + core.history().len() + 1,
+    Judged::Wrong {
+        entry,
+        want: apart.want,
+        have: apart.have,
     }
 }
 
-// What the text is where the last line was taken and may stand: nothing may come behind it.
-fn finish<S: Source>(core: &Core, lines: &mut Lines, source: &mut S) -> Judged
-    requires { IsPlan core.now.plan }
+// Whether a segment that is finished goes on in a next one, which a text of version 1 hasn't.
+fn goes_on(version: Version, core: &Core) -> bool
+    ensures { IsTrue result ↔ ((version ≡ Version.Two) × (has_pause core.now.past ≡ true)) }
+{
+    version == Version::Two && core.has_pause()
+}
+
+// What the text is where the last line of a segment that none may follow was taken, whose number is this one, and that has
+// the last of so many entries: nothing may come behind it, and no input may be paused.
+fn finish<S: Source>(
+    core: &Core,
+    entries: u64,
+    number: u64,
+    lines: &mut Lines,
+    source: &mut S,
+) -> Judged
+    requires { number < 2 ^ 63 }
     ensures later { S.faults source.old ≤ S.faults source.new }
     ensures cause { result ≡ Judged.Failed → Rose (S.faults source.old) (S.faults source.new) }
     ensures still { result ≢ Judged.Failed → S.faults source.new ≡ S.faults source.old }
     ensures gave { GaveSome (S.left source.old) (S.left source.new) }
-    ensures ends { Ends core.now.plan core.now.past (to_come lines.old (S.left source.old)) (checked_of result) }
+    ensures ends { Ends core.now.past entries number (to_come lines.old (S.left source.old)) (checked_of result) }
 {
-    let entries = core.history().len();
+    if core.has_pause() {
+        return Judged::BadLine { n: number + 1 };
+    }
     match lines.fill(source) {
         Behind::Nothing => Judged::Good { entries },
-        Behind::More => Judged::BadLine {
-            n: header_length(core.plan()) + entries + 2,
-        },
+        Behind::More => Judged::BadLine { n: number + 1 },
         Behind::Failed => Judged::Failed,
     }
 }

@@ -1,4 +1,4 @@
-//! The lines of a journal's header that each plan has once: the settings of the switch.
+//! The lines of a journal's header that each plan has once: the version of the text, and the settings of the switch.
 
 ghost use Rattle.std.specs.Prelude.{◌≡◌, ◌^◌, ◌<◌, ℕ, Some, IfSome};
 ghost use Rattle.hist_store.specs.TextOfLines.{joined};
@@ -6,7 +6,9 @@ ghost use Rattle.hist_store.specs.JournalTexts.{setting};
 ghost use Rattle.savi_kinds.specs.MacText.{HasSixOctets};
 ghost use Rattle.savi_kinds.specs.ValidPlan.{IsWithin};
 
-use hist_store::{is_version_line, read_mac_line, read_savi_line, read_setting, read_unknown_line};
+use hist_store::{
+    Version, read_mac_line, read_savi_line, read_setting, read_unknown_line, read_version_line,
+};
 use savi_kinds::{
     BYTES_MOST, DEPTH_MOST, ENTRIES_LEAST, ENTRIES_MOST, FRAME_OCTETS_MOST, GAP_MOST_MS,
     LIFE_MOST_S, Mac, PER_PORT_MOST, TEST_LEAST_MS, TEST_MOST_MS,
@@ -15,9 +17,10 @@ use savi_kinds::{
 /// How many lines the settings have.
 pub const SETTING_LINES: usize = 11;
 
-/// The settings of a plan, which are always within the limits.
+/// The version of a text, and the settings of a plan, which are always within the limits.
 #[derive(Clone, Copy, PartialEq, Eq, Debug)]
 pub struct Settings {
+    pub version: Version,
     pub mac: Mac,
     pub savi: bool,
     pub drop_unknown: bool,
@@ -39,6 +42,7 @@ impl Settings {
         ensures { AreSettings result }
     {
         Settings {
+            version: Version::Two,
             mac: Mac([0; 6]),
             savi: true,
             drop_unknown: true,
@@ -62,7 +66,7 @@ impl Settings {
         ensures same { result ≡ false → self.new ≡ self.old }
     {
         match number {
-            0 => is_version_line(line),
+            0 => self.read_version(line),
             1 => self.read_mac(line),
             2 => self.read_savi(line),
             3 => self.read_unknown(line),
@@ -73,6 +77,21 @@ impl Settings {
             8 => self.read_gap(line),
             9 => self.read_test(line),
             _ => self.read_life(line),
+        }
+    }
+
+    fn read_version(&mut self, line: &[u8]) -> bool
+        requires { AreSettings self.old }
+        ensures read { result ≡ true → IsRead 0 line.now self.old self.new }
+        ensures bad { result ≡ false → IsNotNext 0 line.now self.old }
+        ensures same { result ≡ false → self.new ≡ self.old }
+    {
+        match read_version_line(line) {
+            Some(version) => {
+                self.version = version;
+                true
+            }
+            None => false,
         }
     }
 

@@ -1,5 +1,5 @@
 -- What was taken of the input of one port, and what is known of it.
-use Rattle.std.proofs.Common.{◌≡◌, ◌≢◌, ℕ, ◌+◌, ◌≤◌, List, [], ◌∷◌, ◌++◌, length, length-append, map, take, true, false, refl, sym, ap, ◌∙◌, subst, arith, append-nil, Option, Some, None, IfSome}
+use Rattle.std.proofs.Common.{◌≡◌, ◌≢◌, ℕ, ◌+◌, ◌≤◌, List, [], ◌∷◌, ◌++◌, length, map, take, true, false, refl, sym, ap, ◌∙◌, subst, arith, append-nil, Option, Some, None}
 use Rattle.std.proofs.lemmas.List.{map-append}
 use Rattle.savi_kinds.specs.declared.port.Port.{Port}
 use Rattle.savi_kinds.specs.declared.entry.Who.TheVariants.{Ingress}
@@ -10,7 +10,7 @@ use Rattle.savi_kinds.specs.Arrivals as arrivals
 use Rattle.savi_ends.specs.Faults.{Rose}
 use Rattle.savi_ends.specs.Octets.{Takes}
 use Rattle.pcap_io.specs.Readers.{State, Comes, HasRead, longest_record, record_place}
-use Rattle.pcap_io.specs.Runs.{ended}
+use Rattle.pcap_io.proofs.CallsJoined.{has_read_more}
 use Rattle.savi_history.specs.Fits.{IsWhole, IsBroken}
 use Rattle.savi_history.specs.Turns.{Turn, Arrives, Ends, turns}
 use Rattle.port_worker.specs.declared.port_ends.Ahead.{Ahead}
@@ -21,8 +21,8 @@ use Rattle.port_worker.specs.PortTurns.{ahead_passed}
 use Rattle.port_worker.specs.Replays.{IsUnread}
 use Rattle.port_worker.specs.Served.{AreInput, IsInputOf}
 use Rattle.port_worker.proofs.FaultCounts.{rose_later, rose_before}
-use Rattle.port_worker.proofs.Fitting.{IsNear}
-use Rattle.port_worker.proofs.Joining.{front_none, takes_twice, read_twice, read_behind}
+use Rattle.port_worker.proofs.Fitting.{IsNear, done_apart, near_more, same_turn, whole_at}
+use Rattle.port_worker.proofs.Joining.{front_none, takes_twice, read_behind}
 use Rattle.learn_run.specs.Learning.{IsHeard}
 use Rattle.learn_run.proofs.Telling.{input_of, input_again}
 
@@ -82,20 +82,13 @@ hears_start left faults p unread = record {
 
 -- a look
 
-whole_at : (first mid : State) (one two : List ℕ) (front : List Arrival) (how : How) (a b c : Option (List ℕ)) → Takes a b one → Takes b c two → HasRead first mid one front
-    → IfSome c (λ rest. Comes mid true (two ++ rest) (ended how)) → IsWhole (AreInput (Comes first) true) a front how
-whole_at first mid one two front how a b None take_one take_two read_one is =
-    rw (take_one, take_two) tt
-whole_at first mid one two front how a b (Some rest) take_one take_two read_one is =
-    rw (take_one, take_two) (read_behind first mid true one (two ++ rest) front how read_one is)
-
 read_more : (first mid now : State) (one two buf : List ℕ) (came : List Arrival) (ending : Option How) (a b c : Option (List ℕ)) (k : Ahead) → Takes a b one → Takes b c two → ending ≡ None → HasRead first mid one came
     → IsReadAs mid now two buf c k → FitsAhead first now (one ++ two) buf a c came ending k
 read_more first mid now one two buf came ending a b c ahead.Unread take_one take_two none read is = absurd is
 read_more first mid now one two buf came ending a b c (ahead.Frame stamp len) take_one take_two none read is =
-    (none, read_twice first mid now one two came (arrivals.Frame stamp (take len buf) ∷ []) read is.read)
+    (none, has_read_more first mid now one two came (arrivals.Frame stamp (take len buf) ∷ []) read is.read)
 read_more first mid now one two buf came ending a b c (ahead.Long stamp len) take_one take_two none read is =
-    (none, read_twice first mid now one two came (arrivals.Long stamp len ∷ []) read is.read)
+    (none, has_read_more first mid now one two came (arrivals.Long stamp len ∷ []) read is.read)
 read_more first mid now one two buf came ending a b c ahead.End take_one take_two none read is =
     (none, whole_at first mid one two came hows.End a b c take_one take_two read is.whole)
 read_more first mid now one two buf came ending a b c (ahead.Malformed at) take_one take_two none read is =
@@ -103,17 +96,6 @@ read_more first mid now one two buf came ending a b c (ahead.Malformed at) take_
 read_more first mid now one two buf came ending a b c ahead.Failed take_one take_two none read is =
     (none, record { gave = one ++ two; takes = takes_twice a b c one two take_one take_two; read = read_behind first mid false one two came hows.Failed read is.taken })
 read_more first mid now one two buf came ending a b c ahead.Done take_one take_two none read is = absurd is
-
-near_more : (first old new : State) (one two buf : List ℕ) (left : Option (List ℕ)) (ending : Option How) (a : Ahead) → record_place old ≡ record_place first + length one → IsReadAs old new two buf left a → IsNear first new (one ++ two) ending a
-near_more first old new one two buf left ending ahead.Unread taken is = absurd is
-near_more first old new one two buf left ending (ahead.Frame stamp len) taken is =
-    let now : record_place new ≡ record_place old + length two = ap record_place is.running.1 in omega (arith, now, taken, length-append one two)
-near_more first old new one two buf left ending (ahead.Long stamp len) taken is =
-    let now : record_place new ≡ record_place old + length two = ap record_place is.running.1 in omega (arith, now, taken, length-append one two)
-near_more first old new one two buf left ending ahead.End taken is = tt
-near_more first old new one two buf left ending (ahead.Malformed at) taken is = let few = is.near at refl in omega (arith, few, taken, length-append one two)
-near_more first old new one two buf left ending ahead.Failed taken is = tt
-near_more first old new one two buf left ending ahead.Done taken is = absurd is
 
 hears_known : {S K C : Type 0} (left : S → Option (List ℕ)) (faults : S → ℕ) (first old new : PortEnds S K C) (taken : List Turn) (a : Ahead) → old.ahead ≡ a → IsReadAhead a → (IsReadAhead old.ahead → new ≡ old) → Hears left faults first old taken → Hears left faults first new taken
 hears_known {S} {K} {C} left faults first old new taken a is known same h = subst (λ (p : PortEnds S K C). Hears left faults first p taken) (sym (same (subst IsReadAhead (sym is) known))) h
@@ -155,9 +137,6 @@ pub hears_looked : {S K C : Type 0} (left : S → Option (List ℕ)) (faults : S
 hears_looked left faults first old new taken looked h = look_at left faults first old new taken old.ahead refl looked h
 
 -- a turn that is taken
-
-same_turn : (t u : Turn) → Some t ≡ Some u → u ≡ t
-same_turn t u is = cc
 
 failed_ending : (how : How) → Some how ≡ Some hows.Failed → how ≡ hows.Failed
 failed_ending how is = cc
@@ -268,9 +247,6 @@ hears_passed {S} {K} {C} left faults first old new taken turn is passed_is h =
     subst (λ (p : PortEnds S K C). Hears left faults first p (taken ++ turn ∷ [])) (sym passed_is) (pass_at left faults first old taken turn h old.ahead refl is)
 
 -- in the end
-
-done_apart : (a : Ahead) → a ≡ ahead.Done → a ≢ ahead.Failed
-done_apart a done failed = cc
 
 module _ {S K C : Type 0} (left : S → Option (List ℕ)) (faults : S → ℕ) (first old : PortEnds S K C) (taken : List Turn) (h : Hears left faults first old taken) (done : old.ahead ≡ ahead.Done) where
   fits_done : FitsAhead first.reader old.reader h.gave old.buf (left first.ends.source) (left old.ends.source) h.came h.ending ahead.Done

@@ -12,7 +12,7 @@ use Rattle.pcap_io.specs.Readers.{Comes}
 use Rattle.savi_history.specs.Merges.{merged}
 use Rattle.savi_history.specs.Picks.{IsLeast}
 use Rattle.savi_history.specs.Turns.{Turn, turn_at, turns}
-use Rattle.savi_history.proofs.Reaching.{Head, Known, Done}
+use Rattle.savi_segments.proofs.Reaching.{Head, Known, Done}
 use Rattle.port_worker.specs.declared.port_ends.Ahead.{Ahead}
 use Rattle.port_worker.specs.declared.port_ends.Ahead.TheVariants as ahead
 use Rattle.port_worker.specs.declared.port_ends.PortEnds.{PortEnds}
@@ -21,8 +21,8 @@ use Rattle.port_worker.specs.Pairs.{EachPair}
 use Rattle.port_worker.specs.PortTurns.{ahead_passed}
 use Rattle.port_worker.specs.Replays.{IsUnread, ports_held, ports_planned}
 use Rattle.port_worker.specs.Served.{IsSamePort}
+use Rattle.port_worker.proofs.Fitting.{same_turn}
 use Rattle.port_worker.proofs.Later.{behind_none}
-use Rattle.port_worker.proofs.Measures.{weight, undone, undone_same}
 use Rattle.port_worker.proofs.Planned.{count_is}
 use Rattle.port_worker.proofs.Progress.{head_of, head_ahead, turn_at_moment, done_at_none}
 use Rattle.port_worker.proofs.Running.{head_at, element, moments_same, all_read}
@@ -38,6 +38,7 @@ use Rattle.learn_run.proofs.Hearing.{Hears, hears_start, hears_looked, hears_pas
 use Rattle.learn_run.proofs.Measuring.{left_of, left_most, left_set, look_less, pass_less}
 use Rattle.learn_run.proofs.Taking.{IsRest, Reaches, nothing_of, nothing_at, nothing_size, reaches_start, reaches_looked, reaches_take, reaches_end}
 use Rattle.learn_run.proofs.Telling.{arrivals_more, endings_more, input_of, turns_again}
+use Rattle.learn_run.proofs.Undone.{undone, undone_same, weight}
 
 pub record Running {S K C O : Type 0} (left : S → Option (List ℕ)) (source_faults : S → ℕ) (written : O → Option (List ℕ)) (faults : O → ℕ) (plan : Plan) (first ports : List (PortEnds S K C)) (old new : Learning) (out out' : O) : Type 0 where
   pub past : List Turn
@@ -88,9 +89,6 @@ undone_some : {S K C : Type 0} (ports : List (PortEnds S K C)) (j : ℕ) (d : Po
 undone_some [] j d inside = absurd (omega arith)
 undone_some (p ∷ ports) zero d inside = omega arith
 undone_some (p ∷ ports) (suc j) d inside = let later = undone_some ports j d (omega arith) in omega arith
-
-same_turn : (t u : Turn) → Some t ≡ Some u → u ≡ t
-same_turn t u is = cc
 
 -- an end is noted exactly where the input is done by it
 ended_weight : (port : Port) (buf : List ℕ) (a : Ahead) (turn : Turn) → turn_ahead port buf a ≡ Some turn → length (endings_of (turn ∷ [])) + weight (ahead_passed a) ≡ 1

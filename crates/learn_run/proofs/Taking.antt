@@ -7,8 +7,8 @@ use Rattle.savi_history.specs.Merges.{merged}
 use Rattle.savi_history.specs.Turns.{Turn, turn_at}
 use Rattle.savi_history.specs.Picks.{first_at, IsLeast}
 use Rattle.savi_history.proofs.Merging.{picked}
-use Rattle.savi_history.proofs.Order.{get_or-map_past}
-use Rattle.savi_history.proofs.Reaching.{Head, Unread, Known, Done, moment_of, IsRead, AllRead, joined}
+use Rattle.savi_segments.proofs.Order.{get_or-map_past}
+use Rattle.savi_segments.proofs.Reaching.{Head, Unread, Known, Done, moment_of, IsRead, AllRead, joined, joined_move}
 
 -- these turns may be left of an input of which that is known
 abbrev pub IsRest : Head → List Turn → Type 0
@@ -74,14 +74,6 @@ moments_are heads rest read left =
     get_or-map_past (first_at turn_at) rest k []
     ∙ moment_is (get_or heads k Done) (get_or rest k []) (read_at heads k read (cases_lt k (length heads))) (left.each k)
     ∙ sym (get_or-map_past moment_of heads k Done))
-
--- one turn goes over from what is left to what was taken
-joined_move : (taken rest : List (List Turn)) (j : ℕ) (turn : Turn) → joined taken (set rest j (turn ∷ get_or rest j [])) ≡ joined (set taken j (get_or taken j [] ++ turn ∷ [])) rest
-joined_move [] rest j turn = refl
-joined_move (t ∷ taken) [] zero turn = refl
-joined_move (t ∷ taken) [] (suc j) turn = refl
-joined_move (t ∷ taken) (r ∷ rest) zero turn = ap (λ (l : List Turn). l ∷ joined taken rest) (sym (append_assoc t (turn ∷ []) r))
-joined_move (t ∷ taken) (r ∷ rest) (suc j) turn = ap (λ (l : List (List Turn)). (t ++ r) ∷ l) (joined_move taken rest j turn)
 
 front_is : (x y : Turn) (xs ys : List Turn) → x ∷ xs ≡ y ∷ ys → x ≡ y
 front_is x y xs ys e = cc

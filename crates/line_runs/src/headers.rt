@@ -1,8 +1,8 @@
 //! The lines of a header, and the last line.
 
 use hist_store::{
-    is_begin_line, is_version_line, read_mac_line, read_port_line, read_prefix_line,
-    read_savi_line, read_setting, read_unknown_line,
+    is_begin_line, read_mac_line, read_port_line, read_prefix_line, read_savi_line, read_setting,
+    read_unknown_line, read_version_line,
 };
 use std::fmt::Debug;
 
@@ -22,7 +22,7 @@ pub fn print_header_line(rt: &impl Print, before: &str, text: &str) -> anyhow::R
         Some(read) => Some(read.0),
         None => None,
     };
-    print_value(rt, "version", is_version_line(line).then_some(1))?;
+    print_value(rt, "version", read_version_line(line))?;
     print_value(rt, "mac", read_mac_line(line))?;
     print_value(rt, "savi", read_savi_line(line))?;
     print_value(rt, "unknown drop", read_unknown_line(line))?;

@@ -1,11 +1,10 @@
--- What a replay over the captures of a load made of them is the history of the load.
+-- What a replay over the captures of a load made of them are the segments of the load.
 use Rattle.std.proofs.Common.{◌≡◌, ℕ, ◌≤◌, ◌<◌, ◌^◌, Bool, true, false, List, [], ◌∷◌, length, map, get_or, refl, sym, ap, ◌∙◌, subst, arith, All, Option, Some, None, inl, inr, Vec, Global}
 use Rattle.std.proofs.lemmas.List.{same_lists, get_or-map, length-map}
 use Rattle.savi_kinds.specs.declared.plan.Plan.{Plan}
 use Rattle.savi_kinds.specs.declared.entry.How.{How}
 use Rattle.savi_kinds.specs.declared.entry.How.TheVariants as hows
 use Rattle.savi_kinds.specs.Arrivals.{Arrival, Input}
-use Rattle.savi_kinds.specs.ValidPlan.{IsValidPlan}
 use Rattle.savi_ends.specs.declared.count_sink.CountSink.{CountSink}
 use Rattle.savi_ends.specs.declared.mem_clock.MemClock.{MemClock}
 use Rattle.savi_ends.specs.declared.sure_source.SureSource.{SureSource}
@@ -22,19 +21,20 @@ use Rattle.load_gen.specs.Captures.{sent_at, captures_of}
 use Rattle.load_gen.specs.LoadPlan.{said, load_ports}
 use Rattle.load_gen.specs.Sendings.{Sending, sendings}
 use Rattle.load_gen.proofs.Wholes.{loads_are_inputs}
-use Rattle.checkpoint.specs.Bases.{empty}
 use Rattle.savi_history.specs.ControlInputs.{control_end}
 use Rattle.savi_history.specs.Endings.{has_failed_write}
 use Rattle.savi_history.specs.PortInputs.{input_end}
-use Rattle.savi_history.specs.Replay.{replayed}
-use Rattle.savi_history.proofs.FailedWrites.{failed_write_at_output, IsOfOutput}
-use Rattle.savi_history.proofs.WithoutControl.{without_control}
+use Rattle.savi_segments.specs.Replay.{replayed}
+use Rattle.savi_segments.specs.Segments.{AreLegal}
+use Rattle.savi_segments.specs.Unbroken.{unbroken}
+use Rattle.savi_segments.proofs.EnteringLines.{without_control}
+use Rattle.savi_segments.proofs.Failures.{failed_write_at_output, IsOfOutput}
 use Rattle.savi_core.specs.Machines.{port_number_at}
 use Rattle.port_worker.specs.declared.control_ends.ControlEnds.{ControlEnds}
 use Rattle.port_worker.specs.ControlServed.{ServesControl}
 use Rattle.port_worker.specs.Served.{IsInputOf, IsServed, ServesEnds}
 use Rattle.load_run.specs.LoadEnds.{LoadEnds, IsFresh, octets_at}
-use Rattle.load_run.specs.LoadHistory.{input_at, load_inputs, load_history, no_stops}
+use Rattle.load_run.specs.LoadHistory.{input_at, load_inputs, load_segments, no_stops}
 use Rattle.load_run.proofs.Holding.{items_of}
 use Rattle.load_run.proofs.Unstopped.{replayed_unstopped}
 
@@ -73,15 +73,15 @@ unfolding captures_of
 as_many_ports plan captures seed frames ports octets =
     sym (length-map captures items_of) ∙ ap length octets ∙ sym (sym (length-map plan.ports said) ∙ ap length ports)
 
-no_lines : (new : Option (ControlEnds SureSource CountSink MemClock)) (plan : Plan) (past : List Row) (lines : Option control.Input) (stop : Option ℕ)
-    → ServesControl {S = SureSource} {K = CountSink} {C = MemClock} (λ s. Some (sure_left s)) (λ k. None) (λ s. 0) (λ k. 0) plan empty past None new lines stop → lines ≡ None
-no_lines None plan past None stop is = refl
-no_lines None plan past (Some input) stop is = absurd is
-no_lines (Some new) plan past lines stop is = absurd is
+no_lines : (new : Option (ControlEnds SureSource CountSink MemClock)) (plan : Plan) (segments : List (List Row)) (lines : Option control.Input) (stop : Option ℕ)
+    → ServesControl {S = SureSource} {K = CountSink} {C = MemClock} (λ s. Some (sure_left s)) (λ k. None) (λ s. 0) (λ k. 0) plan segments None new lines stop → lines ≡ None
+no_lines None plan segments None stop is = refl
+no_lines None plan segments (Some input) stop is = absurd is
+no_lines (Some new) plan segments lines stop is = absurd is
 
-module _ (plan : Plan) (seed frames : ℕ) (past : List Row) (control_new : Option (ControlEnds SureSource CountSink MemClock)) (old new : List LoadEnds)
-    (valid : IsValidPlan plan) (ports : map said plan.ports ≡ load_ports) (within : frames ≤ 2 ^ 32) (fresh : All IsFresh old) (octets : map octets_at old ≡ captures_of (sendings seed frames))
-    (served : ServesEnds {S = SureSource} {K = CountSink} {C = MemClock} (λ s. Some (sure_left s)) (λ k. None) (λ s. 0) (λ k. 0) plan empty past None control_new old new) where
+module _ (plan : Plan) (seed frames : ℕ) (segments : List (List Row)) (control_new : Option (ControlEnds SureSource CountSink MemClock)) (old new : List LoadEnds)
+    (ports : map said plan.ports ≡ load_ports) (within : frames ≤ 2 ^ 32) (fresh : All IsFresh old) (octets : map octets_at old ≡ captures_of (sendings seed frames))
+    (served : ServesEnds {S = SureSource} {K = CountSink} {C = MemClock} (λ s. Some (sure_left s)) (λ k. None) (λ s. 0) (λ k. 0) plan segments None control_new old new) where
   five_ports : length plan.ports ≡ 5
   five_ports = sym (length-map plan.ports said) ∙ ap length ports
 
@@ -102,9 +102,9 @@ module _ (plan : Plan) (seed frames : ℕ) (past : List Row) (control_new : Opti
   some_ends : LoadEnds
   some_ends = element old 0 (omega (arith, five_ends))
 
-  -- what each port's ends were to the history
+  -- what the segments were to each port's ends
   abbrev Was : ℕ → Input → Type 0
-  Was k i = IsServed {S = SureSource} {K = CountSink} {C = MemClock} (λ s. Some (sure_left s)) (λ k. None) (λ s. 0) (λ k. 0) (Comes (get_or old k some_ends).reader) plan empty past (port_number_at plan k) (get_or served.inputs k i) (served.stops.ports (port_number_at plan k)) (get_or old k some_ends).ends (get_or new k some_ends).ends
+  Was k i = IsServed {S = SureSource} {K = CountSink} {C = MemClock} (λ s. Some (sure_left s)) (λ k. None) (λ s. 0) (λ k. 0) (Comes (get_or old k some_ends).reader) plan segments (port_number_at plan k) (get_or served.inputs k i) (served.stops.ports (port_number_at plan k)) (get_or old k some_ends).ends (get_or new k some_ends).ends
 
   was : (k : ℕ) (i : Input) → k < 5 → Was k i
   was k i inside = served.each k i (omega (arith, inside, five_ports)) some_ends
@@ -116,7 +116,7 @@ module _ (plan : Plan) (seed frames : ℕ) (past : List Row) (control_new : Opti
       let anew : p.reader ≡ Fresh classic_kinds = (fresh k some_ends (omega (arith, inside, five_ends))).anew in
       let one : Was k i = was k i inside in
       let got : Input = get_or served.inputs k i in
-      let ended_so : Option How = input_end (port_number_at plan k) past in
+      let ended_so : Option How = input_end (port_number_at plan k) (unbroken segments) in
       let after : Option (List ℕ) = Some (sure_left (get_or new k some_ends).ends.source) in
       let gave : IsInputOf (Arrive classic_kinds) (Some (octets_at p)) after ended_so got.arrivals got.ending =
       subst (λ (r : State). IsInputOf (Comes r) (Some (octets_at p)) after ended_so got.arrivals got.ending) anew one.gave in
@@ -133,30 +133,29 @@ module _ (plan : Plan) (seed frames : ℕ) (past : List Row) (control_new : Opti
       input_is k i inside ∙ sym (get_or-map (λ (port : ℕ). input_at port (sendings seed frames)) numbers_five k 0 i inside))
 
   abbrev Silent : Type 0
-  Silent = past ≡ replayed plan empty None served.inputs served.stops
+  Silent = segments ≡ replayed plan None served.inputs served.stops
 
   silent : Silent
   silent =
       served.replay
-      ∙ ap (λ (lines : Option control.Input). replayed plan empty lines served.inputs served.stops) (no_lines control_new plan past served.lines served.stops.control served.control)
+      ∙ ap (λ (lines : Option control.Input). replayed plan lines served.inputs served.stops) (no_lines control_new plan segments served.lines served.stops.control served.control)
 
-  none_failed : IsOfOutput plan past → ⊥
+  none_failed : IsOfOutput plan (unbroken segments) → ⊥
   none_failed (inl found) =
       let inside : found.0 < 5 = omega (arith, found.1, five_ports) in
       never_rose ((was found.0 (record { arrivals = []; ending = hows.End }) inside).broken_out found.2)
   none_failed (inr found) =
-      let ended : control_end past ≡ Some hows.End =
-      subst (λ (p : List Row). control_end p ≡ Some hows.End) (sym silent) (without_control plan served.inputs served.stops valid.ports served.size).1 in
+      let legal : AreLegal plan (replayed plan None served.inputs served.stops) = subst (λ (all : List (List Row)). AreLegal plan all) silent served.session.legal in
+      let ended : control_end (unbroken segments) ≡ Some hows.End =
+      subst (λ (all : List (List Row)). control_end (unbroken all) ≡ Some hows.End) (sym silent) (without_control plan served.inputs served.stops legal).1 in
       cc
 
-  unfailed : has_failed_write past ≡ false
-  unfailed = not_true (has_failed_write past) (λ failed.
-      let at : has_failed_write (replayed plan empty None served.inputs served.stops) ≡ true = subst (λ (p : List Row). has_failed_write p ≡ true) silent failed in
-      none_failed (subst (λ (p : List Row). IsOfOutput plan p) (sym silent) (failed_write_at_output plan empty None served.inputs served.stops at)))
+  unfailed : has_failed_write (unbroken segments) ≡ false
+  unfailed = not_true (has_failed_write (unbroken segments)) (λ failed. none_failed (failed_write_at_output plan segments served.session.legal failed))
 
-  pub load_was_replayed : past ≡ load_history plan seed frames
-  unfolding load_history
+  pub load_was_replayed : segments ≡ load_segments plan seed frames
+  unfolding load_segments
   load_was_replayed =
       silent
-      ∙ replayed_unstopped plan empty served.stops None served.inputs (subst (λ (p : List Row). has_failed_write p ≡ false) silent unfailed)
-      ∙ ap (λ (inputs : List Input). replayed plan empty None inputs no_stops) inputs_are
+      ∙ replayed_unstopped plan served.stops None served.inputs (subst (λ (all : List (List Row)). has_failed_write (unbroken all) ≡ false) silent unfailed)
+      ∙ ap (λ (inputs : List Input). replayed plan None inputs no_stops) inputs_are

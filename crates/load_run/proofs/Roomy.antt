@@ -1,5 +1,5 @@
--- For each input of a load there is room in the history, so that every end is an ordinary one.
-use Rattle.std.proofs.Common.{◌≡◌, ◌≢◌, ℕ, zero, suc, ◌+◌, ◌*◌, ◌%◌, ◌<◌, ◌≤◌, ◌^◌, ◌==◌, ◌&&◌, ◌||◌, nat_lt, nat_le, if◌then◌else◌, Bool, true, false, List, [], ◌∷◌, ◌++◌, length, map, filter, refl, sym, ap, ◌∙◌, subst, arith, length-append, Option, None, inl, inr}
+-- For each input of a load there is room in the first segment, so that every end is an ordinary one.
+use Rattle.std.proofs.Common.{◌≡◌, ◌≢◌, ℕ, zero, suc, ◌+◌, ◌*◌, ◌%◌, ◌<◌, ◌≤◌, ◌==◌, ◌&&◌, ◌||◌, nat_lt, nat_le, if◌then◌else◌, Bool, true, false, List, [], ◌∷◌, ◌++◌, length, map, filter, refl, sym, ap, ◌∙◌, subst, arith, append-nil, length-append, None, inl, inr}
 use Rattle.std.specs.List.{range_with_len}
 use Rattle.std.proofs.lemmas.Bool.{cases_eq}
 use Rattle.std.proofs.lemmas.Bool.Decides.{nat_tests}
@@ -10,7 +10,6 @@ use Rattle.savi_kinds.specs.declared.entry.Act.TheVariants as acts
 use Rattle.savi_kinds.specs.declared.plan.Plan.{Plan}
 use Rattle.savi_kinds.specs.declared.plan.PortPlan.{PortPlan}
 use Rattle.savi_kinds.specs.declared.port.Port.{Port}
-use Rattle.savi_kinds.specs.declared.entry.Who.{Who}
 use Rattle.savi_kinds.specs.declared.entry.Who.TheVariants as passes
 use Rattle.savi_kinds.specs.declared.entry.How.{How}
 use Rattle.savi_kinds.specs.declared.entry.How.TheVariants as hows
@@ -33,9 +32,11 @@ use Rattle.savi_history.specs.Limits.{has_room}
 use Rattle.savi_history.specs.Merges.{enter, merge, merged}
 use Rattle.savi_history.specs.Passes.{pass_of, egress_pass, has_ended}
 use Rattle.savi_history.specs.Queues.{queue}
-use Rattle.savi_history.specs.Replay.{event_of, with_event, begun, with_drain, drained, entered, after, after_all, closing, with_end, egress_ended, replayed}
-use Rattle.savi_history.specs.Turns.{Turn, Arrives, Commands, Ends, who_of, turn_at, turns, port_turns, control_turns, all_turns}
-use Rattle.load_run.specs.LoadHistory.{AreOrdinary, IsOrdinary, input_at, load_inputs, load_history, no_stops}
+use Rattle.savi_history.specs.Replay.{event_of, with_event, begun, with_drain, drained, closing, with_end, egress_ended, closed}
+use Rattle.savi_history.specs.Turns.{Turn, Arrives, Commands, Ends, who_of, turn_at, turns, port_turns, all_turns}
+use Rattle.savi_segments.specs.Replay.{Run, has_ended_in, all_closed, turned, entered_in, taken, taken_if_open, all_taken, run_begun}
+use Rattle.savi_segments.specs.Segments.{joined}
+use Rattle.load_run.specs.LoadHistory.{AreOrdinary, IsOrdinary, input_at, load_inputs, load_segments, no_stops}
 
 -- frames of at most 100 octets, and then the end
 abbrev IsLight : Arrival → Type 0
@@ -241,11 +242,21 @@ few_turns (p ∷ ports) (n ∷ ns) all =
 roomy : (a b c d : ℕ) → a < b → c ≤ d → (nat_lt a b && nat_le c d) ≡ true
 roomy a b c d less within = grind (arith, nat_tests)
 
--- Behind n turns the history has few entries, keeps few octets, and has no end but ordinary ones.
-record Behind (n : ℕ) (past : List Row) : Type 0 where
-  few : length past ≤ 6 * n
-  light : held past ≤ 100 * n
-  ordinary : AreOrdinary past
+-- a run whose first segment goes on, with these rows
+abbrev first_run : List Row → Run
+first_run past = record { closed = []; past = past }
+
+-- the first segment goes on, and has no end but ordinary ones
+record IsFirst (run : Run) : Type 0 where
+  first : run ≡ first_run run.past
+  ordinary : AreOrdinary run.past
+
+-- Behind n turns it has few entries, and keeps few octets.
+record Behind (n : ℕ) (run : Run) : Type 0 where
+  first : run ≡ first_run run.past
+  few : length run.past ≤ 6 * n
+  light : held run.past ≤ 100 * n
+  ordinary : AreOrdinary run.past
 
 -- behind at most k drains
 record Drained (k : ℕ) (before now : List Row) : Type 0 where
@@ -267,44 +278,43 @@ module _ (plan : Plan) (five : length plan.ports ≡ 5) (entries : plan.entries 
       let rest : Drained (length qs) mid (drained plan empty no_stops.ports qs mid) = all_drained qs mid in
       record { few = omega (arith, first.few, rest.few); same = rest.same ∙ first.same; ordinary = λ o. rest.ordinary (first.ordinary o) }
 
-  one_frame : (past : List Row) (n : ℕ) (port : Port) (stamp : ℕ) (octets : List ℕ) → length octets ≤ 100 → Behind n past
-      → Behind (n + 1) (drained plan empty no_stops.ports plan.ports (with_event plan empty past (event_of port (arrivals.Frame stamp octets))))
+  one_frame : (past : List Row) (n : ℕ) (port : Port) (stamp : ℕ) (octets : List ℕ) → length octets ≤ 100 → Behind n (first_run past)
+      → Behind (n + 1) (first_run (drained plan empty no_stops.ports plan.ports (with_event plan empty past (event_of port (arrivals.Frame stamp octets)))))
   one_frame past n port stamp octets light was =
       let next : List Row = with_event plan empty past (event_of port (arrivals.Frame stamp octets)) in
       let all : Drained (length plan.ports) next (drained plan empty no_stops.ports plan.ports next) = all_drained plan.ports next in
       let kept : held next ≡ length octets + held past = refl in
       record {
+        first = refl;
         few = omega (arith, was.few, all.few, five);
         light = omega (arith, was.light, all.same, kept, light);
         ordinary = all.ordinary (tt, was.ordinary);
       }
 
-  one_arrival : (past : List Row) (n : ℕ) (port : Port) (a : Arrival) → IsLight a → n ≤ 100009 → Behind n past → Behind (n + 1) (entered plan empty no_stops (Arrives port a) past)
+  one_arrival : (past : List Row) (n : ℕ) (port : Port) (a : Arrival) → IsLight a → n ≤ 100009 → Behind n (first_run past) → Behind (n + 1) (taken plan no_stops (Arrives port a) (first_run past))
   one_arrival past n port (arrivals.Long stamp len) light within was = absurd light
   one_arrival past n port (arrivals.Frame stamp octets) light within was =
-      let event = event_of port (arrivals.Frame stamp octets) in
+      let turn : Turn = Arrives port (arrivals.Frame stamp octets) in
       let room : has_room plan past ≡ true =
       roomy (length past + 4130) plan.entries (held past + 1518) plan.bytes (omega (arith, was.few, within, entries)) (omega (arith, was.light, within, bytes)) in
-      subst (λ (b : Bool). Behind (n + 1) (if b then drained plan empty no_stops.ports plan.ports (with_event plan empty past event) else with_event plan empty past (End (passes.Ingress port) hows.Paused)))
-      (sym room) (one_frame past n port stamp octets light was)
+      subst (λ (b : Bool). Behind (n + 1) (entered_in plan no_stops turn (if b then first_run past else turned plan (first_run past)))) (sym room) (one_frame past n port stamp octets light was)
 
-  one_turn : (past : List Row) (n : ℕ) (turn : Turn) → IsSmall turn → n ≤ 100009 → Behind n past → Behind (n + 1) (entered plan empty no_stops turn past)
+  one_turn : (past : List Row) (n : ℕ) (turn : Turn) → IsSmall turn → n ≤ 100009 → Behind n (first_run past) → Behind (n + 1) (taken plan no_stops turn (first_run past))
   one_turn past n (Arrives port a) small within was = one_arrival past n port a small within was
   one_turn past n (Commands line) small within was = absurd small
-  one_turn past n (Ends who how) small within was = record { few = omega (arith, was.few); light = omega (arith, was.light); ordinary = (small, was.ordinary) }
+  one_turn past n (Ends who how) small within was = record { first = refl; few = omega (arith, was.few); light = omega (arith, was.light); ordinary = (small, was.ordinary) }
 
-  later : (past : List Row) (n : ℕ) → Behind n past → Behind (n + 1) past
-  later past n was = record { few = omega (arith, was.few); light = omega (arith, was.light); ordinary = was.ordinary }
+  next_turn : (run : Run) (n : ℕ) (turn : Turn) (over : Bool) → IsSmall turn → n ≤ 100009 → Behind n run → Behind (n + 1) (if over then run else taken plan no_stops turn run)
+  next_turn run n turn true small within was = record { first = was.first; few = omega (arith, was.few); light = omega (arith, was.light); ordinary = was.ordinary }
+  next_turn run n turn false small within was =
+      let one : Behind n (first_run run.past) = record { first = refl; few = was.few; light = was.light; ordinary = was.ordinary } in
+      subst (λ (r : Run). Behind (n + 1) (taken plan no_stops turn r)) (sym was.first) (one_turn run.past n turn small within one)
 
-  next_turn : (past : List Row) (n : ℕ) (turn : Turn) (over : Bool) → IsSmall turn → n ≤ 100009 → Behind n past → Behind (n + 1) (if over then past else entered plan empty no_stops turn past)
-  next_turn past n turn true small within was = later past n was
-  next_turn past n turn false small within was = one_turn past n turn small within was
-
-  all_turned : (ts : List Turn) (past : List Row) (n : ℕ) → AreSmall ts → n + length ts ≤ 100009 → Behind n past → AreOrdinary (after_all plan empty no_stops ts past)
-  all_turned [] past n small within was = was.ordinary
-  all_turned (t ∷ ts) past n small within was =
-      all_turned ts (after plan empty no_stops t past) (n + 1) small.1 (omega (arith, within))
-      (next_turn past n t (has_ended empty (pass_of plan (who_of t)) past) small.0 (omega (arith, within)) was)
+  all_turned : (ts : List Turn) (run : Run) (n : ℕ) → AreSmall ts → n + length ts ≤ 100009 → Behind n run → IsFirst (all_taken plan no_stops ts run)
+  all_turned [] run n small within was = record { first = was.first; ordinary = was.ordinary }
+  all_turned (t ∷ ts) run n small within was =
+      all_turned ts (taken_if_open plan no_stops t run) (n + 1) small.1 (omega (arith, within))
+      (next_turn run n t (has_ended_in plan (pass_of plan (who_of t)) run) small.0 (omega (arith, within)) was)
 
   not_begun : (ports : List PortPlan) (past : List Row) → begun plan empty no_stops.ports ports past ≡ past
   not_begun [] past = refl
@@ -318,8 +328,13 @@ module _ (plan : Plan) (five : length plan.ports ≡ 5) (entries : plan.entries 
   all_ended [] past o = o
   all_ended (q ∷ qs) past o = all_ended qs (with_end plan empty q.number past) (one_ended past q.number (has_ended empty (egress_pass plan (number_of q.number)) past) o)
 
-  pub load_is_ordinary : (seed frames : ℕ) → frames ≤ 100000 → AreOrdinary (load_history plan seed frames)
-  unfolding load_history load_inputs
+  -- where nothing but the first segment went on, it is all there is
+  one_closed : (past : List Row) → AreOrdinary past → AreOrdinary (joined (all_closed plan (first_run past)))
+  one_closed past o =
+      subst (λ (p : List Row). AreOrdinary p) (sym (append-nil (closed plan empty past))) (all_ended plan.ports (with_event plan empty past (End passes.Ticker (closing past))) (closed_so past o, o))
+
+  pub load_is_ordinary : (seed frames : ℕ) → frames ≤ 100000 → AreOrdinary (joined (load_segments plan seed frames))
+  unfolding load_segments load_inputs
   load_is_ordinary seed frames within =
       let all : List Sending = sendings seed frames in
       let lists : List (List Turn) = all_turns None plan.ports (load_inputs seed frames) in
@@ -328,7 +343,8 @@ module _ (plan : Plan) (five : length plan.ports ≡ 5) (entries : plan.entries 
       let fewer : total (port_turns plan.ports (load_inputs seed frames)) ≤ sizes (1 ∷ 2 ∷ 3 ∷ 4 ∷ 5 ∷ []) all = few_turns plan.ports (1 ∷ 2 ∷ 3 ∷ 4 ∷ 5 ∷ []) all in
       let sized : total lists ≡ 1 + total (port_turns plan.ports (load_inputs seed frames)) = refl in
       let number : length ts ≤ 100009 = omega (arith, within, fewer, sized, length_merged lists, few_at_all all, few_sendings seed frames) in
-      let start : Behind 0 (begun plan empty no_stops.ports plan.ports []) = subst (λ (p : List Row). Behind 0 p) (sym (not_begun plan.ports [])) (record { few = omega arith; light = omega arith; ordinary = tt }) in
-      let taken : List Row = after_all plan empty no_stops ts (begun plan empty no_stops.ports plan.ports []) in
-      let turned : AreOrdinary taken = all_turned ts (begun plan empty no_stops.ports plan.ports []) 0 small (omega (arith, number)) start in
-      all_ended plan.ports (with_event plan empty taken (End passes.Ticker (closing taken))) (closed_so taken turned, turned)
+      let none : Behind 0 (first_run []) = record { first = refl; few = omega arith; light = omega arith; ordinary = tt } in
+      let start : Behind 0 (run_begun plan no_stops) = subst (λ (p : List Row). Behind 0 (first_run p)) (sym (not_begun plan.ports [])) none in
+      let run : Run = all_taken plan no_stops ts (run_begun plan no_stops) in
+      let behind : IsFirst run = all_turned ts (run_begun plan no_stops) 0 small (omega (arith, number)) start in
+      subst (λ (r : Run). AreOrdinary (joined (all_closed plan r))) (sym behind.first) (one_closed run.past behind.ordinary)

@@ -1,4 +1,4 @@
--- The history of a load: the replay of what it sends, at a switch of its plan.
+-- The segments of a load: the replay of what it sends, at a switch of its plan.
 use Rattle.std.specs.Prelude.{ℕ, ◌≡◌, List, [], ◌∷◌, map, None}
 use Rattle.savi_kinds.specs.declared.entry.Act.{Act}
 use Rattle.savi_kinds.specs.declared.entry.Act.TheVariants as acts
@@ -9,8 +9,8 @@ use Rattle.hist_store.specs.Rows.{Row}
 use Rattle.load_gen.specs.Captures.{sent_at}
 use Rattle.load_gen.specs.Inputs.{arrival_with}
 use Rattle.load_gen.specs.Sendings.{Sending, sendings}
-use Rattle.checkpoint.specs.Bases.{empty}
-use Rattle.savi_history.specs.Replay.{Stops, replayed}
+use Rattle.savi_history.specs.Replay.{Stops}
+use Rattle.savi_segments.specs.Replay.{replayed}
 
 -- what comes in at a port: the frames that are sent there, each with its moment as its stamp, and then the end
 abbrev pub input_at : ℕ → List Sending → Input
@@ -25,11 +25,10 @@ abbrev pub no_stops : Stops
 no_stops = record { ports = λ port. None; control = None }
 
 -- the replay of a load at a switch of this plan, without control
-unfoldable pub load_history : Plan → ℕ → ℕ → List Row
-load_history plan seed frames = replayed plan empty None (load_inputs seed frames) no_stops
+unfoldable pub load_segments : Plan → ℕ → ℕ → List (List Row)
+load_segments plan seed frames = replayed plan None (load_inputs seed frames) no_stops
 
--- every end in a history is an ordinary one: no read and no write failed, no input was malformed, and for each there was
--- room
+-- every end in a history is an ordinary one: no read and no write failed, no input was malformed, and none was paused
 abbrev pub IsOrdinary : Act → Type 0
 IsOrdinary (acts.Frame port stamp at len) = Unit {0}
 IsOrdinary (acts.Long port stamp len) = Unit {0}

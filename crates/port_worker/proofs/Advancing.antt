@@ -9,26 +9,30 @@ use Rattle.savi_kinds.specs.ValidPlan.{numbers_of}
 use Rattle.savi_kinds.specs.Arrivals.{Arrival}
 use Rattle.savi_kinds.specs.declared.entry.Who.TheVariants.{Ingress}
 use Rattle.hist_store.specs.Rows.{Row}
-use Rattle.checkpoint.specs.Bases.{empty}
-use Rattle.savi_history.specs.Limits.{has_room}
+use Rattle.checkpoint.specs.Bases.{Base}
+use Rattle.savi_history.specs.Events.{End}
 use Rattle.savi_history.specs.Passes.{has_ended, has_port, pass_of, egress_pass, ticker_pass}
 use Rattle.savi_history.specs.Queues.{queue}
-use Rattle.savi_history.specs.Turns.{Turn, Arrives}
-use Rattle.savi_history.specs.Replay.{Stops, pieces_by, event_of, with_event, drained, entered}
+use Rattle.savi_history.specs.Turns.{Turn}
+use Rattle.savi_history.specs.Replay.{Stops, event_of, with_event, drained, entered}
 use Rattle.savi_history.proofs.PassNumbers.{number_at, known_at}
 use Rattle.savi_history.proofs.PortPlaces.{length-numbers, place_within}
 use Rattle.savi_history.proofs.Waiting.{ended_arrival}
 use Rattle.savi_history.proofs.Depth.{queue_within}
+use Rattle.savi_segments.specs.Replay.{Run, base_in, entered_in, pieces_in, run_with, stops_left}
+use Rattle.savi_core.specs.Machines.{Machine, base_of}
 use Rattle.port_worker.specs.declared.port_ends.Ahead.{Ahead}
+use Rattle.port_worker.specs.declared.port_ends.Ahead.TheVariants as aheads
 use Rattle.port_worker.specs.declared.port_ends.PortEnds.{PortEnds}
 use Rattle.port_worker.specs.Pairs.{EachPair}
 use Rattle.port_worker.specs.SentFrames.{TookMore, OnlySink}
 use Rattle.port_worker.specs.Drains.{IsDrainable}
 use Rattle.port_worker.specs.Outputs.{IsOutput, AreOutputs, Allows, ArePortsAllowed, OutputsGoOn}
-use Rattle.port_worker.specs.Steps.{Enters, IsStepped}
+use Rattle.port_worker.specs.Steps.{Enters, IsStepped, ahead_after, ends_input}
 use Rattle.port_worker.specs.Replays.{ports_held, ports_planned}
+use Rattle.port_worker.specs.Turnings.{StandsAt}
 use Rattle.port_worker.proofs.Planned.{count_is, number_is}
-use Rattle.port_worker.proofs.KeptOutputs.{KeepsOutput, keeps_pieces, keeps_arrival, keeps_ingress, output_kept, closed_arrival}
+use Rattle.port_worker.proofs.KeptOutputs.{KeepsOutput, keeps_in, keeps_pieces, keeps_arrival, keeps_ingress, output_kept, closed_arrival}
 use Rattle.port_worker.proofs.Draining.{only_itself}
 
 module _ {S K C : Type 0} (written : K → Option (List ℕ)) (faults : K → ℕ) (old : List (PortEnds S K C)) (place : ℕ) (x y : PortEnds S K C) (inside : place < length old) (is : (d : PortEnds S K C) → get_or old place d ≡ x) (rest : y ≡ record x { ahead = y.ahead }) where
@@ -75,9 +79,14 @@ module _ {S K C : Type 0} (written : K → Option (List ℕ)) (faults : K → �
   pub stepped_only : EachPair (IsStepped written faults) old (set old place y)
   stepped_only = stepped_then (set old place y) (record { size = refl; each = λ k d within. only_itself written faults (get_or (set old place y) k d) })
 
+  -- what is known of the port's input
+  pub ahead_then : (new : List (PortEnds S K C)) (d : PortEnds S K C) → EachPair (OnlySink written faults) (set old place y) new → (get_or new place d).ahead ≡ y.ahead
+  ahead_then new d sinks =
+      ap (λ (p : PortEnds S K C). p.ahead) (sinks.each place d (omega (arith, length-set old place y, inside))).same ∙ ap (λ (p : PortEnds S K C). p.ahead) (get_or-set_same old place y d inside)
+
   -- what the entry of a turn leaves of the outputs
-  module _ (plan : Plan) (past mid : List Row) (planned : ports_held old ≡ ports_planned plan) (keeps : (k : ℕ) → k < length plan.ports → KeepsOutput plan (number_at plan k) past mid) where
-    pub outputs_kept : (first : List (PortEnds S K C)) (known : Stops) → AreOutputs written faults plan known past first old → AreOutputs written faults plan known mid first (set old place y)
+  module _ (plan : Plan) (run : Run) (mid : List Row) (planned : ports_held old ≡ ports_planned plan) (keeps : (k : ℕ) → k < length plan.ports → KeepsOutput plan (base_in plan run) (number_at plan k) run.past mid) where
+    outputs_kept : (first : List (PortEnds S K C)) (known : Stops) → AreOutputs written faults plan known run first old → AreOutputs written faults plan known (run_with run mid) first (set old place y)
     outputs_kept first known was = record {
       size = length-set old place y ∙ was.size;
       each = λ k d within.
@@ -86,80 +95,113 @@ module _ {S K C : Type 0} (written : K → Option (List ℕ)) (faults : K → �
           let count = count_is old plan planned in
           let n = number_of (get_or first k d).port in
           let n_is : n ≡ number_at plan k = ap number_of (sym one.port) ∙ number_is old plan k d planned (omega (arith, within)) in
-          let here : KeepsOutput plan n past mid = subst (λ (m : ℕ). KeepsOutput plan m past mid) (sym n_is) (keeps k (omega (arith, within))) in
+          let here : KeepsOutput plan (base_in plan run) n run.past mid = subst (λ (m : ℕ). KeepsOutput plan (base_in plan run) m run.past mid) (sym n_is) (keeps k (omega (arith, within))) in
           let sink_is = sink_kept k d in
           record {
             port = port_kept k d ∙ one.port;
             later = subst (λ (s : K). faults (get_or first k d).ends.sink ≤ faults s) (sym sink_is) one.later;
-            output = subst (λ (s : K). IsOutput written faults plan mid n (get_or first k d).ends.sink s (known.ports n)) (sym sink_is)
-                (output_kept written faults plan n past mid (get_or first k d).ends.sink (get_or old k d).ends.sink (known.ports n) here one.output);
+            output = subst (λ (s : K). IsOutput written faults plan (run_with run mid) n (get_or first k d).ends.sink s (known.ports n)) (sym sink_is)
+                (output_kept written faults plan n run (run_with run mid) (get_or first k d).ends.sink (get_or old k d).ends.sink (known.ports n) (keeps_in plan run n mid here) one.output);
           };
     }
 
-    pub allowed_kept : (known stops : Stops) → ArePortsAllowed plan known stops mid → ArePortsAllowed plan known stops past
+    allowed_kept : (known stops : Stops) → ArePortsAllowed plan known stops (run_with run mid) → ArePortsAllowed plan known stops run
     allowed_kept known stops allowed k d within =
         let size = length-numbers plan.ports in
-        subst (λ (n : ℕ). Allows (known.ports n) (stops.ports n) (pieces_by plan empty n past)) (get_or_default (numbers_of plan.ports) k 0 d within)
-        (subst (λ (c : ℕ). Allows (known.ports (number_at plan k)) (stops.ports (number_at plan k)) c) (keeps_pieces plan (number_at plan k) past mid (keeps k (omega (arith, within)))) (allowed k 0 within))
+        let n = number_at plan k in
+        subst (λ (m : ℕ). Allows (known.ports m) (stops.ports m) (pieces_in plan m run)) (get_or_default (numbers_of plan.ports) k 0 d within)
+        (subst (λ (c : ℕ). Allows (known.ports n) (stops.ports n) c) (keeps_pieces plan n run (run_with run mid) (keeps_in plan run n mid (keeps k (omega (arith, within))))) (allowed k 0 within))
 
     -- an entry behind which nothing is drained
-    pub goes_on_only : (made : Stops → List Row) → ((stops : Stops) → mid ≡ made stops) → OutputsGoOn written faults plan past mid old (set old place y) made
+    pub goes_on_only : (made : Stops → Run) → ((stops : Stops) → run_with run mid ≡ made stops) → OutputsGoOn written faults plan run (run_with run mid) old (set old place y) made
     goes_on_only made made_so first known was = (known, outputs_kept first known was, record { before = λ stops allowed. allowed_kept known stops allowed; made_so = λ stops allowed. made_so stops })
 
     -- an entry and the drains behind it
-    pub goes_on_then : (now : List Row) (new : List (PortEnds S K C)) (made then : Stops → List Row) → OutputsGoOn written faults plan mid now (set old place y) new then → ((stops : Stops) → then stops ≡ made stops) → OutputsGoOn written faults plan past now old new made
+    pub goes_on_then : (now : Run) (new : List (PortEnds S K C)) (made then : Stops → Run) → OutputsGoOn written faults plan (run_with run mid) now (set old place y) new then → ((stops : Stops) → then stops ≡ made stops) → OutputsGoOn written faults plan run now old new made
     goes_on_then now new made then goes same first known was =
         let later = goes first known (outputs_kept first known was) in
         (later.0, later.1, record { before = λ stops allowed. allowed_kept known stops (later.2.before stops allowed); made_so = λ stops allowed. later.2.made_so stops allowed ∙ same stops })
 
 -- behind an arrival that was entered each queue may be drained
-drainable_behind : (plan : Plan) (past : List Row) (port here : Port) (arrival : Arrival) (k : ℕ) → plan.depth ≤ 256 → k < length plan.ports → number_of here ≡ number_at plan k → queue plan empty (number_of here) past ≡ [] → IsDrainable plan (with_event plan empty past (event_of port arrival)) here
-drainable_behind plan past port here arrival k depth within number quiet =
-    let few = queue_within plan empty (number_of here) (with_event plan empty past (event_of port arrival)) in
-    let n_quiet : queue plan empty (number_at plan k) past ≡ [] = ap (λ (n : ℕ). queue plan empty n past) (sym number) ∙ quiet in
+drainable_behind : (plan : Plan) (base : Base) (past : List Row) (port here : Port) (arrival : Arrival) (k : ℕ) → plan.depth ≤ 256 → k < length plan.ports → number_of here ≡ number_at plan k → queue plan base (number_of here) past ≡ []
+    → IsDrainable plan base (with_event plan base past (event_of port arrival)) here
+drainable_behind plan base past port here arrival k depth within number quiet =
+    let few = queue_within plan base (number_of here) (with_event plan base past (event_of port arrival)) in
+    let n_quiet : queue plan base (number_at plan k) past ≡ [] = ap (λ (n : ℕ). queue plan base n past) (sym number) ∙ quiet in
     record {
       known = ap (has_port plan) number ∙ known_at plan k within;
       few = omega (arith, few, depth);
       quiet = λ ended.
-          let ended_k : has_ended empty (egress_pass plan (number_at plan k)) past ≡ true =
-          sym (ended_arrival plan empty past port arrival (egress_pass plan (number_at plan k))) ∙ ap (λ (n : ℕ). has_ended empty (egress_pass plan n) (with_event plan empty past (event_of port arrival))) (sym number) ∙ ended in
-          ap (λ (n : ℕ). queue plan empty n (with_event plan empty past (event_of port arrival))) number ∙ closed_arrival plan past port arrival k within ended_k ∙ n_quiet;
+          let ended_k : has_ended base (egress_pass plan (number_at plan k)) past ≡ true =
+          sym (ended_arrival plan base past port arrival (egress_pass plan (number_at plan k))) ∙ ap (λ (n : ℕ). has_ended base (egress_pass plan n) (with_event plan base past (event_of port arrival))) (sym number) ∙ ended in
+          ap (λ (n : ℕ). queue plan base n (with_event plan base past (event_of port arrival))) number ∙ closed_arrival plan base past port arrival k within ended_k ∙ n_quiet;
     }
 
-pub drainable_then : (plan plan' : Plan) (port here here' : Port) (o : Option Turn) (past mid : List Row) (result : Bool) (k : ℕ) → plan.depth ≤ 256 → plan' ≡ plan → here' ≡ here → result ≡ true → IsSome o → IfSome o (λ turn. Enters plan port turn past result mid)
-    → k < length plan.ports → number_of here ≡ number_at plan k → queue plan empty (number_of here) past ≡ [] → IsDrainable plan' mid here'
-drainable_then plan plan' port here here' None past mid result k depth plan_is here_is answer some enters within number quiet = cc
-drainable_then plan plan' port here here' (Some turn) past mid result k depth plan_is here_is answer some enters within number quiet =
-    let e : Enters plan port turn past true mid = subst (λ (b : Bool). Enters plan port turn past b mid) answer enters in
-    subst (λ (p : Plan). IsDrainable p mid here') (sym plan_is) (subst (λ (p : Port). IsDrainable plan mid p) (sym here_is) (subst (λ (l : List Row). IsDrainable plan l here) (sym e.3) (drainable_behind plan past port here e.0 k depth within number quiet)))
+pub drainable_then : (plan plan' : Plan) (base base' : Base) (port here here' : Port) (o : Option Turn) (past mid : List Row) (result : Bool) (k : ℕ) → plan.depth ≤ 256 → plan' ≡ plan → base' ≡ base → here' ≡ here → result ≡ true → IsSome o
+    → IfSome o (λ turn. Enters plan base port turn past result mid) → k < length plan.ports → number_of here ≡ number_at plan k → queue plan base (number_of here) past ≡ [] → IsDrainable plan' base' mid here'
+drainable_then plan plan' base base' port here here' None past mid result k depth plan_is base_is here_is answer some enters within number quiet = cc
+drainable_then plan plan' base base' port here here' (Some turn) past mid result k depth plan_is base_is here_is answer some enters within number quiet =
+    let e : Enters plan base port turn past true mid = subst (λ (b : Bool). Enters plan base port turn past b mid) answer enters in
+    subst (λ (p : Plan). IsDrainable p base' mid here') (sym plan_is)
+    (subst (λ (b : Base). IsDrainable plan b mid here') (sym base_is)
+    (subst (λ (p : Port). IsDrainable plan base mid p) (sym here_is) (subst (λ (l : List Row). IsDrainable plan base l here) (sym e.2) (drainable_behind plan base past port here e.0 k depth within number quiet))))
+
+-- what is known of the input behind the turn
+
+pub ahead_arrived : (plan : Plan) (base : Base) (port : Port) (o : Option Turn) (past mid : List Row) (result : Bool) (a : Ahead) → result ≡ true → IfSome o (λ turn. Enters plan base port turn past result mid) → a ≡ aheads.Unread → IfSome o (λ turn. a ≡ ahead_after (ends_input turn))
+ahead_arrived plan base port None past mid result a answer enters is = tt
+ahead_arrived plan base port (Some turn) past mid result a answer enters is =
+    let e : Enters plan base port turn past true mid = subst (λ (b : Bool). Enters plan base port turn past b mid) answer enters in
+    is ∙ sym (ap (λ (t : Turn). ahead_after (ends_input t)) e.1)
+
+pub ahead_ended : (plan : Plan) (base : Base) (port : Port) (o : Option Turn) (past mid : List Row) (result : Bool) (a : Ahead) → result ≡ false → IfSome o (λ turn. Enters plan base port turn past result mid) → a ≡ aheads.Done → IfSome o (λ turn. a ≡ ahead_after (ends_input turn))
+ahead_ended plan base port None past mid result a answer enters is = tt
+ahead_ended plan base port (Some turn) past mid result a answer enters is =
+    let e : Enters plan base port turn past false mid = subst (λ (b : Bool). Enters plan base port turn past b mid) answer enters in
+    is ∙ sym (ap (λ (t : Turn). ahead_after (ends_input t)) e.1)
 
 -- the outputs behind an arrival and its drains, and behind an ending
 
-module _ {S K C : Type 0} (written : K → Option (List ℕ)) (faults : K → ℕ) (old : List (PortEnds S K C)) (place : ℕ) (x y : PortEnds S K C) (inside : place < length old) (is : (d : PortEnds S K C) → get_or old place d ≡ x) (rest : y ≡ record x { ahead = y.ahead }) (plan : Plan) (planned : ports_held old ≡ ports_planned plan)
-    (past mid : List Row) (port : Port) where
-  pub outputs_arrived : (o : Option Turn) (plan' : Plan) (now : List Row) (new : List (PortEnds S K C)) (result : Bool) → result ≡ true → plan' ≡ plan → IfSome o (λ turn. Enters plan port turn past result mid)
-      → OutputsGoOn written faults plan' mid now (set old place y) new (λ stops. drained plan' empty stops.ports plan'.ports mid) → IfSome o (λ turn. OutputsGoOn written faults plan past now old new (λ stops. entered plan empty stops turn past))
-  outputs_arrived None plan' now new result answer plan_is enters goes = tt
-  outputs_arrived (Some turn) plan' now new result answer plan_is enters goes =
-      let e : Enters plan port turn past true mid = subst (λ (b : Bool). Enters plan port turn past b mid) answer enters in
-      let goes_plan : OutputsGoOn written faults plan mid now (set old place y) new (λ stops. drained plan empty stops.ports plan.ports mid) =
-      subst (λ (p : Plan). OutputsGoOn written faults p mid now (set old place y) new (λ stops. drained p empty stops.ports p.ports mid)) plan_is goes in
-      goes_on_then written faults old place x y inside is rest plan past mid planned
-      (λ k within. subst (λ (l : List Row). KeepsOutput plan (number_at plan k) past l) (sym e.3) (keeps_arrival plan past port e.0 k within))
-      now new (λ stops. entered plan empty stops turn past) (λ stops. drained plan empty stops.ports plan.ports mid) goes_plan (λ stops. made_arrival stops turn e.0 e.1 e.2 e.3)
-    where
-      made_arrival : (stops : Stops) (turn : Turn) (arrival : Arrival) → turn ≡ Arrives port arrival → has_room plan past ≡ true → mid ≡ with_event plan empty past (event_of port arrival) → drained plan empty stops.ports plan.ports mid ≡ entered plan empty stops turn past
-      made_arrival stops turn arrival turn_is room mid_is =
-          ap (drained plan empty stops.ports plan.ports) mid_is
-          ∙ rw (turn_is, room) refl
+module _ {S K C : Type 0} (written : K → Option (List ℕ)) (faults : K → ℕ) (old : List (PortEnds S K C)) (place : ℕ) (x y : PortEnds S K C) (inside : place < length old) (is : (d : PortEnds S K C) → get_or old place d ≡ x) (rest : y ≡ record x { ahead = y.ahead }) (m mid : Machine)
+    (planned : ports_held old ≡ ports_planned m.plan) (port : Port) (run : Run) (stands : StandsAt m run) where
+  -- the rows behind the entry of this event, as the run has them
+  entered_row : (event_row : Base → List Row → List Row) → mid.past ≡ event_row (base_of m) m.past → mid.past ≡ event_row (base_in m.plan run) run.past
+  entered_row event_row mid_is = mid_is ∙ ap (λ (b : Base). event_row b m.past) stands.base ∙ ap (λ (l : List Row). event_row (base_in m.plan run) l) stands.rows
 
-  pub outputs_ended : (o : Option Turn) (result : Bool) → result ≡ false → pass_of plan (Ingress port) ≤ ticker_pass plan → IfSome o (λ turn. Enters plan port turn past result mid) → IfSome o (λ turn. OutputsGoOn written faults plan past mid old (set old place y) (λ stops. entered plan empty stops turn past))
+  pub outputs_arrived : (o : Option Turn) (now : List Row) (new : List (PortEnds S K C)) (result : Bool) → result ≡ true → mid.plan ≡ m.plan → base_of mid ≡ base_of m → IfSome o (λ turn. Enters m.plan (base_of m) port turn m.past result mid.past)
+      → ((r : Run) → StandsAt mid r → OutputsGoOn written faults mid.plan r (run_with r now) (set old place y) new (λ stops. run_with r (drained mid.plan (base_of mid) (stops_left mid.plan stops r).ports mid.plan.ports mid.past)))
+      → IfSome o (λ turn. OutputsGoOn written faults m.plan run (run_with run now) old new (λ stops. entered_in m.plan stops turn run))
+  outputs_arrived None now new result answer plan_is base_is enters goes = tt
+  outputs_arrived (Some turn) now new result answer plan_is base_is enters goes =
+      let plan = m.plan in
+      let base = base_in plan run in
+      let e : Enters plan (base_of m) port turn m.past true mid.past = subst (λ (b : Bool). Enters plan (base_of m) port turn m.past b mid.past) answer enters in
+      let mid_is : mid.past ≡ with_event plan base run.past (event_of port e.0) = entered_row (λ b l. with_event plan b l (event_of port e.0)) e.2 in
+      let base_mid : base_of mid ≡ base = base_is ∙ stands.base in
+      let stands_mid : StandsAt mid (run_with run mid.past) = record { base = base_mid ∙ ap (λ (p : Plan). base_in p run) (sym plan_is); rows = refl } in
+      let goes_plan : OutputsGoOn written faults plan (run_with run mid.past) (run_with run now) (set old place y) new (λ stops. run_with run (drained plan (base_of mid) (stops_left plan stops run).ports plan.ports mid.past)) =
+      subst (λ (p : Plan). OutputsGoOn written faults p (run_with run mid.past) (run_with run now) (set old place y) new (λ stops. run_with run (drained p (base_of mid) (stops_left p stops run).ports p.ports mid.past))) plan_is
+      (goes (run_with run mid.past) stands_mid) in
+      goes_on_then written faults old place x y inside is rest plan run mid.past planned
+      (λ k within. subst (λ (l : List Row). KeepsOutput plan base (number_at plan k) run.past l) (sym mid_is) (keeps_arrival plan base run.past port e.0 k within))
+      (run_with run now) new (λ stops. entered_in plan stops turn run) (λ stops. run_with run (drained plan (base_of mid) (stops_left plan stops run).ports plan.ports mid.past)) goes_plan
+      (λ stops.
+      let left = stops_left plan stops run in
+      ap (λ (l : List Row). run_with run l)
+      (ap (λ (b : Base). drained plan b left.ports plan.ports mid.past) base_mid ∙ ap (drained plan base left.ports plan.ports) mid_is ∙ ap (λ (t : Turn). entered plan base left t run.past) (sym e.1)))
+
+  pub outputs_ended : (o : Option Turn) (result : Bool) → result ≡ false → pass_of m.plan (Ingress port) ≤ ticker_pass m.plan → IfSome o (λ turn. Enters m.plan (base_of m) port turn m.past result mid.past)
+      → IfSome o (λ turn. OutputsGoOn written faults m.plan run (run_with run mid.past) old (set old place y) (λ stops. entered_in m.plan stops turn run))
   outputs_ended None result answer low enters = tt
   outputs_ended (Some turn) result answer low enters =
-      let e : Enters plan port turn past false mid = subst (λ (b : Bool). Enters plan port turn past b mid) answer enters in
-      goes_on_only written faults old place x y inside is rest plan past mid planned
-      (λ k within. subst (λ (l : List Row). KeepsOutput plan (number_at plan k) past l) (sym e.1) (keeps_ingress plan past port e.0 (number_at plan k) low))
-      (λ stops. entered plan empty stops turn past) e.2
+      let plan = m.plan in
+      let base = base_in plan run in
+      let e : Enters plan (base_of m) port turn m.past false mid.past = subst (λ (b : Bool). Enters plan (base_of m) port turn m.past b mid.past) answer enters in
+      let mid_is : mid.past ≡ with_event plan base run.past (End (Ingress port) e.0) = entered_row (λ b l. with_event plan b l (End (Ingress port) e.0)) e.2 in
+      goes_on_only written faults old place x y inside is rest plan run mid.past planned
+      (λ k within. subst (λ (l : List Row). KeepsOutput plan base (number_at plan k) run.past l) (sym mid_is) (keeps_ingress plan base run.past port e.0 (number_at plan k) low))
+      (λ stops. entered_in plan stops turn run)
+      (λ stops. ap (λ (l : List Row). run_with run l) (mid_is ∙ ap (λ (t : Turn). entered plan base (stops_left plan stops run) t run.past) (sym e.1)))
 
 -- the ingress pass of a port of the plan comes before the ticker
 pub ingress_low : (plan : Plan) (port : Port) → has_port plan (number_of port) ≡ true → pass_of plan (Ingress port) ≤ ticker_pass plan

@@ -1,9 +1,9 @@
 -- What control's source gave up fits the lines that a replay enters.
-use Rattle.std.proofs.Common.{◌≡◌, ◌≢◌, ℕ, true, false, List, refl, sym, subst, Option, Some, None, IfSome}
+use Rattle.std.proofs.Common.{◌≢◌, ℕ, true, false, List, sym, subst, Option, Some, None, IfSome}
 use Rattle.savi_kinds.specs.declared.entry.How.{How}
 use Rattle.savi_kinds.specs.declared.entry.How.TheVariants as hows
 use Rattle.cli_lang.specs.Arrivals.{Line, Input}
-use Rattle.savi_history.specs.ControlFits.{FitsControl, AreBeforeRefusal}
+use Rattle.savi_history.specs.ControlFits.{FitsControl}
 use Rattle.savi_history.specs.ControlFits as fits
 use Rattle.savi_history.specs.EnteredLines.{AreEntered, AreAll}
 use Rattle.savi_history.specs.EnteredLines as entered
@@ -29,14 +29,14 @@ all_of first input lines how all whole =
     subst (λ (ls : List Line). IfSome first (λ octets. AreLines true octets ls how)) (sym all.all) (subst (λ (h : How). IfSome first (λ octets. AreLines true octets input.arrivals h)) all.ending whole)
 
 pub fits_control : (first left : Option (List ℕ)) (input : Input) (lines : List Line) (ended_so : Option How) → AreEntered input lines ended_so → IsControlInputOf first left ended_so input.arrivals input.ending
-    → (ended_so ≡ Some hows.Paused → AreBeforeRefusal AreLines first left lines) → FitsControl AreLines first left lines ended_so
-fits_control first left input lines (Some hows.End) are came cut =
+    → FitsControl AreLines first left lines ended_so
+fits_control first left input lines (Some hows.End) are came =
     (all_of first input lines hows.End are (whole_of first left (Some hows.End) input.arrivals input.ending (λ same. cc) came), are.none)
-fits_control first left input lines (Some (hows.Malformed at)) are came cut =
+fits_control first left input lines (Some (hows.Malformed at)) are came =
     (all_of first input lines (hows.Malformed at) are (whole_of first left (Some (hows.Malformed at)) input.arrivals input.ending (λ same. cc) came), are.none)
-fits_control first left input lines (Some (hows.Overlong at)) are came cut =
+fits_control first left input lines (Some (hows.Overlong at)) are came =
     (all_of first input lines (hows.Overlong at) are (whole_of first left (Some (hows.Overlong at)) input.arrivals input.ending (λ same. cc) came), are.none)
-fits_control first left input lines (Some hows.Failed) are came cut =
+fits_control first left input lines (Some hows.Failed) are came =
     let here : IsControlInputOf first left (Some hows.Failed) input.arrivals hows.Failed = subst (λ (h : How). IsControlInputOf first left (Some hows.Failed) input.arrivals h) are.ending came in (
       record {
         gave = here.1;
@@ -45,9 +45,9 @@ fits_control first left input lines (Some hows.Failed) are came cut =
       },
       are.none,
     )
-fits_control first left input lines (Some hows.Paused) are came cut = (cut refl, are.none)
-fits_control first left input lines (Some hows.Quit) are came cut =
+fits_control first left input lines (Some hows.Paused) are came = absurd are
+fits_control first left input lines (Some hows.Quit) are came =
     (begins first input lines are.0 (whole_of first left (Some hows.Quit) input.arrivals input.ending (λ same. cc) came), are.1)
-fits_control first left input lines (Some hows.Unwritten) are came cut =
+fits_control first left input lines (Some hows.Unwritten) are came =
     (begins first input lines are.0 (whole_of first left (Some hows.Unwritten) input.arrivals input.ending (λ same. cc) came), are.1)
-fits_control first left input lines None are came cut = absurd are
+fits_control first left input lines None are came = absurd are

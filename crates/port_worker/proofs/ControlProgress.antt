@@ -1,5 +1,5 @@
 -- How far control's input was read and entered.
-use Rattle.std.proofs.Common.{◌≡◌, ◌≢◌, ℕ, ◌+◌, ◌≤◌, Bool, true, false, List, [], ◌∷◌, ◌++◌, length, map, refl, sym, ap, ◌∙◌, subst, append-nil, append_assoc, Option, Some, None, IfSome}
+use Rattle.std.proofs.Common.{◌≡◌, ℕ, ◌+◌, ◌≤◌, Bool, true, false, List, [], ◌∷◌, ◌++◌, length, map, refl, sym, ap, ◌∙◌, subst, append-nil, append_assoc, Option, Some, None, IfSome}
 use Rattle.std.specs.List.{All}
 use Rattle.std.proofs.lemmas.List.{map-append}
 use Rattle.savi_kinds.specs.declared.plan.Plan.{Plan}
@@ -10,21 +10,20 @@ use Rattle.savi_ends.specs.Octets.{Takes}
 use Rattle.cli_lang.specs.Arrivals.{Line, Input}
 use Rattle.cli_lang.specs.Readers.{State, Comes, IsFaultAt, longest_reach}
 use Rattle.hist_store.specs.Rows.{Row}
-use Rattle.savi_history.specs.ControlFits.{AreBeforeRefusal}
 use Rattle.savi_history.specs.Readable.{IsLineInRange, IsControlEnding, IsControlInput}
 use Rattle.savi_history.specs.ControlInputs.{entered_lines, control_end}
 use Rattle.savi_history.specs.Passes.{control_pass}
 use Rattle.savi_history.specs.Turns.{Turn, Commands, Ends, control_turns}
-use Rattle.savi_history.proofs.Ends.{AreOf}
-use Rattle.savi_history.proofs.Reaching.{Head, Unread, Known, Done}
-use Rattle.savi_history.proofs.Reaching as reaching
+use Rattle.savi_segments.proofs.ForGood.{AreOf}
+use Rattle.savi_segments.proofs.Reaching.{Head, Unread, Known, Done}
+use Rattle.savi_segments.proofs.Reaching as reaching
 use Rattle.port_worker.specs.declared.control_ends.LineAhead.{LineAhead}
 use Rattle.port_worker.specs.declared.control_ends.LineAhead.TheVariants as ahead
 use Rattle.port_worker.specs.declared.control_ends.ControlEnds.{ControlEnds}
 use Rattle.port_worker.specs.Used.{GaveFew}
 use Rattle.port_worker.specs.ControlServed.{AreLines, IsControlInputOf}
 use Rattle.port_worker.specs.LineInputs.{IsHeard, IsHeardAs, control_moment, line_moment_ahead, line_read}
-use Rattle.port_worker.proofs.Hearing.{start, of_lines, HasHeard, heard_line, heard_end, heard_failed, heard_near, IsSeenEnd, some_whole, holds_at, heard_lines}
+use Rattle.port_worker.proofs.Hearing.{start, of_lines, HasHeard, heard_line, heard_end, heard_failed, heard_near, IsSeenEnd, some_whole, heard_lines}
 use Rattle.port_worker.proofs.Joining.{takes_twice}
 
 -- control's place among the heads of the inputs
@@ -54,7 +53,8 @@ pub head_moment : {S K C : Type 0} (control : Option (ControlEnds S K C)) → re
 head_moment None = refl
 head_moment (Some c) = line_moment c.buf c.ahead
 
--- what was read behind these lines, of the octets that the source gave; from a line at fault on no more than a reader reaches
+-- what was read behind these lines, of the octets that the source gave; from a line at fault on no more than a reader
+-- reaches
 abbrev pub HeardAhead : Option (List ℕ) → Option (List ℕ) → State → List ℕ → List ℕ → List Line → LineAhead → Type 0
 HeardAhead first left state gave buf before ahead.Unread = HasHeard state gave left before
 HeardAhead first left state gave buf before (ahead.Line stamp len) = HasHeard state gave left (before ++ line_read stamp len buf ∷ [])
@@ -76,7 +76,7 @@ pub record HeardSoFar {S K C : Type 0} (left : S → Option (List ℕ)) (past : 
   pub heard : HeardAhead (left first.ends.source) (left now.ends.source) now.reader gave now.buf before now.ahead
 
 -- Control has ended: what was taken, with some turns that are passed over, are the turns of the input that its source's
--- octets are; and where there was no room, the octets that the source gave hold the line that was refused.
+-- octets are.
 pub record HeardOut {S K C : Type 0} (left : S → Option (List ℕ)) (plan : Plan) (past : List Row) (first now : ControlEnds S K C) (taken : List Turn) : Type 0 where
   pub input : Input
   pub readable : IsControlInput input
@@ -85,7 +85,6 @@ pub record HeardOut {S K C : Type 0} (left : S → Option (List ℕ)) (plan : Pl
   pub split : taken ++ rest ≡ control_turns (Some input)
   pub came : IsControlInputOf (left first.ends.source) (left now.ends.source) (control_end past) input.arrivals input.ending
   pub near : (how : How) (at : ℕ) → control_end past ≡ Some how → IsFaultAt how at → GaveFew (left first.ends.source) (left now.ends.source) (at + longest_reach)
-  pub cut : control_end past ≡ Some hows.Paused → AreBeforeRefusal AreLines (left first.ends.source) (left now.ends.source) (entered_lines past)
 
 -- octets that come from a new reader are an input
 are_lines : (seen : Bool) (octets : List ℕ) (lines : List Line) (ending : How) → Comes false seen start octets (of_lines lines ending) → AreLines seen octets lines ending
@@ -133,9 +132,6 @@ came_whole first after ended_so lines hows.Failed seen whole = absurd seen
 came_whole first after ended_so lines hows.Unwritten seen whole = seen
 came_whole first after ended_so lines hows.Paused seen whole = seen
 
-not_paused : (ending : How) → IsSeenEnd ending → ending ≡ hows.Paused → ⊥
-not_paused ending seen same = subst IsSeenEnd same seen
-
 of_turns : (plan : Plan) (lines : List Line) (ending : How) → AreOf plan (control_pass plan) (map (λ line. Commands line) lines ++ Ends Control ending ∷ [])
 of_turns plan [] ending = (refl, tt)
 of_turns plan (line ∷ lines) ending = (refl, of_turns plan lines ending)
@@ -179,12 +175,11 @@ module _ {S K C : Type 0} (left : S → Option (List ℕ)) (plan : Plan) (past n
       takes = takes_new;
       heard = subst (λ (a : LineAhead). HeardAhead (left first.ends.source) (left new.ends.source) new.reader so_far.gave new.buf more a) (sym unread) heard_new;
     }
+        -- control has ended behind a line
 
-    -- control has ended behind a line, or for want of room for it
-    pub line_out : (control_end now ≡ Some hows.Paused → entered_lines now ≡ entered_lines past) → control_end now ≢ Some hows.Failed → ((how : How) (at : ℕ) → control_end now ≡ Some how → IsFaultAt how at → ⊥) → HeardOut left plan now first new (taken ++ Commands line ∷ [])
-    line_out kept other sound =
+    pub line_out : ((how : How) (at : ℕ) → control_end now ≡ Some how → IsFaultAt how at → ⊥) → HeardOut left plan now first new (taken ++ Commands line ∷ [])
+    line_out sound =
         let whole = some_whole old.reader so_far.gave more (left first.ends.source) (left old.ends.source) heard so_far.takes in
-        let held = holds_at old.reader so_far.gave (left first.ends.source) (left old.ends.source) more heard so_far.takes in
         let ends = Ends Control whole.ending ∷ [] in
         record {
           input = of_lines (more ++ whole.behind) whole.ending;
@@ -197,18 +192,6 @@ module _ {S K C : Type 0} (left : S → Option (List ℕ)) (plan : Plan) (past n
           came = came_whole (left first.ends.source) (left new.ends.source) (control_end now) (more ++ whole.behind) whole.ending whole.seen
               (are_whole (left first.ends.source) (more ++ whole.behind) whole.ending whole.whole);
           near = λ how at is fault. absurd (sound how at is fault);
-          cut = λ paused. record {
-            gave = so_far.gave;
-            takes = takes_new;
-            seen = held.seen;
-            all = held.all;
-            refused = line;
-            behind = held.behind;
-            ending = held.ending;
-            read = are_lines held.seen so_far.gave (entered_lines now ++ line ∷ held.behind) held.ending
-                (subst (λ (ls : List Line). Comes false held.seen start so_far.gave (of_lines (ls ++ line ∷ held.behind) held.ending)) (sym (kept paused ∙ so_far.entered))
-                (subst (λ (ls : List Line). Comes false held.seen start so_far.gave (of_lines ls held.ending)) (append_assoc so_far.before (line ∷ []) held.behind) held.read));
-          };
         }
 
   -- the input has ended
@@ -221,7 +204,6 @@ module _ {S K C : Type 0} (left : S → Option (List ℕ)) (plan : Plan) (past n
     split = append-nil (taken ++ Ends Control ending ∷ []) ∙ ap (λ (l : List Turn). l ++ Ends Control ending ∷ []) so_far.taken_is;
     came = came_whole (left first.ends.source) (left new.ends.source) (control_end now) so_far.before ending seen (are_whole (left first.ends.source) so_far.before ending whole);
     near = λ how at is fault. (so_far.gave, takes_new, few at (at_fault_as ending how at (sym now_ends ∙ is) fault));
-    cut = λ paused. absurd (not_paused ending seen (some_same ending hows.Paused (sym now_ends ∙ paused)));
   }
 
   -- a read failed
@@ -234,5 +216,4 @@ module _ {S K C : Type 0} (left : S → Option (List ℕ)) (plan : Plan) (past n
     split = append-nil (taken ++ Ends Control hows.Failed ∷ []) ∙ ap (λ (l : List Turn). l ++ Ends Control hows.Failed ∷ []) so_far.taken_is;
     came = (now_ends, so_far.gave, takes_new, are_lines false so_far.gave so_far.before hows.Failed comes);
     near = λ how at is fault. absurd (at_fault_as hows.Failed how at (sym now_ends ∙ is) fault);
-    cut = λ paused. let e : hows.Failed ≡ hows.Paused = some_same hows.Failed hows.Paused (sym now_ends ∙ paused) in cc;
   }

@@ -1,5 +1,5 @@
 -- The turn of control, and how control stands behind it.
-use Rattle.std.proofs.Common.{◌≡◌, ◌≢◌, ℕ, ◌+◌, ◌≤◌, Bool, true, false, List, [], ◌∷◌, ◌++◌, length, refl, sym, ap, ◌∙◌, subst, arith, ◌⊎◌, inl, inr, append-nil, Option, Some, None, IfSome}
+use Rattle.std.proofs.Common.{◌≡◌, ◌≢◌, ℕ, ◌+◌, ◌<◌, ◌≤◌, Bool, true, false, List, [], ◌∷◌, ◌++◌, length, refl, sym, ap, ◌∙◌, subst, arith, ◌⊎◌, inl, inr, Option, Some, None, IfSome}
 use Rattle.savi_kinds.specs.declared.plan.Plan.{Plan}
 use Rattle.savi_kinds.specs.declared.entry.Who.TheVariants.{Control}
 use Rattle.savi_kinds.specs.declared.entry.Who.TheVariants as passes
@@ -10,16 +10,16 @@ use Rattle.savi_ends.specs.Octets.{Takes}
 use Rattle.cli_lang.specs.Arrivals.{Line}
 use Rattle.cli_lang.specs.Readers.{State, Comes, IsFaultAt, longest_reach}
 use Rattle.hist_store.specs.Rows.{Row}
-use Rattle.checkpoint.specs.Bases.{empty}
+use Rattle.checkpoint.specs.Bases.{Base}
 use Rattle.savi_history.specs.ControlInputs.{control_end, entered_lines}
 use Rattle.savi_history.specs.Events.{Command, End}
-use Rattle.savi_history.specs.Limits.{has_room}
 use Rattle.savi_history.specs.Passes.{control_pass, has_ended}
 use Rattle.savi_history.specs.Readable.{IsControlEnding}
 use Rattle.savi_history.specs.Replay.{Stops, with_event, with_reply, drained, entered}
 use Rattle.savi_history.specs.Turns.{Turn, Arrives, Commands, Ends}
 use Rattle.savi_history.proofs.ControlSame.{ControlSame, control_drained}
-use Rattle.savi_history.proofs.Reaching.{Agrees, Known}
+use Rattle.savi_segments.specs.Replay.{Run, base_in, has_ended_in, run_with, stops_left}
+use Rattle.savi_segments.proofs.Reaching.{Agrees, Known}
 use Rattle.savi_history.proofs.Replying.{behind_reply}
 use Rattle.savi_history.proofs.Waiting.{ended_now}
 use Rattle.port_worker.specs.declared.control_ends.ControlEnds.{ControlEnds}
@@ -29,9 +29,11 @@ use Rattle.port_worker.specs.ControlOutputs.{AreReplies}
 use Rattle.port_worker.specs.LineInputs.{IsHearing, IsLineSound, control_turn_of, line_moment_ahead, line_read, line_turn_ahead}
 use Rattle.port_worker.specs.LineSteps.{IsControlStepped, line_ahead_after}
 use Rattle.port_worker.proofs.ControlProgress.{HeardAhead, HeardOut, HeardSoFar, at_fault_as, end_out, fail_out, line_head, line_on, line_out}
-use Rattle.port_worker.proofs.ControlRunning.{ControlRuns, LineProgress}
+use Rattle.port_worker.proofs.ControlRunning.{ControlRuns, LineProgress, line_weight}
 use Rattle.port_worker.proofs.Hearing.{IsSeenEnd, of_lines, start}
 use Rattle.port_worker.proofs.Later.{took_again}
+use Rattle.port_worker.proofs.RowsHeld.{control_ended_in, control_in, lines_in, over_as, rows_of}
+use Rattle.port_worker.proofs.Unbroken.{IsUnpaused, alike_in}
 
 -- the turn is one of control
 abbrev pub IsControls : Turn → Type 0
@@ -75,23 +77,19 @@ line_done_at_none ahead.Failed known is = cc
 line_done_at_none ahead.Done known is = refl
 
 -- what a line makes of what a history holds of control
-pub record GoesOn (plan : Plan) (line : Line) (past now : List Row) : Type 0 where
-  pub running : has_ended empty (control_pass plan) now ≡ false
+pub record GoesOn (plan : Plan) (base : Base) (line : Line) (past now : List Row) : Type 0 where
+  pub running : has_ended base (control_pass plan) now ≡ false
   pub lines : entered_lines now ≡ entered_lines past ++ line ∷ []
-  pub none : control_end now ≡ None
+  pub end_same : control_end now ≡ control_end past
 
-pub record IsOver (plan : Plan) (past now : List Row) : Type 0 where
-  pub ended : has_ended empty (control_pass plan) now ≡ true
-  pub kept : control_end now ≡ Some hows.Paused → entered_lines now ≡ entered_lines past
-  pub other : control_end now ≢ Some hows.Failed
-  pub apart : (how : How) (at : ℕ) → control_end now ≡ Some how → IsFaultAt how at → ⊥
+pub record IsOver (plan : Plan) (base : Base) (past now : List Row) : Type 0 where
+  pub ended : has_ended base (control_pass plan) now ≡ true
+  pub how : How
+  pub which : (how ≡ hows.Unwritten) ⊎ (how ≡ hows.Quit)
+  pub said : control_end now ≡ Some how
 
-abbrev pub LineMakes : Plan → Line → List Row → List Row → Type 0
-LineMakes plan line past now = GoesOn plan line past now ⊎ IsOver plan past now
-
-no_pause : (how : How) → (how ≡ hows.Unwritten) ⊎ (how ≡ hows.Quit) → Some how ≡ Some hows.Paused → ⊥
-no_pause how (inl is) same = cc
-no_pause how (inr is) same = cc
+abbrev pub LineMakes : Plan → Base → Line → List Row → List Row → Type 0
+LineMakes plan base line past now = GoesOn plan base line past now ⊎ IsOver plan base past now
 
 no_failure : (how : How) → (how ≡ hows.Unwritten) ⊎ (how ≡ hows.Quit) → Some how ≡ Some hows.Failed → ⊥
 no_failure how (inl is) same = cc
@@ -101,56 +99,48 @@ no_fault : (how : How) → (how ≡ hows.Unwritten) ⊎ (how ≡ hows.Quit) → 
 no_fault how (inl is) at fault = subst (λ (h : How). IsFaultAt h at) is fault
 no_fault how (inr is) at fault = subst (λ (h : How). IsFaultAt h at) is fault
 
-module _ (plan : Plan) (stops : Stops) (line : Line) (past : List Row) where
+module _ (plan : Plan) (base : Base) (stops : Stops) (line : Line) (past : List Row) where
   abbrev mid : List Row
-  mid = with_event plan empty past (Command line.stamp line.command)
+  mid = with_event plan base past (Command line.stamp line.command)
 
-  makes_same : (now later : List Row) → ControlSame plan empty now later → LineMakes plan line past now → LineMakes plan line past later
-  makes_same now later same (inl on) = inl (record { running = same.ended_same ∙ on.running; lines = same.lines_same ∙ on.lines; none = same.end_same ∙ on.none })
-  makes_same now later same (inr over) = inr (record {
-    ended = same.ended_same ∙ over.ended;
-    kept = λ paused. same.lines_same ∙ over.kept (sym same.end_same ∙ paused);
-    other = λ failed. over.other (sym same.end_same ∙ failed);
-    apart = λ how at is. over.apart how at (sym same.end_same ∙ is);
-  })
+  makes_same : (now later : List Row) → ControlSame plan base now later → LineMakes plan base line past now → LineMakes plan base line past later
+  makes_same now later same (inl on) = inl (record { running = same.ended_same ∙ on.running; lines = same.lines_same ∙ on.lines; end_same = same.end_same ∙ on.end_same })
+  makes_same now later same (inr over) = inr (record { ended = same.ended_same ∙ over.ended; how = over.how; which = over.which; said = same.end_same ∙ over.said })
 
-  ends_so : (how : How) → (how ≡ hows.Unwritten) ⊎ (how ≡ hows.Quit) → LineMakes plan line past (with_event plan empty mid (End Control how))
-  ends_so how which = inr (record {
-    ended = ended_now plan empty mid Control how;
-    kept = λ paused. absurd (no_pause how which paused);
-    other = λ failed. no_failure how which failed;
-    apart = λ ending at is fault. no_fault how which at (at_fault_as how ending at is fault);
-  })
+  ends_so : (how : How) → (how ≡ hows.Unwritten) ⊎ (how ≡ hows.Quit) → LineMakes plan base line past (with_event plan base mid (End Control how))
+  ends_so how which = inr (record { ended = ended_now plan base mid Control how; how = how; which = which; said = refl })
 
-  makes_at : (b : Bool) → has_room plan past ≡ b → has_ended empty (control_pass plan) past ≡ false → control_end past ≡ None → LineMakes plan line past (entered plan empty stops (Commands line) past)
-  makes_at true room running none =
-      let answered = with_reply plan empty stops.control line mid in
-      let behind : LineMakes plan line past answered =
-      behind_reply plan empty line mid (λ now. LineMakes plan line past now) (inl (record { running = running; lines = refl; none = none })) (ends_so hows.Unwritten (inl refl)) (ends_so hows.Quit (inr refl)) stops.control in
-      rw room (makes_same answered (drained plan empty stops.ports plan.ports answered) (control_drained plan empty stops.ports plan.ports answered) behind)
-  makes_at false room running none = rw room (inr (record {
-    ended = ended_now plan empty past Control hows.Paused;
-    kept = λ paused. append-nil (entered_lines past);
-    other = λ failed. cc;
-    apart = λ ending at is fault. absurd (at_fault_as hows.Paused ending at is fault);
-  }))
-
-  pub line_makes : has_ended empty (control_pass plan) past ≡ false → control_end past ≡ None → LineMakes plan line past (entered plan empty stops (Commands line) past)
-  line_makes running none = makes_at (has_room plan past) refl running none
+  pub line_makes : has_ended base (control_pass plan) past ≡ false → LineMakes plan base line past (entered plan base stops (Commands line) past)
+  line_makes running =
+      let answered = with_reply plan base stops.control line mid in
+      let behind : LineMakes plan base line past answered =
+      behind_reply plan base line mid (λ now. LineMakes plan base line past now) (inl (record { running = running; lines = refl; end_same = refl })) (ends_so hows.Unwritten (inl refl)) (ends_so hows.Quit (inr refl)) stops.control in
+      makes_same answered (drained plan base stops.ports plan.ports answered) (control_drained plan base stops.ports plan.ports answered) behind
 
 -- what is known of control's input behind a turn
 
-agrees_after : (plan : Plan) (now : List Row) (buf : List ℕ) (b : Bool) → has_ended empty (control_pass plan) now ≡ b → Agrees empty now (control_pass plan) (line_head buf (line_ahead_after b))
+agrees_after : (plan : Plan) (now : Run) (buf : List ℕ) (b : Bool) → has_ended_in plan (control_pass plan) now ≡ b → Agrees plan now (control_pass plan) (line_head buf (line_ahead_after b))
 agrees_after plan now buf true is = is
 agrees_after plan now buf false is = is
+
+-- behind a turn less may come
+less_by : (state : State) (a : LineAhead) (b : Bool) → (b ≡ false → line_weight state ahead.Unread < line_weight state a) → 0 < line_weight state a → line_weight state (line_ahead_after b) < line_weight state a
+less_by state a true open_so some = some
+less_by state a false open_so some = open_so refl
 
 never_failed : (b : Bool) → line_ahead_after b ≡ ahead.Failed → ⊥
 never_failed true failed = cc
 never_failed false failed = cc
 
-module _ {S K C : Type 0} (left : S → Option (List ℕ)) (written : K → Option (List ℕ)) (source_faults : S → ℕ) (sink_faults : K → ℕ) (plan : Plan) (stops : Stops) (past now : List Row) (stop stop_now : Option ℕ) (first old new : ControlEnds S K C) (taken : List Turn) (turn : Turn)
-    (runs : ControlRuns left written source_faults sink_faults plan past stop first old taken) (stepped : IsControlStepped written sink_faults old new) (turn_is : control_turn_of old ≡ Some turn) (now_is : now ≡ entered plan empty stops turn past)
-    (ahead_is : new.ahead ≡ line_ahead_after (has_ended empty (control_pass plan) now)) (replied : AreReplies written sink_faults plan now first.ends.sink new.ends.sink stop_now) where
+module _ {S K C : Type 0} (left : S → Option (List ℕ)) (written : K → Option (List ℕ)) (source_faults : S → ℕ) (sink_faults : K → ℕ) (plan : Plan) (stops : Stops) (run : Run) (now : List Row) (stop stop_now : Option ℕ) (first old new : ControlEnds S K C) (taken : List Turn) (turn : Turn) (none_run : IsUnpaused run.past) (none_now : IsUnpaused now)
+    (runs : ControlRuns left written source_faults sink_faults plan run stop first old taken) (stepped : IsControlStepped written sink_faults old new) (turn_is : control_turn_of old ≡ Some turn) (now_is : now ≡ entered plan (base_in plan run) (stops_left plan stops run) turn run.past)
+    (ahead_is : new.ahead ≡ line_ahead_after (has_ended (base_in plan run) (control_pass plan) now)) (replied : AreReplies written sink_faults plan (run_with run now) first.ends.sink new.ends.sink stop_now) where
+  abbrev base : Base
+  base = base_in plan run
+
+  abbrev after : Run
+  after = run_with run now
+
   source_is : new.ends.source ≡ old.ends.source
   source_is = ap (λ (c : ControlEnds S K C). c.ends.source) stepped.same
 
@@ -161,11 +151,11 @@ module _ {S K C : Type 0} (left : S → Option (List ℕ)) (written : K → Opti
   clock_is = ap (λ (c : ControlEnds S K C). c.ends.clock) stepped.same
 
   abbrev Now : Type 0
-  Now = ControlRuns left written source_faults sink_faults plan now stop_now first new (taken ++ turn ∷ [])
+  Now = ControlRuns left written source_faults sink_faults plan after stop_now first new (taken ++ turn ∷ [])
 
-  runs_by : (b : Bool) → has_ended empty (control_pass plan) now ≡ b → IsLineSound new.reader (line_ahead_after b) → LineProgress left plan now first new (taken ++ turn ∷ []) (line_ahead_after b)
-      → (control_end now ≡ Some hows.Failed → Rose (source_faults first.ends.source) (source_faults old.ends.source))
-      → (control_end now ≢ Some hows.Failed → source_faults old.ends.source ≡ source_faults first.ends.source) → Now
+  runs_by : (b : Bool) → has_ended base (control_pass plan) now ≡ b → IsLineSound new.reader (line_ahead_after b) → LineProgress left plan (rows_of after) first new (taken ++ turn ∷ []) (line_ahead_after b)
+      → (control_end (rows_of after) ≡ Some hows.Failed → Rose (source_faults first.ends.source) (source_faults old.ends.source))
+      → (control_end (rows_of after) ≢ Some hows.Failed → source_faults old.ends.source ≡ source_faults first.ends.source) → Now
   runs_by b ended sound progress broken still =
       let there : new.ahead ≡ line_ahead_after b = ahead_is ∙ ap line_ahead_after ended in
       record {
@@ -177,8 +167,8 @@ module _ {S K C : Type 0} (left : S → Option (List ℕ)) (written : K → Opti
         source = subst (λ (s : S). source_faults first.ends.source ≤ source_faults s) (sym source_is) runs.source;
         sink = omega (arith, runs.sink, stepped.later);
         sound = subst (λ (a : LineAhead). IsLineSound new.reader a) (sym there) sound;
-        agrees = subst (λ (a : LineAhead). Agrees empty now (control_pass plan) (line_head new.buf a)) (sym there) (agrees_after plan now new.buf b ended);
-        progress = subst (λ (a : LineAhead). LineProgress left plan now first new (taken ++ turn ∷ []) a) (sym there) progress;
+        agrees = subst (λ (a : LineAhead). Agrees plan after (control_pass plan) (line_head new.buf a)) (sym there) (agrees_after plan after new.buf b (over_as run now none_run none_now plan (control_pass plan) b ended));
+        progress = subst (λ (a : LineAhead). LineProgress left plan (rows_of after) first new (taken ++ turn ∷ []) a) (sym there) progress;
         replied = replied;
         failed = λ failed. absurd (never_failed b (sym there ∙ failed));
         broken = λ ended_so. subst (λ (s : S). Rose (source_faults first.ends.source) (source_faults s)) (sym source_is) (broken ended_so);
@@ -186,7 +176,7 @@ module _ {S K C : Type 0} (left : S → Option (List ℕ)) (written : K → Opti
       }
 
   -- no read has failed where none is known of
-  quiet : old.ahead ≢ ahead.Failed → HeardSoFar left past first old taken → source_faults old.ends.source ≡ source_faults first.ends.source
+  quiet : old.ahead ≢ ahead.Failed → HeardSoFar left (rows_of run) first old taken → source_faults old.ends.source ≡ source_faults first.ends.source
   quiet other so_far = runs.still other (λ failed. let e : None ≡ Some hows.Failed = sym so_far.running ∙ failed in cc)
 
   -- a line
@@ -195,17 +185,19 @@ module _ {S K C : Type 0} (left : S → Option (List ℕ)) (written : K → Opti
     abbrev line : Line
     line = line_read stamp len old.buf
 
-    so_far : HeardSoFar left past first old taken
-    so_far = subst (λ (a : LineAhead). LineProgress left plan past first old taken a) is runs.progress
+    so_far : HeardSoFar left (rows_of run) first old taken
+    so_far = subst (λ (a : LineAhead). LineProgress left plan (rows_of run) first old taken a) is runs.progress
 
     is_commands : turn ≡ Commands line
     is_commands = same_turn (Commands line) turn (subst (λ (a : LineAhead). line_turn_ahead old.buf a ≡ Some turn) is turn_is)
 
-    running : has_ended empty (control_pass plan) past ≡ false
-    running = subst (λ (a : LineAhead). Agrees empty past (control_pass plan) (line_head old.buf a)) is runs.agrees
+    running : has_ended base (control_pass plan) run.past ≡ false
+    running = alike_in plan run (control_pass plan) none_run ∙ subst (λ (a : LineAhead). Agrees plan run (control_pass plan) (line_head old.buf a)) is runs.agrees
 
-    made : LineMakes plan line past now
-    made = subst (λ (l : List Row). LineMakes plan line past l) (sym (now_is ∙ ap (λ (t : Turn). entered plan empty stops t past) is_commands)) (line_makes plan stops line past running so_far.running)
+    made : LineMakes plan base line run.past now
+    made =
+        subst (λ (l : List Row). LineMakes plan base line run.past l) (sym (now_is ∙ ap (λ (t : Turn). entered plan base (stops_left plan stops run) t run.past) is_commands))
+        (line_makes plan base (stops_left plan stops run) line run.past running)
 
     hears : IsHearing new.reader
     hears = subst (λ (s : State). IsHearing s) (sym reader_is) (subst (λ (a : LineAhead). IsLineSound old.reader a) is runs.sound).1
@@ -213,20 +205,25 @@ module _ {S K C : Type 0} (left : S → Option (List ℕ)) (written : K → Opti
     line_quiet : source_faults old.ends.source ≡ source_faults first.ends.source
     line_quiet = quiet (λ failed. let e : ahead.Line stamp len ≡ ahead.Failed = sym is ∙ failed in cc) so_far
 
-    none_failed : control_end now ≡ None → control_end now ≡ Some hows.Failed → ⊥
+    none_failed : control_end (rows_of after) ≡ None → control_end (rows_of after) ≡ Some hows.Failed → ⊥
     none_failed none failed = let e : None ≡ Some hows.Failed = sym none ∙ failed in cc
 
-    line_by : LineMakes plan line past now → Now
+    line_by : LineMakes plan base line run.past now → Now
     line_by (inl on) =
         let there : new.ahead ≡ ahead.Unread = ahead_is ∙ ap line_ahead_after on.running in
+        let none : control_end (rows_of after) ≡ None = control_in run now none_run none_now on.end_same ∙ so_far.running in
         runs_by false on.running hears
-        (subst (λ (t : Turn). HeardSoFar left now first new (taken ++ t ∷ [])) (sym is_commands) (line_on left plan past now first old new taken so_far source_is reader_is stamp len is there on.lines on.none))
-        (λ failed. absurd (none_failed on.none failed))
+        (subst (λ (t : Turn). HeardSoFar left (rows_of after) first new (taken ++ t ∷ [])) (sym is_commands)
+        (line_on left plan (rows_of run) (rows_of after) first old new taken so_far source_is reader_is stamp len is there (lines_in run now none_run none_now (line ∷ []) on.lines) none))
+        (λ failed. absurd (none_failed none failed))
         (λ others. line_quiet)
     line_by (inr over) =
+        let said : control_end (rows_of after) ≡ Some over.how = control_ended_in run now none_run none_now over.how over.said in
         runs_by true over.ended tt
-        (subst (λ (t : Turn). HeardOut left plan now first new (taken ++ t ∷ [])) (sym is_commands) (line_out left plan past now first old new taken so_far source_is reader_is stamp len is over.kept over.other over.apart))
-        (λ failed. absurd (over.other failed))
+        (subst (λ (t : Turn). HeardOut left plan (rows_of after) first new (taken ++ t ∷ [])) (sym is_commands)
+        (line_out left plan (rows_of run) (rows_of after) first old new taken so_far source_is reader_is stamp len is
+        (λ ending at is_so fault. no_fault over.how over.which at (at_fault_as over.how ending at (sym said ∙ is_so) fault))))
+        (λ failed. absurd (no_failure over.how over.which (sym said ∙ failed)))
         (λ others. line_quiet)
 
     line_stepped : Now
@@ -235,41 +232,41 @@ module _ {S K C : Type 0} (left : S → Option (List ℕ)) (written : K → Opti
   -- an ending
 
   module _ (ending : How) (is_end : turn ≡ Ends Control ending) where
-    end_made : now ≡ with_event plan empty past (End Control ending)
-    end_made = now_is ∙ ap (λ (t : Turn). entered plan empty stops t past) is_end
+    end_made : now ≡ with_event plan base run.past (End Control ending)
+    end_made = now_is ∙ ap (λ (t : Turn). entered plan base (stops_left plan stops run) t run.past) is_end
 
-    ended : has_ended empty (control_pass plan) now ≡ true
-    ended = ap (λ (l : List Row). has_ended empty (control_pass plan) l) end_made ∙ ended_now plan empty past Control ending
+    ended : has_ended base (control_pass plan) now ≡ true
+    ended = ap (λ (l : List Row). has_ended base (control_pass plan) l) end_made ∙ ended_now plan base run.past Control ending
 
-    ends_as : control_end now ≡ Some ending
-    ends_as = ap (λ (l : List Row). control_end l) end_made
+    ends_as : control_end (rows_of after) ≡ Some ending
+    ends_as = control_ended_in run now none_run none_now ending (ap (λ (l : List Row). control_end l) end_made)
 
-    some_other : ending ≢ hows.Failed → control_end now ≡ Some hows.Failed → ⊥
+    some_other : ending ≢ hows.Failed → control_end (rows_of after) ≡ Some hows.Failed → ⊥
     some_other other failed = let e : Some ending ≡ Some hows.Failed = sym ends_as ∙ failed in other cc
 
-    end_stepped : IsSeenEnd ending → IsControlEnding ending → ending ≢ hows.Failed → old.ahead ≢ ahead.Failed → (so_far : HeardSoFar left past first old taken) → IfSome (left first.ends.source) (λ octets. Comes false true start octets (of_lines so_far.before ending)) → ((at : ℕ) → IsFaultAt ending at → length so_far.gave ≤ at + longest_reach) → Now
+    end_stepped : IsSeenEnd ending → IsControlEnding ending → ending ≢ hows.Failed → old.ahead ≢ ahead.Failed → (so_far : HeardSoFar left (rows_of run) first old taken) → IfSome (left first.ends.source) (λ octets. Comes false true start octets (of_lines so_far.before ending)) → ((at : ℕ) → IsFaultAt ending at → length so_far.gave ≤ at + longest_reach) → Now
     end_stepped seen fine other apart so_far whole few =
         runs_by true ended tt
-        (subst (λ (t : Turn). HeardOut left plan now first new (taken ++ t ∷ [])) (sym is_end) (end_out left plan past now first old new taken so_far source_is reader_is ending seen fine ends_as whole few))
+        (subst (λ (t : Turn). HeardOut left plan (rows_of after) first new (taken ++ t ∷ [])) (sym is_end) (end_out left plan (rows_of run) (rows_of after) first old new taken so_far source_is reader_is ending seen fine ends_as whole few))
         (λ failed. absurd (some_other other failed))
         (λ others. quiet apart so_far)
 
   fail_stepped : old.ahead ≡ ahead.Failed → Now
   fail_stepped is =
-      let so_far : HeardSoFar left past first old taken = subst (λ (a : LineAhead). LineProgress left plan past first old taken a) is runs.progress in
+      let so_far : HeardSoFar left (rows_of run) first old taken = subst (λ (a : LineAhead). LineProgress left plan (rows_of run) first old taken a) is runs.progress in
       let is_end : turn ≡ Ends Control hows.Failed = same_turn (Ends Control hows.Failed) turn (subst (λ (a : LineAhead). line_turn_ahead old.buf a ≡ Some turn) is turn_is) in
       let comes : Comes false false start so_far.gave (of_lines so_far.before hows.Failed) =
       subst (λ (a : LineAhead). HeardAhead (left first.ends.source) (left old.ends.source) old.reader so_far.gave old.buf so_far.before a) is so_far.heard in
       runs_by true (ended hows.Failed is_end) tt
-      (subst (λ (t : Turn). HeardOut left plan now first new (taken ++ t ∷ [])) (sym is_end) (fail_out left plan past now first old new taken so_far source_is reader_is (ends_as hows.Failed is_end) comes))
+      (subst (λ (t : Turn). HeardOut left plan (rows_of after) first new (taken ++ t ∷ [])) (sym is_end) (fail_out left plan (rows_of run) (rows_of after) first old new taken so_far source_is reader_is (ends_as hows.Failed is_end) comes))
       (λ failed. runs.failed is)
       (λ others. absurd (others (ends_as hows.Failed is_end)))
 
   whole_stepped : (a : LineAhead) (ending : How) → old.ahead ≡ a → Some (Ends Control ending) ≡ line_turn_ahead old.buf a → IsSeenEnd ending → IsControlEnding ending → ending ≢ hows.Failed
-      → ((so_far : HeardSoFar left past first old taken) → HeardAhead (left first.ends.source) (left old.ends.source) old.reader so_far.gave old.buf so_far.before a → IfSome (left first.ends.source) (λ octets. Comes false true start octets (of_lines so_far.before ending)) × ((at : ℕ) → IsFaultAt ending at → length so_far.gave ≤ at + longest_reach))
-      → (LineProgress left plan past first old taken a → HeardSoFar left past first old taken) → Now
+      → ((so_far : HeardSoFar left (rows_of run) first old taken) → HeardAhead (left first.ends.source) (left old.ends.source) old.reader so_far.gave old.buf so_far.before a → IfSome (left first.ends.source) (λ octets. Comes false true start octets (of_lines so_far.before ending)) × ((at : ℕ) → IsFaultAt ending at → length so_far.gave ≤ at + longest_reach))
+      → (LineProgress left plan (rows_of run) first old taken a → HeardSoFar left (rows_of run) first old taken) → Now
   whole_stepped a ending is which seen fine other whole goes =
-      let so_far : HeardSoFar left past first old taken = goes (subst (λ (b : LineAhead). LineProgress left plan past first old taken b) is runs.progress) in
+      let so_far : HeardSoFar left (rows_of run) first old taken = goes (subst (λ (b : LineAhead). LineProgress left plan (rows_of run) first old taken b) is runs.progress) in
       let is_end : turn ≡ Ends Control ending = same_turn (Ends Control ending) turn (which ∙ subst (λ (b : LineAhead). line_turn_ahead old.buf b ≡ Some turn) is turn_is) in
       let apart : old.ahead ≢ ahead.Failed = λ failed. other (let e : Some (Ends Control ending) ≡ Some (Ends Control hows.Failed) = which ∙ ap (line_turn_ahead old.buf) (sym is ∙ failed) in cc) in
       let here = whole so_far (subst (λ (b : LineAhead). HeardAhead (left first.ends.source) (left old.ends.source) old.reader so_far.gave old.buf so_far.before b) is so_far.heard) in
@@ -288,3 +285,27 @@ module _ {S K C : Type 0} (left : S → Option (List ℕ)) (written : K → Opti
 
   pub control_stepped : Now
   control_stepped = stepped_at old.ahead refl turn_is
+
+  -- less may come than before
+  weighs_at : (a : LineAhead) → line_turn_ahead old.buf a ≡ Some turn → line_weight old.reader new.ahead < line_weight old.reader a
+  weighs_at a there = subst (λ (b : LineAhead). line_weight old.reader b < line_weight old.reader a) (sym ahead_is) (by_turn a there)
+    where
+      ended_so : (ending : How) → turn ≡ Ends Control ending → has_ended base (control_pass plan) now ≡ true
+      ended_so ending is_end = ended ending is_end
+
+      open_less : (a : LineAhead) (ending : How) → turn ≡ Ends Control ending → has_ended base (control_pass plan) now ≡ false → line_weight old.reader ahead.Unread < line_weight old.reader a
+      open_less a ending is_end open_so = let e : true ≡ false = sym (ended_so ending is_end) ∙ open_so in cc
+
+      by_turn : (a : LineAhead) → line_turn_ahead old.buf a ≡ Some turn → line_weight old.reader (line_ahead_after (has_ended base (control_pass plan) now)) < line_weight old.reader a
+      by_turn ahead.Unread there = cc
+      by_turn (ahead.Line stamp len) there = less_by old.reader (ahead.Line stamp len) (has_ended base (control_pass plan) now) (λ open_so. omega arith) (omega arith)
+      by_turn ahead.End there = less_by old.reader ahead.End (has_ended base (control_pass plan) now) (open_less ahead.End hows.End (same_turn (Ends Control hows.End) turn there)) (omega arith)
+      by_turn (ahead.Malformed at) there =
+          less_by old.reader (ahead.Malformed at) (has_ended base (control_pass plan) now) (open_less (ahead.Malformed at) (hows.Malformed at) (same_turn (Ends Control (hows.Malformed at)) turn there)) (omega arith)
+      by_turn (ahead.Overlong at) there =
+          less_by old.reader (ahead.Overlong at) (has_ended base (control_pass plan) now) (open_less (ahead.Overlong at) (hows.Overlong at) (same_turn (Ends Control (hows.Overlong at)) turn there)) (omega arith)
+      by_turn ahead.Failed there = less_by old.reader ahead.Failed (has_ended base (control_pass plan) now) (open_less ahead.Failed hows.Failed (same_turn (Ends Control hows.Failed) turn there)) (omega arith)
+      by_turn ahead.Done there = cc
+
+  pub control_smaller : line_weight new.reader new.ahead < line_weight old.reader old.ahead
+  control_smaller = subst (λ (s : State). line_weight s new.ahead < line_weight old.reader old.ahead) (sym reader_is) (weighs_at old.ahead turn_is)

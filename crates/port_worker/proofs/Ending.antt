@@ -3,30 +3,26 @@ use Rattle.std.proofs.Common.{◌≡◌, ℕ, zero, suc, ◌+◌, ◌<◌, ◌�
 use Rattle.std.proofs.lemmas.Bool.{cases_lt}
 use Rattle.std.proofs.lemmas.List.{length-map, get_or-map, get_or_default, get_or_past, same_lists}
 use Rattle.std.specs.List.{All}
-use Rattle.std.specs.List.Sorted.{IsStrictlyIncreasing}
 use Rattle.savi_kinds.specs.declared.port.Port.{Port}
 use Rattle.savi_kinds.specs.declared.plan.Plan.{Plan}
 use Rattle.savi_kinds.specs.declared.plan.PortPlan.{PortPlan}
-use Rattle.savi_kinds.specs.declared.entry.Who.TheVariants.{Ticker}
 use Rattle.savi_kinds.specs.declared.entry.How.{How}
 use Rattle.savi_kinds.specs.declared.entry.How.TheVariants as hows
 use Rattle.savi_kinds.specs.Ports.{number_of}
 use Rattle.savi_kinds.specs.Arrivals.{Input}
-use Rattle.savi_kinds.specs.ValidPlan.{numbers_of}
 use Rattle.pcap_io.specs.Readers.{Comes}
 use Rattle.hist_store.specs.Rows.{Row}
-use Rattle.checkpoint.specs.Bases.{empty}
-use Rattle.savi_history.specs.Passes.{AllEnded, has_ended, control_pass}
-use Rattle.savi_history.specs.Events.{End}
-use Rattle.savi_history.specs.Legal.{IsFinished}
+use Rattle.checkpoint.specs.Bases.{Base}
+use Rattle.savi_history.specs.Passes.{AllEnded, control_pass, pass_count}
 use Rattle.savi_history.specs.Turns.{Turn, turn_at, turns, port_turns}
 use Rattle.savi_history.specs.Merges.{merged}
-use Rattle.savi_history.specs.Replay.{begun, with_event, after_all, inputs_taken, closing, egress_ended, replayed}
-use Rattle.savi_history.specs.PortInputs.{input_end}
-use Rattle.savi_history.proofs.ControlSame.{ControlSame, control_finished}
-use Rattle.savi_history.proofs.PortInputs.{same_finished}
-use Rattle.savi_history.proofs.Ends.{AreOf}
-use Rattle.savi_history.proofs.Reaching.{pass_at, Head, Done, Agrees, IsLeft, AreLeft, joined, reaches_end}
+use Rattle.savi_history.specs.Replay.{closed}
+use Rattle.savi_history.proofs.ControlSame.{control_finished}
+use Rattle.savi_history.proofs.PortInputs.{HoldsSame, same_finished}
+use Rattle.savi_segments.specs.Replay.{Run, all_closed, all_taken, base_in, has_ended_in, inputs_taken, replayed, run_begun, run_with, segments_of}
+use Rattle.savi_segments.specs.Segments.{IsWholeSession}
+use Rattle.savi_segments.proofs.ForGood.{AreOf}
+use Rattle.savi_segments.proofs.Reaching.{pass_at, Head, Done, Agrees, IsLeft, AreLeft, joined, reaches_end}
 use Rattle.port_worker.specs.declared.control_ends.ControlEnds.{ControlEnds}
 use Rattle.port_worker.specs.declared.port_ends.Ahead.{Ahead}
 use Rattle.port_worker.specs.declared.port_ends.Ahead.TheVariants as ahead
@@ -43,11 +39,14 @@ use Rattle.port_worker.proofs.ControlFirst.{agree_all, done_all}
 use Rattle.port_worker.proofs.ControlProgress.{control_head}
 use Rattle.port_worker.proofs.ControlRunning.{control_agrees}
 use Rattle.port_worker.proofs.EndedOutputs.{took_of, fit_of, broken_of, still_of}
-use Rattle.port_worker.proofs.Fitting.{IsFit, HasCause}
+use Rattle.port_worker.proofs.Fitting.{FitsSoFar, IsFit, HasCause, causes_finished, fits_finished}
 use Rattle.port_worker.proofs.Later.{IsLater}
 use Rattle.port_worker.proofs.Planned.{count_is, number_is}
 use Rattle.port_worker.proofs.Progress.{head_of, done_at_none, Gone, IsInputAt, ProgressBy}
+use Rattle.port_worker.proofs.RowsHeld.{ControlKept, kept_in, rows_of, same_in}
 use Rattle.port_worker.proofs.Running.{Running, head_at, element}
+use Rattle.port_worker.proofs.Unbroken.{IsUnpaused, alike_in}
+use Rattle.port_worker.proofs.Unpaused.{unpaused_closed}
 
 collected_at : {X : Type 0} (n : ℕ) (P : ℕ → X → Type 0) (x : X) (xs : List X) → P 0 x → ((k : ℕ) (d : X) → k < n → P (suc k) (get_or xs k d)) → (k : ℕ) (d : X) → k < suc n → P k (get_or (x ∷ xs) k d)
 collected_at n P x xs first later zero d inside = first
@@ -83,16 +82,9 @@ port_turns_at (p ∷ plans) [] k d port i size inside = absurd (omega arith)
 port_turns_at (p ∷ plans) (j ∷ inputs) zero d port i size inside = refl
 port_turns_at (p ∷ plans) (j ∷ inputs) (suc k) d port i size inside = port_turns_at plans inputs k d port i (omega arith) (omega arith)
 
-all_done : (o : List (Option ℕ)) → All (λ n. n ≡ None) o → (k : ℕ) → k < length o → get_or o k None ≡ None
-all_done o none k inside = none k None inside
-
-input_later : {S K C : Type 0} (left : S → Option (List ℕ)) (past now : List Row) (old new : PortEnds S K C) (input : Input) → input_end (number_of old.port) now ≡ input_end (number_of old.port) past → IsInputAt left past old new input → IsInputAt left now old new input
-input_later left past now old new input same is =
-    subst (λ (e : Option How). IsInputOf (Comes old.reader) (left old.ends.source) (left new.ends.source) e input.arrivals input.ending) (sym same) is
-
-module _ {S K C : Type 0} (left : S → Option (List ℕ)) (written : K → Option (List ℕ)) (source_faults : S → ℕ) (sink_faults : K → ℕ) (plan : Plan) (ends_first ends : Option (ControlEnds S K C)) (first ports : List (PortEnds S K C)) (past : List Row)
-    (planned : ports_held first ≡ ports_planned plan) (r : Running left written source_faults sink_faults plan ends_first ends first ports past) (heard : IsControlKnown ends) (known : All (λ p. IsReadAhead p.ahead) ports) (none : All (λ n. n ≡ None) (control_moment ends ∷ map turn_moment ports)) where
-  pub done_at : (k : ℕ) (d : PortEnds S K C) → k < length ports → (get_or ports k d).ahead ≡ ahead.Done
+module _ {S K C : Type 0} (left : S → Option (List ℕ)) (written : K → Option (List ℕ)) (source_faults : S → ℕ) (sink_faults : K → ℕ) (plan : Plan) (ends_first ends : Option (ControlEnds S K C)) (first ports : List (PortEnds S K C)) (run : Run)
+    (planned : ports_held first ≡ ports_planned plan) (r : Running left written source_faults sink_faults plan ends_first ends first ports run) (heard : IsControlKnown ends) (known : All (λ p. IsReadAhead p.ahead) ports) (none : All (λ n. n ≡ None) (control_moment ends ∷ map turn_moment ports)) where
+  done_at : (k : ℕ) (d : PortEnds S K C) → k < length ports → (get_or ports k d).ahead ≡ ahead.Done
   done_at k d inside =
       let sizes = length-map ports turn_moment in
       done_at_none (get_or ports k d).ahead (known k d inside) (sym (get_or-map turn_moment ports k d None inside) ∙ none (suc k) None (omega arith))
@@ -100,14 +92,14 @@ module _ {S K C : Type 0} (left : S → Option (List ℕ)) (written : K → Opti
   control_none : control_moment ends ≡ None
   control_none = none 0 None (omega arith)
 
-  over : ControlOver left written source_faults sink_faults plan past r.known.control ends_first ends r.control_taken
-  over = control_over left written source_faults sink_faults plan past r.known.control ends_first ends r.control_taken heard control_none r.control
+  over : ControlOver left written source_faults sink_faults plan run r.known.control ends_first ends r.control_taken
+  over = control_over left written source_faults sink_faults plan run r.known.control ends_first ends r.control_taken heard control_none r.stands.control
 
   head_done : control_head ends ≡ Done
   head_done = control_done ends heard control_none
 
-  control_ended : has_ended empty (control_pass plan) past ≡ true
-  control_ended = subst (λ (h : Head). Agrees empty past (control_pass plan) h) head_done (control_agrees left written source_faults sink_faults plan past r.known.control ends_first ends r.control_taken r.control)
+  control_ended : has_ended_in plan (control_pass plan) run ≡ true
+  control_ended = subst (λ (h : Head). Agrees plan run (control_pass plan) h) head_done (control_agrees left written source_faults sink_faults plan run r.known.control ends_first ends r.control_taken r.stands.control)
 
   heads_done : (k : ℕ) → k < length (map head_of ports) → get_or (map head_of ports) k Done ≡ Done
   heads_done k inside =
@@ -117,39 +109,39 @@ module _ {S K C : Type 0} (left : S → Option (List ℕ)) (written : K → Opti
       rw (head_at ports k d Done within, done_at k d within) refl
 
   size_now : length ports ≡ length plan.ports
-  size_now = r.later.size ∙ count_is first plan planned
+  size_now = r.stands.later.size ∙ count_is first plan planned
 
-  ended_at : (pass : ℕ) → pass < control_pass plan + 1 → (pass < length ports) ⊎ (length ports ≤ pass) → has_ended empty pass past ≡ true
+  ended_at : (pass : ℕ) → pass < control_pass plan + 1 → (pass < length ports) ⊎ (length ports ≤ pass) → has_ended_in plan pass run ≡ true
   ended_at pass below (inl inside) =
       let sizes = length-map ports head_of in
-      subst (λ (h : Head). Agrees empty past pass h) (heads_done pass (omega arith)) (r.agree pass (omega arith))
+      subst (λ (h : Head). Agrees plan run pass h) (heads_done pass (omega arith)) (r.stands.agree pass (omega arith))
   ended_at pass below (inr outside) =
       let size = size_now in
       let same : pass ≡ control_pass plan = omega arith in
       rw same control_ended
 
-  pub inputs_ended : AllEnded empty (control_pass plan + 1) past
-  inputs_ended pass below = ended_at pass below (cases_lt pass (length ports))
+  pub inputs_ended : AllEnded (base_in plan run) (control_pass plan + 1) run.past
+  inputs_ended pass below = alike_in plan run pass r.stands.plain ∙ ended_at pass below (cases_lt pass (length ports))
 
   -- the whole input of a port
   record Whole (k : ℕ) (both : Input × List Turn) : Type 0 where
     of : AreOf plan k both.1
     split : (d : PortEnds S K C) → get_or r.taken k [] ++ both.1 ≡ turns (get_or first k d).port both.0
-    came : (d : PortEnds S K C) → IsInputAt left past (get_or first k d) (get_or ports k d) both.0
+    came : (d : PortEnds S K C) → IsInputAt left (rows_of run) (get_or first k d) (get_or ports k d) both.0
 
   whole_at : (k : ℕ) → k < length first → (both : Input × List Turn) × Whole k both
   whole_at k inside =
-      let size = r.later.size in
+      let size = r.stands.later.size in
       let d = element first k inside in
-      let gone : Gone left plan k past (get_or first k d) (get_or ports k d) (get_or r.taken k []) =
-      subst (λ (a : Ahead). ProgressBy left plan k past (get_or first k d) (get_or ports k d) (get_or r.taken k []) a) (done_at k d (omega arith)) (r.progress k d inside) in (
+      let gone : Gone left plan k (rows_of run) (get_or first k d) (get_or ports k d) (get_or r.taken k []) =
+      subst (λ (a : Ahead). ProgressBy left plan k (rows_of run) (get_or first k d) (get_or ports k d) (get_or r.taken k []) a) (done_at k d (omega arith)) (r.stands.progress k d inside) in (
         (gone.input, gone.rest),
         record {
           of = gone.of;
           split = λ e. subst (λ (p : PortEnds S K C). get_or r.taken k [] ++ gone.rest ≡ turns p.port gone.input) (get_or_default first k d e inside) gone.split;
           came = λ e.
-              subst (λ (p : PortEnds S K C). IsInputAt left past p (get_or ports k e) gone.input) (get_or_default first k d e inside)
-              (subst (λ (q : PortEnds S K C). IsInputAt left past (get_or first k d) q gone.input) (get_or_default ports k d e (omega arith)) gone.came);
+              subst (λ (p : PortEnds S K C). IsInputAt left (rows_of run) p (get_or ports k e) gone.input) (get_or_default first k d e inside)
+              (subst (λ (q : PortEnds S K C). IsInputAt left (rows_of run) (get_or first k d) q gone.input) (get_or_default ports k d e (omega arith)) gone.came);
         },
       )
 
@@ -197,13 +189,18 @@ module _ {S K C : Type 0} (left : S → Option (List ℕ)) (written : K → Opti
   left_all zero = rw head_done tt
   left_all (suc k) = left_at k (cases_lt k (length (map head_of ports)))
 
+  low_all : (k : ℕ) → k < length (control_head ends ∷ map head_of ports) → pass_at plan k < pass_count plan
+  low_all zero inside = omega arith
+  low_all (suc k) inside = let sizes = length-map ports head_of in let size = size_now in omega (arith, inside, sizes, size)
+
   rests_left : AreLeft plan (control_head ends ∷ map head_of ports) (over.rest ∷ rests)
   rests_left =
-      let size = r.later.size in
+      let size = r.stands.later.size in
       let sizes = length-map ports head_of in
       let count = rests_count in
       record {
         size = omega arith;
+        low = low_all;
         of = of_all;
         each = left_all;
       }
@@ -229,64 +226,91 @@ module _ {S K C : Type 0} (left : S → Option (List ℕ)) (written : K → Opti
       ∙ ap (λ (p : Port). turns p (get_or inputs_of k both_default.0)) (sym (port_at k e within))
       ∙ sym (port_turns_at plan.ports inputs_of k d e.port both_default.0 (omega arith) (omega arith)))
 
-  past_is : past ≡ inputs_taken plan empty over.lines inputs_of r.known
-  past_is =
-      let begins = begun plan empty r.known.ports plan.ports [] in
+  run_is : run ≡ inputs_taken plan over.lines inputs_of r.known
+  run_is =
+      let begins = run_begun plan r.known in
       let head = control_head ends in
-      reaches_end plan empty r.known begins (head ∷ map head_of ports) (r.control_taken ∷ r.taken) past (over.rest ∷ rests) (done_all head (map head_of ports) head_done heads_done)
-      (agree_all plan past head (map head_of ports) (control_agrees left written source_faults sink_faults plan past r.known.control ends_first ends r.control_taken r.control) r.agree) rests_left (r.reaches r.known (all_allowed_itself plan r.known past))
-      ∙ ap (λ (l : List (List Turn)). after_all plan empty r.known (merged turn_at ((r.control_taken ++ over.rest) ∷ l)) begins) turns_are
-      ∙ ap (λ (l : List Turn). after_all plan empty r.known (merged turn_at (l ∷ port_turns plan.ports inputs_of)) begins) over.split
+      reaches_end plan r.known begins (head ∷ map head_of ports) (r.control_taken ∷ r.taken) run (over.rest ∷ rests) (done_all head (map head_of ports) head_done heads_done)
+      (agree_all plan run head (map head_of ports) (control_agrees left written source_faults sink_faults plan run r.known.control ends_first ends r.control_taken r.stands.control) r.stands.agree) rests_left (r.reaches r.known (all_allowed_itself plan r.known run))
+      ∙ ap (λ (l : List (List Turn)). all_taken plan r.known (merged turn_at ((r.control_taken ++ over.rest) ∷ l)) begins) turns_are
+      ∙ ap (λ (l : List Turn). all_taken plan r.known (merged turn_at (l ∷ port_turns plan.ports inputs_of)) begins) over.split
 
-  end_same : (now : List Row) → now ≡ egress_ended plan empty plan.ports (with_event plan empty past (End Ticker (closing past))) → (n : ℕ) → input_end n now ≡ input_end n past
-  end_same now finished n = ap (λ (l : List Row). input_end n l) finished ∙ (same_finished plan empty past n).end_same
+  -- the newest segment is closed
+  module _ (now : List Row) (closes : now ≡ closed plan (base_in plan run) run.past) (outputs : All (λ p. IsOutputEnded plan (base_in plan run) run.past now (number_of p.port)) ports)
+      (session : IsWholeSession plan (now ∷ run.closed)) (so_far : EachPair (FitsSoFar left source_faults (rows_of run)) first ports) where
+    abbrev base : Base
+    base = base_in plan run
 
-  module _ (now : List Row) (finished : now ≡ egress_ended plan empty plan.ports (with_event plan empty past (End Ticker (closing past)))) (outputs : All (λ p. IsOutputEnded plan past now (number_of p.port)) ports) where
+    abbrev after : Run
+    after = run_with run now
+
+    plain_now : IsUnpaused now
+    plain_now = subst IsUnpaused (sym closes) (unpaused_closed plan base run.past r.stands.plain)
+
+    -- it holds no more of the inputs
+    same_held : (n : ℕ) → HoldsSame n (rows_of run) (rows_of after)
+    same_held n = same_in run now r.stands.plain plain_now n (subst (λ (l : List Row). HoldsSame n run.past l) (sym closes) (same_finished plan base run.past n))
+
+    control_same : ControlKept plan run after
+    control_same = kept_in run now r.stands.plain plain_now plan (rw closes (control_finished plan base run.past))
+
+    fits : EachPair (IsFit left (rows_of after)) first ports
+    fits = fits_finished left source_faults first ports (rows_of run) (rows_of after) so_far done_at same_held
+
+    causes : EachPair (HasCause left source_faults (rows_of after)) first ports
+    causes = causes_finished left source_faults first ports (rows_of run) (rows_of after) so_far done_at (λ n. (same_held n).end_same)
+
     -- the output of a port, and what the end left of it
-    output_at : (k : ℕ) (d : PortEnds S K C) → k < length first → IsOutput written sink_faults plan past (number_of (get_or first k d).port) (get_or first k d).ends.sink (get_or ports k d).ends.sink (r.known.ports (number_of (get_or first k d).port))
-    output_at k d inside = (r.outputs.each k d inside).output
+    output_at : (k : ℕ) (d : PortEnds S K C) → k < length first → IsOutput written sink_faults plan run (number_of (get_or first k d).port) (get_or first k d).ends.sink (get_or ports k d).ends.sink (r.known.ports (number_of (get_or first k d).port))
+    output_at k d inside = (r.stands.outputs.each k d inside).output
 
-    ended_output : (k : ℕ) (d : PortEnds S K C) → k < length first → IsOutputEnded plan past now (number_of (get_or first k d).port)
-    ended_output k d inside = subst (λ (p : Port). IsOutputEnded plan past now (number_of p)) (r.outputs.each k d inside).port (outputs k d (omega (arith, r.outputs.size, inside)))
+    ended_output : (k : ℕ) (d : PortEnds S K C) → k < length first → IsOutputEnded plan base run.past now (number_of (get_or first k d).port)
+    ended_output k d inside = subst (λ (p : Port). IsOutputEnded plan base run.past now (number_of p)) (r.stands.outputs.each k d inside).port (outputs k d (omega (arith, r.stands.outputs.size, inside)))
 
-    module _ (finishes : IsFinished plan empty now) (fits : EachPair (IsFit left now) first ports) (causes : EachPair (HasCause left source_faults now) first ports) where
-      served_at : (k : ℕ) (d : PortEnds S K C) (i : Input) → k < length first
-          → let n = number_of (get_or first k d).port in IsServed left written source_faults sink_faults (Comes (get_or first k d).reader) plan empty now n (get_or inputs_of k i) (r.known.ports n) (get_or first k d).ends (get_or ports k d).ends
-      served_at k d i inside =
-          let p = get_or first k d in
-          let q = get_or ports k d in
-          let n = number_of p.port in
-          let later : IsLater left written source_faults sink_faults p q = r.later.each k d inside in
-          record {
-            used = later.used;
-            gave = subst (λ (input : Input). IsInputAt left now p q input) (sym (input_at k i inside))
-                (input_later left past now p q (get_or wholes.0 k both_default).0 (end_same now finished n) ((wholes.2 k both_default inside).came d));
-            fits = fits.each k d inside;
-            took = took_of written sink_faults plan past now n p.ends.sink q.ends.sink (r.known.ports n) (output_at k d inside) (ended_output k d inside);
-            fits_out = fit_of written sink_faults plan past now n p.ends.sink q.ends.sink (r.known.ports n) (output_at k d inside) (ended_output k d inside);
-            source = later.source;
-            sink = later.sink;
-            broken = (causes.each k d inside).broken;
-            still = (causes.each k d inside).still;
-            near = (causes.each k d inside).near;
-            still_out = still_of written sink_faults plan past now n p.ends.sink q.ends.sink (r.known.ports n) (output_at k d inside) (ended_output k d inside);
-            broken_out = broken_of written sink_faults plan past now n p.ends.sink q.ends.sink (r.known.ports n) (output_at k d inside) (ended_output k d inside);
-          }
+    input_now : (k : ℕ) (d : PortEnds S K C) (input : Input) → k < length first → IsInputAt left (rows_of run) (get_or first k d) (get_or ports k d) input → IsInputAt left (rows_of after) (get_or first k d) (get_or ports k d) input
+    input_now k d input inside is =
+        let p = get_or first k d in
+        subst (λ (e : Option How). IsInputOf (Comes p.reader) (left p.ends.source) (left (get_or ports k d).ends.source) e input.arrivals input.ending) (sym (same_held (number_of p.port)).end_same) is
 
-      replay_is : now ≡ replayed plan empty over.lines inputs_of r.known
-      replay_is = finished ∙ ap (λ (l : List Row). egress_ended plan empty plan.ports (with_event plan empty l (End Ticker (closing l)))) past_is
+    served_at : (k : ℕ) (d : PortEnds S K C) (i : Input) → k < length first
+        → let n = number_of (get_or first k d).port in IsServed left written source_faults sink_faults (Comes (get_or first k d).reader) plan (segments_of after) n (get_or inputs_of k i) (r.known.ports n) (get_or first k d).ends (get_or ports k d).ends
+    served_at k d i inside =
+        let p = get_or first k d in
+        let q = get_or ports k d in
+        let n = number_of p.port in
+        let stop = r.known.ports n in
+        let later : IsLater left written source_faults sink_faults p q = r.stands.later.each k d inside in
+        let output = output_at k d inside in
+        let ended = ended_output k d inside in
+        record {
+          used = later.used;
+          gave = subst (λ (input : Input). IsInputAt left (rows_of after) p q input) (sym (input_at k i inside)) (input_now k d (get_or wholes.0 k both_default).0 inside ((wholes.2 k both_default inside).came d));
+          fits = fits.each k d inside;
+          took = took_of written sink_faults plan run now n p.ends.sink q.ends.sink r.stands.plain plain_now ended stop output;
+          fits_out = fit_of written sink_faults plan run now n p.ends.sink q.ends.sink r.stands.plain plain_now ended stop output;
+          source = later.source;
+          sink = later.sink;
+          broken = (causes.each k d inside).broken;
+          still = (causes.each k d inside).still;
+          near = (causes.each k d inside).near;
+          still_out = still_of written sink_faults plan run now n p.ends.sink q.ends.sink r.stands.plain plain_now ended stop output;
+          broken_out = broken_of written sink_faults plan run now n p.ends.sink q.ends.sink r.stands.plain plain_now ended stop output;
+        }
 
-      pub serves : IsStrictlyIncreasing (numbers_of plan.ports) → ServesEnds left written source_faults sink_faults plan empty now ends_first ends first ports
-      serves rising = record {
-        lines = over.lines;
-        inputs = inputs_of;
-        stops = r.known;
-        size = inputs_count ∙ count_is first plan planned;
-        replay = replay_is;
-        finished = finishes;
-        control = over.serves now inputs_of r.known refl (subst (λ (l : List Row). ControlSame plan empty past l) (sym finished) (control_finished plan empty past)) rising (inputs_count ∙ count_is first plan planned) replay_is;
-        each = λ k i within d.
-            let inside : k < length first = omega (arith, count_is first plan planned, within) in
-            subst (λ (n : ℕ). IsServed left written source_faults sink_faults (Comes (get_or first k d).reader) plan empty now n (get_or inputs_of k i) (r.known.ports n) (get_or first k d).ends (get_or ports k d).ends)
-            (number_is first plan k d planned inside) (served_at k d i inside);
-      }
+    replay_is : segments_of after ≡ replayed plan over.lines inputs_of r.known
+    replay_is = ap (λ (l : List Row). l ∷ run.closed) closes ∙ ap (all_closed plan) run_is
+
+    pub serves : ServesEnds left written source_faults sink_faults plan (segments_of after) ends_first ends first ports
+    serves = record {
+      lines = over.lines;
+      inputs = inputs_of;
+      stops = r.known;
+      size = inputs_count ∙ count_is first plan planned;
+      replay = replay_is;
+      session = session;
+      control = over.serves after inputs_of r.known refl control_same session replay_is;
+      each = λ k i within d.
+          let inside : k < length first = omega (arith, count_is first plan planned, within) in
+          subst (λ (n : ℕ). IsServed left written source_faults sink_faults (Comes (get_or first k d).reader) plan (segments_of after) n (get_or inputs_of k i) (r.known.ports n) (get_or first k d).ends (get_or ports k d).ends)
+          (number_is first plan k d planned inside) (served_at k d i inside);
+    }

@@ -1,10 +1,9 @@
 -- What the sources gave up fits the history between two turns.
-use Rattle.std.proofs.Common.{◌≡◌, ◌≢◌, ℕ, ◌+◌, ◌<◌, ◌≤◌, Bool, true, false, not, List, [], ◌∷◌, ◌++◌, length, length-append, take, get_or, refl, sym, ap, ◌∙◌, subst, arith, append-nil, ◌⊎◌, inl, inr, Option, Some, None, IfSome}
+use Rattle.std.proofs.Common.{◌≡◌, ◌≢◌, ℕ, ◌+◌, ◌<◌, ◌≤◌, Bool, true, false, List, [], ◌∷◌, ◌++◌, length, length-append, take, get_or, refl, sym, ap, ◌∙◌, subst, arith, ◌⊎◌, inl, inr, Option, Some, None, IfSome}
 use Rattle.std.proofs.lemmas.Bool.{cases_eq}
 use Rattle.std.specs.List.{All}
 use Rattle.savi_kinds.specs.declared.port.Port.{Port}
-use Rattle.savi_kinds.specs.declared.plan.Plan.{Plan}
-use Rattle.savi_kinds.specs.declared.entry.Who.TheVariants.{Ingress, Ticker}
+use Rattle.savi_kinds.specs.declared.entry.Who.TheVariants.{Ingress}
 use Rattle.savi_kinds.specs.declared.entry.How.{How}
 use Rattle.savi_kinds.specs.declared.entry.How.TheVariants as hows
 use Rattle.savi_kinds.specs.Ports.{number_of}
@@ -14,15 +13,12 @@ use Rattle.savi_ends.specs.Faults.{Rose}
 use Rattle.savi_ends.specs.Octets.{Takes}
 use Rattle.pcap_io.specs.Readers.{State, Comes, HasRead, longest_record, record_place}
 use Rattle.pcap_io.specs.Runs.{ended}
+use Rattle.pcap_io.proofs.CallsJoined.{has_read_more}
 use Rattle.hist_store.specs.Rows.{Row}
-use Rattle.checkpoint.specs.Bases.{empty}
-use Rattle.savi_history.specs.Limits.{has_room}
-use Rattle.savi_history.specs.Events.{End}
 use Rattle.savi_history.specs.Turns.{Turn, Arrives, Ends}
-use Rattle.savi_history.specs.Replay.{Stops, with_event, entered, closing, egress_ended}
 use Rattle.savi_history.specs.PortInputs.{arrived, input_end}
 use Rattle.savi_history.specs.Fits.{Fits, IsWhole, IsBroken}
-use Rattle.savi_history.proofs.PortInputs.{HoldsSame, IsTurnOf, more_entered, full_entered, end_entered, other_entered, same_finished}
+use Rattle.savi_history.proofs.PortInputs.{HoldsEnd, HoldsMore, HoldsSame, IsTurnOf}
 use Rattle.port_worker.specs.declared.port_ends.Ahead.{Ahead}
 use Rattle.port_worker.specs.declared.port_ends.Ahead.TheVariants as ahead
 use Rattle.port_worker.specs.declared.port_ends.PortEnds.{PortEnds}
@@ -33,8 +29,9 @@ use Rattle.port_worker.specs.Replays.{IsUnread}
 use Rattle.port_worker.specs.Served.{AreInput}
 use Rattle.port_worker.specs.Used.{GaveFew}
 use Rattle.port_worker.specs.Pairs.{EachPair}
-use Rattle.port_worker.proofs.Joining.{IsRunning, front_none, takes_twice, read_twice, read_behind}
+use Rattle.port_worker.proofs.Joining.{IsRunning, front_none, takes_twice, read_behind}
 use Rattle.port_worker.proofs.FaultCounts.{rose_later, rose_before}
+use Rattle.port_worker.proofs.RowsHeld.{IsHeld}
 
 -- what was taken from the source so far is what was entered and what is known, and so much of the input has ended
 abbrev pub FitsAhead : State → State → List ℕ → List ℕ → Option (List ℕ) → Option (List ℕ) → List Arrival → Option How → Ahead → Type 0
@@ -69,7 +66,7 @@ pub record FitsSoFar {S K C : Type 0} (left : S → Option (List ℕ)) (source_f
   pub still : new.ahead ≢ ahead.Failed → input_end (number_of old.port) past ≢ Some hows.Failed → source_faults new.ends.source ≡ source_faults old.ends.source
 
 -- the input ends behind what was read
-whole_at : (first mid : State) (one two : List ℕ) (front : List Arrival) (how : How) (a b c : Option (List ℕ)) → Takes a b one → Takes b c two → HasRead first mid one front
+pub whole_at : (first mid : State) (one two : List ℕ) (front : List Arrival) (how : How) (a b c : Option (List ℕ)) → Takes a b one → Takes b c two → HasRead first mid one front
     → IfSome c (λ rest. Comes mid true (two ++ rest) (ended how)) → IsWhole (AreInput (Comes first) true) a front how
 whole_at first mid one two front how a b None take_one take_two read_one is =
     rw (take_one, take_two) tt
@@ -85,9 +82,9 @@ read_more : {S K C : Type 0} (left : S → Option (List ℕ)) (past : List Row) 
     → FitsAhead first.reader new.reader (one ++ two) new.buf (left first.ends.source) (left new.ends.source) (arrived (number_of first.port) past) (input_end (number_of first.port) past) a
 read_more left past first old new one two ahead.Unread a_is take_one take_two none read is = absurd is
 read_more left past first old new one two (ahead.Frame stamp len) a_is take_one take_two none read is =
-    (none, read_twice first.reader old.reader new.reader one two (arrived (number_of first.port) past) (arrivals.Frame stamp (take len new.buf) ∷ []) read is.read, (is.running.0, record_place old.reader + length two, is.running.1))
+    (none, has_read_more first.reader old.reader new.reader one two (arrived (number_of first.port) past) (arrivals.Frame stamp (take len new.buf) ∷ []) read is.read, (is.running.0, record_place old.reader + length two, is.running.1))
 read_more left past first old new one two (ahead.Long stamp len) a_is take_one take_two none read is =
-    (none, read_twice first.reader old.reader new.reader one two (arrived (number_of first.port) past) (arrivals.Long stamp len ∷ []) read is.read, (is.running.0, record_place old.reader + length two, is.running.1))
+    (none, has_read_more first.reader old.reader new.reader one two (arrived (number_of first.port) past) (arrivals.Long stamp len ∷ []) read is.read, (is.running.0, record_place old.reader + length two, is.running.1))
 read_more left past first old new one two ahead.End a_is take_one take_two none read is =
     (none, whole_at first.reader old.reader one two (arrived (number_of first.port) past) hows.End (left first.ends.source) (left old.ends.source) (left new.ends.source) take_one take_two read is.whole)
 read_more left past first old new one two (ahead.Malformed at) a_is take_one take_two none read is =
@@ -105,7 +102,7 @@ read_more left past first old new one two ahead.Done a_is take_one take_two none
 known_same : {S K C : Type 0} (left : S → Option (List ℕ)) (source_faults : S → ℕ) (past : List Row) (first old new : PortEnds S K C) (a : Ahead) → old.ahead ≡ a → IsReadAhead a → (IsReadAhead old.ahead → new ≡ old) → FitsSoFar left source_faults past first old → FitsSoFar left source_faults past first new
 known_same {S} {K} {C} left source_faults past first old new a is known same so_far = subst (λ (p : PortEnds S K C). FitsSoFar left source_faults past first p) (sym (same (subst IsReadAhead (sym is) known))) so_far
 
-near_more : (first old new : State) (one two buf : List ℕ) (left : Option (List ℕ)) (ending : Option How) (a : Ahead) → record_place old ≡ record_place first + length one → IsReadAs old new two buf left a → IsNear first new (one ++ two) ending a
+pub near_more : (first old new : State) (one two buf : List ℕ) (left : Option (List ℕ)) (ending : Option How) (a : Ahead) → record_place old ≡ record_place first + length one → IsReadAs old new two buf left a → IsNear first new (one ++ two) ending a
 near_more first old new one two buf left ending ahead.Unread taken is = absurd is
 near_more first old new one two buf left ending (ahead.Frame stamp len) taken is =
     let now : record_place new ≡ record_place old + length two = ap record_place is.running.1 in omega (arith, now, taken, length-append one two)
@@ -177,6 +174,10 @@ fits_started left written source_faults faults past first new holds unread only 
 
 -- a turn
 
+-- rows that are the same
+pub fits_rows : {S K C : Type 0} (left : S → Option (List ℕ)) (source_faults : S → ℕ) (past now : List Row) (first old : List (PortEnds S K C)) → now ≡ past → EachPair (FitsSoFar left source_faults past) first old → EachPair (FitsSoFar left source_faults now) first old
+fits_rows {S} {K} {C} left source_faults past now first old same so_far = subst (λ (l : List Row). EachPair (FitsSoFar left source_faults l) first old) (sym same) so_far
+
 -- nothing that this port is changed but the sink, and the history holds the same of its input
 same_one : {S K C : Type 0} (left : S → Option (List ℕ)) (written : K → Option (List ℕ)) (source_faults : S → ℕ) (faults : K → ℕ) (past now : List Row) (first old new : PortEnds S K C) → IsStepped written faults old new → new.ahead ≡ old.ahead → HoldsSame (number_of first.port) past now → FitsSoFar left source_faults past first old → FitsSoFar left source_faults now first new
 same_one {S} {K} {C} left written source_faults faults past now first old new stepped ahead_is holds so_far =
@@ -207,105 +208,75 @@ fits_sunk left written source_faults faults past now first old new so_far steppe
 
 -- behind the turn of this port
 
-same_turn : (t u : Turn) → Some t ≡ Some u → u ≡ t
+pub same_turn : (t u : Turn) → Some t ≡ Some u → u ≡ t
 same_turn t u is = cc
 
-nothing_more : (state : State) → IsRunning state → Comes state true [] (record { arrivals = []; ending = hows.End })
-nothing_more state running = rw running.2 (refl, refl)
-
--- what was read alone, with nothing behind it
-read_alone : (first reader : State) (gave : List ℕ) (front : List Arrival) → HasRead first reader gave front → IsRunning reader → Comes first true gave (record { arrivals = front; ending = hows.End })
-read_alone first reader gave front read running =
-    subst (λ (octets : List ℕ). Comes first true octets (record { arrivals = front; ending = hows.End })) (append-nil gave)
-    (subst (λ (list : List Arrival). Comes first true (gave ++ []) (record { arrivals = list; ending = hows.End })) (append-nil front) (read true [] [] hows.End (nothing_more reader running)))
-
-arrival_fits : (first reader : State) (gave buf : List ℕ) (before after : Option (List ℕ)) (plan : Plan) (stops : Stops) (past : List Row) (port : Port) (arrival : Arrival) (room : Bool) → Takes before after gave → has_room plan past ≡ room
-    → input_end (number_of port) past ≡ None → HasRead first reader gave (arrived (number_of port) past ++ arrival ∷ []) → IsRunning reader
-    → FitsAhead first reader gave buf before after (arrived (number_of port) (entered plan empty stops (Arrives port arrival) past)) (input_end (number_of port) (entered plan empty stops (Arrives port arrival) past)) (ahead_after (not room))
-arrival_fits first reader gave buf before after plan stops past port arrival true takes room_is none read running =
-    let more = more_entered plan empty stops past port arrival room_is in
+arrival_turn : (first reader : State) (gave buf : List ℕ) (before after : Option (List ℕ)) (past now : List Row) (port : Port) (arrival : Arrival) (b : Ahead) (turn : Turn) → turn ≡ Arrives port arrival → b ≡ ahead_after (ends_input turn) → IsHeld turn past now
+    → input_end (number_of port) past ≡ None → HasRead first reader gave (arrived (number_of port) past ++ arrival ∷ []) → FitsAhead first reader gave buf before after (arrived (number_of port) now) (input_end (number_of port) now) b
+arrival_turn first reader gave buf before after past now port arrival b turn turn_is b_is held none read =
+    let b_now : b ≡ ahead.Unread = b_is ∙ ap (λ (t : Turn). ahead_after (ends_input t)) turn_is in
+    let more : HoldsMore (number_of port) past now arrival = subst (λ (t : Turn). IsHeld t past now) turn_is held in
+    subst (λ (c : Ahead). FitsAhead first reader gave buf before after (arrived (number_of port) now) (input_end (number_of port) now) c) (sym b_now)
     (more.end_same ∙ none, subst (λ (list : List Arrival). HasRead first reader gave list) (sym more.arrivals_more) read)
-arrival_fits first reader gave buf before after plan stops past port arrival false takes room_is none read running =
-    let full = full_entered plan empty stops past port arrival room_is in
-    subst (λ (e : Option How). Fits (AreInput (Comes first)) before after (arrived (number_of port) (entered plan empty stops (Arrives port arrival) past)) e) (sym full.ended_so) (record {
-      gave = gave;
-      takes = takes;
-      refused = arrival;
-      read = subst (λ (list : List Arrival). Comes first true gave (record { arrivals = list ++ arrival ∷ []; ending = hows.End })) (sym full.arrivals_same) (read_alone first reader gave (arrived (number_of port) past ++ arrival ∷ []) read running);
-    })
 
-arrival_turn : (first reader : State) (gave buf : List ℕ) (before after : Option (List ℕ)) (plan : Plan) (stops : Stops) (past : List Row) (port : Port) (arrival : Arrival) (b : Ahead) (turn : Turn) → Takes before after gave → turn ≡ Arrives port arrival
-    → b ≡ ahead_after (ends_input plan past turn) → input_end (number_of port) past ≡ None → HasRead first reader gave (arrived (number_of port) past ++ arrival ∷ []) → IsRunning reader
-    → FitsAhead first reader gave buf before after (arrived (number_of port) (entered plan empty stops turn past)) (input_end (number_of port) (entered plan empty stops turn past)) b
-arrival_turn first reader gave buf before after plan stops past port arrival b turn takes turn_is b_is none read running =
-    let b_now : b ≡ ahead_after (not (has_room plan past)) = b_is ∙ ap (λ (t : Turn). ahead_after (ends_input plan past t)) turn_is in
-    subst (λ (t : Turn). FitsAhead first reader gave buf before after (arrived (number_of port) (entered plan empty stops t past)) (input_end (number_of port) (entered plan empty stops t past)) b) (sym turn_is)
-    (subst (λ (c : Ahead). FitsAhead first reader gave buf before after (arrived (number_of port) (entered plan empty stops (Arrives port arrival) past)) (input_end (number_of port) (entered plan empty stops (Arrives port arrival) past)) c) (sym b_now)
-    (arrival_fits first reader gave buf before after plan stops past port arrival (has_room plan past) takes refl none read running))
+-- the turn ended the input so
+ends_so : (past now : List Row) (port : Port) (how : How) (turn : Turn) → turn ≡ Ends (Ingress port) how → IsHeld turn past now → HoldsEnd (number_of port) past now how
+ends_so past now port how turn turn_is held = subst (λ (t : Turn). IsHeld t past now) turn_is held
 
-end_turn : (first reader : State) (gave buf : List ℕ) (before after : Option (List ℕ)) (plan : Plan) (stops : Stops) (past : List Row) (port : Port) (how : How) (b : Ahead) (turn : Turn) → turn ≡ Ends (Ingress port) how
-    → b ≡ ahead_after (ends_input plan past turn) → Fits (AreInput (Comes first)) before after (arrived (number_of port) past) (Some how)
-    → FitsAhead first reader gave buf before after (arrived (number_of port) (entered plan empty stops turn past)) (input_end (number_of port) (entered plan empty stops turn past)) b
-end_turn first reader gave buf before after plan stops past port how b turn turn_is b_is fits =
-    let held = end_entered plan empty past port how in
-    let b_now : b ≡ ahead.Done = b_is ∙ ap (λ (t : Turn). ahead_after (ends_input plan past t)) turn_is in
-    let now = with_event plan empty past (End (Ingress port) how) in
+end_turn : (first reader : State) (gave buf : List ℕ) (before after : Option (List ℕ)) (past now : List Row) (port : Port) (how : How) (b : Ahead) (turn : Turn) → turn ≡ Ends (Ingress port) how → b ≡ ahead_after (ends_input turn) → IsHeld turn past now
+    → Fits (AreInput (Comes first)) before after (arrived (number_of port) past) (Some how) → FitsAhead first reader gave buf before after (arrived (number_of port) now) (input_end (number_of port) now) b
+end_turn first reader gave buf before after past now port how b turn turn_is b_is held fits =
+    let ends = ends_so past now port how turn turn_is held in
+    let b_now : b ≡ ahead.Done = b_is ∙ ap (λ (t : Turn). ahead_after (ends_input t)) turn_is in
     let at_end : Fits (AreInput (Comes first)) before after (arrived (number_of port) now) (input_end (number_of port) now) =
-    subst (λ (e : Option How). Fits (AreInput (Comes first)) before after (arrived (number_of port) now) e) (sym held.ended_so)
-    (subst (λ (list : List Arrival). Fits (AreInput (Comes first)) before after list (Some how)) (sym held.arrivals_same) fits) in
-    subst (λ (t : Turn). FitsAhead first reader gave buf before after (arrived (number_of port) (entered plan empty stops t past)) (input_end (number_of port) (entered plan empty stops t past)) b) (sym turn_is)
-    (subst (λ (c : Ahead). FitsAhead first reader gave buf before after (arrived (number_of port) now) (input_end (number_of port) now) c) (sym b_now) at_end)
+    subst (λ (e : Option How). Fits (AreInput (Comes first)) before after (arrived (number_of port) now) e) (sym ends.ended_so)
+    (subst (λ (list : List Arrival). Fits (AreInput (Comes first)) before after list (Some how)) (sym ends.arrivals_same) fits) in
+    subst (λ (c : Ahead). FitsAhead first reader gave buf before after (arrived (number_of port) now) (input_end (number_of port) now) c) (sym b_now) at_end
 
-entered_fits : (first reader : State) (gave buf : List ℕ) (before after : Option (List ℕ)) (plan : Plan) (stops : Stops) (past : List Row) (port : Port) (a b : Ahead) (turn : Turn) → Takes before after gave → turn_ahead port buf a ≡ Some turn
-    → b ≡ ahead_after (ends_input plan past turn)
-    → FitsAhead first reader gave buf before after (arrived (number_of port) past) (input_end (number_of port) past) a
-    → FitsAhead first reader gave buf before after (arrived (number_of port) (entered plan empty stops turn past)) (input_end (number_of port) (entered plan empty stops turn past)) b
-entered_fits first reader gave buf before after plan stops past port ahead.Unread b turn takes is b_is fits = cc
-entered_fits first reader gave buf before after plan stops past port (ahead.Frame stamp len) b turn takes is b_is fits =
+entered_fits : (first reader : State) (gave buf : List ℕ) (before after : Option (List ℕ)) (past now : List Row) (port : Port) (a b : Ahead) (turn : Turn) → turn_ahead port buf a ≡ Some turn → b ≡ ahead_after (ends_input turn) → IsHeld turn past now
+    → FitsAhead first reader gave buf before after (arrived (number_of port) past) (input_end (number_of port) past) a → FitsAhead first reader gave buf before after (arrived (number_of port) now) (input_end (number_of port) now) b
+entered_fits first reader gave buf before after past now port ahead.Unread b turn is b_is held fits = cc
+entered_fits first reader gave buf before after past now port (ahead.Frame stamp len) b turn is b_is held fits =
     let arrival = arrivals.Frame stamp (take len buf) in
-    arrival_turn first reader gave buf before after plan stops past port arrival b turn takes (same_turn (Arrives port arrival) turn is) b_is fits.0 fits.1 fits.2
-entered_fits first reader gave buf before after plan stops past port (ahead.Long stamp len) b turn takes is b_is fits =
+    arrival_turn first reader gave buf before after past now port arrival b turn (same_turn (Arrives port arrival) turn is) b_is held fits.0 fits.1
+entered_fits first reader gave buf before after past now port (ahead.Long stamp len) b turn is b_is held fits =
     let arrival = arrivals.Long stamp len in
-    arrival_turn first reader gave buf before after plan stops past port arrival b turn takes (same_turn (Arrives port arrival) turn is) b_is fits.0 fits.1 fits.2
-entered_fits first reader gave buf before after plan stops past port ahead.End b turn takes is b_is fits =
-    end_turn first reader gave buf before after plan stops past port hows.End b turn (same_turn (Ends (Ingress port) hows.End) turn is) b_is fits.1
-entered_fits first reader gave buf before after plan stops past port (ahead.Malformed at) b turn takes is b_is fits =
-    end_turn first reader gave buf before after plan stops past port (hows.Malformed at) b turn (same_turn (Ends (Ingress port) (hows.Malformed at)) turn is) b_is fits.1
-entered_fits first reader gave buf before after plan stops past port ahead.Failed b turn takes is b_is fits =
-    end_turn first reader gave buf before after plan stops past port hows.Failed b turn (same_turn (Ends (Ingress port) hows.Failed) turn is) b_is fits.1
-entered_fits first reader gave buf before after plan stops past port ahead.Done b turn takes is b_is fits = cc
+    arrival_turn first reader gave buf before after past now port arrival b turn (same_turn (Arrives port arrival) turn is) b_is held fits.0 fits.1
+entered_fits first reader gave buf before after past now port ahead.End b turn is b_is held fits =
+    end_turn first reader gave buf before after past now port hows.End b turn (same_turn (Ends (Ingress port) hows.End) turn is) b_is held fits.1
+entered_fits first reader gave buf before after past now port (ahead.Malformed at) b turn is b_is held fits =
+    end_turn first reader gave buf before after past now port (hows.Malformed at) b turn (same_turn (Ends (Ingress port) (hows.Malformed at)) turn is) b_is held fits.1
+entered_fits first reader gave buf before after past now port ahead.Failed b turn is b_is held fits =
+    end_turn first reader gave buf before after past now port hows.Failed b turn (same_turn (Ends (Ingress port) hows.Failed) turn is) b_is held fits.1
+entered_fits first reader gave buf before after past now port ahead.Done b turn is b_is held fits = cc
 
 -- An input ends at a failed read only where that was read, or where it had ended so.
 
-arrival_broken : (R : Type 0) (plan : Plan) (stops : Stops) (past : List Row) (port : Port) (arrival : Arrival) (room : Bool) → has_room plan past ≡ room → (input_end (number_of port) past ≡ Some hows.Failed → R)
-    → input_end (number_of port) (entered plan empty stops (Arrives port arrival) past) ≡ Some hows.Failed → R
-arrival_broken R plan stops past port arrival true room was is = was (sym (more_entered plan empty stops past port arrival room).end_same ∙ is)
-arrival_broken R plan stops past port arrival false room was is =
-    let e : Some hows.Paused ≡ Some hows.Failed = sym (full_entered plan empty stops past port arrival room).ended_so ∙ is in cc
+arrival_broken : (R : Type 0) (past now : List Row) (port : Port) (arrival : Arrival) (turn : Turn) → turn ≡ Arrives port arrival → IsHeld turn past now → (input_end (number_of port) past ≡ Some hows.Failed → R) → input_end (number_of port) now ≡ Some hows.Failed → R
+arrival_broken R past now port arrival turn turn_is held was is =
+    let more : HoldsMore (number_of port) past now arrival = subst (λ (t : Turn). IsHeld t past now) turn_is held in
+    was (sym more.end_same ∙ is)
 
-end_broken : (R : Type 0) (plan : Plan) (stops : Stops) (past : List Row) (port : Port) (how : How) → (how ≡ hows.Failed → R) → input_end (number_of port) (entered plan empty stops (Ends (Ingress port) how) past) ≡ Some hows.Failed → R
-end_broken R plan stops past port how failed is =
-    let e : Some how ≡ Some hows.Failed = sym (end_entered plan empty past port how).ended_so ∙ is in failed cc
+end_broken : (R : Type 0) (past now : List Row) (port : Port) (how : How) (turn : Turn) → turn ≡ Ends (Ingress port) how → IsHeld turn past now → (how ≡ hows.Failed → R) → input_end (number_of port) now ≡ Some hows.Failed → R
+end_broken R past now port how turn turn_is held failed is =
+    let e : Some how ≡ Some hows.Failed = sym (ends_so past now port how turn turn_is held).ended_so ∙ is in failed cc
 
-broken_turn : (R : Type 0) (plan : Plan) (stops : Stops) (past : List Row) (port : Port) (turn there : Turn) → there ≡ turn → (input_end (number_of port) (entered plan empty stops turn past) ≡ Some hows.Failed → R) → input_end (number_of port) (entered plan empty stops there past) ≡ Some hows.Failed → R
-broken_turn R plan stops past port turn there same then = subst (λ (t : Turn). input_end (number_of port) (entered plan empty stops t past) ≡ Some hows.Failed → R) (sym same) then
-
-entered_broken : (R : Type 0) (plan : Plan) (stops : Stops) (past : List Row) (port : Port) (buf : List ℕ) (a : Ahead) (turn : Turn) → turn_ahead port buf a ≡ Some turn → (a ≡ ahead.Failed → R) → (input_end (number_of port) past ≡ Some hows.Failed → R)
-    → input_end (number_of port) (entered plan empty stops turn past) ≡ Some hows.Failed → R
-entered_broken R plan stops past port buf ahead.Unread turn is failed was = cc
-entered_broken R plan stops past port buf (ahead.Frame stamp len) turn is failed was =
+entered_broken : (R : Type 0) (past now : List Row) (port : Port) (buf : List ℕ) (a : Ahead) (turn : Turn) → turn_ahead port buf a ≡ Some turn → IsHeld turn past now → (a ≡ ahead.Failed → R) → (input_end (number_of port) past ≡ Some hows.Failed → R)
+    → input_end (number_of port) now ≡ Some hows.Failed → R
+entered_broken R past now port buf ahead.Unread turn is held failed was = cc
+entered_broken R past now port buf (ahead.Frame stamp len) turn is held failed was =
     let arrival = arrivals.Frame stamp (take len buf) in
-    broken_turn R plan stops past port (Arrives port arrival) turn (same_turn (Arrives port arrival) turn is) (arrival_broken R plan stops past port arrival (has_room plan past) refl was)
-entered_broken R plan stops past port buf (ahead.Long stamp len) turn is failed was =
+    arrival_broken R past now port arrival turn (same_turn (Arrives port arrival) turn is) held was
+entered_broken R past now port buf (ahead.Long stamp len) turn is held failed was =
     let arrival = arrivals.Long stamp len in
-    broken_turn R plan stops past port (Arrives port arrival) turn (same_turn (Arrives port arrival) turn is) (arrival_broken R plan stops past port arrival (has_room plan past) refl was)
-entered_broken R plan stops past port buf ahead.End turn is failed was =
-    broken_turn R plan stops past port (Ends (Ingress port) hows.End) turn (same_turn (Ends (Ingress port) hows.End) turn is) (end_broken R plan stops past port hows.End (λ same. cc))
-entered_broken R plan stops past port buf (ahead.Malformed at) turn is failed was =
-    broken_turn R plan stops past port (Ends (Ingress port) (hows.Malformed at)) turn (same_turn (Ends (Ingress port) (hows.Malformed at)) turn is) (end_broken R plan stops past port (hows.Malformed at) (λ same. cc))
-entered_broken R plan stops past port buf ahead.Failed turn is failed was =
-    broken_turn R plan stops past port (Ends (Ingress port) hows.Failed) turn (same_turn (Ends (Ingress port) hows.Failed) turn is) (end_broken R plan stops past port hows.Failed (λ same. failed refl))
-entered_broken R plan stops past port buf ahead.Done turn is failed was = cc
+    arrival_broken R past now port arrival turn (same_turn (Arrives port arrival) turn is) held was
+entered_broken R past now port buf ahead.End turn is held failed was =
+    end_broken R past now port hows.End turn (same_turn (Ends (Ingress port) hows.End) turn is) held (λ same. cc)
+entered_broken R past now port buf (ahead.Malformed at) turn is held failed was =
+    end_broken R past now port (hows.Malformed at) turn (same_turn (Ends (Ingress port) (hows.Malformed at)) turn is) held (λ same. cc)
+entered_broken R past now port buf ahead.Failed turn is held failed was =
+    end_broken R past now port hows.Failed turn (same_turn (Ends (Ingress port) hows.Failed) turn is) held (λ same. failed refl)
+entered_broken R past now port buf ahead.Done turn is held failed was = cc
 
 never_failed : (b : Bool) (a : Ahead) → a ≡ ahead_after b → a ≡ ahead.Failed → ⊥
 never_failed true a is failed = cc
@@ -313,52 +284,43 @@ never_failed false a is failed = cc
 
 -- behind a turn
 
-near_room : (first reader : State) (gave : List ℕ) (plan : Plan) (stops : Stops) (past : List Row) (port : Port) (arrival : Arrival) (room : Bool) → has_room plan past ≡ room → record_place reader ≡ record_place first + length gave
-    → IsNear first reader gave (input_end (number_of port) (entered plan empty stops (Arrives port arrival) past)) (ahead_after (not room))
-near_room first reader gave plan stops past port arrival true room taken = taken
-near_room first reader gave plan stops past port arrival false room taken = λ at is.
-    let e : Some hows.Paused ≡ Some (hows.Malformed at) = sym (full_entered plan empty stops past port arrival room).ended_so ∙ is in cc
+near_arrival : (first reader : State) (gave : List ℕ) (ending : Option How) (port : Port) (arrival : Arrival) (b : Ahead) (turn : Turn) → turn ≡ Arrives port arrival → b ≡ ahead_after (ends_input turn) → record_place reader ≡ record_place first + length gave
+    → IsNear first reader gave ending b
+near_arrival first reader gave ending port arrival b turn turn_is b_is taken =
+    let b_now : b ≡ ahead.Unread = b_is ∙ ap (λ (t : Turn). ahead_after (ends_input t)) turn_is in
+    subst (λ (c : Ahead). IsNear first reader gave ending c) (sym b_now) taken
 
-near_arrival : (first reader : State) (gave : List ℕ) (plan : Plan) (stops : Stops) (past : List Row) (port : Port) (arrival : Arrival) (b : Ahead) (turn : Turn) → turn ≡ Arrives port arrival → b ≡ ahead_after (ends_input plan past turn) → record_place reader ≡ record_place first + length gave
-    → IsNear first reader gave (input_end (number_of port) (entered plan empty stops turn past)) b
-near_arrival first reader gave plan stops past port arrival b turn turn_is b_is taken =
-    let b_now : b ≡ ahead_after (not (has_room plan past)) = b_is ∙ ap (λ (t : Turn). ahead_after (ends_input plan past t)) turn_is in
-    subst (λ (t : Turn). IsNear first reader gave (input_end (number_of port) (entered plan empty stops t past)) b) (sym turn_is)
-    (subst (λ (c : Ahead). IsNear first reader gave (input_end (number_of port) (entered plan empty stops (Arrives port arrival) past)) c) (sym b_now)
-    (near_room first reader gave plan stops past port arrival (has_room plan past) refl taken))
-
-near_end : (first reader : State) (gave : List ℕ) (plan : Plan) (stops : Stops) (past : List Row) (port : Port) (how : How) (b : Ahead) (turn : Turn) → turn ≡ Ends (Ingress port) how → b ≡ ahead_after (ends_input plan past turn) → ((at : ℕ) → how ≡ hows.Malformed at → length gave ≤ at + longest_record)
-    → IsNear first reader gave (input_end (number_of port) (entered plan empty stops turn past)) b
-near_end first reader gave plan stops past port how b turn turn_is b_is few =
-    let b_now : b ≡ ahead.Done = b_is ∙ ap (λ (t : Turn). ahead_after (ends_input plan past t)) turn_is in
-    subst (λ (t : Turn). IsNear first reader gave (input_end (number_of port) (entered plan empty stops t past)) b) (sym turn_is)
-    (subst (λ (c : Ahead). IsNear first reader gave (input_end (number_of port) (entered plan empty stops (Ends (Ingress port) how) past)) c) (sym b_now)
-    (λ at is. few at (same_end how at (sym (end_entered plan empty past port how).ended_so ∙ is))))
+near_end : (first reader : State) (gave : List ℕ) (past now : List Row) (port : Port) (how : How) (b : Ahead) (turn : Turn) → turn ≡ Ends (Ingress port) how → b ≡ ahead_after (ends_input turn) → IsHeld turn past now → ((at : ℕ) → how ≡ hows.Malformed at → length gave ≤ at + longest_record)
+    → IsNear first reader gave (input_end (number_of port) now) b
+near_end first reader gave past now port how b turn turn_is b_is held few =
+    let b_now : b ≡ ahead.Done = b_is ∙ ap (λ (t : Turn). ahead_after (ends_input t)) turn_is in
+    subst (λ (c : Ahead). IsNear first reader gave (input_end (number_of port) now) c) (sym b_now)
+    (λ at is. few at (same_end how at (sym (ends_so past now port how turn turn_is held).ended_so ∙ is)))
   where
     same_end : (how : How) (at : ℕ) → Some how ≡ Some (hows.Malformed at) → how ≡ hows.Malformed at
     same_end how at e = cc
 
-near_entered : (first reader : State) (gave : List ℕ) (plan : Plan) (stops : Stops) (past : List Row) (port : Port) (buf : List ℕ) (a b : Ahead) (turn : Turn) → turn_ahead port buf a ≡ Some turn → b ≡ ahead_after (ends_input plan past turn)
-    → IsNear first reader gave (input_end (number_of port) past) a → IsNear first reader gave (input_end (number_of port) (entered plan empty stops turn past)) b
-near_entered first reader gave plan stops past port buf ahead.Unread b turn is b_is near = cc
-near_entered first reader gave plan stops past port buf (ahead.Frame stamp len) b turn is b_is near =
-    let arrival = arrivals.Frame stamp (take len buf) in near_arrival first reader gave plan stops past port arrival b turn (same_turn (Arrives port arrival) turn is) b_is near
-near_entered first reader gave plan stops past port buf (ahead.Long stamp len) b turn is b_is near =
-    let arrival = arrivals.Long stamp len in near_arrival first reader gave plan stops past port arrival b turn (same_turn (Arrives port arrival) turn is) b_is near
-near_entered first reader gave plan stops past port buf ahead.End b turn is b_is near =
-    near_end first reader gave plan stops past port hows.End b turn (same_turn (Ends (Ingress port) hows.End) turn is) b_is (λ at same. cc)
-near_entered first reader gave plan stops past port buf (ahead.Malformed at) b turn is b_is near =
-    near_end first reader gave plan stops past port (hows.Malformed at) b turn (same_turn (Ends (Ingress port) (hows.Malformed at)) turn is) b_is
+near_entered : (first reader : State) (gave : List ℕ) (past now : List Row) (port : Port) (buf : List ℕ) (a b : Ahead) (turn : Turn) → turn_ahead port buf a ≡ Some turn → b ≡ ahead_after (ends_input turn) → IsHeld turn past now
+    → IsNear first reader gave (input_end (number_of port) past) a → IsNear first reader gave (input_end (number_of port) now) b
+near_entered first reader gave past now port buf ahead.Unread b turn is b_is held near = cc
+near_entered first reader gave past now port buf (ahead.Frame stamp len) b turn is b_is held near =
+    let arrival = arrivals.Frame stamp (take len buf) in near_arrival first reader gave (input_end (number_of port) now) port arrival b turn (same_turn (Arrives port arrival) turn is) b_is near
+near_entered first reader gave past now port buf (ahead.Long stamp len) b turn is b_is held near =
+    let arrival = arrivals.Long stamp len in near_arrival first reader gave (input_end (number_of port) now) port arrival b turn (same_turn (Arrives port arrival) turn is) b_is near
+near_entered first reader gave past now port buf ahead.End b turn is b_is held near =
+    near_end first reader gave past now port hows.End b turn (same_turn (Ends (Ingress port) hows.End) turn is) b_is held (λ at same. cc)
+near_entered first reader gave past now port buf (ahead.Malformed at) b turn is b_is held near =
+    near_end first reader gave past now port (hows.Malformed at) b turn (same_turn (Ends (Ingress port) (hows.Malformed at)) turn is) b_is held
     (λ place same. let e : at ≡ place = cc in omega (arith, near, e))
-near_entered first reader gave plan stops past port buf ahead.Failed b turn is b_is near =
-    near_end first reader gave plan stops past port hows.Failed b turn (same_turn (Ends (Ingress port) hows.Failed) turn is) b_is (λ at same. cc)
-near_entered first reader gave plan stops past port buf ahead.Done b turn is b_is near = cc
+near_entered first reader gave past now port buf ahead.Failed b turn is b_is held near =
+    near_end first reader gave past now port hows.Failed b turn (same_turn (Ends (Ingress port) hows.Failed) turn is) b_is held (λ at same. cc)
+near_entered first reader gave past now port buf ahead.Done b turn is b_is held near = cc
 
 -- the end of an input at a failed read that was read
-fails_there : (plan : Plan) (stops : Stops) (past : List Row) (port : Port) (buf : List ℕ) (a : Ahead) (turn : Turn) → turn_ahead port buf a ≡ Some turn → a ≡ ahead.Failed → input_end (number_of port) (entered plan empty stops turn past) ≡ Some hows.Failed
-fails_there plan stops past port buf a turn is failed =
+fails_there : (past now : List Row) (port : Port) (buf : List ℕ) (a : Ahead) (turn : Turn) → turn_ahead port buf a ≡ Some turn → IsHeld turn past now → a ≡ ahead.Failed → input_end (number_of port) now ≡ Some hows.Failed
+fails_there past now port buf a turn is held failed =
     let turn_is : turn ≡ Ends (Ingress port) hows.Failed = same_turn (Ends (Ingress port) hows.Failed) turn (subst (λ (b : Ahead). turn_ahead port buf b ≡ Some turn) failed is) in
-    ap (λ (t : Turn). input_end (number_of port) (entered plan empty stops t past)) turn_is ∙ (end_entered plan empty past port hows.Failed).ended_so
+    (ends_so past now port hows.Failed turn turn_is held).ended_so
 
 -- an input with a turn has not ended
 open_before : (first reader : State) (gave buf : List ℕ) (before after : Option (List ℕ)) (past : List Row) (port : Port) (a : Ahead) (turn : Turn) → turn_ahead port buf a ≡ Some turn
@@ -371,24 +333,24 @@ open_before first reader gave buf before after past port (ahead.Malformed at) tu
 open_before first reader gave buf before after past port ahead.Failed turn is fits = fits.0
 open_before first reader gave buf before after past port ahead.Done turn is fits = cc
 
-here_one : {S K C : Type 0} (left : S → Option (List ℕ)) (written : K → Option (List ℕ)) (source_faults : S → ℕ) (faults : K → ℕ) (plan : Plan) (stops : Stops) (past now : List Row) (first old new : PortEnds S K C) (turn : Turn) → old.port ≡ first.port → IsStepped written faults old new → turn_of old ≡ Some turn
-    → now ≡ entered plan empty stops turn past → new.ahead ≡ ahead_after (ends_input plan past turn) → FitsSoFar left source_faults past first old → FitsSoFar left source_faults now first new
-here_one {S} {K} {C} left written source_faults faults plan stops past now first old new turn port_is stepped turn_is now_is ahead_is so_far =
+here_one : {S K C : Type 0} (left : S → Option (List ℕ)) (written : K → Option (List ℕ)) (source_faults : S → ℕ) (faults : K → ℕ) (past now : List Row) (first old new : PortEnds S K C) (turn : Turn) → old.port ≡ first.port → IsStepped written faults old new → turn_of old ≡ Some turn
+    → IsHeld turn past now → new.ahead ≡ ahead_after (ends_input turn) → FitsSoFar left source_faults past first old → FitsSoFar left source_faults now first new
+here_one {S} {K} {C} left written source_faults faults past now first old new turn port_is stepped turn_is held ahead_is so_far =
     let turn_first : turn_ahead first.port old.buf old.ahead ≡ Some turn = ap (λ (p : Port). turn_ahead p old.buf old.ahead) (sym port_is) ∙ turn_is in
-    let moved : FitsSoFar left source_faults (entered plan empty stops turn past) first (record old { ends = record old.ends { sink = new.ends.sink }; ahead = new.ahead }) =
+    let moved : FitsSoFar left source_faults now first (record old { ends = record old.ends { sink = new.ends.sink }; ahead = new.ahead }) =
     record {
       gave = so_far.gave;
       takes = so_far.takes;
-      fits = entered_fits first.reader old.reader so_far.gave old.buf (left first.ends.source) (left old.ends.source) plan stops past first.port old.ahead new.ahead turn so_far.takes turn_first ahead_is so_far.fits;
-      near = near_entered first.reader old.reader so_far.gave plan stops past first.port old.buf old.ahead new.ahead turn turn_first ahead_is so_far.near;
+      fits = entered_fits first.reader old.reader so_far.gave old.buf (left first.ends.source) (left old.ends.source) past now first.port old.ahead new.ahead turn turn_first ahead_is held so_far.fits;
+      near = near_entered first.reader old.reader so_far.gave past now first.port old.buf old.ahead new.ahead turn turn_first ahead_is held so_far.near;
       later = so_far.later;
-      failed = λ failed. absurd (never_failed (ends_input plan past turn) new.ahead ahead_is failed);
-      broken = entered_broken (Rose (source_faults first.ends.source) (source_faults old.ends.source)) plan stops past first.port old.buf old.ahead turn turn_first so_far.failed so_far.broken;
+      failed = λ failed. absurd (never_failed (ends_input turn) new.ahead ahead_is failed);
+      broken = entered_broken (Rose (source_faults first.ends.source) (source_faults old.ends.source)) past now first.port old.buf old.ahead turn turn_first held so_far.failed so_far.broken;
       still = λ other others.
-          so_far.still (λ failed. others (fails_there plan stops past first.port old.buf old.ahead turn turn_first failed))
+          so_far.still (λ failed. others (fails_there past now first.port old.buf old.ahead turn turn_first held failed))
           (λ ended_so. none_ended (sym (open_before first.reader old.reader so_far.gave old.buf (left first.ends.source) (left old.ends.source) past first.port old.ahead turn turn_first so_far.fits) ∙ ended_so));
     } in
-    subst (λ (l : List Row). FitsSoFar left source_faults l first new) (sym now_is) (subst (λ (p : PortEnds S K C). FitsSoFar left source_faults (entered plan empty stops turn past) first p) (sym stepped.same) moved)
+    subst (λ (p : PortEnds S K C). FitsSoFar left source_faults now first p) (sym stepped.same) moved
 
 -- whose turn it was
 pub turn_port : (port : Port) (buf : List ℕ) (a : Ahead) (turn : Turn) → turn_ahead port buf a ≡ Some turn → IsTurnOf port turn
@@ -400,21 +362,18 @@ turn_port port buf (ahead.Malformed at) turn is = rw (same_turn (Ends (Ingress p
 turn_port port buf ahead.Failed turn is = rw (same_turn (Ends (Ingress port) hows.Failed) turn is) refl
 turn_port port buf ahead.Done turn is = cc
 
-module _ {S K C : Type 0} (left : S → Option (List ℕ)) (written : K → Option (List ℕ)) (source_faults : S → ℕ) (faults : K → ℕ) (plan : Plan) (stops : Stops) (first old new : List (PortEnds S K C)) (past now : List Row) (j : ℕ) (turn : Turn)
+module _ {S K C : Type 0} (left : S → Option (List ℕ)) (written : K → Option (List ℕ)) (source_faults : S → ℕ) (faults : K → ℕ) (first old new : List (PortEnds S K C)) (past now : List Row) (j : ℕ) (turn : Turn)
     (ports_are : (k : ℕ) (d : PortEnds S K C) → k < length first → (get_or old k d).port ≡ (get_or first k d).port)
-    (differ : (k : ℕ) (d : PortEnds S K C) → k < length first → k ≢ j → number_of (get_or first j d).port ≢ number_of (get_or first k d).port)
     (inside : j < length first) (so_far : EachPair (FitsSoFar left source_faults past) first old) (stepped : EachPair (IsStepped written faults) old new)
     (others : (k : ℕ) (d : PortEnds S K C) → k ≢ j → k < length old → (get_or new k d).ahead ≡ (get_or old k d).ahead)
-    (turn_is : (d : PortEnds S K C) → turn_of (get_or old j d) ≡ Some turn) (now_is : now ≡ entered plan empty stops turn past)
-    (ahead_is : (d : PortEnds S K C) → (get_or new j d).ahead ≡ ahead_after (ends_input plan past turn)) where
+    (turn_is : (d : PortEnds S K C) → turn_of (get_or old j d) ≡ Some turn) (held : IsHeld turn past now)
+    (apart : (k : ℕ) (d : PortEnds S K C) → k < length first → k ≢ j → HoldsSame (number_of (get_or first k d).port) past now)
+    (ahead_is : (d : PortEnds S K C) → (get_or new j d).ahead ≡ ahead_after (ends_input turn)) where
   turned_at : (k : ℕ) (d : PortEnds S K C) → k < length first → (k ≡ j) ⊎ (k ≢ j) → FitsSoFar left source_faults now (get_or first k d) (get_or new k d)
   turned_at k d within (inl same) =
-      rw same (here_one left written source_faults faults plan stops past now (get_or first j d) (get_or old j d) (get_or new j d) turn (ports_are j d inside) (stepped.each j d (omega (arith, so_far.size, inside))) (turn_is d) now_is (ahead_is d) (so_far.each j d inside))
+      rw same (here_one left written source_faults faults past now (get_or first j d) (get_or old j d) (get_or new j d) turn (ports_are j d inside) (stepped.each j d (omega (arith, so_far.size, inside))) (turn_is d) held (ahead_is d) (so_far.each j d inside))
   turned_at k d within (inr other) =
-      let whose : IsTurnOf (get_or first j d).port turn = subst (λ (p : Port). IsTurnOf p turn) (ports_are j d inside) (turn_port (get_or old j d).port (get_or old j d).buf (get_or old j d).ahead turn (turn_is d)) in
-      let holds = other_entered plan empty stops past (get_or first j d).port turn (number_of (get_or first k d).port) whose (differ k d within other) in
-      subst (λ (l : List Row). FitsSoFar left source_faults l (get_or first k d) (get_or new k d)) (sym now_is)
-      (same_one left written source_faults faults past (entered plan empty stops turn past) (get_or first k d) (get_or old k d) (get_or new k d) (stepped.each k d (omega (arith, so_far.size))) (others k d other (omega (arith, so_far.size))) holds (so_far.each k d within))
+      same_one left written source_faults faults past now (get_or first k d) (get_or old k d) (get_or new k d) (stepped.each k d (omega (arith, so_far.size))) (others k d other (omega (arith, so_far.size))) (apart k d within other) (so_far.each k d within)
 
   pub fits_turned : EachPair (FitsSoFar left source_faults now) first new
   fits_turned = record { size = stepped.size ∙ so_far.size; each = λ k d within. turned_at k d within (cases_eq k j) }
@@ -431,20 +390,20 @@ pub record HasCause {S K C : Type 0} (left : S → Option (List ℕ)) (source_fa
   pub still : input_end (number_of old.port) past ≢ Some hows.Failed → source_faults new.ends.source ≡ source_faults old.ends.source
   pub near : (at : ℕ) → input_end (number_of old.port) past ≡ Some (hows.Malformed at) → GaveFew (left old.ends.source) (left new.ends.source) (at + longest_record)
 
-pub fits_finished : {S K C : Type 0} (left : S → Option (List ℕ)) (source_faults : S → ℕ) (plan : Plan) (first old : List (PortEnds S K C)) (past now : List Row) → EachPair (FitsSoFar left source_faults past) first old → ((k : ℕ) (d : PortEnds S K C) → k < length old → (get_or old k d).ahead ≡ ahead.Done)
-    → now ≡ egress_ended plan empty plan.ports (with_event plan empty past (End Ticker (closing past))) → EachPair (IsFit left now) first old
-fits_finished left source_faults plan first old past now so_far done now_is = record {
+pub fits_finished : {S K C : Type 0} (left : S → Option (List ℕ)) (source_faults : S → ℕ) (first old : List (PortEnds S K C)) (past now : List Row) → EachPair (FitsSoFar left source_faults past) first old
+    → ((k : ℕ) (d : PortEnds S K C) → k < length old → (get_or old k d).ahead ≡ ahead.Done) → ((n : ℕ) → HoldsSame n past now) → EachPair (IsFit left now) first old
+fits_finished left source_faults first old past now so_far done holds = record {
   size = so_far.size;
   each = λ k d within.
       let one = so_far.each k d within in
       let n = number_of (get_or first k d).port in
-      let holds = same_finished plan empty past n in
+      let same = holds n in
       let fits : FitsAhead (get_or first k d).reader (get_or old k d).reader one.gave (get_or old k d).buf (left (get_or first k d).ends.source) (left (get_or old k d).ends.source) (arrived n past) (input_end n past) ahead.Done =
       subst (λ (a : Ahead). FitsAhead (get_or first k d).reader (get_or old k d).reader one.gave (get_or old k d).buf (left (get_or first k d).ends.source) (left (get_or old k d).ends.source) (arrived n past) (input_end n past) a) (done k d (omega (arith, so_far.size))) one.fits in
-      rw (now_is, holds.arrivals_same, holds.end_same) fits;
+      rw (same.arrivals_same, same.end_same) fits;
 }
 
-done_apart : (a : Ahead) → a ≡ ahead.Done → a ≢ ahead.Failed
+pub done_apart : (a : Ahead) → a ≡ ahead.Done → a ≢ ahead.Failed
 done_apart a done failed = cc
 
 -- a fault came exactly where the history tells of a failed read, also where it holds no more of the inputs since

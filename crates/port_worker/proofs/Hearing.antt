@@ -1,6 +1,5 @@
 -- What was read of control's input, from a new reader on.
-use Rattle.std.proofs.Common.{◌≡◌, ◌≤◌, ◌+◌, ◌^◌, ℕ, Bool, true, false, List, [], ◌∷◌, ◌++◌, length, refl, sym, ap, ◌∙◌, subst, arith, ◌⊎◌, inl, inr, append-nil, append_assoc, length-append, decimal, Option, Some, None, IfSome}
-use Rattle.std.specs.Prelude.{IsTrue}
+use Rattle.std.proofs.Common.{◌≡◌, ◌≤◌, ◌+◌, ◌^◌, ℕ, true, false, List, [], ◌∷◌, ◌++◌, length, refl, sym, ap, ◌∙◌, subst, arith, ◌⊎◌, inl, inr, append-nil, append_assoc, length-append, decimal, Option, Some, None, IfSome}
 use Rattle.std.specs.List.{All}
 use Rattle.std.proofs.lemmas.List.Elements.{All-cons, All-nil}
 use Rattle.std.proofs.lemmas.List.{get_or_append_left}
@@ -24,8 +23,8 @@ IsRunning state = (place : ℕ) × (held : List ℕ) × (state ≡ Running place
 abbrev pub of_lines : List Line → How → Input
 of_lines lines ending = record { arrivals = lines; ending = ending }
 
--- These lines were read: whatever comes behind them, they come before it, and the reader took so many octets; or the last one
--- had no line feed, and nothing is left.
+-- These lines were read: whatever comes behind them, they come before it, and the reader took so many octets; or the last
+-- one had no line feed, and nothing is left.
 abbrev pub HasHeard : State → List ℕ → Option (List ℕ) → List Line → Type 0
 HasHeard state gave left lines =
     (IsRunning state × HasRead false start state gave lines × (octets_taken state ≡ length gave)) ⊎ ((state ≡ Ended hows.End) × NothingLeft left × Comes false true start gave (of_lines lines hows.End))
@@ -173,37 +172,6 @@ heard_lines state gave left lines (inl behind) =
     let comes : Comes false true state [] (of_lines later.0 later.1) = subst (λ (s : State). Comes false true s [] (of_lines later.0 later.1)) (sym behind.0.2) later.2 in
     all_front IsReadableLine lines later.0 (run_lines (lines ++ later.0) 0 later.1 (gave ++ []) (behind.1 true [] later.0 later.1 comes))
 heard_lines state gave left lines (inr over) = run_lines lines 0 hows.End gave over.2
-
--- The octets that were given are these lines, and perhaps more behind them that was read ahead.
-pub record Holds (first : Option (List ℕ)) (gave : List ℕ) (lines : List Line) : Type 0 where
-  pub seen : Bool
-  pub all : IsTrue seen → IfSome first (λ octets. octets ≡ gave)
-  pub behind : List Line
-  pub ending : How
-  pub read : Comes false seen start gave (of_lines (lines ++ behind) ending)
-
-all_given : (first left : Option (List ℕ)) (gave : List ℕ) → NothingLeft left → Takes first left gave → IfSome first (λ octets. octets ≡ gave)
-all_given first None gave nothing takes = subst (λ (o : Option (List ℕ)). IfSome o (λ octets. octets ≡ gave)) (sym takes) tt
-all_given first (Some rest) gave nothing takes = subst (λ (o : Option (List ℕ)). IfSome o (λ octets. octets ≡ gave)) (sym takes) (ap (λ (l : List ℕ). gave ++ l) nothing ∙ append-nil gave)
-
-pub holds_at : (state : State) (gave : List ℕ) (first left : Option (List ℕ)) (lines : List Line) → HasHeard state gave left lines → Takes first left gave → Holds first gave lines
-holds_at state gave first left lines (inl behind) takes =
-    let later = some_later false false behind.0.0 (behind.0.1 ++ []) in
-    let comes : Comes false false state [] (of_lines later.0 later.1) = subst (λ (s : State). Comes false false s [] (of_lines later.0 later.1)) (sym behind.0.2) later.2 in
-    record {
-      seen = false;
-      all = λ never. cc;
-      behind = later.0;
-      ending = later.1;
-      read = subst (λ (l : List ℕ). Comes false false start l (of_lines (lines ++ later.0) later.1)) (append-nil gave) (behind.1 false [] later.0 later.1 comes);
-    }
-holds_at state gave first left lines (inr over) takes = record {
-  seen = true;
-  all = λ seen. all_given first left gave over.1 takes;
-  behind = [];
-  ending = hows.End;
-  read = subst (λ (ls : List Line). Comes false true start gave (of_lines ls hows.End)) (sym (append-nil lines)) over.2;
-}
 
 module _ (state : State) (gave : List ℕ) (lines : List Line) where
   some_at : (left : Option (List ℕ)) → HasHeard state gave left lines → Whole (in_front gave left) lines

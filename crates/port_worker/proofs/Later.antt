@@ -1,9 +1,6 @@
 -- The ends of a port, step after step.
 use Rattle.std.proofs.Common.{◌≡◌, ℕ, ◌≤◌, List, [], ◌++◌, get_or, refl, sym, ap, ◌∙◌, subst, arith, append-nil, Option, Some, None}
-use Rattle.savi_ends.specs.declared.sink.Put.{Put}
-use Rattle.savi_ends.specs.declared.sink.Put.TheVariants as put
 use Rattle.savi_ends.specs.Octets.{behind, Takes}
-use Rattle.savi_ends.specs.Writes.{Extends}
 use Rattle.savi_ends.proofs.Octets.{behind_again, takes_more}
 use Rattle.port_worker.specs.declared.port_ends.PortEnds.{PortEnds}
 use Rattle.port_worker.specs.Pairs.{EachPair}
@@ -29,11 +26,6 @@ took_none o = ([], behind_none o)
 
 pub took_again : (before mid after : Option (List ℕ)) → TookMore before mid → TookMore mid after → TookMore before after
 took_again before mid after one two = (one.0 ++ two.0, two.1 ∙ ap (λ (o : Option (List ℕ)). behind o two.0) one.1 ∙ behind_again before one.0 two.0)
-
--- a write, done or failed
-pub took_written : (answer : Put) (before after : Option (List ℕ)) (piece : List ℕ) → Extends answer before after piece → TookMore before after
-took_written put.Done before after piece extends = (piece, extends)
-took_written put.Failed before after piece extends = (extends.0, extends.2)
 
 pub gave_again : (before mid after : Option (List ℕ)) → (octets : List ℕ) × Takes before mid octets → (octets : List ℕ) × Takes mid after octets → (octets : List ℕ) × Takes before after octets
 gave_again before mid after one two = (one.0 ++ two.0, takes_more one.0 two.0 before mid after one.1 two.1)

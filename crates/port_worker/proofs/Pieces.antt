@@ -10,20 +10,11 @@ use Rattle.savi_ends.specs.declared.sink.Put.TheVariants as put
 use Rattle.savi_ends.specs.Octets.{behind, IsFront}
 use Rattle.savi_ends.specs.Writes.{Extends}
 use Rattle.savi_ends.proofs.Octets.{behind_again}
-use Rattle.pcap_io.specs.Captures.{header_text, record_text, records_text, capture_text}
+use Rattle.pcap_io.specs.Captures.{header_text, record_text}
 use Rattle.savi_history.specs.Queues.{Item}
-use Rattle.savi_history.specs.Outputs.{sent_items}
 use Rattle.savi_history.specs.PortOutputs.{pieces, TookPieces}
 use Rattle.savi_core.specs.Batches.{item_with}
-use Rattle.port_worker.specs.SentFrames.{records, TookAs, TookMore}
-
-behind_none : (o : Option (List ℕ)) → o ≡ behind o []
-behind_none None = refl
-behind_none (Some written) = ap (λ (l : List ℕ). Some l) (sym (append-nil written))
-
--- no pieces yet
-pub took_nothing : (o : Option (List ℕ)) → TookPieces o o [] None
-took_nothing o = behind_none o
+use Rattle.port_worker.specs.SentFrames.{records, TookAs}
 
 -- pieces, and then more of them
 
@@ -55,18 +46,6 @@ single_first piece = append-nil piece
 pub took_one : (answer : Put) (before after : Option (List ℕ)) (piece : List ℕ) → Extends answer before after piece → TookAs answer before after (piece ∷ [])
 took_one put.Done before after piece extends = extends ∙ ap (behind before) (sym (single_first piece))
 took_one put.Failed before after piece extends = (0, (omega arith, extends.0, extends.1, extends.2))
-
--- any of it is octets behind what was there
-
-pub more_of_all : (before after : Option (List ℕ)) (given : List (List ℕ)) → TookPieces before after given None → TookMore before after
-more_of_all before after given took = (concat given, took)
-
-pub more_of_front : (before after : Option (List ℕ)) (given : List (List ℕ)) (whole : ℕ) → TookPieces before after given (Some whole) → TookMore before after
-more_of_front before after given whole took = (concat (take whole given) ++ took.1, took.3)
-
-pub more_of : (answer : Put) (before after : Option (List ℕ)) (given : List (List ℕ)) → TookAs answer before after given → TookMore before after
-more_of put.Done before after given took = more_of_all before after given took
-more_of put.Failed before after given took = more_of_front before after given took.0 took.1
 
 -- the records of a batch, one after the other
 
@@ -127,15 +106,6 @@ wrote_front first mid new batch i moment frame inside item so_far wrote =
       subst (λ (l : List (List ℕ)). TookPieces first new l (Some (length (records (take i batch)) + failed.0))) all
           (front_of_more first new (records (take i batch) ++ record_text moment frame ∷ []) (records (drop (i + 1) batch)) (length (records (take i batch)) + failed.0) here),
     )
-
--- the octets of all pieces are the capture
-
-records_joined : (items : List Item) → concat (records items) ≡ records_text (sent_items items)
-records_joined [] = refl
-records_joined (x ∷ items) = ap (λ (l : List ℕ). record_text x.moment x.octets ++ l) (records_joined items)
-
-pub pieces_joined : (items : List Item) → concat (pieces items) ≡ capture_text (sent_items items)
-pieces_joined items = ap (λ (l : List ℕ). header_text ++ l) (records_joined items)
 
 -- What a sink took up to a failed write is a front of the whole that holds the pieces before.
 pub front_of_all : (given : List (List ℕ)) (whole : ℕ) (front : List ℕ) → IsFront front (get_or given whole []) → whole < length given → IsFront (concat (take whole given) ++ front) (concat given)

@@ -10,23 +10,22 @@ use Rattle.savi_kinds.specs.Ports.{number_of}
 use Rattle.savi_kinds.specs.Arrivals.{Arrival, Input}
 use Rattle.savi_kinds.specs.Arrivals as arrivals
 use Rattle.savi_ends.specs.Octets.{Takes}
-use Rattle.pcap_io.specs.declared.kind.HeaderKind.{HeaderKind}
-use Rattle.pcap_io.specs.Runs.{IsRun, EndsAs, ended}
+use Rattle.pcap_io.specs.Runs.{ended}
 use Rattle.pcap_io.specs.Readers.{State, Comes, HasRead, record_place}
-use Rattle.pcap_io.proofs.Existence.{some_later}
+use Rattle.pcap_io.proofs.CallsJoined.{has_read_more}
 use Rattle.hist_store.specs.Rows.{Row}
 use Rattle.savi_history.specs.Passes.{pass_of}
 use Rattle.savi_history.specs.PortInputs.{input_end}
 use Rattle.savi_history.specs.Turns.{Turn, Arrives, Ends, turns}
-use Rattle.savi_history.proofs.Ends.{AreOf}
-use Rattle.savi_history.proofs.Reaching.{Head, Unread, Known, Done}
-use Rattle.savi_history.proofs.Reaching as reaching
+use Rattle.savi_segments.proofs.ForGood.{AreOf}
+use Rattle.savi_segments.proofs.Reaching.{Head, Unread, Known, Done}
+use Rattle.savi_segments.proofs.Reaching as reaching
 use Rattle.port_worker.specs.declared.port_ends.Ahead.{Ahead}
 use Rattle.port_worker.specs.declared.port_ends.Ahead.TheVariants as ahead
 use Rattle.port_worker.specs.declared.port_ends.PortEnds.{PortEnds}
 use Rattle.port_worker.specs.Inputs.{turn_ahead, moment_ahead, with_arrival, WillGive, WillCome, IsReadAhead, IsReadAs}
 use Rattle.port_worker.specs.Served.{IsInputOf}
-use Rattle.port_worker.proofs.Joining.{IsRunning, read_twice, read_behind}
+use Rattle.port_worker.proofs.Joining.{IsRunning, read_behind}
 
 -- an input with more arrivals in front
 abbrev pub with_front : List Arrival → Input → Input
@@ -174,8 +173,8 @@ at_turn left port state buf ahead.Done t is = cc
 -- one more read, behind what was read
 pub read_ahead : (first mid now : State) (one two : List ℕ) (front : List Arrival) (buf : List ℕ) (left : Option (List ℕ)) (a : Ahead) → HasRead first mid one front → IsReadAs mid now two buf left a → HasReadAhead first now (one ++ two) buf front a
 read_ahead first mid now one two front buf left ahead.Unread read is = absurd is
-read_ahead first mid now one two front buf left (ahead.Frame stamp len) read is = (read_twice first mid now one two front (arrivals.Frame stamp (take len buf) ∷ []) read is.read, (is.running.0, record_place mid + length two, is.running.1))
-read_ahead first mid now one two front buf left (ahead.Long stamp len) read is = (read_twice first mid now one two front (arrivals.Long stamp len ∷ []) read is.read, (is.running.0, record_place mid + length two, is.running.1))
+read_ahead first mid now one two front buf left (ahead.Frame stamp len) read is = (has_read_more first mid now one two front (arrivals.Frame stamp (take len buf) ∷ []) read is.read, (is.running.0, record_place mid + length two, is.running.1))
+read_ahead first mid now one two front buf left (ahead.Long stamp len) read is = (has_read_more first mid now one two front (arrivals.Long stamp len ∷ []) read is.read, (is.running.0, record_place mid + length two, is.running.1))
 read_ahead first mid now one two front buf left ahead.End read is = tt
 read_ahead first mid now one two front buf left (ahead.Malformed at) read is = tt
 read_ahead first mid now one two front buf left ahead.Failed read is = read_behind first mid false one two front hows.Failed read is.taken
@@ -252,39 +251,6 @@ goes_at left plan k past old new taken (ahead.Malformed at) t port buf is p = p
 goes_at left plan k past old new taken ahead.Failed t port buf is p = p
 goes_at left plan k past old new taken ahead.Done t port buf is p = cc
 
-of_turns_from : (plan : Plan) (port : Port) (k : ℕ) (before : List Arrival) (ending : How) → pass_of plan (Ingress port) ≡ k → AreOf plan k (map (λ a. Arrives port a) before ++ Ends (Ingress port) ending ∷ [])
-of_turns_from plan port k [] ending is = (is, tt)
-of_turns_from plan port k (a ∷ before) ending is = (is, of_turns_from plan port k before ending is)
-
-pub of_turns : (plan : Plan) (port : Port) (k : ℕ) (input : Input) → pass_of plan (Ingress port) ≡ k → AreOf plan k (turns port input)
-of_turns plan port k input is = of_turns_from plan port k input.arrivals input.ending is
-
-turns_front : (port : Port) (before : List Arrival) (input : Input) → map (λ a. Arrives port a) before ++ turns port input ≡ turns port (with_front before input)
-turns_front port before input =
-    sym (append_assoc (map (λ a. Arrives port a) before) (map (λ a. Arrives port a) input.arrivals) (Ends (Ingress port) input.ending ∷ []))
-    ∙ ap (λ (l : List Turn). l ++ Ends (Ingress port) input.ending ∷ []) (sym (map-append (λ a. Arrives port a) before input.arrivals))
-
--- how the octets of a whole capture end
-
-run_end : (kind : HeaderKind) (place : ℕ) (ending : How) (octets : List ℕ) → EndsAs kind true place ending octets → IsWholeEnd ending
-run_end kind place hows.End octets ends = tt
-run_end kind place (hows.Malformed at) octets ends = tt
-run_end kind place hows.Quit octets ends = ends
-run_end kind place (hows.Overlong at) octets ends = ends
-run_end kind place hows.Failed octets ends = let unseen = ends.0 in cc
-run_end kind place hows.Unwritten octets ends = ends
-run_end kind place hows.Paused octets ends = ends
-
-run_ends : (kind : HeaderKind) (arrivals : List Arrival) (place : ℕ) (ending : How) (octets : List ℕ) → IsRun kind true place arrivals ending octets → IsWholeEnd ending
-run_ends kind [] place ending octets run = run_end kind place ending octets run
-run_ends kind (a ∷ arrivals) place ending octets run = run_ends kind arrivals (place + length run.0) ending run.1 run.5
-
-some_input : (left : Option (List ℕ)) (state : State) → IsRunning state → (input : Input) × IfSome left (λ octets. Comes state true octets input) × IsWholeEnd input.ending
-some_input None state running = (ended hows.End, tt, tt)
-some_input (Some octets) state running =
-    let some = some_later true state octets in
-    (some.0, some.1, run_ends running.0 some.0.arrivals running.1 some.0.ending octets (subst (λ (s : State). Comes s true octets some.0) running.2 some.1))
-
 -- the whole octets of a source are the input
 whole_as : (Reads : Bool → List ℕ → Input → Type 0) (before after : Option (List ℕ)) (ended_so : Option How) (arrivals : List Arrival) (ending : How) → IsWholeEnd ending
     → IfSome before (λ octets. Reads true octets (record { arrivals = arrivals; ending = ending })) → IsInputOf Reads before after ended_so arrivals ending
@@ -337,20 +303,6 @@ module _ {S K C : Type 0} (left : S → Option (List ℕ)) (plan : Plan) (k : �
             let at_now : IfSome (left now.ends.source) (λ octets. Comes now.reader true octets later) =
             subst (λ (s : S). IfSome (left s) (λ octets. Comes now.reader true octets later)) source (subst (λ (r : State). IfSome (left new.ends.source) (λ octets. Comes r true octets later)) reader at_new) in
             subst (λ (i : Input). CameFirst left old i) (front_again at.arrival later) (goes.comes (with_arrival at.arrival later) (at.gives later at_now));
-      })
-
-  -- an arrival for which there was no room: what is left is passed over
-  pub stops_at : new.ahead ≡ ahead.Done → AtArrival (left now.ends.source) now.port now.reader now.buf now.ahead t → Progress left plan k past old new (taken ++ t ∷ [])
-  stops_at done at =
-      let some = some_input (left now.ends.source) now.reader (at.read old.reader goes.gave goes.before goes.read).1 in
-      let before = goes.before ++ at.arrival ∷ [] in
-      rw done (record {
-        input = with_front before some.0;
-        rest = turns old.port some.0;
-        of = of_turns plan old.port k some.0 pass;
-        split = ap (λ (l : List Turn). l ++ turns old.port some.0) (taken_more at.arrival at.is_turn) ∙ turns_front old.port before some.0;
-        came = whole_as (Comes old.reader) (left old.ends.source) (left new.ends.source) (input_end (number_of old.port) past) (before ++ some.0.arrivals) some.0.ending some.2
-            (subst (λ (i : Input). CameFirst left old i) (front_again at.arrival some.0) (goes.comes (with_arrival at.arrival some.0) (at.gives some.0 some.1)));
       })
 
   pub ends_at : new.ahead ≡ ahead.Done → AtEnding (left now.ends.source) now.port now.reader now.buf now.ahead t → Progress left plan k past old new (taken ++ t ∷ [])

@@ -6,13 +6,15 @@ use Rattle.savi_kinds.specs.declared.entry.Who.TheVariants.{Control}
 use Rattle.savi_kinds.specs.declared.entry.How.TheVariants as hows
 use Rattle.savi_ends.specs.Faults.{Rose}
 use Rattle.hist_store.specs.Rows.{Row}
-use Rattle.checkpoint.specs.Bases.{empty}
+use Rattle.checkpoint.specs.Bases.{Base}
 use Rattle.savi_history.specs.ControlInputs.{control_end}
-use Rattle.savi_history.specs.ControlOutputs.{replies}
 use Rattle.savi_history.specs.Events.{End}
 use Rattle.savi_history.specs.Passes.{control_pass, has_ended}
 use Rattle.savi_history.specs.PortOutputs.{TookPieces}
-use Rattle.savi_history.specs.Replay.{Stops, entered}
+use Rattle.savi_history.specs.Replay.{Stops}
+use Rattle.savi_segments.specs.Replay.{Run, segments_of, has_ended_in, entered_in}
+use Rattle.savi_segments.specs.Sent.{replies_in}
+use Rattle.savi_segments.specs.Unbroken.{unbroken}
 use Rattle.savi_core.specs.Machines.{Machine, with_event}
 use Rattle.port_worker.specs.declared.control_ends.ControlEnds.{ControlEnds}
 use Rattle.port_worker.specs.declared.port_ends.PortEnds.{PortEnds}
@@ -26,31 +28,31 @@ unheard m None = with_event m (End Control hows.End)
 unheard m (Some c) = m
 
 -- the sink took all replies, and no write has failed
-pub record RepliesRunOn {K : Type 0} (written : K → Option (List ℕ)) (faults : K → ℕ) (plan : Plan) (past : List Row) (old new : K) : Type 0 where
-  pub none : control_end past ≢ Some hows.Unwritten
-  pub took : TookPieces (written old) (written new) (replies plan empty past) None
+pub record RepliesRunOn {K : Type 0} (written : K → Option (List ℕ)) (faults : K → ℕ) (plan : Plan) (run : Run) (old new : K) : Type 0 where
+  pub none : control_end (unbroken (segments_of run)) ≢ Some hows.Unwritten
+  pub took : TookPieces (written old) (written new) (replies_in plan (segments_of run)) None
   pub still : faults new ≡ faults old
 
 -- a reply could not be written behind so many whole ones, and control has ended for that
-pub record RepliesHaveStopped {K : Type 0} (written : K → Option (List ℕ)) (faults : K → ℕ) (plan : Plan) (past : List Row) (old new : K) (whole : ℕ) : Type 0 where
-  pub ended : has_ended empty (control_pass plan) past ≡ true
-  pub failed : control_end past ≡ Some hows.Unwritten
-  pub took : TookPieces (written old) (written new) (replies plan empty past) (Some whole)
+pub record RepliesHaveStopped {K : Type 0} (written : K → Option (List ℕ)) (faults : K → ℕ) (plan : Plan) (run : Run) (old new : K) (whole : ℕ) : Type 0 where
+  pub ended : has_ended_in plan (control_pass plan) run ≡ true
+  pub failed : control_end (unbroken (segments_of run)) ≡ Some hows.Unwritten
+  pub took : TookPieces (written old) (written new) (replies_in plan (segments_of run)) (Some whole)
   pub rose : Rose (faults old) (faults new)
 
 -- control's output by what is known of where a reply could not be written
-abbrev pub AreReplies : {K : Type 0} → (K → Option (List ℕ)) → (K → ℕ) → Plan → List Row → K → K → Option ℕ → Type 0
-AreReplies written faults plan past old new None = RepliesRunOn written faults plan past old new
-AreReplies written faults plan past old new (Some whole) = RepliesHaveStopped written faults plan past old new whole
+abbrev pub AreReplies : {K : Type 0} → (K → Option (List ℕ)) → (K → ℕ) → Plan → Run → K → K → Option ℕ → Type 0
+AreReplies written faults plan run old new None = RepliesRunOn written faults plan run old new
+AreReplies written faults plan run old new (Some whole) = RepliesHaveStopped written faults plan run old new whole
 
 -- what the writes may turn out to have failed at, by what is known of all outputs
-pub record AreAllowed (plan : Plan) (known stops : Stops) (past : List Row) : Type 0 where
-  pub ports : ArePortsAllowed plan known stops past
-  pub replies : Allows known.control stops.control (length (replies plan empty past))
+pub record AreAllowed (plan : Plan) (known stops : Stops) (run : Run) : Type 0 where
+  pub ports : ArePortsAllowed plan known stops run
+  pub replies : Allows known.control stops.control (length (replies_in plan (segments_of run)))
 
 -- More is known of all outputs behind a step, and the step has made what that allows.
-pub record AllFollow (plan : Plan) (known later : Stops) (past now : List Row) (made : Stops → List Row) : Type 0 where
-  pub before : (stops : Stops) → AreAllowed plan later stops now → AreAllowed plan known stops past
+pub record AllFollow (plan : Plan) (known later : Stops) (run now : Run) (made : Stops → Run) : Type 0 where
+  pub before : (stops : Stops) → AreAllowed plan later stops now → AreAllowed plan known stops run
   pub made_so : (stops : Stops) → AreAllowed plan later stops now → now ≡ made stops
 
 -- control has a turn that may be entered
@@ -65,23 +67,18 @@ IsControlAdvanced written faults (Some old) None = ⊥
 IsControlAdvanced written faults None new = ⊥
 
 -- Behind the turn the next line may be read where control hasn't ended.
-abbrev pub IsAheadAfter : {S K C : Type 0} → Plan → List Row → Option (ControlEnds S K C) → Type 0
-IsAheadAfter plan now None = Unit {0}
-IsAheadAfter plan now (Some c) = c.ahead ≡ line_ahead_after (has_ended empty (control_pass plan) now)
+abbrev pub IsAheadAfter : {S K C : Type 0} → Plan → Base → List Row → Option (ControlEnds S K C) → Type 0
+IsAheadAfter plan base now None = Unit {0}
+IsAheadAfter plan base now (Some c) = c.ahead ≡ line_ahead_after (has_ended base (control_pass plan) now)
 
 -- Whatever was known of all outputs since their first ends, the turn of control goes on from there.
-abbrev pub AllOutputsGoOn : {S K C : Type 0} → (K → Option (List ℕ)) → (K → ℕ) → Plan → List Row → List Row → K → K → List (PortEnds S K C) → List (PortEnds S K C) → (Stops → List Row) → Type 0
-AllOutputsGoOn {S} {K} {C} written faults plan past now sink_old sink_new old new made =
-    (first : List (PortEnds S K C)) (start : K) (known : Stops) → AreOutputs written faults plan known past first old → faults start ≤ faults sink_old → AreReplies written faults plan past start sink_old known.control
-    → (later : Stops) × AreOutputs written faults plan later now first new × AreReplies written faults plan now start sink_new later.control × AllFollow plan known later past now made
+abbrev pub AllOutputsGoOn : {S K C : Type 0} → (K → Option (List ℕ)) → (K → ℕ) → Plan → Run → Run → K → K → List (PortEnds S K C) → List (PortEnds S K C) → (Stops → Run) → Type 0
+AllOutputsGoOn {S} {K} {C} written faults plan run now sink_old sink_new old new made =
+    (first : List (PortEnds S K C)) (start : K) (known : Stops) → AreOutputs written faults plan known run first old → faults start ≤ faults sink_old → AreReplies written faults plan run start sink_old known.control
+    → (later : Stops) × AreOutputs written faults plan later now first new × AreReplies written faults plan now start sink_new later.control × AllFollow plan known later run now made
 
-abbrev pub ControlGoesOn : {S K C : Type 0} → (K → Option (List ℕ)) → (K → ℕ) → Plan → List Row → List Row → Option (ControlEnds S K C) → Option (ControlEnds S K C) → List (PortEnds S K C) → List (PortEnds S K C) → Type 0
-ControlGoesOn written faults plan past now (Some old) (Some new) ports_old ports_new =
-    IfSome (control_turn_of old) (λ turn. AllOutputsGoOn written faults plan past now old.ends.sink new.ends.sink ports_old ports_new (λ stops. entered plan empty stops turn past))
-ControlGoesOn written faults plan past now (Some old) None ports_old ports_new = ⊥
-ControlGoesOn written faults plan past now None new ports_old ports_new = ⊥
-
--- whatever was known of the outputs of the ports
-abbrev pub AheadGoesOn : {S K C : Type 0} → (K → Option (List ℕ)) → (K → ℕ) → Plan → List Row → List Row → Option (ControlEnds S K C) → List (PortEnds S K C) → Type 0
-AheadGoesOn {S} {K} {C} written faults plan past now control ports =
-    (first : List (PortEnds S K C)) (known : Stops) → AreOutputs written faults plan known past first ports → IsAheadAfter plan now control
+abbrev pub ControlGoesOn : {S K C : Type 0} → (K → Option (List ℕ)) → (K → ℕ) → Plan → Run → Run → Option (ControlEnds S K C) → Option (ControlEnds S K C) → List (PortEnds S K C) → List (PortEnds S K C) → Type 0
+ControlGoesOn written faults plan run now (Some old) (Some new) ports_old ports_new =
+    IfSome (control_turn_of old) (λ turn. AllOutputsGoOn written faults plan run now old.ends.sink new.ends.sink ports_old ports_new (λ stops. entered_in plan stops turn run))
+ControlGoesOn written faults plan run now (Some old) None ports_old ports_new = ⊥
+ControlGoesOn written faults plan run now None new ports_old ports_new = ⊥

@@ -13,3 +13,7 @@ pub mod Choices
 pub mod Replays
 pub mod ControlServed
 pub mod Served
+pub mod Turnings
+pub mod Told
+pub mod Journalled
+pub mod Replayed

@@ -1,11 +1,11 @@
 //! The ends of control, and what was read ahead of its input.
 
-ghost use Rattle.std.specs.Prelude.{◌≡◌, ◌≤◌, true, false, IsSome, IfSome, Option, Some, None};
+ghost use Rattle.std.specs.Prelude.{◌≡◌, true, false, IsSome, IfSome};
 ghost use Rattle.cli_lang.specs.CommandOf.{command_of};
 ghost use Rattle.savi_history.specs.ControlInputs.{is_quit_command};
 
 use cli_lang::{Command, LineGot, Lines, command};
-use savi_core::{Core, Event, Reply, Stepped};
+use savi_core::{Core, Event, Reply};
 use savi_ends::{Clock, Ends, Put, Sink, Source};
 use savi_kinds::{CONTROL_LINE_OCTETS, How, Who};
 
@@ -108,9 +108,20 @@ impl<S: Source, K, C: Clock> ControlEnds<S, K, C> {
     }
 }
 
+impl<S, K, C> ControlEnds<S, K, C> {
+    ghost use Rattle.port_worker.specs.LineInputs.{control_turn_of};
+    ghost use Rattle.port_worker.specs.Steps.{comes_in};
+
+    // Whether the turn that was read is a line, which needs room in the history.
+    pub(crate) fn has_line(&self) -> bool
+        ensures { IfSome (control_turn_of self.now) (λ turn. result ≡ comes_in turn) }
+    {
+        matches!(self.ahead, LineAhead::Line { stamp: _, len: _ })
+    }
+}
+
 impl<S, K: Sink, C> ControlEnds<S, K, C> {
     ghost use Rattle.savi_kinds.specs.declared.entry.Who.TheVariants.{Control};
-    ghost use Rattle.checkpoint.specs.Bases.{empty};
     ghost use Rattle.savi_history.specs.Passes.{control_pass, has_ended};
     ghost use Rattle.savi_history.specs.Legal.{IsOpen, MayEnd};
     ghost use Rattle.savi_history.specs.Events.{End};
@@ -118,29 +129,28 @@ impl<S, K: Sink, C> ControlEnds<S, K, C> {
     ghost use Rattle.savi_core.specs.Refused.{EndsWithCommand};
     ghost use Rattle.port_worker.specs.LineInputs.{IsLineSound, control_turn_of};
     ghost use Rattle.port_worker.specs.LineSteps.{EntersLine, IsAnswered, IsControlStepped, line_ahead_after};
+    ghost use Rattle.port_worker.specs.Steps.{HasRoomFor};
     ghost use Rattle.port_worker.specs.declared.control_ends.LineAhead.TheVariants as ahead;
 
-    // Enters the turn that was read, and answers a line. The answer is true where it is a line that was entered; else
-    // control has ended, and its end was entered.
+    // Enters the turn that was read, for which there is room, and answers a line. The answer is true where it is a line;
+    // else control's input has ended.
     pub(crate) fn enter(&mut self, core: &mut Core, reply: &mut Reply) -> bool
         requires known { IsSome (control_turn_of self.old) }
         requires sound { IsLineSound self.old.reader self.old.ahead }
-        requires base { base_of core.old ≡ empty }
-        requires open { IsOpen core.old.plan empty core.old.past Control }
+        requires open { IsOpen core.old.plan (base_of core.old) core.old.past Control }
+        requires room { IfSome (control_turn_of self.old) (λ turn. HasRoomFor core.old.plan core.old.past turn) }
         ensures plan { core.new.plan ≡ core.old.plan }
-        ensures base { base_of core.new ≡ empty }
-        ensures entered { IfSome (control_turn_of self.old) (λ turn. EntersLine K.written K.faults core.old.plan turn result core.old.past core.new.past self.old.ends.sink self.new.ends.sink) }
+        ensures base { base_of core.new ≡ base_of core.old }
+        ensures entered { IfSome (control_turn_of self.old) (λ turn. EntersLine K.written K.faults core.old.plan (base_of core.old) turn result core.old.past core.new.past self.old.ends.sink self.new.ends.sink) }
         ensures stepped { IsControlStepped K.written K.faults self.old self.new }
-        ensures ahead { self.new.ahead ≡ line_ahead_after (has_ended empty (control_pass core.old.plan) core.new.past) }
+        ensures ahead { self.new.ahead ≡ line_ahead_after (has_ended (base_of core.old) (control_pass core.old.plan) core.new.past) }
     {
         match self.ahead {
             LineAhead::Line { stamp, len } => {
                 let line = &self.buf[..len as usize];
                 let quit = is_quit(line);
-                match core.step(Event::Command { stamp, line }) {
-                    Stepped::Full { len: _ } => self.end(core, How::Paused),
-                    Stepped::Done(_) | Stepped::Nothing => self.answer(core, quit, reply),
-                }
+                let _entry = core.step(Event::Command { stamp, line });
+                self.answer(core, quit, reply)
             }
             LineAhead::End => self.end(core, How::End),
             LineAhead::Malformed { at } => self.end(core, How::Malformed(at)),
@@ -154,14 +164,13 @@ impl<S, K: Sink, C> ControlEnds<S, K, C> {
     // answer is true.
     fn answer(&mut self, core: &mut Core, quit: bool, reply: &mut Reply) -> bool
         requires command { EndsWithCommand core.old.past }
-        requires base { base_of core.old ≡ empty }
-        requires open { IsOpen core.old.plan empty core.old.past Control }
+        requires open { IsOpen core.old.plan (base_of core.old) core.old.past Control }
         ensures answer { result ≡ true }
         ensures plan { core.new.plan ≡ core.old.plan }
-        ensures base { base_of core.new ≡ empty }
-        ensures answered { IsAnswered K.written K.faults core.old.plan quit core.old.past core.new.past self.old.ends.sink self.new.ends.sink }
+        ensures base { base_of core.new ≡ base_of core.old }
+        ensures answered { IsAnswered K.written K.faults core.old.plan (base_of core.old) quit core.old.past core.new.past self.old.ends.sink self.new.ends.sink }
         ensures stepped { IsControlStepped K.written K.faults self.old self.new }
-        ensures ahead { self.new.ahead ≡ line_ahead_after (has_ended empty (control_pass core.old.plan) core.new.past) }
+        ensures ahead { self.new.ahead ≡ line_ahead_after (has_ended (base_of core.old) (control_pass core.old.plan) core.new.past) }
     {
         core.reply(reply);
         match self.ends.sink.write(reply.octets()) {

@@ -1,6 +1,6 @@
 //! What goes out at each port.
 
-ghost use Rattle.std.specs.Prelude.{◌≡◌, ◌≤◌, ◌∷◌, [], true, All};
+ghost use Rattle.std.specs.Prelude.{◌≡◌, ◌≤◌, ◌∷◌, ℕ, [], true, All};
 ghost use Rattle.std.specs.List.Sorted.{IsStrictlyIncreasing};
 ghost use Rattle.savi_kinds.specs.Ports.{number_of};
 ghost use Rattle.savi_kinds.specs.ValidPlan.{numbers_of};
@@ -9,15 +9,17 @@ ghost use Rattle.savi_kinds.specs.declared.entry.How.TheVariants as hows;
 ghost use Rattle.savi_ends.specs.Faults.{Rose};
 ghost use Rattle.pcap_io.specs.Captures.{header_text};
 ghost use Rattle.checkpoint.specs.Bases.{empty};
-ghost use Rattle.savi_history.specs.Passes.{has_ended, egress_pass};
+ghost use Rattle.savi_history.specs.Passes.{has_ended, egress_pass, ticker_pass};
 ghost use Rattle.savi_history.specs.Legal.{IsOpen};
 ghost use Rattle.savi_history.specs.Events.{End};
-ghost use Rattle.savi_history.specs.Replay.{Stops, begun, drained};
+ghost use Rattle.savi_history.specs.Replay.{Stops, drained};
+ghost use Rattle.savi_segments.specs.Replay.{Run, run_begun, stops_left, run_with};
 ghost use Rattle.savi_core.specs.Machines.{base_of, with_event};
 ghost use Rattle.port_worker.specs.Pairs.{EachPair};
 ghost use Rattle.port_worker.specs.SentFrames.{records, TookAs, OnlySink};
 ghost use Rattle.port_worker.specs.Drains.{IsBegun, IsDrained, IsDrainable};
 ghost use Rattle.port_worker.specs.Outputs.{AreOutputs, ArePortsAllowed, OutputsGoOn};
+ghost use Rattle.port_worker.specs.Turnings.{StandsAt};
 ghost use Rattle.port_worker.specs.Replays.{ports_held, ports_planned};
 
 use crate::port_ends::PortEnds;
@@ -36,8 +38,9 @@ pub(crate) fn begin_all<S, K: Sink, C>(core: &mut Core, ports: &mut [PortEnds<S,
     ensures plan { core.new.plan ≡ core.old.plan }
     ensures base { base_of core.new ≡ empty }
     ensures sinks { EachPair (OnlySink K.written K.faults) ports.old ports.new }
-    ensures begun { (known : Stops) × AreOutputs K.written K.faults core.old.plan known core.new.past ports.old ports.new
-        × ((stops : Stops) → ArePortsAllowed core.old.plan known stops core.new.past → core.new.past ≡ begun core.old.plan empty stops.ports core.old.plan.ports []) }
+    ensures begun { let run : Run = record { closed = []; past = core.new.past } in
+        (known : Stops) × AreOutputs K.written K.faults core.old.plan known run ports.old ports.new
+        × ((stops : Stops) → ArePortsAllowed core.old.plan known stops run → run ≡ run_begun core.old.plan stops) }
 {
     for place in 0..ports.len() {
         begin_port(core, &mut ports[place]);
@@ -51,17 +54,18 @@ pub(crate) fn drain_all<S, K: Sink, C>(
     ports: &mut [PortEnds<S, K, C>],
     batch: &mut Batch,
 )
-    requires base { base_of core.old ≡ empty }
     requires ports { ports_held ports.old ≡ ports_planned core.old.plan }
     requires rising { IsStrictlyIncreasing (numbers_of core.old.plan.ports) }
-    requires drainable { All (λ p. IsDrainable core.old.plan core.old.past p.port) ports.old }
+    requires drainable { All (λ p. IsDrainable core.old.plan (base_of core.old) core.old.past p.port) ports.old }
     ensures plan { core.new.plan ≡ core.old.plan }
-    ensures base { base_of core.new ≡ empty }
+    ensures base { base_of core.new ≡ base_of core.old }
     ensures sinks { EachPair (OnlySink K.written K.faults) ports.old ports.new }
-    ensures outputs { OutputsGoOn K.written K.faults core.old.plan core.old.past core.new.past ports.old ports.new
-        (λ stops. drained core.old.plan empty stops.ports core.old.plan.ports core.old.past) }
+    ensures outputs { (run : Run) → StandsAt core.old run → OutputsGoOn K.written K.faults core.old.plan run (run_with run core.new.past) ports.old ports.new
+        (λ stops. run_with run (drained core.old.plan (base_of core.old) (stops_left core.old.plan stops run).ports core.old.plan.ports core.old.past)) }
+    // No input is ended, nor is the ticker.
+    ensures low { (pass : ℕ) → pass ≤ ticker_pass core.old.plan → has_ended (base_of core.old) pass core.new.past ≡ has_ended (base_of core.old) pass core.old.past }
     // A sink at which a write failed is left alone from then on.
-    ensures failed { EachPair (λ o n. has_ended empty (egress_pass core.old.plan (number_of o.port)) core.old.past ≡ true → n ≡ o) ports.old ports.new }
+    ensures failed { EachPair (λ o n. has_ended (base_of core.old) (egress_pass core.old.plan (number_of o.port)) core.old.past ≡ true → n ≡ o) ports.old ports.new }
 {
     for place in 0..ports.len() {
         drain_port(core, &mut ports[place], batch);
@@ -70,12 +74,11 @@ pub(crate) fn drain_all<S, K: Sink, C>(
 
 // Begins the capture of a port, or ends its egress where the write fails.
 fn begin_port<S, K: Sink, C>(core: &mut Core, port: &mut PortEnds<S, K, C>)
-    requires base { base_of core.old ≡ empty }
-    requires open { IsOpen core.old.plan empty core.old.past (Egress port.old.port) }
+    requires open { IsOpen core.old.plan (base_of core.old) core.old.past (Egress port.old.port) }
     ensures plan { core.new.plan ≡ core.old.plan }
-    ensures base { base_of core.new ≡ empty }
+    ensures base { base_of core.new ≡ base_of core.old }
     ensures sink { OnlySink K.written K.faults port.old port.new }
-    ensures begun { IsBegun K.written K.faults core.old.plan core.old.past core.new.past port.old port.new }
+    ensures begun { IsBegun K.written K.faults core.old.plan (base_of core.old) core.old.past core.new.past port.old port.new }
 {
     match port.begin() {
         Put::Done => {}
@@ -85,12 +88,11 @@ fn begin_port<S, K: Sink, C>(core: &mut Core, port: &mut PortEnds<S, K, C>)
 
 // Drains the queue of a port whole and writes what was taken, or ends its egress where a write fails.
 fn drain_port<S, K: Sink, C>(core: &mut Core, port: &mut PortEnds<S, K, C>, batch: &mut Batch)
-    requires base { base_of core.old ≡ empty }
-    requires drainable { IsDrainable core.old.plan core.old.past port.old.port }
+    requires drainable { IsDrainable core.old.plan (base_of core.old) core.old.past port.old.port }
     ensures plan { core.new.plan ≡ core.old.plan }
-    ensures base { base_of core.new ≡ empty }
+    ensures base { base_of core.new ≡ base_of core.old }
     ensures sink { OnlySink K.written K.faults port.old port.new }
-    ensures drained { IsDrained K.written K.faults core.old.plan core.old.past core.new.past port.old port.new }
+    ensures drained { IsDrained K.written K.faults core.old.plan (base_of core.old) core.old.past core.new.past port.old port.new }
 {
     let _stepped = core.drain(port.port, DEPTH_MOST, batch);
     match port.write(batch) {

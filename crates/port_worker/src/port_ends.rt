@@ -1,11 +1,11 @@
 //! The ends of one port, and what was read ahead of its input.
 
-ghost use Rattle.std.specs.Prelude.{◌≡◌, ◌≢◌, ◌≤◌, ◌^◌, ◌<◌, true, false, IsSome, IfSome, Option, Some, ℕ};
+ghost use Rattle.std.specs.Prelude.{◌≡◌, true, false, IsSome, IfSome, Some};
 
 use frame_class::class;
 use pcap_io::PcapReader;
-use savi_core::{Core, Event, Stepped};
-use savi_ends::{Clock, Ends, Sink, Source};
+use savi_core::{Core, Event};
+use savi_ends::{Clock, Ends, Source};
 use savi_kinds::{FRAME_OCTETS_MOST, How, Next, Port, Who};
 
 /// The ends of one port, with the reader of its input and room for one frame.
@@ -158,25 +158,33 @@ impl<S: Source, K, C: Clock> PortEnds<S, K, C> {
 
 impl<S, K, C> PortEnds<S, K, C> {
     ghost use Rattle.savi_kinds.specs.declared.entry.Who.TheVariants.{Ingress};
-    ghost use Rattle.savi_kinds.specs.declared.entry.How.TheVariants as hows;
-    ghost use Rattle.checkpoint.specs.Bases.{empty};
     ghost use Rattle.savi_history.specs.Legal.{IsOpen, MayEnd};
     ghost use Rattle.savi_history.specs.Events.{End};
     ghost use Rattle.savi_core.specs.Machines.{base_of, with_event};
     ghost use Rattle.port_worker.specs.Inputs.{IsSoundAhead, turn_of};
-    ghost use Rattle.port_worker.specs.Steps.{Enters, IsFullAt, IfFull, IfDone};
+    ghost use Rattle.port_worker.specs.Steps.{Enters, HasRoomFor, comes_in};
     ghost use Rattle.port_worker.specs.declared.port_ends.Ahead.TheVariants as ahead;
 
-    // Enters the turn that was read. The answer is true where it is an arrival that was entered; else the input has
-    // ended, and its end was entered.
+    // Whether the turn that was read is an arrival, which needs room in the history.
+    pub(crate) fn has_arrival(&self) -> bool
+        ensures { IfSome (turn_of self.now) (λ turn. result ≡ comes_in turn) }
+    {
+        matches!(
+            self.ahead,
+            Ahead::Frame { stamp: _, len: _ } | Ahead::Long { stamp: _, len: _ }
+        )
+    }
+
+    // Enters the turn that was read, for which there is room. The answer is true where it is an arrival; else the input has
+    // ended.
     pub(crate) fn enter(&mut self, core: &mut Core) -> bool
         requires known { IsSome (turn_of self.old) }
         requires sound { IsSoundAhead self.old.reader self.old.ahead }
-        requires base { base_of core.old ≡ empty }
-        requires open { IsOpen core.old.plan empty core.old.past (Ingress self.old.port) }
+        requires open { IsOpen core.old.plan (base_of core.old) core.old.past (Ingress self.old.port) }
+        requires room { IfSome (turn_of self.old) (λ turn. HasRoomFor core.old.plan core.old.past turn) }
         ensures plan { core.new.plan ≡ core.old.plan }
-        ensures base { base_of core.new ≡ empty }
-        ensures entered { IfSome (turn_of self.old) (λ turn. Enters core.old.plan self.old.port turn core.old.past result core.new.past) }
+        ensures base { base_of core.new ≡ base_of core.old }
+        ensures entered { IfSome (turn_of self.old) (λ turn. Enters core.old.plan (base_of core.old) self.old.port turn core.old.past result core.new.past) }
         ensures rest { self.new ≡ record self.old { ahead = self.new.ahead } }
         ensures arrived { result ≡ true → self.new.ahead ≡ ahead.Unread }
         ensures ended { result ≡ false → self.new.ahead ≡ ahead.Done }
@@ -185,41 +193,28 @@ impl<S, K, C> PortEnds<S, K, C> {
             Ahead::Frame { stamp, len } => {
                 let octets = &self.buf[..len as usize];
                 let class = class(octets);
-                let stepped = core.step(Event::Frame {
+                let _entry = core.step(Event::Frame {
                     port: self.port,
                     stamp,
                     octets,
                     class: &class,
                 });
-                self.settle(core, stepped)
+                self.ahead = Ahead::Unread;
+                true
             }
             Ahead::Long { stamp, len } => {
-                let stepped = core.step(Event::Long {
+                let _entry = core.step(Event::Long {
                     port: self.port,
                     stamp,
                     len,
                 });
-                self.settle(core, stepped)
+                self.ahead = Ahead::Unread;
+                true
             }
             Ahead::End => self.end(core, How::End),
             Ahead::Malformed { at } => self.end(core, How::Malformed(at)),
             Ahead::Failed => self.end(core, How::Failed),
             Ahead::Unread | Ahead::Done => unreachable!(),
-        }
-    }
-
-    // Goes on behind an arrival that was entered, or is paused where there was no room for it.
-    fn settle(&mut self, core: &mut Core, stepped: Stepped) -> bool
-        requires full { IsFullAt core.old self.old.port stepped }
-        ensures full { IfFull stepped ((result ≡ false) × (core.new ≡ with_event core.old (End (Ingress self.old.port) hows.Paused)) × (self.new ≡ record self.old { ahead = ahead.Done })) }
-        ensures done { IfDone stepped ((result ≡ true) × (core.new ≡ core.old) × (self.new ≡ record self.old { ahead = ahead.Unread })) }
-    {
-        match stepped {
-            Stepped::Full { len: _ } => self.end(core, How::Paused),
-            Stepped::Done(_) | Stepped::Nothing => {
-                self.ahead = Ahead::Unread;
-                true
-            }
         }
     }
 

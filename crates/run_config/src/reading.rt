@@ -2,7 +2,7 @@
 
 ghost use Rattle.std.specs.Prelude.{◌≡◌, ◌≢◌, ◌≤◌, ◌⊎◌, Ok, Err, IfOk, IfSome, IfNone, length, take};
 ghost use Rattle.savi_conf.specs.Answers.{IsAnswer};
-ghost use Rattle.savi_ends.specs.Faults.{Rose};
+ghost use Rattle.savi_ends.specs.Faults.{Rose, RoseOnce};
 ghost use Rattle.savi_ends.specs.Places.{IsReady, OthersStay};
 ghost use Rattle.savi_conf.specs.declared.fault.ConfFault.{ConfFault};
 ghost use Rattle.run_config.specs.declared.refusal.Refusal.{Refusal};
@@ -20,8 +20,8 @@ const ROOM: usize = OCTETS_MOST + 1;
 /// Reads the plan that the configuration of this name says, for a replay or for a live session. The input and the output of
 /// each port of a replay are captures.
 ///
-/// The input is read to its end, or one octet further than a configuration may have, and is kept in the world again. Only it
-/// and the world's count of faults change.
+/// The input is opened once, read to its end, or one octet further than a configuration may have, and kept in the world
+/// again. Only it changes, and the world's count of faults, by one, where it couldn't be opened.
 ///
 /// # Errors
 ///
@@ -38,7 +38,8 @@ pub fn configure<W: World>(
 
     ensures configured { IfOk result (IsConfigured replay W.S.left ((W.book world.old).inputs file.now)) }
     ensures refused { (fault : ConfFault) → result ≡ Err (Refusal.Refused fault) → IsRefused replay W.S.left ((W.book world.old).inputs file.now) fault }
-    ensures unopened { result ≡ Err Refusal.CannotOpen → Rose (W.book world.old).faults (W.book world.new).faults }
+    ensures unopened { result ≡ Err Refusal.CannotOpen → RoseOnce (W.book world.old).faults (W.book world.new).faults }
+    ensures still_world { result ≢ Err Refusal.CannotOpen → (W.book world.new).faults ≡ (W.book world.old).faults }
     ensures unread { result ≡ Err Refusal.ReadFailed → EndHasFault W.S.faults ((W.book world.new).inputs file.now) }
     ensures still { result ≢ Err Refusal.ReadFailed → result ≢ Err Refusal.CannotOpen → result ≢ Err Refusal.NoMemory → EndHasNoFault W.S.faults ((W.book world.new).inputs file.now) }
     ensures still_memory { result ≡ Err Refusal.NoMemory → ((W.book world.new).inputs file.now ≡ (W.book world.old).inputs file.now) ⊎ EndHasNoFault W.S.faults ((W.book world.new).inputs file.now) }

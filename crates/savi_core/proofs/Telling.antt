@@ -57,13 +57,13 @@ unfolding offers
 command_offers plan base past stamp at len octets = refl
 
 -- there are few of them
-few_between : (r : AddrRules) (base : AddrBase) (past : List Named) (from t vlan : ℕ) → IsAddrBase r base → from ≤ t → length (probes_between r base past from t vlan) ≤ 3 * length (rows_at r base past from vlan)
+pub few_between : (r : AddrRules) (base : AddrBase) (past : List Named) (from t vlan : ℕ) → IsAddrBase r base → from ≤ t → length (probes_between r base past from t vlan) ≤ 3 * length (rows_at r base past from vlan)
 few_between r base past from t vlan is after =
     let rows = rows_at r base past from vlan in
     let same : length (probes_between r base past from t vlan) ≡ length (all_sends r.times t rows) = ap length (sends-late r.times (base_times r base is) from t (rows_after r base past vlan) after) ∙ order-length (all_sends r.times t rows) in
     omega (arith, same, few_sends r.times (base_times r base is) t rows)
 
-one_answer : (o : Option SentProbe) → length (in_answer o) ≤ 1
+pub one_answer : (o : Option SentProbe) → length (in_answer o) ≤ 1
 one_answer None = omega arith
 one_answer (Some sent) = omega arith
 

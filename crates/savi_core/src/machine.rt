@@ -1,6 +1,6 @@
 //! The machine.
 
-ghost use Rattle.std.specs.Prelude.{◌≡◌, ◌≤◌, ◌<◌, true, false, not, ◌&&◌, ◌||◌, ℕ, List, [], length, slice_get, reverse, IfOk, IsSomeAnd, Some, ◌+◌, Option};
+ghost use Rattle.std.specs.Prelude.{◌≡◌, ◌≤◌, ◌<◌, ◌^◌, true, false, not, ◌&&◌, ◌||◌, ℕ, List, [], length, slice_get, reverse, IfOk, IsSomeAnd, Some, ◌+◌, Option};
 ghost use Rattle.std.specs.Bool.{OnTrue};
 ghost use Rattle.savi_kinds.specs.Ports.{number_of};
 ghost use Rattle.savi_kinds.specs.ValidPlan.{IsValidPlan, IsWithin};
@@ -350,6 +350,7 @@ impl Core {
     pub fn put_base(&self, i: u32, into: &mut JournalLine) -> bool
         ensures line { OnTrue result (Some into.new.items ≡ slice_get (base_texts self.now.plan (base_of self.now)) i) }
         ensures past { result ≡ false → length (base_texts self.now.plan (base_of self.now)) ≤ i }
+        ensures few { result ≡ true → i < 2 ^ 16 }
     {
         self.checkpoint.put_line(self.ports.plan(), i, into)
     }

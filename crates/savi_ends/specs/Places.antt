@@ -5,7 +5,7 @@ use Rattle.savi_kinds.specs.declared.plan.PortPlan.{PortPlan}
 use Rattle.savi_kinds.specs.Ports.{number_of}
 use Rattle.savi_ends.specs.declared.world.Std.{Std}
 use Rattle.savi_ends.specs.declared.world.Ends.{Ends}
-use Rattle.savi_ends.specs.Faults.{Rose}
+use Rattle.savi_ends.specs.Faults.{RoseOnce}
 
 -- A place: whether its end is handed out, and the end that stands there, where that is told. Before an
 -- opening that is the end to be handed out, and after a keep call the end that was kept.
@@ -44,14 +44,15 @@ pub record HandsOut {X : Type 0} (old new : Place X) (x : X) : Type 0 where
   pub told : IfSome old.stands (λ t. x ≡ t)
   pub out : new.is_out ≡ true
 
--- An opening hands out the end that is told, without a fault so far, or the world's count of faults rose
--- and the place is as it was.
+-- An opening hands out the end that is told, without a fault so far, and the world's count of faults is as
+-- it was; or it failed, and the count rose by one and the place is as it was.
 pub record Opens {X E : Type 0} (IsFresh : X → Type 0) (before after : ℕ) (old new : Place X) (result : Result X E) : Type 0 where
   pub later : before ≤ after
   pub told : IfOk result (λ x. IfSome old.stands (λ t. x ≡ t))
   pub fresh : IfOk result IsFresh
   pub out : OnOk result (new.is_out ≡ true)
-  pub cause : OnErr result (Rose before after)
+  pub still : OnOk result (after ≡ before)
+  pub once : OnErr result (RoseOnce before after)
   pub err : OnErr result (new ≡ old)
 
 -- every other place is as it was

@@ -31,10 +31,11 @@ pub enum Std {
 /// input and output and their format, those of control by the names of its input and output and by
 /// whether they are live, and one place each for the ticker's clock and the two standard outputs. An
 /// opening needs that the place isn't handed out yet. It hands out the end that the world tells for that
-/// place, if it tells one, and the end has no fault so far; or it answers `OpenFailed`, only where the
-/// world's count of faults rose in the call. A `keep` call needs that the place is handed out, and puts
-/// the end there. Every call changes the place that it names and no other; those of one port under other
-/// names and another format may be the same place, and so may all those of control.
+/// place, if it tells one, and the end has no fault so far; or it answers `OpenFailed`. The world's count of
+/// faults rises by one in a call that answers `OpenFailed`, and by no other call: so it tells how often an
+/// opening was tried that failed. A `keep` call needs that the place is handed out, and puts the end there.
+/// Every call changes the place that it names and no other; those of one port under other names and another
+/// format may be the same place, and so may all those of control.
 pub trait World {
     ghost use Rattle.savi_ends.specs.declared.world.Std.{Std};
     ghost use Rattle.savi_ends.specs.Places.{Book, ControlKey, HandsOut, IsReady, Opens, OthersStay, OtherPortsStay, IsOnlyOut, IsPortOut, IsPortKept, IsControlOut, IsControlKept, BothFresh, port_key};

@@ -13,15 +13,14 @@ use Rattle.savi_kinds.specs.Arrivals as arrivals
 use Rattle.cli_lang.specs.Arrivals.{Line}
 use Rattle.hist_store.specs.Rows.{Row}
 use Rattle.checkpoint.specs.Bases.{Base}
-use Rattle.savi_history.specs.Passes.{pass_of, has_ended, has_port, control_pass, egress_pass}
-use Rattle.savi_history.specs.Limits.{has_room}
+use Rattle.savi_history.specs.Passes.{has_ended, has_port, control_pass, egress_pass}
 use Rattle.savi_history.specs.Queues.{queue}
 use Rattle.savi_history.specs.Shown.{shown}
 use Rattle.savi_history.specs.Turns.{Turn, Arrives, Commands, Ends, who_of}
 use Rattle.savi_history.specs.Events.{Command, Drain, End}
 use Rattle.savi_history.specs.ControlInputs.{entered_lines, control_end}
 use Rattle.savi_history.specs.ControlOutputs.{replies}
-use Rattle.savi_history.specs.Replay.{PortStops, Stops, is_stopped, pieces_by, event_of, with_event, with_failure, begun, with_drain, drained, entered, after, closing, with_end, egress_ended}
+use Rattle.savi_history.specs.Replay.{PortStops, Stops, is_stopped, pieces_by, event_of, with_event, with_failure, begun, with_drain, drained, entered, closing, with_end, egress_ended}
 use Rattle.savi_history.proofs.PassNumbers.{known_at}
 use Rattle.savi_history.proofs.PortPlaces.{place_within}
 use Rattle.savi_history.proofs.Replaying.{IsAt, IsOurs, anything}
@@ -140,28 +139,16 @@ module _ (plan : Plan) (base : Base) where
 
   -- turns of ports
 
-  arrival_at : (stops : Stops) (past : List Row) (port : Port) (a : Arrival) (b : Bool) → IsAt plan (number_of port)
-      → ControlSame plan base past (if b then drained plan base stops.ports plan.ports (with_event plan base past (event_of port a)) else with_event plan base past (End (passes.Ingress port) hows.Paused))
-  arrival_at stops past port a true at =
+  -- a turn of a port changes nothing of control
+  pub control_entered : (stops : Stops) (t : Turn) (past : List Row) → IsOurs plan anything t → is_control t ≡ false → ControlSame plan base past (entered plan base stops t past)
+  control_entered stops (Arrives port a) past ours other =
       let mid = with_event plan base past (event_of port a) in
       control_then past mid (drained plan base stops.ports plan.ports mid) (control_arrival past port a) (control_drained stops.ports plan.ports mid)
-  arrival_at stops past port a false at = control_ingress past port hows.Paused at
-
-  pub control_entered : (stops : Stops) (t : Turn) (past : List Row) → IsOurs plan anything t → is_control t ≡ false → ControlSame plan base past (entered plan base stops t past)
-  control_entered stops (Arrives port a) past ours other = arrival_at stops past port a (has_room plan past) ours
   control_entered stops (Commands line) past ours other = cc
   control_entered stops (Ends (passes.Ingress port) how) past ours other = control_ingress past port how ours
   control_entered stops (Ends passes.Control how) past ours other = cc
   control_entered stops (Ends passes.Ticker how) past ours other = absurd ours
   control_entered stops (Ends (passes.Egress port) how) past ours other = absurd ours
-
-  after_at : (stops : Stops) (t : Turn) (past : List Row) (b : Bool) → IsOurs plan anything t → is_control t ≡ false → ControlSame plan base past (if b then past else entered plan base stops t past)
-  after_at stops t past true ours other = control_self past
-  after_at stops t past false ours other = control_entered stops t past ours other
-
-  -- a turn of a port changes nothing of control
-  pub control_after : (stops : Stops) (t : Turn) (past : List Row) → IsOurs plan anything t → is_control t ≡ false → ControlSame plan base past (after plan base stops t past)
-  control_after stops t past = after_at stops t past (has_ended base (pass_of plan (who_of t)) past)
 
   -- the entry of a line: one line more, and one reply
   pub control_command : (past : List Row) (line : Line) → let now = with_event plan base past (Command line.stamp line.command) in (entered_lines now ≡ entered_lines past ++ line ∷ []) × (replies plan base now ≡ replies plan base past ++ shown plan base now ∷ [])

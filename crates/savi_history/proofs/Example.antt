@@ -1,5 +1,5 @@
--- The worked history of two captures, computed; also where a write fails. The turns of lines beside those of frames.
-use Rattle.std.proofs.Common.{ℕ, ◌≡◌, List, [], ◌∷◌, refl, lit≤, true, false, Some, None, ◌==◌, if◌then◌else◌}
+-- Two captures, of which a frame is judged, and the turns of lines beside those of frames, computed.
+use Rattle.std.proofs.Common.{ℕ, ◌≡◌, List, [], ◌∷◌, refl, lit≤, true, false, Some, None}
 use Rattle.savi_kinds.specs.declared.port.Port.{Port}
 use Rattle.savi_kinds.specs.declared.plan.Plan.{Plan}
 use Rattle.savi_kinds.specs.declared.plan.Role.TheVariants as roles
@@ -7,8 +7,6 @@ use Rattle.savi_kinds.specs.declared.plan.Format.TheVariants as formats
 use Rattle.savi_kinds.specs.declared.verdict.Verdict.{Verdict}
 use Rattle.savi_kinds.specs.declared.verdict.Verdict.TheVariants as verdicts
 use Rattle.savi_kinds.specs.declared.verdict.Rule.TheVariants as rules
-use Rattle.savi_kinds.specs.declared.verdict.Scope.TheVariants as scopes
-use Rattle.savi_kinds.specs.declared.entry.Act.TheVariants as acts
 use Rattle.savi_kinds.specs.declared.entry.Act.{Act}
 use Rattle.savi_kinds.specs.declared.entry.Who.TheVariants as passes
 use Rattle.savi_kinds.specs.declared.entry.How.TheVariants as hows
@@ -24,12 +22,9 @@ use Rattle.hist_store.specs.Rows.{Row}
 use Rattle.checkpoint.specs.Bases.{empty}
 use Rattle.savi_history.specs.Merges.{merged}
 use Rattle.savi_history.specs.Turns.{Arrives, Commands, Ends, turn_at, all_turns}
-use Rattle.savi_history.specs.Replay.{Stops, replayed}
-use Rattle.savi_history.specs.Summary.{summary_of}
+use Rattle.savi_history.specs.Replay.{Stops}
 use Rattle.savi_access.specs.Judged.{judged}
 use Rattle.savi_history.specs.Judged.{verdict_of}
-use Rattle.savi_history.specs.Offers.{offers}
-use Rattle.savi_history.specs.Queues.{sent, probes, lost}
 
 abbrev pub port_one : Port
 port_one = record { number = 1; low = lit≤ tt; high = lit≤ tt }
@@ -79,50 +74,6 @@ no_failure = record { ports = λ port. None; control = None }
 pub advert_dropped : verdict_of plan empty [] port_one 1000 advert ≡ verdicts.Drop rules.RouterAdvert
 unfolding class_of nd_of named message_passes kind_of guard_of judged
 advert_dropped = refl
-
-pub two_captures : replayed plan empty None inputs no_failure ≡
-    other 5 1002 (acts.End (passes.Egress port_two) hows.End)
-    ∷ other 4 1002 (acts.End (passes.Egress port_one) hows.End)
-    ∷ other 3 1002 (acts.End passes.Ticker hows.End)
-    ∷ other 1 1002 (acts.End (passes.Ingress port_two) hows.End)
-    ∷ other 4 1002 (acts.Drain port_one 1)
-    ∷ frame 1 1002 (acts.Frame port_two 1002 124 70) (verdicts.Pass scopes.All) 1 advert
-    ∷ other 0 1001 (acts.End (passes.Ingress port_one) hows.End)
-    ∷ other 5 1001 (acts.Drain port_two 1)
-    ∷ frame 0 1001 (acts.Frame port_one 1001 70 54) (verdicts.Pass scopes.All) 2 packet
-    ∷ frame 0 1000 (acts.Frame port_one 1000 0 70) (verdicts.Drop rules.RouterAdvert) 0 advert
-    ∷ other 2 0 (acts.End passes.Control hows.End)
-    ∷ []
-unfolding class_of nd_of named message_passes kind_of guard_of judged offers probes lost
-two_captures = refl
-
-pub summed_up : summary_of (replayed plan empty None inputs no_failure) ≡ record { entries = 11; frames = 3; passed = 2; dropped = 1; probes = 0; lost = 0; cut = 0 }
-unfolding class_of nd_of named message_passes kind_of guard_of judged lib.Count.ones offers probes lost
-summed_up = refl
-
-pub sent_at_two : sent plan empty 2 (replayed plan empty None inputs no_failure) ≡ record { moment = 1001; octets = packet } ∷ []
-unfolding class_of nd_of named message_passes kind_of guard_of judged offers
-sent_at_two = refl
-
--- the record of the packet isn't written, and the header is
-abbrev pub second_fails : Stops
-second_fails = record { ports = λ port. if port == 2 then Some 1 else None; control = None }
-
-pub an_output_fails : replayed plan empty None inputs second_fails ≡
-    other 4 1002 (acts.End (passes.Egress port_one) hows.End)
-    ∷ other 3 1002 (acts.End passes.Ticker hows.End)
-    ∷ other 1 1002 (acts.End (passes.Ingress port_two) hows.End)
-    ∷ other 4 1002 (acts.Drain port_one 1)
-    ∷ frame 1 1002 (acts.Frame port_two 1002 124 70) (verdicts.Pass scopes.All) 1 advert
-    ∷ other 0 1001 (acts.End (passes.Ingress port_one) hows.End)
-    ∷ other 5 1001 (acts.End (passes.Egress port_two) hows.Failed)
-    ∷ other 5 1001 (acts.Drain port_two 1)
-    ∷ frame 0 1001 (acts.Frame port_one 1001 70 54) (verdicts.Pass scopes.All) 2 packet
-    ∷ frame 0 1000 (acts.Frame port_one 1000 0 70) (verdicts.Drop rules.RouterAdvert) 0 advert
-    ∷ other 2 0 (acts.End passes.Control hows.End)
-    ∷ []
-unfolding class_of nd_of named message_passes kind_of guard_of judged offers probes lost
-an_output_fails = refl
 
 abbrev line : ℕ → control.Line
 line stamp = record { stamp = stamp; command = [] }

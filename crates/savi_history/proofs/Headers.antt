@@ -16,6 +16,7 @@ use Rattle.savi_kinds.specs.Prefixes.{first_of}
 use Rattle.savi_kinds.specs.ValidPlan.{IsValidPlan, IsPlanPrefix, nets_of}
 use Rattle.hist_store.specs.PortTexts.{port_text}
 use Rattle.savi_kinds.specs.PlanWords.{role_word, method_word, format_word}
+use Rattle.hist_store.specs.declared.version.Version.{Version}
 use Rattle.hist_store.specs.JournalTexts.{prefix_text_by, journal_port_fields, prefix_fields, word_lines, limit_lines, time_lines, begin_line, header_lines}
 use Rattle.savi_history.specs.Journals.{without_port_names, without_names, IsAddress, IsAddressText}
 use Rattle.hist_store.proofs.Words.{avoids_all, parted}
@@ -51,7 +52,7 @@ prefix_line e = record { first = cc; second = cc; rest = cc }
 field_apart : {s t : List ℕ} {l m : Line} {ls ms : List Line} → (s ∷ l) ∷ ls ≡ (t ∷ m) ∷ ms → s ≡ t
 field_apart e = cc
 
-second_apart : {z x y : ℕ} {s t : List ℕ} → z ∷ x ∷ s ≡ z ∷ y ∷ t → (x == y) ≡ false → ⊥
+pub second_apart : {z x y : ℕ} {s t : List ℕ} → z ∷ x ∷ s ≡ z ∷ y ∷ t → (x == y) ≡ false → ⊥
 second_apart {z} {x} {y} {s} {t} e other = let tails : x ∷ s ≡ y ∷ t = cc in first_apart tails other
 
 -- ports
@@ -127,11 +128,11 @@ module _ (address_text : ℕ → List ℕ) (is : IsAddressText address_text) whe
   abbrev behind_settings : Plan → List Line → List Line
   behind_settings plan es = map journal_port_fields plan.ports ++ behind plan.prefixes es
 
-  regrouped : (w l t p x b e : List Line) → w ++ l ++ t ++ p ++ x ++ b ++ e ≡ w ++ (l ++ (t ++ (p ++ (x ++ (b ++ e)))))
-  regrouped w l t p x b e = simp append_assoc
+  regrouped : (w l t p x e : List Line) → w ++ l ++ t ++ p ++ x ++ e ≡ w ++ (l ++ (t ++ (p ++ (x ++ e))))
+  regrouped w l t p x e = simp append_assoc
 
-  in_order : (plan : Plan) (es : List Line) → header_lines address_text plan ++ es ≡ word_lines plan ++ (limit_lines plan ++ (time_lines plan ++ behind_settings plan es))
-  in_order plan es = regrouped (word_lines plan) (limit_lines plan) (time_lines plan) (map journal_port_fields plan.ports) (map (prefix_fields address_text) plan.prefixes) (begin_line ∷ []) es
+  in_order : (version : Version) (plan : Plan) (es : List Line) → header_lines version address_text plan ++ begin_line ∷ es ≡ word_lines version plan ++ (limit_lines plan ++ (time_lines plan ++ behind_settings plan es))
+  in_order version plan es = regrouped (word_lines version plan) (limit_lines plan) (time_lines plan) (map journal_port_fields plan.ports) (map (prefix_fields address_text) plan.prefixes) (begin_line ∷ es)
 
   -- the values of the settings are the same
   record IsSameSettings (plan plan' : Plan) (es fs : List Line) : Type 0 where
@@ -147,11 +148,12 @@ module _ (address_text : ℕ → List ℕ) (is : IsAddressText address_text) whe
     life : decimal plan.life ≡ decimal plan'.life
     rest : behind_settings plan es ≡ behind_settings plan' fs
 
-  same_settings : (plan plan' : Plan) (es fs : List Line) → header_lines address_text plan ++ es ≡ header_lines address_text plan' ++ fs → IsSameSettings plan plan' es fs
-  same_settings plan plan' es fs e =
-      let lines = sym (in_order plan es) ∙ e ∙ in_order plan' fs in
-      let version = value_line lines in
-      let mac = value_line version.1 in
+  same_settings : (version version' : Version) (plan plan' : Plan) (es fs : List Line) → header_lines version address_text plan ++ begin_line ∷ es ≡ header_lines version' address_text plan' ++ begin_line ∷ fs
+      → IsSameSettings plan plan' es fs
+  same_settings version version' plan plan' es fs e =
+      let lines = sym (in_order version plan es) ∙ e ∙ in_order version' plan' fs in
+      let first = value_line lines in
+      let mac = value_line first.1 in
       let savi = value_line mac.1 in
       let unknown = value_line savi.1 in
       let per_port = value_line unknown.1 in
@@ -178,7 +180,7 @@ module _ (address_text : ℕ → List ℕ) (is : IsAddressText address_text) whe
 number_same : (m n bound : ℕ) → m ≤ bound → n ≤ bound → bound < 2 ^ 64 → decimal m ≡ decimal n → m ≡ n
 number_same m n bound low low' small text = decimal_injective m n (omega (arith, low, low', small)) (omega (arith, low, low', small)) text
 
-seconds_bound : (ms seconds : ℕ) → ms ≡ 1000 * seconds → seconds ≤ 86400 → ms ≤ 86400000
+pub seconds_bound : (ms seconds : ℕ) → ms ≡ 1000 * seconds → seconds ≤ 86400 → ms ≤ 86400000
 seconds_bound ms seconds is low = omega arith
 
 life_bound : (plan : Plan) → IsValidPlan plan → plan.life ≤ 86400000
@@ -241,12 +243,13 @@ same_numbers address_text is plan plan' es fs valid valid' same = record {
   life = number_same plan.life plan'.life 86400000 (life_bound plan valid) (life_bound plan' valid') (omega arith) same.life;
 }
 
--- two headers with what follows them: the plans are the same but for names, and so is what follows
-pub header_by_lines : (address_text : ℕ → List ℕ) → IsAddressText address_text → (plan plan' : Plan) (es fs : List Line) → IsValidPlan plan → IsValidPlan plan'
+-- two headers with what follows them, `begin` first, in whichever versions: the plans are the same but for names, and so is
+-- what follows
+pub header_by_lines : (address_text : ℕ → List ℕ) → IsAddressText address_text → (version version' : Version) (plan plan' : Plan) (es fs : List Line) → IsValidPlan plan → IsValidPlan plan'
     → All (λ net. IsAddress (first_of net)) (nets_of plan.prefixes) → All (λ net. IsAddress (first_of net)) (nets_of plan'.prefixes)
-    → header_lines address_text plan ++ es ≡ header_lines address_text plan' ++ fs → (without_names plan ≡ without_names plan') × (es ≡ fs)
-header_by_lines address_text is plan plan' es fs valid valid' within within' e =
-    let same = same_settings address_text is plan plan' es fs e in
+    → header_lines version address_text plan ++ begin_line ∷ es ≡ header_lines version' address_text plan' ++ begin_line ∷ fs → (without_names plan ≡ without_names plan') × (es ≡ fs)
+header_by_lines address_text is version version' plan plan' es fs valid valid' within within' e =
+    let same = same_settings address_text is version version' plan plan' es fs e in
     let ports = same_ports address_text is plan.ports plan'.ports plan.prefixes plan'.prefixes es fs same.rest in
     let prefixes = same_prefixes address_text is plan.prefixes plan'.prefixes es fs valid.plan_prefixes valid'.plan_prefixes within within' ports.1 in
     let numbers = same_numbers address_text is plan plan' es fs valid valid' same in

@@ -1,4 +1,4 @@
--- A journal is that of one legal history, and of one plan but for names.
+-- A legal history is told by the lines of its entries.
 use Rattle.std.proofs.Common.{◌≡◌, ℕ, ◌+◌, List, [], ◌∷◌, ◌++◌, length, reverse, refl, ap, sym, ◌∙◌, arith, subst, All}
 use Rattle.std.proofs.lemmas.List.{same_from_push, reverse-append}
 use Rattle.std.proofs.lemmas.List.Elements.{All-nil, All-head, All-tail, All-append, All-cons}
@@ -7,15 +7,11 @@ use Rattle.savi_kinds.specs.declared.plan.Plan.{Plan}
 use Rattle.savi_kinds.specs.ValidPlan.{IsValidPlan}
 use Rattle.hist_store.specs.Rows.{Row}
 use Rattle.hist_store.specs.LineTexts.{line_fields}
-use Rattle.hist_store.specs.JournalTexts.{header_lines, entry_lines, journal_end_line, journal_text}
-use Rattle.checkpoint.specs.Bases.{Base, empty}
+use Rattle.hist_store.specs.JournalTexts.{entry_lines}
+use Rattle.checkpoint.specs.Bases.{Base}
 use Rattle.savi_history.specs.Events.{Event, row_of}
 use Rattle.savi_history.specs.Legal.{IsLegal}
-use Rattle.savi_history.specs.Journals.{without_names, IsAddressText, IsJournalOf, IsSame}
-use Rattle.hist_store.proofs.Words.{IsLines, lines_append, lines_same}
-use Rattle.hist_store.proofs.FieldWords.{lines_rows}
-use Rattle.savi_history.proofs.Fields.{lines_header, lines_end}
-use Rattle.savi_history.proofs.Headers.{header_by_lines}
+use Rattle.savi_history.specs.Journals.{without_names}
 use Rattle.savi_history.proofs.WithoutNames.{row_kept}
 use Rattle.savi_history.proofs.OneEvent.{event_by_line}
 
@@ -25,7 +21,7 @@ Lines = List (List (List ℕ))
 abbrev HasOctets : Row → Type 0
 HasOctets r = IsBytes r.octets
 
-reversed : (r : Row) (past : List Row) → reverse (r ∷ past) ≡ reverse past ++ r ∷ []
+pub reversed : (r : Row) (past : List Row) → reverse (r ∷ past) ≡ reverse past ++ r ∷ []
 reversed r past = reverse-append (r ∷ []) past
 
 lines_push : (n : ℕ) (rows : List Row) (r : Row) → entry_lines n (rows ++ r ∷ []) ≡ entry_lines n rows ++ line_fields (n + length rows) r ∷ []
@@ -42,7 +38,7 @@ no_push : {X : Type 0} (xs : List X) (x : X) → [] ≡ xs ++ x ∷ [] → ⊥
 no_push [] x e = cc
 no_push (y ∷ xs) x e = cc
 
-octets_reversed : (past : List Row) → All HasOctets past → All HasOctets (reverse past)
+pub octets_reversed : (past : List Row) → All HasOctets past → All HasOctets (reverse past)
 octets_reversed [] all = all
 octets_reversed (r ∷ past) all =
     let front = octets_reversed past (All-tail HasOctets r past all) in
@@ -67,7 +63,7 @@ next_same plan plan' base past n n' r r' same valid valid' legal legal' has has'
     is ∙ ap (λ (e : Event). row_of plan base past e) event ∙ same_row plan plan' base past b same ∙ sym is'
 
 -- two legal histories with the same lines
-rows_same : (plan plan' : Plan) (base : Base) (past past' : List Row) → without_names plan ≡ without_names plan' → IsValidPlan plan → IsValidPlan plan'
+pub rows_same : (plan plan' : Plan) (base : Base) (past past' : List Row) → without_names plan ≡ without_names plan' → IsValidPlan plan → IsValidPlan plan'
     → IsLegal plan base past → IsLegal plan' base past' → All HasOctets past → All HasOctets past' → entry_lines 0 (reverse past) ≡ entry_lines 0 (reverse past') → past ≡ past'
 rows_same plan plan' base [] [] same valid valid' legal legal' has has' lines = refl
 rows_same plan plan' base [] (r' ∷ past') same valid valid' legal legal' has has' lines = absurd (no_push (entry_lines 0 (reverse past')) (line_fields (0 + length (reverse past')) r') (lines ∙ newest r' past'))
@@ -80,28 +76,3 @@ rows_same plan plan' base (r ∷ past) (r' ∷ past') same valid valid' legal le
     let moved : IsLegal plan' base (r' ∷ past) = subst (λ (l : List Row). IsLegal plan' base (r' ∷ l)) (sym before) legal' in
     let now : r ≡ r' = next_same plan plan' base past n n' r r' same valid valid' legal moved (All-head HasOctets r past has) (All-head HasOctets r' past' has') parts.1 in
     ap (λ (x : Row). x ∷ past) now ∙ ap (λ (l : List Row). r' ∷ l) before
-
--- each journal is made of lines
-lines_journal : (address_text : ℕ → List ℕ) → IsAddressText address_text → (plan : Plan) (past : List Row) → All HasOctets past
-    → IsLines (header_lines address_text plan ++ entry_lines 0 (reverse past) ++ journal_end_line (length (reverse past)) ∷ [])
-lines_journal address_text is plan past has =
-    let header = lines_header address_text is plan in
-    let entries = lines_rows 0 (reverse past) (octets_reversed past has) in
-    let last = lines_end (length (reverse past)) in
-    lines_append (header_lines address_text plan ++ entry_lines 0 (reverse past)) (journal_end_line (length (reverse past)) ∷ [])
-    (lines_append (header_lines address_text plan) (entry_lines 0 (reverse past)) header entries) last
-
-pub journal_tells : (address_text : ℕ → List ℕ) → IsAddressText address_text → (plan plan' : Plan) (past past' : List Row) (text : List ℕ)
-    → IsJournalOf address_text plan past text → IsJournalOf address_text plan' past' text → IsSame plan past plan' past'
-journal_tells address_text is plan plan' past past' text of of' =
-    let rows = reverse past in
-    let rows' = reverse past' in
-    let texts : journal_text address_text plan rows ≡ journal_text address_text plan' rows' = sym of.journal ∙ of'.journal in
-    let lines = lines_same (header_lines address_text plan ++ entry_lines 0 rows ++ journal_end_line (length rows) ∷ []) (header_lines address_text plan' ++ entry_lines 0 rows' ++ journal_end_line (length rows') ∷ [])
-    (lines_journal address_text is plan past of.octets) (lines_journal address_text is plan' past' of'.octets) texts in
-    let entries = same_from_push (header_lines address_text plan ++ entry_lines 0 rows) (header_lines address_text plan' ++ entry_lines 0 rows') (journal_end_line (length rows)) (journal_end_line (length rows')) lines in
-    let parts = header_by_lines address_text is plan plan' (entry_lines 0 rows) (entry_lines 0 rows') of.valid of'.valid of.addresses of'.addresses entries.0 in
-    record {
-      plans = parts.0;
-      rows = rows_same plan plan' empty past past' parts.0 of.valid of'.valid of.legal of'.legal of.octets of'.octets parts.1;
-    }

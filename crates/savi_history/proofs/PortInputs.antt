@@ -13,7 +13,6 @@ use Rattle.savi_kinds.specs.Arrivals as arrivals
 use Rattle.cli_lang.specs.Arrivals.{Line}
 use Rattle.hist_store.specs.Rows.{Row}
 use Rattle.checkpoint.specs.Bases.{Base}
-use Rattle.savi_history.specs.Limits.{has_room}
 use Rattle.savi_history.specs.Passes.{has_ended, egress_pass}
 use Rattle.savi_history.specs.Queues.{queue}
 use Rattle.savi_history.specs.Events.{Command, Drain, End}
@@ -70,18 +69,14 @@ reply_same : (plan : Plan) (base : Base) (stop : Option ℕ) (line : Line) (past
 reply_same plan base stop line past n =
     behind_reply plan base line past (λ now. HoldsSame n past now) (record { arrivals_same = refl; end_same = refl }) (same_control plan base past hows.Unwritten n) (same_control plan base past hows.Quit n) stop
 
-line_at : (plan : Plan) (base : Base) (stops : Stops) (past : List Row) (line : Line) (n : ℕ) (b : Bool) → has_room plan past ≡ b → HoldsSame n past (entered plan base stops (Commands line) past)
-line_at plan base stops past line n true room =
-    let commanded = with_event plan base past (Command line.stamp line.command) in
-    let answered = with_reply plan base stops.control line commanded in
-    rw room (holds_then n past answered (drained plan base stops.ports plan.ports answered)
-    (holds_then n past commanded answered (record { arrivals_same = append-nil (arrived n past); end_same = refl }) (reply_same plan base stops.control line commanded n))
-    (same_drained plan base stops.ports plan.ports answered n))
-line_at plan base stops past line n false room = rw room (same_control plan base past hows.Paused n)
-
 -- a line on control is no port's
 pub same_line : (plan : Plan) (base : Base) (stops : Stops) (past : List Row) (line : Line) (n : ℕ) → HoldsSame n past (entered plan base stops (Commands line) past)
-same_line plan base stops past line n = line_at plan base stops past line n (has_room plan past) refl
+same_line plan base stops past line n =
+    let commanded = with_event plan base past (Command line.stamp line.command) in
+    let answered = with_reply plan base stops.control line commanded in
+    holds_then n past answered (drained plan base stops.ports plan.ports answered)
+    (holds_then n past commanded answered (record { arrivals_same = append-nil (arrived n past); end_same = refl }) (reply_same plan base stops.control line commanded n))
+    (same_drained plan base stops.ports plan.ports answered n)
 
 same_ticker : (plan : Plan) (base : Base) (past : List Row) (how : How) (n : ℕ) → HoldsSame n past (with_event plan base past (End Ticker how))
 same_ticker plan base past how n = record { arrivals_same = append-nil (arrived n past); end_same = refl }
@@ -115,20 +110,20 @@ arrival_end plan base past port (arrivals.Long stamp len) n = refl
 itself : (n : ℕ) → (n == n) ≡ true
 itself n = grind (arith, nat_tests)
 
--- an arrival for which there is room is entered
+-- an arrival is entered
 pub record HoldsMore (n : ℕ) (old new : List Row) (arrival : Arrival) : Type 0 where
   pub arrivals_more : arrived n new ≡ arrived n old ++ arrival ∷ []
   pub end_same : input_end n new ≡ input_end n old
 
-pub more_entered : (plan : Plan) (base : Base) (stops : Stops) (past : List Row) (port : Port) (arrival : Arrival) → has_room plan past ≡ true → HoldsMore (number_of port) past (entered plan base stops (Arrives port arrival) past) arrival
-more_entered plan base stops past port arrival room =
+pub more_entered : (plan : Plan) (base : Base) (stops : Stops) (past : List Row) (port : Port) (arrival : Arrival) → HoldsMore (number_of port) past (entered plan base stops (Arrives port arrival) past) arrival
+more_entered plan base stops past port arrival =
     let n = number_of port in
     let later = with_event plan base past (event_of port arrival) in
     let drains = same_drained plan base stops.ports plan.ports later n in
-    rw room (record {
+    record {
       arrivals_more = drains.arrivals_same ∙ arrival_here plan base past port arrival (n == n) refl (itself n);
       end_same = drains.end_same ∙ arrival_end plan base past port arrival n;
-    })
+    }
 
 -- an input ends
 pub record HoldsEnd (n : ℕ) (old new : List Row) (how : How) : Type 0 where
@@ -137,9 +132,6 @@ pub record HoldsEnd (n : ℕ) (old new : List Row) (how : How) : Type 0 where
 
 pub end_entered : (plan : Plan) (base : Base) (past : List Row) (port : Port) (how : How) → HoldsEnd (number_of port) past (with_event plan base past (End (Ingress port) how)) how
 end_entered plan base past port how = record { arrivals_same = append-nil (arrived (number_of port) past); ended_so = rw (itself (number_of port)) refl }
-
-pub full_entered : (plan : Plan) (base : Base) (stops : Stops) (past : List Row) (port : Port) (arrival : Arrival) → has_room plan past ≡ false → HoldsEnd (number_of port) past (entered plan base stops (Arrives port arrival) past) hows.Paused
-full_entered plan base stops past port arrival room = rw room (end_entered plan base past port hows.Paused)
 
 -- a turn at another port
 
@@ -153,11 +145,12 @@ arrival_other plan base past port (arrivals.Long stamp len) n other = rw (apart 
 end_other : (plan : Plan) (base : Base) (past : List Row) (port : Port) (how : How) (n : ℕ) → number_of port ≢ n → HoldsSame n past (with_event plan base past (End (Ingress port) how))
 end_other plan base past port how n other = record { arrivals_same = append-nil (arrived n past); end_same = rw (apart (number_of port) n other) refl }
 
-other_at : (plan : Plan) (base : Base) (stops : Stops) (past : List Row) (port : Port) (arrival : Arrival) (n : ℕ) (b : Bool) → has_room plan past ≡ b → number_of port ≢ n → HoldsSame n past (entered plan base stops (Arrives port arrival) past)
-other_at plan base stops past port arrival n true room other =
+other_arrival : (plan : Plan) (base : Base) (stops : Stops) (past : List Row) (port : Port) (arrival : Arrival) (n : ℕ) → number_of port ≢ n → HoldsSame n past (entered plan base stops (Arrives port arrival) past)
+other_arrival plan base stops past port arrival n other =
     let later = with_event plan base past (event_of port arrival) in
-    rw room (holds_then n past later (drained plan base stops.ports plan.ports later) (record { arrivals_same = arrival_other plan base past port arrival n other; end_same = arrival_end plan base past port arrival n }) (same_drained plan base stops.ports plan.ports later n))
-other_at plan base stops past port arrival n false room other = rw room (end_other plan base past port hows.Paused n other)
+    holds_then n past later (drained plan base stops.ports plan.ports later)
+    (record { arrivals_same = arrival_other plan base past port arrival n other; end_same = arrival_end plan base past port arrival n })
+    (same_drained plan base stops.ports plan.ports later n)
 
 -- the turn is one of this port
 abbrev pub IsTurnOf : Port → Turn → Type 0
@@ -169,7 +162,7 @@ IsTurnOf port (Ends Ticker how) = ⊥
 IsTurnOf port (Ends (Egress p) how) = ⊥
 
 pub other_entered : (plan : Plan) (base : Base) (stops : Stops) (past : List Row) (port : Port) (turn : Turn) (n : ℕ) → IsTurnOf port turn → number_of port ≢ n → HoldsSame n past (entered plan base stops turn past)
-other_entered plan base stops past port (Arrives p arrival) n is other = other_at plan base stops past p arrival n (has_room plan past) refl (rw is other)
+other_entered plan base stops past port (Arrives p arrival) n is other = other_arrival plan base stops past p arrival n (rw is other)
 other_entered plan base stops past port (Commands line) n is other = absurd is
 other_entered plan base stops past port (Ends (Ingress p) how) n is other = end_other plan base past p how n (rw is other)
 other_entered plan base stops past port (Ends Control how) n is other = absurd is

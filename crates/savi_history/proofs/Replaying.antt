@@ -1,4 +1,4 @@
--- What each step of a replay keeps, its history has.
+-- What each step of a replay within a history keeps, its turns keep.
 use Rattle.std.proofs.Common.{◌≡◌, ℕ, suc, ◌<◌, nat_lt, Bool, true, false, List, [], ◌∷◌, ◌++◌, map, get_or, length, refl, arith, if◌then◌else◌, Option, Some, None}
 use Rattle.std.specs.List.{All}
 use Rattle.savi_kinds.specs.declared.port.Port.{Port}
@@ -15,13 +15,12 @@ use Rattle.cli_lang.specs.Arrivals.{Line}
 use Rattle.cli_lang.specs.Arrivals as control
 use Rattle.hist_store.specs.Rows.{Row}
 use Rattle.checkpoint.specs.Bases.{Base}
-use Rattle.savi_history.specs.Limits.{has_room}
 use Rattle.savi_history.specs.Passes.{pass_of, control_pass, has_ended}
 use Rattle.savi_history.specs.Queues.{queue}
 use Rattle.savi_history.specs.Events.{Command, End}
 use Rattle.savi_history.specs.Merges.{enter, merge, merged}
 use Rattle.savi_history.specs.Turns.{Turn, Arrives, Commands, Ends, who_of, turn_at, turns, port_turns, control_turns, all_turns}
-use Rattle.savi_history.specs.Replay.{Stops, event_of, with_event, begun, with_drain, drained, with_reply, entered, after, after_all, closing, with_end, egress_ended, replayed}
+use Rattle.savi_history.specs.Replay.{Stops, event_of, with_event, with_drain, drained, with_reply, entered, closed, closing, with_end, egress_ended}
 use Rattle.savi_history.proofs.PassNumbers.{number_at}
 
 -- the port at a place of the plan has this number
@@ -35,8 +34,6 @@ pub record IsAt (plan : Plan) (n : ℕ) : Type 0 where
 pub record Controlled : Type 1 where
   pub Comes : Line → Type 0
   pub Closes : How → Type 0
-  -- for a line that comes in there may be no room
-  pub paused : (line : Line) → Comes line → Closes hows.Paused
 
 -- this may be control's input
 abbrev pub MayControl : Controlled → Option control.Input → Type 0
@@ -45,7 +42,7 @@ MayControl may (Some input) = All may.Comes input.arrivals × may.Closes input.e
 
 -- whatever control does
 abbrev pub anything : Controlled
-anything = record { Comes = λ line. Unit {0}; Closes = λ how. Unit {0}; paused = λ line comes. tt }
+anything = record { Comes = λ line. Unit {0}; Closes = λ how. Unit {0} }
 
 pub all_control : (lines : Option control.Input) → MayControl anything lines
 all_control None = tt
@@ -124,48 +121,24 @@ pub record IsKept (plan : Plan) (base : Base) (stops : Stops) (may : Controlled)
   pub drains : (past : List Row) (port : Port) → IsAt plan (number_of port) → Has past → Has (with_drain plan base stops.ports port (length (queue plan base (number_of port) past)) past)
   pub closes : (past : List Row) (port : Port) → IsAt plan (number_of port) → Has past → Has (with_end plan base port past)
 
-module _ (plan : Plan) (base : Base) (stops : Stops) (may : Controlled) (Has : List Row → Type 0) (kept : IsKept plan base stops may Has) (lines : Option control.Input) (is : MayControl may lines) where
+module _ (plan : Plan) (base : Base) (stops : Stops) (may : Controlled) (Has : List Row → Type 0) (kept : IsKept plan base stops may Has) where
   has_drained : (ports : List PortPlan) (past : List Row) → AllAt plan ports → Has past → Has (drained plan base stops.ports ports past)
   has_drained [] past at has = has
   has_drained (q ∷ qs) past at has =
       has_drained qs (with_drain plan base stops.ports q.number (length (queue plan base (number_of q.number) past)) past) (λ k inside. at (suc k) (omega arith))
       (kept.drains past q.number (at 0 (omega arith)) has)
 
-  has_arrival : (past : List Row) (port : Port) (a : Arrival) (b : Bool) → IsAt plan (number_of port) → has_ended base (pass_of plan (passes.Ingress port)) past ≡ false → Has past
-      → Has (if b then drained plan base stops.ports plan.ports (with_event plan base past (event_of port a)) else with_event plan base past (End (passes.Ingress port) hows.Paused))
-  has_arrival past port a true at running has = has_drained plan.ports (with_event plan base past (event_of port a)) (at_place plan) (kept.arrives past port a has)
-  has_arrival past port a false at running has = kept.ends past (passes.Ingress port) hows.Paused at running has
-
-  has_line : (past : List Row) (line : Line) (b : Bool) → may.Comes line → has_ended base (control_pass plan) past ≡ false → Has past
-      → Has (if b
-      then drained plan base stops.ports plan.ports (with_reply plan base stops.control line (with_event plan base past (Command line.stamp line.command)))
-      else with_event plan base past (End passes.Control hows.Paused))
-  has_line past line true comes running has =
-      has_drained plan.ports (with_reply plan base stops.control line (with_event plan base past (Command line.stamp line.command))) (at_place plan) (kept.commands past line comes running has)
-  has_line past line false comes running has = kept.ends past passes.Control hows.Paused (may.paused line comes) running has
-
-  has_entered : (turn : Turn) (past : List Row) → IsOurs plan may turn → has_ended base (pass_of plan (who_of turn)) past ≡ false → Has past → Has (entered plan base stops turn past)
-  has_entered (Arrives port arrival) past ours running has = has_arrival past port arrival (has_room plan past) ours running has
-  has_entered (Commands line) past ours running has = has_line past line (has_room plan past) ours running has
+  -- a turn is entered, whose pass hasn't ended
+  pub has_entered : (turn : Turn) (past : List Row) → IsOurs plan may turn → has_ended base (pass_of plan (who_of turn)) past ≡ false → Has past → Has (entered plan base stops turn past)
+  has_entered (Arrives port arrival) past ours running has = has_drained plan.ports (with_event plan base past (event_of port arrival)) (at_place plan) (kept.arrives past port arrival has)
+  has_entered (Commands line) past ours running has =
+      has_drained plan.ports (with_reply plan base stops.control line (with_event plan base past (Command line.stamp line.command))) (at_place plan) (kept.commands past line ours running has)
   has_entered (Ends who how) past ours running has = kept.ends past who how ours running has
 
-  has_after : (turn : Turn) (past : List Row) (b : Bool) → has_ended base (pass_of plan (who_of turn)) past ≡ b → IsOurs plan may turn → Has past → Has (if b then past else entered plan base stops turn past)
-  has_after turn past true is ours has = has
-  has_after turn past false is ours has = has_entered turn past ours is has
+  has_egress : (ports : List PortPlan) (past : List Row) → AllAt plan ports → Has past → Has (egress_ended plan base ports past)
+  has_egress [] past at has = has
+  has_egress (q ∷ qs) past at has = has_egress qs (with_end plan base q.number past) (λ k inside. at (suc k) (omega arith)) (kept.closes past q.number (at 0 (omega arith)) has)
 
-  has_all : (ts : List Turn) (past : List Row) → AreOurs plan may ts → Has past → Has (after_all plan base stops ts past)
-  has_all [] past ours has = has
-  has_all (t ∷ ts) past ours has = has_all ts (after plan base stops t past) ours.1 (has_after t past (has_ended base (pass_of plan (who_of t)) past) refl ours.0 has)
-
-  has_closed : (ports : List PortPlan) (past : List Row) → AllAt plan ports → Has past → Has (egress_ended plan base ports past)
-  has_closed [] past at has = has
-  has_closed (q ∷ qs) past at has = has_closed qs (with_end plan base q.number past) (λ k inside. at (suc k) (omega arith)) (kept.closes past q.number (at 0 (omega arith)) has)
-
-  -- What holds once the outputs are begun, and is kept, holds of the whole history.
-  pub replay_has : (inputs : List Input) → Has (begun plan base stops.ports plan.ports []) → Has (replayed plan base lines inputs stops)
-  replay_has inputs has =
-      let started : List Row = begun plan base stops.ports plan.ports [] in
-      let all : List Turn = merged turn_at (all_turns lines plan.ports inputs) in
-      let before : List Row = after_all plan base stops all started in
-      has_closed plan.ports (with_event plan base before (End passes.Ticker (closing before))) (at_place plan)
-      (kept.ticks before (has_all all started (all_ours plan may lines inputs is) has))
+  -- the ticker ends, and each egress
+  pub has_closed : (past : List Row) → Has past → Has (closed plan base past)
+  has_closed past has = has_egress plan.ports (with_event plan base past (End passes.Ticker (closing past))) (at_place plan) (kept.ticks past has)

@@ -56,3 +56,8 @@ entry_line count (acts.End who how) = if is_paused_reason how then paused_line c
 abbrev pub end_lines : List Row → List ℕ
 end_lines [] = []
 end_lines (r ∷ past) = end_lines past ++ entry_line (length past) r.entry.act
+
+-- the lines of ends that are told, in order
+abbrev pub told_lines : List (Who × How) → List ℕ
+told_lines [] = []
+told_lines (told ∷ ends) = end_line told.0 told.1 ++ told_lines ends

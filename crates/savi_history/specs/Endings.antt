@@ -1,5 +1,5 @@
 -- How the inputs and the outputs of a history ended.
-use Rattle.std.specs.Prelude.{Bool, true, false, ◌&&◌, List}
+use Rattle.std.specs.Prelude.{Bool, true, false, ◌&&◌, if◌then◌else◌, List, [], ◌∷◌, ◌++◌}
 use Rattle.std.specs.List.{list_any}
 use Rattle.savi_kinds.specs.declared.entry.Act.{Act}
 use Rattle.savi_kinds.specs.declared.entry.Act.TheVariants as acts
@@ -123,3 +123,17 @@ has_paused_end rows = list_any (λ r. is_paused_end r.entry.act) rows
 -- an input of the history was paused for want of room: so the history goes on in a next segment
 abbrev pub has_pause : List Row → Bool
 has_pause rows = list_any (λ r. is_paused_input r.entry.act) rows
+
+-- the end that an entry is, but for a pause
+abbrev pub end_told : Act → List (Who × How)
+end_told (acts.Frame port stamp at len) = []
+end_told (acts.Long port stamp len) = []
+end_told (acts.Tick stamp) = []
+end_told (acts.Command stamp at len) = []
+end_told (acts.Drain port count) = []
+end_told (acts.End who how) = if is_paused_reason how then [] else (who, how) ∷ []
+
+-- the ends of a history but for pauses, the oldest first
+abbrev pub ends_told : List Row → List (Who × How)
+ends_told [] = []
+ends_told (r ∷ past) = ends_told past ++ end_told r.entry.act

@@ -1,30 +1,27 @@
--- The one history of a replay, the newest row first: the turns of all inputs in order, each arrival and each line followed
--- by a whole drain of each queue that holds something; then the ticker ends, and each egress. Before anything is read the
--- output of each port is begun; where a write fails at a port its egress ends at once, and the others go on. The reply to a
--- line is written before the drains; where that fails, or the line is `quit`, control ends at once.
+-- The steps of a replay within a history, the newest row first. Before anything is read the output of each port is begun;
+-- where a write fails at a port its egress ends at once, and the others go on. Behind each arrival and each line every queue
+-- that holds something is drained whole. The reply to a line is written before the drains; where that fails, or the line is
+-- `quit`, control ends at once. In the end the ticker ends, and each egress.
 use Rattle.std.specs.Prelude.{ℕ, suc, ◌==◌, nat_lt, Bool, false, if◌then◌else◌, List, [], ◌∷◌, length, Option, Some, None}
 use Rattle.savi_kinds.specs.declared.port.Port.{Port}
 use Rattle.savi_kinds.specs.declared.plan.Plan.{Plan}
 use Rattle.savi_kinds.specs.declared.plan.PortPlan.{PortPlan}
-use Rattle.savi_kinds.specs.declared.entry.Who.TheVariants.{Ingress, Control, Ticker, Egress}
+use Rattle.savi_kinds.specs.declared.entry.Who.TheVariants.{Control, Ticker, Egress}
 use Rattle.savi_kinds.specs.declared.entry.How.{How}
 use Rattle.savi_kinds.specs.declared.entry.How.TheVariants as hows
 use Rattle.savi_kinds.specs.Ports.{number_of}
-use Rattle.savi_kinds.specs.Arrivals.{Arrival, Input}
+use Rattle.savi_kinds.specs.Arrivals.{Arrival}
 use Rattle.savi_kinds.specs.Arrivals as arrivals
 use Rattle.cli_lang.specs.Arrivals.{Line}
-use Rattle.cli_lang.specs.Arrivals as control
 use Rattle.hist_store.specs.Rows.{Row}
 use Rattle.checkpoint.specs.Bases.{Base}
-use Rattle.savi_history.specs.Passes.{pass_of, egress_pass, has_ended}
-use Rattle.savi_history.specs.Limits.{has_room}
+use Rattle.savi_history.specs.Passes.{egress_pass, has_ended}
 use Rattle.savi_history.specs.Endings.{has_pause}
 use Rattle.savi_history.specs.Queues.{queue, sent}
 use Rattle.savi_history.specs.Events.{Event, Frame, Long, Command, Drain, End, row_of}
 use Rattle.savi_history.specs.ControlInputs.{is_quit}
 use Rattle.savi_history.specs.ControlOutputs.{replies}
-use Rattle.savi_history.specs.Merges.{merged}
-use Rattle.savi_history.specs.Turns.{Turn, Arrives, Commands, Ends, who_of, turn_at, all_turns}
+use Rattle.savi_history.specs.Turns.{Turn, Arrives, Commands, Ends}
 
 -- the event that an arrival at a port is
 abbrev pub event_of : Port → Arrival → Event
@@ -35,8 +32,8 @@ event_of port (arrivals.Long stamp len) = Long port stamp len
 abbrev pub with_event : Plan → Base → List Row → Event → List Row
 with_event plan base past event = row_of plan base past event ∷ past
 
--- How many pieces the sink of a port, by its number, took whole before a write failed there, where one failed. The first
--- piece of an output is its header, each further one the record of an item that was sent.
+-- How many pieces the sink of a port, by its number, takes whole before a write fails there, where one fails. The first
+-- piece of an output is its header, each further one the record of an item that is sent.
 abbrev pub PortStops : Type 0
 PortStops = ℕ → Option ℕ
 
@@ -50,7 +47,7 @@ abbrev pub is_stopped : Option ℕ → ℕ → Bool
 is_stopped None pieces = false
 is_stopped (Some whole) pieces = nat_lt whole pieces
 
--- how many pieces the output of a port has so far
+-- how many pieces the output of a port has by now: its header, and the items that the history has sent
 abbrev pub pieces_by : Plan → Base → ℕ → List Row → ℕ
 pieces_by plan base q past = suc (length (sent plan base q past))
 
@@ -89,27 +86,11 @@ abbrev pub with_line : Plan → Base → Option ℕ → Line → List Row → Li
 with_line plan base stop line past =
     with_reply plan base stop line (with_event plan base past (Command line.stamp line.command))
 
--- an arrival or a line is entered and the queues are drained, or there is no room and its input is paused; an ending is
--- entered
+-- an arrival or a line is entered and the queues are drained; an ending is entered
 abbrev pub entered : Plan → Base → Stops → Turn → List Row → List Row
-entered plan base stops (Arrives port arrival) past =
-    if has_room plan past
-    then drained plan base stops.ports plan.ports (with_event plan base past (event_of port arrival))
-    else with_event plan base past (End (Ingress port) hows.Paused)
-entered plan base stops (Commands line) past =
-    if has_room plan past
-    then drained plan base stops.ports plan.ports (with_line plan base stops.control line past)
-    else with_event plan base past (End Control hows.Paused)
+entered plan base stops (Arrives port arrival) past = drained plan base stops.ports plan.ports (with_event plan base past (event_of port arrival))
+entered plan base stops (Commands line) past = drained plan base stops.ports plan.ports (with_line plan base stops.control line past)
 entered plan base stops (Ends who how) past = with_event plan base past (End who how)
-
--- what comes behind the end of its input is passed over
-abbrev pub after : Plan → Base → Stops → Turn → List Row → List Row
-after plan base stops turn past = if has_ended base (pass_of plan (who_of turn)) past then past else entered plan base stops turn past
-
--- one turn after another
-abbrev pub after_all : Plan → Base → Stops → List Turn → List Row → List Row
-after_all plan base stops [] past = past
-after_all plan base stops (turn ∷ turns) past = after_all plan base stops turns (after plan base stops turn past)
 
 -- why the ticker and the outputs end: they are paused where an input is
 abbrev pub closing : List Row → How
@@ -128,13 +109,3 @@ egress_ended plan base (q ∷ qs) past = egress_ended plan base qs (with_end pla
 -- the ticker ends, and each egress
 abbrev pub closed : Plan → Base → List Row → List Row
 closed plan base past = egress_ended plan base plan.ports (with_event plan base past (End Ticker (closing past)))
-
--- the turns of all inputs, taken behind the beginnings of the outputs
-abbrev pub inputs_taken : Plan → Base → Option control.Input → List Input → Stops → List Row
-inputs_taken plan base lines inputs stops =
-    after_all plan base stops (merged turn_at (all_turns lines plan.ports inputs)) (begun plan base stops.ports plan.ports [])
-
--- The history of a replay of control's input, where it has one, and of these inputs, one for each port of the plan in its
--- order, whose sinks fail so.
-abbrev pub replayed : Plan → Base → Option control.Input → List Input → Stops → List Row
-replayed plan base lines inputs stops = closed plan base (inputs_taken plan base lines inputs stops)

@@ -1,5 +1,5 @@
 -- The line that sums a history up.
-use Rattle.std.specs.Prelude.{ℕ, ◌+◌, Bool, true, false, if◌then◌else◌, List, [], ◌∷◌, ◌++◌, length, codes, decimal, count_ones, Option, Some, None}
+use Rattle.std.specs.Prelude.{ℕ, ◌+◌, ◌-◌, ◌^◌, min, Bool, true, false, if◌then◌else◌, List, [], ◌∷◌, ◌++◌, length, codes, decimal, count_ones, Option, Some, None}
 use Rattle.savi_kinds.specs.declared.entry.Act.{Act}
 use Rattle.savi_kinds.specs.declared.entry.Act.TheVariants.{Frame, Long, Tick, Command, Drain, End}
 use Rattle.savi_kinds.specs.declared.verdict.Verdict.{Verdict}
@@ -34,6 +34,11 @@ total count (r ∷ past) = count r + total count past
 abbrev pub number_with : (Row → Bool) → List Row → ℕ
 number_with has past = total (λ r. if has r then 1 else 0) past
 
+-- a count that has reached 2^64 - 1 stays there
+abbrev pub capped : ℕ → ℕ
+capped n = min n (2 ^ 64 - 1)
+
+-- what was counted of a history, each count capped
 pub record Summary : Type 0 where
   pub entries : ℕ
   pub frames : ℕ
@@ -47,13 +52,13 @@ pub record Summary : Type 0 where
 
 abbrev pub summary_of : List Row → Summary
 summary_of past = record {
-  entries = length past;
-  frames = number_with (λ r. is_frame r.entry.act) past;
-  passed = number_with (λ r. is_pass r.entry.verdict) past;
-  dropped = number_with (λ r. is_drop r.entry.verdict) past;
-  probes = total (λ r. r.entry.probes) past;
-  lost = total (λ r. r.entry.lost) past;
-  cut = total (λ r. count_ones r.entry.cuts.0) past;
+  entries = capped (length past);
+  frames = capped (number_with (λ r. is_frame r.entry.act) past);
+  passed = capped (number_with (λ r. is_pass r.entry.verdict) past);
+  dropped = capped (number_with (λ r. is_drop r.entry.verdict) past);
+  probes = capped (total (λ r. r.entry.probes) past);
+  lost = capped (total (λ r. r.entry.lost) past);
+  cut = capped (total (λ r. count_ones r.entry.cuts.0) past);
 }
 
 -- the line, with its line feed

@@ -1,15 +1,13 @@
 //! The laws on whole histories. Each function does nothing: its contract is the law.
 
-ghost use Rattle.std.specs.Prelude.{◌≡◌, ◌≢◌, ◌<◌, ◌≤◌, ◌++◌, ◌⊎◌, ℕ, Bool, true, false, List, [], length, slice_index, Option, Some, None, Result, All};
-ghost use Rattle.savi_kinds.specs.Arrivals.{Input};
-ghost use Rattle.savi_kinds.specs.ValidPlan.{IsValidPlan, numbers_of};
+ghost use Rattle.std.specs.Prelude.{◌≡◌, ◌≢◌, ◌≤◌, ◌++◌, ℕ, Bool, true, false, List, [], length, Some, Result, All};
+ghost use Rattle.savi_kinds.specs.ValidPlan.{IsValidPlan};
 ghost use Rattle.savi_kinds.specs.declared.entry.Act.{Act};
-ghost use Rattle.savi_kinds.specs.declared.entry.How.TheVariants as hows;
 ghost use Rattle.savi_kinds.specs.declared.plan.Plan.{Plan};
 ghost use Rattle.hist_store.specs.JournalTexts.{address_text};
 ghost use Rattle.hist_store.specs.Rows.{Row};
 ghost use Rattle.checkpoint.specs.Bases.{Base, empty, access_of};
-ghost use Rattle.savi_history.specs.Legal.{IsLegal, IsFinished, MayCome};
+ghost use Rattle.savi_history.specs.Legal.{IsLegal, MayCome};
 ghost use Rattle.savi_history.specs.CameFirst.{IsLiveAtEnd, IsLostSince, AllKeepWhoCameFirst};
 ghost use Rattle.savi_history.specs.Events.{Frame, outs_of};
 ghost use Rattle.savi_history.specs.Moments.{last_moment, moment_at};
@@ -17,7 +15,6 @@ ghost use Rattle.savi_access.specs.Rules.{IsAccessBase};
 ghost use Rattle.savi_access.specs.Marks.{base_at};
 ghost use Rattle.savi_history.specs.Vlans.{the_vlan};
 ghost use Rattle.savi_access.specs.Plans.{rules_of};
-ghost use Rattle.savi_kinds.specs.declared.plan.Method.{Method};
 ghost use Rattle.savi_kinds.specs.declared.plan.Role.TheVariants.{Trusted};
 ghost use Rattle.eth_frame.specs.declared.header.Eth.{Eth};
 ghost use Rattle.v6_chain.specs.declared.packet.Ip.{Ip};
@@ -25,18 +22,9 @@ ghost use Rattle.frame_class.specs.declared.classes.Class.TheVariants.{Ip6};
 ghost use Rattle.frame_class.specs.declared.classes.Read.{Read};
 ghost use Rattle.fcfs_states.specs.States.{Same};
 ghost use Rattle.mix_rules.specs.Next.{IsPass};
-ghost use Rattle.cli_lang.specs.Arrivals as control;
-ghost use Rattle.savi_history.specs.Readable.{IsInput, IsControl, IsControlInput};
-ghost use Rattle.savi_history.specs.Replay.{Stops, replayed};
 ghost use Rattle.savi_history.specs.Adverts.{IsGuarded};
 ghost use Rattle.savi_history.specs.Accesses.{AllPassedRightly, IsTold};
 ghost use Rattle.hex.specs.Hex.{IsBytes};
-ghost use Rattle.savi_history.specs.Endings.{has_failed, has_failed_write};
-ghost use Rattle.savi_history.specs.PortInputs.{input_end};
-ghost use Rattle.savi_history.specs.ControlInputs.{control_end, entered_lines};
-ghost use Rattle.savi_history.specs.EnteredLines.{AreEntered};
-ghost use Rattle.savi_history.specs.ControlOutputs.{FitsRepliesAt, replies};
-ghost use Rattle.savi_history.specs.PortOutputs.{FitsOutputAt, TookPieces, output_end, pieces};
 ghost use Rattle.savi_history.specs.Judged.{judged_of, judged_long, verdict_of};
 ghost use Rattle.savi_history.specs.Limits.{IsWithinLimits};
 ghost use Rattle.savi_history.specs.Marks.{marks, IsOfOperator};
@@ -59,7 +47,7 @@ ghost use Rattle.savi_kinds.specs.declared.port.Port.{Port};
 ghost use Rattle.ra_guard.specs.GuardOf.{guard_of};
 ghost use Rattle.savi_history.specs.Queues.{offered_at, queue, sent};
 ghost use Rattle.savi_history.specs.QueueLaws.{came, NeverFailed, AreCounted, AreCut};
-ghost use Rattle.savi_history.specs.Journals.{IsAddressText, IsJournalOfOne};
+ghost use Rattle.savi_history.specs.Journals.{IsAddressText};
 
 use savi_access::states_and_requests_stay_a_base;
 
@@ -165,75 +153,6 @@ pub fn shut_ports_take_no_part()
     ensures frames { (plan : Plan) (base : Base) (past : List Row) (port : Port) (stamp : ℕ) (octets : List ℕ) (q : ℕ) → 1 ≤ q → is_shut plan base q past ≡ true
         → is_member (outs_of plan base past port stamp octets) q ≡ false }
     ensures probes { (plan : Plan) (base : Base) (past : List Row) (act : Act) (octets : List ℕ) (q : ℕ) → is_shut plan base q past ≡ true → offered_at plan base past act octets q ≡ [] }
-{}
-
-/// In the history of a replay of control's input, where it has one, and of one input for each port of the plan, every pass
-/// has ended, whichever writes failed.
-pub fn replays_end_every_pass()
-    ensures { (plan : Plan) (base : Base) (lines : Option control.Input) (inputs : List Input) (stops : Stops) → IsValidPlan plan → length inputs ≡ length plan.ports
-        → IsFinished plan base (replayed plan base lines inputs stops) }
-{}
-
-/// The history of a replay of what readers may give, of lines on control, where it has an input, and of one input for each
-/// port of the plan, is legal, whichever writes failed.
-pub fn replays_are_legal()
-    ensures { (plan : Plan) (lines : Option control.Input) (inputs : List Input) (stops : Stops) → IsValidPlan plan → length inputs ≡ length plan.ports
-        → IsControl lines → All IsInput inputs → IsLegal plan empty (replayed plan empty lines inputs stops) }
-{}
-
-/// A read that failed in a replay is one of the input of a port of the plan, or of control's, and the history says so there.
-pub fn failed_reads_are_of_inputs()
-    ensures { (plan : Plan) (base : Base) (lines : Option control.Input) (inputs : List Input) (stops : Stops) → let past = replayed plan base lines inputs stops in has_failed past ≡ true
-        → ((k : ℕ) × (k < length plan.ports) × (input_end (slice_index (numbers_of plan.ports) k) past ≡ Some hows.Failed)) ⊎ (control_end past ≡ Some hows.Failed) }
-{}
-
-/// A write that failed in a replay is one of the output of a port of the plan, or of a reply, and the history says so of
-/// that port or of control. Of every history that says so of some port or of control, a write failed.
-pub fn failed_writes_are_of_outputs()
-    ensures found { (plan : Plan) (base : Base) (lines : Option control.Input) (inputs : List Input) (stops : Stops) → let past = replayed plan base lines inputs stops in has_failed_write past ≡ true
-        → ((k : ℕ) × (k < length plan.ports) × (output_end (slice_index (numbers_of plan.ports) k) past ≡ Some hows.Failed)) ⊎ (control_end past ≡ Some hows.Unwritten) }
-    ensures told { (port : ℕ) (past : List Row) → output_end port past ≡ Some hows.Failed → has_failed_write past ≡ true }
-    ensures unwritten { (past : List Row) → control_end past ≡ Some hows.Unwritten → has_failed_write past ≡ true }
-{}
-
-/// Where the history is the replay with these stops, what the sink of a port took of the pieces of its output fits how the
-/// history says that the output ended: all of it, or, where a write failed, a front of it with all that the drains before
-/// the last one took.
-pub fn outputs_fit()
-    ensures { (plan : Plan) (lines : Option control.Input) (inputs : List Input) (stops : Stops) (before : Option (List ℕ)) (after : Option (List ℕ)) (k : ℕ) → IsValidPlan plan → length inputs ≡ length plan.ports
-        → IsControl lines → All IsInput inputs → k < length plan.ports → let port = slice_index (numbers_of plan.ports) k in let past = replayed plan empty lines inputs stops in
-        TookPieces before after (pieces (sent plan empty port past)) (stops.ports port) → FitsOutputAt plan empty before after port past }
-{}
-
-/// Where the history is the replay with these stops, what control's sink took of the replies fits how the history says that
-/// control ended: all of them, or, where one could not be written, all but the last one and a front of that.
-pub fn replies_fit()
-    ensures { (plan : Plan) (lines : Option control.Input) (inputs : List Input) (stops : Stops) (before : Option (List ℕ)) (after : Option (List ℕ)) → IsValidPlan plan → length inputs ≡ length plan.ports → IsControl lines
-        → let past = replayed plan empty lines inputs stops in TookPieces before after (replies plan empty past) stops.control → FitsRepliesAt plan empty before after past }
-{}
-
-/// Without an input of control no line stands in the history of a replay, and control ends as an input does that holds
-/// nothing.
-pub fn no_command_without_control()
-    ensures { (plan : Plan) (inputs : List Input) (stops : Stops) → IsValidPlan plan → length inputs ≡ length plan.ports
-        → let past = replayed plan empty None inputs stops in (entered_lines past ≡ []) × (control_end past ≡ Some hows.End) }
-{}
-
-/// The lines that a replay enters are those of control's input in their order, by how control ends: all of them; those in
-/// front of one for which there was no room; those up to and with the first `quit`; or those up to and with one whose reply
-/// could not be written, with no `quit` before it.
-pub fn lines_are_entered()
-    ensures { (plan : Plan) (input : control.Input) (inputs : List Input) (stops : Stops) → IsControlInput input
-        → let past = replayed plan empty (Some input) inputs stops in AreEntered input (entered_lines past) (control_end past) }
-{}
-
-/// A journal tells the history: no text is the journal of two legal histories from the start of a switch, nor of two
-/// plans that differ in more than the names of inputs and outputs. It holds with addresses written as they are, after
-/// RFC 5952, and for each way to write them that gives no two of them the same text, and in which there is neither a
-/// space, a control character nor a '/'.
-pub fn journals_tell_one_history()
-    ensures written { IsJournalOfOne address_text }
-    ensures every { (text_of : ℕ → List ℕ) → IsAddressText text_of → IsJournalOfOne text_of }
 {}
 
 /// The text of addresses after RFC 5952 gives no two addresses of 128 bits the same text, and there is neither a space, a

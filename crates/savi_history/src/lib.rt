@@ -12,12 +12,10 @@ mod station_laws;
 
 pub use laws::{
     a_switch_starts_within_limits, adverts_are_stopped, each_probe_is_counted_once,
-    failed_reads_are_of_inputs, failed_writes_are_of_outputs, frames_are_cut_for_want_of_room,
-    histories_keep_who_came_first, histories_tell_rightly, journals_tell_one_history,
-    lines_are_entered, no_command_without_control, nothing_overtakes, outputs_fit,
-    packets_pass_where_their_source_is_live, probes_come_with_validation, queues_stay_within_depth,
-    refused_commands_shut_no_port, replays_are_legal, replays_end_every_pass, replies_fit,
-    shut_ports_take_no_part, ticks_change_nothing_later, written_addresses_are_told_apart,
+    frames_are_cut_for_want_of_room, histories_keep_who_came_first, histories_tell_rightly,
+    nothing_overtakes, packets_pass_where_their_source_is_live, probes_come_with_validation,
+    queues_stay_within_depth, refused_commands_shut_no_port, shut_ports_take_no_part,
+    ticks_change_nothing_later, written_addresses_are_told_apart,
 };
 pub use station_laws::{
     frames_go_to_known_stations, groups_are_no_stations, stations_stay_within_limits,

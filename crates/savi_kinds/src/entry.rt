@@ -3,18 +3,24 @@ use crate::port::{Port, PortSet};
 use crate::verdict::Verdict;
 
 /// A pass: one of the activities that make entries. Each ends once in a segment of the history.
-#[derive(Clone, Copy, PartialEq, Eq, Debug)]
+///
+/// The default stands in the unused places of a fixed array, and for nothing else.
+#[derive(Clone, Copy, PartialEq, Eq, Debug, Default)]
 pub enum Who {
     Ingress(Port),
+    #[default]
     Control,
     Ticker,
     Egress(Port),
 }
 
 /// Why a pass ended, for good or in this segment of the history.
-#[derive(Clone, Copy, PartialEq, Eq, Debug)]
+///
+/// The default stands in the unused places of a fixed array, and for nothing else.
+#[derive(Clone, Copy, PartialEq, Eq, Debug, Default)]
 pub enum How {
     /// Its input was read to the end, or nothing was left to do.
+    #[default]
     End,
     /// Control was told to quit.
     Quit,

@@ -1,19 +1,16 @@
 -- In a legal history each pass ends at most once.
-use Rattle.std.proofs.Common.{◌≡◌, ℕ, zero, suc, ◌+◌, ◌<◌, ◌≤◌, ◌==◌, ◌&&◌, ◌||◌, Bool, true, false, if◌then◌else◌, List, [], ◌∷◌, length, refl, sym, ap, subst, inl, inr, arith}
-use Rattle.std.specs.List.{list_any}
+use Rattle.std.proofs.Common.{◌≡◌, ℕ, zero, suc, ◌+◌, ◌<◌, ◌≤◌, ◌==◌, ◌&&◌, ◌||◌, Bool, true, false, if◌then◌else◌, List, [], ◌∷◌, refl, sym, ap, subst, inl, inr, arith}
 use Rattle.std.proofs.lemmas.Bool.{cases_eq, eq-eqb, false≢true}
 use Rattle.savi_kinds.specs.declared.plan.Plan.{Plan}
-use Rattle.savi_kinds.specs.declared.plan.PortPlan.{PortPlan}
 use Rattle.savi_kinds.specs.declared.entry.Who.{Who}
 use Rattle.savi_kinds.specs.declared.entry.Who.TheVariants as passes
 use Rattle.savi_kinds.specs.declared.entry.How.{How}
 use Rattle.savi_kinds.specs.Ports.{number_of}
-use Rattle.savi_kinds.specs.ValidPlan.{numbers_of}
-use Rattle.std.proofs.lemmas.List.{length-map}
 use Rattle.hist_store.specs.Rows.{Row}
 use Rattle.checkpoint.specs.Bases.{Base}
-use Rattle.savi_history.specs.Passes.{place_among, place_of, pass_of, pass_count, has_pass, has_ended, is_end}
+use Rattle.savi_history.specs.Passes.{pass_of, pass_count, has_pass, has_ended, is_end}
 use Rattle.savi_history.specs.Legal.{IsLegal, Stands, MayCome}
+use Rattle.savi_history.proofs.PortPlaces.{place_within}
 use Rattle.savi_history.specs.Events.{Event, Frame, Long, Command, Tick, Drain, End, row_of}
 
 -- how many entries ended a pass
@@ -26,26 +23,12 @@ abbrev pub open_below : Base → List Row → ℕ → ℕ
 open_below base past zero = 0
 open_below base past (suc n) = (if has_ended base n past then 0 else 1) + open_below base past n
 
-place_in_at : (ns : List ℕ) (x : ℕ) (b : Bool) → (b || list_any (λ m. m == x) ns) ≡ true → (list_any (λ m. m == x) ns ≡ true → place_among ns x < length ns) → (if b then 0 else suc (place_among ns x)) < suc (length ns)
-place_in_at ns x true is step = omega arith
-place_in_at ns x false is step = let more = step is in omega arith
-
-place_in : (ns : List ℕ) (x : ℕ) → list_any (λ n. n == x) ns ≡ true → place_among ns x < length ns
-place_in [] x is = cc
-place_in (n ∷ ns) x is = place_in_at ns x (n == x) is (λ there. place_in ns x there)
-
 module _ (plan : Plan) where
-  place_low : (q : ℕ) → list_any (λ n. n == q) (numbers_of plan.ports) ≡ true → place_of plan q < length plan.ports
-  place_low q is =
-      let size : length (numbers_of plan.ports) ≡ length plan.ports = length-map plan.ports (λ (p : PortPlan). number_of p.number) in
-      let low : place_among (numbers_of plan.ports) q < length (numbers_of plan.ports) = place_in (numbers_of plan.ports) q is in
-      omega (arith, size, low)
-
   pub pass_low : (who : Who) → has_pass plan who ≡ true → pass_of plan who < pass_count plan
-  pass_low (passes.Ingress p) known = let low : place_of plan (number_of p) < length plan.ports = place_low (number_of p) known in omega (arith, low)
+  pass_low (passes.Ingress p) known = let low = place_within plan (number_of p) known in omega (arith, low)
   pass_low passes.Control known = omega arith
   pass_low passes.Ticker known = omega arith
-  pass_low (passes.Egress p) known = let low : place_of plan (number_of p) < length plan.ports = place_low (number_of p) known in omega (arith, low)
+  pass_low (passes.Egress p) known = let low = place_within plan (number_of p) known in omega (arith, low)
 
 -- one pass more, which may have ended
 fewer_step : (now before : Bool) → (before ≡ true → now ≡ true) → (one two : ℕ) → one ≤ two → (if now then 0 else 1) + one ≤ (if before then 0 else 1) + two
@@ -135,15 +118,19 @@ module _ (plan : Plan) (base : Base) where
   few_other past r still same few =
       few_same (ends (r ∷ past)) (ends past) (open_below base (r ∷ past) (pass_count plan)) (open_below base past (pass_count plan)) (pass_count plan) same (open_same past r still (pass_count plan)) few
 
+  -- one more pass that was open has ended
+  pub few_more : (past : List Row) (who : Who) (how : How) → has_pass plan who ≡ true → has_ended base (pass_of plan who) past ≡ false → IsFew past → IsFew (ended_by past who how)
+  few_more past who how known running few =
+      few_less (ends past) (open_below base (ended_by past who how) (pass_count plan)) (open_below base past (pass_count plan)) (pass_count plan)
+      (one_less past who how (pass_count plan) running (pass_low plan who known)) few
+
   few_event : (past : List Row) (event : Event) → MayCome plan base past event → IsFew past → IsFew (row_of plan base past event ∷ past)
   few_event past (Frame port stamp octets) may few = few_other past (row_of plan base past (Frame port stamp octets)) refl refl few
   few_event past (Long port stamp len) may few = few_other past (row_of plan base past (Long port stamp len)) refl refl few
   few_event past (Command stamp line) may few = few_other past (row_of plan base past (Command stamp line)) refl refl few
   few_event past (Tick stamp) may few = few_other past (row_of plan base past (Tick stamp)) refl refl few
   few_event past (Drain port count) may few = few_other past (row_of plan base past (Drain port count)) refl refl few
-  few_event past (End who how) may few =
-      few_less (ends past) (open_below base (ended_by past who how) (pass_count plan)) (open_below base past (pass_count plan)) (pass_count plan)
-      (one_less past who how (pass_count plan) may.0.running (pass_low plan who may.0.known)) few
+  few_event past (End who how) may few = few_more past who how may.0.known may.0.running few
 
   -- the ends of a legal history and the passes that are open are no more than there are passes
   pub few_ends : (past : List Row) → IsLegal plan base past → IsFew past

@@ -1,5 +1,6 @@
--- No more goes in than comes in: by a replay than its inputs have, and by any history than it holds of control and its ports.
-use Rattle.std.proofs.Common.{◌≡◌, ℕ, ◌+◌, ◌≤◌, ◌==◌, ◌||◌, nat_lt, Bool, true, false, if◌then◌else◌, List, [], ◌∷◌, ◌++◌, map, length, sum_by, Option, Some, None, refl, sym, subst, arith}
+-- No more goes in than comes in: by a replay than its inputs have, and by any history than it holds of control and its
+-- ports.
+use Rattle.std.proofs.Common.{◌≡◌, ℕ, ◌+◌, ◌≤◌, ◌==◌, ◌||◌, nat_lt, Bool, true, false, if◌then◌else◌, List, [], ◌∷◌, ◌++◌, map, length, sum_by, Option, Some, None, refl, sym, ap, ◌∙◌, subst, arith}
 use Rattle.std.specs.List.{list_any, flat_map}
 use Rattle.std.proofs.lemmas.Bool.{false≢true, eqb-true, eq-eqb}
 use Rattle.std.proofs.lemmas.List.Sums.{sum_by-cons, sum_by-append}
@@ -17,18 +18,20 @@ use Rattle.savi_kinds.specs.Arrivals as arrivals
 use Rattle.cli_lang.specs.Arrivals.{Line}
 use Rattle.cli_lang.specs.Arrivals as control
 use Rattle.hist_store.specs.Rows.{Row, held}
-use Rattle.checkpoint.specs.Bases.{Base}
+use Rattle.checkpoint.specs.Bases.{Base, empty}
 use Rattle.savi_history.specs.Passes.{pass_of, egress_pass, has_ended}
 use Rattle.savi_history.specs.Limits.{has_room}
 use Rattle.savi_history.specs.Queues.{queue}
 use Rattle.savi_history.specs.Legal.{IsLegal, Stands, MayCome}
-use Rattle.savi_history.specs.ControlInputs.{is_quit, line_by, entered_lines}
-use Rattle.savi_history.specs.ControlOutputs.{replies}
+use Rattle.savi_history.specs.ControlInputs.{line_by, entered_lines}
 use Rattle.savi_history.specs.PortInputs.{arrived, arrived_by}
 use Rattle.savi_history.specs.Events.{Event, Frame, Long, Command, Tick, Drain, End, row_of}
 use Rattle.savi_history.specs.Merges.{enter, merge, merged}
 use Rattle.savi_history.specs.Turns.{Turn, Arrives, Commands, Ends, who_of, turn_at, turns, port_turns, control_turns, all_turns}
-use Rattle.savi_history.specs.Replay.{Stops, is_stopped, pieces_by, event_of, with_event, with_failure, begun, with_drain, drained, with_reply, with_line, entered, after, after_all, closing, with_end, egress_ended, inputs_taken, replayed}
+use Rattle.savi_history.specs.Replay.{PortStops, Stops, is_stopped, pieces_by, event_of, with_event, with_failure, begun, with_drain, drained, with_reply, entered, closed, closing, with_end, egress_ended}
+use Rattle.savi_history.proofs.Replying.{behind_reply}
+use Rattle.savi_segments.specs.Replay.{Run, all_closed, all_taken, base_in, has_ended_in, inputs_paused, inputs_taken, ports_paused, replayed, room_made, run_begun, segments_of, stops_left, taken, taken_if_open, turned, with_pause}
+use Rattle.savi_segments.specs.Segments.{joined}
 use Rattle.savi_laws.specs.Budgets.{input_count, given_count, given_octets, kept_of, lines_of, arrivals_of, all_arrived}
 
 pub sum_ones : {X : Type 0} (xs : List X) → sum_by (λ x. 1) xs ≡ length xs
@@ -37,7 +40,7 @@ sum_ones (x ∷ xs) = omega (arith, sum_by-cons (λ y. 1) x xs, sum_ones xs)
 
 -- a weight of each arrival and line, and of the turns that they have
 module _ (of_arrival : Arrival → ℕ) (of_line : Line → ℕ) where
-  abbrev of_turn : Turn → ℕ
+  abbrev pub of_turn : Turn → ℕ
   of_turn (Arrives port arrival) = of_arrival arrival
   of_turn (Commands line) = of_line line
   of_turn (Ends who how) = 0
@@ -86,91 +89,136 @@ module _ (of_arrival : Arrival → ℕ) (of_line : Line → ℕ) where
   all_most : (lines : Option control.Input) (ports : List PortPlan) (inputs : List Input) → of_turns (merged turn_at (all_turns lines ports inputs)) ≤ sum_by of_line (lines_of lines) + sum_by of_arrival (arrivals_of inputs)
   all_most lines ports inputs = omega (arith, merge_turns (control_turns lines) (merged turn_at (port_turns ports inputs)), control_most lines, ports_most ports inputs)
 
-  -- what a history weighs: an input no more than its arrival or line, and another entry nothing
-  record Weighs (plan : Plan) (base : Base) (weight : List Row → ℕ) : Type 0 where
+  -- what rows weigh: an input as much as its arrival or line, and another entry nothing
+  pub record Weighs (plan : Plan) (weight : List Row → ℕ) : Type 0 where
     none : weight [] ≡ 0
-    frame : (past : List Row) (port : Port) (stamp : ℕ) (octets : List ℕ) → weight (row_of plan base past (Frame port stamp octets) ∷ past) ≤ of_arrival (arrivals.Frame stamp octets) + weight past
-    long : (past : List Row) (port : Port) (stamp len : ℕ) → weight (row_of plan base past (Long port stamp len) ∷ past) ≤ of_arrival (arrivals.Long stamp len) + weight past
-    line : (past : List Row) (stamp : ℕ) (command : List ℕ) → weight (row_of plan base past (Command stamp command) ∷ past) ≤ of_line (record { stamp = stamp; command = command }) + weight past
-    tick : (past : List Row) (stamp : ℕ) → weight (row_of plan base past (Tick stamp) ∷ past) ≤ weight past
-    drain : (past : List Row) (port : Port) (count : ℕ) → weight (row_of plan base past (Drain port count) ∷ past) ≤ weight past
-    ends : (past : List Row) (who : Who) (how : How) → weight (row_of plan base past (End who how) ∷ past) ≤ weight past
+    frame : (base : Base) (past rows : List Row) (port : Port) (stamp : ℕ) (octets : List ℕ) → weight (row_of plan base past (Frame port stamp octets) ∷ rows) ≡ of_arrival (arrivals.Frame stamp octets) + weight rows
+    long : (base : Base) (past rows : List Row) (port : Port) (stamp len : ℕ) → weight (row_of plan base past (Long port stamp len) ∷ rows) ≡ of_arrival (arrivals.Long stamp len) + weight rows
+    line : (base : Base) (past rows : List Row) (stamp : ℕ) (command : List ℕ) → weight (row_of plan base past (Command stamp command) ∷ rows) ≡ of_line (record { stamp = stamp; command = command }) + weight rows
+    tick : (base : Base) (past rows : List Row) (stamp : ℕ) → weight (row_of plan base past (Tick stamp) ∷ rows) ≡ weight rows
+    drain : (base : Base) (past rows : List Row) (port : Port) (count : ℕ) → weight (row_of plan base past (Drain port count) ∷ rows) ≡ weight rows
+    ends : (base : Base) (past rows : List Row) (who : Who) (how : How) → weight (row_of plan base past (End who how) ∷ rows) ≡ weight rows
 
-  module _ (plan : Plan) (base : Base) (weight : List Row → ℕ) (weighs : Weighs plan base weight) where
+  module _ (plan : Plan) (weight : List Row → ℕ) (weighs : Weighs plan weight) where
+    -- In a segment behind these rows.
+    module _ (base : Base) (before : List Row) where
+      abbrev of_rows : List Row → ℕ
+      of_rows past = weight (past ++ before)
+
+      if_same : (b : Bool) (one two : List Row) (n : ℕ) → of_rows one ≡ n → of_rows two ≡ n → of_rows (if b then one else two) ≡ n
+      if_same true one two n first second = first
+      if_same false one two n first second = second
+
+      same_end : (past : List Row) (who : Who) (how : How) → of_rows (with_event plan base past (End who how)) ≡ of_rows past
+      same_end past who how = weighs.ends base past (past ++ before) who how
+
+      same_failure : (stops : PortStops) (past : List Row) (port : Port) → of_rows (with_failure plan base stops port past) ≡ of_rows past
+      same_failure stops past port =
+          if_same (is_stopped (stops (number_of port)) (pieces_by plan base (number_of port) past)) (with_event plan base past (End (passes.Egress port) hows.Failed)) past (of_rows past)
+          (same_end past (passes.Egress port) hows.Failed) refl
+
+      same_begun : (stops : PortStops) (qs : List PortPlan) (past : List Row) → of_rows (begun plan base stops qs past) ≡ of_rows past
+      same_begun stops [] past = refl
+      same_begun stops (q ∷ qs) past = same_begun stops qs (with_failure plan base stops q.number past) ∙ same_failure stops past q.number
+
+      same_drain : (stops : PortStops) (past : List Row) (port : Port) (count : ℕ) → of_rows (with_drain plan base stops port count past) ≡ of_rows past
+      same_drain stops past port count =
+          let drain = with_event plan base past (Drain port count) in
+          if_same (count == 0) past (with_failure plan base stops port drain) (of_rows past) refl (same_failure stops drain port ∙ weighs.drain base past (past ++ before) port count)
+
+      same_drained : (stops : PortStops) (qs : List PortPlan) (past : List Row) → of_rows (drained plan base stops qs past) ≡ of_rows past
+      same_drained stops [] past = refl
+      same_drained stops (q ∷ qs) past =
+          let count = length (queue plan base (number_of q.number) past) in
+          same_drained stops qs (with_drain plan base stops q.number count past) ∙ same_drain stops past q.number count
+
+      same_reply : (stop : Option ℕ) (past : List Row) (line : Line) → of_rows (with_reply plan base stop line past) ≡ of_rows past
+      same_reply stop past line =
+          behind_reply plan base line past (λ now. of_rows now ≡ of_rows past) refl (same_end past passes.Control hows.Unwritten) (same_end past passes.Control hows.Quit) stop
+
+      one_arrival : (past : List Row) (port : Port) (arrival : Arrival) → of_rows (with_event plan base past (event_of port arrival)) ≡ of_arrival arrival + of_rows past
+      one_arrival past port (arrivals.Frame stamp octets) = weighs.frame base past (past ++ before) port stamp octets
+      one_arrival past port (arrivals.Long stamp len) = weighs.long base past (past ++ before) port stamp len
+
+      -- a turn weighs what it enters
+      one_entered : (stops : Stops) (turn : Turn) (past : List Row) → of_rows (entered plan base stops turn past) ≡ of_turn turn + of_rows past
+      one_entered stops (Arrives port arrival) past = same_drained stops.ports plan.ports (with_event plan base past (event_of port arrival)) ∙ one_arrival past port arrival
+      one_entered stops (Commands line) past =
+          let commanded = with_event plan base past (Command line.stamp line.command) in
+          same_drained stops.ports plan.ports (with_reply plan base stops.control line commanded)
+          ∙ same_reply stops.control commanded line
+          ∙ weighs.line base past (past ++ before) line.stamp line.command
+      one_entered stops (Ends who how) past = omega (arith, same_end past who how)
+
+      -- pauses and closings weigh nothing
+
+      same_pause : (past : List Row) (who : Who) → of_rows (with_pause plan base who past) ≡ of_rows past
+      same_pause past who = if_same (has_ended base (pass_of plan who) past) past (with_event plan base past (End who hows.Paused)) (of_rows past) refl (same_end past who hows.Paused)
+
+      same_ports : (ports : List PortPlan) (past : List Row) → of_rows (ports_paused plan base ports past) ≡ of_rows past
+      same_ports [] past = refl
+      same_ports (p ∷ ports) past = same_ports ports (with_pause plan base (passes.Ingress p.number) past) ∙ same_pause past (passes.Ingress p.number)
+
+      same_paused : (past : List Row) → of_rows (inputs_paused plan base past) ≡ of_rows past
+      same_paused past = same_ports plan.ports (with_pause plan base passes.Control past) ∙ same_pause past passes.Control
+
+      same_egress : (qs : List PortPlan) (past : List Row) → of_rows (egress_ended plan base qs past) ≡ of_rows past
+      same_egress [] past = refl
+      same_egress (q ∷ qs) past =
+          same_egress qs (with_end plan base q.number past)
+          ∙ if_same (has_ended base (egress_pass plan (number_of q.number)) past) past (with_event plan base past (End (passes.Egress q.number) (closing past))) (of_rows past) refl
+          (same_end past (passes.Egress q.number) (closing past))
+
+      same_closed : (past : List Row) → of_rows (closed plan base past) ≡ of_rows past
+      same_closed past = same_egress plan.ports (with_event plan base past (End passes.Ticker (closing past))) ∙ same_end past passes.Ticker (closing past)
+
+    -- Over segments.
     module _ (stops : Stops) where
-      if_low : (b : Bool) (one two : List Row) (n : ℕ) → weight one ≤ n → weight two ≤ n → weight (if b then one else two) ≤ n
-      if_low true one two n first second = first
-      if_low false one two n first second = second
+      abbrev of_run : Run → ℕ
+      of_run run = weight (joined (segments_of run))
 
-      failure_low : (past : List Row) (port : Port) (n : ℕ) → weight past ≤ n → weight (with_failure plan base stops.ports port past) ≤ n
-      failure_low past port n low =
-          if_low (is_stopped (stops.ports (number_of port)) (pieces_by plan base (number_of port) past)) (with_event plan base past (End (passes.Egress port) hows.Failed)) past n
-          (omega (arith, weighs.ends past (passes.Egress port) hows.Failed, low)) low
+      pub same_turned : (run : Run) → of_run (turned plan run) ≡ of_run run
+      same_turned run =
+          same_closed (base_in plan run) (joined run.closed) (inputs_paused plan (base_in plan run) run.past) ∙ same_paused (base_in plan run) (joined run.closed) run.past
 
-      begun_low : (qs : List PortPlan) (past : List Row) (n : ℕ) → weight past ≤ n → weight (begun plan base stops.ports qs past) ≤ n
-      begun_low [] past n low = low
-      begun_low (q ∷ qs) past n low = begun_low qs (with_failure plan base stops.ports q.number past) n (failure_low past q.number n low)
+      same_room_at : (run : Run) (b : Bool) → of_run (if b then run else turned plan run) ≡ of_run run
+      same_room_at run true = refl
+      same_room_at run false = same_turned run
 
-      with_drain_low : (past : List Row) (port : Port) (count n : ℕ) → weight past ≤ n → weight (with_drain plan base stops.ports port count past) ≤ n
-      with_drain_low past port count n low =
-          if_low (count == 0) past (with_failure plan base stops.ports port (with_event plan base past (Drain port count))) n low
-          (failure_low (with_event plan base past (Drain port count)) port n (omega (arith, weighs.drain past port count, low)))
+      same_room : (turn : Turn) (run : Run) → of_run (room_made plan turn run) ≡ of_run run
+      same_room (Arrives port arrival) run = same_room_at run (has_room plan run.past)
+      same_room (Commands line) run = same_room_at run (has_room plan run.past)
+      same_room (Ends who how) run = refl
 
-      drained_low : (qs : List PortPlan) (past : List Row) (n : ℕ) → weight past ≤ n → weight (drained plan base stops.ports qs past) ≤ n
-      drained_low [] past n low = low
-      drained_low (q ∷ qs) past n low =
-          drained_low qs (with_drain plan base stops.ports q.number (length (queue plan base (number_of q.number) past)) past) n
-          (with_drain_low past q.number (length (queue plan base (number_of q.number) past)) n low)
+      pub one_taken : (turn : Turn) (run : Run) → of_run (taken plan stops turn run) ≡ of_turn turn + of_run run
+      one_taken turn run =
+          let made = room_made plan turn run in
+          one_entered (base_in plan made) (joined made.closed) (stops_left plan stops made) turn made.past ∙ ap (λ (n : ℕ). of_turn turn + n) (same_room turn run)
 
-      reply_low : (past : List Row) (line : Line) (n : ℕ) → weight past ≤ n → weight (with_reply plan base stops.control line past) ≤ n
-      reply_low past line n low =
-          if_low (is_stopped stops.control (length (replies plan base past))) (with_event plan base past (End passes.Control hows.Unwritten))
-          (if is_quit line then with_event plan base past (End passes.Control hows.Quit) else past) n
-          (omega (arith, weighs.ends past passes.Control hows.Unwritten, low))
-          (if_low (is_quit line) (with_event plan base past (End passes.Control hows.Quit)) past n (omega (arith, weighs.ends past passes.Control hows.Quit, low)) low)
+      one_if_open : (turn : Turn) (run : Run) (b : Bool) → of_run (if b then run else taken plan stops turn run) ≤ of_turn turn + of_run run
+      one_if_open turn run true = omega arith
+      one_if_open turn run false = omega (arith, one_taken turn run)
 
-      arrival_low : (past : List Row) (port : Port) (arrival : Arrival) → weight (with_event plan base past (event_of port arrival)) ≤ of_arrival arrival + weight past
-      arrival_low past port (arrivals.Frame stamp octets) = weighs.frame past port stamp octets
-      arrival_low past port (arrivals.Long stamp len) = weighs.long past port stamp len
+      taken_most : (turns : List Turn) (run : Run) → of_run (all_taken plan stops turns run) ≤ of_turns turns + of_run run
+      taken_most [] run = omega arith
+      taken_most (turn ∷ turns) run =
+          omega (arith, taken_most turns (taken_if_open plan stops turn run), one_if_open turn run (has_ended_in plan (pass_of plan (who_of turn)) run))
 
-      entered_low : (turn : Turn) (past : List Row) → weight (entered plan base stops turn past) ≤ of_turn turn + weight past
-      entered_low (Arrives port arrival) past =
-          if_low (has_room plan past) (drained plan base stops.ports plan.ports (with_event plan base past (event_of port arrival))) (with_event plan base past (End (passes.Ingress port) hows.Paused)) (of_arrival arrival + weight past)
-          (drained_low plan.ports (with_event plan base past (event_of port arrival)) (of_arrival arrival + weight past) (arrival_low past port arrival))
-          (omega (arith, weighs.ends past (passes.Ingress port) hows.Paused))
-      entered_low (Commands line) past =
-          if_low (has_room plan past) (drained plan base stops.ports plan.ports (with_line plan base stops.control line past)) (with_event plan base past (End passes.Control hows.Paused)) (of_line line + weight past)
-          (drained_low plan.ports (with_line plan base stops.control line past) (of_line line + weight past)
-          (reply_low (with_event plan base past (Command line.stamp line.command)) line (of_line line + weight past) (weighs.line past line.stamp line.command)))
-          (omega (arith, weighs.ends past passes.Control hows.Paused))
-      entered_low (Ends who how) past = omega (arith, weighs.ends past who how)
+      pub same_last : (run : Run) → weight (joined (all_closed plan run)) ≡ of_run run
+      same_last run = same_closed (base_in plan run) (joined run.closed) run.past
 
-      after_low : (turns : List Turn) (past : List Row) → weight (after_all plan base stops turns past) ≤ of_turns turns + weight past
-      after_low [] past = omega arith
-      after_low (turn ∷ turns) past =
+      pub none_begun : of_run (run_begun plan stops) ≡ 0
+      none_begun = same_begun empty [] stops.ports plan.ports [] ∙ weighs.none
+
+      replay_most : (lines : Option control.Input) (inputs : List Input) → weight (joined (replayed plan lines inputs stops)) ≤ sum_by of_line (lines_of lines) + sum_by of_arrival (arrivals_of inputs)
+      replay_most lines inputs =
           omega (
             arith,
-            after_low turns (after plan base stops turn past),
-            if_low (has_ended base (pass_of plan (who_of turn)) past) past (entered plan base stops turn past) (of_turn turn + weight past) (omega arith) (entered_low turn past),
-          )
-
-      ended_low : (qs : List PortPlan) (past : List Row) (n : ℕ) → weight past ≤ n → weight (egress_ended plan base qs past) ≤ n
-      ended_low [] past n low = low
-      ended_low (q ∷ qs) past n low =
-          ended_low qs (with_end plan base q.number past) n
-          (if_low (has_ended base (egress_pass plan (number_of q.number)) past) past (with_event plan base past (End (passes.Egress q.number) (closing past))) n low
-          (omega (arith, weighs.ends past (passes.Egress q.number) (closing past), low)))
-
-      replay_most : (lines : Option control.Input) (inputs : List Input) → weight (replayed plan base lines inputs stops) ≤ sum_by of_line (lines_of lines) + sum_by of_arrival (arrivals_of inputs)
-      replay_most lines inputs =
-          ended_low plan.ports (with_event plan base (inputs_taken plan base lines inputs stops) (End passes.Ticker (closing (inputs_taken plan base lines inputs stops)))) (sum_by of_line (lines_of lines) + sum_by of_arrival (arrivals_of inputs))
-          (omega (
-            arith,
-            weighs.ends (inputs_taken plan base lines inputs stops) passes.Ticker (closing (inputs_taken plan base lines inputs stops)),
-            after_low (merged turn_at (all_turns lines plan.ports inputs)) (begun plan base stops.ports plan.ports []),
-            begun_low plan.ports [] 0 (omega (arith, weighs.none)),
+            same_last (inputs_taken plan lines inputs stops),
+            taken_most (merged turn_at (all_turns lines plan.ports inputs)) (run_begun plan stops),
+            none_begun,
             all_most lines plan.ports inputs,
-          ))
+          )
 
     -- what the ports of a plan have of an entry, of one of them at least
     port_parts : (ports : List PortPlan) (one other : ℕ → List Arrival)
@@ -215,78 +263,79 @@ module _ (of_arrival : Arrival → ℕ) (of_line : Line → ℕ) where
           port_parts plan.ports (λ n. arrived n past) (λ n. arrived_by n r.octets r.entry.act),
         )
 
-    event_most : (past : List Row) (event : Event) → MayCome plan base past event → weight past ≤ all_held past → weight (row_of plan base past event ∷ past) ≤ all_held (row_of plan base past event ∷ past)
-    event_most past (Frame port stamp octets) may low =
-        omega (
-          arith,
-          all_parts (row_of plan base past (Frame port stamp octets)) past,
-          weighs.frame past port stamp octets,
-          own_part plan.ports (number_of port) (arrivals.Frame stamp octets) may.0.open_pass.known,
-          low,
-        )
-    event_most past (Long port stamp len) may low =
-        omega (
-          arith,
-          all_parts (row_of plan base past (Long port stamp len)) past,
-          weighs.long past port stamp len,
-          own_part plan.ports (number_of port) (arrivals.Long stamp len) may.0.open_pass.known,
-          low,
-        )
-    event_most past (Command stamp line) may low =
-        omega (
-          arith,
-          all_parts (row_of plan base past (Command stamp line)) past,
-          weighs.line past stamp line,
-          sum_by-cons of_line (record { stamp = stamp; command = line }) [],
-          low,
-        )
-    event_most past (Tick stamp) may low = omega (arith, all_parts (row_of plan base past (Tick stamp)) past, weighs.tick past stamp, low)
-    event_most past (Drain port count) may low = omega (arith, all_parts (row_of plan base past (Drain port count)) past, weighs.drain past port count, low)
-    event_most past (End who how) may low = omega (arith, all_parts (row_of plan base past (End who how)) past, weighs.ends past who how, low)
+    module _ (base : Base) where
+      event_most : (past : List Row) (event : Event) → MayCome plan base past event → weight past ≤ all_held past → weight (row_of plan base past event ∷ past) ≤ all_held (row_of plan base past event ∷ past)
+      event_most past (Frame port stamp octets) may low =
+          omega (
+            arith,
+            all_parts (row_of plan base past (Frame port stamp octets)) past,
+            weighs.frame base past past port stamp octets,
+            own_part plan.ports (number_of port) (arrivals.Frame stamp octets) may.0.open_pass.known,
+            low,
+          )
+      event_most past (Long port stamp len) may low =
+          omega (
+            arith,
+            all_parts (row_of plan base past (Long port stamp len)) past,
+            weighs.long base past past port stamp len,
+            own_part plan.ports (number_of port) (arrivals.Long stamp len) may.0.open_pass.known,
+            low,
+          )
+      event_most past (Command stamp line) may low =
+          omega (
+            arith,
+            all_parts (row_of plan base past (Command stamp line)) past,
+            weighs.line base past past stamp line,
+            sum_by-cons of_line (record { stamp = stamp; command = line }) [],
+            low,
+          )
+      event_most past (Tick stamp) may low = omega (arith, all_parts (row_of plan base past (Tick stamp)) past, weighs.tick base past past stamp, low)
+      event_most past (Drain port count) may low = omega (arith, all_parts (row_of plan base past (Drain port count)) past, weighs.drain base past past port count, low)
+      event_most past (End who how) may low = omega (arith, all_parts (row_of plan base past (End who how)) past, weighs.ends base past past who how, low)
 
-    legal_most : (past : List Row) → IsLegal plan base past → weight past ≤ all_held past
-    legal_most [] legal = omega (arith, weighs.none)
-    legal_most (r ∷ past) legal =
-        let stands : Stands plan base past r = legal.0 in
-        subst (λ (x : Row). weight (x ∷ past) ≤ all_held (x ∷ past)) (sym stands.2) (event_most past stands.0 stands.1 (legal_most past legal.1))
+      legal_most : (past : List Row) → IsLegal plan base past → weight past ≤ all_held past
+      legal_most [] legal = omega (arith, weighs.none)
+      legal_most (r ∷ past) legal =
+          let stands : Stands plan base past r = legal.0 in
+          subst (λ (x : Row). weight (x ∷ past) ≤ all_held (x ∷ past)) (sym stands.2) (event_most past stands.0 stands.1 (legal_most past legal.1))
 
 -- each input counts once
-counts : (plan : Plan) (base : Base) → Weighs (λ a. 1) (λ line. 1) plan base input_count
-counts plan base = record {
+pub counts : (plan : Plan) → Weighs (λ a. 1) (λ line. 1) plan input_count
+counts plan = record {
   none = refl;
-  frame = λ past port stamp octets. omega arith;
-  long = λ past port stamp len. omega arith;
-  line = λ past stamp command. omega arith;
-  tick = λ past stamp. omega arith;
-  drain = λ past port count. omega arith;
-  ends = λ past who how. omega arith;
+  frame = λ base past rows port stamp octets. omega arith;
+  long = λ base past rows port stamp len. omega arith;
+  line = λ base past rows stamp command. omega arith;
+  tick = λ base past rows stamp. omega arith;
+  drain = λ base past rows port count. omega arith;
+  ends = λ base past rows who how. omega arith;
 }
 
 -- and keeps its octets
-keeps : (plan : Plan) (base : Base) → Weighs kept_of (λ line. length line.command) plan base held
-keeps plan base = record {
+pub keeps : (plan : Plan) → Weighs kept_of (λ line. length line.command) plan held
+keeps plan = record {
   none = refl;
-  frame = λ past port stamp octets. omega arith;
-  long = λ past port stamp len. omega arith;
-  line = λ past stamp command. omega arith;
-  tick = λ past stamp. omega arith;
-  drain = λ past port count. omega arith;
-  ends = λ past who how. omega arith;
+  frame = λ base past rows port stamp octets. omega arith;
+  long = λ base past rows port stamp len. omega arith;
+  line = λ base past rows stamp command. omega arith;
+  tick = λ base past rows stamp. omega arith;
+  drain = λ base past rows port count. omega arith;
+  ends = λ base past rows who how. omega arith;
 }
 
 as_counts : (lines : List Line) (all : List Arrival) (n : ℕ) → n ≤ sum_by (λ line. 1) lines + sum_by (λ a. 1) all → n ≤ given_count lines all
 as_counts lines all n low = omega (arith, low, sum_ones lines, sum_ones all)
 
-pub replay_given : (plan : Plan) (base : Base) (lines : Option control.Input) (inputs : List Input) (stops : Stops)
-    → (input_count (replayed plan base lines inputs stops) ≤ given_count (lines_of lines) (arrivals_of inputs)) × (held (replayed plan base lines inputs stops) ≤ given_octets (lines_of lines) (arrivals_of inputs))
-replay_given plan base lines inputs stops = (
-  as_counts (lines_of lines) (arrivals_of inputs) (input_count (replayed plan base lines inputs stops)) (replay_most (λ a. 1) (λ line. 1) plan base input_count (counts plan base) stops lines inputs),
-  replay_most kept_of (λ line. length line.command) plan base held (keeps plan base) stops lines inputs,
+pub replay_given : (plan : Plan) (lines : Option control.Input) (inputs : List Input) (stops : Stops) → let rows = joined (replayed plan lines inputs stops) in
+    (input_count rows ≤ given_count (lines_of lines) (arrivals_of inputs)) × (held rows ≤ given_octets (lines_of lines) (arrivals_of inputs))
+replay_given plan lines inputs stops = (
+  as_counts (lines_of lines) (arrivals_of inputs) (input_count (joined (replayed plan lines inputs stops))) (replay_most (λ a. 1) (λ line. 1) plan input_count (counts plan) stops lines inputs),
+  replay_most kept_of (λ line. length line.command) plan held (keeps plan) stops lines inputs,
 )
 
 pub legal_given : (plan : Plan) (base : Base) (past : List Row) → IsLegal plan base past
     → (input_count past ≤ given_count (entered_lines past) (all_arrived plan past)) × (held past ≤ given_octets (entered_lines past) (all_arrived plan past))
 legal_given plan base past legal = (
-  as_counts (entered_lines past) (all_arrived plan past) (input_count past) (legal_most (λ a. 1) (λ line. 1) plan base input_count (counts plan base) past legal),
-  legal_most kept_of (λ line. length line.command) plan base held (keeps plan base) past legal,
+  as_counts (entered_lines past) (all_arrived plan past) (input_count past) (legal_most (λ a. 1) (λ line. 1) plan input_count (counts plan) base past legal),
+  legal_most kept_of (λ line. length line.command) plan held (keeps plan) base past legal,
 )

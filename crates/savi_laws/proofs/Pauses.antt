@@ -1,12 +1,10 @@
--- Where no pass is paused no input is, and so the ticker and the outputs of a replay aren't.
-use Rattle.std.proofs.Common.{◌≡◌, Bool, false, if◌then◌else◌, List, [], ◌∷◌, refl, ap}
+-- Where no pass is paused no input is.
+use Rattle.std.proofs.Common.{◌≡◌, false, List, [], ◌∷◌, refl}
 use Rattle.std.proofs.lemmas.Bool.{and_right, or_parts, or_from}
 use Rattle.savi_kinds.specs.declared.entry.Act.{Act}
 use Rattle.savi_kinds.specs.declared.entry.Act.TheVariants as acts
-use Rattle.savi_kinds.specs.declared.entry.How.TheVariants as hows
 use Rattle.hist_store.specs.Rows.{Row}
 use Rattle.savi_history.specs.Endings.{is_input, is_paused_reason, is_paused_end, is_paused_input, has_paused_end, has_pause}
-use Rattle.savi_history.specs.Replay.{closing}
 
 act_pause : (act : Act) → is_paused_end act ≡ false → is_paused_input act ≡ false
 act_pause (acts.Frame port stamp at len) none = refl
@@ -21,6 +19,3 @@ no_pause [] none = refl
 no_pause (r ∷ past) none =
     let parts = or_parts (is_paused_end r.entry.act) (has_paused_end past) none in
     or_from (is_paused_input r.entry.act) (has_pause past) (act_pause r.entry.act parts.0) (no_pause past parts.1)
-
-pub closes_well : (past : List Row) → has_paused_end past ≡ false → is_paused_reason (closing past) ≡ false
-closes_well past none = ap (λ (b : Bool). is_paused_reason (if b then hows.Paused else hows.End)) (no_pause past none)

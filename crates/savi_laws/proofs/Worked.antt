@@ -33,10 +33,11 @@ use Rattle.savi_history.specs.Judged.{judged_of}
 use Rattle.savi_history.specs.ControlInputs.{entered_lines}
 use Rattle.savi_history.specs.Offers.{offers}
 use Rattle.savi_history.specs.Queues.{probes, lost}
-use Rattle.savi_history.specs.Replay.{replayed}
 use Rattle.savi_history.specs.Legal.{IsLegal}
 use Rattle.savi_history.specs.Events.{Frame, Tick, Drain}
 use Rattle.savi_history.proofs.Example.{port_one, port_two, packet, inputs, no_failure, plan as guarding}
+use Rattle.savi_segments.specs.Segments.{joined}
+use Rattle.savi_segments.specs.Replay.{replayed}
 use Rattle.savi_laws.specs.Rebuilt.{rows_by}
 use Rattle.savi_laws.specs.Addresses.{told_on, address_at, ComesToSource}
 use Rattle.savi_laws.specs.Raised.{held_after, HoldsAfter}
@@ -180,11 +181,11 @@ pub room_enough : Suffices plan (causes empty ticked) (held ticked)
 room_enough = record { entries = lit≤ tt; bytes = lit≤ tt }
 
 -- the replay of two captures has three inputs, for which its plan has room
-pub three_inputs : input_count (replayed guarding empty None inputs no_failure) ≡ 3
+pub three_inputs : input_count (joined (replayed guarding None inputs no_failure)) ≡ 3
 unfolding class_of nd_of named message_passes kind_of guard_of judged offers probes lost
 three_inputs = refl
 
-pub room_for_three : SufficesForReplay guarding (input_count (replayed guarding empty None inputs no_failure)) (held (replayed guarding empty None inputs no_failure))
+pub room_for_three : SufficesForReplay guarding (input_count (joined (replayed guarding None inputs no_failure))) (held (joined (replayed guarding None inputs no_failure)))
 unfolding class_of nd_of named message_passes kind_of guard_of judged offers probes lost
 room_for_three = record { entries = lit≤ tt; bytes = lit≤ tt }
 

@@ -1,6 +1,6 @@
 // The laws on what verdicts depend on. Each function does nothing: its contract is the law.
 
-ghost use Rattle.std.specs.Prelude.{◌≡◌, ◌<◌, ◌≤◌, ℕ, true, false, List, length, Option, Some, All};
+ghost use Rattle.std.specs.Prelude.{◌≡◌, ◌<◌, ◌≤◌, ℕ, true, false, List, [], ◌∷◌, length, Option, Some, All};
 ghost use Rattle.savi_kinds.specs.Arrivals.{Input};
 ghost use Rattle.savi_kinds.specs.ValidPlan.{IsValidPlan};
 ghost use Rattle.savi_kinds.specs.declared.plan.Plan.{Plan};
@@ -20,11 +20,13 @@ ghost use Rattle.savi_access.specs.Rules.{AccessRules, AccessBase};
 ghost use Rattle.savi_access.specs.Marks.{Mark};
 ghost use Rattle.savi_access.specs.Judged.{judged, followed};
 ghost use Rattle.savi_access.specs.Plans.{rules_of};
-ghost use Rattle.checkpoint.specs.Bases.{Base, access_of, empty};
+ghost use Rattle.checkpoint.specs.Bases.{Base, access_of};
 ghost use Rattle.savi_history.specs.ControlInputs.{entered_lines};
 ghost use Rattle.savi_history.specs.Endings.{has_paused_end};
 ghost use Rattle.savi_history.specs.Readable.{IsInput, IsControl};
-ghost use Rattle.savi_history.specs.Replay.{Stops, with_event, replayed};
+ghost use Rattle.savi_history.specs.Replay.{Stops, with_event};
+ghost use Rattle.savi_segments.specs.Replay.{replayed};
+ghost use Rattle.savi_segments.specs.Segments.{joined};
 ghost use Rattle.savi_history.specs.Events.{Event, Command, judged_of, the_vlan};
 ghost use Rattle.savi_history.specs.Legal.{IsLegal, IsOpen};
 ghost use Rattle.savi_history.specs.Limits.{IsWithinLimits, has_room};
@@ -137,26 +139,26 @@ pub fn a_frame_reads_its_own_vlan()
         → IsSameIn vlan (judged r base vlan port t past class) (judged r base vlan port t other class) }
 {}
 
-/// A replay comes to at most 34 entries and, for each frame, longer frame and line that went in, one more than the plan has
-/// ports: its own, and a drain of each port. With room for so many beside the 4,130 entries that stay free, and for the
-/// octets that came in beside those of the longest frame, no input is paused for want of room. No more goes in than its
-/// inputs have; so room for all that they have suffices.
+/// A replay is of one segment where the plan has room for 34 entries and, for each frame, longer frame and line that comes
+/// in, one more than it has ports (its own, and a drain of each port), beside the 4,130 entries that stay free, and for the
+/// octets that come in beside those of the longest frame (`room`). A replay of one segment comes to no more entries than
+/// that (`entries`). No more goes in than its inputs have (`given`); so room for all that they have suffices (`enough`).
 pub fn a_budget_suffices_for_a_replay()
-    ensures entries { (plan : Plan) (lines : Option control.Input) (inputs : List Input) (stops : Stops)
+    ensures entries { (plan : Plan) (lines : Option control.Input) (inputs : List Input) (stops : Stops) (past : List Row)
         → IsValidPlan plan → length inputs ≡ length plan.ports → IsControl lines → All IsInput inputs
-        → let past = replayed plan empty lines inputs stops in length past ≤ replay_entries plan (input_count past) }
+        → replayed plan lines inputs stops ≡ past ∷ [] → length past ≤ replay_entries plan (input_count past) }
     ensures room { (plan : Plan) (lines : Option control.Input) (inputs : List Input) (stops : Stops)
         → IsValidPlan plan → length inputs ≡ length plan.ports → IsControl lines → All IsInput inputs
-        → let past = replayed plan empty lines inputs stops in
-        SufficesForReplay plan (input_count past) (held past) → has_paused_end past ≡ false }
-    ensures given { (plan : Plan) (base : Base) (lines : Option control.Input) (inputs : List Input) (stops : Stops)
-        → let past = replayed plan base lines inputs stops in
-        (input_count past ≤ given_count (lines_of lines) (arrivals_of inputs))
-        × (held past ≤ given_octets (lines_of lines) (arrivals_of inputs)) }
+        → let rows = joined (replayed plan lines inputs stops) in
+        SufficesForReplay plan (input_count rows) (held rows) → length (replayed plan lines inputs stops) ≡ 1 }
+    ensures given { (plan : Plan) (lines : Option control.Input) (inputs : List Input) (stops : Stops)
+        → let rows = joined (replayed plan lines inputs stops) in
+        (input_count rows ≤ given_count (lines_of lines) (arrivals_of inputs))
+        × (held rows ≤ given_octets (lines_of lines) (arrivals_of inputs)) }
     ensures enough { (plan : Plan) (lines : Option control.Input) (inputs : List Input) (stops : Stops)
         → IsValidPlan plan → length inputs ≡ length plan.ports → IsControl lines → All IsInput inputs
         → SufficesForReplay plan (given_count (lines_of lines) (arrivals_of inputs)) (given_octets (lines_of lines) (arrivals_of inputs))
-        → has_paused_end (replayed plan empty lines inputs stops) ≡ false }
+        → length (replayed plan lines inputs stops) ≡ 1 }
 {}
 
 /// A legal history comes to at most 34 entries, and 256 for each frame, longer frame and line that came in, and for each

@@ -1,5 +1,6 @@
 -- First come, first served, over the joined rows of segments.
-use Rattle.std.proofs.Common.{◌≡◌, ◌≢◌, ℕ, ◌≤◌, ◌^◌, Bool, true, false, Option, Some, None, List, [], ◌∷◌, ◌++◌, All, refl, sym, ap, ◌∙◌, subst, arith, append_assoc}
+use Rattle.std.proofs.Common.{◌≡◌, ◌≢◌, ℕ, ◌≤◌, ◌^◌, Bool, true, false, Option, Some, None, List, [], ◌∷◌, ◌++◌, All, refl, sym, ap, ◌∙◌, subst, arith, append_assoc, max, min}
+use Rattle.std.proofs.lemmas.Bool.{false≢true}
 use Rattle.std.proofs.lemmas.List.Elements.{All-head, All-tail}
 use Rattle.hex.specs.Hex.{IsBytes}
 use Rattle.savi_kinds.specs.declared.plan.Plan.{Plan}
@@ -12,7 +13,7 @@ use Rattle.savi_kinds.specs.ValidPlan.{IsValidPlan}
 use Rattle.eth_frame.specs.declared.header.Eth.{Eth}
 use Rattle.v6_chain.specs.declared.packet.Ip.{Ip}
 use Rattle.frame_class.specs.declared.classes.Class.{Class}
-use Rattle.frame_class.specs.declared.classes.Class.TheVariants.{Ip6}
+use Rattle.frame_class.specs.declared.classes.Class.TheVariants.{Runt, Tagged, Other, BadIp, Ip6}
 use Rattle.frame_class.specs.declared.classes.Read.{Read}
 use Rattle.frame_class.specs.ClassOf.{class_of}
 use Rattle.fcfs_states.specs.Premises.{AreTimes}
@@ -39,12 +40,14 @@ use Rattle.savi_history.specs.Moments.{last_moment, moment_at}
 use Rattle.savi_history.specs.ShutPorts.{is_shut}
 use Rattle.savi_history.specs.Marks.{marks, judged_after}
 use Rattle.savi_history.specs.Judged.{verdict_of}
-use Rattle.savi_history.specs.Accesses.{IsTold}
-use Rattle.savi_history.specs.CameFirst.{IsLiveAtEnd, IsLostSince}
-use Rattle.savi_history.specs.Legal.{IsLegal}
+use Rattle.savi_history.specs.Accesses.{AllPassedRightly, IsTold}
+use Rattle.savi_history.specs.CameFirst.{IsFrom, IsLiveAtEnd, IsLostSince, PassedElsewhere}
+use Rattle.savi_history.specs.Events.{Event, Frame, Long, Command, Tick, Drain, End, row_of}
+use Rattle.savi_history.specs.Legal.{IsLegal, MayCome, Stands}
 use Rattle.savi_history.proofs.Starting.{empty_within}
-use Rattle.savi_history.proofs.Telling.{risen, told_rightly, next_told}
+use Rattle.savi_history.proofs.Telling.{is_frame, port_in, risen, told_rightly, next_told}
 use Rattle.savi_segments.specs.Segments.{base_after, joined, AreOctets, AreLegal}
+use Rattle.savi_segments.specs.FirstCome.{AllSegmentsPassedRightly, SegmentsKeepWhoCameFirst}
 use Rattle.savi_segments.specs.Steps.{Step, Enters, Turns, with_row, gone, rows_in, newest_rows, newest_base}
 use Rattle.savi_segments.proofs.Behind.{told_joined}
 use Rattle.savi_segments.proofs.MarksJoined.{turns, newest_whole, marks_joined}
@@ -246,3 +249,66 @@ module _ (limits : LeaveLimits) (plan : Plan) (valid : IsValidPlan plan) where
                 0 (last_moment empty (joined first)) (turns r start early (last_moment empty (joined first)) told_first.right told_first.last)
                 (turn_later (last_moment empty (joined first)) last t (told more.new) (omega arith) more.turn) p live apart passed_so;
           }
+
+  -- of segments that are legal those are from which they came by further steps
+  legal_front : (first : List (List Row)) (later between : List Step) → AreLegal plan (gone first (later ++ between)) → AreLegal plan (gone first between)
+  legal_front first [] between legal = legal
+  legal_front first (Turns ∷ later) between legal = legal_front first later between legal.2
+  legal_front first (Enters row ∷ later) between legal = legal_front first later between (fronted row (gone first (later ++ between)) legal).legal
+
+  -- the newest row is that of an event that might come there
+  newest_stands : (row : Row) (segments : List (List Row)) → AreLegal plan (with_row row segments) → Stands plan (newest_base plan segments) (newest_rows segments) row
+  newest_stands row [] legal = legal.0.0
+  newest_stands row (segment ∷ before) legal = legal.0.0
+
+  same_moment : (segments : List (List Row)) → AreLegal plan segments → (stamp : ℕ) → moment_at (newest_base plan segments) (newest_rows segments) stamp ≡ moment_at empty (joined segments) stamp
+  same_moment [] legal stamp = refl
+  same_moment (segment ∷ before) legal stamp =
+      ap (λ (base : Base). moment_at base segment stamp) (leave_same limits plan valid before legal.2)
+      ∙ ap (λ (m : ℕ). max m (min stamp (2 ^ 62))) (sym (last segment before legal))
+
+  module _ (first : List (List Row)) (between : List Step) (on : plan.savi ≡ true) (legal : AreLegal plan (gone first between)) where
+    abbrev now : List (List Row)
+    now = gone first between
+
+    -- a packet whose source is read is one of IPv6
+    source_read : (p q : Port) (stamp a : ℕ) (octets : List ℕ) → has_port plan (number_of q) ≡ true → role_of plan (number_of q) ≢ roles.Trusted → IsLiveAtEnd plan empty (joined first) a p → ¬ Same q p
+        → IsPass (Some (verdict_of plan (newest_base plan now) (newest_rows now) q stamp octets)) → (c : Class) → class_of octets ≡ c → IsFrom a c
+        → IsLostSince plan empty (joined first) (rows_in between) (moment_at (newest_base plan now) (newest_rows now) stamp) a p
+    source_read p q stamp a octets known host live apart passed (Ip6 eth ip read) is from =
+        subst (λ (t : ℕ). IsLostSince plan empty (joined first) (rows_in between) t a p) (sym (same_moment now legal stamp))
+        (subst (λ (n : ℕ). IsLostSince plan empty (joined first) (rows_in between) (moment_at empty (joined now) stamp) n p) from
+        (kept_first first between on legal p q stamp octets eth ip read known host is (subst (λ (n : ℕ). IsLiveAtEnd plan empty (joined first) n p) (sym from) live) apart passed))
+    source_read p q stamp a octets known host live apart passed Runt is from = absurd from
+    source_read p q stamp a octets known host live apart passed (Tagged eth) is from = absurd from
+    source_read p q stamp a octets known host live apart passed (Other eth) is from = absurd from
+    source_read p q stamp a octets known host live apart passed (BadIp eth) is from = absurd from
+
+    event_keeps : (event : Event) (a : ℕ) (port : Port) → MayCome plan (newest_base plan now) (newest_rows now) event → IsLiveAtEnd plan empty (joined first) a port
+        → PassedElsewhere plan (row_of plan (newest_base plan now) (newest_rows now) event) a port
+        → IsLostSince plan empty (joined first) (rows_in between) (row_of plan (newest_base plan now) (newest_rows now) event).entry.moment a port
+    event_keeps (Frame q stamp octets) a port may live passed =
+        let same : q ≡ passed.other = ap (port_in q) passed.frame.frame in
+        source_read port q stamp a octets may.0.open_pass.known (subst (λ (n : Port). role_of plan (number_of n) ≢ roles.Trusted) (sym same) passed.host) live
+        (subst (λ (n : Port). ¬ Same n port) (sym same) passed.apart) passed.passed (class_of octets) refl passed.source
+    event_keeps (Command stamp line) a port may live passed = absurd (false≢true (ap is_frame passed.frame.frame))
+    event_keeps (Long q stamp len) a port may live passed = absurd (false≢true (ap is_frame passed.frame.frame))
+    event_keeps (Tick stamp) a port may live passed = absurd (false≢true (ap is_frame passed.frame.frame))
+    event_keeps (Drain q count) a port may live passed = absurd (false≢true (ap is_frame passed.frame.frame))
+    event_keeps (End who how) a port may live passed = absurd (false≢true (ap is_frame passed.frame.frame))
+
+  -- each row of segments keeps who came first in any of them
+  pub all_keep : (segments : List (List Row)) → plan.savi ≡ true → AreLegal plan segments → SegmentsKeepWhoCameFirst plan segments
+  all_keep segments on legal first between later r a port split live passed =
+      let at : AreLegal plan (with_row r (gone first between)) = legal_front first later (Enters r ∷ between) (subst (AreLegal plan) split legal) in
+      let rest : AreLegal plan (gone first between) = (fronted r (gone first between) at).legal in
+      let stands = newest_stands r (gone first between) at in
+      subst (λ (x : Row). IsLostSince plan empty (joined first) (rows_in between) x.entry.moment a port) (sym stands.2)
+      (event_keeps first between on rest stands.0 a port stands.1 live (subst (λ (x : Row). PassedElsewhere plan x a port) stands.2 passed))
+
+  -- in each segment what passed had access
+  pub all_right : ((base : Base) (past : List Row) → IsWithinLimits plan base → IsLegal plan base past → AreOctets past → AllPassedRightly plan base past)
+      → (segments : List (List Row)) → AreLegal plan segments → AllSegmentsPassedRightly plan segments
+  all_right rightly [] legal = tt
+  all_right rightly (segment ∷ before) legal =
+      (rightly (base_after plan before) segment (segments_within limits plan valid before legal.2) legal.0 legal.1, all_right rightly before legal.2)

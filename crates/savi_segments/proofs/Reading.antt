@@ -34,7 +34,7 @@ use Rattle.savi_access.specs.Probes.{probes_between}
 use Rattle.savi_access.specs.Tables.{rows_after, rows_at}
 use Rattle.savi_access.specs.Rules.{AccessRules, AccessBase, IsAccessBase}
 use Rattle.savi_access.specs.Marks.{Mark, Told, told, named_for, open_requests, base_at}
-use Rattle.savi_access.specs.Judged.{Judged, judged}
+use Rattle.savi_access.specs.Judged.{Judged}
 use Rattle.savi_access.specs.Plans.{rules_of}
 use Rattle.savi_access.proofs.AllSends.{sends-late}
 use Rattle.savi_access.proofs.StatesKept.{base_times, base_tables}

@@ -2,3 +2,10 @@ pub mod Checkpoints
 pub mod Segments
 pub mod Readings
 pub mod Steps
+pub mod Unbroken
+pub mod Sent
+pub mod FirstCome
+pub mod Given
+pub mod Replay
+pub mod Journals
+pub mod Counted

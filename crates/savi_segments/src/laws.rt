@@ -1,6 +1,6 @@
 // The laws on histories in segments. Each function does nothing: its contract is the law.
 
-ghost use Rattle.std.specs.Prelude.{◌≡◌, ◌≢◌, ◌≤◌, ◌^◌, ℕ, true, Some, List, [], ◌∷◌, ◌++◌};
+ghost use Rattle.std.specs.Prelude.{◌≡◌, ◌≢◌, ◌≤◌, ◌^◌, ℕ, true, Some, List, [], ◌∷◌, ◌++◌, length};
 ghost use Rattle.savi_kinds.specs.ValidPlan.{IsValidPlan};
 ghost use Rattle.savi_kinds.specs.declared.plan.Plan.{Plan};
 ghost use Rattle.savi_kinds.specs.declared.plan.Role.TheVariants.{Trusted};
@@ -29,11 +29,15 @@ ghost use Rattle.savi_history.specs.Moments.{moment_at};
 ghost use Rattle.savi_history.specs.Passes.{has_port, role_of};
 ghost use Rattle.savi_segments.specs.Checkpoints.{after};
 ghost use Rattle.savi_segments.specs.Segments.{base_after, joined, AreOctets, AreLegal};
+ghost use Rattle.savi_history.specs.Shown.{counts_of};
+ghost use Rattle.savi_history.specs.Summary.{capped, summary_of};
+ghost use Rattle.savi_segments.specs.Counted.{summary_by};
+ghost use Rattle.savi_segments.specs.FirstCome.{AllSegmentsPassedRightly, SegmentsKeepWhoCameFirst};
 ghost use Rattle.savi_segments.specs.Readings.{ReadsAs};
 ghost use Rattle.savi_segments.specs.Steps.{Step, gone, rows_in, newest_rows, newest_base};
 
 use savi_access::states_and_requests_stay_a_base;
-use savi_history::histories_tell_rightly;
+use savi_history::{histories_tell_rightly, packets_pass_where_their_source_is_live};
 
 /// A legal history that goes on from what a legal one left reads as it does behind that one: the same is known and the same
 /// is judged.
@@ -66,9 +70,11 @@ pub fn segments_leave_what_their_rows_leave()
 /// First come, first served, over segments of a switch that validates sources. Where an address is live at a port after
 /// some segments, and after more rows and turns a frame with that source passes at another port of a host or a server, by
 /// the newest segment alone, the first port had lost the address since by one of three causes: by what all rows told, read
-/// from the start of the switch.
+/// from the start of the switch (`next`). So it is of each frame that the segments hold (`all`).
 pub fn segments_keep_who_came_first()
-    ensures { (plan : Plan) (first : List (List Row)) (steps : List Step) (p q : Port) (stamp : ℕ) (octets : List ℕ)
+    ensures all { (plan : Plan) (segments : List (List Row)) → IsValidPlan plan → plan.savi ≡ true → AreLegal plan segments
+        → SegmentsKeepWhoCameFirst plan segments }
+    ensures next { (plan : Plan) (first : List (List Row)) (steps : List Step) (p q : Port) (stamp : ℕ) (octets : List ℕ)
         (eth : Eth) (ip : Ip) (read : Read)
         → IsValidPlan plan → plan.savi ≡ true → AreLegal plan (gone first steps)
         → has_port plan (number_of q) ≡ true → role_of plan (number_of q) ≢ Trusted → class_of octets ≡ Ip6 eth ip read
@@ -78,6 +84,24 @@ pub fn segments_keep_who_came_first()
         ip.src.0 p }
 {
     histories_tell_rightly();
+}
+
+/// The counters of a switch sum its segments up: what is counted behind the newest one is what the joined rows come to, each
+/// count and each sum up to 2^64 - 1.
+pub fn counts_sum_segments_up()
+    ensures { (plan : Plan) (segment : List Row) (before : List (List Row)) → IsValidPlan plan → AreLegal plan (segment ∷ before)
+        → let rows = joined (segment ∷ before) in
+        summary_of rows ≡ summary_by (capped (length rows)) (counts_of (base_after plan before) segment) }
+{}
+
+/// In each segment of a switch that validates sources, an IPv6 frame at a port of a host or a server passed exactly where no
+/// rule on messages stopped it and its source was live there, or a named exception permitted it.
+pub fn segments_pass_where_their_source_is_live()
+    ensures { (plan : Plan) (segments : List (List Row)) → IsValidPlan plan → plan.savi ≡ true → AreLegal plan segments
+        → AllSegmentsPassedRightly plan segments }
+{
+    histories_tell_rightly();
+    packets_pass_where_their_source_is_live();
 }
 
 /// What may be told after what marks left at a moment may be told after these marks.

@@ -1,11 +1,11 @@
 -- What is left of a capture that was split, once all ends are kept again.
-use Rattle.std.proofs.Common.{◌≡◌, ◌≢◌, ℕ, ◌+◌, ◌<◌, ◌≤◌, List, [], ◌∷◌, ◌++◌, length, get_or, map, Option, Some, None, IfSome, IsSomeAnd, refl, sym, ap, subst, ◌∙◌, arith, true}
+use Rattle.std.proofs.Common.{◌≡◌, ◌≢◌, ℕ, ◌+◌, ◌<◌, List, [], ◌∷◌, ◌++◌, length, get_or, map, Option, Some, None, IfSome, IsSomeAnd, refl, sym, ap, subst, ◌∙◌, arith, true}
 use Rattle.std.proofs.lemmas.List.{get_or-map, length-map}
 use Rattle.std.proofs.lemmas.List.Elements.{All-map}
 use Rattle.std.specs.Prelude.{All}
 use Rattle.savi_kinds.specs.declared.entry.How.{How}
 use Rattle.savi_kinds.specs.declared.entry.How.TheVariants as how
-use Rattle.savi_ends.specs.Faults.{Rose}
+use Rattle.savi_ends.specs.Faults.{RoseOnce}
 use Rattle.savi_ends.specs.Octets.{Takes}
 use Rattle.savi_ends.specs.Places.{Place, Book, OthersStay, IsReady, IsOnlyOut}
 use Rattle.savi_ends.proofs.Ready.{opened_alone}
@@ -17,7 +17,6 @@ use Rattle.pcap_split.specs.Counts.{interfaces_of, tally_of}
 use Rattle.pcap_split.specs.Going.{EachOutput}
 use Rattle.pcap_split.specs.Splits.{Tally, split_text, no_tally, tally}
 use Rattle.pcap_split.specs.Wholes.{IsSplitWhole}
-use Rattle.pcap_split.proofs.Goings.{rose_since}
 use Rattle.split_run.specs.declared.outcome.Outcome.{Outcome}
 use Rattle.split_run.specs.declared.outcome.Outcome.TheVariants as outcome
 use Rattle.split_run.specs.Names.{output_name, name_in, AreNames}
@@ -81,7 +80,7 @@ fault_stands {S} faults place source stands fault = subst (λ (o : Option S). Is
 -- All ends are kept: the source, and each output that was held.
 module _ {S K C : Type 0} (left : S → Option (List ℕ)) (written : K → Option (List ℕ)) (source_faults : S → ℕ) (sink_faults : K → ℕ)
     (file : List ℕ) (names : List (List ℕ)) (are : AreNames file names) (source source' : S) (b0 b1 b2 b3 b4 : Book S K C) (held : List (Output K))
-    (told : IfSome (b0.inputs file).stands (λ told. source ≡ told)) (opened_later : b0.faults ≤ b1.faults) (opened : b1 ≡ record b0 { faults = b1.faults; inputs = b1.inputs })
+    (told : IfSome (b0.inputs file).stands (λ told. source ≡ told)) (opened_still : b1.faults ≡ b0.faults) (opened : b1 ≡ record b0 { faults = b1.faults; inputs = b1.inputs })
     (opened_others : OthersStay b0.inputs b1.inputs file)
     (source_kept : (b3.inputs file).stands ≡ Some source') (source_others : OthersStay b2.inputs b3.inputs file) (source_rest : b3 ≡ record b2 { inputs = b3.inputs })
     (kept : All (λ o. (b4.outputs (name_in names o.interface)).stands ≡ Some o.sink) held)
@@ -164,7 +163,7 @@ module _ {S K C : Type 0} (left : S → Option (List ℕ)) (written : K → Opti
     came (outcome.NoOutput interface) ends = (
       some_read ends.4,
       part None (interface ∷ []) ends.0,
-      subst (λ (n : ℕ). Rose b0.faults n) (sym faults_last) (rose_since b0.faults b1.faults b2.faults opened_later ends.1),
+      subst (λ (n : ℕ). RoseOnce b0.faults n) (sym faults_last) (subst (λ (n : ℕ). RoseOnce n b2.faults) opened_still ends.1),
       (captures (AddedSome written sink_faults None) ends.0.events ends.0.each).others (output_name file interface) (to_interfaces (λ k. output_name file k ≢ output_name file interface) split.handed
           (λ k d inside same. ends.3 k d inside (output_names_differ file (get_or split.handed k d).interface interface (split.within k d inside) ends.2 same))),
     )
@@ -173,6 +172,7 @@ module _ {S K C : Type 0} (left : S → Option (List ℕ)) (written : K → Opti
     pub split_ran : IsSplitRun left written source_faults sink_faults file b0 b4 result
     split_ran = record {
       came = came result split.ends;
+      still = λ opened. faults_last ∙ split.unfailed opened ∙ opened_still;
       inputs = λ other apart.
           ap (λ (p : List ℕ → Place S). p other) inputs_last ∙ source_others other apart ∙ ap (λ (p : List ℕ → Place S). p other) inputs_between ∙ opened_others other apart;
       rest = kept_rest

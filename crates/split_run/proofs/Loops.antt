@@ -3,7 +3,7 @@ use Rattle.std.proofs.Common.{◌≡◌, ◌≢◌, ℕ, ◌+◌, ◌-◌, ◌<�
 use Rattle.std.specs.Prelude.{All}
 use Rattle.std.proofs.lemmas.List.{get_or_at, drop_all, take_all}
 use Rattle.savi_kinds.specs.declared.entry.How.TheVariants as how
-use Rattle.savi_ends.specs.Faults.{Rose}
+use Rattle.savi_ends.specs.Faults.{Rose, RoseOnce}
 use Rattle.savi_ends.specs.Octets.{behind, Takes}
 use Rattle.savi_ends.specs.Places.{Book, OthersStay, IsReady}
 use Rattle.savi_ends.proofs.Octets.{takes_more}
@@ -26,7 +26,7 @@ use Rattle.pcap_split.proofs.Wholes.{split_start, split_opened, split_ended, int
 use Rattle.split_run.specs.declared.outcome.Outcome.{Outcome}
 use Rattle.split_run.specs.declared.outcome.Outcome.TheVariants as outcome
 use Rattle.split_run.specs.Names.{name_in, AreNamesApart}
-use Rattle.split_run.specs.Runs.{AddedSome}
+use Rattle.split_run.specs.Runs.{AddedSome, HasOpenedAll}
 use Rattle.split_run.specs.Steps.{AreOut, HaveOwnInterfaces, IsHeldMore, HasTried, SinksStay, EndsSplit, HasSplit}
 use Rattle.split_run.proofs.Rising.{Rises, IsNew, rises, own_interfaces, differ, low_interfaces, next_new}
 use Rattle.split_run.proofs.Outs.{names_away, out_none, next_ready, out_more, out_still}
@@ -52,6 +52,7 @@ pub record SplitSoFar {S K C : Type 0} (left : S → Option (List ℕ)) (written
   pub split : IsSplit written state counts handed held gave events
   pub stood : SinksStay sink_faults handed held
   pub out : AreOut name handed old new
+  pub unfailed : new.faults ≡ old.faults
 
 pub so_far_none : {S K C : Type 0} (left : S → Option (List ℕ)) (written : K → Option (List ℕ)) (source_faults : S → ℕ) (sink_faults : K → ℕ) (name : ℕ → List ℕ) (source : S) (book : Book S K C) (state : State) (counts : Counts) (held : List (Output K)) → state ≡ Reading at_start → counts ≡ no_counts → held ≡ []
     → SplitSoFar left written source_faults sink_faults name source source book book state counts held
@@ -64,6 +65,7 @@ so_far_none {S} {K} {C} left written source_faults sink_faults name source book 
   split = split_start written;
   stood = (refl, λ k d inside. absurd (omega (arith, inside)));
   out = out_none name book;
+  unfailed = refl;
 })
 
 rises_handed : {K : Type 0} (written : K → Option (List ℕ)) (state : State) (counts : Counts) (handed held : List (Output K)) (gave : List ℕ) (events : List Event) → IsSplit written state counts handed held gave events → Rises (interfaces_of handed) (tally no_tally events).interfaces
@@ -103,6 +105,7 @@ module _ {S K C : Type 0} (left : S → Option (List ℕ)) (written : K → Opti
           takes = takes_more so_far.gave more _ _ _ so_far.takes takes;
           handed = so_far.handed;
           out = so_far.out;
+          unfailed = λ opened. so_far.unfailed;
           own = own_interfaces held' _ (subst (λ (l : List ℕ). Rises l (tally no_tally so_far.events).interfaces) (sym same) (rises_held written state counts so_far.handed held so_far.gave so_far.events so_far.split));
           within = low_handed;
           same = stay;
@@ -168,10 +171,10 @@ module _ {S K C : Type 0} (left : S → Option (List ℕ)) (written : K → Opti
       pub begins_ready : (IsFresh : K → Type 0) → ((other : List ℕ) → IsReady IsFresh (old.outputs other)) → IsReady IsFresh (mid.outputs (name_in names interface))
       begins_ready IsFresh ready = next_ready (name_in names) so_far.handed interface old mid so_far.out away IsFresh ready
 
-      module _ (new : Book S K C) (held'' : List (Output K)) (others : OthersStay mid.outputs new.outputs (name_in names interface)) (world_later : mid.faults ≤ new.faults) (rest : new ≡ record mid { faults = new.faults; outputs = new.outputs }) where
+      module _ (new : Book S K C) (held'' : List (Output K)) (others : OthersStay mid.outputs new.outputs (name_in names interface)) (rest : new ≡ record mid { faults = new.faults; outputs = new.outputs }) where
         -- its output was opened and begun
-        pub goes_on : HasTried written sink_faults interface mid.faults new.faults (mid.outputs (name_in names interface)) (new.outputs (name_in names interface)) held' held'' None → SplitSoFar left written source_faults sink_faults (name_in names) source0 source2 old new state' counts' held''
-        goes_on tried =
+        pub goes_on : HasTried written sink_faults interface mid.faults new.faults (mid.outputs (name_in names interface)) (new.outputs (name_in names interface)) held' held'' None → new.faults ≡ mid.faults → SplitSoFar left written source_faults sink_faults (name_in names) source0 source2 old new state' counts' held''
+        goes_on tried world_still =
             let sink = tried.0 in
             let begun_sink = tried.1 in
             record {
@@ -183,7 +186,8 @@ module _ {S K C : Type 0} (left : S → Option (List ℕ)) (written : K → Opti
               split = subst (λ (l : List (Output K)). IsSplit written state' counts' (so_far.handed ++ record { interface = interface; sink = sink } ∷ []) l (so_far.gave ++ more) (so_far.events ++ later)) (sym tried.3)
                   (split_opened written sink_faults interface state state' counts counts' so_far.handed held held' so_far.gave more (left source2) so_far.events later sink begun_sink so_far.split call tried.4.0);
               stood = subst (λ (l : List (Output K)). SinksStay sink_faults (so_far.handed ++ record { interface = interface; sink = sink } ∷ []) l) (sym tried.3) (stands_too sink begun_sink tried.4.1);
-              out = out_more (name_in names) so_far.handed interface old mid so_far.out away new others world_later rest sink tried.2;
+              out = out_more (name_in names) so_far.handed interface old mid so_far.out away new others rest sink tried.2;
+              unfailed = world_still ∙ so_far.unfailed;
             }
           where
             stands_too : (sink begun : K) → sink_faults begun ≡ sink_faults sink → SinksStay sink_faults (so_far.handed ++ record { interface = interface; sink = sink } ∷ []) (held' ++ record { interface = interface; sink = begun } ∷ [])
@@ -196,24 +200,25 @@ module _ {S K C : Type 0} (left : S → Option (List ℕ)) (written : K → Opti
         own_held = own_interfaces held' _ (subst (λ (l : List ℕ). Rises l (tally no_tally so_far.events).interfaces) (sym stay) (rises_held written state counts so_far.handed held so_far.gave so_far.events so_far.split))
 
         -- it couldn't be opened, or not be begun
-        pub stops : (result : Outcome) → HasTried written sink_faults interface mid.faults new.faults (mid.outputs (name_in names interface)) (new.outputs (name_in names interface)) held' held'' (Some result) → HasSplit left written source_faults sink_faults (name_in names) source0 source2 old new held'' result
-        stops (outcome.NoOutput k) tried = rw (tried.0, tried.3) (record {
+        pub stops : (result : Outcome) → HasTried written sink_faults interface mid.faults new.faults (mid.outputs (name_in names interface)) (new.outputs (name_in names interface)) held' held'' (Some result) → (HasOpenedAll result → new.faults ≡ mid.faults) → HasSplit left written source_faults sink_faults (name_in names) source0 source2 old new held'' result
+        stops (outcome.NoOutput k) tried world_still = rw (tried.0, tried.3) (record {
           gave = so_far.gave ++ more;
           takes = takes_more so_far.gave more _ _ _ so_far.takes takes;
           handed = so_far.handed;
-          out = out_still (name_in names) so_far.handed interface old mid so_far.out away new others world_later rest tried.2;
+          out = out_still (name_in names) so_far.handed interface old mid so_far.out away new others rest tried.2;
+          unfailed = λ opened. absurd opened;
           own = own_held;
           within = low_handed;
           same = stay ∙ same_handed written state counts so_far.handed held so_far.gave so_far.events so_far.split;
           ends = (
             part_unopened written sink_faults state state' counts counts' so_far.handed held held' so_far.gave more so_far.events later so_far.split so_far.stood interface read each counted,
-            rose_since old.faults mid.faults new.faults so_far.out.later tried.1,
+            subst (λ (n : ℕ). RoseOnce n new.faults) so_far.unfailed tried.1,
             new_here.low,
             new_here.apart,
             still ∙ so_far.still,
           );
         })
-        stops (outcome.Unwritten k) tried = unbegun k tried.0 tried.1
+        stops (outcome.Unwritten k) tried world_still = unbegun k tried.0 tried.1
           where
             unbegun : (k : ℕ) → k ≡ interface → IsHeldMore (λ sink begun. AddedSome written sink_faults (Some interface) interface header_text sink begun × Rose (sink_faults sink) (sink_faults begun)) interface (mid.outputs (name_in names interface)) (new.outputs (name_in names interface)) held' held'' → HasSplit left written source_faults sink_faults (name_in names) source0 source2 old new held'' (outcome.Unwritten k)
             unbegun k is more_held =
@@ -230,7 +235,8 @@ module _ {S K C : Type 0} (left : S → Option (List ℕ)) (written : K → Opti
                   gave = so_far.gave ++ more;
                   takes = takes_more so_far.gave more _ _ _ so_far.takes takes;
                   handed = all;
-                  out = out_more (name_in names) so_far.handed interface old mid so_far.out away new others world_later rest sink more_held.2;
+                  out = out_more (name_in names) so_far.handed interface old mid so_far.out away new others rest sink more_held.2;
+                  unfailed = λ opened. world_still opened ∙ so_far.unfailed;
                   own = own_interfaces (held' ++ n ∷ []) _ (subst (λ (l : List ℕ). Rises l (tally no_tally (so_far.events ++ later)).interfaces) (sym same_held) rising);
                   within = low_interfaces all _ (subst (λ (l : List ℕ). Rises l (tally no_tally (so_far.events ++ later)).interfaces) (sym same_all) rising);
                   same = same_held ∙ sym same_all;
@@ -244,10 +250,10 @@ module _ {S K C : Type 0} (left : S → Option (List ℕ)) (written : K → Opti
               where
                 last_at : (outputs : List (Output K)) (n d : Output K) → get_or (outputs ++ n ∷ []) (length outputs) d ≡ n
                 last_at outputs n d = get_or_at outputs n [] d (length outputs) refl
-        stops (outcome.Split counted_so) tried = absurd tried
-        stops (outcome.Malformed at counted_so) tried = absurd tried
-        stops outcome.Unread tried = absurd tried
-        stops outcome.NoInput tried = absurd tried
+        stops (outcome.Split counted_so) tried world_still = absurd tried
+        stops (outcome.Malformed at counted_so) tried world_still = absurd tried
+        stops outcome.Unread tried world_still = absurd tried
+        stops outcome.NoInput tried world_still = absurd tried
 
 -- what a slice of all elements was written back as
 pub slice_back : {X : Type 0} (n : ℕ) (written items : List X) → length written ≡ length items → length items ≡ n → take n (written ++ drop (length written) items) ≡ written
@@ -302,20 +308,20 @@ module _ {S K C : Type 0} (left : S → Option (List ℕ)) (written : K → Opti
       pub opens_ready : (IsFresh : K → Type 0) → ((other : List ℕ) → IsReady IsFresh (old.outputs other)) → IsReady IsFresh (mid.outputs (name_in names interface))
       opens_ready = begins_ready left written source_faults sink_faults names count apart source0 source1 source2 old mid state state' counts counts' slice outs so_slice call.0 call.1 call.2 still interface call.3 call.4 call.5 call.6
 
-      module _ (new : Book S K C) (held : List (Output K)) (others : OthersStay mid.outputs new.outputs (name_in names interface)) (world_later : mid.faults ≤ new.faults) (rest : new ≡ record mid { faults = new.faults; outputs = new.outputs }) where
+      module _ (new : Book S K C) (held : List (Output K)) (others : OthersStay mid.outputs new.outputs (name_in names interface)) (rest : new ≡ record mid { faults = new.faults; outputs = new.outputs }) where
         abbrev Tried : Option Outcome → Type 0
         Tried result = HasTried written sink_faults interface mid.faults new.faults (mid.outputs (name_in names interface)) (new.outputs (name_in names interface)) (take n (outs ++ drop (length outs) items)) held result
 
         tried_outs : (result : Option Outcome) → Tried result → HasTried written sink_faults interface mid.faults new.faults (mid.outputs (name_in names interface)) (new.outputs (name_in names interface)) outs held result
         tried_outs result tried = subst (λ (l : List (Output K)). HasTried written sink_faults interface mid.faults new.faults (mid.outputs (name_in names interface)) (new.outputs (name_in names interface)) l held result) (back call.5.0) tried
 
-        pub opens_on : Tried None → SplitSoFar left written source_faults sink_faults (name_in names) source0 source2 old new state' counts' held
-        opens_on tried = goes_on left written source_faults sink_faults names count apart source0 source1 source2 old mid state state' counts counts' slice outs so_slice call.0 call.1 call.2 still interface call.3 call.4 call.5 call.6 new held others world_later rest (tried_outs None tried)
+        pub opens_on : Tried None → new.faults ≡ mid.faults → SplitSoFar left written source_faults sink_faults (name_in names) source0 source2 old new state' counts' held
+        opens_on tried world_still = goes_on left written source_faults sink_faults names count apart source0 source1 source2 old mid state state' counts counts' slice outs so_slice call.0 call.1 call.2 still interface call.3 call.4 call.5 call.6 new held others rest (tried_outs None tried) world_still
 
         pub opens_more : Tried None → length held ≡ n + 1
         opens_more tried =
-            let more = held_more left written source_faults sink_faults names count apart source0 source1 source2 old mid state state' counts counts' slice outs so_slice call.0 call.1 call.2 still interface call.3 call.4 call.5 call.6 new held others world_later rest (tried_outs None tried) in
+            let more = held_more left written source_faults sink_faults names count apart source0 source1 source2 old mid state state' counts counts' slice outs so_slice call.0 call.1 call.2 still interface call.3 call.4 call.5 call.6 new held others rest (tried_outs None tried) in
             omega (arith, more, ap length is, size)
 
-        pub opens_stop : (result : Outcome) → Tried (Some result) → HasSplit left written source_faults sink_faults (name_in names) source0 source2 old new held result
-        opens_stop result tried = stops left written source_faults sink_faults names count apart source0 source1 source2 old mid state state' counts counts' slice outs so_slice call.0 call.1 call.2 still interface call.3 call.4 call.5 call.6 new held others world_later rest result (tried_outs (Some result) tried)
+        pub opens_stop : (result : Outcome) → Tried (Some result) → (HasOpenedAll result → new.faults ≡ mid.faults) → HasSplit left written source_faults sink_faults (name_in names) source0 source2 old new held result
+        opens_stop result tried world_still = stops left written source_faults sink_faults names count apart source0 source1 source2 old mid state state' counts counts' slice outs so_slice call.0 call.1 call.2 still interface call.3 call.4 call.5 call.6 new held others rest result (tried_outs (Some result) tried) world_still

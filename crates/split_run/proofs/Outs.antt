@@ -1,5 +1,5 @@
 -- One output after another is handed out of its place.
-use Rattle.std.proofs.Common.{◌≡◌, ◌≢◌, ℕ, ◌+◌, ◌<◌, ◌≤◌, true, false, List, [], ◌∷◌, ◌++◌, length, get_or, IfSome, refl, sym, ap, subst, ◌∙◌, arith, inl, inr, ◌⊎◌, length-append}
+use Rattle.std.proofs.Common.{◌≡◌, ◌≢◌, ℕ, ◌+◌, ◌<◌, true, false, List, [], ◌∷◌, ◌++◌, length, get_or, IfSome, refl, sym, ap, subst, ◌∙◌, arith, inl, inr, ◌⊎◌, length-append}
 use Rattle.std.proofs.lemmas.Bool.{cases_Bool}
 use Rattle.std.proofs.lemmas.List.{get_or_append_left, get_or_at}
 use Rattle.std.proofs.lemmas.List.Elements.{All-push}
@@ -35,7 +35,6 @@ pub out_none : {S K C : Type 0} (name : ℕ → List ℕ) (book : Book S K C) �
 out_none {S} {K} {C} name book = record {
   each = λ k d inside. absurd (omega (arith, inside));
   others = λ other off. refl;
-  later = omega arith;
   rest = refl;
 }
 
@@ -48,7 +47,7 @@ module _ {S K C : Type 0} (name : ℕ → List ℕ) (handed : List (Output K)) (
   pub next_ready : (IsFresh : K → Type 0) → ((other : List ℕ) → IsReady IsFresh (old.outputs other)) → IsReady IsFresh (mid.outputs (name interface))
   next_ready IsFresh ready = subst (λ (p : Place K). IsReady IsFresh p) (sym next_place) (ready (name interface))
 
-  module _ (new : Book S K C) (stay : OthersStay mid.outputs new.outputs (name interface)) (later : mid.faults ≤ new.faults) (rest : new ≡ record mid { faults = new.faults; outputs = new.outputs }) where
+  module _ (new : Book S K C) (stay : OthersStay mid.outputs new.outputs (name interface)) (rest : new ≡ record mid { faults = new.faults; outputs = new.outputs }) where
     still_out : All (λ o. IsOut (old.outputs (name o.interface)) (new.outputs (name o.interface)) o.sink) handed
     still_out k d inside =
         let o = get_or handed k d in
@@ -67,7 +66,6 @@ module _ {S K C : Type 0} (name : ℕ → List ℕ) (handed : List (Output K)) (
           others = λ other off.
               stay other (λ same. all_last (λ (q : Output K). name q.interface ≢ other) handed o off (sym same))
               ∙ so_far.others other (all_front (λ (q : Output K). name q.interface ≢ other) handed o off);
-          later = omega (arith, so_far.later, later);
           rest = rest_too;
         }
 
@@ -76,7 +74,6 @@ module _ {S K C : Type 0} (name : ℕ → List ℕ) (handed : List (Output K)) (
     out_still same = record {
       each = still_out;
       others = λ other off. by other (cases_name other (name interface)) ∙ so_far.others other off;
-      later = omega (arith, so_far.later, later);
       rest = rest_too;
     }
       where

@@ -2,7 +2,7 @@
 use Rattle.std.specs.Prelude.{◌≡◌, ◌≢◌, ◌+◌, ◌<◌, ◌≤◌, ℕ, List, ◌∷◌, [], ◌++◌, length, Option, Some, None, IfSome, IsSomeAnd, All}
 use Rattle.savi_kinds.specs.declared.entry.How.{How}
 use Rattle.savi_kinds.specs.declared.entry.How.TheVariants as how
-use Rattle.savi_ends.specs.Faults.{Rose}
+use Rattle.savi_ends.specs.Faults.{Rose, RoseOnce}
 use Rattle.savi_ends.specs.Octets.{behind, IsFront, Takes}
 use Rattle.savi_ends.specs.Places.{Place, Book, OthersStay}
 use Rattle.pcapng_io.specs.Runs.{Event, Input, Arrive, at_start}
@@ -89,6 +89,15 @@ IsNamed (outcome.Unwritten interface) = interface < 16
 IsNamed (outcome.NoOutput interface) = interface < 16
 IsNamed outcome.NoInput = Unit {0}
 
+-- all that was to be opened was
+abbrev pub HasOpenedAll : Outcome → Type 0
+HasOpenedAll (outcome.Split counts) = Unit {0}
+HasOpenedAll (outcome.Malformed at counts) = Unit {0}
+HasOpenedAll outcome.Unread = Unit {0}
+HasOpenedAll (outcome.Unwritten interface) = Unit {0}
+HasOpenedAll (outcome.NoOutput interface) = ⊥
+HasOpenedAll outcome.NoInput = ⊥
+
 -- what came of a capture, and why: its source was handed out and is kept again
 abbrev pub CameTo : {S K C : Type 0} → (S → Option (List ℕ)) → (K → Option (List ℕ)) → (S → ℕ) → (K → ℕ) → List ℕ → Book S K C → Book S K C → Outcome → Type 0
 CameTo left written source_faults sink_faults file old new (outcome.Split counts) =
@@ -103,12 +112,14 @@ CameTo left written source_faults sink_faults file old new (outcome.Unwritten in
     × IsFaulty sink_faults (new.outputs (output_name file interface))
 CameTo left written source_faults sink_faults file old new (outcome.NoOutput interface) =
     Keeps (GaveUnbroken left source_faults) (old.inputs file) (new.inputs file) × IsSplitInPart left written sink_faults None (interface ∷ []) file (old.inputs file) old.outputs new.outputs
-    × Rose old.faults new.faults × (new.outputs (output_name file interface) ≡ old.outputs (output_name file interface))
+    × RoseOnce old.faults new.faults × (new.outputs (output_name file interface) ≡ old.outputs (output_name file interface))
 CameTo left written source_faults sink_faults file old new outcome.NoInput =
-    Rose old.faults new.faults × (new.inputs file ≡ old.inputs file) × (new.outputs ≡ old.outputs)
+    RoseOnce old.faults new.faults × (new.inputs file ≡ old.inputs file) × (new.outputs ≡ old.outputs)
 
--- A run that splits the capture of this name came to this. No other input was touched, nor anything but inputs and outputs.
+-- A run that splits the capture of this name came to this, and where all was opened, no opening failed meanwhile. No other
+-- input was touched, nor anything but inputs and outputs.
 pub record IsSplitRun {S K C : Type 0} (left : S → Option (List ℕ)) (written : K → Option (List ℕ)) (source_faults : S → ℕ) (sink_faults : K → ℕ) (file : List ℕ) (old new : Book S K C) (result : Outcome) : Type 0 where
   pub came : CameTo left written source_faults sink_faults file old new result
+  pub still : HasOpenedAll result → new.faults ≡ old.faults
   pub inputs : OthersStay old.inputs new.inputs file
   pub rest : new ≡ record old { faults = new.faults; inputs = new.inputs; outputs = new.outputs }

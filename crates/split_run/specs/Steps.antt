@@ -1,7 +1,7 @@
 -- Words of private contracts: what is held while a capture is split.
-use Rattle.std.specs.Prelude.{◌≡◌, ◌≢◌, ◌<◌, ◌≤◌, ℕ, true, List, [], ◌∷◌, ◌++◌, slice_index_or, Option, Some, None, IfSome, All, AllPairs}
+use Rattle.std.specs.Prelude.{◌≡◌, ◌≢◌, ◌<◌, ℕ, true, List, [], ◌∷◌, ◌++◌, slice_index_or, Option, Some, None, IfSome, All, AllPairs}
 use Rattle.savi_kinds.specs.declared.entry.How.TheVariants as how
-use Rattle.savi_ends.specs.Faults.{Rose}
+use Rattle.savi_ends.specs.Faults.{Rose, RoseOnce}
 use Rattle.savi_ends.specs.Octets.{Takes}
 use Rattle.savi_ends.specs.Places.{Place, Book}
 use Rattle.pcap_io.specs.Captures.{header_text}
@@ -14,7 +14,7 @@ use Rattle.pcap_split.specs.Splits.{split_text, no_tally, tally}
 use Rattle.pcap_split.specs.Wholes.{IsSplitWhole}
 use Rattle.split_run.specs.declared.outcome.Outcome.{Outcome}
 use Rattle.split_run.specs.declared.outcome.Outcome.TheVariants as outcome
-use Rattle.split_run.specs.Runs.{TellsFirst, AddedAll, AddedSome}
+use Rattle.split_run.specs.Runs.{TellsFirst, AddedAll, AddedSome, HasOpenedAll}
 
 -- no two of these outputs are of one interface
 abbrev pub HaveOwnInterfaces : {K : Type 0} → List (Output K) → Type 0
@@ -36,7 +36,7 @@ HasTried written faults interface before after old new held held' None = IsHeldM
 HasTried written faults interface before after old new held held' (Some (outcome.Unwritten k)) =
     (k ≡ interface) × IsHeldMore (λ sink begun. AddedSome written faults (Some interface) interface header_text sink begun × Rose (faults sink) (faults begun)) interface old new held held'
 HasTried written faults interface before after old new held held' (Some (outcome.NoOutput k)) =
-    (k ≡ interface) × Rose before after × (new ≡ old) × (held' ≡ held)
+    (k ≡ interface) × RoseOnce before after × (new ≡ old) × (held' ≡ held)
 HasTried written faults interface before after old new held held' (Some (outcome.Split counts)) = ⊥
 HasTried written faults interface before after old new held held' (Some (outcome.Malformed at counts)) = ⊥
 HasTried written faults interface before after old new held held' (Some outcome.Unread) = ⊥
@@ -46,7 +46,6 @@ HasTried written faults interface before after old new held held' (Some outcome.
 pub record AreOut {S K C : Type 0} (name : ℕ → List ℕ) (handed : List (Output K)) (old new : Book S K C) : Type 0 where
   pub each : All (λ o. IsOut (old.outputs (name o.interface)) (new.outputs (name o.interface)) o.sink) handed
   pub others : (other : List ℕ) → All (λ o. name o.interface ≢ other) handed → new.outputs other ≡ old.outputs other
-  pub later : old.faults ≤ new.faults
   pub rest : new ≡ record old { faults = new.faults; outputs = new.outputs }
 
 -- what an output took, by what its sink was when it was handed out
@@ -81,7 +80,7 @@ EndsSplit written faults world world' source source' handed held gave left outco
 EndsSplit written faults world world' source source' handed held gave left (outcome.Unwritten interface) =
     IsSplitPart written faults (Some interface) [] handed held gave × (interface < 16) × HasSinkFault faults interface held × (source' ≡ source)
 EndsSplit written faults world world' source source' handed held gave left (outcome.NoOutput interface) =
-    IsSplitPart written faults None (interface ∷ []) handed held gave × Rose world world' × (interface < 16) × All (λ o. o.interface ≢ interface) handed × (source' ≡ source)
+    IsSplitPart written faults None (interface ∷ []) handed held gave × RoseOnce world world' × (interface < 16) × All (λ o. o.interface ≢ interface) handed × (source' ≡ source)
 EndsSplit written faults world world' source source' handed held gave left outcome.NoInput = ⊥
 
 -- What a source had left was split, the outputs are held, and it came to this.
@@ -90,6 +89,7 @@ pub record HasSplit {S K C : Type 0} (left : S → Option (List ℕ)) (written :
   pub takes : Takes (left source) (left source') gave
   pub handed : List (Output K)
   pub out : AreOut name handed old new
+  pub unfailed : HasOpenedAll result → new.faults ≡ old.faults
   pub own : HaveOwnInterfaces held
   pub within : All (λ o. o.interface < 16) handed
   pub same : interfaces_of held ≡ interfaces_of handed

@@ -1,8 +1,9 @@
 //! The opening of an output.
 
-ghost use Rattle.std.specs.Prelude.{◌≡◌, ◌≤◌, ◌<◌, ◌++◌, ◌∷◌, length, slice_index_or, [], vec_len, vec_capacity};
+ghost use Rattle.std.specs.Prelude.{◌≡◌, ◌≤◌, ◌<◌, ◌++◌, ◌∷◌, IfNone, IfSome, length, slice_index_or, [], vec_len, vec_capacity};
 ghost use Rattle.savi_ends.specs.Places.{IsReady, OthersStay};
 ghost use Rattle.split_run.specs.Names.{name_in};
+ghost use Rattle.split_run.specs.Runs.{HasOpenedAll};
 ghost use Rattle.split_run.specs.Steps.{HasTried};
 
 use crate::outcome::Outcome;
@@ -11,8 +12,8 @@ use pcap_split::Output;
 use savi_ends::{Put, World};
 use savi_kinds::Text;
 
-/// Opens the output of this interface, begins its capture, and holds it behind the others. The answer is what came of the
-/// whole, where that fails.
+/// Opens the output of this interface, once, begins its capture, and holds it behind the others. The answer is what came of
+/// the whole, where that fails.
 pub(crate) fn begin_output<W: World>(
     names: &[Text],
     interface: u32,
@@ -24,7 +25,8 @@ pub(crate) fn begin_output<W: World>(
     requires ready { IsReady (λ k. W.K.faults k ≡ 0) ((W.book world.old).outputs (name_in names.now interface)) }
     ensures tried { HasTried W.K.written W.K.faults interface (W.book world.old).faults (W.book world.new).faults ((W.book world.old).outputs (name_in names.now interface)) ((W.book world.new).outputs (name_in names.now interface)) held.old.items held.new.items result }
     ensures capacity { vec_capacity held.old ≤ vec_capacity held.new }
-    ensures later { (W.book world.old).faults ≤ (W.book world.new).faults }
+    ensures still { IfNone result ((W.book world.new).faults ≡ (W.book world.old).faults) }
+    ensures still_unwritten { IfSome result (λ outcome. HasOpenedAll outcome → (W.book world.new).faults ≡ (W.book world.old).faults) }
     ensures others { OthersStay (W.book world.old).outputs (W.book world.new).outputs (name_in names.now interface) }
     ensures rest { W.book world.new ≡ record (W.book world.old) { faults = (W.book world.new).faults; outputs = (W.book world.new).outputs } }
 {

@@ -1,5 +1,5 @@
 -- One port after another is opened, its ends behind those of the others.
-use Rattle.std.proofs.Common.{subst, ◌≡◌, inl, inr, ℕ, ◌+◌, ◌<◌, ◌≤◌, List, [], ◌∷◌, ◌++◌, length, get_or, refl, ◌∙◌, sym, ap, arith, true, length-append, slice_index}
+use Rattle.std.proofs.Common.{subst, ◌≡◌, inl, inr, ℕ, ◌+◌, ◌<◌, List, [], ◌∷◌, ◌++◌, length, get_or, refl, ◌∙◌, sym, ap, arith, true, length-append, slice_index}
 use Rattle.std.proofs.lemmas.Bool.{cases_eq}
 use Rattle.std.proofs.lemmas.List.{get_or-map, get_or_at, get_or_append_left, length-map}
 use Rattle.std.proofs.lemmas.List.Kept.{AllPairs-from_increasing}
@@ -30,7 +30,7 @@ pub record LiveOpens {S K C : Type 0} (IsFresh : Ends S K C → Type 0) (plans :
   pub size : length held ≡ index
   pub opened : AreOpened IsFresh (numbers_of plans) (named_by plans old.ports) (named_by plans new.ports) held
   pub others : OthersSame (numbers_of plans) index old.ports new.ports
-  pub later : old.faults ≤ new.faults
+  pub still : new.faults ≡ old.faults
   pub rest : new ≡ record old { faults = new.faults; ports = new.ports }
 
 pub live_opens_none : {S K C : Type 0} (IsFresh : Ends S K C → Type 0) (plans : List PortPlan) (held : List (Ends S K C)) (book : Book S K C) → held ≡ [] → LiveOpens IsFresh plans 0 held book book
@@ -38,7 +38,7 @@ live_opens_none {S} {K} {C} IsFresh plans held book none = rw none (record {
   size = refl;
   opened = λ k d inside. absurd (omega arith);
   others = λ key off. refl;
-  later = omega arith;
+  still = refl;
   rest = refl;
 })
 
@@ -66,10 +66,10 @@ live_ready {S} {K} {C} IsFresh plans i plan held old new rising inside is so_far
 pub live_open_step : {S K C : Type 0} (IsFresh : Ends S K C → Type 0) (plans : List PortPlan) (i : ℕ) (plan : PortPlan) (held held' : List (Ends S K C)) (ends : Ends S K C) (old mid new : Book S K C)
     → IsStrictlyIncreasing (numbers_of plans) → i < length plans → plan ≡ get_or plans i plan → LiveOpens IsFresh plans i held old mid
     → held' ≡ held ++ ends ∷ []
-    → mid.faults ≤ new.faults → (new.ports (port_key plan)).is_out ≡ true → IfSome (mid.ports (port_key plan)).stands (λ t. ends ≡ t) → IsFresh ends
+    → new.faults ≡ mid.faults → (new.ports (port_key plan)).is_out ≡ true → IfSome (mid.ports (port_key plan)).stands (λ t. ends ≡ t) → IsFresh ends
     → OtherPortsStay mid.ports new.ports (number_of plan.number) → new ≡ record mid { faults = new.faults; ports = new.ports }
     → LiveOpens IsFresh plans (i + 1) held' old new
-live_open_step {S} {K} {C} IsFresh plans i plan held held' ends old mid new rising inside is so_far pushed later out told fresh stay rest =
+live_open_step {S} {K} {C} IsFresh plans i plan held held' ends old mid new rising inside is so_far pushed still out told fresh stay rest =
     let n = number_of plan.number in
     let numbers = numbers_of plans in
     let here : slice_index numbers i ≡ n = number_here plans i plan inside is in
@@ -84,7 +84,7 @@ live_open_step {S} {K} {C} IsFresh plans i plan held held' ends old mid new risi
           (λ k d below. subst (λ (x : Place (Ends S K C)). IsOpened IsFresh (named_by plans old.ports (slice_index numbers k)) x (get_or held k d)) (sym (stay (key_among plans (slice_index numbers k)) (λ equal. off k (omega (arith, size, below)) (sym (key_number plans (slice_index numbers k)) ∙ equal)))) (so_far.opened k d below))
           (subst (λ (m : ℕ). IsOpened IsFresh (named_by plans old.ports m) (named_by plans new.ports m) ends) (sym at) last);
       others = λ key away. stay key (λ same. away i (omega arith) (here ∙ sym same)) ∙ so_far.others key (λ k below. away k (omega (arith, below)));
-      later = omega (arith, so_far.later, later);
+      still = still ∙ so_far.still;
       rest = rest ∙ ap (λ (b : Book S K C). record b { faults = new.faults; ports = new.ports }) so_far.rest;
     })
 

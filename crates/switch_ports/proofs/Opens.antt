@@ -1,5 +1,5 @@
 -- One port after another is opened.
-use Rattle.std.proofs.Common.{suc, add-one, subst, ◌≡◌, ◌≢◌, ℕ, ◌+◌, ◌<◌, ◌≤◌, List, [], ◌∷◌, ◌++◌, length, get_or, take, drop, refl, ◌∙◌, sym, ap, arith, true}
+use Rattle.std.proofs.Common.{suc, add-one, subst, ◌≡◌, ◌≢◌, ℕ, ◌+◌, ◌<◌, List, [], ◌∷◌, ◌++◌, length, get_or, take, drop, refl, ◌∙◌, sym, ap, arith, true}
 use Rattle.std.proofs.lemmas.List.{map-append, get_or-map, length-map, take-append-drop, take_more}
 use Rattle.std.proofs.Math.Seq.{drop-cons}
 use Rattle.std.proofs.lemmas.List.Elements.{All-push}
@@ -25,7 +25,7 @@ pub record OpensSoFar {S K C : Type 0} (IsFresh : Ends S K C → Type 0) (plans 
   pub unread : All IsUnread held
   pub readers : All IsReadAnew held
   pub others : (key : PortKey) → IsOff held key.number → new.ports key ≡ old.ports key
-  pub later : old.faults ≤ new.faults
+  pub still : new.faults ≡ old.faults
   pub rest : new ≡ record old { faults = new.faults; ports = new.ports }
 
 pub opens_none : {S K C : Type 0} (IsFresh : Ends S K C → Type 0) (plans : List PortPlan) (held : List (PortEnds S K C)) (book : Book S K C) → held ≡ [] → OpensSoFar IsFresh plans 0 held book book
@@ -35,7 +35,7 @@ opens_none {S} {K} {C} IsFresh plans held book none = rw none (record {
   unread = λ k d inside. absurd (omega arith);
   readers = λ k d inside. absurd (omega arith);
   others = λ key off. refl;
-  later = omega arith;
+  still = refl;
   rest = refl;
 })
 
@@ -68,10 +68,10 @@ drop_here plans i plan inside is =
 pub open_step : {S K C : Type 0} (IsFresh : Ends S K C → Type 0) (plans : List PortPlan) (i : ℕ) (plan : PortPlan) (held held' : List (PortEnds S K C)) (p : PortEnds S K C) (old mid new : Book S K C)
     → IsStrictlyIncreasing (numbers_of plans) → i < length plans → plan ≡ get_or plans i plan → OpensSoFar IsFresh plans i held old mid
     → held' ≡ held ++ p ∷ [] → p.port ≡ plan.number → IsUnread p → IsReadAnew p
-    → mid.faults ≤ new.faults → (new.ports (port_key plan)).is_out ≡ true → IfSome (mid.ports (port_key plan)).stands (λ t. p.ends ≡ t) → IsFresh p.ends
+    → new.faults ≡ mid.faults → (new.ports (port_key plan)).is_out ≡ true → IfSome (mid.ports (port_key plan)).stands (λ t. p.ends ≡ t) → IsFresh p.ends
     → OtherPortsStay mid.ports new.ports (number_of plan.number) → new ≡ record mid { faults = new.faults; ports = new.ports }
     → OpensSoFar IsFresh plans (i + 1) held' old new
-open_step {S} {K} {C} IsFresh plans i plan held held' p old mid new rising inside is so_far pushed port unread anew later out told fresh stay rest =
+open_step {S} {K} {C} IsFresh plans i plan held held' p old mid new rising inside is so_far pushed port unread anew still out told fresh stay rest =
     let n = number_of plan.number in
     let off = off_next held plans i plan rising inside is so_far.ports in
     let WasOpened : PortEnds S K C → Type 0 = λ q. IsOpened IsFresh (named_by plans old.ports (number_of q.port)) (named_by plans mid.ports (number_of q.port)) q.ends in
@@ -87,7 +87,7 @@ open_step {S} {K} {C} IsFresh plans i plan held held' p old mid new rising insid
       unread = All-push (λ (q : PortEnds S K C). IsUnread q) held p so_far.unread unread;
       readers = All-push (λ (q : PortEnds S K C). IsReadAnew q) held p so_far.readers anew;
       others = λ key away. stay key (off_last held p key.number n here away) ∙ so_far.others key (All-front (λ (q : PortEnds S K C). number_of q.port ≢ key.number) held (p ∷ []) away);
-      later = omega (arith, so_far.later, later);
+      still = still ∙ so_far.still;
       rest = rest ∙ ap (λ (b : Book S K C). record b { faults = new.faults; ports = new.ports }) so_far.rest;
     })
 

@@ -1,10 +1,10 @@
 //! The ports of a live session: their ends in the order of the plan, opened and kept.
 
-ghost use Rattle.std.specs.Prelude.{◌≡◌, ◌≤◌, ◌<◌, ◌++◌, ◌∷◌, ℕ, [], length, map, slice_index, None, IfSome, OnSome, vec_capacity};
+ghost use Rattle.std.specs.Prelude.{◌≡◌, ◌≤◌, ◌<◌, ◌++◌, ◌∷◌, ℕ, [], length, map, slice_index, None, IfNone, IfSome, OnSome, vec_capacity};
 ghost use Rattle.std.specs.List.Sorted.{IsStrictlyIncreasing};
 ghost use Rattle.savi_kinds.specs.Ports.{number_of};
 ghost use Rattle.savi_kinds.specs.ValidPlan.{numbers_of};
-ghost use Rattle.savi_ends.specs.Faults.{Rose};
+ghost use Rattle.savi_ends.specs.Faults.{RoseOnce};
 ghost use Rattle.savi_ends.specs.Places.{BothFresh, IsPortOut, IsReady, PortKey};
 ghost use Rattle.switch_ports.specs.Named.{named_by};
 ghost use Rattle.switch_ports.specs.Live.{AreKept, AreOpened, IsNextOf, OthersSame};
@@ -13,8 +13,8 @@ use crate::opening::add;
 use savi_ends::{Ends, World};
 use savi_kinds::{Port, PortPlan};
 
-/// Opens these ports in their order, until all are open or an opening fails. The answer is the port that could not be
-/// opened. The ends that are open are held in the order of the ports. O(ports).
+/// Opens these ports in their order, each once, until all are open or an opening fails. The answer is the port that could
+/// not be opened. The ends that are open are held in the order of the ports. O(ports).
 pub fn open_live<W: World>(
     plans: &[PortPlan],
     held: &mut Vec<Ends<W::S, W::K, W::C>>,
@@ -29,7 +29,8 @@ pub fn open_live<W: World>(
     ensures opened { AreOpened (BothFresh W.S.faults W.K.faults) (numbers_of plans.now) (named_by plans.now (W.book world.old).ports) (named_by plans.now (W.book world.new).ports) held.new.items }
     ensures others { OthersSame (numbers_of plans.now) (length held.new.items) (W.book world.old).ports (W.book world.new).ports }
     ensures later { (W.book world.old).faults ≤ (W.book world.new).faults }
-    ensures cause { OnSome result (Rose (W.book world.old).faults (W.book world.new).faults) }
+    ensures still { IfNone result ((W.book world.new).faults ≡ (W.book world.old).faults) }
+    ensures once { OnSome result (RoseOnce (W.book world.old).faults (W.book world.new).faults) }
     ensures rest { W.book world.new ≡ record (W.book world.old) { faults = (W.book world.new).faults; ports = (W.book world.new).ports } }
 {
     for plan in plans {

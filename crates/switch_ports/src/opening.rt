@@ -1,10 +1,10 @@
 //! The opening of the ports of a plan.
 
-ghost use Rattle.std.specs.Prelude.{◌≡◌, ◌≤◌, ◌<◌, ◌++◌, ◌∷◌, [], length, All, None, IfSome, OnSome, vec_len, vec_capacity};
+ghost use Rattle.std.specs.Prelude.{◌≡◌, ◌≤◌, ◌<◌, ◌++◌, ◌∷◌, [], length, All, None, IfNone, IfSome, OnSome, vec_len, vec_capacity};
 ghost use Rattle.std.specs.List.Sorted.{IsStrictlyIncreasing};
 ghost use Rattle.savi_kinds.specs.Ports.{number_of};
 ghost use Rattle.savi_kinds.specs.ValidPlan.{numbers_of};
-ghost use Rattle.savi_ends.specs.Faults.{Rose};
+ghost use Rattle.savi_ends.specs.Faults.{RoseOnce};
 ghost use Rattle.savi_ends.specs.Places.{BothFresh, IsReady, PortKey};
 ghost use Rattle.port_worker.specs.Replays.{ports_held, IsUnread};
 ghost use Rattle.switch_ports.specs.Named.{named_by};
@@ -15,8 +15,8 @@ use port_worker::PortEnds;
 use savi_ends::World;
 use savi_kinds::{Port, PortPlan};
 
-/// Opens these ports in their order, until all are open or an opening fails. The answer is the port that could not be
-/// opened.
+/// Opens these ports in their order, each once, until all are open or an opening fails. The answer is the port that could
+/// not be opened.
 ///
 /// What is open is held, each port beside its ends, and nothing was read of it. O(ports).
 pub fn open_all<W: World>(
@@ -35,7 +35,8 @@ pub fn open_all<W: World>(
     ensures readers { All IsReadAnew held.new.items }
     ensures others { (key : PortKey) → IsOff held.new.items key.number → (W.book world.new).ports key ≡ (W.book world.old).ports key }
     ensures later { (W.book world.old).faults ≤ (W.book world.new).faults }
-    ensures cause { OnSome result (Rose (W.book world.old).faults (W.book world.new).faults) }
+    ensures still { IfNone result ((W.book world.new).faults ≡ (W.book world.old).faults) }
+    ensures once { OnSome result (RoseOnce (W.book world.old).faults (W.book world.new).faults) }
     ensures rest { W.book world.new ≡ record (W.book world.old) { faults = (W.book world.new).faults; ports = (W.book world.new).ports } }
 {
     for plan in plans {

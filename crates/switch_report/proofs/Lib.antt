@@ -1,6 +1,5 @@
-pub mod Pieces
 pub mod Fronts
-pub mod Summing
 pub mod Finding
 pub mod EndLines
 pub mod WrittenLines
+pub mod ToldLines

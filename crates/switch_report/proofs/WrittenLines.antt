@@ -25,7 +25,7 @@ pub one_more : (rows : List Row) (n : ℕ) (line : List ℕ) (old mid new : Opti
 one_more rows n line old mid new here was is =
     is ∙ ap (λ (o : Option (List ℕ)). behind o line) was ∙ behind_again old (first_lines n rows) line ∙ ap (behind old) (sym (lines_more rows n line here))
 
-joined : (a b c d : List ℕ) → (a ++ (b ++ c)) ++ d ≡ (a ++ b) ++ (c ++ d)
+pub joined : (a b c d : List ℕ) → (a ++ (b ++ c)) ++ d ≡ (a ++ b) ++ (c ++ d)
 joined a b c d = rw (append_assoc, append_assoc, append_assoc) refl
 
 -- a front of the next line behind the lines before it is a front of all lines

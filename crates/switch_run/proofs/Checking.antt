@@ -1,7 +1,7 @@
 -- How the check of a journal ends.
 use Rattle.std.proofs.Common.{◌≡◌, ◌≢◌, ◌≤◌, ℕ, ◌⊎◌, inl, inr, List, [], Bool, true, false, if◌then◌else◌, refl, sym, ap, ◌∙◌, subst, arith, Option, Some, IfSome}
 use Rattle.savi_ends.specs.declared.world.Std.TheVariants.{Out}
-use Rattle.savi_ends.specs.Faults.{Rose}
+use Rattle.savi_ends.specs.Faults.{RoseOnce}
 use Rattle.savi_ends.specs.Places.{Place, Book}
 use Rattle.run_config.specs.Configs.{EndHasFault, EndHasNoFault, OfText}
 use Rattle.journal_check.specs.declared.answer.Checked.{Checked}
@@ -15,7 +15,7 @@ use Rattle.switch_run.specs.Checks.{IsAnswered, IsCheckRun, IsCheckedUnopened, I
 use Rattle.switch_run.specs.Session.{WasTold, ToldBy}
 use Rattle.run_config.proofs.Configured.{of_told, kept_sound}
 use Rattle.switch_run.proofs.Loading.{told_nothing}
-use Rattle.switch_run.proofs.Running.{Ran, inputs_first, inputs_last, ran_told, ran_quiet, ran_open, out≢err}
+use Rattle.switch_run.proofs.Running.{Ran, inputs_first, inputs_last, ran_told, ran_quiet, ran_open, ran_unfailed, out≢err}
 
 -- what holds of the statuses of texts that were read holds of this one
 by_answer : (P : ℕ → Type 0) (answer : Checked) → IsTextRead answer → P 0 → P 4 → P (check_status answer)
@@ -58,13 +58,13 @@ module _ {S K C : Type 0} (left : S → Option (List ℕ)) (written : K → Opti
   pub check_memory : status ≡ 1 → Says memory_line
   check_memory one = memory_told run.did one
 
-  opening_rose : Did → status ≡ 7 → Rose old.faults new.faults
+  opening_rose : Did → status ≡ 7 → RoseOnce old.faults new.faults
   opening_rose (inl unopened) seven = unopened.fault
   opening_rose (inr (kept, inl unjudged)) seven = absurd (omega (arith, seven, unjudged.status_is))
   opening_rose (inr (kept, inr (inl unread))) seven = absurd (omega (arith, seven, unread.status_is))
   opening_rose (inr (kept, inr (inr answered))) seven = absurd (answered_not 7 (λ e. absurd (omega (arith, e))) (λ e. absurd (omega (arith, e))) (λ e. absurd (omega (arith, e))) answered seven)
 
-  pub check_opening : status ≡ 7 → Rose old.faults new.faults
+  pub check_opening : status ≡ 7 → RoseOnce old.faults new.faults
   check_opening seven = opening_rose run.did seven
 
   not_quiet : IsAnswered left written source_faults sink_faults file Says old new status → IsOneOf quiet_statuses status → ⊥
@@ -150,6 +150,7 @@ module _ {S K C : Type 0} (left : S → Option (List ℕ)) (written : K → Opti
   pub ran_check : IsCheckRun left written source_faults sink_faults file (ToldBy sink_faults written e e') b1 b2 status → IsCheckRun left written source_faults sink_faults file (WasTold sink_faults written b0 b3) b0 b3 status
   ran_check run = record {
     did = moved_check run.did;
+    still = λ other. ran_unfailed b0 b1 b2 b3 e e' ran (run.still other);
     inputs = λ other apart. ap (λ (b : Book S K C). b.inputs other) ran.rest3 ∙ run.inputs other apart ∙ ap (λ (b : Book S K C). b.inputs other) ran.rest1;
     rest =
         let faults = ap (λ (b : Book S K C). b.faults) ran.rest3 in

@@ -1,8 +1,8 @@
 -- From what a run has done to what it says of its world.
-use Rattle.std.proofs.Common.{◌≡◌, ℕ, ◌⊎◌, inl, inr, List, true, false, refl, sym, subst, arith, Option}
+use Rattle.std.proofs.Common.{◌≡◌, ◌≢◌, ℕ, ◌⊎◌, inl, inr, List, true, false, refl, sym, ap, subst, arith, Option}
 use Rattle.std.specs.Prelude.{◌↔◌}
 use Rattle.savi_ends.specs.declared.world.Std.TheVariants.{Out}
-use Rattle.savi_ends.specs.Faults.{Rose}
+use Rattle.savi_ends.specs.Faults.{RoseOnce}
 use Rattle.savi_ends.specs.Places.{Book}
 use Rattle.run_config.specs.Words.{IsCheck, IsForm, IsGen, IsReplay, IsServe, IsSplitWords}
 use Rattle.switch_report.specs.RunLines.{memory_line, usage_line}
@@ -17,8 +17,8 @@ use Rattle.switch_run.proofs.Checking.{check_is, check_memory, check_opening, ch
 use Rattle.switch_run.proofs.Faulting.{live_read_fault, live_write_fault, read_fault_of, write_fault_of}
 use Rattle.switch_run.proofs.Forms.{same_capture, same_file, same_journal, same_load, same_served, not_split_check, not_split_load, not_split_replay, not_split_serve, not_both, not_checked, not_judged, not_live, not_loaded, not_served}
 use Rattle.switch_run.proofs.Loading.{load_is, load_memory, load_out, not_two, not_seven, ran_load}
-use Rattle.switch_run.proofs.Splitting.{capture_is, capture_memory, capture_not_two, capture_opening, capture_out, ran_capture}
-use Rattle.switch_run.proofs.Running.{Ran, ran_told, ran_open, ran_quiet, ran_run, ran_served, ran_session, ran_ticker, ran_untouched}
+use Rattle.switch_run.proofs.Splitting.{capture_is, capture_memory, capture_not_two, capture_opening, capture_out, capture_still, ran_capture}
+use Rattle.switch_run.proofs.Running.{Ran, ran_told, ran_open, ran_quiet, ran_run, ran_served, ran_session, ran_ticker, ran_unfailed, ran_untouched}
 
 -- what the contract of a run says
 pub record Clauses {S K C : Type 0} (left : S → Option (List ℕ)) (written : K → Option (List ℕ)) (source_faults : S → ℕ) (sink_faults : K → ℕ) (readings : C → Option (List ℕ)) (words : List (List ℕ)) (old new : Book S K C) (status : ℕ) : Type 0 where
@@ -28,10 +28,12 @@ pub record Clauses {S K C : Type 0} (left : S → Option (List ℕ)) (written : 
   pub memory : status ≡ 1 → WasTold sink_faults written old new memory_line
   pub unplayed : (file : List ℕ) → IsReplay file words → status ≡ 1 → IsUnplayed true left written source_faults file old new
   pub config : (file : List ℕ) → IsReplay file words → status ≡ 3 → IsNoPlan true left source_faults file (WasTold sink_faults written old new) old new
-  pub opening : status ≡ 7 → Rose old.faults new.faults
+  pub opening : status ≡ 7 → RoseOnce old.faults new.faults
+  pub still : status ≢ 7 → new.faults ≡ old.faults
   pub unopened : (file : List ℕ) → IsReplay file words → status ≡ 7 → IsUnopened true left source_faults file (WasTold sink_faults written old new) old new
   pub session : (file : List ℕ) → IsReplay file words → IsOneOf session_statuses status
       → IsFileUnread left source_faults file (WasTold sink_faults written old new) old new status ⊎ IsSession left written source_faults sink_faults file (WasTold sink_faults written old new) old new status
+  pub room : (file : List ℕ) → IsReplay file words → status ≢ 8
   pub read : (file : List ℕ) → IsReplay file words → status ≡ 5 → HasSomeReadFault source_faults file new
   pub write : (file : List ℕ) → IsReplay file words → status ≡ 6 → HasSomeWriteFault sink_faults new
   pub quiet : IsOneOf quiet_statuses status → new.std Out ≡ old.std Out
@@ -66,8 +68,10 @@ clauses_of {S} {K} {C} left written source_faults sink_faults readings words b0 
       unplayed = λ file form. absurd (none (inl (file, form)));
       config = λ file form. absurd (none (inl (file, form)));
       opening = λ seven. absurd (omega (arith, seven, two));
+      still = λ other. ap (λ (b : Book S K C). b.faults) untouched.rest;
       unopened = λ file form. absurd (none (inl (file, form)));
       session = λ file form. absurd (none (inl (file, form)));
+      room = λ file form. absurd (none (inl (file, form)));
       read = λ file form. absurd (none (inl (file, form)));
       write = λ file form. absurd (none (inl (file, form)));
       quiet = λ one_of. untouched.out;
@@ -93,8 +97,10 @@ clauses_of {S} {K} {C} left written source_faults sink_faults readings words b0 
       unplayed = λ f is one. rw (same_file words f file is form) (did.unplayed one);
       config = λ f is three. rw (same_file words f file is form) (did.config three);
       opening = did.opening;
+      still = did.still;
       unopened = λ f is seven. rw (same_file words f file is form) (did.unopened seven);
       session = λ f is one_of. rw (same_file words f file is form) (did.session one_of);
+      room = λ f is. r.room;
       read = λ f is five. rw (same_file words f file is form) (read_fault_of left written source_faults sink_faults _ b0 b3 file status five (did.session (subst (λ (n : ℕ). IsOneOf session_statuses n) (sym five) refl)));
       write = λ f is six. write_fault_of left written source_faults sink_faults _ b0 b3 file status six (did.session (subst (λ (n : ℕ). IsOneOf session_statuses n) (sym six) refl));
       quiet = did.quiet;
@@ -120,8 +126,10 @@ clauses_of {S} {K} {C} left written source_faults sink_faults readings words b0 
       unplayed = λ f is. absurd (replays f is);
       config = λ f is. absurd (replays f is);
       opening = did.opening;
+      still = did.still;
       unopened = λ f is. absurd (replays f is);
       session = λ f is. absurd (replays f is);
+      room = λ f is. absurd (replays f is);
       read = λ f is. absurd (replays f is);
       write = λ f is. absurd (replays f is);
       quiet = did.quiet;
@@ -145,8 +153,10 @@ clauses_of {S} {K} {C} left written source_faults sink_faults readings words b0 
       unplayed = λ f is. absurd (replays f is);
       config = λ f is. absurd (replays f is);
       opening = λ seven. ran_open b0 b1 b2 b3 e e' ran (check_opening left written source_faults sink_faults file Says b1 b2 status r seven);
+      still = λ other. ran_unfailed b0 b1 b2 b3 e e' ran (r.still other);
       unopened = λ f is. absurd (replays f is);
       session = λ f is. absurd (replays f is);
+      room = λ f is. absurd (replays f is);
       read = λ f is. absurd (replays f is);
       write = λ f is. absurd (replays f is);
       quiet = λ quiet. ran_quiet b0 b1 b2 b3 e e' ran (check_out left written source_faults sink_faults file Says b1 b2 status r quiet);
@@ -170,8 +180,10 @@ clauses_of {S} {K} {C} left written source_faults sink_faults readings words b0 
       unplayed = λ file is. absurd (replays file is);
       config = λ file is. absurd (replays file is);
       opening = λ seven. absurd (not_seven written sink_faults seed frames Says b1 b2 status r seven);
+      still = λ other. ran_unfailed b0 b1 b2 b3 e e' ran (ap (λ (b : Book S K C). b.faults) r.rest);
       unopened = λ file is. absurd (replays file is);
       session = λ file is. absurd (replays file is);
+      room = λ file is. absurd (replays file is);
       read = λ file is. absurd (replays file is);
       write = λ file is. absurd (replays file is);
       quiet = λ quiet. ran_quiet b0 b1 b2 b3 e e' ran (load_out written sink_faults seed frames Says b1 b2 status r quiet);
@@ -197,8 +209,10 @@ clauses_of {S} {K} {C} left written source_faults sink_faults readings words b0 
       unplayed = λ f is. absurd (replays f is);
       config = λ f is. absurd (replays f is);
       opening = λ seven. ran_open b0 b1 b2 b3 e e' ran (capture_opening left written source_faults sink_faults file Says b1 b2 status r seven);
+      still = λ other. ran_unfailed b0 b1 b2 b3 e e' ran (capture_still left written source_faults sink_faults file Says b1 b2 status r other);
       unopened = λ f is. absurd (replays f is);
       session = λ f is. absurd (replays f is);
+      room = λ f is. absurd (replays f is);
       read = λ f is. absurd (replays f is);
       write = λ f is. absurd (replays f is);
       quiet = λ quiet. ran_quiet b0 b1 b2 b3 e e' ran (capture_out left written source_faults sink_faults file Says b1 b2 status r quiet);

@@ -12,7 +12,7 @@ use Rattle.savi_kinds.specs.Ports.{number_of}
 use Rattle.savi_kinds.specs.ValidPlan.{numbers_of}
 use Rattle.savi_ends.specs.declared.world.Std.TheVariants.{Out}
 use Rattle.savi_ends.specs.declared.world.Ends.{Ends}
-use Rattle.savi_ends.specs.Faults.{Rose}
+use Rattle.savi_ends.specs.Faults.{RoseOnce}
 use Rattle.savi_ends.specs.Places.{Place, Book, ControlKey}
 use Rattle.pcapng_io.specs.Runs.{Event}
 use Rattle.pcapng_io.specs.Runs as events
@@ -35,6 +35,7 @@ use Rattle.savi_history.specs.ControlFits.{FitsControl}
 use Rattle.savi_history.specs.ControlInputs.{control_end, entered_lines}
 use Rattle.savi_history.specs.Endings.{has_failed, has_failed_write, has_malformed, has_paused_end, is_failed_reason, is_malformed_reason}
 use Rattle.savi_history.specs.PortInputs.{arrived, input_end}
+use Rattle.savi_segments.specs.Unbroken.{unbroken}
 use Rattle.live_session.specs.LiveControl.{AreLiveLines}
 use Rattle.live_session.specs.LiveInputs.{FitsInput}
 use Rattle.port_worker.specs.ControlServed.{AreLines}
@@ -55,7 +56,7 @@ use Rattle.switch_run.proofs.LearnClauses.{AllClauses}
 use Rattle.switch_run.proofs.LearnFaults.{ends_among}
 use Rattle.switch_run.proofs.Faulting.{ended_alone, no_input, unwritten_fault}
 use Rattle.switch_run.proofs.LegalFailures.{number_of_place, plan_element}
-use Rattle.switch_run.proofs.LegalFaults.{IsMalformedAt, paused_has_no_room, legal_malformed}
+use Rattle.switch_run.proofs.LegalFaults.{IsMalformedAt, paused_has_no_room, legal_malformed, segments_malformed}
 use Rattle.switch_run.proofs.WholeInputs.{both_told, lines_not_malformed, live_not_malformed, told_of, whole_not_heard_malformed, whole_not_malformed}
 
 -- statuses
@@ -106,7 +107,7 @@ paused_by status false false false true is e = refl
 paused_by status false false false false is e = absurd (omega (arith, is, e))
 
 -- no opening failed where the world's count didn't rise
-not_risen : (before now : ℕ) → before ≡ 0 → now ≡ before → Rose before now → ⊥
+not_risen : (before now : ℕ) → before ≡ 0 → now ≡ before → RoseOnce before now → ⊥
 not_risen before now zero_is same rose = omega (arith, zero_is, same, rose)
 
 -- the plan
@@ -151,52 +152,49 @@ told_capture {S} {K} {C} left book plan captures whole k inside =
 
 -- a replay
 
-control_place : {S K C : Type 0} (left : S → Option (List ℕ)) (written : K → Option (List ℕ)) (source_faults : S → ℕ) (sink_faults : K → ℕ) (plan : Plan) (past : List Row) (how : How) (names : Option (List ℕ × List ℕ)) (lines : Option control.Input) (stop : Option ℕ) (old new : ControlKey → Place (Ends S K C))
-    → ServesControlPlace left written source_faults sink_faults plan past names lines stop old new → (lines ≡ None → ⊥) → IfSome names (λ n. Tells (λ ends. left ends.source) (old (control_key false n)) (AreWholeLines false))
-    → control_end past ≡ Some how → is_malformed_reason how ≡ true → ⊥
-control_place left written source_faults sink_faults plan past how None None stop old new serves some whole is reason = some refl
-control_place left written source_faults sink_faults plan past how None (Some input) stop old new serves some whole is reason = serves
-control_place left written source_faults sink_faults plan past how (Some names) None stop old new serves some whole is reason = serves
-control_place {S} {K} {C} left written source_faults sink_faults plan past how (Some names) (Some input) stop old new serves some whole is reason =
-    let fits : FitsControl AreLines (left serves.handed.source) (left serves.back.source) (entered_lines past) (Some how) = subst (λ (e : Option How). FitsControl AreLines (left serves.handed.source) (left serves.back.source) (entered_lines past) e) is serves.holds.fits in
-    lines_not_malformed (left serves.handed.source) (left serves.back.source) (entered_lines past) how reason fits
+control_place : {S K C : Type 0} (left : S → Option (List ℕ)) (written : K → Option (List ℕ)) (source_faults : S → ℕ) (sink_faults : K → ℕ) (plan : Plan) (segments : List (List Row)) (how : How) (names : Option (List ℕ × List ℕ)) (lines : Option control.Input) (stop : Option ℕ) (old new : ControlKey → Place (Ends S K C))
+    → ServesControlPlace left written source_faults sink_faults plan segments names lines stop old new → (lines ≡ None → ⊥) → IfSome names (λ n. Tells (λ ends. left ends.source) (old (control_key false n)) (AreWholeLines false))
+    → control_end (unbroken segments) ≡ Some how → is_malformed_reason how ≡ true → ⊥
+control_place left written source_faults sink_faults plan segments how None None stop old new serves some whole is reason = some refl
+control_place left written source_faults sink_faults plan segments how None (Some input) stop old new serves some whole is reason = serves
+control_place left written source_faults sink_faults plan segments how (Some names) None stop old new serves some whole is reason = serves
+control_place {S} {K} {C} left written source_faults sink_faults plan segments how (Some names) (Some input) stop old new serves some whole is reason =
+    let fits : FitsControl AreLines (left serves.handed.source) (left serves.back.source) (entered_lines (unbroken segments)) (Some how) = subst (λ (e : Option How). FitsControl AreLines (left serves.handed.source) (left serves.back.source) (entered_lines (unbroken segments)) e) is serves.holds.fits in
+    lines_not_malformed (left serves.handed.source) (left serves.back.source) (entered_lines (unbroken segments)) how reason fits
     (told_of (λ (e : Ends S K C). left e.source) (AreWholeLines false) (old (control_key false names)) serves.handed serves.told whole)
 
 module _ {S K C : Type 0} (left : S → Option (List ℕ)) (written : K → Option (List ℕ)) (source_faults : S → ℕ) (sink_faults : K → ℕ) (Says : List ℕ → Type 0) (old new : Book S K C) (file : List ℕ) (status : ℕ) (s : IsSession left written source_faults sink_faults file Says old new status) where
-  abbrev past : List Row
-  past = s.session.did.past
+  abbrev segments : List (List Row)
+  segments = s.session.did.segments
 
-  ended_in_order : (how : How) → control_end past ≡ Some how → is_malformed_reason how ≡ true → s.session.did.serves.lines ≡ None → ⊥
+  abbrev rows : List Row
+  rows = unbroken segments
+
+  ended_in_order : (how : How) → control_end rows ≡ Some how → is_malformed_reason how ≡ true → s.session.did.serves.lines ≡ None → ⊥
   ended_in_order how is reason none =
-      let both : Some how ≡ Some hows.End = sym is ∙ ended_alone left written source_faults sink_faults s.plan Says old new status s.configured.built.valid.ports s.session.did none in
+      let both : Some how ≡ Some hows.End = sym is ∙ ended_alone left written source_faults sink_faults s.plan Says old new status s.session.did none in
       let end : how ≡ hows.End = cc in
       let bad : true ≡ false = sym reason ∙ ap is_malformed_reason end in
       cc
 
-  replay_limited : status ≡ 8 → IsAtLimit s.plan past
-  replay_limited eight =
-      let r = s.session.did.reported in
-      let paused : has_paused_end past ≡ true = paused_by status (has_failed past) (has_failed_write past || not (r.journal_written && r.summed.summary_written)) (has_malformed past) (has_paused_end past) r.summed.cause eight in
-      record { no_room = paused_has_no_room s.plan empty past s.session.did.legal paused; paused = paused }
-
   module _ (whole : AreWhole false left old s.plan) where
-    replay_at : IsMalformedAt s.plan past → ⊥
+    replay_at : IsMalformedAt s.plan rows → ⊥
     replay_at (inl (k, how, inside, reason, is)) =
         let n = get_or (numbers_of s.plan.ports) k 0 in
         let at = s.session.did.serves.each k no_input inside in
-        let fits : FitsInput Pcap (left at.handed.source) (left at.back.source) (arrived n past) (Some how) =
-        subst (λ (e : Option How). FitsInput Pcap (left at.handed.source) (left at.back.source) (arrived n past) e) is at.holds.fits in
-        whole_not_malformed Pcap (left at.handed.source) (left at.back.source) (arrived n past) how reason fits
+        let fits : FitsInput Pcap (left at.handed.source) (left at.back.source) (arrived n rows) (Some how) =
+        subst (λ (e : Option How). FitsInput Pcap (left at.handed.source) (left at.back.source) (arrived n rows) e) is at.holds.fits in
+        whole_not_malformed Pcap (left at.handed.source) (left at.back.source) (arrived n rows) how reason fits
         (told_of (λ (e : Ends S K C). left e.source) (IsWholeInput Pcap) (ports_in s.plan old n) at.handed at.told (told_capture left old s.plan (s.configured.built.captures refl) whole.ports k inside))
     replay_at (inr (how, reason, is)) =
-        control_place left written source_faults sink_faults s.plan past how s.plan.control s.session.did.serves.lines s.session.did.serves.stops.control old.control new.control s.session.did.serves.control
+        control_place left written source_faults sink_faults s.plan segments how s.plan.control s.session.did.serves.lines s.session.did.serves.stops.control old.control new.control s.session.did.serves.control
         (ended_in_order how is reason) whole.control is reason
 
     replay_sound : status ≡ 4 → ⊥
     replay_sound four =
         let r = s.session.did.reported in
-        let bad : has_malformed past ≡ true = malformed_by status (has_failed past) (has_failed_write past || not (r.journal_written && r.summed.summary_written)) (has_malformed past) (has_paused_end past) r.summed.cause four in
-        replay_at (legal_malformed s.plan empty past s.session.did.legal bad)
+        let bad : has_malformed rows ≡ true = malformed_by status (has_failed rows) (has_failed_write rows || not (r.journal_written && r.summed.summary_written)) (has_malformed rows) (has_paused_end rows) r.summed.cause four in
+        replay_at (segments_malformed s.plan segments s.session.did.serves.session.legal bad)
 
 -- a live session
 
@@ -348,11 +346,11 @@ module _ {S K C : Type 0} (left : S → Option (List ℕ)) (written : K → Opti
   in_session n is one_of = subst (λ (m : ℕ). IsOneOf session_statuses m) (sym is) one_of
 
   replay_goes : (file : List ℕ) → IsReplay file words → IsUnhindered true left source_faults sink_faults (AreWhole false left old) file old new
-      → GoesThrough ((s : IsSession left written source_faults sink_faults file Says old new status) × IsAtLimit s.plan s.session.did.past) status
+      → (status ≡ 0) ⊎ (status ≡ 1)
   replay_goes file form u =
       let session : (n : ℕ) → n ≢ 5 → IsOneOf session_statuses n → status ≡ n → IsSession left written source_faults sink_faults file Says old new status = λ n other one_of is.
       session_by (IsSession left written source_faults sink_faults file Says old new status) file n other is (c.session file form (in_session n is one_of)) in
-      goes ((s : IsSession left written source_faults sink_faults file Says old new status) × IsAtLimit s.plan s.session.did.past) status c.one_of
+      unlimited status (goes ⊥ status c.one_of
       (λ two. c.usage.0 two (inl (file, form)))
       (λ three. never_refused true left source_faults sink_faults (AreWhole false left old) file old new u Says (c.config file form three))
       (λ four.
@@ -361,7 +359,7 @@ module _ {S K C : Type 0} (left : S → Option (List ℕ)) (written : K → Opti
       (λ five. u.faultless.read (c.read file form five))
       (λ six. u.faultless.written (c.write file form six))
       (λ seven. not_risen old.faults new.faults fresh u.faultless.opened (c.opening seven))
-      (λ eight. let s = session 8 (λ e. omega (arith, e)) refl eight in (s, replay_limited left written source_faults sink_faults Says old new file status s eight))
+      (λ eight. c.room file form eight))
 
   serve_goes : (file : List ℕ) → IsServe file words → IsUnhindered false left source_faults sink_faults (AreWhole true left old) file old new
       → GoesThrough ((s : IsServeSession left written source_faults sink_faults readings file Says old new status) × IsAtLimit s.plan s.session.past) status

@@ -8,16 +8,19 @@ use Rattle.savi_ends.specs.declared.world.Ends.{Ends}
 use Rattle.savi_ends.specs.Places.{Place, Book, PortKey, ControlKey, OthersStay}
 use Rattle.hist_store.specs.Rows.{Row}
 use Rattle.savi_history.specs.Endings.{has_failed, has_failed_write, has_malformed, has_paused_end}
+use Rattle.savi_segments.specs.Segments.{joined}
+use Rattle.savi_segments.specs.Unbroken.{unbroken}
+use Rattle.port_worker.specs.declared.control_ends.ControlEnds.{ControlEnds}
 use Rattle.port_worker.specs.declared.port_ends.PortEnds.{PortEnds}
-use Rattle.port_worker.specs.declared.session.Ready.{Ready}
 use Rattle.switch_ports.specs.Named.{control_key}
 use Rattle.switch_ports.specs.Openings.{IsReadAnew}
 use Rattle.switch_report.specs.RunLines.{memory_line}
 use Rattle.switch_run.specs.declared.session.Outcome.{Outcome}
 use Rattle.switch_run.specs.Causes.{IsBack, IsControlBack, IsOffPlanSame, IsOneOf, IsUnusedOf, KeepsAll, ports_in, quiet_statuses, session_statuses, statuses, unused_statuses}
 use Rattle.switch_run.specs.Session.{IsSessionOf, IsSummed}
-use Rattle.switch_run.specs.Played.{IsPlayed}
-use Rattle.switch_run.proofs.Through.{Handled, HandledAll, session_of, ports_back, control_back, output_back, cases_name, back_from, keeps_all_of, off_plan}
+use Rattle.switch_run.specs.Played.{IsOutcomeOf, IsPlayed}
+use Rattle.switch_run.proofs.ToldEnds.{never_paused}
+use Rattle.switch_run.proofs.Through.{Handled, HandledAll, Laws, session_of, ports_back, control_back, output_back, cases_name, back_from, keeps_all_of, off_plan}
 
 -- what the clauses say where all was opened, with this session
 pub record Closes {S K C : Type 0} (live : Bool) (left : S → Option (List ℕ)) (written : K → Option (List ℕ)) (plan : Plan) (Says : List ℕ → Type 0) (Session : Type 0) (old new : Book S K C) (status : ℕ) : Type 0 where
@@ -46,12 +49,25 @@ not_quiet false false false true e = let t : false ≡ true = e in cc
 not_quiet false false false false e = let t : false ≡ true = e in cc
 
 -- the status of what was summed up is one of those of a session
-summed_is : {K : Type 0} (written : K → Option (List ℕ)) (faults : K → ℕ) (Says : List ℕ → Type 0) (past : List Row) (journal_written : Bool) (old new : Place K) (status : ℕ) → IsSummed written faults Says past journal_written old new status → IsOneOf statuses status × (IsOneOf quiet_statuses status → ⊥)
-summed_is written faults Says past journal_written old new status summed =
-    let w = has_failed_write past || not (journal_written && summed.summary_written) in (
-      subst (λ (n : ℕ). IsOneOf statuses n) (sym summed.cause) (is_status (has_failed past) w (has_malformed past) (has_paused_end past)),
-      λ one_of. not_quiet (has_failed past) w (has_malformed past) (has_paused_end past) (subst (λ (n : ℕ). IsOneOf quiet_statuses n) summed.cause one_of),
+summed_is : {K : Type 0} (written : K → Option (List ℕ)) (faults : K → ℕ) (Says : List ℕ → Type 0) (all told : List Row) (journal_written : Bool) (old new : Place K) (status : ℕ) → IsSummed written faults Says all told journal_written old new status → IsOneOf statuses status × (IsOneOf quiet_statuses status → ⊥)
+summed_is written faults Says all told journal_written old new status summed =
+    let w = has_failed_write told || not (journal_written && summed.summary_written) in (
+      subst (λ (n : ℕ). IsOneOf statuses n) (sym summed.cause) (is_status (has_failed told) w (has_malformed told) (has_paused_end told)),
+      λ one_of. not_quiet (has_failed told) w (has_malformed told) (has_paused_end told) (subst (λ (n : ℕ). IsOneOf quiet_statuses n) summed.cause one_of),
     )
+
+-- where no pass was paused, want of room isn't the status
+roomy : (status : ℕ) (f w m h : Bool) → status ≡ (if f then 5 else if w then 6 else if m then 4 else if h then 8 else 0) → h ≡ false → status ≢ 8
+roomy status true w m h is none e = omega (arith, is, e)
+roomy status false true m h is none e = omega (arith, is, e)
+roomy status false false true h is none e = omega (arith, is, e)
+roomy status false false false true is none e = let both : true ≡ false = none in cc
+roomy status false false false false is none e = omega (arith, is, e)
+
+summed_room : {K : Type 0} (written : K → Option (List ℕ)) (faults : K → ℕ) (Says : List ℕ → Type 0) (segments : List (List Row)) (journal_written : Bool) (old new : Place K) (status : ℕ) → IsSummed written faults Says (joined segments) (unbroken segments) journal_written old new status → status ≢ 8
+summed_room written faults Says segments journal_written old new status summed =
+    let told = unbroken segments in
+    roomy status (has_failed told) (has_failed_write told || not (journal_written && summed.summary_written)) (has_malformed told) (has_paused_end told) summed.cause (never_paused (joined segments))
 
 -- a place that wasn't touched has its end back
 pub untouched_back : {X : Type 0} (old new : Place X) → new ≡ old → IsBack old new
@@ -74,11 +90,11 @@ closes_unplayed live left written plan Says Session old new status one told quie
 }
 
 -- a history was summed up
-pub closes_played : {S K C : Type 0} (live : Bool) (left : S → Option (List ℕ)) (written : K → Option (List ℕ)) (sink_faults : K → ℕ) (plan : Plan) (Says : List ℕ → Type 0) (Session : Type 0) (past : List Row) (journal_written : Bool) (old new : Book S K C) (status : ℕ)
-    → IsSummed written sink_faults Says past journal_written (old.std Out) (new.std Out) status → Session
+pub closes_played : {S K C : Type 0} (live : Bool) (left : S → Option (List ℕ)) (written : K → Option (List ℕ)) (sink_faults : K → ℕ) (plan : Plan) (Says : List ℕ → Type 0) (Session : Type 0) (all told : List Row) (journal_written : Bool) (old new : Book S K C) (status : ℕ)
+    → IsSummed written sink_faults Says all told journal_written (old.std Out) (new.std Out) status → Session
     → Closes live left written plan Says Session old new status
-closes_played live left written sink_faults plan Says Session past journal_written old new status summed did =
-    let is = summed_is written sink_faults Says past journal_written (old.std Out) (new.std Out) status summed in
+closes_played live left written sink_faults plan Says Session all told journal_written old new status summed did =
+    let is = summed_is written sink_faults Says all told journal_written (old.std Out) (new.std Out) status summed in
     let never : IsOneOf quiet_statuses status → ⊥ = is.1 in
     let never_is : (n : ℕ) → IsOneOf quiet_statuses n → status ≡ n → ⊥ = λ n quiet e. never (subst (λ (m : ℕ). IsOneOf quiet_statuses m) (sym e) quiet) in
     record {
@@ -93,33 +109,54 @@ closes_played live left written sink_faults plan Says Session past journal_writt
       unused = λ one_of. absurd (never one_of);
     }
 
-closes_none : {S K C : Type 0} (left : S → Option (List ℕ)) (written : K → Option (List ℕ)) (plan : Plan) (Says : List ℕ → Type 0) (Session : Type 0) (held back : Ready S K C) (sink sink' : K) (old new : Book S K C) (status : ℕ)
-    → HandledAll plan held back sink sink' old new → new.ticker ≡ old.ticker → back ≡ held → sink' ≡ sink → status ≡ 1 → Says memory_line → new.std Out ≡ old.std Out
+closes_none : {S K C : Type 0} (left : S → Option (List ℕ)) (written : K → Option (List ℕ)) (plan : Plan) (Says : List ℕ → Type 0) (Session : Type 0) (control control' : Option (ControlEnds S K C)) (held back : List (PortEnds S K C)) (sink sink' : K) (old new : Book S K C) (status : ℕ)
+    → HandledAll plan control control' held back sink sink' old new → new.ticker ≡ old.ticker → control' ≡ control → back ≡ held → sink' ≡ sink → status ≡ 1 → Says memory_line → new.std Out ≡ old.std Out
     → Closes false left written plan Says Session old new status
-closes_none {S} {K} {C} left written plan Says Session held back sink sink' old new status all ticker same same' one told quiet =
-    let unread : HandledAll plan held held sink sink old new =
-    subst (λ (k : K). HandledAll plan held held sink k old new) same' (subst (λ (r : Ready S K C). HandledAll plan held r sink sink' old new) same all) in
-    closes_unplayed false left written plan Says Session old new status one told quiet (keeps_all_of left written plan held sink old new unread) (off_plan plan held held sink sink old new unread) (record {
-      ports = ports_back held.ports.items (ports_in plan old) (ports_in plan new) unread.ports;
-      others = (off_plan plan held held sink sink old new unread).ports;
-      control = control_back plan.control held.control old.control new.control unread.control;
+closes_none {S} {K} {C} left written plan Says Session control control' held back sink sink' old new status all ticker same_ends same same' one told quiet =
+    let unread : HandledAll plan control control held held sink sink old new =
+    subst (λ (k : K). HandledAll plan control control held held sink k old new) same'
+    (subst (λ (l : List (PortEnds S K C)). HandledAll plan control control held l sink sink' old new) same
+    (subst (λ (e : Option (ControlEnds S K C)). HandledAll plan control e held back sink sink' old new) same_ends all)) in
+    let off = off_plan plan control control held held sink sink old new unread in
+    closes_unplayed false left written plan Says Session old new status one told quiet (keeps_all_of left written plan control held sink old new unread) off (record {
+      ports = ports_back held (ports_in plan old) (ports_in plan new) unread.ports;
+      others = off.ports;
+      control = control_back plan.control control old.control new.control unread.ends;
       ticker = untouched_back old.ticker new.ticker ticker;
       outputs = output_back plan.journal sink old.outputs new.outputs unread.journal;
     })
 
--- by whether there was an outcome
-pub closes : {S K C : Type 0} (left : S → Option (List ℕ)) (written : K → Option (List ℕ)) (source_faults : S → ℕ) (sink_faults : K → ℕ) (plan : Plan) (Says : List ℕ → Type 0) (held back : Ready S K C) (sink sink' : K) (outcome : Option Outcome) (old mid new : Book S K C) (status : ℕ)
-    → HandledAll plan held back sink sink' old new → new.ticker ≡ old.ticker → mid.std ≡ old.std → All IsReadAnew held.ports.items
-    → IfNone outcome ((back ≡ held) × (sink' ≡ sink)) → IfSome outcome (λ o. IsPlayed left written source_faults sink_faults plan o.core.past held back sink sink' o.journal_written)
-    → IfNone outcome ((status ≡ 1) × (Says memory_line × (new ≡ mid))) → IfSome outcome (λ o. IsSummed written sink_faults Says o.core.past o.journal_written (mid.std Out) (new.std Out) status)
-    → Closes false left written plan Says (IsSessionOf left written source_faults sink_faults plan Says old new status) old new status
-closes {S} {K} {C} left written source_faults sink_faults plan Says held back sink sink' None old mid new status all ticker same anew none played unserved concluded =
-    closes_none left written plan Says _ held back sink sink' old new status all ticker none.0 none.1 unserved.0 unserved.1.0
-    (ap (λ (b : Book S K C). b.std Out) unserved.1.1 ∙ ap (λ (p : _ → Place K). p Out) same)
-closes {S} {K} {C} left written source_faults sink_faults plan Says held back sink sink' (Some o) old mid new status all ticker same anew none played unserved concluded =
-    let summed = subst (λ (p : Place K). IsSummed written sink_faults Says o.core.past o.journal_written p (new.std Out) status) (ap (λ (p : _ → Place K). p Out) same) concluded in
-    closes_played false left written sink_faults plan Says _ o.core.past o.journal_written old new status summed
-    (session_of left written source_faults sink_faults plan Says held back sink sink' o.core.past o.journal_written old new status all anew played summed)
+module _ {S K C : Type 0} (left : S → Option (List ℕ)) (written : K → Option (List ℕ)) (source_faults : S → ℕ) (sink_faults : K → ℕ) (plan : Plan) (Says : List ℕ → Type 0) (control control' : Option (ControlEnds S K C)) (held back : List (PortEnds S K C)) (sink sink' : K) (old new : Book S K C) (status : ℕ) where
+  -- what was played, and what is left of it
+  abbrev pub Plays : Outcome → Type 0
+  Plays o = (segments : List (List Row)) × IsOutcomeOf segments o × IsPlayed left written source_faults sink_faults plan segments control control' held back sink sink' o.journal_written
+
+  -- and what was said of it, between the same standard outputs
+  abbrev pub Concludes : Book S K C → Outcome → Type 0
+  Concludes mid o = (segments : List (List Row)) → IsOutcomeOf segments o → IsSummed written sink_faults Says (joined segments) (unbroken segments) o.journal_written (mid.std Out) (new.std Out) status
+
+  said : (mid : Book S K C) (o : Outcome) → mid.std ≡ old.std → (plays : Plays o) → Concludes mid o → IsSummed written sink_faults Says (joined plays.0) (unbroken plays.0) o.journal_written (old.std Out) (new.std Out) status
+  said mid o same plays concluded =
+      subst (λ (p : Place K). IsSummed written sink_faults Says (joined plays.0) (unbroken plays.0) o.journal_written p (new.std Out) status) (ap (λ (p : _ → Place K). p Out) same) (concluded plays.0 plays.1)
+
+  -- by whether there was an outcome
+  pub closes : (outcome : Option Outcome) (mid : Book S K C)
+      → Laws → HandledAll plan control control' held back sink sink' old new → new.ticker ≡ old.ticker → mid.std ≡ old.std → All IsReadAnew held
+      → IfNone outcome ((control' ≡ control) × (back ≡ held) × (sink' ≡ sink)) → IfSome outcome Plays
+      → IfNone outcome ((status ≡ 1) × (Says memory_line × (new ≡ mid))) → IfSome outcome (Concludes mid)
+      → Closes false left written plan Says (IsSessionOf left written source_faults sink_faults plan Says old new status) old new status
+  closes None mid laws all ticker same anew none played unserved concluded =
+      closes_none left written plan Says _ control control' held back sink sink' old new status all ticker none.0 none.1 none.2 unserved.0 unserved.1.0
+      (ap (λ (b : Book S K C). b.std Out) unserved.1.1 ∙ ap (λ (p : _ → Place K). p Out) same)
+  closes (Some o) mid laws all ticker same anew none played unserved concluded =
+      let summed = said mid o same played concluded in
+      closes_played false left written sink_faults plan Says _ (joined played.0) (unbroken played.0) o.journal_written old new status summed
+      (session_of left written source_faults sink_faults plan Says control control' held back sink sink' played.0 o.journal_written old new status laws all anew played.2 summed)
+
+  -- there was room for every input
+  pub has_room : (outcome : Option Outcome) (mid : Book S K C) → mid.std ≡ old.std → IfSome outcome Plays → IfNone outcome ((status ≡ 1) × (Says memory_line × (new ≡ mid))) → IfSome outcome (Concludes mid) → status ≢ 8
+  has_room None mid same played unserved concluded eight = let one = unserved.0 in omega (arith, one, eight)
+  has_room (Some o) mid same played unserved concluded eight = summed_room written sink_faults Says played.0 o.journal_written (old.std Out) (new.std Out) status (said mid o same played concluded) eight
 
 element : {X : Type 0} (xs : List X) (k : ℕ) → k < length xs → X
 element [] k inside = absurd (omega arith)

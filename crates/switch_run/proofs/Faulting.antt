@@ -1,6 +1,5 @@
 -- Whose fault a status is.
-use Rattle.std.proofs.Common.{◌≡◌, ◌≢◌, ℕ, ◌&&◌, ◌||◌, not, if◌then◌else◌, ◌⊎◌, inl, inr, List, [], Bool, true, false, get_or, refl, sym, ap, ◌∙◌, subst, arith, ◌<◌, Option, Some, None}
-use Rattle.std.specs.List.Sorted.{IsStrictlyIncreasing}
+use Rattle.std.proofs.Common.{◌≡◌, ◌≢◌, ℕ, ◌&&◌, ◌||◌, not, if◌then◌else◌, ◌⊎◌, inl, inr, List, [], ◌∷◌, Bool, true, false, get_or, refl, sym, ap, ◌∙◌, subst, arith, ◌<◌, Option, Some, None}
 use Rattle.savi_kinds.specs.declared.entry.How.{How}
 use Rattle.savi_kinds.specs.declared.entry.How.TheVariants as hows
 use Rattle.savi_kinds.specs.declared.plan.Plan.{Plan}
@@ -17,10 +16,11 @@ use Rattle.savi_history.specs.Endings.{has_failed, has_failed_write, has_malform
 use Rattle.savi_history.specs.ControlInputs.{control_end}
 use Rattle.savi_history.specs.PortInputs.{input_end}
 use Rattle.savi_history.specs.PortOutputs.{output_end}
-use Rattle.savi_history.specs.Replay.{replayed}
-use Rattle.savi_history.proofs.Failing.{IsOfInput, failed_at_input}
-use Rattle.savi_history.proofs.FailedWrites.{IsOfOutput, failed_write_at_output}
-use Rattle.savi_history.proofs.WithoutControl.{without_control}
+use Rattle.savi_segments.specs.Replay.{replayed}
+use Rattle.savi_segments.specs.Segments.{AreLegal}
+use Rattle.savi_segments.specs.Unbroken.{unbroken}
+use Rattle.savi_segments.proofs.Failures.{IsOfInput, IsOfOutput, failed_at_input, failed_write_at_output}
+use Rattle.savi_segments.proofs.EnteringLines.{without_control}
 use Rattle.live_session.specs.LiveRows.{ControlRow}
 use Rattle.run_config.specs.Configs.{EndHasFault}
 use Rattle.port_worker.specs.ControlServed.{IsControlServed}
@@ -56,65 +56,16 @@ fault_kept faults place x kept fault = rw kept fault
 
 -- control ended so only where it has an input, and then its ends stand in its place
 
-abbrev HasEnds : {S K C : Type 0} → (S → Option (List ℕ)) → (K → Option (List ℕ)) → (S → ℕ) → (K → ℕ) → Plan → List Row → (ControlKey → Place (Ends S K C)) → (ControlKey → Place (Ends S K C)) → Type 0
-HasEnds left written source_faults sink_faults plan past old new =
-    (key : ControlKey) × (input : control.Input) × (stop : Option ℕ) × Keeps (IsControlServed left written source_faults sink_faults plan empty past input stop) (old key) (new key)
+abbrev HasEnds : {S K C : Type 0} → (S → Option (List ℕ)) → (K → Option (List ℕ)) → (S → ℕ) → (K → ℕ) → Plan → List (List Row) → (ControlKey → Place (Ends S K C)) → (ControlKey → Place (Ends S K C)) → Type 0
+HasEnds left written source_faults sink_faults plan segments old new =
+    (key : ControlKey) × (input : control.Input) × (stop : Option ℕ) × Keeps (IsControlServed left written source_faults sink_faults plan segments input stop) (old key) (new key)
 
-has_ends : {S K C : Type 0} (left : S → Option (List ℕ)) (written : K → Option (List ℕ)) (source_faults : S → ℕ) (sink_faults : K → ℕ) (plan : Plan) (past : List Row) (names : Option (List ℕ × List ℕ)) (lines : Option control.Input) (stop : Option ℕ) (old new : ControlKey → Place (Ends S K C))
-    → ServesControlPlace left written source_faults sink_faults plan past names lines stop old new → (lines ≡ None → ⊥) → HasEnds left written source_faults sink_faults plan past old new
-has_ends left written source_faults sink_faults plan past None None stop old new serves some = absurd (some refl)
-has_ends left written source_faults sink_faults plan past None (Some input) stop old new serves some = absurd serves
-has_ends left written source_faults sink_faults plan past (Some names) None stop old new serves some = absurd serves
-has_ends left written source_faults sink_faults plan past (Some names) (Some input) stop old new serves some = (control_key false names, input, stop, serves)
-
-pub no_input : Input
-no_input = record { arrivals = []; ending = hows.End }
-
-module _ {S K C : Type 0} (left : S → Option (List ℕ)) (written : K → Option (List ℕ)) (source_faults : S → ℕ) (sink_faults : K → ℕ) (plan : Plan) (Says : List ℕ → Type 0) (old new : Book S K C) (status : ℕ) (rising : IsStrictlyIncreasing (numbers_of plan.ports)) (r : IsReplayOf left written source_faults sink_faults plan Says old new status) where
-  -- without an input control's end is `end`
-  pub ended_alone : r.serves.lines ≡ None → control_end r.past ≡ Some hows.End
-  ended_alone none =
-      ap control_end (r.serves.replay ∙ ap (λ (l : Option control.Input). replayed plan empty l r.serves.inputs r.serves.stops) none)
-      ∙ (without_control plan r.serves.inputs r.serves.stops rising r.serves.size).1
-
-  control_ends : (r.serves.lines ≡ None → ⊥) → HasEnds left written source_faults sink_faults plan r.past old.control new.control
-  control_ends some = has_ends left written source_faults sink_faults plan r.past plan.control r.serves.lines r.serves.stops.control old.control new.control r.serves.control some
-
-  read_at : IsOfInput plan r.past → ((key : PortKey) × HasReadFault source_faults new key) ⊎ ((names : ControlKey) × EndHasFault (λ e. source_faults e.source) (new.control names))
-  read_at (inl found) =
-      let port = get_or (numbers_of plan.ports) found.0 0 in
-      let at = r.serves.each found.0 no_input found.1 in
-      let rose = at.holds.broken found.2 in
-      inl (key_among plan.ports port, fault_kept (λ (e : Ends S K C). source_faults e.source) (ports_in plan new port) at.back at.kept (omega (arith, rose)))
-  read_at (inr is) =
-      let ends = control_ends (λ none. let e : Some hows.Failed ≡ Some hows.End = sym is ∙ ended_alone none in cc) in
-      let at = ends.3 in
-      let rose = at.holds.broken is in
-      inr (ends.0, fault_kept (λ (e : Ends S K C). source_faults e.source) (new.control ends.0) at.back at.kept (omega (arith, rose)))
-
-  write_at : IsOfOutput plan r.past → HasSomeWriteFault sink_faults new
-  write_at (inl found) =
-      let port = get_or (numbers_of plan.ports) found.0 0 in
-      let at = r.serves.each found.0 no_input found.1 in
-      let rose = at.holds.broken_out found.2 in
-      inl (key_among plan.ports port, fault_kept (λ (e : Ends S K C). sink_faults e.sink) (ports_in plan new port) at.back at.kept (omega (arith, rose)))
-  write_at (inr is) =
-      let ends = control_ends (λ none. let e : Some hows.Unwritten ≡ Some hows.End = sym is ∙ ended_alone none in cc) in
-      let at = ends.3 in
-      let rose = at.holds.unwritten is in
-      inr (inl (ends.0, fault_kept (λ (e : Ends S K C). sink_faults e.sink) (new.control ends.0) at.back at.kept (omega (arith, rose))))
-
-  replay_read : status ≡ 5 → ((key : PortKey) × HasReadFault source_faults new key) ⊎ ((names : ControlKey) × EndHasFault (λ e. source_faults e.source) (new.control names))
-  replay_read five =
-      let failed : has_failed r.past ≡ true = failed_by status (has_failed r.past) (has_failed_write r.past || not (r.reported.journal_written && r.reported.summed.summary_written)) (has_malformed r.past) (has_paused_end r.past) r.reported.summed.cause five in
-      read_at (subst (λ (l : List Row). IsOfInput plan l) (sym r.serves.replay) (failed_at_input plan empty r.serves.lines r.serves.inputs r.serves.stops (ap has_failed (sym r.serves.replay) ∙ failed)))
-
--- a read failed where the status is 5
-pub read_fault_of : {S K C : Type 0} (left : S → Option (List ℕ)) (written : K → Option (List ℕ)) (source_faults : S → ℕ) (sink_faults : K → ℕ) (Says : List ℕ → Type 0) (old new : Book S K C) (file : List ℕ) (status : ℕ) → status ≡ 5
-    → IsFileUnread left source_faults file Says old new status ⊎ IsSession left written source_faults sink_faults file Says old new status → HasSomeReadFault source_faults file new
-read_fault_of left written source_faults sink_faults Says old new file status five (inl unread) = inl unread.fault
-read_fault_of left written source_faults sink_faults Says old new file status five (inr session) =
-    inr (replay_read left written source_faults sink_faults session.plan Says old new status session.configured.built.valid.ports session.session.did five)
+has_ends : {S K C : Type 0} (left : S → Option (List ℕ)) (written : K → Option (List ℕ)) (source_faults : S → ℕ) (sink_faults : K → ℕ) (plan : Plan) (segments : List (List Row)) (names : Option (List ℕ × List ℕ)) (lines : Option control.Input) (stop : Option ℕ) (old new : ControlKey → Place (Ends S K C))
+    → ServesControlPlace left written source_faults sink_faults plan segments names lines stop old new → (lines ≡ None → ⊥) → HasEnds left written source_faults sink_faults plan segments old new
+has_ends left written source_faults sink_faults plan segments None None stop old new serves some = absurd (some refl)
+has_ends left written source_faults sink_faults plan segments None (Some input) stop old new serves some = absurd serves
+has_ends left written source_faults sink_faults plan segments (Some names) None stop old new serves some = absurd serves
+has_ends left written source_faults sink_faults plan segments (Some names) (Some input) stop old new serves some = (control_key false names, input, stop, serves)
 
 -- a write of octets that weren't all taken failed
 pub unwritten_fault : {K : Type 0} (faults : K → ℕ) (written : K → Option (List ℕ)) (done : Bool) (octets : List ℕ) (old new : Place K) → done ≡ false → Keeps (TookOrPart faults written done octets) old new → EndHasFault faults new
@@ -131,31 +82,78 @@ named : {S K C : Type 0} (sink_faults : K → ℕ) (name : List ℕ) (new : Book
 named sink_faults name new (inl journal) = inr (inr (inl (name, journal)))
 named sink_faults name new (inr out) = inr (inr (inr out))
 
-unwritten_named : {S K C : Type 0} (written : K → Option (List ℕ)) (sink_faults : K → ℕ) (plan : Plan) (past : List Row) (Says : List ℕ → Type 0) (old new : Book S K C) (status : ℕ)
-    → (r : IsReported written sink_faults plan past Says old new status) → (r.journal_written && r.summed.summary_written) ≡ false → HasSomeWriteFault sink_faults new
-unwritten_named written sink_faults plan past Says old new status r unwritten =
+unwritten_named : {S K C : Type 0} (written : K → Option (List ℕ)) (sink_faults : K → ℕ) (plan : Plan) (segments : List (List Row)) (told : List Row) (Says : List ℕ → Type 0) (old new : Book S K C) (status : ℕ)
+    → (r : IsReported written sink_faults plan segments told Says old new status) → (r.journal_written && r.summed.summary_written) ≡ false → HasSomeWriteFault sink_faults new
+unwritten_named written sink_faults plan segments told Says old new status r unwritten =
     named sink_faults plan.journal new (one_unwritten sink_faults written r.journal_written r.summed.summary_written _ _ _ _ _ _ unwritten r.journal r.summed.summary)
 
-fault_of : {S K C : Type 0} (left : S → Option (List ℕ)) (written : K → Option (List ℕ)) (source_faults : S → ℕ) (sink_faults : K → ℕ) (plan : Plan) (Says : List ℕ → Type 0) (old new : Book S K C) (status : ℕ) → IsStrictlyIncreasing (numbers_of plan.ports)
-    → (r : IsReplayOf left written source_faults sink_faults plan Says old new status) → (has_failed_write r.past ≡ true) ⊎ ((r.reported.journal_written && r.reported.summed.summary_written) ≡ false) → HasSomeWriteFault sink_faults new
-fault_of left written source_faults sink_faults plan Says old new status rising r (inl failed) =
-    write_at left written source_faults sink_faults plan Says old new status rising r
-    (subst (λ (l : List Row). IsOfOutput plan l) (sym r.serves.replay) (failed_write_at_output plan empty r.serves.lines r.serves.inputs r.serves.stops (ap has_failed_write (sym r.serves.replay) ∙ failed)))
-fault_of left written source_faults sink_faults plan Says old new status rising r (inr unwritten) =
-    unwritten_named written sink_faults plan r.past Says old new status r.reported unwritten
+pub no_input : Input
+no_input = record { arrivals = []; ending = hows.End }
 
-replay_write : {S K C : Type 0} (left : S → Option (List ℕ)) (written : K → Option (List ℕ)) (source_faults : S → ℕ) (sink_faults : K → ℕ) (plan : Plan) (Says : List ℕ → Type 0) (old new : Book S K C) (status : ℕ) → IsStrictlyIncreasing (numbers_of plan.ports) → status ≡ 6
-    → IsReplayOf left written source_faults sink_faults plan Says old new status → HasSomeWriteFault sink_faults new
-replay_write left written source_faults sink_faults plan Says old new status rising six r =
-    let w = r.reported.journal_written && r.reported.summed.summary_written in
-    fault_of left written source_faults sink_faults plan Says old new status rising r
-    (which_unwritten (has_failed_write r.past) w (unwritten_by status (has_failed r.past) (has_failed_write r.past || not w) (has_malformed r.past) (has_paused_end r.past) r.reported.summed.cause six))
+module _ {S K C : Type 0} (left : S → Option (List ℕ)) (written : K → Option (List ℕ)) (source_faults : S → ℕ) (sink_faults : K → ℕ) (plan : Plan) (Says : List ℕ → Type 0) (old new : Book S K C) (status : ℕ) (r : IsReplayOf left written source_faults sink_faults plan Says old new status) where
+  abbrev rows : List Row
+  rows = unbroken r.segments
+
+  -- without an input control's end is `end`
+  pub ended_alone : r.serves.lines ≡ None → control_end (unbroken r.segments) ≡ Some hows.End
+  ended_alone none =
+      let whole = r.serves.replay ∙ ap (λ (l : Option control.Input). replayed plan l r.serves.inputs r.serves.stops) none in
+      ap (λ (segments : List (List Row)). control_end (unbroken segments)) whole
+      ∙ (without_control plan r.serves.inputs r.serves.stops (subst (AreLegal plan) whole r.serves.session.legal)).1
+
+  control_ends : (r.serves.lines ≡ None → ⊥) → HasEnds left written source_faults sink_faults plan r.segments old.control new.control
+  control_ends some = has_ends left written source_faults sink_faults plan r.segments plan.control r.serves.lines r.serves.stops.control old.control new.control r.serves.control some
+
+  read_at : IsOfInput plan rows → ((key : PortKey) × HasReadFault source_faults new key) ⊎ ((names : ControlKey) × EndHasFault (λ e. source_faults e.source) (new.control names))
+  read_at (inl found) =
+      let port = get_or (numbers_of plan.ports) found.0 0 in
+      let at = r.serves.each found.0 no_input found.1 in
+      let rose = at.holds.broken found.2 in
+      inl (key_among plan.ports port, fault_kept (λ (e : Ends S K C). source_faults e.source) (ports_in plan new port) at.back at.kept (omega (arith, rose)))
+  read_at (inr is) =
+      let ends = control_ends (λ none. let e : Some hows.Failed ≡ Some hows.End = sym is ∙ ended_alone none in cc) in
+      let at = ends.3 in
+      let rose = at.holds.broken is in
+      inr (ends.0, fault_kept (λ (e : Ends S K C). source_faults e.source) (new.control ends.0) at.back at.kept (omega (arith, rose)))
+
+  write_at : IsOfOutput plan rows → HasSomeWriteFault sink_faults new
+  write_at (inl found) =
+      let port = get_or (numbers_of plan.ports) found.0 0 in
+      let at = r.serves.each found.0 no_input found.1 in
+      let rose = at.holds.broken_out found.2 in
+      inl (key_among plan.ports port, fault_kept (λ (e : Ends S K C). sink_faults e.sink) (ports_in plan new port) at.back at.kept (omega (arith, rose)))
+  write_at (inr is) =
+      let ends = control_ends (λ none. let e : Some hows.Unwritten ≡ Some hows.End = sym is ∙ ended_alone none in cc) in
+      let at = ends.3 in
+      let rose = at.holds.unwritten is in
+      inr (inl (ends.0, fault_kept (λ (e : Ends S K C). sink_faults e.sink) (new.control ends.0) at.back at.kept (omega (arith, rose))))
+
+  replay_read : status ≡ 5 → ((key : PortKey) × HasReadFault source_faults new key) ⊎ ((names : ControlKey) × EndHasFault (λ e. source_faults e.source) (new.control names))
+  replay_read five =
+      let w = has_failed_write rows || not (r.reported.journal_written && r.reported.summed.summary_written) in
+      read_at (failed_at_input plan r.segments r.serves.session.legal (failed_by status (has_failed rows) w (has_malformed rows) (has_paused_end rows) r.reported.summed.cause five))
+
+  replay_fault : (has_failed_write rows ≡ true) ⊎ ((r.reported.journal_written && r.reported.summed.summary_written) ≡ false) → HasSomeWriteFault sink_faults new
+  replay_fault (inl failed) = write_at (failed_write_at_output plan r.segments r.serves.session.legal failed)
+  replay_fault (inr unwritten) = unwritten_named written sink_faults plan r.segments rows Says old new status r.reported unwritten
+
+  replay_write : status ≡ 6 → HasSomeWriteFault sink_faults new
+  replay_write six =
+      let w = r.reported.journal_written && r.reported.summed.summary_written in
+      replay_fault (which_unwritten (has_failed_write rows) w (unwritten_by status (has_failed rows) (has_failed_write rows || not w) (has_malformed rows) (has_paused_end rows) r.reported.summed.cause six))
+
+-- a read failed where the status is 5
+pub read_fault_of : {S K C : Type 0} (left : S → Option (List ℕ)) (written : K → Option (List ℕ)) (source_faults : S → ℕ) (sink_faults : K → ℕ) (Says : List ℕ → Type 0) (old new : Book S K C) (file : List ℕ) (status : ℕ) → status ≡ 5
+    → IsFileUnread left source_faults file Says old new status ⊎ IsSession left written source_faults sink_faults file Says old new status → HasSomeReadFault source_faults file new
+read_fault_of left written source_faults sink_faults Says old new file status five (inl unread) = inl unread.fault
+read_fault_of left written source_faults sink_faults Says old new file status five (inr session) =
+    inr (replay_read left written source_faults sink_faults session.plan Says old new status session.session.did five)
 
 -- a write failed where the status is 6
 pub write_fault_of : {S K C : Type 0} (left : S → Option (List ℕ)) (written : K → Option (List ℕ)) (source_faults : S → ℕ) (sink_faults : K → ℕ) (Says : List ℕ → Type 0) (old new : Book S K C) (file : List ℕ) (status : ℕ) → status ≡ 6
     → IsFileUnread left source_faults file Says old new status ⊎ IsSession left written source_faults sink_faults file Says old new status → HasSomeWriteFault sink_faults new
 write_fault_of left written source_faults sink_faults Says old new file status six (inl unread) = let five : status ≡ 5 = unread.status_is in absurd (omega (arith, five, six))
-write_fault_of left written source_faults sink_faults Says old new file status six (inr session) = replay_write left written source_faults sink_faults session.plan Says old new status session.configured.built.valid.ports six session.session.did
+write_fault_of left written source_faults sink_faults Says old new file status six (inr session) = replay_write left written source_faults sink_faults session.plan Says old new status session.session.did six
 
 -- the same of a live session
 
@@ -200,7 +198,7 @@ module _ {S K C : Type 0} (left : S → Option (List ℕ)) (written : K → Opti
 
   live_fault : (has_failed_write r.past ≡ true) ⊎ ((r.reported.journal_written && r.reported.summed.summary_written) ≡ false) → HasSomeWriteFault sink_faults new
   live_fault (inl failed) = live_write_at (legal_failed_write plan empty r.past r.legal failed)
-  live_fault (inr unwritten) = unwritten_named written sink_faults plan r.past Says old new status r.reported unwritten
+  live_fault (inr unwritten) = unwritten_named written sink_faults plan (r.past ∷ []) r.past Says old new status r.reported unwritten
 
   live_write : status ≡ 6 → HasSomeWriteFault sink_faults new
   live_write six =

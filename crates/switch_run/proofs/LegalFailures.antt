@@ -20,8 +20,7 @@ use Rattle.savi_history.specs.PortInputs.{input_end}
 use Rattle.savi_history.specs.PortOutputs.{output_end}
 use Rattle.savi_history.specs.ControlInputs.{control_end}
 use Rattle.savi_history.specs.Endings.{has_failed, has_failed_write, is_failed_reason, is_unwritten_reason}
-use Rattle.savi_history.proofs.Failing.{IsOfInput}
-use Rattle.savi_history.proofs.FailedWrites.{IsOfOutput}
+use Rattle.savi_segments.proofs.Failures.{IsOfInput, IsOfOutput}
 use Rattle.savi_history.proofs.PortPlaces.{placed, place_within}
 use Rattle.savi_history.proofs.Waiting.{ended_now}
 

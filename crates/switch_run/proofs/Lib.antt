@@ -1,4 +1,6 @@
+pub mod ToldEnds
 pub mod Sessions
+pub mod Concluding
 pub mod Through
 pub mod Handling
 pub mod Recast

@@ -1,19 +1,24 @@
 -- How the run of a load ends.
-use Rattle.std.proofs.Common.{◌≡◌, ℕ, ◌⊎◌, inl, inr, List, [], Bool, true, false, if◌then◌else◌, refl, sym, ap, ◌∙◌, subst, arith, Option, Some, None, append-nil}
-use Rattle.savi_kinds.specs.declared.plan.Plan.{Plan}
+use Rattle.std.proofs.Common.{◌≡◌, ℕ, ◌⊎◌, inl, inr, List, [], ◌∷◌, Bool, true, false, if◌then◌else◌, refl, sym, ap, ◌∙◌, subst, arith, Option, Some, None, append-nil, length}
 use Rattle.savi_ends.specs.declared.world.Std.TheVariants.{Out}
 use Rattle.savi_ends.specs.Octets.{behind}
 use Rattle.savi_ends.specs.Places.{Place, Book}
 use Rattle.hist_store.specs.Rows.{Row}
-use Rattle.checkpoint.specs.Bases.{empty}
-use Rattle.savi_history.specs.Legal.{IsFinished, IsLegal}
-use Rattle.savi_history.specs.Summary.{Summary, summary_of, summary_text}
+use Rattle.checkpoint.specs.Bases.{Base}
+use Rattle.savi_history.specs.Shown.{counts_of}
+use Rattle.savi_history.specs.Summary.{Summary, capped, summary_of, summary_text}
+use Rattle.savi_segments.specs.Counted.{summary_by}
+use Rattle.savi_segments.specs.Segments.{IsWholeSession, base_after, joined}
+use Rattle.savi_core.specs.Machines.{Machine, base_of}
+use Rattle.port_worker.specs.Replayed.{HasReplayed}
 use Rattle.load_gen.specs.LoadPlan.{IsLoadPlan}
-use Rattle.load_run.specs.LoadHistory.{AreOrdinary, load_history}
+use Rattle.load_gen.proofs.PlanHolds.{load_plan_holds}
+use Rattle.load_run.specs.LoadHistory.{AreOrdinary, load_segments}
 use Rattle.switch_report.specs.RunLines.{memory_line}
 use Rattle.switch_run.specs.Causes.{IsOneOf, IsUnserved, Keeps, TookOrPart, quiet_statuses, statuses}
 use Rattle.switch_run.specs.Loads.{IsLoadRun, IsLoadSummed, IsLoadUnplayed}
 use Rattle.switch_run.specs.Session.{WasTold, ToldBy}
+use Rattle.switch_run.proofs.Sessions.{CountersSumUp}
 use Rattle.switch_run.proofs.Running.{Ran, ran_told, ran_quiet, out≢err}
 
 by_written : (P : ℕ → Type 0) (status : ℕ) (written : Bool) → P 0 → P 6 → status ≡ (if written then 0 else 6) → P status
@@ -73,8 +78,7 @@ module _ {S K C : Type 0} (written : K → Option (List ℕ)) (sink_faults : K �
   moved (inr summed) = inr (record {
     plan = summed.plan;
     load = summed.load;
-    legal = summed.legal;
-    finished = summed.finished;
+    session = summed.session;
     ordinary = summed.ordinary;
     summary_written = summed.summary_written;
     summary = rw (ran.others3 Out out≢err, sym (ran.others1 Out out≢err)) summed.summary;
@@ -96,19 +100,30 @@ nothing_more (Some octets) = ap (λ (o : List ℕ). Some o) (sym (append-nil oct
 pub told_nothing : {K : Type 0} (faults : K → ℕ) (written : K → Option (List ℕ)) (sink : K) → ToldBy faults written sink sink []
 told_nothing faults written sink = inl (nothing_more (written sink))
 
--- the history of a load was summed up, and standard error was told nothing
-pub load_summed : {K : Type 0} (written : K → Option (List ℕ)) (faults : K → ℕ) (seed frames : ℕ) (sink : K) (plan : Plan) (past : List Row) (sum : Summary) (done : Bool) (old new : Place K) (status : ℕ)
-    → IsLoadPlan plan → IsLegal plan empty past → IsFinished plan empty past → AreOrdinary past → past ≡ load_history plan seed frames
-    → sum ≡ summary_of past → Keeps (TookOrPart faults written done (summary_text sum)) old new → status ≡ (if done then 0 else 6)
+-- the segments of a load were summed up, and standard error was told nothing
+pub load_summed : {K : Type 0} (written : K → Option (List ℕ)) (faults : K → ℕ) (seed frames : ℕ) (sink : K) (core : Machine) (entries : ℕ) (sum : Summary) (done : Bool) (old new : Place K) (status : ℕ)
+    → CountersSumUp → IsLoadPlan core.plan
+    → HasReplayed core (λ segments. (segments ≡ load_segments core.plan seed frames) × IsWholeSession core.plan segments × (entries ≡ capped (length (joined segments))))
+    → AreOrdinary (joined (load_segments core.plan seed frames))
+    → sum ≡ summary_by entries (counts_of (base_of core) core.past) → Keeps (TookOrPart faults written done (summary_text sum)) old new → status ≡ (if done then 0 else 6)
     → IsLoadSummed written faults seed frames (ToldBy faults written sink sink) old new status
-load_summed written faults seed frames sink plan past sum done old new status load legal finished ordinary history summed keeps is = record {
-  plan = plan;
-  load = load;
-  legal = subst (λ (p : List Row). IsLegal plan empty p) history legal;
-  finished = subst (λ (p : List Row). IsFinished plan empty p) history finished;
-  ordinary = subst (λ (p : List Row). AreOrdinary p) history ordinary;
-  summary_written = done;
-  summary = subst (λ (s : Summary). Keeps (TookOrPart faults written done (summary_text s)) old new) (summed ∙ ap summary_of history) keeps;
-  errors = told_nothing faults written sink;
-  cause = is;
-}
+load_summed written faults seed frames sink core entries sum done old new status law load replayed ordinary summed keeps is =
+    let plan = core.plan in
+    let segments : List (List Row) = core.past ∷ replayed.before in
+    let whole : segments ≡ load_segments plan seed frames = replayed.all.0 in
+    let session = replayed.all.1 in
+    let counted : sum ≡ summary_of (joined segments) =
+    summed
+    ∙ ap (λ (base : Base). summary_by entries (counts_of base core.past)) replayed.base
+    ∙ ap (λ (n : ℕ). summary_by n (counts_of (base_after plan replayed.before) core.past)) replayed.all.2
+    ∙ sym (law plan core.past replayed.before (load_plan_holds plan load) session.legal) in
+    record {
+      plan = plan;
+      load = load;
+      session = subst (IsWholeSession plan) whole session;
+      ordinary = ordinary;
+      summary_written = done;
+      summary = subst (λ (s : Summary). Keeps (TookOrPart faults written done (summary_text s)) old new) (counted ∙ ap (λ (l : List (List Row)). summary_of (joined l)) whole) keeps;
+      errors = told_nothing faults written sink;
+      cause = is;
+    }

@@ -4,7 +4,7 @@ use Rattle.savi_ends.specs.declared.sink.Put.{Put}
 use Rattle.savi_ends.specs.declared.sink.Put.TheVariants.{Failed}
 use Rattle.savi_ends.specs.declared.world.Std.{Std}
 use Rattle.savi_ends.specs.declared.world.Std.TheVariants.{Out}
-use Rattle.savi_ends.specs.Faults.{Rose}
+use Rattle.savi_ends.specs.Faults.{Rose, RoseOnce}
 use Rattle.savi_ends.specs.Places.{Place, Book}
 use Rattle.savi_ends.specs.Writes.{Extends}
 use Rattle.pcap_split.specs.declared.counts.Counts.{Counts}
@@ -12,7 +12,7 @@ use Rattle.split_run.specs.declared.outcome.Outcome.{Outcome}
 use Rattle.split_run.specs.declared.outcome.Outcome.TheVariants as outcome
 use Rattle.split_run.specs.CountsLines.{counts_line}
 use Rattle.split_run.specs.Names.{AreNames, output_name}
-use Rattle.split_run.specs.Runs.{CameTo, IsNamed, IsSplitRun}
+use Rattle.split_run.specs.Runs.{CameTo, HasOpenedAll, IsNamed, IsSplitRun}
 use Rattle.split_run.proofs.Keeps.{text_at}
 use Rattle.switch_report.specs.RunLines.{cannot_open_line, malformed_line, memory_line}
 use Rattle.switch_run.specs.Causes.{IsOneOf, Keeps, TookOrPart, quiet_statuses, statuses}
@@ -20,7 +20,7 @@ use Rattle.switch_run.specs.Session.{WasTold, ToldBy}
 use Rattle.switch_run.specs.Splits.{IsCaptureRun, IsCountTold, IsOnlyTold, IsSplitAs, IsTold}
 use Rattle.switch_run.proofs.Loading.{told_nothing}
 use Rattle.switch_run.proofs.Recast.{told_by}
-use Rattle.switch_run.proofs.Running.{Ran, ran_told, ran_quiet, out≢err}
+use Rattle.switch_run.proofs.Running.{Ran, ran_told, ran_quiet, ran_unfailed, out≢err}
 
 by_count : {K : Type 0} (written : K → Option (List ℕ)) (faults : K → ℕ) (Says : List ℕ → Type 0) (counts : Counts) (error : List ℕ) (answered : ℕ) (old new : Place K) (status : ℕ) (P : ℕ → Type 0) → P answered → P 6 → IsCountTold written faults Says counts error answered old new status → P status
 by_count written faults Says counts error answered old new status P this six told = by told.line_written told.cause
@@ -31,7 +31,7 @@ by_count written faults Says counts error answered old new status P this six tol
 
 -- what holds of the statuses of a capture that was opened holds of this one; and where it is 7, something couldn't be
 by_told : {S K C : Type 0} (left : S → Option (List ℕ)) (written : K → Option (List ℕ)) (source_faults : S → ℕ) (sink_faults : K → ℕ) (file : List ℕ) (Says : List ℕ → Type 0) (old new : Book S K C) (status : ℕ) (P : ℕ → Type 0) (outcome : Outcome)
-    → P 0 → P 4 → P 5 → P 6 → (Rose old.faults new.faults → new.std Out ≡ old.std Out → P 7)
+    → P 0 → P 4 → P 5 → P 6 → (RoseOnce old.faults new.faults → new.std Out ≡ old.std Out → P 7)
     → CameTo left written source_faults sink_faults file old new outcome → IsTold written sink_faults Says file outcome (old.std Out) (new.std Out) status → P status
 by_told left written source_faults sink_faults file Says old new status P (outcome.Split counts) zero four five six seven came told = by_count written sink_faults Says counts _ 0 (old.std Out) (new.std Out) status P zero six told
 by_told left written source_faults sink_faults file Says old new status P (outcome.Malformed at counts) zero four five six seven came told = by_count written sink_faults Says counts _ 4 (old.std Out) (new.std Out) status P four six told
@@ -41,7 +41,7 @@ by_told left written source_faults sink_faults file Says old new status P (outco
 by_told left written source_faults sink_faults file Says old new status P outcome.NoInput zero four five six seven came told = subst P (sym told.cause) (seven came.0 told.out)
 
 module _ {S K C : Type 0} (left : S → Option (List ℕ)) (written : K → Option (List ℕ)) (source_faults : S → ℕ) (sink_faults : K → ℕ) (file : List ℕ) (Says : List ℕ → Type 0) (old new : Book S K C) (status : ℕ) where
-  by_status : (P : ℕ → Type 0) → P 0 → (Says memory_line → new.std Out ≡ old.std Out → P 1) → P 4 → P 5 → P 6 → (Rose old.faults new.faults → new.std Out ≡ old.std Out → P 7) → IsCaptureRun left written source_faults sink_faults file Says old new status → P status
+  by_status : (P : ℕ → Type 0) → P 0 → (Says memory_line → new.std Out ≡ old.std Out → P 1) → P 4 → P 5 → P 6 → (RoseOnce old.faults new.faults → new.std Out ≡ old.std Out → P 7) → IsCaptureRun left written source_faults sink_faults file Says old new status → P status
   by_status P zero one four five six seven (inl unsplit) = subst P (sym unsplit.told.cause) (one unsplit.told.errors unsplit.told.out)
   by_status P zero one four five six seven (inr split) = by_told left written source_faults sink_faults file Says old new status P split.outcome zero four five six seven split.came split.told
 
@@ -56,13 +56,26 @@ module _ {S K C : Type 0} (left : S → Option (List ℕ)) (written : K → Opti
   capture_memory run =
       by_status (λ n. n ≡ 1 → Says memory_line) (λ e. absurd (omega (arith, e))) (λ told out e. told) (λ e. absurd (omega (arith, e))) (λ e. absurd (omega (arith, e))) (λ e. absurd (omega (arith, e))) (λ rose out e. absurd (omega (arith, e))) run
 
-  pub capture_opening : IsCaptureRun left written source_faults sink_faults file Says old new status → status ≡ 7 → Rose old.faults new.faults
+  pub capture_opening : IsCaptureRun left written source_faults sink_faults file Says old new status → status ≡ 7 → RoseOnce old.faults new.faults
   capture_opening run =
-      by_status (λ n. n ≡ 7 → Rose old.faults new.faults) (λ e. absurd (omega (arith, e))) (λ told out e. absurd (omega (arith, e))) (λ e. absurd (omega (arith, e))) (λ e. absurd (omega (arith, e))) (λ e. absurd (omega (arith, e))) (λ rose out e. rose) run
+      by_status (λ n. n ≡ 7 → RoseOnce old.faults new.faults) (λ e. absurd (omega (arith, e))) (λ told out e. absurd (omega (arith, e))) (λ e. absurd (omega (arith, e))) (λ e. absurd (omega (arith, e))) (λ e. absurd (omega (arith, e))) (λ rose out e. rose) run
 
   pub capture_out : IsCaptureRun left written source_faults sink_faults file Says old new status → IsOneOf quiet_statuses status → new.std Out ≡ old.std Out
   capture_out run =
       by_status (λ n. IsOneOf quiet_statuses n → new.std Out ≡ old.std Out) (λ e. let t : false ≡ true = e in cc) (λ told out e. out) (λ e. let t : false ≡ true = e in cc) (λ e. let t : false ≡ true = e in cc) (λ e. let t : false ≡ true = e in cc) (λ rose out e. out) run
+
+  -- an opening that failed ends it with 7
+  opened_all : (outcome : Outcome) → IsTold written sink_faults Says file outcome (old.std Out) (new.std Out) status → status ≢ 7 → HasOpenedAll outcome
+  opened_all (outcome.Split counts) told other = tt
+  opened_all (outcome.Malformed at counts) told other = tt
+  opened_all outcome.Unread told other = tt
+  opened_all (outcome.Unwritten interface) told other = tt
+  opened_all (outcome.NoOutput interface) told other = absurd (other told.cause)
+  opened_all outcome.NoInput told other = absurd (other told.cause)
+
+  pub capture_still : IsCaptureRun left written source_faults sink_faults file Says old new status → status ≢ 7 → new.faults ≡ old.faults
+  capture_still (inl unsplit) other = ap (λ (b : Book S K C). b.faults) unsplit.rest
+  capture_still (inr split) other = split.still (opened_all split.outcome split.told other)
 
 -- what came between two books came between two that differ only in the standard outputs
 moved_came : {S K C : Type 0} (left : S → Option (List ℕ)) (written : K → Option (List ℕ)) (source_faults : S → ℕ) (sink_faults : K → ℕ) (file : List ℕ) (old new : Book S K C) (s s' : Std → Place K) (outcome : Outcome)
@@ -107,6 +120,7 @@ module _ {S K C : Type 0} (left : S → Option (List ℕ)) (written : K → Opti
       inr (record {
         outcome = split.outcome;
         came = subst (λ (b : Book S K C). CameTo left written source_faults sink_faults file b0 b split.outcome) (sym ran.rest3) (moved_came left written source_faults sink_faults file b0 b2 b1.std b3.std split.outcome came);
+        still = λ opened. ran_unfailed b0 b1 b2 b3 e e' ran (split.still opened);
         told = moved_told split.outcome split.told;
         inputs = λ other apart. ap (λ (b : Book S K C). b.inputs other) ran.rest3 ∙ split.inputs other apart ∙ ap (λ (b : Book S K C). b.inputs other) ran.rest1;
         rest =
@@ -131,6 +145,7 @@ split_as {S} {K} {C} left written source_faults sink_faults file Says b0 b1 b2 o
     record {
       outcome = outcome;
       came = subst (λ (b : Book S K C). CameTo left written source_faults sink_faults file b0 b outcome) (sym rest) (moved_came left written source_faults sink_faults file b0 b1 b0.std b2.std outcome run.came);
+      still = λ opened. faults ∙ run.still opened;
       told = subst (λ (p : Place K). IsTold written sink_faults Says file outcome p (b2.std Out) status) (ap (λ (b : Book S K C). b.std Out) run.rest) told;
       inputs = λ other apart. ap (λ (p : List ℕ → Place S). p other) inputs ∙ run.inputs other apart;
       rest = rest

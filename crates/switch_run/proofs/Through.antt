@@ -4,37 +4,34 @@ use Rattle.std.proofs.lemmas.List.{get_or-map, get_or_default, get_or-append-add
 use Rattle.std.proofs.lemmas.List.Kept.{AllPairs-from_increasing}
 use Rattle.std.specs.List.Sorted.{IsStrictlyIncreasing}
 use Rattle.std.proofs.lemmas.Bool.{cases_eq, cases_Bool}
-use Rattle.std.proofs.lemmas.List.Elements.{All-cons}
+use Rattle.std.proofs.lemmas.List.Elements.{All-append, All-cons, All-nil}
 use Rattle.std.proofs.lemmas.Slice.Eq.{bytes_eq-Decides}
 use Rattle.std.specs.Str.{bytes_eq}
 use Rattle.pcap_io.specs.Kinds.{classic_kinds}
 use Rattle.pcap_io.specs.Readers.{State, Fresh, Comes}
 use Rattle.pcap_io.specs.Runs.{Arrive}
-use Rattle.std.specs.Prelude.{All, reverse, slice_index}
+use Rattle.std.specs.Prelude.{All, slice_index}
 use Rattle.savi_kinds.specs.declared.plan.Plan.{Plan}
 use Rattle.savi_kinds.specs.declared.plan.PortPlan.{PortPlan}
 use Rattle.savi_kinds.specs.declared.port.Port.{Port}
 use Rattle.savi_kinds.specs.Ports.{number_of}
-use Rattle.savi_kinds.specs.ValidPlan.{numbers_of}
+use Rattle.savi_kinds.specs.ValidPlan.{IsValidPlan, numbers_of}
 use Rattle.savi_ends.specs.declared.world.Std.TheVariants.{Out}
 use Rattle.savi_ends.specs.declared.world.Ends.{Ends}
 use Rattle.savi_ends.specs.Octets.{behind, in_front}
 use Rattle.savi_ends.specs.Places.{Place, Book, PortKey, ControlKey, OthersStay}
+use Rattle.ra_guard.specs.Refused.{IsAdvertFrame, IsHiddenFrame}
 use Rattle.cli_lang.specs.Arrivals as lines_of
 use Rattle.hist_store.specs.Rows.{Row}
-use Rattle.hist_store.specs.JournalTexts.{journal_text, address_text}
-use Rattle.checkpoint.specs.Bases.{empty}
-use Rattle.savi_history.specs.Journals.{IsJournalOf}
-use Rattle.savi_history.specs.Legal.{IsLegal}
+use Rattle.hist_store.specs.JournalTexts.{address_text}
+use Rattle.savi_history.specs.Adverts.{IsGuarded, NotPassed}
 use Rattle.savi_history.proofs.Guarded.{guarded}
-use Rattle.savi_history.proofs.Starting.{empty_within}
-use Rattle.savi_history.proofs.Telling.{passed_rightly}
-use Rattle.savi_history.proofs.CameFirst.{all_keep}
-use Rattle.savi_history.proofs.AddressTexts.{written-IsAddressText}
-use Rattle.savi_history.proofs.OneHistory.{journal_tells}
+use Rattle.savi_segments.specs.FirstCome.{AllSegmentsPassedRightly, SegmentsKeepWhoCameFirst}
+use Rattle.savi_segments.specs.Journals.{IsJournalOf, IsJournalOfOne, journal_of}
+use Rattle.savi_segments.specs.Segments.{AreLegal, base_after, joined}
+use Rattle.savi_segments.specs.Unbroken.{unbroken}
 use Rattle.port_worker.specs.declared.control_ends.ControlEnds.{ControlEnds}
 use Rattle.port_worker.specs.declared.port_ends.PortEnds.{PortEnds}
-use Rattle.port_worker.specs.declared.session.Ready.{Ready}
 use Rattle.port_worker.specs.Replays.{ports_held}
 use Rattle.port_worker.specs.SentFrames.{TookMore}
 use Rattle.port_worker.specs.ControlServed.{IsControlServed, ServesControl}
@@ -76,11 +73,11 @@ pub record HandledOne {K : Type 0} (name : List ℕ) (sink sink' : K) (old new :
   pub others : OthersStay old new name
 
 -- The same of all ends of a plan.
-pub record HandledAll {S K C : Type 0} (plan : Plan) (held back : Ready S K C) (sink sink' : K) (old new : Book S K C) : Type 0 where
-  pub planned : ports_held held.ports.items ≡ ports_of plan.ports
-  pub ports : Handled held.ports.items back.ports.items (ports_in plan old) (ports_in plan new)
-  pub others : (key : PortKey) → IsOff held.ports.items key.number → new.ports key ≡ old.ports key
-  pub control : HandledControl plan.control held.control back.control old.control new.control
+pub record HandledAll {S K C : Type 0} (plan : Plan) (control control' : Option (ControlEnds S K C)) (held back : List (PortEnds S K C)) (sink sink' : K) (old new : Book S K C) : Type 0 where
+  pub planned : ports_held held ≡ ports_of plan.ports
+  pub ports : Handled held back (ports_in plan old) (ports_in plan new)
+  pub others : (key : PortKey) → IsOff held key.number → new.ports key ≡ old.ports key
+  pub ends : HandledControl plan.control control control' old.control new.control
   pub journal : HandledOne plan.journal sink sink' old.outputs new.outputs
 
 pub element : {X : Type 0} (xs : List X) (k : ℕ) → k < length xs → X
@@ -213,10 +210,9 @@ keeps_control left written (Some names) (Some held) old new handled =
     keeps_of (IsUsed left written) (old (control_key false names)) (new (control_key false names)) held.ends held.ends handled.told handled.kept (unused_ends left written held.ends)
 
 -- the ends of a session for which there was no memory are kept as they were
-pub keeps_all_of : {S K C : Type 0} (left : S → Option (List ℕ)) (written : K → Option (List ℕ)) (plan : Plan) (ready : Ready S K C) (sink : K) (old new : Book S K C) → HandledAll plan ready ready sink sink old new → KeepsAll false left written plan old new
-keeps_all_of {S} {K} {C} left written plan ready sink old new all = record {
+pub keeps_all_of : {S K C : Type 0} (left : S → Option (List ℕ)) (written : K → Option (List ℕ)) (plan : Plan) (control : Option (ControlEnds S K C)) (held : List (PortEnds S K C)) (sink : K) (old new : Book S K C) → HandledAll plan control control held held sink sink old new → KeepsAll false left written plan old new
+keeps_all_of {S} {K} {C} left written plan control held sink old new all = record {
   ports = λ k d inside.
-      let held = ready.ports.items in
       let ports = all.planned in
       let handled = all.ports in
       let sizes = length-map plan.ports (λ (p : PortPlan). number_of p.number) in
@@ -224,85 +220,101 @@ keeps_all_of {S} {K} {C} left written plan ready sink old new all = record {
       let e = element held k (omega (arith, sizes, size, inside)) in
       subst (λ (n : ℕ). Keeps (IsUsed left written) (ports_in plan old n) (ports_in plan new n)) (sym (get_or_default (numbers_of plan.ports) k d 0 inside ∙ number_at held plan.ports k e ports (omega (arith, sizes, size, inside))))
       (keeps_at (IsUsed left written) held held (ports_in plan old) (ports_in plan new) k e handled (omega (arith, sizes, size, inside)) (unused_ends left written (get_or held k e).ends));
-  control = keeps_control left written plan.control ready.control old.control new.control all.control;
+  control = keeps_control left written plan.control control old.control new.control all.ends;
   journal = keeps_of (λ told kept. TookMore (written told) (written kept)) _ _ sink sink all.journal.told all.journal.kept (unused_sink written sink);
 }
 
-pub off_plan : {S K C : Type 0} (plan : Plan) (held back : Ready S K C) (sink sink' : K) (old new : Book S K C) → HandledAll plan held back sink sink' old new → IsOffPlanSame plan old new
-off_plan {S} {K} {C} plan held back sink sink' old new all = record {
+pub off_plan : {S K C : Type 0} (plan : Plan) (control control' : Option (ControlEnds S K C)) (held back : List (PortEnds S K C)) (sink sink' : K) (old new : Book S K C) → HandledAll plan control control' held back sink sink' old new → IsOffPlanSame plan old new
+off_plan {S} {K} {C} plan control control' held back sink sink' old new all = record {
   ports = λ key away. all.others key (λ k d inside same.
       let sizes = length-map plan.ports (λ (p : PortPlan). number_of p.number) in
-      let size = size_of held.ports.items plan.ports all.planned in
-      away k 0 (omega (arith, sizes, size, inside)) (number_at held.ports.items plan.ports k d all.planned inside ∙ same));
-  control = λ none. control_off plan.control held.control back.control old.control new.control all.control none;
+      let size = size_of held plan.ports all.planned in
+      away k 0 (omega (arith, sizes, size, inside)) (number_at held plan.ports k d all.planned inside ∙ same));
+  control = λ none. control_off plan.control control control' old.control new.control all.ends none;
   outputs = all.journal.others;
 }
 
 -- where the ends of control that are held were served, those in their place were
-serves_control : {S K C : Type 0} (left : S → Option (List ℕ)) (written : K → Option (List ℕ)) (source_faults : S → ℕ) (sink_faults : K → ℕ) (plan : Plan) (past : List Row) (names : Option (List ℕ × List ℕ)) (held back : Option (ControlEnds S K C)) (lines : Option lines_of.Input) (stop : Option ℕ) (old new : ControlKey → Place (Ends S K C))
-    → HandledControl names held back old new → ServesControl left written source_faults sink_faults plan empty past held back lines stop
-    → ServesControlPlace left written source_faults sink_faults plan past names lines stop old new
-serves_control left written source_faults sink_faults plan past None None None None stop old new handled serves = handled
-serves_control left written source_faults sink_faults plan past None None None (Some input) stop old new handled serves = absurd serves
-serves_control left written source_faults sink_faults plan past None None (Some back) lines stop old new handled serves = absurd handled
-serves_control left written source_faults sink_faults plan past None (Some held) back lines stop old new handled serves = absurd handled
-serves_control left written source_faults sink_faults plan past (Some names) None back lines stop old new handled serves = absurd handled
-serves_control left written source_faults sink_faults plan past (Some names) (Some held) None lines stop old new handled serves = absurd handled
-serves_control left written source_faults sink_faults plan past (Some names) (Some held) (Some back) None stop old new handled serves = absurd serves
-serves_control left written source_faults sink_faults plan past (Some names) (Some held) (Some back) (Some input) stop old new handled serves =
-    keeps_of (IsControlServed left written source_faults sink_faults plan empty past input stop) (old (control_key false names)) (new (control_key false names)) held.ends back.ends handled.told handled.kept serves
+serves_control : {S K C : Type 0} (left : S → Option (List ℕ)) (written : K → Option (List ℕ)) (source_faults : S → ℕ) (sink_faults : K → ℕ) (plan : Plan) (segments : List (List Row)) (names : Option (List ℕ × List ℕ)) (held back : Option (ControlEnds S K C)) (lines : Option lines_of.Input) (stop : Option ℕ) (old new : ControlKey → Place (Ends S K C))
+    → HandledControl names held back old new → ServesControl left written source_faults sink_faults plan segments held back lines stop
+    → ServesControlPlace left written source_faults sink_faults plan segments names lines stop old new
+serves_control left written source_faults sink_faults plan segments None None None None stop old new handled serves = handled
+serves_control left written source_faults sink_faults plan segments None None None (Some input) stop old new handled serves = absurd serves
+serves_control left written source_faults sink_faults plan segments None None (Some back) lines stop old new handled serves = absurd handled
+serves_control left written source_faults sink_faults plan segments None (Some held) back lines stop old new handled serves = absurd handled
+serves_control left written source_faults sink_faults plan segments (Some names) None back lines stop old new handled serves = absurd handled
+serves_control left written source_faults sink_faults plan segments (Some names) (Some held) None lines stop old new handled serves = absurd handled
+serves_control left written source_faults sink_faults plan segments (Some names) (Some held) (Some back) None stop old new handled serves = absurd serves
+serves_control left written source_faults sink_faults plan segments (Some names) (Some held) (Some back) (Some input) stop old new handled serves =
+    keeps_of (IsControlServed left written source_faults sink_faults plan segments input stop) (old (control_key false names)) (new (control_key false names)) held.ends back.ends handled.told handled.kept serves
 
 -- where the ends that are held were served, those in their places were
-serves_places : {S K C : Type 0} (left : S → Option (List ℕ)) (written : K → Option (List ℕ)) (source_faults : S → ℕ) (sink_faults : K → ℕ) (plan : Plan) (past : List Row) (control control' : Option (ControlEnds S K C)) (held back : List (PortEnds S K C)) (place place' : ControlKey → Place (Ends S K C)) (old new : ℕ → Place (Ends S K C))
-    → HandledControl plan.control control control' place place' → ports_held held ≡ ports_of plan.ports → Handled held back old new → All IsReadAnew held → ServesEnds left written source_faults sink_faults plan empty past control control' held back
-    → ServesPorts plan empty past (λ lines stop. ServesControlPlace left written source_faults sink_faults plan past plan.control lines stop place place') (λ at port input stop. Keeps (IsServed left written source_faults sink_faults (Arrive classic_kinds) plan empty past port input stop) (old port) (new port))
-serves_places {S} {K} {C} left written source_faults sink_faults plan past control control' held back place place' old new handled_control ports handled anew serves = record {
+serves_places : {S K C : Type 0} (left : S → Option (List ℕ)) (written : K → Option (List ℕ)) (source_faults : S → ℕ) (sink_faults : K → ℕ) (plan : Plan) (segments : List (List Row)) (control control' : Option (ControlEnds S K C)) (held back : List (PortEnds S K C)) (place place' : ControlKey → Place (Ends S K C)) (old new : ℕ → Place (Ends S K C))
+    → HandledControl plan.control control control' place place' → ports_held held ≡ ports_of plan.ports → Handled held back old new → All IsReadAnew held → ServesEnds left written source_faults sink_faults plan segments control control' held back
+    → ServesPorts plan segments (λ lines stop. ServesControlPlace left written source_faults sink_faults plan segments plan.control lines stop place place') (λ at port input stop. Keeps (IsServed left written source_faults sink_faults (Arrive classic_kinds) plan segments port input stop) (old port) (new port))
+serves_places {S} {K} {C} left written source_faults sink_faults plan segments control control' held back place place' old new handled_control ports handled anew serves = record {
   lines = serves.lines;
-  control = serves_control left written source_faults sink_faults plan past plan.control control control' serves.lines serves.stops.control place place' handled_control serves.control;
+  control = serves_control left written source_faults sink_faults plan segments plan.control control control' serves.lines serves.stops.control place place' handled_control serves.control;
   inputs = serves.inputs;
   stops = serves.stops;
   size = serves.size;
   replay = serves.replay;
-  finished = serves.finished;
+  session = serves.session;
   each = λ k i within.
       let size = size_of held plan.ports ports in
       let inside : k < length held = omega (arith, size, within) in
       let d = element held k inside in
       let port = slice_index (numbers_of plan.ports) k in
-      let Served : State → Ends S K C → Ends S K C → Type 0 = λ s. IsServed left written source_faults sink_faults (Comes s) plan empty past port (get_or serves.inputs k i) (serves.stops.ports port) in
+      let Served : State → Ends S K C → Ends S K C → Type 0 = λ s. IsServed left written source_faults sink_faults (Comes s) plan segments port (get_or serves.inputs k i) (serves.stops.ports port) in
       subst (λ (n : ℕ). Keeps (Served (Fresh classic_kinds)) (old n) (new n)) (sym (number_at held plan.ports k d ports inside))
       (keeps_at (Served (Fresh classic_kinds)) held back old new k d handled inside
       (subst (λ (s : State). Served s (get_or held k d).ends (get_or back k d).ends) (anew k d inside) (serves.each k i within d)));
 }
 
--- what became of the journal's sink became of that in its place, and the history is reported
-pub reported_of : {S K C : Type 0} (written : K → Option (List ℕ)) (sink_faults : K → ℕ) (plan : Plan) (Says : List ℕ → Type 0) (sink sink' : K) (past : List Row) (journal_written : Bool) (old new : Book S K C) (status : ℕ)
-    → HandledOne plan.journal sink sink' old.outputs new.outputs → IsLegal plan empty past → TookOrPart sink_faults written journal_written (journal_text address_text plan (reverse past)) sink sink'
-    → IsJournalOf address_text plan past (journal_text address_text plan (reverse past)) → IsSummed written sink_faults Says past journal_written (old.std Out) (new.std Out) status
-    → IsReported written sink_faults plan past Says old new status
-reported_of written sink_faults plan Says sink sink' past journal_written old new status handled legal was tells summed = record {
+-- the laws that the report of a session rests on
+pub record Laws : Type 0 where
+  pub alone : IsJournalOfOne address_text
+  pub access : (plan : Plan) (segments : List (List Row)) → IsValidPlan plan → plan.savi ≡ true → AreLegal plan segments → AllSegmentsPassedRightly plan segments
+  pub first_come : (plan : Plan) (segments : List (List Row)) → IsValidPlan plan → plan.savi ≡ true → AreLegal plan segments → SegmentsKeepWhoCameFirst plan segments
+
+-- each segment is guarded, and so are they all
+all_guarded : (plan : Plan) (segments : List (List Row)) → AreLegal plan segments → IsGuarded plan (joined segments)
+all_guarded plan [] legal = record { no_advert = All-nil (NotPassed IsAdvertFrame plan); no_hidden = All-nil (NotPassed IsHiddenFrame plan) }
+all_guarded plan (segment ∷ before) legal =
+    let here = guarded plan (base_after plan before) segment legal.0 in
+    let rest = all_guarded plan before legal.2 in
+    record {
+      no_advert = All-append (NotPassed IsAdvertFrame plan) segment (joined before) here.no_advert rest.no_advert;
+      no_hidden = All-append (NotPassed IsHiddenFrame plan) segment (joined before) here.no_hidden rest.no_hidden;
+    }
+
+-- what became of the journal's sink became of that in its place, and the segments are reported
+pub reported_of : {S K C : Type 0} (written : K → Option (List ℕ)) (sink_faults : K → ℕ) (plan : Plan) (Says : List ℕ → Type 0) (sink sink' : K) (segments : List (List Row)) (told : List Row) (journal_written : Bool) (old new : Book S K C) (status : ℕ)
+    → Laws → HandledOne plan.journal sink sink' old.outputs new.outputs → TookOrPart sink_faults written journal_written (journal_of plan segments) sink sink'
+    → IsJournalOf address_text plan segments (journal_of plan segments) → IsSummed written sink_faults Says (joined segments) told journal_written (old.std Out) (new.std Out) status
+    → IsReported written sink_faults plan segments told Says old new status
+reported_of written sink_faults plan Says sink sink' segments told journal_written old new status laws handled was tells summed = record {
   journal_written = journal_written;
-  journal = keeps_of (TookOrPart sink_faults written journal_written (journal_text address_text plan (reverse past))) _ _ sink sink' handled.told handled.kept was;
+  journal = keeps_of (TookOrPart sink_faults written journal_written (journal_of plan segments)) _ _ sink sink' handled.told handled.kept was;
   tells = tells;
-  alone = λ plan' past' other. journal_tells address_text written-IsAddressText plan plan' past past' _ tells other;
+  alone = λ plan' segments' other. laws.alone plan plan' segments segments' (journal_of plan segments) tells other;
   summed = summed;
-  guarded = guarded plan empty past legal;
-  access = λ on. passed_rightly plan tells.valid empty (empty_within plan tells.valid) on past legal tells.octets;
-  first_come = λ on. all_keep plan tells.valid empty (empty_within plan tells.valid) on past legal tells.octets;
+  guarded = all_guarded plan segments tells.legal;
+  access = λ on. laws.access plan segments tells.valid on tells.legal;
+  first_come = λ on. laws.first_come plan segments tells.valid on tells.legal;
 }
 
 -- what a session was to the ends is what it was to the places
-pub session_of : {S K C : Type 0} (left : S → Option (List ℕ)) (written : K → Option (List ℕ)) (source_faults : S → ℕ) (sink_faults : K → ℕ) (plan : Plan) (Says : List ℕ → Type 0) (held back : Ready S K C) (sink sink' : K) (past : List Row) (journal_written : Bool) (old new : Book S K C) (status : ℕ)
-    → HandledAll plan held back sink sink' old new → All IsReadAnew held.ports.items → IsPlayed left written source_faults sink_faults plan past held back sink sink' journal_written
-    → IsSummed written sink_faults Says past journal_written (old.std Out) (new.std Out) status
+pub session_of : {S K C : Type 0} (left : S → Option (List ℕ)) (written : K → Option (List ℕ)) (source_faults : S → ℕ) (sink_faults : K → ℕ) (plan : Plan) (Says : List ℕ → Type 0) (control control' : Option (ControlEnds S K C)) (held back : List (PortEnds S K C)) (sink sink' : K) (segments : List (List Row)) (journal_written : Bool) (old new : Book S K C) (status : ℕ)
+    → Laws → HandledAll plan control control' held back sink sink' old new → All IsReadAnew held → IsPlayed left written source_faults sink_faults plan segments control control' held back sink sink' journal_written
+    → IsSummed written sink_faults Says (joined segments) (unbroken segments) journal_written (old.std Out) (new.std Out) status
     → IsSessionOf left written source_faults sink_faults plan Says old new status
-session_of left written source_faults sink_faults plan Says held back sink sink' past journal_written old new status all anew played summed = record {
-  elsewhere = off_plan plan held back sink sink' old new all;
+session_of left written source_faults sink_faults plan Says control control' held back sink sink' segments journal_written old new status laws all anew played summed = record {
+  elsewhere = off_plan plan control control' held back sink sink' old new all;
   did = record {
-    past = past;
-    legal = played.legal;
-    serves = serves_places left written source_faults sink_faults plan past held.control back.control held.ports.items back.ports.items old.control new.control (ports_in plan old) (ports_in plan new) all.control all.planned all.ports anew played.serves;
-    reported = reported_of written sink_faults plan Says sink sink' past journal_written old new status all.journal played.legal played.journal_was played.tells summed;
+    segments = segments;
+    serves = serves_places left written source_faults sink_faults plan segments control control' held back old.control new.control (ports_in plan old) (ports_in plan new) all.ends all.planned all.ports anew played.serves;
+    reported = reported_of written sink_faults plan Says sink sink' segments (unbroken segments) journal_written old new status laws all.journal played.journal_was played.tells summed;
   };
 }
 

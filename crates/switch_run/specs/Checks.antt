@@ -1,8 +1,8 @@
 -- What the check of a journal has done: its file was read, the line that its text is answered with was written, and nothing
 -- else was touched.
-use Rattle.std.specs.Prelude.{◌≡◌, ◌≤◌, ◌⊎◌, ℕ, Bool, if◌then◌else◌, List, [], Option}
+use Rattle.std.specs.Prelude.{◌≡◌, ◌≢◌, ◌≤◌, ◌⊎◌, ℕ, Bool, if◌then◌else◌, List, [], Option}
 use Rattle.savi_ends.specs.declared.world.Std.TheVariants.{Out}
-use Rattle.savi_ends.specs.Faults.{Rose}
+use Rattle.savi_ends.specs.Faults.{RoseOnce}
 use Rattle.savi_ends.specs.Places.{Book, OthersStay}
 use Rattle.run_config.specs.Configs.{EndHasFault, EndHasNoFault, OfText}
 use Rattle.journal_check.specs.declared.answer.Checked.{Checked}
@@ -38,10 +38,10 @@ IsTextRead (BadLine n) = Unit {0}
 IsTextRead Failed = ⊥
 IsTextRead NoMemory = ⊥
 
--- The file could not be opened, and its place is as it was.
+-- The file could not be opened, which was tried once, and its place is as it was.
 pub record IsCheckedUnopened {S K C : Type 0} (file : List ℕ) (Says : List ℕ → Type 0) (old new : Book S K C) (status : ℕ) : Type 0 where
   pub status_is : status ≡ 7
-  pub fault : Rose old.faults new.faults
+  pub fault : RoseOnce old.faults new.faults
   pub errors : Says (cannot_open_line file)
   pub place : new.inputs file ≡ old.inputs file
   pub out : new.std Out ≡ old.std Out
@@ -88,9 +88,10 @@ abbrev pub IsJudged : {S K C : Type 0} → (S → Option (List ℕ)) → (K → 
 IsJudged left written source_faults sink_faults file Says old new status =
     IsUnjudged left source_faults file Says old new status ⊎ (IsJournalUnread source_faults file Says old new status ⊎ IsAnswered left written source_faults sink_faults file Says old new status)
 
--- The file could not be opened, or it was checked, and its source is kept. No other input, no output, no port and no end of
--- control was touched.
+-- The file could not be opened, or no opening failed and it was checked, and its source is kept. No other input, no output,
+-- no port and no end of control was touched.
 pub record IsCheckRun {S K C : Type 0} (left : S → Option (List ℕ)) (written : K → Option (List ℕ)) (source_faults : S → ℕ) (sink_faults : K → ℕ) (file : List ℕ) (Says : List ℕ → Type 0) (old new : Book S K C) (status : ℕ) : Type 0 where
   pub did : IsCheckedUnopened file Says old new status ⊎ (IsKept left source_faults file old new × IsJudged left written source_faults sink_faults file Says old new status)
+  pub still : status ≢ 7 → new.faults ≡ old.faults
   pub inputs : OthersStay old.inputs new.inputs file
   pub rest : new ≡ record old { faults = new.faults; inputs = new.inputs; std = new.std }

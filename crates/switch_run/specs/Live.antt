@@ -1,14 +1,14 @@
 -- What a live session has done: one history stands in all of it, and by it each end was served.
-use Rattle.std.specs.Prelude.{◌≡◌, ℕ, true, false, Bool, List, reverse, Option, Some, None, All}
+use Rattle.std.specs.Prelude.{◌≡◌, ℕ, true, false, Bool, List, [], ◌∷◌, Option, Some, None, All}
 use Rattle.savi_kinds.specs.declared.plan.Plan.{Plan}
 use Rattle.savi_kinds.specs.Ports.{number_of}
 use Rattle.savi_ends.specs.declared.world.Ends.{Ends}
 use Rattle.savi_ends.specs.Places.{Place, Book, ControlKey}
 use Rattle.hist_store.specs.Rows.{Row}
-use Rattle.hist_store.specs.JournalTexts.{journal_text, address_text}
+use Rattle.hist_store.specs.JournalTexts.{address_text}
 use Rattle.checkpoint.specs.Bases.{empty}
-use Rattle.savi_history.specs.Journals.{IsJournalOf}
 use Rattle.savi_history.specs.Legal.{IsLegal, IsFinished}
+use Rattle.savi_segments.specs.Journals.{IsJournalOf, journal_of}
 use Rattle.live_session.specs.LiveRows.{ControlRow, NoControlRow, TickerRow}
 use Rattle.live_session.specs.LiveSession.{PortRow, IsLive}
 use Rattle.live_switch.specs.declared.ready.Ready.{Ready}
@@ -22,8 +22,8 @@ module _ {S K C : Type 0} (left : S → Option (List ℕ)) (written : K → Opti
   -- One history of the plan: what it was to all ends, and to the journal.
   pub record IsLivePlayed (plan : Plan) (past : List Row) (old new : Ready S K C) (journal journal' : K) (journal_written : Bool) : Type 0 where
     pub live : IsLive left written source_faults sink_faults readings plan empty past old.ports.items new.ports.items old.control new.control old.ticker new.ticker
-    pub journal_was : TookOrPart sink_faults written journal_written (journal_text address_text plan (reverse past)) journal journal'
-    pub tells : IsJournalOf address_text plan past (journal_text address_text plan (reverse past))
+    pub journal_was : TookOrPart sink_faults written journal_written (journal_of plan (past ∷ [])) journal journal'
+    pub tells : IsJournalOf address_text plan (past ∷ []) (journal_of plan (past ∷ []))
 
   -- What a history was to the place of live control, by the names of the plan. Where it names control's input and output,
   -- their ends are kept there, and they were served; where it doesn't, no place of control was touched, and no line was
@@ -42,7 +42,7 @@ module _ {S K C : Type 0} (left : S → Option (List ℕ)) (written : K → Opti
     pub ports : All (λ p. Keeps (PortRow left written source_faults sink_faults readings plan empty past p) (ports_in plan old (number_of p.number)) (ports_in plan new (number_of p.number))) plan.ports
     pub control : ServesControlAt plan past plan.control old.control new.control
     pub ticker : Keeps (TickerRow readings plan empty past) old.ticker new.ticker
-    pub reported : IsReported written sink_faults plan past Says old new status
+    pub reported : IsReported written sink_faults plan (past ∷ []) past Says old new status
     pub elsewhere : IsOffPlanSame plan old new
 
   -- A live session of the plan that the configuration says. The configuration's input is kept. It was read to its end, or one

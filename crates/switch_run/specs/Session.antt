@@ -1,5 +1,8 @@
--- What a run has done whose session began: one history stands in all of it.
-use Rattle.std.specs.Prelude.{◌≡◌, ℕ, ◌<◌, ◌⊎◌, ◌&&◌, ◌||◌, not, Bool, true, false, if◌then◌else◌, List, [], ◌∷◌, ◌++◌, reverse, Option, None, Some, IfSome, IsSome, All}
+-- What a run has done whose session began: the segments of one history stand in all of it.
+use Rattle.std.specs.Prelude.{◌≡◌, ℕ, ◌<◌, ◌⊎◌, ◌&&◌, ◌||◌, not, Bool, true, false, if◌then◌else◌, List, [], ◌∷◌, ◌++◌, Option, None, Some, IfSome, IsSome, All}
+use Rattle.std.specs.List.{list_any}
+use Rattle.savi_kinds.specs.declared.entry.How.{How}
+use Rattle.savi_kinds.specs.declared.entry.Who.{Who}
 use Rattle.savi_kinds.specs.declared.plan.Plan.{Plan}
 use Rattle.savi_kinds.specs.ValidPlan.{numbers_of}
 use Rattle.savi_ends.specs.declared.world.Std.TheVariants.{Out, Err}
@@ -10,16 +13,15 @@ use Rattle.pcap_io.specs.Kinds.{classic_kinds}
 use Rattle.pcap_io.specs.Runs.{Arrive}
 use Rattle.cli_lang.specs.Arrivals as control
 use Rattle.hist_store.specs.Rows.{Row}
-use Rattle.hist_store.specs.JournalTexts.{journal_text, address_text}
-use Rattle.checkpoint.specs.Bases.{empty}
-use Rattle.savi_history.specs.Legal.{IsLegal}
-use Rattle.savi_history.specs.Endings.{has_failed, has_failed_write, has_malformed, has_paused_end}
+use Rattle.hist_store.specs.JournalTexts.{address_text}
+use Rattle.savi_history.specs.Endings.{has_failed, has_failed_write, has_malformed, has_paused_end, is_failed_reason, is_failed_write_of, is_input, is_malformed_reason}
 use Rattle.savi_history.specs.EndLines.{end_lines}
 use Rattle.savi_history.specs.Adverts.{IsGuarded}
-use Rattle.savi_history.specs.Accesses.{AllPassedRightly}
-use Rattle.savi_history.specs.CameFirst.{AllKeepWhoCameFirst}
-use Rattle.savi_history.specs.Journals.{IsJournalOf, IsSame}
 use Rattle.savi_history.specs.Summary.{summary_of, summary_text}
+use Rattle.savi_segments.specs.FirstCome.{AllSegmentsPassedRightly, SegmentsKeepWhoCameFirst}
+use Rattle.savi_segments.specs.Journals.{IsJournalOf, IsSame, journal_of}
+use Rattle.savi_segments.specs.Segments.{joined}
+use Rattle.savi_segments.specs.Unbroken.{unbroken}
 use Rattle.savi_conf.specs.declared.fault.ConfFault.{ConfFault}
 use Rattle.run_config.specs.Configs.{EndHasFault, EndHasNoFault, IsConfigured, IsReadFrom, IsReadThrough, IsRefused}
 use Rattle.switch_report.specs.RunLines.{cannot_open_line, config_line, write_failed_line, read_failed_line, port_name, control_word, journal_word}
@@ -34,6 +36,14 @@ abbrev pub status_of : Bool → List Row → ℕ
 status_of written past =
     if has_failed past then 5 else if has_failed_write past || not written then 6 else if has_malformed past then 4 else if has_paused_end past then 8 else 0
 
+-- the same by the ends that are told, of which none is a pause
+abbrev pub told_status : Bool → List (Who × How) → ℕ
+told_status written ends =
+    if list_any (λ told. is_input told.0 && is_failed_reason told.1) ends then 5
+    else if list_any (λ told. is_failed_write_of told.0 told.1) ends || not written then 6
+    else if list_any (λ told. is_malformed_reason told.1) ends then 4
+    else 0
+
 -- A sink took these lines, or a write of it failed, which changes no status.
 abbrev pub ToldBy : {K : Type 0} → (K → ℕ) → (K → Option (List ℕ)) → K → K → List ℕ → Type 0
 ToldBy faults written old new lines = (written new ≡ behind (written old) lines) ⊎ (0 < faults new)
@@ -47,52 +57,53 @@ abbrev pub journal_lines : Bool → List ℕ
 journal_lines true = []
 journal_lines false = write_failed_line journal_word
 
--- Standard output took the summary of a history, or a front of it where a write failed; standard error was told its bad
--- ends, and that of a journal that wasn't written, in what `Says`; and the status is that of the history.
-pub record IsSummed {K : Type 0} (written : K → Option (List ℕ)) (faults : K → ℕ) (Says : List ℕ → Type 0) (past : List Row) (journal_written : Bool) (old new : Place K) (status : ℕ) : Type 0 where
+-- Standard output took the summary of all rows, or a front of it where a write failed; standard error was told the bad ends
+-- among those rows of which ends are told, and that of a journal that wasn't written, in what `Says`; and the status is by
+-- these.
+pub record IsSummed {K : Type 0} (written : K → Option (List ℕ)) (faults : K → ℕ) (Says : List ℕ → Type 0) (all told : List Row) (journal_written : Bool) (old new : Place K) (status : ℕ) : Type 0 where
   -- whether the summary was written
   pub summary_written : Bool
-  pub summary : Keeps (TookOrPart faults written summary_written (summary_text (summary_of past))) old new
-  pub errors : Says (end_lines past ++ journal_lines journal_written)
-  pub cause : status ≡ status_of (journal_written && summary_written) past
+  pub summary : Keeps (TookOrPart faults written summary_written (summary_text (summary_of all))) old new
+  pub errors : Says (end_lines told ++ journal_lines journal_written)
+  pub cause : status ≡ status_of (journal_written && summary_written) told
 
--- What a history was to the place of control, by the names of the plan, in a run that isn't live. Where it names control's
+-- What segments were to the place of control, by the names of the plan, in a run that isn't live. Where it names control's
 -- input and output, their ends are kept there, and they were served: control has an input. Where it doesn't, no place of
 -- control was touched, and control has none.
-abbrev pub ServesControlPlace : {S K C : Type 0} → (S → Option (List ℕ)) → (K → Option (List ℕ)) → (S → ℕ) → (K → ℕ) → Plan → List Row → Option (List ℕ × List ℕ) → Option control.Input → Option ℕ → (ControlKey → Place (Ends S K C)) → (ControlKey → Place (Ends S K C)) → Type 0
-ServesControlPlace left written source_faults sink_faults plan past None None stop old new = new ≡ old
-ServesControlPlace left written source_faults sink_faults plan past None (Some input) stop old new = ⊥
-ServesControlPlace left written source_faults sink_faults plan past (Some names) None stop old new = ⊥
-ServesControlPlace left written source_faults sink_faults plan past (Some names) (Some input) stop old new =
-    Keeps (IsControlServed left written source_faults sink_faults plan empty past input stop) (old (control_key false names)) (new (control_key false names))
+abbrev pub ServesControlPlace : {S K C : Type 0} → (S → Option (List ℕ)) → (K → Option (List ℕ)) → (S → ℕ) → (K → ℕ) → Plan → List (List Row) → Option (List ℕ × List ℕ) → Option control.Input → Option ℕ → (ControlKey → Place (Ends S K C)) → (ControlKey → Place (Ends S K C)) → Type 0
+ServesControlPlace left written source_faults sink_faults plan segments None None stop old new = new ≡ old
+ServesControlPlace left written source_faults sink_faults plan segments None (Some input) stop old new = ⊥
+ServesControlPlace left written source_faults sink_faults plan segments (Some names) None stop old new = ⊥
+ServesControlPlace left written source_faults sink_faults plan segments (Some names) (Some input) stop old new =
+    Keeps (IsControlServed left written source_faults sink_faults plan segments input stop) (old (control_key false names)) (new (control_key false names))
 
--- What a history of this plan leaves: the journal took its text, which is that of no other legal history, or a front of it
--- where a write failed; it is summed up on the standard outputs and in the status; no advertisement and no hidden fragment
--- passed the port of a host or a server; and where sources are validated, an IPv6 frame passed such a port exactly where no
--- rule on messages stopped it and its source was live there, or a named exception permitted it, and who came first kept an
--- address: a frame passed another such port with that source only once the first port had lost it by one of three causes.
-pub record IsReported {S K C : Type 0} (written : K → Option (List ℕ)) (sink_faults : K → ℕ) (plan : Plan) (past : List Row) (Says : List ℕ → Type 0) (old new : Book S K C) (status : ℕ) : Type 0 where
+-- What the segments of this plan leave: the journal took their text, which stands for no other legal ones, or a front of it
+-- where a write failed; they are summed up on the standard outputs and in the status, by the rows of which ends are told; no
+-- advertisement and no hidden fragment passed the port of a host or a server; and where sources are validated, an IPv6 frame
+-- passed such a port exactly where no rule on messages stopped it and its source was live there, or a named exception
+-- permitted it, and who came first kept an address: a frame passed another such port with that source only once the first
+-- port had lost it by one of three causes.
+pub record IsReported {S K C : Type 0} (written : K → Option (List ℕ)) (sink_faults : K → ℕ) (plan : Plan) (segments : List (List Row)) (told : List Row) (Says : List ℕ → Type 0) (old new : Book S K C) (status : ℕ) : Type 0 where
   -- whether the journal was written
   pub journal_written : Bool
-  pub journal : Keeps (TookOrPart sink_faults written journal_written (journal_text address_text plan (reverse past))) (old.outputs plan.journal) (new.outputs plan.journal)
-  pub tells : IsJournalOf address_text plan past (journal_text address_text plan (reverse past))
-  pub alone : (plan' : Plan) (past' : List Row) → IsJournalOf address_text plan' past' (journal_text address_text plan (reverse past)) → IsSame plan past plan' past'
-  pub summed : IsSummed written sink_faults Says past journal_written (old.std Out) (new.std Out) status
-  pub guarded : IsGuarded plan past
+  pub journal : Keeps (TookOrPart sink_faults written journal_written (journal_of plan segments)) (old.outputs plan.journal) (new.outputs plan.journal)
+  pub tells : IsJournalOf address_text plan segments (journal_of plan segments)
+  pub alone : (plan' : Plan) (segments' : List (List Row)) → IsJournalOf address_text plan' segments' (journal_of plan segments) → IsSame plan segments plan' segments'
+  pub summed : IsSummed written sink_faults Says (joined segments) told journal_written (old.std Out) (new.std Out) status
+  pub guarded : IsGuarded plan (joined segments)
   -- where sources are validated
-  pub access : plan.savi ≡ true → AllPassedRightly plan empty past
-  pub first_come : plan.savi ≡ true → AllKeepWhoCameFirst plan empty past
+  pub access : plan.savi ≡ true → AllSegmentsPassedRightly plan segments
+  pub first_come : plan.savi ≡ true → SegmentsKeepWhoCameFirst plan segments
 
--- A replay with this plan: one history, legal and finished, is the replay of what the sources of control, where the plan
--- names it, and of the plan's ports gave to sinks that stop so; the ends of control and of each port are kept in their own
--- place, and the history fits what was given up and taken there; and it is reported.
+-- A replay with this plan: its segments are those of a session, and the replay of what the sources of control, where the
+-- plan names it, and of the plan's ports gave to sinks that stop so; the ends of control and of each port are kept in their
+-- own place, and the segments fit what was given up and taken there; and they are reported, without pauses.
 pub record IsReplayOf {S K C : Type 0} (left : S → Option (List ℕ)) (written : K → Option (List ℕ)) (source_faults : S → ℕ) (sink_faults : K → ℕ) (plan : Plan) (Says : List ℕ → Type 0) (old new : Book S K C) (status : ℕ) : Type 0 where
-  pub past : List Row
-  pub legal : IsLegal plan empty past
-  pub serves : ServesPorts plan empty past
-      (λ lines stop. ServesControlPlace left written source_faults sink_faults plan past plan.control lines stop old.control new.control)
-      (λ place port input stop. Keeps (IsServed left written source_faults sink_faults (Arrive classic_kinds) plan empty past port input stop) (ports_in plan old port) (ports_in plan new port))
-  pub reported : IsReported written sink_faults plan past Says old new status
+  pub segments : List (List Row)
+  pub serves : ServesPorts plan segments
+      (λ lines stop. ServesControlPlace left written source_faults sink_faults plan segments plan.control lines stop old.control new.control)
+      (λ place port input stop. Keeps (IsServed left written source_faults sink_faults (Arrive classic_kinds) plan segments port input stop) (ports_in plan old port) (ports_in plan new port))
+  pub reported : IsReported written sink_faults plan segments (unbroken segments) Says old new status
 
 -- A session of this plan: it was a replay, and no other port or output was touched, nor control where the plan names none.
 pub record IsSessionOf {S K C : Type 0} (left : S → Option (List ℕ)) (written : K → Option (List ℕ)) (source_faults : S → ℕ) (sink_faults : K → ℕ) (plan : Plan) (Says : List ℕ → Type 0) (old new : Book S K C) (status : ℕ) : Type 0 where

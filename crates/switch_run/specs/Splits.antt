@@ -8,7 +8,7 @@ use Rattle.split_run.specs.declared.outcome.Outcome.{Outcome}
 use Rattle.split_run.specs.declared.outcome.Outcome.TheVariants as outcome
 use Rattle.split_run.specs.CountsLines.{counts_line}
 use Rattle.split_run.specs.Names.{output_name}
-use Rattle.split_run.specs.Runs.{CameTo}
+use Rattle.split_run.specs.Runs.{CameTo, HasOpenedAll}
 use Rattle.switch_report.specs.RunLines.{cannot_open_line, malformed_line, memory_line, read_failed_line, write_failed_line}
 use Rattle.switch_run.specs.Causes.{Keeps, TookOrPart}
 
@@ -41,10 +41,11 @@ pub record IsUnsplit {S K C : Type 0} (Says : List ℕ → Type 0) (old new : Bo
   pub told : IsOnlyTold Says memory_line 1 (old.std Out) (new.std Out) status
   pub rest : new ≡ record old { std = new.std }
 
--- The capture came to this, which was said.
+-- The capture came to this, which was said, and where all was opened, no opening failed meanwhile.
 pub record IsSplitAs {S K C : Type 0} (left : S → Option (List ℕ)) (written : K → Option (List ℕ)) (source_faults : S → ℕ) (sink_faults : K → ℕ) (file : List ℕ) (Says : List ℕ → Type 0) (old new : Book S K C) (status : ℕ) : Type 0 where
   pub outcome : Outcome
   pub came : CameTo left written source_faults sink_faults file old new outcome
+  pub still : HasOpenedAll outcome → new.faults ≡ old.faults
   pub told : IsTold written sink_faults Says file outcome (old.std Out) (new.std Out) status
   pub inputs : OthersStay old.inputs new.inputs file
   pub rest : new ≡ record old { faults = new.faults; inputs = new.inputs; outputs = new.outputs; std = new.std }

@@ -6,12 +6,13 @@ ghost use Rattle.savi_ends.specs.Places.{IsReady, OthersStay};
 ghost use Rattle.switch_run.specs.Loads.{IsLoadRun};
 ghost use Rattle.switch_run.specs.Session.{ToldBy};
 
-use crate::summing::write_summary;
+use crate::summing::{sum_up, write_summary};
 use crate::top::{NO_MEMORY, WRITE_FAULT};
 use load_run::replay_load;
 use savi_ends::{Std, World};
+use savi_segments::counts_sum_segments_up;
 use std::alloc::Global;
-use switch_report::{sum_up, tell_memory};
+use switch_report::tell_memory;
 
 /// Replays the load of this seed, with so many packets, and writes the summary of its history. The answer is the status: 0,
 /// 1 where there was no memory, or 6 where the summary wasn't written. O(n) in the packets.
@@ -28,8 +29,9 @@ pub fn generate<W: World>(
     ensures others { OthersStay (W.book world.old).std (W.book world.new).std Std.Out }
 {
     match replay_load(alloc, seed, frames) {
-        Ok(core) => {
-            let written = write_summary(sum_up(core.history()), world);
+        Ok(loaded) => {
+            counts_sum_segments_up();
+            let written = write_summary(sum_up(&loaded.core, loaded.entries), world);
             status_by(written)
         }
         Err(_) => {

@@ -1,10 +1,10 @@
 //! The run of a live session: what a configuration names is opened, served, and kept again.
 
-ghost use Rattle.std.specs.Prelude.{◌≡◌, ◌⊎◌, ◌≤◌, true, false, IfOk, [], length, map, vec_capacity};
+ghost use Rattle.std.specs.Prelude.{◌≡◌, ◌≢◌, ◌⊎◌, ◌≤◌, true, false, IfOk, [], length, map, vec_capacity};
 ghost use Rattle.savi_kinds.specs.Ports.{number_of};
 ghost use Rattle.savi_kinds.specs.ValidPlan.{numbers_of};
 ghost use Rattle.savi_ends.specs.declared.world.Std.{Std};
-ghost use Rattle.savi_ends.specs.Faults.{Rose};
+ghost use Rattle.savi_ends.specs.Faults.{RoseOnce};
 ghost use Rattle.savi_ends.specs.Places.{BothFresh, IsReady, OthersStay};
 ghost use Rattle.run_config.specs.Configs.{IsBuilt};
 ghost use Rattle.switch_report.specs.RunLines.{memory_line};
@@ -14,8 +14,9 @@ ghost use Rattle.switch_run.specs.Live.{IsServeOf};
 ghost use Rattle.switch_run.specs.Session.{IsPartUnopened, ToldBy};
 
 use crate::ends_told::refuse;
-use crate::live::{Served, serve};
-use crate::summing::conclude;
+use crate::live::serve;
+use crate::session::know_sessions;
+use crate::summing::conclude_live;
 use crate::top::{NO_MEMORY, OPEN_FAULT};
 use live_switch::Ready;
 use live_turns::Gate;
@@ -80,7 +81,8 @@ where
     ensures config { result ≡ 3 → ⊥ }
     ensures memory { result ≡ 1 → ToldBy W.K.faults W.K.written errors.old errors.new memory_line }
     ensures unplayed { result ≡ 1 → IsUnserved (W.book world.old) (W.book world.new) ⊎ (KeepsAll true W.S.left W.K.written plan (W.book world.old) (W.book world.new) × IsOffPlanSame plan (W.book world.old) (W.book world.new)) }
-    ensures open { result ≡ 7 → Rose (W.book world.old).faults (W.book world.new).faults }
+    ensures open { result ≡ 7 → RoseOnce (W.book world.old).faults (W.book world.new).faults }
+    ensures still { result ≢ 7 → (W.book world.new).faults ≡ (W.book world.old).faults }
     ensures unopened { result ≡ 7 → IsPartUnopened true plan (ToldBy W.K.faults W.K.written errors.old errors.new) (W.book world.old) (W.book world.new) }
     ensures unticked { result ≡ 7 → (W.book world.new).ticker ≡ (W.book world.old).ticker }
     ensures session { IsOneOf session_statuses result → IsServeOf W.S.left W.K.written W.S.faults W.K.faults W.C.readings plan (ToldBy W.K.faults W.K.written errors.old errors.new) (W.book world.old) (W.book world.new) result }
@@ -106,7 +108,7 @@ where
             return OPEN_FAULT;
         }
     };
-    let mut sink = match world.output(journal.as_str()) {
+    let sink = match world.output(journal.as_str()) {
         Ok(sink) => sink,
         Err(_) => {
             keep_live(numbers.as_slice(), held, world);
@@ -120,12 +122,13 @@ where
         control,
         ticker: world.ticker(),
     };
-    let Served { ready, outcome } = serve(rt, alloc, plan, opened, &mut sink, gate);
-    keep_live(numbers.as_slice(), ready.ports, world);
-    keep_live_control(ready.control, world);
-    world.keep_ticker(ready.ticker);
-    world.keep_output(journal.as_str(), sink);
-    conclude(outcome, world, errors)
+    let served = serve(rt, alloc, plan, opened, sink, gate);
+    know_sessions();
+    keep_live(numbers.as_slice(), served.ready.ports, world);
+    keep_live_control(served.ready.control, world);
+    world.keep_ticker(served.ready.ticker);
+    world.keep_output(journal.as_str(), served.journal);
+    conclude_live(served.outcome, world, errors)
 }
 
 // What of a plan is wanted behind the session, which takes the plan: the numbers of its ports and the name of its journal;

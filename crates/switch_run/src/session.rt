@@ -1,108 +1,131 @@
-//! A session over the ends of control and of the ports of a plan, and of a journal.
+//! A replay over the ends of control and of the ports of a plan, and over a journal.
 
-ghost use Rattle.std.specs.Prelude.{◌≡◌, ◌≤◌, All, IfNone, IfSome, None, true, [], is_some, reverse};
+ghost use Rattle.std.specs.Prelude.{◌≡◌, true, All, IfNone, IfSome, List, Some, is_some};
+ghost use Rattle.savi_kinds.specs.declared.plan.Plan.{Plan};
+ghost use Rattle.savi_kinds.specs.ValidPlan.{IsValidPlan};
+ghost use Rattle.hist_store.specs.JournalTexts.{address_text};
+ghost use Rattle.hist_store.specs.Rows.{Row};
+ghost use Rattle.savi_segments.specs.FirstCome.{AllSegmentsPassedRightly, SegmentsKeepWhoCameFirst};
+ghost use Rattle.savi_segments.specs.Journals.{IsJournalOfOne};
+ghost use Rattle.savi_segments.specs.Segments.{AreLegal};
 ghost use Rattle.port_worker.specs.LineInputs.{IsControlUnheard};
 ghost use Rattle.port_worker.specs.Pairs.{EachPair};
 ghost use Rattle.port_worker.specs.Replays.{IsUnread, ports_held, ports_planned};
 ghost use Rattle.port_worker.specs.Served.{IsSamePort};
 ghost use Rattle.run_config.specs.Configs.{IsBuilt};
-ghost use Rattle.hist_store.specs.JournalTexts.{address_text, journal_text};
-ghost use Rattle.savi_kinds.specs.ValidPlan.{IsValidPlan};
-ghost use Rattle.checkpoint.specs.Bases.{empty};
-ghost use Rattle.savi_history.specs.Legal.{IsLegal};
-ghost use Rattle.savi_history.specs.Journals.{IsJournalOf};
-ghost use Rattle.switch_run.specs.Causes.{TookOrPart};
-ghost use Rattle.switch_run.specs.Played.{IsPlayed};
+ghost use Rattle.switch_run.specs.Played.{IsOutcomeOf, IsPlayed};
 
-use hist_store::Hist;
-use port_worker::{Closed, Ready, replay_session};
+use journal_write::know_addresses;
+use port_worker::{Closed, ControlEnds, EndsTold, PortEnds, Ready, replay_session};
 use savi_core::Core;
-use savi_ends::{Clock, Put, Sink, Source};
+use savi_ends::{Clock, Sink, Source};
 use savi_kinds::Plan;
+use savi_segments::{
+    counts_sum_segments_up, journals_tell_one_history, segments_keep_who_came_first,
+    segments_pass_where_their_source_is_live,
+};
 use std::alloc::Global;
-use switch_report::{Buffer, write_journal};
 
-/// The octets of the pieces in which the journal is written.
-pub(crate) const JOURNAL_PIECE_OCTETS: usize = 131_072;
-
-/// The history of a session, and what became of its journal.
+/// What is left of a replay, and what became of its journal.
 #[derive(Drop)]
 pub struct Outcome {
+    /// The switch with the newest segment.
     pub core: Core,
+    /// How many entries all segments have. The number stays at 2^64 - 1.
+    pub entries: u64,
+    /// How passes ended for good, in order.
+    pub ends: EndsTold,
     /// Whether the journal was written.
     pub journal_written: bool,
 }
 
 /// The ends, given back, and the outcome, unless there was no memory.
 pub struct Played<S, K, C> {
-    pub ready: Ready<S, K, C>,
+    pub control: Option<ControlEnds<S, K, C>>,
+    pub ports: Vec<PortEnds<S, K, C>>,
+    pub journal: K,
     pub outcome: Option<Outcome>,
 }
 
-/// Replays what control and the ports have, and writes the journal.
+/// Replays what control and the ports have, and writes the journal segment by segment.
 ///
 /// Without memory nothing is read or written.
 pub fn play<S: Source, K: Sink, C: Clock>(
     alloc: Global,
     plan: Plan,
-    ready: Ready<S, K, C>,
-    journal: &mut K,
+    control: Option<ControlEnds<S, K, C>>,
+    ports: Vec<PortEnds<S, K, C>>,
+    journal: K,
 ) -> Played<S, K, C>
     requires built { IsBuilt true plan }
-    requires planned { ports_held ready.ports.items ≡ ports_planned plan }
-    requires unread { All IsUnread ready.ports.items }
-    requires unheard { IsControlUnheard ready.control }
-    ensures control { is_some result.ready.control ≡ is_some ready.control }
-    ensures ports { EachPair IsSamePort ready.ports.items result.ready.ports.items }
-    ensures none { IfNone result.outcome ((result.ready ≡ ready) × (journal.new ≡ journal.old)) }
+    requires planned { ports_held ports.items ≡ ports_planned plan }
+    requires unread { All IsUnread ports.items }
+    requires unheard { IsControlUnheard control }
+    ensures control { is_some result.control ≡ is_some control }
+    ensures ports { EachPair IsSamePort ports.items result.ports.items }
+    ensures none { IfNone result.outcome ((result.control ≡ control) × (result.ports ≡ ports) × (result.journal ≡ journal)) }
     ensures plan { IfSome result.outcome (λ o. o.core.plan ≡ plan) }
-    ensures played { IfSome result.outcome (λ o. IsPlayed S.left K.written S.faults K.faults plan o.core.past ready result.ready journal.old journal.new o.journal_written) }
+    ensures played { IfSome result.outcome (λ o. (segments : List (List Row)) × IsOutcomeOf segments o
+        × IsPlayed S.left K.written S.faults K.faults plan segments control result.control ports.items result.ports.items journal result.journal o.journal_written) }
 {
-    let mut buffer = match Buffer::make(alloc, JOURNAL_PIECE_OCTETS) {
-        Ok(buffer) => buffer,
-        Err(_) => return unplayed(ready),
+    let ready = Ready {
+        control,
+        ports,
+        journal: Some(journal),
     };
-    let Closed { core, ready } = match replay_session(alloc, plan, ready) {
+    let Closed {
+        core,
+        ready,
+        entries,
+        ends,
+        journal_failed,
+    } = match replay_session(alloc, plan, ready) {
         Ok(closed) => closed,
-        Err(ready) => return unplayed(ready),
+        Err(ready) => return given_back(ready, None),
     };
-    let journal_written = finish_journal(core.plan(), core.history(), journal, &mut buffer);
-    Played {
-        ready,
-        outcome: Some(Outcome {
-            core,
-            journal_written,
-        }),
+    // What the law on journals asks of addresses, and what that on counters says.
+    know_addresses(core.plan().prefixes.as_slice());
+    counts_sum_segments_up();
+    let outcome = Outcome {
+        core,
+        entries,
+        ends,
+        journal_written: !journal_failed,
+    };
+    given_back(ready, Some(outcome))
+}
+
+// The ends of a session that had a journal, given back.
+fn given_back<S, K, C>(ready: Ready<S, K, C>, outcome: Option<Outcome>) -> Played<S, K, C>
+    requires { is_some ready.journal ≡ true }
+    ensures control { result.control ≡ ready.control }
+    ensures ports { result.ports ≡ ready.ports }
+    ensures journal { Some result.journal ≡ ready.journal }
+    ensures outcome { result.outcome ≡ outcome }
+{
+    let Ready {
+        control,
+        ports,
+        journal,
+    } = ready;
+    match journal {
+        Some(journal) => Played {
+            control,
+            ports,
+            journal,
+            outcome,
+        },
+        None => unreachable!(),
     }
 }
 
-// The ends of a session for which there was no memory.
-fn unplayed<S, K, C>(ready: Ready<S, K, C>) -> Played<S, K, C>
-    ensures ready { result.ready ≡ ready }
-    ensures outcome { result.outcome ≡ None }
+/// Does nothing: states what the laws say of the segments of every session.
+pub(crate) fn know_sessions()
+    ensures alone { IsJournalOfOne address_text }
+    ensures access { (plan : Plan) (segments : List (List Row)) → IsValidPlan plan → plan.savi ≡ true → AreLegal plan segments → AllSegmentsPassedRightly plan segments }
+    ensures first_come { (plan : Plan) (segments : List (List Row)) → IsValidPlan plan → plan.savi ≡ true → AreLegal plan segments → SegmentsKeepWhoCameFirst plan segments }
 {
-    Played {
-        ready,
-        outcome: None,
-    }
-}
-
-// Writes the journal. The answer is whether it was written.
-pub(crate) fn finish_journal<K: Sink>(
-    plan: &Plan,
-    hist: &Hist,
-    journal: &mut K,
-    buffer: &mut Buffer,
-) -> bool
-    requires valid { IsValidPlan plan.now }
-    requires legal { IsLegal plan.now empty (reverse hist.now.rows) }
-    requires empty { buffer.old.octets ≡ [] }
-    requires room { 3401 ≤ buffer.old.room }
-    ensures was { TookOrPart K.faults K.written result (journal_text address_text plan.now hist.now.rows) journal.old journal.new }
-    ensures tells { IsJournalOf address_text plan.now (reverse hist.now.rows) (journal_text address_text plan.now hist.now.rows) }
-{
-    match write_journal(plan, hist, journal, buffer) {
-        Put::Done => true,
-        Put::Failed => false,
-    }
+    journals_tell_one_history();
+    segments_pass_where_their_source_is_live();
+    segments_keep_who_came_first();
 }

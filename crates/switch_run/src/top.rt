@@ -1,9 +1,9 @@
 //! The top call.
 
-ghost use Rattle.std.specs.Prelude.{◌≡◌, ◌↔◌, ◌⊎◌, ◌≤◌, ℕ, true, false, List, IfSome, [], length, map, vec_capacity};
+ghost use Rattle.std.specs.Prelude.{◌≡◌, ◌≢◌, ◌↔◌, ◌⊎◌, ◌≤◌, ℕ, true, false, List, IfSome, [], length, map, vec_capacity};
 ghost use Rattle.std.specs.String.{string_bytes};
 ghost use Rattle.savi_ends.specs.declared.world.Std.{Std};
-ghost use Rattle.savi_ends.specs.Faults.{Rose};
+ghost use Rattle.savi_ends.specs.Faults.{RoseOnce};
 ghost use Rattle.savi_ends.specs.Places.{BothFresh, HandedNothing, IsReady, OthersStay};
 ghost use Rattle.run_config.specs.Configs.{EndHasFault, IsBuilt};
 ghost use Rattle.switch_report.specs.RunLines.{memory_line, usage_line};
@@ -23,11 +23,11 @@ use crate::ends_told::refuse;
 use crate::learning::learn_file;
 use crate::loads::generate;
 use crate::serving::serve_file;
-use crate::session::{Played, play};
+use crate::session::{Played, know_sessions, play};
 use crate::splits::split_capture;
 use crate::summing::conclude;
 use live_turns::Gate;
-use port_worker::{PortEnds, Ready};
+use port_worker::PortEnds;
 use run_config::{Asked, asked_by, configure};
 use savi_ends::{Std, World};
 use savi_kinds::{Plan, Text};
@@ -57,16 +57,19 @@ pub const TOO_LONG: u8 = 8;
 /// Does what the words behind the program's name ask for, over this world, and answers the status.
 ///
 /// `replay FILE` replays the captures of the ports of the plan that the configuration FILE says, and takes the commands of
-/// control, where the plan names it. Statuses 0, 4, 6 and 8 say that the session began, and 5 too, unless a read of the
-/// configuration failed; the other statuses have their causes. `check FILE` writes what the text of FILE is, as a journal:
-/// the status is 0 where it is the journal of a finished history, 4 where it isn't, and 1, 5, 6 or 7 by its cause.
-/// `gen SEED FRAMES` replays a load in memory, and sums it up: the status is 0, 1 or 6. `split FILE` splits a capture of
-/// several interfaces into one for each: the status is 0, or 4 where FILE is malformed, and 1, 5, 6 or 7 by its cause.
-/// `learn FILE MS` reads the captures as a replay does, and writes what they say of routers, with a window of MS: its statuses
-/// are those of `replay`, but for 8.
+/// control, where the plan names it; no capture is too long. Statuses 0, 4 and 6 say that the session began, and 5 too,
+/// unless a read of the configuration failed; the other statuses have their causes, and 8 doesn't come. `check FILE` writes
+/// what the text of FILE is, as a journal: the status is 0 where it is the journal of a finished history, 4 where it isn't,
+/// and 1, 5, 6 or 7 by its cause. `gen SEED FRAMES` replays a load in memory, and sums it up: the status is 0, 1 or 6.
+/// `split FILE` splits a capture of several interfaces into one for each: the status is 0, or 4 where FILE is malformed, and
+/// 1, 5, 6 or 7 by its cause. `learn FILE MS` reads the captures as a replay does, and writes what they say of routers, with
+/// a window of MS: its statuses are those of `replay`.
 ///
 /// `serve FILE` runs a live session over the ports, the control and the ticker of the plan that FILE says, and its statuses
-/// are those of `replay`. It may go on for good; nothing else waits. The gate sees each turn of its workers.
+/// are those of `replay`, and 8, where the history had no room for what came in. It may go on for good; nothing else waits.
+/// The gate sees each turn of its workers.
+///
+/// Each end is opened once: an opening that fails isn't tried again, and ends the run with status 7.
 pub fn run<R: Threads + Wait + Sync, W: World, G: Gate>(
     rt: &R,
     alloc: Global,
@@ -86,9 +89,11 @@ where
     ensures memory { result ≡ 1 → WasTold W.K.faults W.K.written (W.book world.old) (W.book world.new) memory_line }
     ensures unplayed { (file : List ℕ) → IsReplay file (map string_bytes words.now) → result ≡ 1 → IsUnplayed true W.S.left W.K.written W.S.faults file (W.book world.old) (W.book world.new) }
     ensures config { (file : List ℕ) → IsReplay file (map string_bytes words.now) → result ≡ 3 → IsNoPlan true W.S.left W.S.faults file (WasTold W.K.faults W.K.written (W.book world.old) (W.book world.new)) (W.book world.old) (W.book world.new) }
-    ensures open { result ≡ 7 → Rose (W.book world.old).faults (W.book world.new).faults }
+    ensures open { result ≡ 7 → RoseOnce (W.book world.old).faults (W.book world.new).faults }
+    ensures still { result ≢ 7 → (W.book world.new).faults ≡ (W.book world.old).faults }
     ensures unopened { (file : List ℕ) → IsReplay file (map string_bytes words.now) → result ≡ 7 → IsUnopened true W.S.left W.S.faults file (WasTold W.K.faults W.K.written (W.book world.old) (W.book world.new)) (W.book world.old) (W.book world.new) }
     ensures session { (file : List ℕ) → IsReplay file (map string_bytes words.now) → IsOneOf session_statuses result → IsFileUnread W.S.left W.S.faults file (WasTold W.K.faults W.K.written (W.book world.old) (W.book world.new)) (W.book world.old) (W.book world.new) result ⊎ IsSession W.S.left W.K.written W.S.faults W.K.faults file (WasTold W.K.faults W.K.written (W.book world.old) (W.book world.new)) (W.book world.old) (W.book world.new) result }
+    ensures room { (file : List ℕ) → IsReplay file (map string_bytes words.now) → result ≢ 8 }
     ensures read { (file : List ℕ) → IsReplay file (map string_bytes words.now) → result ≡ 5 → HasSomeReadFault W.S.faults file (W.book world.new) }
     ensures write { (file : List ℕ) → IsReplay file (map string_bytes words.now) → result ≡ 6 → HasSomeWriteFault W.K.faults (W.book world.new) }
     ensures quiet { IsOneOf quiet_statuses result → (W.book world.new).std Std.Out ≡ (W.book world.old).std Std.Out }
@@ -175,8 +180,10 @@ fn replay_plan<W: World>(alloc: Global, plan: Plan, world: &mut W, errors: &mut 
     ensures config { result ≡ 3 → ⊥ }
     ensures memory { result ≡ 1 → ToldBy W.K.faults W.K.written errors.old errors.new memory_line }
     ensures unplayed { result ≡ 1 → IsUnserved (W.book world.old) (W.book world.new) ⊎ (KeepsAll false W.S.left W.K.written plan (W.book world.old) (W.book world.new) × IsOffPlanSame plan (W.book world.old) (W.book world.new)) }
-    ensures open { result ≡ 7 → Rose (W.book world.old).faults (W.book world.new).faults }
+    ensures open { result ≡ 7 → RoseOnce (W.book world.old).faults (W.book world.new).faults }
+    ensures still { result ≢ 7 → (W.book world.new).faults ≡ (W.book world.old).faults }
     ensures unopened { result ≡ 7 → IsPartUnopened false plan (ToldBy W.K.faults W.K.written errors.old errors.new) (W.book world.old) (W.book world.new) }
+    ensures room { result ≡ 8 → ⊥ }
     ensures session { IsOneOf session_statuses result → IsSessionOf W.S.left W.K.written W.S.faults W.K.faults plan (ToldBy W.K.faults W.K.written errors.old errors.new) (W.book world.old) (W.book world.new) result }
     ensures quiet { IsOneOf quiet_statuses result → (W.book world.new).std Std.Out ≡ (W.book world.old).std Std.Out }
     ensures unused { IsOneOf unused_statuses result → IsUnusedOf false plan (W.book world.old) (W.book world.new) }
@@ -200,7 +207,7 @@ fn replay_plan<W: World>(alloc: Global, plan: Plan, world: &mut W, errors: &mut 
             return OPEN_FAULT;
         }
     };
-    let mut sink = match world.output(journal.as_str()) {
+    let sink = match world.output(journal.as_str()) {
         Ok(sink) => sink,
         Err(_) => {
             keep_all(held, world);
@@ -209,13 +216,15 @@ fn replay_plan<W: World>(alloc: Global, plan: Plan, world: &mut W, errors: &mut 
             return OPEN_FAULT;
         }
     };
-    let opened = Ready {
+    let Played {
         control,
-        ports: held,
-    };
-    let Played { ready, outcome } = play(alloc, plan, opened, &mut sink);
-    keep_all(ready.ports, world);
-    keep_control(ready.control, world);
+        ports,
+        journal: sink,
+        outcome,
+    } = play(alloc, plan, control, held, sink);
+    know_sessions();
+    keep_all(ports, world);
+    keep_control(control, world);
     world.keep_output(journal.as_str(), sink);
     conclude(outcome, world, errors)
 }

@@ -3,7 +3,8 @@ use Rattle.savi_kinds.specs.declared.plan.Plan.{Plan}
 use Rattle.savi_kinds.specs.declared.plan.PortPlan.{PortPlan}
 use Rattle.savi_history.specs.Passes.{has_ended}
 use Rattle.savi_core.specs.Machines.{base_of}
-use Rattle.journal_check.proofs.OpenPasses.{known_there, egress_there}
+use Rattle.savi_core.proofs.Shown.{item_known}
+use Rattle.journal_check.proofs.OpenPasses.{egress_there}
 use Rattle.journal_check.proofs.coming.have_ended.Goals as goal
 
 pub ended-requires : goal.ended-requires
@@ -12,7 +13,7 @@ ended-requires c =
     let ports = c.as_slice-port-items.ensures ∙ ap (λ (p : Plan). p.ports) c.plan.ensures in
     let k = c.loop-port.port-index in
     let p = c.port-item.result in
-    known_there m.plan k p (subst (λ (ps : List PortPlan). k < length ps) ports c.loop-port-test.true) (c.port-item.is ∙ ap (λ (ps : List PortPlan). get_or ps k p) ports)
+    item_known m.plan k p (subst (λ (ps : List PortPlan). k < length ps) ports c.loop-port-test.true) (c.port-item.is ∙ ap (λ (ps : List PortPlan). get_or ps k p) ports)
 
 pub returns-then-not-ended : goal.returns-then-not-ended
 returns-then-not-ended c =

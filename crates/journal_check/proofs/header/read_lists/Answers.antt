@@ -12,7 +12,7 @@ use Rattle.journal_check.specs.Judging.{checked_of}
 use Rattle.journal_check.specs.Answers.{IfRead, IsBadHeader}
 use Rattle.journal_check.proofs.ListsRead.{are_empty, same_lists}
 use Rattle.journal_check.proofs.Heading.{none_told, list_more, all_taken, bad_list, none_listed, broken_next, same_number}
-use Rattle.journal_check.proofs.Given.{gave_more, gave_none}
+use Rattle.journal_check.proofs.Given.{gave_more, gave_none, passed_more, passed_none}
 use Rattle.journal_check.proofs.header.read_lists.Goals as goal
 
 pub listed-init : goal.listed-init
@@ -21,6 +21,7 @@ listed-init g c =
     record {
       still = refl;
       gave = gave_none (g.S.Source.left c.args.source.now);
+      passed = passed_none c.args.lines.now (g.S.Source.left c.args.source.now);
       are = are_empty c.args.lists.ports.items c.args.lists.prefixes.items made.0 made.1;
       told = none_told c.args.lists.ports.items c.args.lists.prefixes.items (to_come c.args.lines.now (g.S.Source.left c.args.source.now)) made.0 made.1;
     }
@@ -37,6 +38,7 @@ listed-preserved g c =
     record {
       still = c.in-Line.ensures.still (λ same. cc) ∙ was.still;
       gave = gave_more _ _ _ was.gave c.next.ensures.gave;
+      passed = passed_more c.args.lines.now c.listed.lines c.next.new.self (g.S.Source.left c.args.source.now) (g.S.Source.left c.listed.source) (g.S.Source.left c.next.new.source) was.passed (c.in-Line.ensures.passed refl);
       are = add.lists;
       told = list_more c.next.new.line.items old.ports.items old.prefixes.items new.ports.items new.prefixes.items whole mid after was.told c.in-Line.ensures.taken.1 add;
     }
@@ -103,3 +105,6 @@ returns-in-Failed-clause-gave g c = gave_more _ _ _ c.listed.invariant.gave c.ne
 
 pub returns-in-Bad-clause-gave : goal.returns-in-Bad-clause-gave
 returns-in-Bad-clause-gave g c = gave_more _ _ _ c.listed.invariant.gave c.next.ensures.gave
+
+pub returns-in-Begin-clause-passed : goal.returns-in-Begin-clause-passed
+returns-in-Begin-clause-passed g c = passed_more c.args.lines.now c.listed.lines c.next.new.self (g.S.Source.left c.args.source.now) (g.S.Source.left c.listed.source) (g.S.Source.left c.next.new.source) c.listed.invariant.passed (c.in-Line.ensures.passed refl)

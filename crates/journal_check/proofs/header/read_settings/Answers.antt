@@ -7,13 +7,14 @@ use Rattle.journal_check.specs.SettingLines.{IsRead, IsNotNext, before}
 use Rattle.journal_check.specs.Answers.{IfRead, IsBadHeader}
 use Rattle.journal_check.proofs.FeedPlaces.{in_front_none}
 use Rattle.journal_check.proofs.Heading.{read_more, bad_header, none_next, broken_next}
-use Rattle.journal_check.proofs.Given.{gave_more, gave_none}
+use Rattle.journal_check.proofs.Given.{gave_more, gave_none, passed_more, passed_none}
 use Rattle.journal_check.proofs.header.read_settings.Goals as goal
 
 pub loop-number-init : goal.loop-number-init
 loop-number-init g c = record {
   still = refl;
   gave = gave_none (g.S.Source.left c.args.source.now);
+  passed = passed_none c.args.lines.now (g.S.Source.left c.args.source.now);
   settings = c.new-settings.ensures;
   told = sym (in_front_none (to_come c.args.lines.now (g.S.Source.left c.args.source.now)));
 }
@@ -31,6 +32,7 @@ loop-number-preserved g c =
     record {
       still = c.in-Line.ensures.still (λ same. cc) ∙ was.still;
       gave = gave_more _ _ _ was.gave c.next.ensures.gave;
+      passed = passed_more c.args.lines.now c.loop-number.lines c.next.new.self (g.S.Source.left c.args.source.now) (g.S.Source.left c.loop-number.source) (g.S.Source.left c.next.new.source) was.passed (c.in-Line.ensures.passed refl);
       settings = read.settings;
       told = read_more n c.next.new.line.items old c.read.new.self whole mid after was.told c.in-Line.ensures.taken.1 read;
     }
@@ -76,3 +78,6 @@ returns-then-not-read-clause-gave g c = gave_more _ _ _ c.loop-number.invariant.
 
 pub returns-clause-gave : goal.returns-clause-gave
 returns-clause-gave g c = c.loop-number.invariant.gave
+
+pub returns-clause-passed : goal.returns-clause-passed
+returns-clause-passed g c = c.loop-number.invariant.passed

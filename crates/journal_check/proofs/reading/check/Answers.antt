@@ -1,54 +1,52 @@
-use Rattle.std.proofs.Common.{ℕ, List, IfSome, ap, sym, subst, inr, ◌∙◌}
+use Rattle.std.proofs.Common.{IfSome, ap, sym, subst, inr, ◌∙◌}
 use Rattle.savi_ends.specs.Octets.{in_front}
-use Rattle.hist_store.specs.JournalTexts.{address_text, journal_header_text}
+use Rattle.journal_check.specs.Headers.{head_text}
 use Rattle.journal_check.specs.Pieces.{to_come}
-use Rattle.journal_check.proofs.FeedPlaces.{in_front_none}
 use Rattle.journal_check.proofs.Whole.{answer_behind, answer_bad, answer_only, answer_good, answer_journal}
 use Rattle.journal_check.specs.declared.answer.Checked.{Checked}
 use Rattle.journal_check.specs.Answers.{IfRead, IsBadHeader}
 use Rattle.journal_check.proofs.JudgedAs.{never_memory, failed_is}
-use Rattle.journal_check.proofs.HeaderRead.{header_read}
+use Rattle.journal_check.proofs.HeaderRead.{header_read, start_seen}
 use Rattle.journal_check.proofs.Given.{gave_more, gave_none}
 use Rattle.journal_check.proofs.reading.check.Goals as goal
 
 pub returns-in-Ok-read_header-clause-answer : goal.returns-in-Ok-read_header-clause-answer
 returns-in-Ok-read_header-clause-answer g c =
     let left = g.S.Source.left c.args.source.now in
-    let behind = in_front (journal_header_text address_text c.in-Ok-read_header.plan) (to_come c.read_header.new.lines (g.S.Source.left c.read_header.new.source)) in
-    answer_behind c.check_behind.result left behind (sym (ap (λ (l : List ℕ). in_front l left) c.new-lines.ensures ∙ in_front_none left) ∙ c.in-Ok-read_header.ensures.plan.1) c.check_behind.ensures.answer
+    let behind = in_front (head_text c.in-Ok-read_header.version c.in-Ok-read_header.plan) (to_come c.read_header.new.lines (g.S.Source.left c.read_header.new.source)) in
+    answer_behind c.check_behind.result left behind (sym (start_seen c.new-lines.result left c.new-lines.ensures.held c.new-lines.ensures.place) ∙ c.in-Ok-read_header.ensures.plan.1) c.check_behind.ensures.answer
 
 pub returns-in-Ok-read_header-clause-only : goal.returns-in-Ok-read_header-clause-only
-returns-in-Ok-read_header-clause-only g c = answer_only c.check_behind.result (g.S.Source.left c.args.source.now) (returns-in-Ok-read_header-clause-answer g c)
+returns-in-Ok-read_header-clause-only g c = answer_only c.octets_have_one_answer.ensures c.check_behind.result (g.S.Source.left c.args.source.now) (returns-in-Ok-read_header-clause-answer g c)
 
 pub returns-in-Ok-read_header-clause-good : goal.returns-in-Ok-read_header-clause-good
 returns-in-Ok-read_header-clause-good g c = λ entries good. answer_good c.check_behind.result (g.S.Source.left c.args.source.now) entries (returns-in-Ok-read_header-clause-answer g c) good
 
 pub returns-in-Ok-read_header-clause-journal : goal.returns-in-Ok-read_header-clause-journal
-returns-in-Ok-read_header-clause-journal g c = λ entries. answer_journal c.check_behind.result (g.S.Source.left c.args.source.now) entries (returns-in-Ok-read_header-clause-answer g c)
+returns-in-Ok-read_header-clause-journal g c = λ entries. answer_journal c.octets_have_one_answer.ensures c.check_behind.result (g.S.Source.left c.args.source.now) entries (returns-in-Ok-read_header-clause-answer g c)
 
 pub returns-in-Err-clause-answer : goal.returns-in-Err-clause-answer
 returns-in-Err-clause-answer g c =
     let left = g.S.Source.left c.args.source.now in
     let come = to_come c.new-lines.result left in
-    answer_bad c.checked.result left come (sym (ap (λ (l : List ℕ). in_front l left) c.new-lines.ensures ∙ in_front_none left))
+    answer_bad c.checked.result left come (sym (start_seen c.new-lines.result left c.new-lines.ensures.held c.new-lines.ensures.place))
     (subst (λ (a : Checked). IfRead a (IfSome come (λ octets. IsBadHeader octets a))) (sym c.checked.ensures) c.in-Err.ensures.bad)
 
 pub returns-in-Err-clause-only : goal.returns-in-Err-clause-only
-returns-in-Err-clause-only g c = answer_only c.checked.result (g.S.Source.left c.args.source.now) (returns-in-Err-clause-answer g c)
+returns-in-Err-clause-only g c = answer_only c.octets_have_one_answer.ensures c.checked.result (g.S.Source.left c.args.source.now) (returns-in-Err-clause-answer g c)
 
 pub returns-in-Err-clause-good : goal.returns-in-Err-clause-good
 returns-in-Err-clause-good g c = λ entries good. answer_good c.checked.result (g.S.Source.left c.args.source.now) entries (returns-in-Err-clause-answer g c) good
 
 pub returns-in-Err-clause-journal : goal.returns-in-Err-clause-journal
-returns-in-Err-clause-journal g c = λ entries. answer_journal c.checked.result (g.S.Source.left c.args.source.now) entries (returns-in-Err-clause-answer g c)
+returns-in-Err-clause-journal g c = λ entries. answer_journal c.octets_have_one_answer.ensures c.checked.result (g.S.Source.left c.args.source.now) entries (returns-in-Err-clause-answer g c)
 
 -- no memory for the switch: the header was read, and what is held behind it is at most a piece
 pub returns-in-Ok-read_header-clause-memory : goal.returns-in-Ok-read_header-clause-memory
 returns-in-Ok-read_header-clause-memory g c = λ is.
     let same = c.check_behind.ensures.memory is in
-    inr (header_read c.in-Ok-read_header.plan c.read_header.new.lines c.check_behind.new.lines (g.S.Source.left c.args.source.now) _ _
-    (ap g.S.Source.left same.0) c.in-Ok-read_header.ensures.plan.0
-    (sym (ap (λ (l : List ℕ). in_front l (g.S.Source.left c.args.source.now)) c.new-lines.ensures ∙ in_front_none (g.S.Source.left c.args.source.now)) ∙ c.in-Ok-read_header.ensures.plan.1))
+    inr (header_read c.in-Ok-read_header.version c.in-Ok-read_header.plan c.new-lines.result c.read_header.new.lines (g.S.Source.left c.args.source.now) _ _
+    (ap g.S.Source.left same.0) c.in-Ok-read_header.ensures.plan.0 c.new-lines.ensures.held c.in-Ok-read_header.ensures.plan.1 c.in-Ok-read_header.ensures.passed)
 
 pub returns-in-Err-clause-memory : goal.returns-in-Err-clause-memory
 returns-in-Err-clause-memory g c = λ is. absurd (never_memory c.in-Err.judged (sym c.checked.ensures ∙ is))

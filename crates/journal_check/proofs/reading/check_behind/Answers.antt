@@ -2,7 +2,7 @@ use Rattle.std.proofs.Common.{◌*◌, IfSome, ap, sym, subst, ◌∙◌}
 use Rattle.savi_ends.specs.Octets.{in_front}
 use Rattle.savi_core.specs.Machines.{Machine, base_of}
 use Rattle.savi_core.proofs.Leaving.{start_is}
-use Rattle.hist_store.specs.JournalTexts.{address_text, journal_header_text}
+use Rattle.journal_check.specs.Headers.{head_text}
 use Rattle.journal_check.specs.Pieces.{to_come}
 use Rattle.journal_check.specs.Answers.{IfRead, IsAnswerBehind}
 use Rattle.journal_check.specs.Judging.{checked_of}
@@ -11,24 +11,24 @@ use Rattle.journal_check.proofs.JudgedAs.{never_memory, failed_is, not_failed}
 use Rattle.journal_check.proofs.Given.{gave_none}
 use Rattle.journal_check.proofs.reading.check_behind.Goals as goal
 
-pub check_entries-requires-clause-base : goal.check_entries-requires-clause-base
-check_entries-requires-clause-base g c = ap base_of c.in-Ok.ensures ∙ start_is (16 * c.args.plan.per_port) (256 * 16)
+pub check_segments-requires-clause-base : goal.check_segments-requires-clause-base
+check_segments-requires-clause-base g c = ap base_of c.in-Ok.ensures ∙ start_is (16 * c.args.plan.per_port) (256 * 16)
 
 pub returns-in-Ok-clause-answer : goal.returns-in-Ok-clause-answer
 returns-in-Ok-clause-answer g c =
     let after = to_come c.args.lines.now (g.S.Source.left c.args.source.now) in
-    let answer = checked_of c.check_entries.result in
-    subst (λ (a : Checked). IfRead a (IfSome (in_front (journal_header_text address_text c.args.plan) after) (λ octets. IsAnswerBehind octets a))) (sym c.checked.ensures)
-    (subst (λ (m : Machine). IfRead answer (IfSome (in_front (journal_header_text address_text m.plan) after) (λ octets. IsAnswerBehind octets answer))) c.in-Ok.ensures c.check_entries.ensures.answer)
+    let answer = checked_of c.check_segments.result in
+    subst (λ (a : Checked). IfRead a (IfSome (in_front (head_text c.args.version c.args.plan) after) (λ octets. IsAnswerBehind octets a))) (sym c.checked.ensures)
+    (subst (λ (m : Machine). IfRead answer (IfSome (in_front (head_text c.args.version m.plan) after) (λ octets. IsAnswerBehind octets answer))) c.in-Ok.ensures c.check_segments.ensures.answer)
 
 pub returns-in-Ok-clause-memory : goal.returns-in-Ok-clause-memory
-returns-in-Ok-clause-memory g c = λ is. absurd (never_memory c.check_entries.result (sym c.checked.ensures ∙ is))
+returns-in-Ok-clause-memory g c = λ is. absurd (never_memory c.check_segments.result (sym c.checked.ensures ∙ is))
 
 pub returns-in-Ok-clause-cause : goal.returns-in-Ok-clause-cause
-returns-in-Ok-clause-cause g c = λ is. c.check_entries.ensures.cause (failed_is c.check_entries.result (sym c.checked.ensures ∙ is))
+returns-in-Ok-clause-cause g c = λ is. c.check_segments.ensures.cause (failed_is c.check_segments.result (sym c.checked.ensures ∙ is))
 
 pub returns-in-Ok-clause-still : goal.returns-in-Ok-clause-still
-returns-in-Ok-clause-still g c = λ other. c.check_entries.ensures.still (not_failed c.check_entries.result (λ is. other (c.checked.ensures ∙ is)))
+returns-in-Ok-clause-still g c = λ other. c.check_segments.ensures.still (not_failed c.check_segments.result (λ is. other (c.checked.ensures ∙ is)))
 
 pub returns-in-Err-clause-gave : goal.returns-in-Err-clause-gave
 returns-in-Err-clause-gave g c = gave_none (g.S.Source.left c.args.source.now)

@@ -15,7 +15,6 @@ begin_port-requires g c =
     let inside : place < length new = omega arith in
     let x = get_or new place c.index-ports-place.result in
     record {
-      base = c.loop-place.invariant.base;
       «open» = open_here g.K.Sink.written g.K.Sink.faults place c.args.core.now c.loop-place.core c.loop-place.core old new x x c.requires.ports c.requires.rising c.loop-place.invariant inside (get_or_default new place _ _ inside);
     }
 

@@ -1,58 +1,53 @@
-use Rattle.std.proofs.Common.{◌≡◌, ◌≢◌, ℕ, suc, ◌+◌, ◌-◌, ◌<◌, List, [], ◌∷◌, length, map, get_or, refl, sym, ap, ◌∙◌, subst, arith, false, Option, Some, None, IfSome}
-use Rattle.std.specs.List.{All}
+use Rattle.std.proofs.Common.{◌≡◌, ◌≢◌, ℕ, suc, ◌+◌, ◌-◌, ◌<◌, List, [], ◌∷◌, map, refl, sym, ap, ◌∙◌, subst, arith, false, Option, None, IfSome}
 use Rattle.savi_kinds.specs.declared.plan.Plan.{Plan}
-use Rattle.savi_kinds.specs.declared.entry.Who.TheVariants.{Ingress, Control, Ticker}
-use Rattle.savi_kinds.specs.Ports.{number_of}
-use Rattle.hist_store.specs.Rows.{Row}
-use Rattle.checkpoint.specs.Bases.{Base, empty}
-use Rattle.savi_history.specs.Passes.{AllEnded, control_pass, ticker_pass, has_ended}
-use Rattle.savi_history.specs.Queues.{queue}
-use Rattle.savi_history.specs.Events.{End}
-use Rattle.savi_history.specs.Legal.{IsOpen, IsFinished}
+use Rattle.savi_kinds.specs.declared.entry.Who.TheVariants.{Control}
+use Rattle.savi_kinds.specs.ValidPlan.{IsValidPlan}
+use Rattle.checkpoint.specs.Bases.{Base}
+use Rattle.savi_history.specs.Legal.{IsOpen}
+use Rattle.savi_history.specs.Passes.{control_pass, has_ended}
 use Rattle.savi_history.specs.Picks.{IsPick, IsLeast}
-use Rattle.savi_history.specs.Replay.{with_event, closing, egress_ended, entered}
-use Rattle.savi_history.specs.PortInputs.{input_end}
-use Rattle.savi_history.proofs.PortInputs.{same_finished}
+use Rattle.savi_history.specs.Summary.{capped}
+use Rattle.savi_segments.specs.Replay.{Run, room_made}
 use Rattle.savi_core.specs.Machines.{Machine, base_of}
-use Rattle.port_worker.specs.declared.port_ends.PortEnds.{PortEnds}
-use Rattle.port_worker.specs.ControlOutputs.{AheadGoesOn, ControlGoesOn}
-use Rattle.port_worker.specs.Inputs.{turn_of, turn_moment}
+use Rattle.journal_write.specs.declared.journal.Journal.{Journal}
+use Rattle.port_worker.specs.Inputs.{turn_moment}
+use Rattle.port_worker.specs.Journalled.{IsJournalled}
 use Rattle.port_worker.specs.LineInputs.{control_moment}
-use Rattle.port_worker.specs.Steps.{ends_input, ahead_after}
-use Rattle.port_worker.specs.Pairs.{EachPair}
-use Rattle.port_worker.specs.Outputs.{OutputsGoOn, IsOutputEnded}
-use Rattle.port_worker.specs.Replays.{ports_planned}
-use Rattle.port_worker.proofs.ControlRunning.{control_weighs, control_weight}
-use Rattle.port_worker.proofs.ControlTurns.{control_running, control_turn, control_turns_now}
-use Rattle.port_worker.proofs.Measures.{undone}
-use Rattle.port_worker.proofs.Running.{Running, look_step, look_undone}
-use Rattle.port_worker.proofs.Stepping.{turn_step, fits_step, smaller, turn_known, running_j, inside}
+use Rattle.port_worker.specs.Steps.{HasRoomFor}
+use Rattle.port_worker.specs.Told.{TellsOf, passes_over}
+use Rattle.port_worker.specs.Turnings.{AreTurned, StandsAt, turn_next}
+use Rattle.port_worker.proofs.Beginning.{begun_at}
+use Rattle.port_worker.proofs.Fitting.{fits_started}
+use Rattle.port_worker.proofs.Going.{at_machine, control_goes, control_less, control_next_here, control_open, control_turns, goes_base, goes_few, goes_looked, goes_over, goes_planned, goes_quiet, goes_serves, goes_ticker, goes_valid, looked_weighs, made_planned, made_quiet, made_so, made_sound, made_valid, next_at, port_goes, port_inside, port_known, port_less, port_next_here, port_open, port_room}
+use Rattle.port_worker.proofs.Journalling.{none_if, room_kept}
 use Rattle.port_worker.proofs.Later.{looked_later}
-use Rattle.port_worker.proofs.Starting.{opened, opened_machine, opened_plan, opened_base, started_empty, start, holds, control_open, planned_now, sound_now, quiet_now, input_open}
-use Rattle.port_worker.proofs.Ending.{inputs_ended, serves, done_at}
-use Rattle.port_worker.proofs.Fitting.{FitsSoFar, fits_started, fits_looked, fits_finished, causes_finished}
+use Rattle.port_worker.proofs.RowsHeld.{rows_of}
+use Rattle.port_worker.proofs.Starting.{control_open as control_opens, holds, opened, opened_base, opened_machine, opened_plan, start, started_empty}
 use Rattle.port_worker.proofs.turns.replay.Goals as goal
 
-nothing : {X : Type 0} (o : Option X) → ((x : X) → o ≡ Some x → ⊥) → o ≡ None
-nothing None not = refl
-nothing (Some x) not = absurd (not x refl)
+none_told : (n : ℕ) → n ≡ 0 → n ≡ capped 0
+none_told n is = omega (arith, is)
 
 -- the place of a port among all inputs is behind control's
+one_behind : (place : ℕ) → place ≢ 0 → place ≡ suc (place - 1)
+one_behind place other = omega (arith, other)
+
 behind_control : (numbers : List (Option ℕ)) (place : ℕ) → place ≢ 0 → IsLeast numbers place → IsLeast numbers (suc (place - 1))
-behind_control numbers place other least = subst (λ (n : ℕ). IsLeast numbers n) (omega arith) least
+behind_control numbers place other least = subst (λ (n : ℕ). IsLeast numbers n) (one_behind place other) least
 
 at_control : (numbers : List (Option ℕ)) (place : ℕ) → place ≡ 0 → IsLeast numbers place → IsLeast numbers 0
 at_control numbers place here least = subst (λ (n : ℕ). IsLeast numbers n) here least
 
 pub begin_all-requires-clause-base : goal.begin_all-requires-clause-base
-begin_all-requires-clause-base g c = ap base_of c.requires.start ∙ started_empty c.args.core.now.plan
+begin_all-requires-clause-base g c =
+    ap base_of c.requires.start ∙ started_empty c.args.core.now.plan
 
 pub end_unheard-requires : goal.end_unheard-requires
 end_unheard-requires g c =
     let begun = c.begin_all.ensures.begun in
     record {
       «open» = subst (λ (b : Base). IsOpen c.begin_all.new.core.plan b c.begin_all.new.core.past Control) (sym c.begin_all.ensures.base)
-          (control_open g.S.Source.left g.K.Sink.written g.S.Source.faults g.K.Sink.faults c.args.core.now.plan c.args.control.now c.args.ports.now c.begin_all.new.ports c.requires.planned c.requires.valid.ports c.begin_all.new.core.past begun.0 c.requires.unread c.begin_all.ensures.sinks begun.1 begun.2 c.requires.unheard
+          (control_opens g.S.Source.left g.K.Sink.written g.S.Source.faults g.K.Sink.faults c.args.core.now.plan c.args.control.now c.args.ports.now c.begin_all.new.ports c.requires.planned c.requires.valid.ports c.begin_all.new.core.past begun.0 c.requires.unread c.begin_all.ensures.sinks begun.1 begun.2 c.requires.unheard
           c.begin_all.new.core.plan c.begin_all.ensures.plan);
     }
 
@@ -68,14 +63,16 @@ turns-init g c =
     let past_is : c.end_unheard.new.core.past ≡ opened plan before ends =
     ap (λ (m : Machine). m.past) made ∙ opened_machine c.begin_all.new.core c.begin_all.ensures.base ends ∙ ap (λ (p : Plan). opened p before ends) c.begin_all.ensures.plan in
     record {
-      same_plan = ap (λ (m : Machine). m.plan) made ∙ opened_plan c.begin_all.new.core ends ∙ c.begin_all.ensures.plan;
-      same_base = ap base_of made ∙ opened_base c.begin_all.new.core ends ∙ c.begin_all.ensures.base;
-      runs = subst (λ (l : List Row). Running g.S.Source.left g.K.Sink.written g.S.Source.faults g.K.Sink.faults plan ends ends first ports l) (sym past_is)
-          (start g.S.Source.left g.K.Sink.written g.S.Source.faults g.K.Sink.faults plan ends first ports c.requires.planned c.requires.valid.ports before begun.0 c.requires.unread c.begin_all.ensures.sinks begun.1 begun.2 c.requires.unheard);
-      fits = subst (λ (l : List Row). EachPair (FitsSoFar g.S.Source.left g.S.Source.faults l) first ports) (sym past_is)
-          (fits_started g.S.Source.left g.K.Sink.written g.S.Source.faults g.K.Sink.faults (opened plan before ends) first ports
+      run = begun_at (opened plan before ends);
+      plan_is = ap (λ (m : Machine). m.plan) made ∙ opened_plan c.begin_all.new.core ends ∙ c.begin_all.ensures.plan;
+      at = record { base = ap base_of made ∙ opened_base c.begin_all.new.core ends ∙ c.begin_all.ensures.base; rows = past_is };
+      runs = start g.S.Source.left g.K.Sink.written g.S.Source.faults g.K.Sink.faults plan ends first ports c.requires.planned c.requires.valid.ports before begun.0 c.requires.unread c.begin_all.ensures.sinks begun.1 begun.2 c.requires.unheard;
+      fits = fits_started g.S.Source.left g.K.Sink.written g.S.Source.faults g.K.Sink.faults (rows_of (begun_at (opened plan before ends))) first ports
           (holds g.S.Source.left g.K.Sink.written g.S.Source.faults g.K.Sink.faults plan ends first ports c.requires.planned c.requires.valid.ports before begun.0 c.requires.unread c.begin_all.ensures.sinks begun.1 begun.2 c.requires.unheard)
-          c.requires.unread c.begin_all.ensures.sinks);
+          c.requires.unread c.begin_all.ensures.sinks;
+      tells = record { entries_are = none_told c.new-told.result.entries c.new-told.ensures.entries; ends_are = c.new-told.ensures.ends };
+      written_so = subst (λ (p : Plan). IsJournalled g.K.Sink.written g.K.Sink.faults p [] c.args.journal.now c.begin_journal.new.journal) c.plan.ensures c.begin_journal.ensures;
+      turned = record { legal = tt; newest = tt; before = tt };
     }
 
 pub finish-requires-clause-planned : goal.finish-requires-clause-planned
@@ -83,308 +80,807 @@ finish-requires-clause-planned g c =
     let plan = c.args.core.now.plan in
     let first = c.args.ports.now in
     let ends_first = c.args.control.now in
+    let journal_first = c.args.journal.now in
     let ends = c.look_control.new.control in
     let ports = c.look_all.new.ports in
-    let past = c.turns.core.past in
-    let known = c.look_all.ensures.known in
+    let journal = c.turns.journal in
+    let told = c.turns.told in
+    let core = c.turns.core in
     let heard = c.look_control.ensures.known in
-    let runs = look_step g.S.Source.left g.K.Sink.written g.S.Source.faults g.K.Sink.faults plan ends_first first c.turns.control ends c.turns.ports ports past c.turns.invariant.runs c.look_control.ensures.looked c.look_all.ensures.looked in
-    planned_now g.S.Source.left g.K.Sink.written g.S.Source.faults g.K.Sink.faults plan ends first ports c.requires.planned c.requires.valid.ports ends_first past runs
-    ∙ ap ports_planned (sym c.turns.invariant.same_plan)
+    let known = c.look_all.ensures.known in
+    let goes = goes_looked g.S.Source.left g.K.Sink.written g.S.Source.faults g.K.Sink.faults plan ends_first first journal_first c.requires.planned c.requires.valid c.turns.control c.turns.ports journal told.entries told.ends.items core ends ports c.look_control.ensures.looked c.look_all.ensures.looked c.turns.invariant in
+    goes_planned g.S.Source.left g.K.Sink.written g.S.Source.faults g.K.Sink.faults plan ends_first first journal_first c.requires.planned c.requires.valid ends ports journal told.entries told.ends.items core goes
 
 pub finish-requires-clause-inputs : goal.finish-requires-clause-inputs
 finish-requires-clause-inputs g c =
     let plan = c.args.core.now.plan in
     let first = c.args.ports.now in
     let ends_first = c.args.control.now in
+    let journal_first = c.args.journal.now in
     let ends = c.look_control.new.control in
     let ports = c.look_all.new.ports in
-    let past = c.turns.core.past in
-    let known = c.look_all.ensures.known in
+    let journal = c.turns.journal in
+    let told = c.turns.told in
+    let core = c.turns.core in
     let heard = c.look_control.ensures.known in
-    let runs = look_step g.S.Source.left g.K.Sink.written g.S.Source.faults g.K.Sink.faults plan ends_first first c.turns.control ends c.turns.ports ports past c.turns.invariant.runs c.look_control.ensures.looked c.look_all.ensures.looked in
-    let none : IsPick (control_moment ends ∷ map turn_moment ports) None = subst (λ (o : Option ℕ). IsPick (control_moment ends ∷ map turn_moment ports) o) (nothing c.next_of.result c.in_default.not-Some) c.next_of.ensures in
-    subst (λ (p : Plan). AllEnded empty (control_pass p + 1) past) (sym c.turns.invariant.same_plan)
-    (inputs_ended g.S.Source.left g.K.Sink.written g.S.Source.faults g.K.Sink.faults plan ends_first ends first ports past c.requires.planned runs heard known none)
+    let known = c.look_all.ensures.known in
+    let goes = goes_looked g.S.Source.left g.K.Sink.written g.S.Source.faults g.K.Sink.faults plan ends_first first journal_first c.requires.planned c.requires.valid c.turns.control c.turns.ports journal told.entries told.ends.items core ends ports c.look_control.ensures.looked c.look_all.ensures.looked c.turns.invariant in
+    let none : IsPick (control_moment ends ∷ map turn_moment ports) None = subst (λ (o : Option ℕ). IsPick (control_moment ends ∷ map turn_moment ports) o) (none_if c.next_of.result c.in_default.not-Some) c.next_of.ensures in
+    goes_over g.S.Source.left g.K.Sink.written g.S.Source.faults g.K.Sink.faults plan ends_first first journal_first c.requires.planned c.requires.valid ends ports journal told.entries told.ends.items core goes heard known none
 
 pub finish-requires-clause-quiet : goal.finish-requires-clause-quiet
 finish-requires-clause-quiet g c =
     let plan = c.args.core.now.plan in
     let first = c.args.ports.now in
     let ends_first = c.args.control.now in
+    let journal_first = c.args.journal.now in
     let ends = c.look_control.new.control in
     let ports = c.look_all.new.ports in
-    let past = c.turns.core.past in
-    let known = c.look_all.ensures.known in
+    let journal = c.turns.journal in
+    let told = c.turns.told in
+    let core = c.turns.core in
     let heard = c.look_control.ensures.known in
-    let runs = look_step g.S.Source.left g.K.Sink.written g.S.Source.faults g.K.Sink.faults plan ends_first first c.turns.control ends c.turns.ports ports past c.turns.invariant.runs c.look_control.ensures.looked c.look_all.ensures.looked in
-    subst (λ (p : Plan). All (λ q. queue p empty (number_of q.port) past ≡ []) ports) (sym c.turns.invariant.same_plan)
-    (quiet_now g.S.Source.left g.K.Sink.written g.S.Source.faults g.K.Sink.faults plan ends first ports c.requires.planned c.requires.valid.ports ends_first past runs)
+    let known = c.look_all.ensures.known in
+    let goes = goes_looked g.S.Source.left g.K.Sink.written g.S.Source.faults g.K.Sink.faults plan ends_first first journal_first c.requires.planned c.requires.valid c.turns.control c.turns.ports journal told.entries told.ends.items core ends ports c.look_control.ensures.looked c.look_all.ensures.looked c.turns.invariant in
+    goes_quiet g.S.Source.left g.K.Sink.written g.S.Source.faults g.K.Sink.faults plan ends_first first journal_first c.requires.planned c.requires.valid ends ports journal told.entries told.ends.items core goes
 
 pub finish-requires-clause-ticker : goal.finish-requires-clause-ticker
 finish-requires-clause-ticker g c =
-    subst (λ (p : Plan). has_ended empty (ticker_pass p) c.turns.core.past ≡ false) (sym c.turns.invariant.same_plan) c.turns.invariant.runs.ticker
-
-pub returns-in_default-clause-ports : goal.returns-in_default-clause-ports
-returns-in_default-clause-ports g c =
-    let later = looked_later g.S.Source.left g.K.Sink.written g.S.Source.faults g.K.Sink.faults c.args.ports.now c.turns.ports c.look_all.new.ports c.turns.invariant.runs.later c.look_all.ensures.looked in
-    record { size = later.size; each = λ k d within. (later.each k d within).port }
-
-pub returns-in_default-clause-serves : goal.returns-in_default-clause-serves
-returns-in_default-clause-serves g c =
     let plan = c.args.core.now.plan in
     let first = c.args.ports.now in
     let ends_first = c.args.control.now in
+    let journal_first = c.args.journal.now in
     let ends = c.look_control.new.control in
     let ports = c.look_all.new.ports in
-    let past = c.turns.core.past in
-    let known = c.look_all.ensures.known in
+    let journal = c.turns.journal in
+    let told = c.turns.told in
+    let core = c.turns.core in
     let heard = c.look_control.ensures.known in
-    let runs = look_step g.S.Source.left g.K.Sink.written g.S.Source.faults g.K.Sink.faults plan ends_first first c.turns.control ends c.turns.ports ports past c.turns.invariant.runs c.look_control.ensures.looked c.look_all.ensures.looked in
-    let now = c.finish.new.core.past in
-    let none : IsPick (control_moment ends ∷ map turn_moment ports) None = subst (λ (o : Option ℕ). IsPick (control_moment ends ∷ map turn_moment ports) o) (nothing c.next_of.result c.in_default.not-Some) c.next_of.ensures in
-    let finished : now ≡ egress_ended plan empty plan.ports (with_event plan empty past (End Ticker (closing past))) =
-    subst (λ (p : Plan). now ≡ egress_ended p empty p.ports (with_event p empty past (End Ticker (closing past)))) c.turns.invariant.same_plan c.finish.ensures.past in
-    let outputs = subst (λ (p : Plan). All (λ q. IsOutputEnded p past now (number_of q.port)) ports) c.turns.invariant.same_plan c.finish.ensures.outputs in
-    let fits = fits_looked g.S.Source.left g.S.Source.faults past first c.turns.ports ports c.turns.invariant.fits c.look_all.ensures.looked in
-    serves g.S.Source.left g.K.Sink.written g.S.Source.faults g.K.Sink.faults plan ends_first ends first ports past c.requires.planned runs heard known none now finished outputs
-    (subst (λ (p : Plan). IsFinished p empty now) c.turns.invariant.same_plan c.finish.ensures.finished)
-    (fits_finished g.S.Source.left g.S.Source.faults plan first ports past now fits
-    (done_at g.S.Source.left g.K.Sink.written g.S.Source.faults g.K.Sink.faults plan ends_first ends first ports past c.requires.planned runs heard known none) finished)
-    (causes_finished g.S.Source.left g.S.Source.faults first ports past now fits
-    (done_at g.S.Source.left g.K.Sink.written g.S.Source.faults g.K.Sink.faults plan ends_first ends first ports past c.requires.planned runs heard known none) (λ n. ap (λ (l : List Row). input_end n l) finished ∙ (same_finished plan empty past n).end_same))
-    c.requires.valid.ports
+    let known = c.look_all.ensures.known in
+    let goes = goes_looked g.S.Source.left g.K.Sink.written g.S.Source.faults g.K.Sink.faults plan ends_first first journal_first c.requires.planned c.requires.valid c.turns.control c.turns.ports journal told.entries told.ends.items core ends ports c.look_control.ensures.looked c.look_all.ensures.looked c.turns.invariant in
+    goes_ticker g.S.Source.left g.K.Sink.written g.S.Source.faults g.K.Sink.faults plan ends_first first journal_first c.requires.planned c.requires.valid ends ports journal told.entries told.ends.items core goes
+
+pub close_segment-requires-clause-few : goal.close_segment-requires-clause-few
+close_segment-requires-clause-few g c =
+    let plan = c.args.core.now.plan in
+    let first = c.args.ports.now in
+    let ends_first = c.args.control.now in
+    let journal_first = c.args.journal.now in
+    let ends = c.look_control.new.control in
+    let ports = c.look_all.new.ports in
+    let journal = c.turns.journal in
+    let told = c.turns.told in
+    let core = c.turns.core in
+    let heard = c.look_control.ensures.known in
+    let known = c.look_all.ensures.known in
+    let goes = goes_looked g.S.Source.left g.K.Sink.written g.S.Source.faults g.K.Sink.faults plan ends_first first journal_first c.requires.planned c.requires.valid c.turns.control c.turns.ports journal told.entries told.ends.items core ends ports c.look_control.ensures.looked c.look_all.ensures.looked c.turns.invariant in
+    goes_few g.S.Source.left g.K.Sink.written g.S.Source.faults g.K.Sink.faults plan ends_first first journal_first c.requires.planned c.requires.valid ends ports journal told.entries told.ends.items core goes
+    ∙ sym (ap (λ (x : Machine). passes_over x.plan (base_of x) []) c.finish.ensures.made)
+
+pub close_segment-requires-clause-lines : goal.close_segment-requires-clause-lines
+close_segment-requires-clause-lines g c =
+    let plan = c.args.core.now.plan in
+    let first = c.args.ports.now in
+    let ends_first = c.args.control.now in
+    let journal_first = c.args.journal.now in
+    let ends = c.look_control.new.control in
+    let ports = c.look_all.new.ports in
+    let journal = c.turns.journal in
+    let told = c.turns.told in
+    let core = c.turns.core in
+    let heard = c.look_control.ensures.known in
+    let known = c.look_all.ensures.known in
+    let goes = goes_looked g.S.Source.left g.K.Sink.written g.S.Source.faults g.K.Sink.faults plan ends_first first journal_first c.requires.planned c.requires.valid c.turns.control c.turns.ports journal told.entries told.ends.items core ends ports c.look_control.ensures.looked c.look_all.ensures.looked c.turns.invariant in
+    room_kept g.K.Sink.written g.K.Sink.faults plan goes.run.closed journal_first journal c.requires.blank goes.written_so
+
+pub make_room-requires-clause-valid : goal.make_room-requires-clause-valid
+make_room-requires-clause-valid g c =
+    let plan = c.args.core.now.plan in
+    let first = c.args.ports.now in
+    let ends_first = c.args.control.now in
+    let journal_first = c.args.journal.now in
+    let ends = c.look_control.new.control in
+    let ports = c.look_all.new.ports in
+    let journal = c.turns.journal in
+    let told = c.turns.told in
+    let core = c.turns.core in
+    let heard = c.look_control.ensures.known in
+    let known = c.look_all.ensures.known in
+    let goes = goes_looked g.S.Source.left g.K.Sink.written g.S.Source.faults g.K.Sink.faults plan ends_first first journal_first c.requires.planned c.requires.valid c.turns.control c.turns.ports journal told.entries told.ends.items core ends ports c.look_control.ensures.looked c.look_all.ensures.looked c.turns.invariant in
+    goes_valid g.S.Source.left g.K.Sink.written g.S.Source.faults g.K.Sink.faults plan ends_first first journal_first c.requires.planned c.requires.valid ends ports journal told.entries told.ends.items core goes
+
+pub make_room-requires-clause-planned : goal.make_room-requires-clause-planned
+make_room-requires-clause-planned g c =
+    let plan = c.args.core.now.plan in
+    let first = c.args.ports.now in
+    let ends_first = c.args.control.now in
+    let journal_first = c.args.journal.now in
+    let ends = c.look_control.new.control in
+    let ports = c.look_all.new.ports in
+    let journal = c.turns.journal in
+    let told = c.turns.told in
+    let core = c.turns.core in
+    let heard = c.look_control.ensures.known in
+    let known = c.look_all.ensures.known in
+    let goes = goes_looked g.S.Source.left g.K.Sink.written g.S.Source.faults g.K.Sink.faults plan ends_first first journal_first c.requires.planned c.requires.valid c.turns.control c.turns.ports journal told.entries told.ends.items core ends ports c.look_control.ensures.looked c.look_all.ensures.looked c.turns.invariant in
+    goes_planned g.S.Source.left g.K.Sink.written g.S.Source.faults g.K.Sink.faults plan ends_first first journal_first c.requires.planned c.requires.valid ends ports journal told.entries told.ends.items core goes
+
+pub make_room-requires-clause-known : goal.make_room-requires-clause-known
+make_room-requires-clause-known g c =
+    let plan = c.args.core.now.plan in
+    let first = c.args.ports.now in
+    let ends_first = c.args.control.now in
+    let journal_first = c.args.journal.now in
+    let ends = c.look_control.new.control in
+    let ports = c.look_all.new.ports in
+    let journal = c.turns.journal in
+    let told = c.turns.told in
+    let core = c.turns.core in
+    let heard = c.look_control.ensures.known in
+    let known = c.look_all.ensures.known in
+    let goes = goes_looked g.S.Source.left g.K.Sink.written g.S.Source.faults g.K.Sink.faults plan ends_first first journal_first c.requires.planned c.requires.valid c.turns.control c.turns.ports journal told.entries told.ends.items core ends ports c.look_control.ensures.looked c.look_all.ensures.looked c.turns.invariant in
+    let place = c.in-Some.place in
+    let least = c.in-Some.ensures in
+    let next = next_at g.S.Source.left g.K.Sink.written g.S.Source.faults g.K.Sink.faults plan ends_first first journal_first c.requires.planned c.requires.valid ends ports journal told.entries told.ends.items core goes heard known place least in
+    rw next.turn_is refl
+
+pub make_room-requires-clause-open : goal.make_room-requires-clause-open
+make_room-requires-clause-open g c =
+    let plan = c.args.core.now.plan in
+    let first = c.args.ports.now in
+    let ends_first = c.args.control.now in
+    let journal_first = c.args.journal.now in
+    let ends = c.look_control.new.control in
+    let ports = c.look_all.new.ports in
+    let journal = c.turns.journal in
+    let told = c.turns.told in
+    let core = c.turns.core in
+    let heard = c.look_control.ensures.known in
+    let known = c.look_all.ensures.known in
+    let goes = goes_looked g.S.Source.left g.K.Sink.written g.S.Source.faults g.K.Sink.faults plan ends_first first journal_first c.requires.planned c.requires.valid c.turns.control c.turns.ports journal told.entries told.ends.items core ends ports c.look_control.ensures.looked c.look_all.ensures.looked c.turns.invariant in
+    let place = c.in-Some.place in
+    let least = c.in-Some.ensures in
+    let next = next_at g.S.Source.left g.K.Sink.written g.S.Source.faults g.K.Sink.faults plan ends_first first journal_first c.requires.planned c.requires.valid ends ports journal told.entries told.ends.items core goes heard known place least in
+    at_machine core plan goes.run (λ p b past. (pass : ℕ) × (pass < control_pass p + 1) × (has_ended b pass past ≡ false)) goes.plan_is goes.at (next.pass, next.below, next.open_now)
+
+pub make_room-requires-clause-ticker : goal.make_room-requires-clause-ticker
+make_room-requires-clause-ticker g c =
+    let plan = c.args.core.now.plan in
+    let first = c.args.ports.now in
+    let ends_first = c.args.control.now in
+    let journal_first = c.args.journal.now in
+    let ends = c.look_control.new.control in
+    let ports = c.look_all.new.ports in
+    let journal = c.turns.journal in
+    let told = c.turns.told in
+    let core = c.turns.core in
+    let heard = c.look_control.ensures.known in
+    let known = c.look_all.ensures.known in
+    let goes = goes_looked g.S.Source.left g.K.Sink.written g.S.Source.faults g.K.Sink.faults plan ends_first first journal_first c.requires.planned c.requires.valid c.turns.control c.turns.ports journal told.entries told.ends.items core ends ports c.look_control.ensures.looked c.look_all.ensures.looked c.turns.invariant in
+    goes_ticker g.S.Source.left g.K.Sink.written g.S.Source.faults g.K.Sink.faults plan ends_first first journal_first c.requires.planned c.requires.valid ends ports journal told.entries told.ends.items core goes
+
+pub make_room-requires-clause-quiet : goal.make_room-requires-clause-quiet
+make_room-requires-clause-quiet g c =
+    let plan = c.args.core.now.plan in
+    let first = c.args.ports.now in
+    let ends_first = c.args.control.now in
+    let journal_first = c.args.journal.now in
+    let ends = c.look_control.new.control in
+    let ports = c.look_all.new.ports in
+    let journal = c.turns.journal in
+    let told = c.turns.told in
+    let core = c.turns.core in
+    let heard = c.look_control.ensures.known in
+    let known = c.look_all.ensures.known in
+    let goes = goes_looked g.S.Source.left g.K.Sink.written g.S.Source.faults g.K.Sink.faults plan ends_first first journal_first c.requires.planned c.requires.valid c.turns.control c.turns.ports journal told.entries told.ends.items core ends ports c.look_control.ensures.looked c.look_all.ensures.looked c.turns.invariant in
+    goes_quiet g.S.Source.left g.K.Sink.written g.S.Source.faults g.K.Sink.faults plan ends_first first journal_first c.requires.planned c.requires.valid ends ports journal told.entries told.ends.items core goes
+
+pub make_room-requires-clause-few : goal.make_room-requires-clause-few
+make_room-requires-clause-few g c =
+    let plan = c.args.core.now.plan in
+    let first = c.args.ports.now in
+    let ends_first = c.args.control.now in
+    let journal_first = c.args.journal.now in
+    let ends = c.look_control.new.control in
+    let ports = c.look_all.new.ports in
+    let journal = c.turns.journal in
+    let told = c.turns.told in
+    let core = c.turns.core in
+    let heard = c.look_control.ensures.known in
+    let known = c.look_all.ensures.known in
+    let goes = goes_looked g.S.Source.left g.K.Sink.written g.S.Source.faults g.K.Sink.faults plan ends_first first journal_first c.requires.planned c.requires.valid c.turns.control c.turns.ports journal told.entries told.ends.items core ends ports c.look_control.ensures.looked c.look_all.ensures.looked c.turns.invariant in
+    goes_few g.S.Source.left g.K.Sink.written g.S.Source.faults g.K.Sink.faults plan ends_first first journal_first c.requires.planned c.requires.valid ends ports journal told.entries told.ends.items core goes
+
+pub make_room-requires-clause-lines : goal.make_room-requires-clause-lines
+make_room-requires-clause-lines g c =
+    let plan = c.args.core.now.plan in
+    let first = c.args.ports.now in
+    let ends_first = c.args.control.now in
+    let journal_first = c.args.journal.now in
+    let ends = c.look_control.new.control in
+    let ports = c.look_all.new.ports in
+    let journal = c.turns.journal in
+    let told = c.turns.told in
+    let core = c.turns.core in
+    let heard = c.look_control.ensures.known in
+    let known = c.look_all.ensures.known in
+    let goes = goes_looked g.S.Source.left g.K.Sink.written g.S.Source.faults g.K.Sink.faults plan ends_first first journal_first c.requires.planned c.requires.valid c.turns.control c.turns.ports journal told.entries told.ends.items core ends ports c.look_control.ensures.looked c.look_all.ensures.looked c.turns.invariant in
+    room_kept g.K.Sink.written g.K.Sink.faults plan goes.run.closed journal_first journal c.requires.blank goes.written_so
 
 pub advance_control-requires-clause-planned : goal.advance_control-requires-clause-planned
 advance_control-requires-clause-planned g c =
     let plan = c.args.core.now.plan in
     let first = c.args.ports.now in
     let ends_first = c.args.control.now in
+    let journal_first = c.args.journal.now in
     let ends = c.look_control.new.control in
     let ports = c.look_all.new.ports in
-    let past = c.turns.core.past in
-    let known = c.look_all.ensures.known in
+    let journal = c.turns.journal in
+    let told = c.turns.told in
+    let core = c.turns.core in
     let heard = c.look_control.ensures.known in
-    let runs = look_step g.S.Source.left g.K.Sink.written g.S.Source.faults g.K.Sink.faults plan ends_first first c.turns.control ends c.turns.ports ports past c.turns.invariant.runs c.look_control.ensures.looked c.look_all.ensures.looked in
-    planned_now g.S.Source.left g.K.Sink.written g.S.Source.faults g.K.Sink.faults plan ends first ports c.requires.planned c.requires.valid.ports ends_first past runs
-    ∙ ap ports_planned (sym c.turns.invariant.same_plan)
-
-pub advance_control-requires-clause-turn : goal.advance_control-requires-clause-turn
-advance_control-requires-clause-turn g c =
-    let plan = c.args.core.now.plan in
-    let first = c.args.ports.now in
-    let ends_first = c.args.control.now in
-    let ends = c.look_control.new.control in
-    let ports = c.look_all.new.ports in
-    let past = c.turns.core.past in
     let known = c.look_all.ensures.known in
-    let heard = c.look_control.ensures.known in
-    let runs = look_step g.S.Source.left g.K.Sink.written g.S.Source.faults g.K.Sink.faults plan ends_first first c.turns.control ends c.turns.ports ports past c.turns.invariant.runs c.look_control.ensures.looked c.look_all.ensures.looked in
-    let least = at_control (control_moment ends ∷ map turn_moment ports) c.in-Some.place (c.if-place-eq0.true) c.in-Some.ensures in
-    control_turns_now g.S.Source.left g.K.Sink.written g.S.Source.faults g.K.Sink.faults plan ends_first ends first ports past runs heard (least.least) (least.there)
-
-pub advance_control-requires-clause-open : goal.advance_control-requires-clause-open
-advance_control-requires-clause-open g c =
-    let plan = c.args.core.now.plan in
-    let first = c.args.ports.now in
-    let ends_first = c.args.control.now in
-    let ends = c.look_control.new.control in
-    let ports = c.look_all.new.ports in
-    let past = c.turns.core.past in
-    let known = c.look_all.ensures.known in
-    let heard = c.look_control.ensures.known in
-    let runs = look_step g.S.Source.left g.K.Sink.written g.S.Source.faults g.K.Sink.faults plan ends_first first c.turns.control ends c.turns.ports ports past c.turns.invariant.runs c.look_control.ensures.looked c.look_all.ensures.looked in
-    let least = at_control (control_moment ends ∷ map turn_moment ports) c.in-Some.place (c.if-place-eq0.true) c.in-Some.ensures in
-    subst (λ (p : Plan). IsOpen p empty past Control) (sym c.turns.invariant.same_plan)
-    (record { known = refl; running = control_running g.S.Source.left g.K.Sink.written g.S.Source.faults g.K.Sink.faults plan ends_first ends first ports past runs least.least least.there })
+    let goes = goes_looked g.S.Source.left g.K.Sink.written g.S.Source.faults g.K.Sink.faults plan ends_first first journal_first c.requires.planned c.requires.valid c.turns.control c.turns.ports journal told.entries told.ends.items core ends ports c.look_control.ensures.looked c.look_all.ensures.looked c.turns.invariant in
+    let place = c.in-Some.place in
+    let least = c.in-Some.ensures in
+    let next = next_at g.S.Source.left g.K.Sink.written g.S.Source.faults g.K.Sink.faults plan ends_first first journal_first c.requires.planned c.requires.valid ends ports journal told.entries told.ends.items core goes heard known place least in
+    let mid = c.make_room.new.core in
+    let journal_now = c.make_room.new.journal in
+    let told_now = c.make_room.new.told in
+    let made = made_so g.S.Source.left g.K.Sink.written g.S.Source.faults g.K.Sink.faults plan ends_first first journal_first c.requires.planned c.requires.valid ends ports journal told.entries told.ends.items core goes heard known place next journal_now told_now.entries told_now.ends.items mid c.make_room.ensures.plan c.make_room.ensures.made c.make_room.ensures.turned c.make_room.ensures.told c.make_room.ensures.journal in
+    made_planned g.S.Source.left g.K.Sink.written g.S.Source.faults g.K.Sink.faults plan ends_first first journal_first c.requires.planned c.requires.valid ends ports journal told.entries told.ends.items core goes heard known place next journal_now told_now.entries told_now.ends.items mid made
 
 pub advance_control-requires-clause-quiet : goal.advance_control-requires-clause-quiet
 advance_control-requires-clause-quiet g c =
     let plan = c.args.core.now.plan in
     let first = c.args.ports.now in
     let ends_first = c.args.control.now in
+    let journal_first = c.args.journal.now in
     let ends = c.look_control.new.control in
     let ports = c.look_all.new.ports in
-    let past = c.turns.core.past in
-    let known = c.look_all.ensures.known in
+    let journal = c.turns.journal in
+    let told = c.turns.told in
+    let core = c.turns.core in
     let heard = c.look_control.ensures.known in
-    let runs = look_step g.S.Source.left g.K.Sink.written g.S.Source.faults g.K.Sink.faults plan ends_first first c.turns.control ends c.turns.ports ports past c.turns.invariant.runs c.look_control.ensures.looked c.look_all.ensures.looked in
-    subst (λ (p : Plan). All (λ q. queue p empty (number_of q.port) past ≡ []) ports) (sym c.turns.invariant.same_plan)
-    (quiet_now g.S.Source.left g.K.Sink.written g.S.Source.faults g.K.Sink.faults plan ends first ports c.requires.planned c.requires.valid.ports ends_first past runs)
-
-pub turns-smaller-then-place-eq0 : goal.turns-smaller-then-place-eq0
-turns-smaller-then-place-eq0 g c =
-    let plan = c.args.core.now.plan in
-    let first = c.args.ports.now in
-    let ends_first = c.args.control.now in
-    let ends = c.look_control.new.control in
-    let ports = c.look_all.new.ports in
-    let past = c.turns.core.past in
     let known = c.look_all.ensures.known in
-    let heard = c.look_control.ensures.known in
-    let runs = look_step g.S.Source.left g.K.Sink.written g.S.Source.faults g.K.Sink.faults plan ends_first first c.turns.control ends c.turns.ports ports past c.turns.invariant.runs c.look_control.ensures.looked c.look_all.ensures.looked in
-    let least = at_control (control_moment ends ∷ map turn_moment ports) c.in-Some.place (c.if-place-eq0.true) c.in-Some.ensures in
-    let c_new = c.advance_control.new.control in
-    let new = c.advance_control.new.ports in
-    let now = c.advance_control.new.core.past in
-    let aheads : AheadGoesOn g.K.Sink.written g.K.Sink.faults plan past now c_new ports = subst (λ (p : Plan). AheadGoesOn g.K.Sink.written g.K.Sink.faults p past now c_new ports) c.turns.invariant.same_plan c.advance_control.ensures.ahead in
-    let goes : ControlGoesOn g.K.Sink.written g.K.Sink.faults plan past now ends c_new ports new = subst (λ (p : Plan). ControlGoesOn g.K.Sink.written g.K.Sink.faults p past now ends c_new ports new) c.turns.invariant.same_plan c.advance_control.ensures.outputs in
-    let turned = control_turn g.S.Source.left g.K.Sink.written g.S.Source.faults g.K.Sink.faults plan first ports new past now c.requires.planned known c.advance_control.ensures.sinks ends_first ends c_new runs heard least c.advance_control.ensures.stepped aheads goes in
-    let weight = control_weighs g.S.Source.left g.K.Sink.written g.S.Source.faults g.K.Sink.faults plan c.turns.control ends c.look_control.ensures.looked in
-    let same = look_undone g.S.Source.left g.K.Sink.written g.S.Source.faults g.K.Sink.faults plan ends_first first c.turns.control ends c.turns.ports ports past c.turns.invariant.runs c.look_control.ensures.looked c.look_all.ensures.looked in
-    let less = turned.smaller in
-    subst (λ (w : ℕ). (plan.entries - length now) + (undone new + control_weight c_new) < (plan.entries - length past) + (undone c.turns.ports + w)) weight
-    (subst (λ (n : ℕ). (plan.entries - length now) + (undone new + control_weight c_new) < (plan.entries - length past) + (n + control_weight ends)) same less)
-
-pub turns-preserved-then-place-eq0 : goal.turns-preserved-then-place-eq0
-turns-preserved-then-place-eq0 g c =
-    let plan = c.args.core.now.plan in
-    let first = c.args.ports.now in
-    let ends_first = c.args.control.now in
-    let ends = c.look_control.new.control in
-    let ports = c.look_all.new.ports in
-    let past = c.turns.core.past in
-    let known = c.look_all.ensures.known in
-    let heard = c.look_control.ensures.known in
-    let runs = look_step g.S.Source.left g.K.Sink.written g.S.Source.faults g.K.Sink.faults plan ends_first first c.turns.control ends c.turns.ports ports past c.turns.invariant.runs c.look_control.ensures.looked c.look_all.ensures.looked in
-    let least = at_control (control_moment ends ∷ map turn_moment ports) c.in-Some.place (c.if-place-eq0.true) c.in-Some.ensures in
-    let c_new = c.advance_control.new.control in
-    let new = c.advance_control.new.ports in
-    let now = c.advance_control.new.core.past in
-    let aheads : AheadGoesOn g.K.Sink.written g.K.Sink.faults plan past now c_new ports = subst (λ (p : Plan). AheadGoesOn g.K.Sink.written g.K.Sink.faults p past now c_new ports) c.turns.invariant.same_plan c.advance_control.ensures.ahead in
-    let goes : ControlGoesOn g.K.Sink.written g.K.Sink.faults plan past now ends c_new ports new = subst (λ (p : Plan). ControlGoesOn g.K.Sink.written g.K.Sink.faults p past now ends c_new ports new) c.turns.invariant.same_plan c.advance_control.ensures.outputs in
-    let turned = control_turn g.S.Source.left g.K.Sink.written g.S.Source.faults g.K.Sink.faults plan first ports new past now c.requires.planned known c.advance_control.ensures.sinks ends_first ends c_new runs heard least c.advance_control.ensures.stepped aheads goes in
-    record {
-      same_plan = c.advance_control.ensures.plan ∙ c.turns.invariant.same_plan;
-      same_base = c.advance_control.ensures.base;
-      runs = turned.runs;
-      fits = turned.fits (fits_looked g.S.Source.left g.S.Source.faults past first c.turns.ports ports c.turns.invariant.fits c.look_all.ensures.looked);
-    }
+    let goes = goes_looked g.S.Source.left g.K.Sink.written g.S.Source.faults g.K.Sink.faults plan ends_first first journal_first c.requires.planned c.requires.valid c.turns.control c.turns.ports journal told.entries told.ends.items core ends ports c.look_control.ensures.looked c.look_all.ensures.looked c.turns.invariant in
+    let place = c.in-Some.place in
+    let least = c.in-Some.ensures in
+    let next = next_at g.S.Source.left g.K.Sink.written g.S.Source.faults g.K.Sink.faults plan ends_first first journal_first c.requires.planned c.requires.valid ends ports journal told.entries told.ends.items core goes heard known place least in
+    let mid = c.make_room.new.core in
+    let journal_now = c.make_room.new.journal in
+    let told_now = c.make_room.new.told in
+    let made = made_so g.S.Source.left g.K.Sink.written g.S.Source.faults g.K.Sink.faults plan ends_first first journal_first c.requires.planned c.requires.valid ends ports journal told.entries told.ends.items core goes heard known place next journal_now told_now.entries told_now.ends.items mid c.make_room.ensures.plan c.make_room.ensures.made c.make_room.ensures.turned c.make_room.ensures.told c.make_room.ensures.journal in
+    made_quiet g.S.Source.left g.K.Sink.written g.S.Source.faults g.K.Sink.faults plan ends_first first journal_first c.requires.planned c.requires.valid ends ports journal told.entries told.ends.items core goes heard known place next journal_now told_now.entries told_now.ends.items mid made
 
 pub advance-requires-clause-planned : goal.advance-requires-clause-planned
 advance-requires-clause-planned g c =
     let plan = c.args.core.now.plan in
     let first = c.args.ports.now in
     let ends_first = c.args.control.now in
+    let journal_first = c.args.journal.now in
     let ends = c.look_control.new.control in
     let ports = c.look_all.new.ports in
-    let past = c.turns.core.past in
-    let known = c.look_all.ensures.known in
+    let journal = c.turns.journal in
+    let told = c.turns.told in
+    let core = c.turns.core in
     let heard = c.look_control.ensures.known in
-    let runs = look_step g.S.Source.left g.K.Sink.written g.S.Source.faults g.K.Sink.faults plan ends_first first c.turns.control ends c.turns.ports ports past c.turns.invariant.runs c.look_control.ensures.looked c.look_all.ensures.looked in
-    planned_now g.S.Source.left g.K.Sink.written g.S.Source.faults g.K.Sink.faults plan ends first ports c.requires.planned c.requires.valid.ports ends_first past runs
-    ∙ ap ports_planned (sym c.turns.invariant.same_plan)
-
-pub advance-requires-clause-sound : goal.advance-requires-clause-sound
-advance-requires-clause-sound g c =
-    let plan = c.args.core.now.plan in
-    let first = c.args.ports.now in
-    let ends_first = c.args.control.now in
-    let ends = c.look_control.new.control in
-    let ports = c.look_all.new.ports in
-    let past = c.turns.core.past in
     let known = c.look_all.ensures.known in
-    let heard = c.look_control.ensures.known in
-    let runs = look_step g.S.Source.left g.K.Sink.written g.S.Source.faults g.K.Sink.faults plan ends_first first c.turns.control ends c.turns.ports ports past c.turns.invariant.runs c.look_control.ensures.looked c.look_all.ensures.looked in
-    sound_now g.S.Source.left g.K.Sink.written g.S.Source.faults g.K.Sink.faults plan ends first ports c.requires.planned c.requires.valid.ports ends_first past runs
-
-pub advance-requires-clause-known : goal.advance-requires-clause-known
-advance-requires-clause-known g c =
-    let plan = c.args.core.now.plan in
-    let first = c.args.ports.now in
-    let ends_first = c.args.control.now in
-    let ends = c.look_control.new.control in
-    let ports = c.look_all.new.ports in
-    let past = c.turns.core.past in
-    let known = c.look_all.ensures.known in
-    let heard = c.look_control.ensures.known in
-    let runs = look_step g.S.Source.left g.K.Sink.written g.S.Source.faults g.K.Sink.faults plan ends_first first c.turns.control ends c.turns.ports ports past c.turns.invariant.runs c.look_control.ensures.looked c.look_all.ensures.looked in
-    let least = behind_control (control_moment ends ∷ map turn_moment ports) c.in-Some.place (c.if-place-eq0.false) c.in-Some.ensures in
-    let j = c.in-Some.place - 1 in
-    turn_known g.S.Source.left g.K.Sink.written g.S.Source.faults g.K.Sink.faults plan ends_first ends first ports ports past past j c.requires.planned c.requires.valid.ports runs heard known least
-
-pub advance-requires-clause-open : goal.advance-requires-clause-open
-advance-requires-clause-open g c d =
-    let plan = c.args.core.now.plan in
-    let first = c.args.ports.now in
-    let ends_first = c.args.control.now in
-    let ends = c.look_control.new.control in
-    let ports = c.look_all.new.ports in
-    let past = c.turns.core.past in
-    let known = c.look_all.ensures.known in
-    let heard = c.look_control.ensures.known in
-    let runs = look_step g.S.Source.left g.K.Sink.written g.S.Source.faults g.K.Sink.faults plan ends_first first c.turns.control ends c.turns.ports ports past c.turns.invariant.runs c.look_control.ensures.looked c.look_all.ensures.looked in
-    let least = behind_control (control_moment ends ∷ map turn_moment ports) c.in-Some.place (c.if-place-eq0.false) c.in-Some.ensures in
-    let j = c.in-Some.place - 1 in
-    subst (λ (p : Plan). IsOpen p empty past (Ingress (get_or ports j d).port)) (sym c.turns.invariant.same_plan)
-    (input_open g.S.Source.left g.K.Sink.written g.S.Source.faults g.K.Sink.faults plan ends first ports c.requires.planned c.requires.valid.ports ends_first past runs j d
-    (inside g.S.Source.left g.K.Sink.written g.S.Source.faults g.K.Sink.faults plan ends_first ends first ports ports past past j c.requires.planned c.requires.valid.ports runs heard known least)
-    (running_j g.S.Source.left g.K.Sink.written g.S.Source.faults g.K.Sink.faults plan ends_first ends first ports ports past past j c.requires.planned c.requires.valid.ports runs heard known least))
+    let goes = goes_looked g.S.Source.left g.K.Sink.written g.S.Source.faults g.K.Sink.faults plan ends_first first journal_first c.requires.planned c.requires.valid c.turns.control c.turns.ports journal told.entries told.ends.items core ends ports c.look_control.ensures.looked c.look_all.ensures.looked c.turns.invariant in
+    let place = c.in-Some.place in
+    let least = c.in-Some.ensures in
+    let next = next_at g.S.Source.left g.K.Sink.written g.S.Source.faults g.K.Sink.faults plan ends_first first journal_first c.requires.planned c.requires.valid ends ports journal told.entries told.ends.items core goes heard known place least in
+    let mid = c.make_room.new.core in
+    let journal_now = c.make_room.new.journal in
+    let told_now = c.make_room.new.told in
+    let made = made_so g.S.Source.left g.K.Sink.written g.S.Source.faults g.K.Sink.faults plan ends_first first journal_first c.requires.planned c.requires.valid ends ports journal told.entries told.ends.items core goes heard known place next journal_now told_now.entries told_now.ends.items mid c.make_room.ensures.plan c.make_room.ensures.made c.make_room.ensures.turned c.make_room.ensures.told c.make_room.ensures.journal in
+    made_planned g.S.Source.left g.K.Sink.written g.S.Source.faults g.K.Sink.faults plan ends_first first journal_first c.requires.planned c.requires.valid ends ports journal told.entries told.ends.items core goes heard known place next journal_now told_now.entries told_now.ends.items mid made
 
 pub advance-requires-clause-quiet : goal.advance-requires-clause-quiet
 advance-requires-clause-quiet g c =
     let plan = c.args.core.now.plan in
     let first = c.args.ports.now in
     let ends_first = c.args.control.now in
+    let journal_first = c.args.journal.now in
     let ends = c.look_control.new.control in
     let ports = c.look_all.new.ports in
-    let past = c.turns.core.past in
-    let known = c.look_all.ensures.known in
+    let journal = c.turns.journal in
+    let told = c.turns.told in
+    let core = c.turns.core in
     let heard = c.look_control.ensures.known in
-    let runs = look_step g.S.Source.left g.K.Sink.written g.S.Source.faults g.K.Sink.faults plan ends_first first c.turns.control ends c.turns.ports ports past c.turns.invariant.runs c.look_control.ensures.looked c.look_all.ensures.looked in
-    subst (λ (p : Plan). All (λ q. queue p empty (number_of q.port) past ≡ []) ports) (sym c.turns.invariant.same_plan)
-    (quiet_now g.S.Source.left g.K.Sink.written g.S.Source.faults g.K.Sink.faults plan ends first ports c.requires.planned c.requires.valid.ports ends_first past runs)
+    let known = c.look_all.ensures.known in
+    let goes = goes_looked g.S.Source.left g.K.Sink.written g.S.Source.faults g.K.Sink.faults plan ends_first first journal_first c.requires.planned c.requires.valid c.turns.control c.turns.ports journal told.entries told.ends.items core ends ports c.look_control.ensures.looked c.look_all.ensures.looked c.turns.invariant in
+    let place = c.in-Some.place in
+    let least = c.in-Some.ensures in
+    let next = next_at g.S.Source.left g.K.Sink.written g.S.Source.faults g.K.Sink.faults plan ends_first first journal_first c.requires.planned c.requires.valid ends ports journal told.entries told.ends.items core goes heard known place least in
+    let mid = c.make_room.new.core in
+    let journal_now = c.make_room.new.journal in
+    let told_now = c.make_room.new.told in
+    let made = made_so g.S.Source.left g.K.Sink.written g.S.Source.faults g.K.Sink.faults plan ends_first first journal_first c.requires.planned c.requires.valid ends ports journal told.entries told.ends.items core goes heard known place next journal_now told_now.entries told_now.ends.items mid c.make_room.ensures.plan c.make_room.ensures.made c.make_room.ensures.turned c.make_room.ensures.told c.make_room.ensures.journal in
+    made_quiet g.S.Source.left g.K.Sink.written g.S.Source.faults g.K.Sink.faults plan ends_first first journal_first c.requires.planned c.requires.valid ends ports journal told.entries told.ends.items core goes heard known place next journal_now told_now.entries told_now.ends.items mid made
+
+pub advance_control-requires-clause-turn : goal.advance_control-requires-clause-turn
+advance_control-requires-clause-turn g c =
+    let plan = c.args.core.now.plan in
+    let first = c.args.ports.now in
+    let ends_first = c.args.control.now in
+    let journal_first = c.args.journal.now in
+    let ends = c.look_control.new.control in
+    let ports = c.look_all.new.ports in
+    let journal = c.turns.journal in
+    let told = c.turns.told in
+    let core = c.turns.core in
+    let heard = c.look_control.ensures.known in
+    let known = c.look_all.ensures.known in
+    let goes = goes_looked g.S.Source.left g.K.Sink.written g.S.Source.faults g.K.Sink.faults plan ends_first first journal_first c.requires.planned c.requires.valid c.turns.control c.turns.ports journal told.entries told.ends.items core ends ports c.look_control.ensures.looked c.look_all.ensures.looked c.turns.invariant in
+    let least = at_control (control_moment ends ∷ map turn_moment ports) c.in-Some.place c.if-place-eq0.true c.in-Some.ensures in
+    let next = control_next_here g.S.Source.left g.K.Sink.written g.S.Source.faults g.K.Sink.faults plan ends_first first journal_first c.requires.planned c.requires.valid ends ports journal told.entries told.ends.items core goes heard known least in
+    let mid = c.make_room.new.core in
+    let journal_now = c.make_room.new.journal in
+    let told_now = c.make_room.new.told in
+    let made = made_so g.S.Source.left g.K.Sink.written g.S.Source.faults g.K.Sink.faults plan ends_first first journal_first c.requires.planned c.requires.valid ends ports journal told.entries told.ends.items core goes heard known 0 next journal_now told_now.entries told_now.ends.items mid c.make_room.ensures.plan
+    (subst (λ (k : ℕ). (run : Run) → StandsAt core run → IfSome (turn_next ends ports k) (λ turn. StandsAt mid (room_made core.plan turn run))) c.if-place-eq0.true c.make_room.ensures.made)
+    (subst (λ (k : ℕ). (run : Run) → StandsAt core run → AreTurned core.plan run.closed → IfSome (turn_next ends ports k) (λ turn. AreTurned core.plan (room_made core.plan turn run).closed)) c.if-place-eq0.true c.make_room.ensures.turned)
+    (subst (λ (k : ℕ). (run : Run) → StandsAt core run → TellsOf told.entries told.ends.items run.closed → IfSome (turn_next ends ports k) (λ turn. TellsOf told_now.entries told_now.ends.items (room_made core.plan turn run).closed)) c.if-place-eq0.true c.make_room.ensures.told)
+    (subst (λ (k : ℕ). (run : Run) (began : Option (Journal g.row.K.Denot)) → StandsAt core run → IsJournalled g.K.Sink.written g.K.Sink.faults core.plan run.closed began journal → IfSome (turn_next ends ports k) (λ turn. IsJournalled g.K.Sink.written g.K.Sink.faults core.plan (room_made core.plan turn run).closed began journal_now)) c.if-place-eq0.true c.make_room.ensures.journal) in
+    control_turns g.S.Source.left g.K.Sink.written g.S.Source.faults g.K.Sink.faults plan ends_first first journal_first c.requires.planned c.requires.valid ends ports journal told.entries told.ends.items core goes heard known least journal_now told_now.entries told_now.ends.items mid made
+
+pub advance_control-requires-clause-open : goal.advance_control-requires-clause-open
+advance_control-requires-clause-open g c =
+    let plan = c.args.core.now.plan in
+    let first = c.args.ports.now in
+    let ends_first = c.args.control.now in
+    let journal_first = c.args.journal.now in
+    let ends = c.look_control.new.control in
+    let ports = c.look_all.new.ports in
+    let journal = c.turns.journal in
+    let told = c.turns.told in
+    let core = c.turns.core in
+    let heard = c.look_control.ensures.known in
+    let known = c.look_all.ensures.known in
+    let goes = goes_looked g.S.Source.left g.K.Sink.written g.S.Source.faults g.K.Sink.faults plan ends_first first journal_first c.requires.planned c.requires.valid c.turns.control c.turns.ports journal told.entries told.ends.items core ends ports c.look_control.ensures.looked c.look_all.ensures.looked c.turns.invariant in
+    let least = at_control (control_moment ends ∷ map turn_moment ports) c.in-Some.place c.if-place-eq0.true c.in-Some.ensures in
+    let next = control_next_here g.S.Source.left g.K.Sink.written g.S.Source.faults g.K.Sink.faults plan ends_first first journal_first c.requires.planned c.requires.valid ends ports journal told.entries told.ends.items core goes heard known least in
+    let mid = c.make_room.new.core in
+    let journal_now = c.make_room.new.journal in
+    let told_now = c.make_room.new.told in
+    let made = made_so g.S.Source.left g.K.Sink.written g.S.Source.faults g.K.Sink.faults plan ends_first first journal_first c.requires.planned c.requires.valid ends ports journal told.entries told.ends.items core goes heard known 0 next journal_now told_now.entries told_now.ends.items mid c.make_room.ensures.plan
+    (subst (λ (k : ℕ). (run : Run) → StandsAt core run → IfSome (turn_next ends ports k) (λ turn. StandsAt mid (room_made core.plan turn run))) c.if-place-eq0.true c.make_room.ensures.made)
+    (subst (λ (k : ℕ). (run : Run) → StandsAt core run → AreTurned core.plan run.closed → IfSome (turn_next ends ports k) (λ turn. AreTurned core.plan (room_made core.plan turn run).closed)) c.if-place-eq0.true c.make_room.ensures.turned)
+    (subst (λ (k : ℕ). (run : Run) → StandsAt core run → TellsOf told.entries told.ends.items run.closed → IfSome (turn_next ends ports k) (λ turn. TellsOf told_now.entries told_now.ends.items (room_made core.plan turn run).closed)) c.if-place-eq0.true c.make_room.ensures.told)
+    (subst (λ (k : ℕ). (run : Run) (began : Option (Journal g.row.K.Denot)) → StandsAt core run → IsJournalled g.K.Sink.written g.K.Sink.faults core.plan run.closed began journal → IfSome (turn_next ends ports k) (λ turn. IsJournalled g.K.Sink.written g.K.Sink.faults core.plan (room_made core.plan turn run).closed began journal_now)) c.if-place-eq0.true c.make_room.ensures.journal) in
+    control_open g.S.Source.left g.K.Sink.written g.S.Source.faults g.K.Sink.faults plan ends_first first journal_first c.requires.planned c.requires.valid ends ports journal told.entries told.ends.items core goes heard known least journal_now told_now.entries told_now.ends.items mid made
+
+pub advance_control-requires-clause-room : goal.advance_control-requires-clause-room
+advance_control-requires-clause-room g c =
+    let plan = c.args.core.now.plan in
+    let first = c.args.ports.now in
+    let ends_first = c.args.control.now in
+    let journal_first = c.args.journal.now in
+    let ends = c.look_control.new.control in
+    let ports = c.look_all.new.ports in
+    let journal = c.turns.journal in
+    let told = c.turns.told in
+    let core = c.turns.core in
+    let heard = c.look_control.ensures.known in
+    let known = c.look_all.ensures.known in
+    let goes = goes_looked g.S.Source.left g.K.Sink.written g.S.Source.faults g.K.Sink.faults plan ends_first first journal_first c.requires.planned c.requires.valid c.turns.control c.turns.ports journal told.entries told.ends.items core ends ports c.look_control.ensures.looked c.look_all.ensures.looked c.turns.invariant in
+    let least = at_control (control_moment ends ∷ map turn_moment ports) c.in-Some.place c.if-place-eq0.true c.in-Some.ensures in
+    let next = control_next_here g.S.Source.left g.K.Sink.written g.S.Source.faults g.K.Sink.faults plan ends_first first journal_first c.requires.planned c.requires.valid ends ports journal told.entries told.ends.items core goes heard known least in
+    let mid = c.make_room.new.core in
+    let journal_now = c.make_room.new.journal in
+    let told_now = c.make_room.new.told in
+    let made = made_so g.S.Source.left g.K.Sink.written g.S.Source.faults g.K.Sink.faults plan ends_first first journal_first c.requires.planned c.requires.valid ends ports journal told.entries told.ends.items core goes heard known 0 next journal_now told_now.entries told_now.ends.items mid c.make_room.ensures.plan
+    (subst (λ (k : ℕ). (run : Run) → StandsAt core run → IfSome (turn_next ends ports k) (λ turn. StandsAt mid (room_made core.plan turn run))) c.if-place-eq0.true c.make_room.ensures.made)
+    (subst (λ (k : ℕ). (run : Run) → StandsAt core run → AreTurned core.plan run.closed → IfSome (turn_next ends ports k) (λ turn. AreTurned core.plan (room_made core.plan turn run).closed)) c.if-place-eq0.true c.make_room.ensures.turned)
+    (subst (λ (k : ℕ). (run : Run) → StandsAt core run → TellsOf told.entries told.ends.items run.closed → IfSome (turn_next ends ports k) (λ turn. TellsOf told_now.entries told_now.ends.items (room_made core.plan turn run).closed)) c.if-place-eq0.true c.make_room.ensures.told)
+    (subst (λ (k : ℕ). (run : Run) (began : Option (Journal g.row.K.Denot)) → StandsAt core run → IsJournalled g.K.Sink.written g.K.Sink.faults core.plan run.closed began journal → IfSome (turn_next ends ports k) (λ turn. IsJournalled g.K.Sink.written g.K.Sink.faults core.plan (room_made core.plan turn run).closed began journal_now)) c.if-place-eq0.true c.make_room.ensures.journal) in
+    subst (λ (k : ℕ). IfSome (turn_next ends ports k) (λ turn. HasRoomFor mid.plan mid.past turn)) c.if-place-eq0.true c.make_room.ensures.room
+
+pub turns-smaller-then-place-eq0 : goal.turns-smaller-then-place-eq0
+turns-smaller-then-place-eq0 g c =
+    let plan = c.args.core.now.plan in
+    let first = c.args.ports.now in
+    let ends_first = c.args.control.now in
+    let journal_first = c.args.journal.now in
+    let ends = c.look_control.new.control in
+    let ports = c.look_all.new.ports in
+    let journal = c.turns.journal in
+    let told = c.turns.told in
+    let core = c.turns.core in
+    let heard = c.look_control.ensures.known in
+    let known = c.look_all.ensures.known in
+    let goes = goes_looked g.S.Source.left g.K.Sink.written g.S.Source.faults g.K.Sink.faults plan ends_first first journal_first c.requires.planned c.requires.valid c.turns.control c.turns.ports journal told.entries told.ends.items core ends ports c.look_control.ensures.looked c.look_all.ensures.looked c.turns.invariant in
+    let least = at_control (control_moment ends ∷ map turn_moment ports) c.in-Some.place c.if-place-eq0.true c.in-Some.ensures in
+    let next = control_next_here g.S.Source.left g.K.Sink.written g.S.Source.faults g.K.Sink.faults plan ends_first first journal_first c.requires.planned c.requires.valid ends ports journal told.entries told.ends.items core goes heard known least in
+    let mid = c.make_room.new.core in
+    let journal_now = c.make_room.new.journal in
+    let told_now = c.make_room.new.told in
+    let made = made_so g.S.Source.left g.K.Sink.written g.S.Source.faults g.K.Sink.faults plan ends_first first journal_first c.requires.planned c.requires.valid ends ports journal told.entries told.ends.items core goes heard known 0 next journal_now told_now.entries told_now.ends.items mid c.make_room.ensures.plan
+    (subst (λ (k : ℕ). (run : Run) → StandsAt core run → IfSome (turn_next ends ports k) (λ turn. StandsAt mid (room_made core.plan turn run))) c.if-place-eq0.true c.make_room.ensures.made)
+    (subst (λ (k : ℕ). (run : Run) → StandsAt core run → AreTurned core.plan run.closed → IfSome (turn_next ends ports k) (λ turn. AreTurned core.plan (room_made core.plan turn run).closed)) c.if-place-eq0.true c.make_room.ensures.turned)
+    (subst (λ (k : ℕ). (run : Run) → StandsAt core run → TellsOf told.entries told.ends.items run.closed → IfSome (turn_next ends ports k) (λ turn. TellsOf told_now.entries told_now.ends.items (room_made core.plan turn run).closed)) c.if-place-eq0.true c.make_room.ensures.told)
+    (subst (λ (k : ℕ). (run : Run) (began : Option (Journal g.row.K.Denot)) → StandsAt core run → IsJournalled g.K.Sink.written g.K.Sink.faults core.plan run.closed began journal → IfSome (turn_next ends ports k) (λ turn. IsJournalled g.K.Sink.written g.K.Sink.faults core.plan (room_made core.plan turn run).closed began journal_now)) c.if-place-eq0.true c.make_room.ensures.journal) in
+    let less = control_less g.S.Source.left g.K.Sink.written g.S.Source.faults g.K.Sink.faults plan ends_first first journal_first c.requires.planned c.requires.valid ends ports journal told.entries told.ends.items core goes heard known least journal_now told_now.entries told_now.ends.items mid made c.advance_control.new.control c.advance_control.new.ports c.advance_control.new.core c.advance_control.ensures.plan c.advance_control.ensures.base c.advance_control.ensures.sinks c.advance_control.ensures.stepped c.advance_control.ensures.ahead c.advance_control.ensures.outputs in
+    let most = looked_weighs g.S.Source.left g.K.Sink.written g.S.Source.faults g.K.Sink.faults plan ends_first first journal_first c.requires.planned c.requires.valid c.turns.control c.turns.ports journal told.entries told.ends.items core ends ports c.look_control.ensures.looked c.look_all.ensures.looked in
+    omega (arith, less, most)
+
+pub turns-preserved-then-place-eq0 : goal.turns-preserved-then-place-eq0
+turns-preserved-then-place-eq0 g c =
+    let plan = c.args.core.now.plan in
+    let first = c.args.ports.now in
+    let ends_first = c.args.control.now in
+    let journal_first = c.args.journal.now in
+    let ends = c.look_control.new.control in
+    let ports = c.look_all.new.ports in
+    let journal = c.turns.journal in
+    let told = c.turns.told in
+    let core = c.turns.core in
+    let heard = c.look_control.ensures.known in
+    let known = c.look_all.ensures.known in
+    let goes = goes_looked g.S.Source.left g.K.Sink.written g.S.Source.faults g.K.Sink.faults plan ends_first first journal_first c.requires.planned c.requires.valid c.turns.control c.turns.ports journal told.entries told.ends.items core ends ports c.look_control.ensures.looked c.look_all.ensures.looked c.turns.invariant in
+    let least = at_control (control_moment ends ∷ map turn_moment ports) c.in-Some.place c.if-place-eq0.true c.in-Some.ensures in
+    let next = control_next_here g.S.Source.left g.K.Sink.written g.S.Source.faults g.K.Sink.faults plan ends_first first journal_first c.requires.planned c.requires.valid ends ports journal told.entries told.ends.items core goes heard known least in
+    let mid = c.make_room.new.core in
+    let journal_now = c.make_room.new.journal in
+    let told_now = c.make_room.new.told in
+    let made = made_so g.S.Source.left g.K.Sink.written g.S.Source.faults g.K.Sink.faults plan ends_first first journal_first c.requires.planned c.requires.valid ends ports journal told.entries told.ends.items core goes heard known 0 next journal_now told_now.entries told_now.ends.items mid c.make_room.ensures.plan
+    (subst (λ (k : ℕ). (run : Run) → StandsAt core run → IfSome (turn_next ends ports k) (λ turn. StandsAt mid (room_made core.plan turn run))) c.if-place-eq0.true c.make_room.ensures.made)
+    (subst (λ (k : ℕ). (run : Run) → StandsAt core run → AreTurned core.plan run.closed → IfSome (turn_next ends ports k) (λ turn. AreTurned core.plan (room_made core.plan turn run).closed)) c.if-place-eq0.true c.make_room.ensures.turned)
+    (subst (λ (k : ℕ). (run : Run) → StandsAt core run → TellsOf told.entries told.ends.items run.closed → IfSome (turn_next ends ports k) (λ turn. TellsOf told_now.entries told_now.ends.items (room_made core.plan turn run).closed)) c.if-place-eq0.true c.make_room.ensures.told)
+    (subst (λ (k : ℕ). (run : Run) (began : Option (Journal g.row.K.Denot)) → StandsAt core run → IsJournalled g.K.Sink.written g.K.Sink.faults core.plan run.closed began journal → IfSome (turn_next ends ports k) (λ turn. IsJournalled g.K.Sink.written g.K.Sink.faults core.plan (room_made core.plan turn run).closed began journal_now)) c.if-place-eq0.true c.make_room.ensures.journal) in
+    control_goes g.S.Source.left g.K.Sink.written g.S.Source.faults g.K.Sink.faults plan ends_first first journal_first c.requires.planned c.requires.valid ends ports journal told.entries told.ends.items core goes heard known least journal_now told_now.entries told_now.ends.items mid made c.advance_control.new.control c.advance_control.new.ports c.advance_control.new.core c.advance_control.ensures.plan c.advance_control.ensures.base c.advance_control.ensures.sinks c.advance_control.ensures.stepped c.advance_control.ensures.ahead c.advance_control.ensures.outputs
+
+pub advance-requires-clause-inside : goal.advance-requires-clause-inside
+advance-requires-clause-inside g c =
+    let plan = c.args.core.now.plan in
+    let first = c.args.ports.now in
+    let ends_first = c.args.control.now in
+    let journal_first = c.args.journal.now in
+    let ends = c.look_control.new.control in
+    let ports = c.look_all.new.ports in
+    let journal = c.turns.journal in
+    let told = c.turns.told in
+    let core = c.turns.core in
+    let heard = c.look_control.ensures.known in
+    let known = c.look_all.ensures.known in
+    let goes = goes_looked g.S.Source.left g.K.Sink.written g.S.Source.faults g.K.Sink.faults plan ends_first first journal_first c.requires.planned c.requires.valid c.turns.control c.turns.ports journal told.entries told.ends.items core ends ports c.look_control.ensures.looked c.look_all.ensures.looked c.turns.invariant in
+    let least = behind_control (control_moment ends ∷ map turn_moment ports) c.in-Some.place c.if-place-eq0.false c.in-Some.ensures in
+    let j = c.in-Some.place - 1 in
+    let place_is = one_behind c.in-Some.place c.if-place-eq0.false in
+    let next = port_next_here g.S.Source.left g.K.Sink.written g.S.Source.faults g.K.Sink.faults plan ends_first first journal_first c.requires.planned c.requires.valid ends ports journal told.entries told.ends.items core goes heard known j least in
+    let mid = c.make_room.new.core in
+    let journal_now = c.make_room.new.journal in
+    let told_now = c.make_room.new.told in
+    let made = made_so g.S.Source.left g.K.Sink.written g.S.Source.faults g.K.Sink.faults plan ends_first first journal_first c.requires.planned c.requires.valid ends ports journal told.entries told.ends.items core goes heard known (suc j) next journal_now told_now.entries told_now.ends.items mid c.make_room.ensures.plan
+    (subst (λ (k : ℕ). (run : Run) → StandsAt core run → IfSome (turn_next ends ports k) (λ turn. StandsAt mid (room_made core.plan turn run))) place_is c.make_room.ensures.made)
+    (subst (λ (k : ℕ). (run : Run) → StandsAt core run → AreTurned core.plan run.closed → IfSome (turn_next ends ports k) (λ turn. AreTurned core.plan (room_made core.plan turn run).closed)) place_is c.make_room.ensures.turned)
+    (subst (λ (k : ℕ). (run : Run) → StandsAt core run → TellsOf told.entries told.ends.items run.closed → IfSome (turn_next ends ports k) (λ turn. TellsOf told_now.entries told_now.ends.items (room_made core.plan turn run).closed)) place_is c.make_room.ensures.told)
+    (subst (λ (k : ℕ). (run : Run) (began : Option (Journal g.row.K.Denot)) → StandsAt core run → IsJournalled g.K.Sink.written g.K.Sink.faults core.plan run.closed began journal → IfSome (turn_next ends ports k) (λ turn. IsJournalled g.K.Sink.written g.K.Sink.faults core.plan (room_made core.plan turn run).closed began journal_now)) place_is c.make_room.ensures.journal) in
+    port_inside g.S.Source.left g.K.Sink.written g.S.Source.faults g.K.Sink.faults plan ends_first first journal_first c.requires.planned c.requires.valid ends ports journal told.entries told.ends.items core goes heard known j least journal_now told_now.entries told_now.ends.items mid made
+
+pub advance-requires-clause-sound : goal.advance-requires-clause-sound
+advance-requires-clause-sound g c =
+    let plan = c.args.core.now.plan in
+    let first = c.args.ports.now in
+    let ends_first = c.args.control.now in
+    let journal_first = c.args.journal.now in
+    let ends = c.look_control.new.control in
+    let ports = c.look_all.new.ports in
+    let journal = c.turns.journal in
+    let told = c.turns.told in
+    let core = c.turns.core in
+    let heard = c.look_control.ensures.known in
+    let known = c.look_all.ensures.known in
+    let goes = goes_looked g.S.Source.left g.K.Sink.written g.S.Source.faults g.K.Sink.faults plan ends_first first journal_first c.requires.planned c.requires.valid c.turns.control c.turns.ports journal told.entries told.ends.items core ends ports c.look_control.ensures.looked c.look_all.ensures.looked c.turns.invariant in
+    let place = c.in-Some.place in
+    let least = c.in-Some.ensures in
+    let next = next_at g.S.Source.left g.K.Sink.written g.S.Source.faults g.K.Sink.faults plan ends_first first journal_first c.requires.planned c.requires.valid ends ports journal told.entries told.ends.items core goes heard known place least in
+    let mid = c.make_room.new.core in
+    let journal_now = c.make_room.new.journal in
+    let told_now = c.make_room.new.told in
+    let made = made_so g.S.Source.left g.K.Sink.written g.S.Source.faults g.K.Sink.faults plan ends_first first journal_first c.requires.planned c.requires.valid ends ports journal told.entries told.ends.items core goes heard known place next journal_now told_now.entries told_now.ends.items mid c.make_room.ensures.plan c.make_room.ensures.made c.make_room.ensures.turned c.make_room.ensures.told c.make_room.ensures.journal in
+    made_sound g.S.Source.left g.K.Sink.written g.S.Source.faults g.K.Sink.faults plan ends_first first journal_first c.requires.planned c.requires.valid ends ports journal told.entries told.ends.items core goes heard known place next journal_now told_now.entries told_now.ends.items mid made
+
+pub advance-requires-clause-known : goal.advance-requires-clause-known
+advance-requires-clause-known g c =
+    let plan = c.args.core.now.plan in
+    let first = c.args.ports.now in
+    let ends_first = c.args.control.now in
+    let journal_first = c.args.journal.now in
+    let ends = c.look_control.new.control in
+    let ports = c.look_all.new.ports in
+    let journal = c.turns.journal in
+    let told = c.turns.told in
+    let core = c.turns.core in
+    let heard = c.look_control.ensures.known in
+    let known = c.look_all.ensures.known in
+    let goes = goes_looked g.S.Source.left g.K.Sink.written g.S.Source.faults g.K.Sink.faults plan ends_first first journal_first c.requires.planned c.requires.valid c.turns.control c.turns.ports journal told.entries told.ends.items core ends ports c.look_control.ensures.looked c.look_all.ensures.looked c.turns.invariant in
+    let least = behind_control (control_moment ends ∷ map turn_moment ports) c.in-Some.place c.if-place-eq0.false c.in-Some.ensures in
+    let j = c.in-Some.place - 1 in
+    let place_is = one_behind c.in-Some.place c.if-place-eq0.false in
+    let next = port_next_here g.S.Source.left g.K.Sink.written g.S.Source.faults g.K.Sink.faults plan ends_first first journal_first c.requires.planned c.requires.valid ends ports journal told.entries told.ends.items core goes heard known j least in
+    let mid = c.make_room.new.core in
+    let journal_now = c.make_room.new.journal in
+    let told_now = c.make_room.new.told in
+    let made = made_so g.S.Source.left g.K.Sink.written g.S.Source.faults g.K.Sink.faults plan ends_first first journal_first c.requires.planned c.requires.valid ends ports journal told.entries told.ends.items core goes heard known (suc j) next journal_now told_now.entries told_now.ends.items mid c.make_room.ensures.plan
+    (subst (λ (k : ℕ). (run : Run) → StandsAt core run → IfSome (turn_next ends ports k) (λ turn. StandsAt mid (room_made core.plan turn run))) place_is c.make_room.ensures.made)
+    (subst (λ (k : ℕ). (run : Run) → StandsAt core run → AreTurned core.plan run.closed → IfSome (turn_next ends ports k) (λ turn. AreTurned core.plan (room_made core.plan turn run).closed)) place_is c.make_room.ensures.turned)
+    (subst (λ (k : ℕ). (run : Run) → StandsAt core run → TellsOf told.entries told.ends.items run.closed → IfSome (turn_next ends ports k) (λ turn. TellsOf told_now.entries told_now.ends.items (room_made core.plan turn run).closed)) place_is c.make_room.ensures.told)
+    (subst (λ (k : ℕ). (run : Run) (began : Option (Journal g.row.K.Denot)) → StandsAt core run → IsJournalled g.K.Sink.written g.K.Sink.faults core.plan run.closed began journal → IfSome (turn_next ends ports k) (λ turn. IsJournalled g.K.Sink.written g.K.Sink.faults core.plan (room_made core.plan turn run).closed began journal_now)) place_is c.make_room.ensures.journal) in
+    port_known g.S.Source.left g.K.Sink.written g.S.Source.faults g.K.Sink.faults plan ends_first first journal_first c.requires.planned c.requires.valid ends ports journal told.entries told.ends.items core goes heard known j least journal_now told_now.entries told_now.ends.items mid made
+
+pub advance-requires-clause-open : goal.advance-requires-clause-open
+advance-requires-clause-open g c =
+    let plan = c.args.core.now.plan in
+    let first = c.args.ports.now in
+    let ends_first = c.args.control.now in
+    let journal_first = c.args.journal.now in
+    let ends = c.look_control.new.control in
+    let ports = c.look_all.new.ports in
+    let journal = c.turns.journal in
+    let told = c.turns.told in
+    let core = c.turns.core in
+    let heard = c.look_control.ensures.known in
+    let known = c.look_all.ensures.known in
+    let goes = goes_looked g.S.Source.left g.K.Sink.written g.S.Source.faults g.K.Sink.faults plan ends_first first journal_first c.requires.planned c.requires.valid c.turns.control c.turns.ports journal told.entries told.ends.items core ends ports c.look_control.ensures.looked c.look_all.ensures.looked c.turns.invariant in
+    let least = behind_control (control_moment ends ∷ map turn_moment ports) c.in-Some.place c.if-place-eq0.false c.in-Some.ensures in
+    let j = c.in-Some.place - 1 in
+    let place_is = one_behind c.in-Some.place c.if-place-eq0.false in
+    let next = port_next_here g.S.Source.left g.K.Sink.written g.S.Source.faults g.K.Sink.faults plan ends_first first journal_first c.requires.planned c.requires.valid ends ports journal told.entries told.ends.items core goes heard known j least in
+    let mid = c.make_room.new.core in
+    let journal_now = c.make_room.new.journal in
+    let told_now = c.make_room.new.told in
+    let made = made_so g.S.Source.left g.K.Sink.written g.S.Source.faults g.K.Sink.faults plan ends_first first journal_first c.requires.planned c.requires.valid ends ports journal told.entries told.ends.items core goes heard known (suc j) next journal_now told_now.entries told_now.ends.items mid c.make_room.ensures.plan
+    (subst (λ (k : ℕ). (run : Run) → StandsAt core run → IfSome (turn_next ends ports k) (λ turn. StandsAt mid (room_made core.plan turn run))) place_is c.make_room.ensures.made)
+    (subst (λ (k : ℕ). (run : Run) → StandsAt core run → AreTurned core.plan run.closed → IfSome (turn_next ends ports k) (λ turn. AreTurned core.plan (room_made core.plan turn run).closed)) place_is c.make_room.ensures.turned)
+    (subst (λ (k : ℕ). (run : Run) → StandsAt core run → TellsOf told.entries told.ends.items run.closed → IfSome (turn_next ends ports k) (λ turn. TellsOf told_now.entries told_now.ends.items (room_made core.plan turn run).closed)) place_is c.make_room.ensures.told)
+    (subst (λ (k : ℕ). (run : Run) (began : Option (Journal g.row.K.Denot)) → StandsAt core run → IsJournalled g.K.Sink.written g.K.Sink.faults core.plan run.closed began journal → IfSome (turn_next ends ports k) (λ turn. IsJournalled g.K.Sink.written g.K.Sink.faults core.plan (room_made core.plan turn run).closed began journal_now)) place_is c.make_room.ensures.journal) in
+    port_open g.S.Source.left g.K.Sink.written g.S.Source.faults g.K.Sink.faults plan ends_first first journal_first c.requires.planned c.requires.valid ends ports journal told.entries told.ends.items core goes heard known j least journal_now told_now.entries told_now.ends.items mid made
+
+pub advance-requires-clause-room : goal.advance-requires-clause-room
+advance-requires-clause-room g c =
+    let plan = c.args.core.now.plan in
+    let first = c.args.ports.now in
+    let ends_first = c.args.control.now in
+    let journal_first = c.args.journal.now in
+    let ends = c.look_control.new.control in
+    let ports = c.look_all.new.ports in
+    let journal = c.turns.journal in
+    let told = c.turns.told in
+    let core = c.turns.core in
+    let heard = c.look_control.ensures.known in
+    let known = c.look_all.ensures.known in
+    let goes = goes_looked g.S.Source.left g.K.Sink.written g.S.Source.faults g.K.Sink.faults plan ends_first first journal_first c.requires.planned c.requires.valid c.turns.control c.turns.ports journal told.entries told.ends.items core ends ports c.look_control.ensures.looked c.look_all.ensures.looked c.turns.invariant in
+    let least = behind_control (control_moment ends ∷ map turn_moment ports) c.in-Some.place c.if-place-eq0.false c.in-Some.ensures in
+    let j = c.in-Some.place - 1 in
+    let place_is = one_behind c.in-Some.place c.if-place-eq0.false in
+    let next = port_next_here g.S.Source.left g.K.Sink.written g.S.Source.faults g.K.Sink.faults plan ends_first first journal_first c.requires.planned c.requires.valid ends ports journal told.entries told.ends.items core goes heard known j least in
+    let mid = c.make_room.new.core in
+    let journal_now = c.make_room.new.journal in
+    let told_now = c.make_room.new.told in
+    let made = made_so g.S.Source.left g.K.Sink.written g.S.Source.faults g.K.Sink.faults plan ends_first first journal_first c.requires.planned c.requires.valid ends ports journal told.entries told.ends.items core goes heard known (suc j) next journal_now told_now.entries told_now.ends.items mid c.make_room.ensures.plan
+    (subst (λ (k : ℕ). (run : Run) → StandsAt core run → IfSome (turn_next ends ports k) (λ turn. StandsAt mid (room_made core.plan turn run))) place_is c.make_room.ensures.made)
+    (subst (λ (k : ℕ). (run : Run) → StandsAt core run → AreTurned core.plan run.closed → IfSome (turn_next ends ports k) (λ turn. AreTurned core.plan (room_made core.plan turn run).closed)) place_is c.make_room.ensures.turned)
+    (subst (λ (k : ℕ). (run : Run) → StandsAt core run → TellsOf told.entries told.ends.items run.closed → IfSome (turn_next ends ports k) (λ turn. TellsOf told_now.entries told_now.ends.items (room_made core.plan turn run).closed)) place_is c.make_room.ensures.told)
+    (subst (λ (k : ℕ). (run : Run) (began : Option (Journal g.row.K.Denot)) → StandsAt core run → IsJournalled g.K.Sink.written g.K.Sink.faults core.plan run.closed began journal → IfSome (turn_next ends ports k) (λ turn. IsJournalled g.K.Sink.written g.K.Sink.faults core.plan (room_made core.plan turn run).closed began journal_now)) place_is c.make_room.ensures.journal) in
+    λ d. port_room g.S.Source.left g.K.Sink.written g.S.Source.faults g.K.Sink.faults plan ends_first first journal_first c.requires.planned c.requires.valid ends ports journal told.entries told.ends.items core goes heard known j least journal_now told_now.entries told_now.ends.items mid made d (subst (λ (k : ℕ). IfSome (turn_next ends ports k) (λ turn. HasRoomFor mid.plan mid.past turn)) place_is c.make_room.ensures.room)
 
 pub turns-smaller : goal.turns-smaller
 turns-smaller g c =
     let plan = c.args.core.now.plan in
     let first = c.args.ports.now in
     let ends_first = c.args.control.now in
+    let journal_first = c.args.journal.now in
     let ends = c.look_control.new.control in
     let ports = c.look_all.new.ports in
-    let past = c.turns.core.past in
-    let known = c.look_all.ensures.known in
+    let journal = c.turns.journal in
+    let told = c.turns.told in
+    let core = c.turns.core in
     let heard = c.look_control.ensures.known in
-    let runs = look_step g.S.Source.left g.K.Sink.written g.S.Source.faults g.K.Sink.faults plan ends_first first c.turns.control ends c.turns.ports ports past c.turns.invariant.runs c.look_control.ensures.looked c.look_all.ensures.looked in
-    let least = behind_control (control_moment ends ∷ map turn_moment ports) c.in-Some.place (c.if-place-eq0.false) c.in-Some.ensures in
+    let known = c.look_all.ensures.known in
+    let goes = goes_looked g.S.Source.left g.K.Sink.written g.S.Source.faults g.K.Sink.faults plan ends_first first journal_first c.requires.planned c.requires.valid c.turns.control c.turns.ports journal told.entries told.ends.items core ends ports c.look_control.ensures.looked c.look_all.ensures.looked c.turns.invariant in
+    let least = behind_control (control_moment ends ∷ map turn_moment ports) c.in-Some.place c.if-place-eq0.false c.in-Some.ensures in
     let j = c.in-Some.place - 1 in
-    let P = PortEnds g.row.S.Denot g.row.K.Denot g.row.C.Denot in
-    let new = c.advance.new.ports in
-    let now = c.advance.new.core.past in
-    let goes : (d : P) → IfSome (turn_of (get_or ports j d)) (λ t. OutputsGoOn g.K.Sink.written g.K.Sink.faults plan past now ports new (λ stops. entered plan empty stops t past)) =
-    subst (λ (p : Plan). (d : P) → IfSome (turn_of (get_or ports j d)) (λ t. OutputsGoOn g.K.Sink.written g.K.Sink.faults p past now ports new (λ stops. entered p empty stops t past))) c.turns.invariant.same_plan c.advance.ensures.outputs in
-    let ahead_is : (d : P) → IfSome (turn_of (get_or ports j d)) (λ t. (get_or new j d).ahead ≡ ahead_after (ends_input plan past t)) =
-    subst (λ (p : Plan). (d : P) → IfSome (turn_of (get_or ports j d)) (λ t. (get_or new j d).ahead ≡ ahead_after (ends_input p past t))) c.turns.invariant.same_plan c.advance.ensures.ahead in
-    let weight = control_weighs g.S.Source.left g.K.Sink.written g.S.Source.faults g.K.Sink.faults plan c.turns.control ends c.look_control.ensures.looked in
-    let same = look_undone g.S.Source.left g.K.Sink.written g.S.Source.faults g.K.Sink.faults plan ends_first first c.turns.control ends c.turns.ports ports past c.turns.invariant.runs c.look_control.ensures.looked c.look_all.ensures.looked in
-    let less = smaller g.S.Source.left g.K.Sink.written g.S.Source.faults g.K.Sink.faults plan ends_first ends first ports new past now j c.requires.planned c.requires.valid.ports runs heard known least c.advance.ensures.stepped c.advance.ensures.others goes ahead_is in
-    subst (λ (w : ℕ). (plan.entries - length now) + (undone new + control_weight ends) < (plan.entries - length past) + (undone c.turns.ports + w)) weight
-    (subst (λ (n : ℕ). (plan.entries - length now) + (undone new + control_weight ends) < (plan.entries - length past) + (n + control_weight ends)) same less)
+    let place_is = one_behind c.in-Some.place c.if-place-eq0.false in
+    let next = port_next_here g.S.Source.left g.K.Sink.written g.S.Source.faults g.K.Sink.faults plan ends_first first journal_first c.requires.planned c.requires.valid ends ports journal told.entries told.ends.items core goes heard known j least in
+    let mid = c.make_room.new.core in
+    let journal_now = c.make_room.new.journal in
+    let told_now = c.make_room.new.told in
+    let made = made_so g.S.Source.left g.K.Sink.written g.S.Source.faults g.K.Sink.faults plan ends_first first journal_first c.requires.planned c.requires.valid ends ports journal told.entries told.ends.items core goes heard known (suc j) next journal_now told_now.entries told_now.ends.items mid c.make_room.ensures.plan
+    (subst (λ (k : ℕ). (run : Run) → StandsAt core run → IfSome (turn_next ends ports k) (λ turn. StandsAt mid (room_made core.plan turn run))) place_is c.make_room.ensures.made)
+    (subst (λ (k : ℕ). (run : Run) → StandsAt core run → AreTurned core.plan run.closed → IfSome (turn_next ends ports k) (λ turn. AreTurned core.plan (room_made core.plan turn run).closed)) place_is c.make_room.ensures.turned)
+    (subst (λ (k : ℕ). (run : Run) → StandsAt core run → TellsOf told.entries told.ends.items run.closed → IfSome (turn_next ends ports k) (λ turn. TellsOf told_now.entries told_now.ends.items (room_made core.plan turn run).closed)) place_is c.make_room.ensures.told)
+    (subst (λ (k : ℕ). (run : Run) (began : Option (Journal g.row.K.Denot)) → StandsAt core run → IsJournalled g.K.Sink.written g.K.Sink.faults core.plan run.closed began journal → IfSome (turn_next ends ports k) (λ turn. IsJournalled g.K.Sink.written g.K.Sink.faults core.plan (room_made core.plan turn run).closed began journal_now)) place_is c.make_room.ensures.journal) in
+    let less = port_less g.S.Source.left g.K.Sink.written g.S.Source.faults g.K.Sink.faults plan ends_first first journal_first c.requires.planned c.requires.valid ends ports journal told.entries told.ends.items core goes heard known j least journal_now told_now.entries told_now.ends.items mid made c.advance.new.ports c.advance.new.core c.advance.ensures.plan c.advance.ensures.base c.advance.ensures.stepped c.advance.ensures.others c.advance.ensures.ahead c.advance.ensures.outputs in
+    let most = looked_weighs g.S.Source.left g.K.Sink.written g.S.Source.faults g.K.Sink.faults plan ends_first first journal_first c.requires.planned c.requires.valid c.turns.control c.turns.ports journal told.entries told.ends.items core ends ports c.look_control.ensures.looked c.look_all.ensures.looked in
+    omega (arith, less, most)
 
 pub turns-preserved : goal.turns-preserved
 turns-preserved g c =
     let plan = c.args.core.now.plan in
     let first = c.args.ports.now in
     let ends_first = c.args.control.now in
+    let journal_first = c.args.journal.now in
     let ends = c.look_control.new.control in
     let ports = c.look_all.new.ports in
-    let past = c.turns.core.past in
-    let known = c.look_all.ensures.known in
+    let journal = c.turns.journal in
+    let told = c.turns.told in
+    let core = c.turns.core in
     let heard = c.look_control.ensures.known in
-    let runs = look_step g.S.Source.left g.K.Sink.written g.S.Source.faults g.K.Sink.faults plan ends_first first c.turns.control ends c.turns.ports ports past c.turns.invariant.runs c.look_control.ensures.looked c.look_all.ensures.looked in
-    let least = behind_control (control_moment ends ∷ map turn_moment ports) c.in-Some.place (c.if-place-eq0.false) c.in-Some.ensures in
+    let known = c.look_all.ensures.known in
+    let goes = goes_looked g.S.Source.left g.K.Sink.written g.S.Source.faults g.K.Sink.faults plan ends_first first journal_first c.requires.planned c.requires.valid c.turns.control c.turns.ports journal told.entries told.ends.items core ends ports c.look_control.ensures.looked c.look_all.ensures.looked c.turns.invariant in
+    let least = behind_control (control_moment ends ∷ map turn_moment ports) c.in-Some.place c.if-place-eq0.false c.in-Some.ensures in
     let j = c.in-Some.place - 1 in
-    let P = PortEnds g.row.S.Denot g.row.K.Denot g.row.C.Denot in
-    let new = c.advance.new.ports in
-    let now = c.advance.new.core.past in
-    let goes : (d : P) → IfSome (turn_of (get_or ports j d)) (λ t. OutputsGoOn g.K.Sink.written g.K.Sink.faults plan past now ports new (λ stops. entered plan empty stops t past)) =
-    subst (λ (p : Plan). (d : P) → IfSome (turn_of (get_or ports j d)) (λ t. OutputsGoOn g.K.Sink.written g.K.Sink.faults p past now ports new (λ stops. entered p empty stops t past))) c.turns.invariant.same_plan c.advance.ensures.outputs in
-    let ahead_is : (d : P) → IfSome (turn_of (get_or ports j d)) (λ t. (get_or new j d).ahead ≡ ahead_after (ends_input plan past t)) =
-    subst (λ (p : Plan). (d : P) → IfSome (turn_of (get_or ports j d)) (λ t. (get_or new j d).ahead ≡ ahead_after (ends_input p past t))) c.turns.invariant.same_plan c.advance.ensures.ahead in
+    let place_is = one_behind c.in-Some.place c.if-place-eq0.false in
+    let next = port_next_here g.S.Source.left g.K.Sink.written g.S.Source.faults g.K.Sink.faults plan ends_first first journal_first c.requires.planned c.requires.valid ends ports journal told.entries told.ends.items core goes heard known j least in
+    let mid = c.make_room.new.core in
+    let journal_now = c.make_room.new.journal in
+    let told_now = c.make_room.new.told in
+    let made = made_so g.S.Source.left g.K.Sink.written g.S.Source.faults g.K.Sink.faults plan ends_first first journal_first c.requires.planned c.requires.valid ends ports journal told.entries told.ends.items core goes heard known (suc j) next journal_now told_now.entries told_now.ends.items mid c.make_room.ensures.plan
+    (subst (λ (k : ℕ). (run : Run) → StandsAt core run → IfSome (turn_next ends ports k) (λ turn. StandsAt mid (room_made core.plan turn run))) place_is c.make_room.ensures.made)
+    (subst (λ (k : ℕ). (run : Run) → StandsAt core run → AreTurned core.plan run.closed → IfSome (turn_next ends ports k) (λ turn. AreTurned core.plan (room_made core.plan turn run).closed)) place_is c.make_room.ensures.turned)
+    (subst (λ (k : ℕ). (run : Run) → StandsAt core run → TellsOf told.entries told.ends.items run.closed → IfSome (turn_next ends ports k) (λ turn. TellsOf told_now.entries told_now.ends.items (room_made core.plan turn run).closed)) place_is c.make_room.ensures.told)
+    (subst (λ (k : ℕ). (run : Run) (began : Option (Journal g.row.K.Denot)) → StandsAt core run → IsJournalled g.K.Sink.written g.K.Sink.faults core.plan run.closed began journal → IfSome (turn_next ends ports k) (λ turn. IsJournalled g.K.Sink.written g.K.Sink.faults core.plan (room_made core.plan turn run).closed began journal_now)) place_is c.make_room.ensures.journal) in
+    port_goes g.S.Source.left g.K.Sink.written g.S.Source.faults g.K.Sink.faults plan ends_first first journal_first c.requires.planned c.requires.valid ends ports journal told.entries told.ends.items core goes heard known j least journal_now told_now.entries told_now.ends.items mid made c.advance.new.ports c.advance.new.core c.advance.ensures.plan c.advance.ensures.base c.advance.ensures.stepped c.advance.ensures.others c.advance.ensures.ahead c.advance.ensures.outputs
+
+pub returns-in_default-clause-ports : goal.returns-in_default-clause-ports
+returns-in_default-clause-ports g c =
+    let plan = c.args.core.now.plan in
+    let first = c.args.ports.now in
+    let ends_first = c.args.control.now in
+    let journal_first = c.args.journal.now in
+    let ends = c.look_control.new.control in
+    let ports = c.look_all.new.ports in
+    let journal = c.turns.journal in
+    let told = c.turns.told in
+    let core = c.turns.core in
+    let heard = c.look_control.ensures.known in
+    let known = c.look_all.ensures.known in
+    let goes = goes_looked g.S.Source.left g.K.Sink.written g.S.Source.faults g.K.Sink.faults plan ends_first first journal_first c.requires.planned c.requires.valid c.turns.control c.turns.ports journal told.entries told.ends.items core ends ports c.look_control.ensures.looked c.look_all.ensures.looked c.turns.invariant in
+    let later = looked_later g.S.Source.left g.K.Sink.written g.S.Source.faults g.K.Sink.faults first c.turns.ports ports c.turns.invariant.runs.stands.later c.look_all.ensures.looked in
+    record { size = later.size; each = λ k d within. (later.each k d within).port }
+
+pub returns-in_default-clause-replayed : goal.returns-in_default-clause-replayed
+returns-in_default-clause-replayed g c =
+    let plan = c.args.core.now.plan in
+    let first = c.args.ports.now in
+    let ends_first = c.args.control.now in
+    let journal_first = c.args.journal.now in
+    let ends = c.look_control.new.control in
+    let ports = c.look_all.new.ports in
+    let journal = c.turns.journal in
+    let told = c.turns.told in
+    let core = c.turns.core in
+    let heard = c.look_control.ensures.known in
+    let known = c.look_all.ensures.known in
+    let goes = goes_looked g.S.Source.left g.K.Sink.written g.S.Source.faults g.K.Sink.faults plan ends_first first journal_first c.requires.planned c.requires.valid c.turns.control c.turns.ports journal told.entries told.ends.items core ends ports c.look_control.ensures.looked c.look_all.ensures.looked c.turns.invariant in
+    let none : IsPick (control_moment ends ∷ map turn_moment ports) None = subst (λ (o : Option ℕ). IsPick (control_moment ends ∷ map turn_moment ports) o) (none_if c.next_of.result c.in_default.not-Some) c.next_of.ensures in
+    let now = c.finish.new.core in
+    let before = goes.run.closed in
+    let plan_now : now.plan ≡ plan = ap (λ (m : Machine). m.plan) c.finish.ensures.made ∙ goes.plan_is in
+    let base_is = goes_base g.S.Source.left g.K.Sink.written g.S.Source.faults g.K.Sink.faults plan ends_first first journal_first c.requires.planned c.requires.valid ends ports journal told.entries told.ends.items core goes heard known none now c.finish.ensures.made c.finish.ensures.outputs c.finish.ensures.finished c.close_segment.ensures.legal c.close_segment.ensures.octets in
     record {
-      same_plan = c.advance.ensures.plan ∙ c.turns.invariant.same_plan;
-      same_base = c.advance.ensures.base;
-      runs = turn_step g.S.Source.left g.K.Sink.written g.S.Source.faults g.K.Sink.faults plan ends_first ends first ports new past now j c.requires.planned c.requires.valid.ports runs heard known least c.advance.ensures.stepped c.advance.ensures.others goes ahead_is;
-      fits = fits_step g.S.Source.left g.K.Sink.written g.S.Source.faults g.K.Sink.faults plan ends_first ends first ports new past now j c.requires.planned c.requires.valid.ports runs heard known least c.advance.ensures.stepped c.advance.ensures.others goes ahead_is
-          (fits_looked g.S.Source.left g.S.Source.faults past first c.turns.ports ports c.turns.invariant.fits c.look_all.ensures.looked);
+      before = before;
+      base = base_is;
+      all = (
+        goes_serves g.S.Source.left g.K.Sink.written g.S.Source.faults g.K.Sink.faults plan ends_first first journal_first c.requires.planned c.requires.valid ends ports journal told.entries told.ends.items core goes heard known none now c.finish.ensures.made c.finish.ensures.outputs c.finish.ensures.finished c.close_segment.ensures.legal c.close_segment.ensures.octets,
+        c.close_segment.ensures.told before goes.tells,
+        subst (λ (p : Plan). IsJournalled g.K.Sink.written g.K.Sink.faults p (now.past ∷ before) journal_first c.close_segment.new.journal) plan_now
+            (c.close_segment.ensures.journal before journal_first base_is (subst (λ (p : Plan). IsJournalled g.K.Sink.written g.K.Sink.faults p before journal_first journal) (sym plan_now) goes.written_so)),
+      );
     }
+
+pub finish-requires-clause-rising : goal.finish-requires-clause-rising
+finish-requires-clause-rising g c =
+    let plan = c.args.core.now.plan in
+    let first = c.args.ports.now in
+    let ends_first = c.args.control.now in
+    let journal_first = c.args.journal.now in
+    let ends = c.look_control.new.control in
+    let ports = c.look_all.new.ports in
+    let journal = c.turns.journal in
+    let told = c.turns.told in
+    let core = c.turns.core in
+    let heard = c.look_control.ensures.known in
+    let known = c.look_all.ensures.known in
+    let goes = goes_looked g.S.Source.left g.K.Sink.written g.S.Source.faults g.K.Sink.faults plan ends_first first journal_first c.requires.planned c.requires.valid c.turns.control c.turns.ports journal told.entries told.ends.items core ends ports c.look_control.ensures.looked c.look_all.ensures.looked c.turns.invariant in
+    (goes_valid g.S.Source.left g.K.Sink.written g.S.Source.faults g.K.Sink.faults plan ends_first first journal_first c.requires.planned c.requires.valid ends ports journal told.entries told.ends.items core goes).ports
+
+pub advance_control-requires-clause-rising : goal.advance_control-requires-clause-rising
+advance_control-requires-clause-rising g c =
+    let plan = c.args.core.now.plan in
+    let first = c.args.ports.now in
+    let ends_first = c.args.control.now in
+    let journal_first = c.args.journal.now in
+    let ends = c.look_control.new.control in
+    let ports = c.look_all.new.ports in
+    let journal = c.turns.journal in
+    let told = c.turns.told in
+    let core = c.turns.core in
+    let heard = c.look_control.ensures.known in
+    let known = c.look_all.ensures.known in
+    let goes = goes_looked g.S.Source.left g.K.Sink.written g.S.Source.faults g.K.Sink.faults plan ends_first first journal_first c.requires.planned c.requires.valid c.turns.control c.turns.ports journal told.entries told.ends.items core ends ports c.look_control.ensures.looked c.look_all.ensures.looked c.turns.invariant in
+    let place = c.in-Some.place in
+    let least = c.in-Some.ensures in
+    let next = next_at g.S.Source.left g.K.Sink.written g.S.Source.faults g.K.Sink.faults plan ends_first first journal_first c.requires.planned c.requires.valid ends ports journal told.entries told.ends.items core goes heard known place least in
+    let mid = c.make_room.new.core in
+    let journal_now = c.make_room.new.journal in
+    let told_now = c.make_room.new.told in
+    let made = made_so g.S.Source.left g.K.Sink.written g.S.Source.faults g.K.Sink.faults plan ends_first first journal_first c.requires.planned c.requires.valid ends ports journal told.entries told.ends.items core goes heard known place next journal_now told_now.entries told_now.ends.items mid c.make_room.ensures.plan c.make_room.ensures.made c.make_room.ensures.turned c.make_room.ensures.told c.make_room.ensures.journal in
+    (made_valid g.S.Source.left g.K.Sink.written g.S.Source.faults g.K.Sink.faults plan ends_first first journal_first c.requires.planned c.requires.valid ends ports journal told.entries told.ends.items core goes heard known place next journal_now told_now.entries told_now.ends.items mid made).ports
+
+pub advance_control-requires-clause-depth : goal.advance_control-requires-clause-depth
+advance_control-requires-clause-depth g c =
+    let plan = c.args.core.now.plan in
+    let first = c.args.ports.now in
+    let ends_first = c.args.control.now in
+    let journal_first = c.args.journal.now in
+    let ends = c.look_control.new.control in
+    let ports = c.look_all.new.ports in
+    let journal = c.turns.journal in
+    let told = c.turns.told in
+    let core = c.turns.core in
+    let heard = c.look_control.ensures.known in
+    let known = c.look_all.ensures.known in
+    let goes = goes_looked g.S.Source.left g.K.Sink.written g.S.Source.faults g.K.Sink.faults plan ends_first first journal_first c.requires.planned c.requires.valid c.turns.control c.turns.ports journal told.entries told.ends.items core ends ports c.look_control.ensures.looked c.look_all.ensures.looked c.turns.invariant in
+    let place = c.in-Some.place in
+    let least = c.in-Some.ensures in
+    let next = next_at g.S.Source.left g.K.Sink.written g.S.Source.faults g.K.Sink.faults plan ends_first first journal_first c.requires.planned c.requires.valid ends ports journal told.entries told.ends.items core goes heard known place least in
+    let mid = c.make_room.new.core in
+    let journal_now = c.make_room.new.journal in
+    let told_now = c.make_room.new.told in
+    let made = made_so g.S.Source.left g.K.Sink.written g.S.Source.faults g.K.Sink.faults plan ends_first first journal_first c.requires.planned c.requires.valid ends ports journal told.entries told.ends.items core goes heard known place next journal_now told_now.entries told_now.ends.items mid c.make_room.ensures.plan c.make_room.ensures.made c.make_room.ensures.turned c.make_room.ensures.told c.make_room.ensures.journal in
+    (made_valid g.S.Source.left g.K.Sink.written g.S.Source.faults g.K.Sink.faults plan ends_first first journal_first c.requires.planned c.requires.valid ends ports journal told.entries told.ends.items core goes heard known place next journal_now told_now.entries told_now.ends.items mid made).depth.1
+
+pub advance-requires-clause-rising : goal.advance-requires-clause-rising
+advance-requires-clause-rising g c =
+    let plan = c.args.core.now.plan in
+    let first = c.args.ports.now in
+    let ends_first = c.args.control.now in
+    let journal_first = c.args.journal.now in
+    let ends = c.look_control.new.control in
+    let ports = c.look_all.new.ports in
+    let journal = c.turns.journal in
+    let told = c.turns.told in
+    let core = c.turns.core in
+    let heard = c.look_control.ensures.known in
+    let known = c.look_all.ensures.known in
+    let goes = goes_looked g.S.Source.left g.K.Sink.written g.S.Source.faults g.K.Sink.faults plan ends_first first journal_first c.requires.planned c.requires.valid c.turns.control c.turns.ports journal told.entries told.ends.items core ends ports c.look_control.ensures.looked c.look_all.ensures.looked c.turns.invariant in
+    let place = c.in-Some.place in
+    let least = c.in-Some.ensures in
+    let next = next_at g.S.Source.left g.K.Sink.written g.S.Source.faults g.K.Sink.faults plan ends_first first journal_first c.requires.planned c.requires.valid ends ports journal told.entries told.ends.items core goes heard known place least in
+    let mid = c.make_room.new.core in
+    let journal_now = c.make_room.new.journal in
+    let told_now = c.make_room.new.told in
+    let made = made_so g.S.Source.left g.K.Sink.written g.S.Source.faults g.K.Sink.faults plan ends_first first journal_first c.requires.planned c.requires.valid ends ports journal told.entries told.ends.items core goes heard known place next journal_now told_now.entries told_now.ends.items mid c.make_room.ensures.plan c.make_room.ensures.made c.make_room.ensures.turned c.make_room.ensures.told c.make_room.ensures.journal in
+    (made_valid g.S.Source.left g.K.Sink.written g.S.Source.faults g.K.Sink.faults plan ends_first first journal_first c.requires.planned c.requires.valid ends ports journal told.entries told.ends.items core goes heard known place next journal_now told_now.entries told_now.ends.items mid made).ports
+
+pub advance-requires-clause-depth : goal.advance-requires-clause-depth
+advance-requires-clause-depth g c =
+    let plan = c.args.core.now.plan in
+    let first = c.args.ports.now in
+    let ends_first = c.args.control.now in
+    let journal_first = c.args.journal.now in
+    let ends = c.look_control.new.control in
+    let ports = c.look_all.new.ports in
+    let journal = c.turns.journal in
+    let told = c.turns.told in
+    let core = c.turns.core in
+    let heard = c.look_control.ensures.known in
+    let known = c.look_all.ensures.known in
+    let goes = goes_looked g.S.Source.left g.K.Sink.written g.S.Source.faults g.K.Sink.faults plan ends_first first journal_first c.requires.planned c.requires.valid c.turns.control c.turns.ports journal told.entries told.ends.items core ends ports c.look_control.ensures.looked c.look_all.ensures.looked c.turns.invariant in
+    let place = c.in-Some.place in
+    let least = c.in-Some.ensures in
+    let next = next_at g.S.Source.left g.K.Sink.written g.S.Source.faults g.K.Sink.faults plan ends_first first journal_first c.requires.planned c.requires.valid ends ports journal told.entries told.ends.items core goes heard known place least in
+    let mid = c.make_room.new.core in
+    let journal_now = c.make_room.new.journal in
+    let told_now = c.make_room.new.told in
+    let made = made_so g.S.Source.left g.K.Sink.written g.S.Source.faults g.K.Sink.faults plan ends_first first journal_first c.requires.planned c.requires.valid ends ports journal told.entries told.ends.items core goes heard known place next journal_now told_now.entries told_now.ends.items mid c.make_room.ensures.plan c.make_room.ensures.made c.make_room.ensures.turned c.make_room.ensures.told c.make_room.ensures.journal in
+    (made_valid g.S.Source.left g.K.Sink.written g.S.Source.faults g.K.Sink.faults plan ends_first first journal_first c.requires.planned c.requires.valid ends ports journal told.entries told.ends.items core goes heard known place next journal_now told_now.entries told_now.ends.items mid made).depth.1
+
+pub returns-in_default-clause-plan : goal.returns-in_default-clause-plan
+returns-in_default-clause-plan g c = ap (λ (m : Machine). m.plan) c.finish.ensures.made ∙ c.turns.invariant.plan_is
+
+pub begin_journal-requires-clause-valid : goal.begin_journal-requires-clause-valid
+begin_journal-requires-clause-valid g c = subst IsValidPlan (sym c.plan.ensures) c.requires.valid

@@ -1,9 +1,9 @@
-use Rattle.std.proofs.Common.{◌<◌, ◌≡◌, ◌≢◌, ◌∙◌, ℕ, List, Option, IfSome, IsSomeAnd, Err, Result, arith, inr, sym}
+use Rattle.std.proofs.Common.{◌<◌, ◌≡◌, ◌≢◌, ◌∙◌, ℕ, List, Option, IfSome, IsSomeAnd, Err, Result, ap, arith, inr, sym}
 use Rattle.savi_kinds.specs.declared.plan.Plan.{Plan}
 use Rattle.run_config.specs.declared.refusal.Refusal.{Refusal}
 use Rattle.run_config.specs.declared.refusal.Refusal.TheVariants as refusal
 use Rattle.savi_conf.specs.Answers.{IsAnswer}
-use Rattle.savi_ends.specs.Places.{IsOnlyOut}
+use Rattle.savi_ends.specs.Places.{Book, IsOnlyOut}
 use Rattle.run_config.specs.Configs.{EndHasNoFault, TakesFew, TakesWhole}
 use Rattle.savi_ends.proofs.Ready.{opened_alone}
 use Rattle.run_config.proofs.Configured.{of_told, configured, kept_fault, kept_sound, read_back}
@@ -49,6 +49,9 @@ returns-clause-still g c = λ other opened memory. no_fault g c other
 
 pub returns-clause-still_memory : goal.returns-clause-still_memory
 returns-clause-still_memory g c = λ is. inr (no_fault g c (λ failed. apart (sym is ∙ failed)))
+
+pub returns-clause-still_world : goal.returns-clause-still_world
+returns-clause-still_world g c = λ opened. ap (λ (b : Book g.row.W-S.Denot g.row.W-K.Denot g.row.W-C.Denot). b.faults) c.keep_input.ensures.rest ∙ c.in-Ok-input.ensures.opens.still
 
 pub returns-clause-others : goal.returns-clause-others
 returns-clause-others g c = λ other differs. c.keep_input.ensures.others c.args.file.now (only g c) other differs ∙ c.in-Ok-input.ensures.others other differs

@@ -25,7 +25,7 @@ returns-clause-ran g c =
     let alone = input_alone (λ (s : g.row.W-S.Denot). g.W.S.Source.faults s ≡ 0) c.args.file.now (g.W.World.book c.args.world.now) (g.W.World.book c.input.new.self) (g.W.World.book c.split_source-outcome.new.world) c.requires.inputs c.in-Ok.ensures.others c.in-Ok.ensures.opens.out c.split_source-outcome.ensures.out.rest in
     split_ran g.W.S.Source.left g.W.K.Sink.written g.W.S.Source.faults g.W.K.Sink.faults c.args.file.now c.args.names.now c.requires.names c.in-Ok.source c.split_source-outcome.new.source
     (g.W.World.book c.args.world.now) (g.W.World.book c.input.new.self) (g.W.World.book c.split_source-outcome.new.world) (g.W.World.book c.keep_input.new.self) (g.W.World.book c.keep_outputs.new.world) c.split_source-outcome.new.held.items
-    c.in-Ok.ensures.opens.told c.in-Ok.ensures.opens.later c.in-Ok.ensures.rest c.in-Ok.ensures.others
+    c.in-Ok.ensures.opens.told c.in-Ok.ensures.opens.still c.in-Ok.ensures.rest c.in-Ok.ensures.others
     (c.keep_input.ensures.kept c.args.file.now alone) (c.keep_input.ensures.others c.args.file.now alone) c.keep_input.ensures.rest
     c.keep_outputs.ensures.kept c.keep_outputs.ensures.others c.keep_outputs.ensures.rest
     c.split_source-outcome.result c.split_source-outcome.ensures

@@ -33,20 +33,20 @@ begin_output-requires-clause-ready g c κs within =
 pub returns-in-Some : goal.returns-in-Some
 returns-in-Some g c =
     opens_stop g.W.S.Source.left g.W.K.Sink.written g.W.S.Source.faults g.W.K.Sink.faults c.args.names.now c.requires.count c.requires.apart c.args.source.now c.loop-interface.source c.go_on.new.source (g.W.World.book c.args.world.now) (g.W.World.book c.loop-interface.world) c.loop-interface.splitter.reading c.go_on.new.self.reading c.loop-interface.splitter.counts c.go_on.new.self.counts c.loop-interface.held.items c.as_mut_slice.result.now c.go_on.new.outputs c.loop-interface.held.len c.loop-interface.invariant.so_far c.as_mut_slice.ensures.value (omega (arith, c.loop-interface.held.ok.0)) (c.in-Opens.ensures.still (λ same. absurd cc)) c.in-Opens.interface c.in-Opens.ensures.split
-    (g.W.World.book c.begin_output.new.world) c.begin_output.new.held.items c.begin_output.ensures.others c.begin_output.ensures.later c.begin_output.ensures.rest c.in-Some.outcome c.in-Some.ensures.tried
+    (g.W.World.book c.begin_output.new.world) c.begin_output.new.held.items c.begin_output.ensures.others c.begin_output.ensures.rest c.in-Some.outcome c.in-Some.ensures.tried c.in-Some.ensures.still_unwritten
 
 pub loop-interface-smaller : goal.loop-interface-smaller
 loop-interface-smaller g c =
     let room = opens_room g.W.S.Source.left g.W.K.Sink.written g.W.S.Source.faults g.W.K.Sink.faults c.args.names.now c.requires.count c.requires.apart c.args.source.now c.loop-interface.source c.go_on.new.source (g.W.World.book c.args.world.now) (g.W.World.book c.loop-interface.world) c.loop-interface.splitter.reading c.go_on.new.self.reading c.loop-interface.splitter.counts c.go_on.new.self.counts c.loop-interface.held.items c.as_mut_slice.result.now c.go_on.new.outputs c.loop-interface.held.len c.loop-interface.invariant.so_far c.as_mut_slice.ensures.value (omega (arith, c.loop-interface.held.ok.0)) (c.in-Opens.ensures.still (λ same. absurd cc)) c.in-Opens.interface c.in-Opens.ensures.split in
     let more = opens_more g.W.S.Source.left g.W.K.Sink.written g.W.S.Source.faults g.W.K.Sink.faults c.args.names.now c.requires.count c.requires.apart c.args.source.now c.loop-interface.source c.go_on.new.source (g.W.World.book c.args.world.now) (g.W.World.book c.loop-interface.world) c.loop-interface.splitter.reading c.go_on.new.self.reading c.loop-interface.splitter.counts c.go_on.new.self.counts c.loop-interface.held.items c.as_mut_slice.result.now c.go_on.new.outputs c.loop-interface.held.len c.loop-interface.invariant.so_far c.as_mut_slice.ensures.value (omega (arith, c.loop-interface.held.ok.0)) (c.in-Opens.ensures.still (λ same. absurd cc)) c.in-Opens.interface c.in-Opens.ensures.split
-    (g.W.World.book c.begin_output.new.world) c.begin_output.new.held.items c.begin_output.ensures.others c.begin_output.ensures.later c.begin_output.ensures.rest c.in_default.ensures.tried in
+    (g.W.World.book c.begin_output.new.world) c.begin_output.new.held.items c.begin_output.ensures.others c.begin_output.ensures.rest c.in_default.ensures.tried in
     omega (arith, room, more, c.loop-interface.held.ok.0)
 
 pub loop-interface-preserved : goal.loop-interface-preserved
 loop-interface-preserved g c = record {
   room = omega (arith, c.loop-interface.invariant.room, c.begin_output.ensures.capacity);
   so_far = opens_on g.W.S.Source.left g.W.K.Sink.written g.W.S.Source.faults g.W.K.Sink.faults c.args.names.now c.requires.count c.requires.apart c.args.source.now c.loop-interface.source c.go_on.new.source (g.W.World.book c.args.world.now) (g.W.World.book c.loop-interface.world) c.loop-interface.splitter.reading c.go_on.new.self.reading c.loop-interface.splitter.counts c.go_on.new.self.counts c.loop-interface.held.items c.as_mut_slice.result.now c.go_on.new.outputs c.loop-interface.held.len c.loop-interface.invariant.so_far c.as_mut_slice.ensures.value (omega (arith, c.loop-interface.held.ok.0)) (c.in-Opens.ensures.still (λ same. absurd cc)) c.in-Opens.interface c.in-Opens.ensures.split
-      (g.W.World.book c.begin_output.new.world) c.begin_output.new.held.items c.begin_output.ensures.others c.begin_output.ensures.later c.begin_output.ensures.rest c.in_default.ensures.tried;
+      (g.W.World.book c.begin_output.new.world) c.begin_output.new.held.items c.begin_output.ensures.others c.begin_output.ensures.rest c.in_default.ensures.tried c.in_default.ensures.still;
 }
 
 pub returns-in-Unwritten : goal.returns-in-Unwritten

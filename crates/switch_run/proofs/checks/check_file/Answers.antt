@@ -39,6 +39,7 @@ returns-in-Good-clause-ran g c =
             (ap (λ (b : Book S K C). b.std Out) c.keep_input.ensures.rest ∙ ap (λ (b : Book S K C). b.std Out) c.in-Ok.ensures.rest)
             c.write_answer.ensures.wrote)),
       );
+      still = λ other. ap (λ (b : Book S K C). b.faults) c.write_answer.ensures.rest ∙ ap (λ (b : Book S K C). b.faults) c.keep_input.ensures.rest ∙ c.in-Ok.ensures.opens.still;
       inputs = λ other apart. ap (λ (b : Book S K C). b.inputs other) c.write_answer.ensures.rest ∙ c.keep_input.ensures.others file alone other apart ∙ c.in-Ok.ensures.others other apart;
       rest = check_rest b0 (g.W.World.book c.input.new.self) b2 b3 c.in-Ok.ensures.rest c.keep_input.ensures.rest c.write_answer.ensures.rest;
     }
@@ -69,6 +70,7 @@ returns-in-Wrong-clause-ran g c =
             (ap (λ (b : Book S K C). b.std Out) c.keep_input.ensures.rest ∙ ap (λ (b : Book S K C). b.std Out) c.in-Ok.ensures.rest)
             c.write_answer-in-Wrong.ensures.wrote)),
       );
+      still = λ other. ap (λ (b : Book S K C). b.faults) c.write_answer-in-Wrong.ensures.rest ∙ ap (λ (b : Book S K C). b.faults) c.keep_input.ensures.rest ∙ c.in-Ok.ensures.opens.still;
       inputs = λ other apart. ap (λ (b : Book S K C). b.inputs other) c.write_answer-in-Wrong.ensures.rest ∙ c.keep_input.ensures.others file alone other apart ∙ c.in-Ok.ensures.others other apart;
       rest = check_rest b0 (g.W.World.book c.input.new.self) b2 b3 c.in-Ok.ensures.rest c.keep_input.ensures.rest c.write_answer-in-Wrong.ensures.rest;
     }
@@ -99,6 +101,7 @@ returns-in-BadLine-clause-ran g c =
             (ap (λ (b : Book S K C). b.std Out) c.keep_input.ensures.rest ∙ ap (λ (b : Book S K C). b.std Out) c.in-Ok.ensures.rest)
             c.write_answer-in-BadLine.ensures.wrote)),
       );
+      still = λ other. ap (λ (b : Book S K C). b.faults) c.write_answer-in-BadLine.ensures.rest ∙ ap (λ (b : Book S K C). b.faults) c.keep_input.ensures.rest ∙ c.in-Ok.ensures.opens.still;
       inputs = λ other apart. ap (λ (b : Book S K C). b.inputs other) c.write_answer-in-BadLine.ensures.rest ∙ c.keep_input.ensures.others file alone other apart ∙ c.in-Ok.ensures.others other apart;
       rest = check_rest b0 (g.W.World.book c.input.new.self) b2 b3 c.in-Ok.ensures.rest c.keep_input.ensures.rest c.write_answer-in-BadLine.ensures.rest;
     }

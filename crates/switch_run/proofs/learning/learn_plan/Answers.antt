@@ -35,6 +35,14 @@ pub keep_all-requires-clause-out : goal.keep_all-requires-clause-out
 keep_all-requires-clause-out g c κs within =
     out_back (BothFresh g.W.S.Source.faults g.W.K.Sink.faults) _ c.open_all.new.held.items c.open_all.new.held.items (g.W.World.book c.args.world.now).ports (g.W.World.book c.open_all.new.world).ports _ c.open_all.ensures.opened (same_ports _) refl
 
+pub returns-in-Some-open_all-clause-open : goal.returns-in-Some-open_all-clause-open
+returns-in-Some-open_all-clause-open g c = λ seven.
+    let S = g.row.W-S.Denot in
+    let K = g.row.W-K.Denot in
+    let C = g.row.W-C.Denot in
+    let faults : Book S K C → ℕ = λ b. b.faults in
+    ap faults c.keep_all.ensures.rest ∙ c.in-Some-open_all.ensures.once
+
 pub returns-in-Some-open_all-clause-unopened : goal.returns-in-Some-open_all-clause-unopened
 returns-in-Some-open_all-clause-unopened g c = λ seven.
     let S = g.row.W-S.Denot in
@@ -116,6 +124,14 @@ returns-clause-unplayed g c = λ one. absurd (never_is g c 1 refl one)
 
 pub returns-clause-open : goal.returns-clause-open
 returns-clause-open g c = λ seven. absurd (never_is g c 7 refl seven)
+
+pub returns-clause-still : goal.returns-clause-still
+returns-clause-still g c = λ other.
+    let S = g.row.W-S.Denot in
+    let K = g.row.W-K.Denot in
+    let C = g.row.W-C.Denot in
+    let faults : Book S K C → ℕ = λ b. b.faults in
+    ap faults c.keep_all-2.ensures.rest ∙ ap faults c.keep_std.ensures.rest ∙ ap faults c.std-out.ensures.rest ∙ c.in_default-open_all.ensures.still
 
 pub returns-clause-unopened : goal.returns-clause-unopened
 returns-clause-unopened g c = λ seven. absurd (never_is g c 7 refl seven)

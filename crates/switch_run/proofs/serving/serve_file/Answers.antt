@@ -1,6 +1,7 @@
-use Rattle.std.proofs.Common.{◌≡◌, Result, Err, true, false, ap, arith, sym, subst, ◌∙◌, inr, refl}
+use Rattle.std.proofs.Common.{◌≡◌, ℕ, Result, Err, true, false, ap, sym, subst, ◌∙◌, inr, refl}
 use Rattle.savi_kinds.specs.declared.plan.Plan.{Plan}
 use Rattle.savi_ends.specs.declared.world.Std.TheVariants.{Out}
+use Rattle.savi_ends.specs.Faults.{RoseOnce}
 use Rattle.savi_ends.specs.Places.{Book, Place}
 use Rattle.run_config.specs.declared.refusal.Refusal.{Refusal}
 use Rattle.switch_run.proofs.Refusing.{refuses}
@@ -38,7 +39,8 @@ returns-in-Ok-clause-ran g c =
         ends = configured_unplayed false g.W.S.Source.left g.W.K.Sink.written c.in-Ok.plan _ _ _ c.args.file.now c.in-Ok.ensures.rest c.in-Ok.ensures.configured (c.serve_plan.ensures.unplayed one);
       };
       config = λ three. absurd (c.serve_plan.ensures.config three);
-      opening = λ seven. let rose = c.serve_plan.ensures.«open» seven in omega (arith, c.in-Ok.ensures.later, rose);
+      opening = λ seven. subst (λ (n : ℕ). RoseOnce n (g.W.World.book c.serve_plan.new.world).faults) (c.in-Ok.ensures.still_world (λ e. cc)) (c.serve_plan.ensures.«open» seven);
+      still = λ other. c.serve_plan.ensures.still other ∙ c.in-Ok.ensures.still_world (λ e. cc);
       unopened = λ seven. inr (record {
         plan = c.in-Ok.plan;
         configured = c.in-Ok.ensures.configured;
@@ -73,6 +75,7 @@ returns-in-Err-clause-ran g c =
     refuses false g.W.S.Source.left g.W.K.Sink.written g.W.S.Source.faults c.args.file.now _ _ c.in-Err.refusal _ _ _ c.refuse.ensures.status c.refuse.ensures.told
     (λ fault e. c.in-Err.ensures.refused fault (err_of _ _ e))
     (λ e. c.in-Err.ensures.unopened (err_of _ _ e))
+    (λ other. c.in-Err.ensures.still_world (λ e. other (of_err _ _ e)))
     (λ e. c.in-Err.ensures.unread (err_of _ _ e))
     (λ read opened memory. c.in-Err.ensures.still (λ e. read (of_err _ _ e)) (λ e. opened (of_err _ _ e)) (λ e. memory (of_err _ _ e)))
     (λ e. c.in-Err.ensures.still_memory (err_of _ _ e))

@@ -1,17 +1,25 @@
-use Rattle.switch_run.proofs.Sessions.{legal_as_lent, legal_from_nothing, played_of, same_control}
+use Rattle.std.proofs.Common.{Some, not, is_some, ◌∷◌, ap, refl, ◌∙◌}
+use Rattle.savi_kinds.specs.declared.plan.Plan.{Plan}
+use Rattle.switch_run.proofs.Sessions.{played_back, same_control, some_journal}
 use Rattle.switch_run.proofs.session.play.Goals as goal
 
-pub finish_journal-journal_written-requires-clause-legal : goal.finish_journal-journal_written-requires-clause-legal
-finish_journal-journal_written-requires-clause-legal g c =
-    legal_as_lent c.in-Ok-replay_session.closed.core c.plan.result.now c.history.result.now.rows c.in-Ok-replay_session.ensures.base c.plan.ensures c.history.ensures.rows c.history.ensures.legal
+pub given_back-requires-2 : goal.given_back-requires-2
+given_back-requires-2 g c =
+    let replayed = c.in-Ok.ensures.replayed in
+    some_journal g.K.Sink.written g.K.Sink.faults c.args.plan (c.in-Ok.closed.core.past ∷ replayed.before) c.in-Ok.closed.journal_failed c.args.journal c.in-Ok.closed.ready.journal replayed.all.2
 
 pub returns-clause-control : goal.returns-clause-control
 returns-clause-control g c =
-    let serves = c.in-Ok-replay_session.ensures.serves in
-    same_control g.S.Source.left g.K.Sink.written g.S.Source.faults g.K.Sink.faults c.args.plan c.in-Ok-replay_session.closed.core.past c.args.ready.control _ serves.lines serves.stops.control serves.control
+    let replayed = c.in-Ok.ensures.replayed in
+    let serves = replayed.all.0 in
+    ap is_some c.given_back-2.ensures.control
+    ∙ same_control g.S.Source.left g.K.Sink.written g.S.Source.faults g.K.Sink.faults c.args.plan (c.in-Ok.closed.core.past ∷ replayed.before) c.args.control _ serves.lines serves.stops.control serves.control
 
 pub returns-clause-played : goal.returns-clause-played
 returns-clause-played g c =
-    let replayed = c.in-Ok-replay_session.ensures in
-    played_of g.S.Source.left g.K.Sink.written g.S.Source.faults g.K.Sink.faults c.args.plan c.plan.result.now c.history.result.now.rows c.in-Ok-replay_session.closed.core _ _ c.args.journal.now c.finish_journal-journal_written.new.journal c.finish_journal-journal_written.result
-    replayed.serves replayed.plan c.plan.ensures c.history.ensures.rows (legal_from_nothing c.in-Ok-replay_session.closed.core replayed.base c.history.ensures.legal) c.finish_journal-journal_written.ensures.was c.finish_journal-journal_written.ensures.tells
+    let closed = c.in-Ok.ensures in
+    played_back g.S.Source.left g.K.Sink.written g.S.Source.faults g.K.Sink.faults c.args.plan c.as_slice.result.now
+    (record { core = c.in-Ok.closed.core; entries = c.in-Ok.closed.entries; ends = c.in-Ok.closed.ends; journal_written = not c.in-Ok.closed.journal_failed }) c.given_back-2.result.outcome c.in-Ok.closed.journal_failed
+    (record { control = c.args.control; ports = c.args.ports; journal = Some c.args.journal }) c.in-Ok.closed.ready c.args.journal c.given_back-2.result.control c.given_back-2.result.ports c.given_back-2.result.journal
+    c.counts_sum_segments_up.ensures c.requires.built.valid closed.plan (c.as_slice.ensures ∙ ap (λ (p : Plan). p.prefixes) c.plan.ensures) c.know_addresses.ensures refl refl
+    c.given_back-2.ensures.control c.given_back-2.ensures.ports c.given_back-2.ensures.journal c.given_back-2.ensures.outcome closed.replayed

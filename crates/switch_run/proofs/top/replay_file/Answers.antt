@@ -1,8 +1,11 @@
-use Rattle.std.proofs.Common.{◌≡◌, Result, Err, true, false, ap, arith, sym, subst, ◌∙◌, inr, refl}
+use Rattle.std.proofs.Common.{◌≡◌, ◌≢◌, ℕ, Result, Err, true, false, ap, arith, sym, subst, ◌∙◌, inr, refl}
 use Rattle.savi_kinds.specs.declared.plan.Plan.{Plan}
 use Rattle.savi_ends.specs.declared.world.Std.TheVariants.{Out}
+use Rattle.savi_ends.specs.Faults.{RoseOnce}
 use Rattle.savi_ends.specs.Places.{Book, Place}
 use Rattle.run_config.specs.declared.refusal.Refusal.{Refusal}
+use Rattle.run_config.specs.declared.refusal.Refusal.TheVariants as refusals
+use Rattle.switch_run.specs.Concluded.{refusal_status}
 use Rattle.switch_run.specs.Runs.{IsRunOf}
 use Rattle.switch_run.specs.Session.{IsSession, ToldBy}
 use Rattle.switch_run.proofs.Refusing.{refuses}
@@ -44,7 +47,8 @@ returns-in-Ok-clause-ran g c =
         ends = configured_unplayed true g.W.S.Source.left g.W.K.Sink.written c.in-Ok.plan _ _ _ c.args.file.now c.in-Ok.ensures.rest c.in-Ok.ensures.configured (c.replay_plan.ensures.unplayed one);
       };
       config = λ three. absurd (c.replay_plan.ensures.config three);
-      opening = λ seven. let rose = c.replay_plan.ensures.«open» seven in omega (arith, c.in-Ok.ensures.later, rose);
+      opening = λ seven. subst (λ (n : ℕ). RoseOnce n (g.W.World.book c.replay_plan.new.world).faults) (c.in-Ok.ensures.still_world (λ e. cc)) (c.replay_plan.ensures.«open» seven);
+      still = λ other. c.replay_plan.ensures.still other ∙ c.in-Ok.ensures.still_world (λ e. cc);
       unopened = λ seven. inr (record {
         plan = c.in-Ok.plan;
         configured = c.in-Ok.ensures.configured;
@@ -64,13 +68,19 @@ returns-in-Ok-clause-ran g c =
       unused = λ one_of. inr (c.in-Ok.plan, c.in-Ok.ensures.configured, moved_unused false c.in-Ok.plan _ _ _ _ before (same_places _) (c.replay_plan.ensures.unused one_of));
       inputs = λ other apart. ap (λ (b : Book S K C). b.inputs other) c.replay_plan.ensures.rest ∙ c.in-Ok.ensures.others other apart;
     } in
-    record { run = run; ticker = ticker }
+    record { run = run; ticker = ticker; room = c.replay_plan.ensures.room }
 
 err_of : (r r' : Refusal) → r ≡ r' → ◌≡◌ {A = Result Plan Refusal} (Err r) (Err r')
 err_of r r' e = rw e refl
 
 of_err : (r r' : Refusal) → ◌≡◌ {A = Result Plan Refusal} (Err r) (Err r') → r ≡ r'
 of_err r r' e = cc
+
+refused_otherwise : (refusal : Refusal) → refusal_status refusal ≢ 8
+refused_otherwise refusals.NoMemory e = omega (arith, e)
+refused_otherwise refusals.CannotOpen e = omega (arith, e)
+refused_otherwise refusals.ReadFailed e = omega (arith, e)
+refused_otherwise (refusals.Refused fault) e = omega (arith, e)
 
 pub returns-in-Err-clause-ran : goal.returns-in-Err-clause-ran
 returns-in-Err-clause-ran g c =
@@ -83,6 +93,7 @@ returns-in-Err-clause-ran g c =
     refuses true g.W.S.Source.left g.W.K.Sink.written g.W.S.Source.faults c.args.file.now _ _ c.in-Err.refusal _ _ _ c.refuse.ensures.status c.refuse.ensures.told
     (λ fault e. c.in-Err.ensures.refused fault (err_of _ _ e))
     (λ e. c.in-Err.ensures.unopened (err_of _ _ e))
+    (λ other. c.in-Err.ensures.still_world (λ e. other (of_err _ _ e)))
     (λ e. c.in-Err.ensures.unread (err_of _ _ e))
     (λ read opened memory. c.in-Err.ensures.still (λ e. read (of_err _ _ e)) (λ e. opened (of_err _ _ e)) (λ e. memory (of_err _ _ e)))
     (λ e. c.in-Err.ensures.still_memory (err_of _ _ e))
@@ -93,4 +104,4 @@ returns-in-Err-clause-ran g c =
     (record { ports = ap (λ (b : Book S K C). b.ports) c.in-Err.ensures.rest; control = ap (λ (b : Book S K C). b.control) c.in-Err.ensures.rest; ticker = ap (λ (b : Book S K C). b.ticker) c.in-Err.ensures.rest; outputs = ap (λ (b : Book S K C). b.outputs) c.in-Err.ensures.rest })
     (ap (λ (b : Book S K C). b.std Out) c.in-Err.ensures.rest)
     c.in-Err.ensures.others in
-    record { run = run; ticker = ap (λ (b : Book S K C). b.ticker) c.in-Err.ensures.rest }
+    record { run = run; ticker = ap (λ (b : Book S K C). b.ticker) c.in-Err.ensures.rest; room = λ eight. refused_otherwise c.in-Err.refusal (sym c.refuse.ensures.status ∙ eight) }

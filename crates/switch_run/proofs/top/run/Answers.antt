@@ -45,11 +45,17 @@ returns-clause-config g c = (ran_so g c).config
 pub returns-clause-open : goal.returns-clause-open
 returns-clause-open g c = (ran_so g c).opening
 
+pub returns-clause-still : goal.returns-clause-still
+returns-clause-still g c = (ran_so g c).still
+
 pub returns-clause-unopened : goal.returns-clause-unopened
 returns-clause-unopened g c = (ran_so g c).unopened
 
 pub returns-clause-session : goal.returns-clause-session
 returns-clause-session g c = (ran_so g c).session
+
+pub returns-clause-room : goal.returns-clause-room
+returns-clause-room g c = (ran_so g c).room
 
 pub returns-clause-read : goal.returns-clause-read
 returns-clause-read g c = (ran_so g c).read

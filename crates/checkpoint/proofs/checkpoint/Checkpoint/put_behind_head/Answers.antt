@@ -1,8 +1,9 @@
-use Rattle.std.proofs.Common.{ℕ, ◌≡◌, ◌-◌, ◌<◌, ◌≤◌, List, length, get_or, refl, ap, subst, ◌∙◌, arith}
+use Rattle.std.proofs.Common.{ℕ, ◌≡◌, ◌+◌, ◌*◌, ◌-◌, ◌<◌, ◌≤◌, List, length, get_or, refl, ap, subst, ◌∙◌, arith}
 use Rattle.checkpoint.specs.Columns.{Columns}
 use Rattle.checkpoint.specs.Kept.{IsKept}
 use Rattle.checkpoint.proofs.Places.{read_there}
-use Rattle.checkpoint.proofs.Placing.{place_inside, request_there}
+use Rattle.checkpoint.proofs.PartLines.{few_parts}
+use Rattle.checkpoint.proofs.Placing.{as_many, length_in_order, place_inside, request_there}
 use Rattle.checkpoint.proofs.Found.{part_found, request_found, station_found, ended_found, none_found}
 use Rattle.checkpoint.proofs.checkpoint.Checkpoint.put_behind_head.Goals as goal
 
@@ -90,3 +91,53 @@ returns-clause-past c none =
     let fourth : length c.args.self.now.ended ≤ c.args.i - length parts - length places - length c.args.self.now.stations =
     omega (arith, c.len-2.ensures, c.len-4.ensures.value, c.len-6.ensures, c.len-7.ensures, c.self.inside.parts.ok.0, c.self.inside.stations.ok.0, c.self.inside.ended.ok.0, stations_are, ended_are) in
     none_found c.args.plan.now c.args.self.now parts places kept c.requires.plan c.args.i past second third fourth
+
+-- how many lines there are at most, by the lengths of the columns
+few_lines : (i rows parts requests places stations ended row_room station_room : ℕ) → parts ≤ 3 * rows → rows ≤ row_room → places ≡ requests → requests ≤ 256 → stations ≤ station_room → ended ≤ 34
+    → i < parts + (places + (stations + ended)) → i < 290 + 3 * row_room + station_room
+few_lines i rows parts requests places stations ended row_room station_room a b c d e f below = omega (arith, a, b, c, d, e, f, below)
+
+pub returns-then-i-len-clause-few : goal.returns-then-i-len-clause-few
+returns-then-i-len-clause-few c = λ yes. few_lines c.args.i (length c.self.inside.rows.items) (length c.self.inside.parts.items) (length c.self.inside.requests.items) (length c.self.inside.places.items) (length c.self.inside.stations.items) (length c.self.inside.ended.items)
+    c.args.self.now.row_room c.args.self.now.station_room
+    (omega (arith, few_parts c.self.inside.rows.items, ap length c.self.invariant.0.parts_is))
+    (omega (arith, c.self.invariant.2.few_rows, ap (λ (h : Columns). h.row_room) c.self.view_is))
+    (as_many c.self.inside.requests.items c.self.inside.places.items c.self.invariant.0.ordered ∙ length_in_order c.self.inside.requests.items)
+    c.self.invariant.2.few_requests
+    (omega (arith, c.self.invariant.2.few_stations, ap (λ (h : Columns). h.station_room) c.self.view_is))
+    c.self.invariant.2.few_ended
+    (omega (arith, c.if-i-len.true, c.len.ensures, c.self.inside.parts.ok.0))
+
+pub returns-then-i-len-2-clause-few : goal.returns-then-i-len-2-clause-few
+returns-then-i-len-2-clause-few c = λ yes. few_lines c.args.i (length c.self.inside.rows.items) (length c.self.inside.parts.items) (length c.self.inside.requests.items) (length c.self.inside.places.items) (length c.self.inside.stations.items) (length c.self.inside.ended.items)
+    c.args.self.now.row_room c.args.self.now.station_room
+    (omega (arith, few_parts c.self.inside.rows.items, ap length c.self.invariant.0.parts_is))
+    (omega (arith, c.self.invariant.2.few_rows, ap (λ (h : Columns). h.row_room) c.self.view_is))
+    (as_many c.self.inside.requests.items c.self.inside.places.items c.self.invariant.0.ordered ∙ length_in_order c.self.inside.requests.items)
+    c.self.invariant.2.few_requests
+    (omega (arith, c.self.invariant.2.few_stations, ap (λ (h : Columns). h.station_room) c.self.view_is))
+    c.self.invariant.2.few_ended
+    (omega (arith, c.if-i-len-2.true, c.len.ensures, c.len-2.ensures, c.len-3.ensures.value, c.self.inside.parts.ok.0))
+
+pub returns-then-i-len-3-clause-few : goal.returns-then-i-len-3-clause-few
+returns-then-i-len-3-clause-few c = λ yes. few_lines c.args.i (length c.self.inside.rows.items) (length c.self.inside.parts.items) (length c.self.inside.requests.items) (length c.self.inside.places.items) (length c.self.inside.stations.items) (length c.self.inside.ended.items)
+    c.args.self.now.row_room c.args.self.now.station_room
+    (omega (arith, few_parts c.self.inside.rows.items, ap length c.self.invariant.0.parts_is))
+    (omega (arith, c.self.invariant.2.few_rows, ap (λ (h : Columns). h.row_room) c.self.view_is))
+    (as_many c.self.inside.requests.items c.self.inside.places.items c.self.invariant.0.ordered ∙ length_in_order c.self.inside.requests.items)
+    c.self.invariant.2.few_requests
+    (omega (arith, c.self.invariant.2.few_stations, ap (λ (h : Columns). h.station_room) c.self.view_is))
+    c.self.invariant.2.few_ended
+    (omega (arith, c.if-i-len-3.true, c.len.ensures, c.len-2.ensures, c.len-3.ensures.value, c.len-4.ensures.value, c.len-5.ensures, c.self.inside.parts.ok.0, c.self.inside.stations.ok.0))
+
+pub returns-then-i-len-4-clause-few : goal.returns-then-i-len-4-clause-few
+returns-then-i-len-4-clause-few c = λ yes.
+    few_lines c.args.i (length c.self.inside.rows.items) (length c.self.inside.parts.items) (length c.self.inside.requests.items) (length c.self.inside.places.items) (length c.self.inside.stations.items) (length c.self.inside.ended.items)
+    c.args.self.now.row_room c.args.self.now.station_room
+    (omega (arith, few_parts c.self.inside.rows.items, ap length c.self.invariant.0.parts_is))
+    (omega (arith, c.self.invariant.2.few_rows, ap (λ (h : Columns). h.row_room) c.self.view_is))
+    (as_many c.self.inside.requests.items c.self.inside.places.items c.self.invariant.0.ordered ∙ length_in_order c.self.inside.requests.items)
+    c.self.invariant.2.few_requests
+    (omega (arith, c.self.invariant.2.few_stations, ap (λ (h : Columns). h.station_room) c.self.view_is))
+    c.self.invariant.2.few_ended
+    (omega (arith, c.if-i-len-4.true, c.len.ensures, c.len-2.ensures, c.len-3.ensures.value, c.len-4.ensures.value, c.len-5.ensures, c.len-6.ensures, c.len-7.ensures, c.self.inside.parts.ok.0, c.self.inside.stations.ok.0, c.self.inside.ended.ok.0))

@@ -24,3 +24,6 @@ returns-clause-line c =
     let text = c.put_behind_head.new.into.items in
     on_true c.put_behind_head.result (Some text ≡ slice_get (map joined (column_lines plan base)) (c.args.i - 29)) (Some text ≡ slice_get (base_texts plan base) c.args.i)
     (column_found plan base c.args.i text (sym (ap (λ (h : Columns). h.is_start) c.self.view_is) ∙ c.if-self.false) (omega arith)) c.put_behind_head.ensures.line
+
+pub returns-clause-few : goal.returns-clause-few
+returns-clause-few c = λ yes. omega (arith, c.put_behind_head.ensures.few yes)

@@ -1,4 +1,5 @@
-use Rattle.std.proofs.Common.{ℕ, ◌≡◌, ◌<◌, ◌≤◌, List, length, sym, ap, subst, arith}
+use Rattle.std.proofs.Common.{ℕ, ◌≡◌, ◌<◌, ◌≤◌, List, [], ◌∷◌, length, sym, ap, subst, arith}
+use Rattle.std.proofs.lemmas.List.{length-append}
 use Rattle.std.specs.List.{insert}
 use Rattle.dhcp_states.specs.declared.request.Request.{Request}
 use Rattle.checkpoint.specs.Columns.{Columns, IsUpTo}
@@ -31,5 +32,17 @@ invariant_of-self c =
         for_requests = omega (arith, c.self.invariant.1.for_requests, c.put_behind.ensures.capacity);
         for_stations = c.self.invariant.1.for_stations;
         for_ended = c.self.invariant.1.for_ended;
+      },
+      record {
+        few_rows = c.self.invariant.2.few_rows;
+        few_requests = omega (
+          arith,
+          c.requires.room,
+          ap (λ (h : Columns). length h.requests) c.self.view_is,
+          ap length c.put_behind.ensures.items,
+          length-append c.self.inside.requests.items (one ∷ []),
+        );
+        few_stations = c.self.invariant.2.few_stations;
+        few_ended = c.self.invariant.2.few_ended;
       },
     )

@@ -1,4 +1,5 @@
-use Rattle.std.proofs.Common.{ℕ, length, sym, ap, subst, arith}
+use Rattle.std.proofs.Common.{ℕ, [], ◌∷◌, length, sym, ap, subst, arith}
+use Rattle.std.proofs.lemmas.List.{length-append}
 use Rattle.savi_access.specs.declared.row.Row.{Row}
 use Rattle.checkpoint.specs.Columns.{Columns, IsUpTo}
 use Rattle.checkpoint.proofs.PartLines.{few_parts}
@@ -29,5 +30,18 @@ invariant_of-self c =
         for_requests = c.self.invariant.1.for_requests;
         for_stations = c.self.invariant.1.for_stations;
         for_ended = c.self.invariant.1.for_ended;
+      },
+      record {
+        few_rows = omega (
+          arith,
+          c.requires.room,
+          ap (λ (h : Columns). length h.rows) c.self.view_is,
+          ap (λ (h : Columns). h.row_room) c.self.view_is,
+          ap length c.put_behind.ensures.items,
+          length-append c.self.inside.rows.items (row ∷ []),
+        );
+        few_requests = c.self.invariant.2.few_requests;
+        few_stations = c.self.invariant.2.few_stations;
+        few_ended = c.self.invariant.2.few_ended;
       },
     )

@@ -1,4 +1,5 @@
-use Rattle.std.proofs.Common.{ℕ, sym, subst, arith}
+use Rattle.std.proofs.Common.{ℕ, [], ◌∷◌, length, sym, ap, subst, arith}
+use Rattle.std.proofs.lemmas.List.{length-append}
 use Rattle.bridge_fdb.specs.declared.station.Station.{Station}
 use Rattle.checkpoint.specs.Columns.{Columns, IsUpTo}
 use Rattle.checkpoint.proofs.Keeping.{kept_station}
@@ -16,5 +17,18 @@ invariant_of-self c =
         for_requests = c.self.invariant.1.for_requests;
         for_stations = omega (arith, c.self.invariant.1.for_stations, c.put_behind.ensures.capacity);
         for_ended = c.self.invariant.1.for_ended;
+      },
+      record {
+        few_rows = c.self.invariant.2.few_rows;
+        few_requests = c.self.invariant.2.few_requests;
+        few_stations = omega (
+          arith,
+          c.requires.room,
+          ap (λ (h : Columns). length h.stations) c.self.view_is,
+          ap (λ (h : Columns). h.station_room) c.self.view_is,
+          ap length c.put_behind.ensures.items,
+          length-append c.self.inside.stations.items (station ∷ []),
+        );
+        few_ended = c.self.invariant.2.few_ended;
       },
     )

@@ -4,8 +4,8 @@ use Rattle.journal_check.specs.Feeds.{HasNoFeed}
 use Rattle.journal_check.proofs.FeedPlaces.{whole_cut, part_cut, some_held}
 use Rattle.journal_check.proofs.lines.Lines.cut.Goals as goal
 
-pub returns-then-len-size : goal.returns-then-len-size
-returns-then-len-size c =
+pub returns-then-len-size-clause-cut : goal.returns-then-len-size-clause-cut
+returns-then-len-size-clause-cut c =
     let m = c.args.self.now in
     let part = c.line_front-part.result.now in
     let front = c.line_front-part.ensures.front in (
@@ -15,8 +15,8 @@ returns-then-len-size c =
       whole_cut m.piece m.at m.end (length part) part front.0 front.1 front.2 refl c.if-len-size.true,
     )
 
-pub returns-else-len-size : goal.returns-else-len-size
-returns-else-len-size c =
+pub returns-else-len-size-clause-cut : goal.returns-else-len-size-clause-cut
+returns-else-len-size-clause-cut c =
     let m = c.args.self.now in
     let part = c.line_front-part.result.now in
     let front = c.line_front-part.ensures.front in
@@ -28,8 +28,8 @@ returns-else-len-size c =
       grind (arith, c.in-Ok.ensures.len, c.try_extend_from_slice.ensures.variant),
     )
 
-pub returns-in-Err : goal.returns-in-Err
-returns-in-Err c =
+pub returns-in-Err-clause-cut : goal.returns-in-Err-clause-cut
+returns-in-Err-clause-cut c =
     let m = c.args.self.now in
     let part = c.line_front-part.result.now in
     let front = c.line_front-part.ensures.front in (

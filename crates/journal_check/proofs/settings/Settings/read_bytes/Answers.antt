@@ -15,5 +15,5 @@ returns-in-Some-clause-read c = λ is. record {
 
 pub returns-in-None-clause-bad : goal.returns-in-None-clause-bad
 returns-in-None-clause-bad c = λ is.
-    setting_not c.args.self.now 7 (codes "bytes") (λ (plan : Plan). plan.bytes) 1518 1073741824 c.args.line.now (lit≤ tt) (lit< tt) (λ plan. refl) (λ plan valid. valid.bytes)
+    setting_not c.args.self.now 7 (codes "bytes") (λ (plan : Plan). plan.bytes) 1518 1073741824 c.args.line.now (lit≤ tt) (lit< tt) (λ version plan. refl) (λ plan valid. valid.bytes)
     (λ value fits inside e. no_value c.read_within.result value c.in-None.is (c.read_within.ensures.whole value fits inside e))

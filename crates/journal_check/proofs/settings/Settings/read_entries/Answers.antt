@@ -15,5 +15,5 @@ returns-in-Some-clause-read c = λ is. record {
 
 pub returns-in-None-clause-bad : goal.returns-in-None-clause-bad
 returns-in-None-clause-bad c = λ is.
-    setting_not c.args.self.now 6 (codes "entries") (λ (plan : Plan). plan.entries) 4131 1000000 c.args.line.now (lit≤ tt) (lit< tt) (λ plan. refl) (λ plan valid. valid.entries)
+    setting_not c.args.self.now 6 (codes "entries") (λ (plan : Plan). plan.entries) 4131 1000000 c.args.line.now (lit≤ tt) (lit< tt) (λ version plan. refl) (λ plan valid. valid.entries)
     (λ value fits inside e. no_value c.read_within.result value c.in-None.is (c.read_within.ensures.whole value fits inside e))

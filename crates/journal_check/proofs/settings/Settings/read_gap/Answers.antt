@@ -15,5 +15,5 @@ returns-in-Some-clause-read c = λ is. record {
 
 pub returns-in-None-clause-bad : goal.returns-in-None-clause-bad
 returns-in-None-clause-bad c = λ is.
-    setting_not c.args.self.now 8 (codes "gap") (λ (plan : Plan). plan.gap) 1 59999 c.args.line.now (lit≤ tt) (lit< tt) (λ plan. refl) (λ plan valid. valid.gap)
+    setting_not c.args.self.now 8 (codes "gap") (λ (plan : Plan). plan.gap) 1 59999 c.args.line.now (lit≤ tt) (lit< tt) (λ version plan. refl) (λ plan valid. valid.gap)
     (λ value fits inside e. no_value c.read_within.result value c.in-None.is (c.read_within.ensures.whole value fits inside e))

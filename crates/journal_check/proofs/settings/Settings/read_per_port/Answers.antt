@@ -15,5 +15,5 @@ returns-in-Some-clause-read c = λ is. record {
 
 pub returns-in-None-clause-bad : goal.returns-in-None-clause-bad
 returns-in-None-clause-bad c = λ is.
-    setting_not c.args.self.now 4 (codes "per_port") (λ (plan : Plan). plan.per_port) 1 64 c.args.line.now (lit≤ tt) (lit< tt) (λ plan. refl) (λ plan valid. valid.per_port)
+    setting_not c.args.self.now 4 (codes "per_port") (λ (plan : Plan). plan.per_port) 1 64 c.args.line.now (lit≤ tt) (lit< tt) (λ version plan. refl) (λ plan valid. valid.per_port)
     (λ value fits inside e. no_value c.read_within.result value c.in-None.is (c.read_within.ensures.whole value fits inside e))

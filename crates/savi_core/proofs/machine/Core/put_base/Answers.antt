@@ -1,4 +1,4 @@
-use Rattle.std.proofs.Common.{◌≡◌, ◌≢◌, ◌≤◌, ◌||◌, ℕ, false, Bool, Some, length, sym, ap, subst, ◌∙◌}
+use Rattle.std.proofs.Common.{◌≡◌, ◌≢◌, ◌*◌, ◌≤◌, ◌||◌, arith, ℕ, false, Bool, Some, length, sym, ap, subst, ◌∙◌}
 use Rattle.std.specs.Prelude.{slice_get}
 use Rattle.std.specs.Bool.{OnTrue}
 use Rattle.std.proofs.lemmas.Bool.{eq-eqb, false≢true}
@@ -40,3 +40,10 @@ returns-clause-past c = λ none.
     let kept : Base = base_kept c.self.inside.checkpoint in
     let past : length (base_texts c.self.inside.ports kept) ≤ c.args.i = subst (λ (plan : Plan). length (base_texts plan kept) ≤ c.args.i) c.plan.ensures.plan (c.put_line.ensures.past none) in
     subst (λ (m : Machine). length (base_texts m.plan (base_of m)) ≤ c.args.i) c.self.view_is past
+
+pub returns-clause-few : goal.returns-clause-few
+returns-clause-few c = λ yes.
+    let per_port : c.self.inside.ports.per_port ≤ 64 = c.self.invariant.0.valid.per_port.1 in
+    let rows : c.self.inside.checkpoint.row_room ≡ 16 * c.self.inside.ports.per_port = c.self.invariant.9 in
+    let stations : c.self.inside.checkpoint.station_room ≡ 256 * 16 = c.self.invariant.10 in
+    omega (arith, c.put_line.ensures.few yes, rows, stations, per_port)

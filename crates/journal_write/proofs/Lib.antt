@@ -1,0 +1,5 @@
+pub mod Pieces
+pub mod Fronts
+pub mod Giving
+pub mod Reading
+pub mod Lines
