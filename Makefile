@@ -25,14 +25,16 @@ plan:
 	@tools/plan --folder "$(dir $(PLAN))" "$(PLAN)"
 
 # The program beside a C program that does the same octet work without judging, with 2 ports and with 5; live, beside a hub
-# in C; its own load; the check of a journal beside the replay that wrote it; the reader of captures beside tcpdump; the pass
-# lock beside a mutex; the stations, the bindings and the timers beside hash maps; and steps of the core, with the validation
-# of sources and without. The first time takes the builds, and then about three minutes.
+# in C; its own load; the check of a journal beside the replay that wrote it; a history that turns beside one that holds it
+# all; the reader of captures beside tcpdump; the pass lock beside a mutex; the stations, the bindings and the timers beside
+# hash maps; and steps of the core, with the validation of sources and without. The first time takes the builds, and then
+# about three minutes.
 bench: build build/capture_bench build/lock_bench build/fdb_bench build/tables_bench build/core_bench
 	bench/run build/savi_switch
 	bench/streams build/savi_switch
 	bench/load build/savi_switch
 	bench/check build/savi_switch
+	bench/segments build/savi_switch
 	bench/captures.py build/capture_bench
 	bench/lock build/lock_bench
 	bench/stations build/fdb_bench

@@ -3,7 +3,7 @@
 a station that never sends, or, with the word `known`, each for the host of the next port. With the word `bound` they are so,
 too, but the host of a port has 24 addresses: the first frame of each claims it, and all others come once it is bound.
 
-usage: make_captures.py FOLDER [PORTS [known|bound]]
+usage: make_captures.py FOLDER [PORTS [known|bound]] [--frames FRAMES]
 """
 import os
 import struct
@@ -34,14 +34,14 @@ def frame(port, size, to, address=0):
     return ethernet + ip + addresses + bytes(payload)
 
 
-def main(folder, ports, word):
+def main(folder, ports, word, count_of_frames):
     count = ADDRESSES if word == "bound" else 1
     for port in range(1, ports + 1):
         to = 0xFE if word == "" else 17 * (port % ports + 1)
         frames = [[frame(port, size, to, address) for size in (54, 1500)] for address in range(count)]
         with open(f"{folder}/{port}.pcap", "wb") as out:
             out.write(HEADER)
-            for k in range(FRAMES // ports):
+            for k in range(count_of_frames // ports):
                 # The addresses come in their order first, and then in another one.
                 address = k if k < count else k * 7919 // 64 % count
                 octets = frames[address][k % 8 == 7]
@@ -55,5 +55,6 @@ if __name__ == "__main__":
     words.add_argument("folder", metavar="FOLDER", type=options.folder, help="where they are written")
     words.add_argument("ports", metavar="PORTS", nargs="?", type=options.whole(1, 16), default=2, help="2 if not given")
     words.add_argument("word", metavar="known|bound", nargs="?", choices=("known", "bound"), help="see above")
+    words.add_argument("--frames", metavar="FRAMES", type=options.whole(1), default=FRAMES, help="%(default)s if not given")
     given = words.parse_args()
-    main(given.folder, given.ports, given.word or "")
+    main(given.folder, given.ports, given.word or "", given.frames)
