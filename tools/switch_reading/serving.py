@@ -171,16 +171,19 @@ class Serving:
 
     def finish(self, status, complaints=""):
         """It ends so, with such lines on standard error, and answers the summary's numbers by their names, and the journal,
-        which is good."""
+        which is good; where the history was full, the check finds that more should stand behind its last line."""
         out, error = self.run.communicate(timeout=SECONDS)
+        self.complaints = error
         assert self.run.returncode == status and re.fullmatch(complaints, error), (self.run.returncode, out, error)
         assert not any(map(os.path.exists, with_locks(self.paths))), "a path stays"
         checked = subprocess.run([self.program, "check", "journal.txt"], capture_output=True, text=True, timeout=SECONDS)
         words = out.split()
         summary = dict(zip(words[::2], map(int, words[1::2])))
-        assert checked.stdout == f"good: {summary['entries']} entries\n", (checked.stdout, checked.stderr)
         with open("journal.txt", encoding="ascii") as journal:
-            return summary, journal.read()
+            text = journal.read()
+        wanted = f"bad line {text.count(chr(10)) + 1}\n" if status == 8 else f"good: {summary['entries']} entries\n"
+        assert checked.stdout == wanted, (checked.stdout, checked.stderr)
+        return summary, text
 
 
 def with_locks(paths):
