@@ -99,7 +99,7 @@ class Journal:
     """A journal from its lines, which end with a line feed each. Raises Fault where one is at fault, also from `entries`."""
 
     def __init__(self, lines):
-        self.lines, self.at = iter(lines), 0
+        self.lines, self.at, self.closed = iter(lines), 0, 0
         self.plan = self.read_head()
         numbers = [port.number for port in self.plan.ports]
         self.ports = frozenset(numbers)
@@ -114,12 +114,16 @@ class Journal:
         self.at += 1
         line = next(self.lines, "")
         if not line:
-            self.fail(f"the journal ends, and {what} is missing")
+            self.fail(f"the journal ends, and {what} is missing{self.closed_text()}")
         if len(line) > LONGEST + 1:
             self.fail(f"more than {LONGEST:,} octets in one line")
         if not line.endswith("\n"):
-            self.fail(f"cut short: {shown(line)}")
+            self.fail(f"cut short: {shown(line)}{self.closed_text()}")
         return line[:-1]
+
+    def closed_text(self):
+        """What is left of a run that was stopped: `closed` is the line at which the last segment ends that was closed."""
+        return f"; the segments up to line {self.closed} are closed, and can be checked by themselves" if self.closed else ""
 
     # The head.
 
@@ -196,7 +200,7 @@ class Journal:
             number, self.moment = number + 1, now
         if line != f"end {number}":
             self.fail(f"`end {number}` is expected, and here stands {shown(line)}")
-        self.before += number
+        self.before, self.closed = self.before + number, self.at
 
     def read_entry(self, entry, text):
         match = FORMS[entry.kind].fullmatch(text)
