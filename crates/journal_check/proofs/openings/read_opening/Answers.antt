@@ -1,5 +1,5 @@
 use Rattle.std.proofs.Common.{codes, ◌≡◌, ◌++◌, ◌∷◌, [], ◌+◌, ℕ, List, IfSome, length-append, map, refl, sym, ap, ◌∙◌, subst, arith, Some, slice_get}
-use Rattle.core.specs.Result.{result_from_control_flow}
+use Rattle.std.specs.Result.{result_from_control_flow}
 use Rattle.std.proofs.lemmas.List.{length-map}
 use Rattle.std.proofs.lemmas.Result.{err_from_is_err_and}
 use Rattle.savi_ends.specs.Octets.{in_front}
