@@ -5,7 +5,6 @@ import os
 import select
 import shutil
 import signal
-import socket
 import stat
 import sys
 import time
@@ -15,15 +14,14 @@ from .limits import descriptors, lacking_descriptors, threads
 from .operators import Control, Ended
 from .places import connect, interface_lacks, lacking_threads, limits_of, make_socket, open_interface, same_file
 from .qemu import Port
+from .service import notify
+from .watching import why_not_whole
 
 # The statuses beside those of the switch, from <sysexits.h>: what is missing here, what isn't there yet, a file's faults.
 UNAVAILABLE, NOT_YET, FILE_FAULT = 69, 75, 78
 
 # How long the switch may take to start its threads, in s.
 STARTING = 5
-
-# The last line of a whole journal begins so.
-LAST = b"\nend "
 
 
 class Run:
@@ -205,16 +203,9 @@ class Run:
     def look_at_journal(self):
         """The status where the switch was started by another: whether its journal is whole, where it can be looked at."""
         path = os.path.join(self.folder, self.panel.plan.journal)
-        try:
-            with open(path, "rb") as file:
-                file.seek(max(0, os.path.getsize(path) - 64))
-                last = file.read()
-        except OSError:
-            return 0
-        if LAST in last and last.endswith(b"\n"):
-            return 0
-        self.tell(f"{path}: the journal isn't whole: the switch was killed, or its disk is full")
-        return 1
+        if why := why_not_whole(path):
+            self.tell(f"{path}: the journal isn't whole: {why}")
+        return 1 if why else 0
 
     def remove_paths(self):
         for path, made in self.made.items():
@@ -278,15 +269,6 @@ class Run:
         self.look_at_descriptors()
         self.tasks.append(asyncio.create_task(self.look_at_threads()))
         await self.serve(operators)
-
-
-def notify(text):
-    """Tells the service manager (sd_notify(3)), where there is one."""
-    name = os.environ.get("NOTIFY_SOCKET")
-    if not name:
-        return
-    with contextlib.suppress(OSError), socket.socket(socket.AF_UNIX, socket.SOCK_DGRAM) as to:
-        to.sendto(text.encode(), f"\0{name[1:]}" if name.startswith("@") else name)
 
 
 def tell(text):

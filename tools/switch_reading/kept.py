@@ -1,0 +1,105 @@
+"""The parts of journals that savi-journal-keep leaves in a folder (docs/savi-journal-keep.8): their names, and their octets.
+
+A part has whole segments of one run, but for the last part of a run that was killed. Behind one another the parts of a run
+are its journal, octet for octet."""
+import contextlib
+import os
+import re
+import shutil
+import signal
+import subprocess
+from dataclasses import dataclass
+
+# By what a part's name ends, the program that packed it.
+PACKERS = {".zst": "zstd", ".xz": "xz", ".gz": "gzip"}
+
+# RUN-PART-ENTRY: when the run began, the number of the part from 1, and that of its first entry over all segments from 0.
+NAME = re.compile(r"([0-9]{8}T[0-9]{6}\.[0-9]{3}Z)-([0-9]{8,})-([0-9]+)\.txt(\.zst|\.xz|\.gz)?", re.ASCII)
+
+# A run's head: the lines of its journal in front of the first segment.
+HEAD = ".head"
+
+# How much is read at once, in octets.
+PIECE = 1 << 18
+
+
+class Fault(Exception):
+    """Why parts can't be read, in words that name them."""
+
+
+@dataclass(frozen=True, order=True)
+class Part:
+    """A file of a folder, in the order of time. `form` is how it is packed, or nothing."""
+
+    run: str
+    number: int
+    entry: int
+    form: str
+    folder: str
+
+    @property
+    def name(self):
+        return f"{self.run}-{self.number:08}-{self.entry}.txt{self.form}"
+
+    @property
+    def path(self):
+        return os.path.join(self.folder, self.name)
+
+
+def parts_of(folder):
+    """The parts in a folder, the oldest first. Of one that is being packed the text stands for both."""
+    found = {}
+    for match in filter(None, map(NAME.fullmatch, os.listdir(folder))):
+        part = Part(match[1], int(match[2]), int(match[3]), match[4] or "", folder)
+        key = part.run, part.number
+        if key not in found or not part.form:
+            found[key] = part
+    return sorted(found.values())
+
+
+def of_run(parts, run):
+    """The parts of a run, or of the last one where none is named."""
+    wanted = run or (parts[-1].run if parts else None)
+    return [part for part in parts if part.run == wanted]
+
+
+def head_of(folder, run):
+    """The lines of a run in front of its first segment, or nothing."""
+    try:
+        with open(os.path.join(folder, f"{run}{HEAD}"), "rb") as file:
+            return file.read()
+    except FileNotFoundError:
+        return b""
+
+
+@contextlib.contextmanager
+def opened(part):
+    """The text of a part, as a file of octets."""
+    if not part.form:
+        with open(part.path, "rb") as file:
+            yield file
+        return
+    program = PACKERS[part.form]
+    if not shutil.which(program):
+        raise Fault(f"{part.path}: it was packed by {program}, which isn't here")
+    # Where the file is gone by now that is told as of any other.
+    os.stat(part.path)
+    run = subprocess.Popen([program, "-dc", part.path], stdout=subprocess.PIPE, stderr=subprocess.DEVNULL)
+    try:
+        yield run.stdout
+    finally:
+        run.stdout.close()
+        status = run.wait()
+    if status not in (0, -signal.SIGPIPE):
+        raise Fault(f"{part.path}: it can't be unpacked: {program} ended with status {status}")
+
+
+def pieces(part, skipped=0):
+    """The octets of a part in pieces, but for so many at its front."""
+    with opened(part) as file:
+        if not part.form:
+            file.seek(skipped)
+            skipped = 0
+        while piece := file.read(PIECE):
+            yield piece[skipped:]
+            skipped = max(0, skipped - len(piece))
