@@ -70,7 +70,7 @@ folders = $(DESTDIR)$(PREFIX)/lib/tmpfiles.d
 
 # The tools, of tools/ and of lab/; a tool NAME is run as savi-NAME. Of the second implementation the parts that only checks
 # and replays read stay here.
-TOOLS = $(notdir $(wildcard $(addprefix tools/,plan plan-from-learn journal-table journal-picture tell-journal panel ctl)))
+TOOLS = $(notdir $(wildcard $(addprefix tools/,plan plan-from-learn journal-table journal-picture tell-journal panel ctl journal-keep)))
 PACKAGES = $(notdir $(wildcard tools/switch_reading tools/switch_panel))
 KEPT = worked%.py checking.py conf_runs.py core_runs.py crate_list.py failing_calls.py learn.py line_runs.py live.py load.py \
 	making.py plan_cases.py random_learn.py serving.py session.py toml_cases.py

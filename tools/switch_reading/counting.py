@@ -101,7 +101,7 @@ class BindingCount:
 @dataclass
 class Telling:
     """What a journal tells, up to its fault if it has one. `refused` is by port and rule, and `bindings` by the number of
-    each validated port."""
+    each validated port. `is_rest` says that its first segments aren't there."""
 
     plan: Plan
     ports: dict
@@ -115,6 +115,7 @@ class Telling:
     others: int = 0
     other: int | None = None
     fault: Fault | None = None
+    is_rest: bool = False
 
     def total(self, what):
         return sum(getattr(count, what) for count in self.ports.values())
@@ -153,14 +154,17 @@ def tell(lines, watcher=None):
     journal = Journal(lines)
     ports = {port.number: PortCount(port.role) for port in journal.plan.ports}
     bindings = {number: BindingCount() for number, count in ports.items() if count.role != "trusted"}
-    told = Telling(journal.plan, ports, bindings)
+    told = Telling(journal.plan, ports, bindings, is_rest=bool(journal.base))
 
     def changed(address, old, change):
-        count_change(bindings, old, change.binding)
+        if change.entry is not None:
+            count_change(bindings, old, change.binding)
         if watcher:
             watcher.changed(address, old, change)
 
     follower = Follower(journal.plan, changed)
+    if journal.plan.savi:
+        follower.go_on_from(journal.base)
     try:
         for entry in journal.entries():
             take(told, entry, watcher)
@@ -194,6 +198,10 @@ def take(told, entry, watcher):
         told.refused[entry.port, rule].take(entry, source)
         if watcher:
             watcher.refused(told, entry, source)
+
+
+REST_TEXT = ("The rest of a journal, whose first segments aren't there any more: entries are counted from its front, and addresses "
+             "that were there before aren't counted as claimed.")
 
 
 def others_text(told):

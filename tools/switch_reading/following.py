@@ -6,7 +6,9 @@ from typing import NamedTuple
 
 from . import commands
 from .frame import read_frame
-from .states import NONE, TENTATIVE, TEST_CLAIM, TEST_LIFE, VALID
+from .journal import read_set
+from .plan import read_address
+from .states import NONE, TENTATIVE, TEST_CLAIM, TEST_LIFE, VALID, Address, FirstCome
 from .switch import Switch, verdict_text
 
 TESTED, LEASED, STATIC = "tested", "leased", "static"
@@ -25,11 +27,11 @@ class Binding(NamedTuple):
 
 class Change(NamedTuple):
     """What an address comes to, or None where it becomes free; the entry that does it, or where time does it the first
-    entry behind."""
+    entry behind, or None in front of the rest of a journal."""
 
     moment: int
     binding: Binding | None
-    entry: int
+    entry: int | None
     by_time: bool
 
 
@@ -64,6 +66,46 @@ class Follower(Switch):
         self.dues, self.awaited, self.request_due = [], {}, 0
         # The ports that hold each address, and how many addresses each port holds.
         self.holders, self.counts = {}, collections.Counter()
+
+    def go_on_from(self, base):
+        """What the rest of a journal goes on from, by its lines (docs/FORMATS.md, The journal)."""
+        self.entry = None
+        for line in base:
+            word, *words = line.split(" ")
+            if word in BASE_READERS:
+                BASE_READERS[word](self, *words)
+        for address in self.addresses:
+            self.note(address, self.moment, False)
+        self.entry = 0
+
+    def set_moment(self, moment):
+        self.moment = int(moment)
+
+    def set_shut(self, ports):
+        self.shut = set(read_set(ports) or ())
+
+    def based(self, key):
+        address = read_address(key)
+        return self.addresses.setdefault(address, Address(self.plan.method(address)))
+
+    def set_fixed(self, key, port):
+        self.based(key).fixed = int(port)
+
+    def set_bound(self, key, port, until):
+        self.based(key).bound = int(port), None if until == "-" else int(until)
+
+    def set_first_come(self, key, state, port, *more):
+        if state == VALID:
+            first = FirstCome(VALID, int(port), until=int(more[0]))
+        else:
+            *claimant, since, two = more
+            first = FirstCome(state, int(port), *map(int, claimant), since=int(since), two=two == "yes")
+        self.based(key).first = first
+
+    def set_request(self, _, port, transaction, client, until):
+        client = b"" if client == "-" else bytes.fromhex(client)
+        self.requests[int(port), int(transaction), client] = int(until)
+        self.request_due = self.request_due or self.moment
 
     def take(self, entry):
         """The next entry of the journal."""
@@ -143,3 +185,8 @@ class Follower(Switch):
 
     def queue_probe(self, probe, address, due):
         pass
+
+
+# The lines of what a segment goes on from that say who has which address. Counters, stations and ended passes don't.
+BASE_READERS = {"moment": Follower.set_moment, "shut": Follower.set_shut, "fixed": Follower.set_fixed, "bound": Follower.set_bound,
+                "fcfs": Follower.set_first_come, "request": Follower.set_request}

@@ -4,7 +4,7 @@ import re
 from dataclasses import dataclass
 
 from .commands import RULES
-from .plan import Plan, PortPlan, key_fault, list_fault, read_mac, read_prefix
+from .plan import Plan, PortPlan, key_fault, list_fault, read_address, read_mac, read_prefix
 
 # The longest line, in octets without its line feed: an entry with a frame of 1,518 octets, and more than the rest can take.
 LONGEST = 3400
@@ -40,6 +40,10 @@ BASE = form("(?:" + "|".join((
     f"request {NUMBER} {NUMBER} {NUMBER} {DIGITS} {NUMBER}", f"station {KEY} {NUMBER} {NUMBER}",
     "ended (?:control|in[0-9]+|out[0-9]+) (?:end|quit|failed|unwritten|(?:malformed|overlong) [0-9]+)",
 )) + ")")
+
+
+# No segment goes on from more: addresses of sixteen ports, requests and stations, in lines.
+BASE_LINES = 1 << 14
 
 
 class Fault(Exception):
@@ -96,15 +100,32 @@ def shown(line):
 
 
 class Journal:
-    """A journal from its lines, which end with a line feed each. Raises Fault where one is at fault, also from `entries`."""
+    """A journal from its lines, which end with a line feed each. Raises Fault where one is at fault, also from `entries`.
+
+    `base` has the lines of what the first segment goes on from, which a whole journal hasn't: it is the rest of one, whose
+    first segments aren't there any more."""
 
     def __init__(self, lines):
-        self.lines, self.at, self.closed = iter(lines), 0, 0
+        self.lines, self.at, self.closed, self.base = iter(lines), 0, 0, []
         self.plan = self.read_head()
         numbers = [port.number for port in self.plan.ports]
         self.ports = frozenset(numbers)
         whos = [f"in{n}" for n in numbers] + ["control", "ticker"] + [f"out{n}" for n in numbers]
         self.passes = {who: by for by, who in enumerate(whos)}
+        for at, line in enumerate(self.base, self.at - len(self.base)):
+            if not self.is_of_plan(line.split(" ")):
+                raise Fault(at, f"no switch of the plan above goes on from {shown(line)}")
+
+    def is_of_plan(self, words):
+        """Whether what a segment goes on from names addresses and ports of the plan."""
+        if words[0] == "shut":
+            return (found := read_set(words[1])) is not None and self.ports.issuperset(found)
+        if words[0] == "request":
+            return int(words[2]) in self.ports and len(words[4]) % 2 == (words[4] == "-")
+        if words[0] not in ("fixed", "bound", "fcfs"):
+            return True
+        ports = words[3:5] if words[2] == "testing-vp" else words[3:4] if words[0] == "fcfs" else words[2:3]
+        return read_address(words[1]) is not None and self.ports.issuperset(map(int, ports))
 
     def fail(self, what):
         raise Fault(self.at, what)
@@ -153,9 +174,12 @@ class Journal:
         )
 
     def read_lists(self):
-        """The lines of ports, and behind them those of prefixes, as a configuration has them."""
+        """The lines of ports, and behind them those of prefixes, as a configuration has them; of a rest also its base."""
         ports, prefixes = [], []
         while (line := self.line("`begin`")) != "begin":
+            if self.version == 2 and ports and (self.base or line.startswith("moment ")):
+                self.base.append(self.base_line(line))
+                continue
             port = re.fullmatch("port ([1-9][0-9]?) ([a-z]+) (pcap|stream)", line, re.ASCII)
             prefix = re.fullmatch("prefix ([0-9a-f:]+/[0-9]+) ([a-z]+)", line, re.ASCII)
             if port and not prefixes:
@@ -182,8 +206,12 @@ class Journal:
 
     def read_base(self):
         while (line := self.line("what the next segment goes on from")) != "begin":
-            if not BASE.fullmatch(line):
-                self.fail(f"what a segment goes on from is expected, or `begin`, and here stands {shown(line)}")
+            self.base_line(line)
+
+    def base_line(self, line):
+        if not BASE.fullmatch(line) or len(self.base) > BASE_LINES:
+            self.fail(f"what a segment goes on from is expected, or `begin`, and here stands {shown(line)}")
+        return line
 
     def segment(self):
         number = 0

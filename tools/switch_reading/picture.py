@@ -204,6 +204,8 @@ def notes(told, drawing):
     found = []
     if told.fault:
         found.append(f"The journal is at fault, and this is what stands before the fault: {told.fault}.")
+    if told.is_rest:
+        found.append(counting.REST_TEXT)
     if told.others:
         found.append(counting.others_text(told))
     if drawing.left_out:
