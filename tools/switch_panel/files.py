@@ -6,13 +6,12 @@ import re
 import tomllib
 from dataclasses import dataclass
 
-from switch_reading.plan import ConfigFault, Plan, read_plan
+from switch_reading.explaining import explain
+from switch_reading.names import port_names
+from switch_reading.plan import LONGEST, Plan, read_plan
 
 # The longest path of a Unix socket (unix(7): sun_path has 108 octets, of which one ends it).
 LONGEST_PATH = 107
-
-# The longest name that a comment gives a port.
-LONGEST_NAME = 40
 
 WORDS = {str: "a text in quotation marks", int: "a whole number", bool: "true or false", dict: "a table", list: "[[port]]"}
 RIGHTS_KEYS = {"owner": str, "group": str, "mode": str}
@@ -89,7 +88,6 @@ class Text:
             raise Fault(f"{name}: octet {error.start} is no UTF-8") from None
         except tomllib.TOMLDecodeError as error:
             raise Fault(f"{name}: no TOML: {error}") from None
-        self.octets = octets
 
     def line(self, key=None, header=None, at=0):
         """The line of a key, or of the at-th header like [[port]], from 1; None where it isn't found."""
@@ -108,28 +106,6 @@ class Text:
     def fault(self, what, key=None, header=None, at=0):
         line = self.line(key, header, at) or self.line(None, header, at)
         return Fault(f"{self.name}{f', line {line}' if line else ''}: {what}")
-
-
-def port_names(text):
-    """The names that the comments of a plan give its ports: the comment behind `number = N`, or else the first sentence
-    right above its [[port]]."""
-    names, above, header = {}, [], ""
-    for line in text.splitlines():
-        if re.match(r"\s*\[\[\s*port\s*\]\]", line):
-            header, above = first_sentence(above), []
-        elif match := re.match(r"\s*#\s?(.*)", line):
-            above.append(match[1])
-        else:
-            above = []
-            if match := re.match(r"\s*number\s*=\s*([0-9]+)\s*(?:#\s*(.*))?$", line):
-                names[int(match[1])] = first_sentence([match[2]] if match[2] else []) or header
-                header = ""
-    return {number: name for number, name in names.items() if name}
-
-
-def first_sentence(lines):
-    sentence = re.split(r"[.:](?:\s|$)", " ".join(lines).strip(), maxsplit=1)[0].strip()
-    return sentence if len(sentence) <= LONGEST_NAME else f"{sentence[:LONGEST_NAME - 2]}.."
 
 
 def check_keys(text, table, keys, header=None, at=0):
@@ -239,16 +215,27 @@ def read_seconds(text, key, least, usual):
     return seconds
 
 
+def read_plan_file(name):
+    """The plan, and the names that its comments give its ports."""
+    try:
+        with open(name, "rb") as file:
+            octets = file.read(LONGEST + 1)
+    except OSError as error:
+        raise Fault(f"{name}: cannot be read: {error.strerror}") from None
+    found, document = explain(octets, False)
+    if found:
+        first = found[0]
+        what = f"{first.key}: {first.what}" if first.key and first.number else first.what
+        raise Fault(f"{name}, line {first.place[0]}: {first.kind}: {what}. savi-plan says what to write instead")
+    return read_plan(octets, streams=True), port_names(octets.decode("utf-8-sig"), document)
+
+
 def read_files(plan_name, panel_name, folder):
     """Both files. Names of sockets in the plan are relative to a folder."""
-    plan_text = Text(plan_name)
-    try:
-        plan = read_plan(plan_text.octets, streams=True)
-    except ConfigFault as fault:
-        raise Fault(f"{plan_name}: {fault}: docs/CONFIGURATION.md says what this is") from None
+    plan, names = read_plan_file(plan_name)
     text = Text(panel_name)
     check_keys(text, text.document, TOP_KEYS)
-    plugs = read_plugs(text, plan, port_names(plan_text.text), folder)
+    plugs = read_plugs(text, plan, names, folder)
     operators, rights = read_operators(text, plan, plugs)
     ask_s, answer_s = read_seconds(text, "ask_s", 0, 10), read_seconds(text, "answer_s", 1, 30)
     user = read_id(text, text.document, "qemu_user", lambda name: pwd.getpwnam(name).pw_uid, None, 0)

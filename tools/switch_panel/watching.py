@@ -18,9 +18,6 @@ LONGEST = 3401
 # How much of a journal's end is looked at, in octets.
 LAST_OCTETS = 4096
 
-# Beside a pipe that savi-journal-keep reads, the link to its folder.
-LINK = ".kept"
-
 
 class NoJournal(Exception):
     """What isn't a journal, or can't be watched, and where that shows."""
@@ -181,8 +178,8 @@ def watched(path):
         return Folder(path)
     if not stat.S_ISFIFO(mode):
         return File(path)
-    if os.path.isdir(f"{path}{LINK}"):
-        return Folder(os.path.realpath(f"{path}{LINK}"))
+    if os.path.isdir(f"{path}{kept.LINK}"):
+        return Folder(os.path.realpath(f"{path}{kept.LINK}"))
     raise NoJournal(f"{path}: a pipe, which its reader alone can read: name the folder of savi-journal-keep")
 
 

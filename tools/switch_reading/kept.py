@@ -19,6 +19,9 @@ NAME = re.compile(r"([0-9]{8}T[0-9]{6}\.[0-9]{3}Z)-([0-9]{8,})-([0-9]+)\.txt(\.z
 # A run's head: the lines of its journal in front of the first segment.
 HEAD = ".head"
 
+# Beside a pipe that is kept, the link to the folder of its parts.
+LINK = ".kept"
+
 # How much is read at once, in octets.
 PIECE = 1 << 18
 

@@ -166,6 +166,7 @@ WARNINGS = (
     ("journal.txt", "2.pcap", (CAPTURE, CAPTURE), ((2, "port 2's input in line 13"),)),
     ("journal.txt", "plan.toml", (CAPTURE, CAPTURE), ((2, "this configuration"),)),
     ("journal.txt", "link.pcap", (CAPTURE, CAPTURE), ((2, "port 1's input in line 7"),)),
+    ("journal.txt", "pipe", (CAPTURE, CAPTURE), ((2, "savi-journal-keep keep pipe"),)),
     (JOURNAL, JOURNAL + '\ncontrol = "1.pcap"\ncontrol_out = "2.out"', (CAPTURE, CAPTURE),
      ((3, "port 1's input in line 9"), (4, "port 2's output in line 16"))),
     ("2.out", "/dev/null", (CAPTURE, CAPTURE), ()),
