@@ -236,9 +236,17 @@ class Keeper:
                 if not self.shelf.make_room():
                     raise Lost(f"{file.name}: {error.strerror}, and no part is there to be removed") from None
 
+    def new_run(self):
+        """A name by the time, which no other run has."""
+        while True:
+            now = time.time_ns() // 1_000_000
+            run = f"{time.strftime('%Y%m%dT%H%M%S', time.gmtime(now // 1000))}.{now % 1000:03}Z"
+            if not any(name.startswith(run) for name in os.listdir(self.shelf.folder)):
+                return run
+            time.sleep(0.001)
+
     def begin_run(self, octets):
-        now = time.time_ns() // 1_000_000
-        self.run = f"{time.strftime('%Y%m%dT%H%M%S', time.gmtime(now // 1000))}.{now % 1000:03}Z"
+        self.run = self.new_run()
         self.number = self.entry = 0
         self.head = b""
         if not octets.startswith(BEGIN):
