@@ -137,9 +137,12 @@ class Folder:
         parts = kept.of_run(kept.parts_of(self.path), None)
         if parts and parts[0].run != self.run:
             self.begin(parts[0])
-        for part in parts:
-            if part.number > self.number or part.number == self.number and not self.is_whole:
-                self.read(part)
+        try:
+            for part in parts:
+                if part.number > self.number or part.number == self.number and not self.is_whole:
+                    self.read(part)
+        except FileNotFoundError:
+            pass  # it was packed or removed just now: the next look reads on, from it
         return bool(parts)
 
     def begin(self, part):
@@ -154,13 +157,10 @@ class Folder:
         if part.number != self.number:
             self.number, self.octets, self.is_whole = part.number, 0, False
             self.counts.go_on_in(part.name)
-        try:
-            for piece in kept.pieces(part, self.octets):
-                self.counts.take(piece)
-                self.octets += len(piece)
-            self.is_whole = bool(part.form)
-        except FileNotFoundError:
-            pass  # it was packed or removed just now: the next look reads on
+        for piece in kept.pieces(part, self.octets):
+            self.counts.take(piece)
+            self.octets += len(piece)
+        self.is_whole = bool(part.form)
 
     def lacks(self):
         if self.first == 1:

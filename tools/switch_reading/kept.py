@@ -8,7 +8,7 @@ import re
 import shutil
 import signal
 import subprocess
-from dataclasses import dataclass
+from dataclasses import dataclass, replace
 
 # By what a part's name ends, the program that packed it.
 PACKERS = {".zst": "zstd", ".xz": "xz", ".gz": "gzip"}
@@ -75,9 +75,16 @@ def head_of(folder, run):
         return b""
 
 
+def as_it_is(part):
+    """A part as it is now: it may have been packed since it was listed."""
+    forms = (part.form, "", *PACKERS)
+    return next((other for form in forms if os.path.exists((other := replace(part, form=form)).path)), part)
+
+
 @contextlib.contextmanager
 def opened(part):
     """The text of a part, as a file of octets."""
+    part = as_it_is(part)
     if not part.form:
         with open(part.path, "rb") as file:
             yield file
@@ -100,7 +107,7 @@ def opened(part):
 def pieces(part, skipped=0):
     """The octets of a part in pieces, but for so many at its front."""
     with opened(part) as file:
-        if not part.form:
+        if file.seekable():
             file.seek(skipped)
             skipped = 0
         while piece := file.read(PIECE):
