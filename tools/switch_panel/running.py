@@ -9,6 +9,8 @@ import stat
 import sys
 import time
 
+from switch_reading.kept import is_unkept_pipe
+
 from .files import INTERFACES, Fault
 from .limits import descriptors, lacking_descriptors, threads
 from .operators import Control, Ended
@@ -72,6 +74,8 @@ class Run:
         if mode & stat.S_IXOTH:
             self.tell(f"warning: {self.folder}: anyone may enter (mode {mode:04o}), and whoever comes to a path of the "
                       "switch before the panel is its peer: chmod 700")
+        if is_unkept_pipe(journal := os.path.join(self.folder, self.panel.plan.journal)):
+            self.tell(f"warning: {journal}: a pipe that savi-journal-keep doesn't read: the switch waits until somebody does")
 
     async def start_switch(self):
         if not self.start_program:

@@ -7,6 +7,7 @@ import os
 import re
 import shutil
 import signal
+import stat
 import subprocess
 from dataclasses import dataclass, replace
 
@@ -47,6 +48,14 @@ class Part:
     @property
     def path(self):
         return os.path.join(self.folder, self.name)
+
+
+def is_unkept_pipe(path):
+    """Whether a journal is a pipe that has no folder of parts: who writes to it waits until somebody reads it."""
+    try:
+        return stat.S_ISFIFO(os.stat(path).st_mode) and not os.path.isdir(f"{path}{LINK}")
+    except OSError:
+        return False
 
 
 def parts_of(folder):

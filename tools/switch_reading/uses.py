@@ -5,7 +5,7 @@ import stat
 from dataclasses import dataclass
 
 from .explaining import Finding, shown
-from .kept import LINK as KEPT_LINK
+from .kept import is_unkept_pipe
 from .toml_text import Items
 
 # The longest path of a socket, in octets (sun_path of unix(7), and its end).
@@ -146,18 +146,13 @@ def use_warnings(use, folder):
         return [use.warning("a folder", "Write the name of a file.")]
     if use.is_socket:
         return socket_warnings(use, path, parent)
-    if use.key == "journal" and os.path.exists(path) and stat.S_ISFIFO(os.stat(path).st_mode) and not is_kept(path):
+    if use.key == "journal" and is_unkept_pipe(path):
         return [use.warning("a pipe that savi-journal-keep doesn't read: the program waits until somebody reads it",
                             f"Start its reader first: savi-journal-keep keep {use.name} FOLDER")]
     if use.is_written:
         can = os.access(path if os.path.exists(path) else parent, os.W_OK)
         return [] if can else [use.warning("you may not write there", "Write a name in a folder of yours.")]
     return input_warnings(use, path)
-
-
-def is_kept(path):
-    """Whether a pipe has a folder of savi-journal-keep."""
-    return os.path.isdir(f"{path}{KEPT_LINK}")
 
 
 def socket_warnings(use, path, parent):
