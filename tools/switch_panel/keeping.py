@@ -8,7 +8,7 @@ import subprocess
 import threading
 import time
 
-from switch_reading.kept import HEAD, PACKERS, Part, parts_of
+from switch_reading.kept import HEAD, PACKERS, Part, parts_of, run_name
 
 # The longest line (docs/FORMATS.md), with its line feed. What is longer is kept as it comes.
 LONGEST = 3401
@@ -239,8 +239,7 @@ class Keeper:
     def new_run(self):
         """A name by the time, which no other run has."""
         while True:
-            now = time.time_ns() // 1_000_000
-            run = f"{time.strftime('%Y%m%dT%H%M%S', time.gmtime(now // 1000))}.{now % 1000:03}Z"
+            run = run_name(time.time_ns() // 1_000_000)
             if not any(name.startswith(run) for name in os.listdir(self.shelf.folder)):
                 return run
             time.sleep(0.001)

@@ -121,6 +121,10 @@ class File:
         mine = os.fstat(self.file.fileno())
         return (mine.st_dev, mine.st_ino) != (found.st_dev, found.st_ino) or found.st_size < self.file.tell()
 
+    def is_older(self, moment):
+        """Whether it was last written before a moment, in ms."""
+        return os.fstat(self.file.fileno()).st_mtime_ns < 1_000_000 * moment
+
     def lacks(self):
         return None
 
@@ -161,6 +165,10 @@ class Folder:
             self.counts.take(piece)
             self.octets += len(piece)
         self.is_whole = bool(part.form)
+
+    def is_older(self, moment):
+        """Whether its last run began before a moment, in ms."""
+        return self.run < kept.run_name(moment)
 
     def lacks(self):
         if self.first == 1:

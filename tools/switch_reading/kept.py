@@ -9,6 +9,7 @@ import shutil
 import signal
 import stat
 import subprocess
+import time
 from dataclasses import dataclass, replace
 
 # By what a part's name ends, the program that packed it.
@@ -48,6 +49,11 @@ class Part:
     @property
     def path(self):
         return os.path.join(self.folder, self.name)
+
+
+def run_name(moment):
+    """The name of a run that begins at a moment, in ms."""
+    return f"{time.strftime('%Y%m%dT%H%M%S', time.gmtime(moment // 1000))}.{moment % 1000:03}Z"
 
 
 def is_unkept_pipe(path):
