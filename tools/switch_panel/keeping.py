@@ -1,5 +1,6 @@
 """Keeps the journal of a live switch in parts: each of whole segments, packed, and no more of them than there is room for
 (docs/savi-journal-keep.8)."""
+import errno
 import os
 import queue
 import re
@@ -21,6 +22,9 @@ LONGEST_HEAD = 1 << 14
 
 # How many octets are written between two looks at the room.
 LOOK = 1 << 24
+
+# What a write answers where a disk has no room.
+FULL = (errno.ENOSPC, errno.EDQUOT)
 
 # The words by which each program packs a file, and leaves it under the name with its ending alone.
 PACKING = {"zstd": ("zstd", "-q", "-f", "--rm"), "xz": ("xz", "-q", "-f"), "gzip": ("gzip", "-q", "-f")}
@@ -233,8 +237,12 @@ class Keeper:
             try:
                 left = left[file.write(left):]
             except OSError as error:
-                if not self.shelf.make_room():
-                    raise Lost(f"{file.name}: {error.strerror}, and no part is there to be removed") from None
+                if not self.may_go_on(error):
+                    raise Lost(f"{file.name}: {error.strerror}") from None
+
+    def may_go_on(self, error):
+        """Whether a disk was full, and the oldest part could be removed."""
+        return error.errno in FULL and self.shelf.make_room()
 
     def new_run(self):
         """A name by the time, which no other run has."""
@@ -265,7 +273,7 @@ class Keeper:
             try:
                 return open(path, "xb", buffering=0)
             except OSError as error:
-                if isinstance(error, FileExistsError) or not self.shelf.make_room():
+                if not self.may_go_on(error):
                     raise Lost(f"{path}: it can't be made: {error.strerror}") from None
 
     def take_head(self, octets):
