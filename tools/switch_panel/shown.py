@@ -1,4 +1,5 @@
 """The tables of `savi-ctl`."""
+from switch_reading import columns
 
 # What becomes of a binding when its time is over, by its state.
 BECOMES = {"bound": "ends", "tentative": "valid", "valid": "asked", "testing-lt": "gone", "testing-vp": "port {}'s"}
@@ -14,11 +15,7 @@ PEERS = {"here": "guest is here", "away": "no guest", "joined": "interface", "lo
 
 def table(heads, rows, numbers=()):
     """Rows under their heads, in columns. Columns of `numbers` end at their right."""
-    cells = [list(heads), *([str(cell) for cell in row] for row in rows)]
-    widths = [max(map(len, column)) for column in zip(*cells)]
-    for row in cells:
-        yield "  ".join(cell.rjust(width) if head in numbers else cell.ljust(width)
-                        for head, cell, width in zip(heads, row, widths)).rstrip()
+    return columns.table(list(heads), rows, [head for head in heads if head not in numbers])
 
 
 def span(ms):

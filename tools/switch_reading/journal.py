@@ -1,8 +1,11 @@
 """Journals (docs/FORMATS.md, The journal): the plan of one, and its entries one by one, of all segments."""
 import functools
+import io
+import os
 import re
 from dataclasses import dataclass
 
+from . import kept
 from .commands import RULES
 from .plan import Plan, PortPlan, key_fault, list_fault, read_address, read_mac, read_prefix
 
@@ -301,5 +304,8 @@ def lines_of(file):
 
 
 def open_journal(name):
-    # Each octet is a character, so that any file can be read up to what is at fault in it.
-    return open(name, encoding="latin-1", newline="\n")
+    """A journal in a file, or the last run in a folder of savi-journal-keep. Each octet is a character, so that any file can
+    be read up to what is at fault in it."""
+    if not os.path.isdir(name):
+        return open(name, encoding="latin-1", newline="\n")
+    return io.TextIOWrapper(io.BufferedReader(kept.LastRun(name), kept.PIECE), encoding="latin-1", newline="\n")

@@ -3,6 +3,7 @@
 A part has whole segments of one run, but for the last part of a run that was killed. Behind one another the parts of a run
 are its journal, octet for octet."""
 import contextlib
+import io
 import os
 import re
 import shutil
@@ -28,8 +29,14 @@ LINK = ".kept"
 PIECE = 1 << 18
 
 
-class Fault(Exception):
+class Fault(OSError):
     """Why parts can't be read, in words that name them."""
+
+    def __init__(self, what):
+        super().__init__(None, what)
+
+    def __str__(self):
+        return self.strerror
 
 
 @dataclass(frozen=True, order=True)
@@ -128,3 +135,43 @@ def pieces(part, skipped=0):
         while piece := file.read(PIECE):
             yield piece[skipped:]
             skipped = max(0, skipped - len(piece))
+
+
+def text_of(parts, told=None):
+    """The octets of a run's parts in pieces; where the first ones aren't there, its head in front of the rest. Others that
+    lack are told to `told`, as (first, last), or else are a fault."""
+    if parts[0].number > 1:
+        yield head_of(parts[0].folder, parts[0].run)
+    wanted = parts[0].number
+    for part in parts:
+        if part.number > wanted and not told:
+            raise Fault(f"{part.folder}: parts {wanted} to {part.number - 1} of {part.run} aren't there")
+        if part.number > wanted:
+            told(wanted, part.number - 1)
+        wanted = part.number + 1
+        yield from pieces(part)
+
+
+class LastRun(io.RawIOBase):
+    """The journal of the last run in a folder, or what is there of it, as a file."""
+
+    def __init__(self, folder):
+        super().__init__()
+        parts = of_run(parts_of(folder), None)
+        if not parts:
+            raise Fault(f"no part of a journal is in {folder}")
+        self.pieces, self.left = text_of(parts), b""
+
+    def readable(self):
+        return True
+
+    def readinto(self, room):
+        while not self.left:
+            self.left = next(self.pieces, None)
+            if self.left is None:
+                self.left = b""
+                return 0
+        count = min(len(room), len(self.left))
+        room[:count] = self.left[:count]
+        self.left = self.left[count:]
+        return count
