@@ -28,7 +28,7 @@ plan:
 # in C; its own load; the check of a journal beside the replay that wrote it; a history that turns beside one that holds it
 # all; the reader of captures beside tcpdump; the pass lock beside a mutex; the stations, the bindings and the timers beside
 # hash maps; and steps of the core, with the validation of sources and without. Then one table, beside C and, with make bench
-# BEFORE=PROGRAM, beside that program. The first time takes the builds, and then about three minutes, or six with BEFORE.
+# BEFORE=PROGRAM, beside that program. The first time takes the builds, and then about four minutes, longer with BEFORE.
 BEFORE =
 bench: build build/capture_bench build/lock_bench build/fdb_bench build/tables_bench build/core_bench
 	bench/all build/savi_switch $(if $(BEFORE),--before "$(BEFORE)")
