@@ -27,19 +27,11 @@ plan:
 # The program beside a C program that does the same octet work without judging, with 2 ports and with 5; live, beside a hub
 # in C; its own load; the check of a journal beside the replay that wrote it; a history that turns beside one that holds it
 # all; the reader of captures beside tcpdump; the pass lock beside a mutex; the stations, the bindings and the timers beside
-# hash maps; and steps of the core, with the validation of sources and without. The first time takes the builds, and then
-# about three minutes.
+# hash maps; and steps of the core, with the validation of sources and without. Then one table, beside C and, with make bench
+# BEFORE=PROGRAM, beside that program. The first time takes the builds, and then about four minutes, longer with BEFORE.
+BEFORE =
 bench: build build/capture_bench build/lock_bench build/fdb_bench build/tables_bench build/core_bench
-	bench/run build/savi_switch
-	bench/streams build/savi_switch
-	bench/load build/savi_switch
-	bench/check build/savi_switch
-	bench/segments build/savi_switch
-	bench/captures.py build/capture_bench
-	bench/lock build/lock_bench
-	bench/stations build/fdb_bench
-	bench/tables build/tables_bench
-	bench/core build/core_bench
+	bench/all build/savi_switch $(if $(BEFORE),--before "$(BEFORE)")
 
 # Attacks on real kernels in network namespaces, over a plain bridge and over the program, live; as root, behind `make
 # build`: lab/README.md.

@@ -30,14 +30,14 @@ def block(kind, body):
     return struct.pack("<I", kind) + total + body + total
 
 
-def make_capture(path, least, most):
+def make_capture(path, least, most, count=FRAMES):
     """Writes the capture, the same one in each run, with every length about equally often, and stamps in microseconds."""
     lengths = random.Random(1)
     frames = {size: frame(size) + bytes(-size % 4) for size in range(least, most + 1)}
     with open(path, "wb") as out:
         out.write(block(0x0A0D0D0A, struct.pack("<IHHq", 0x1A2B3C4D, 1, 0, -1)))
         out.write(block(1, struct.pack("<HHI", 1, 0, 262144)))
-        for k in range(FRAMES):
+        for k in range(count):
             size = lengths.randint(least, most)
             stamp = 1000 * k
             out.write(block(6, struct.pack("<5I", 0, stamp >> 32, stamp & 0xFFFFFFFF, size, size) + frames[size]))

@@ -69,14 +69,21 @@ def program(word):
     return path
 
 
-def of_measurement(text, rounds):
-    """The program and the rounds that a measurement is given."""
+def before(words):
+    """Takes a second program, which is measured beside the first."""
+    words.add_argument("--before", metavar="PROGRAM", type=program, help="a second program, which is measured beside it")
+
+
+def of_measurement(text, rounds, has_before=False):
+    """The program and the rounds that a measurement is given, and the program before it, where it takes one."""
     words = parser(text)
     words.add_argument("program", metavar="PROGRAM", type=program, help="the program that is measured")
     words.add_argument("rounds", metavar="ROUNDS", nargs="?", type=whole(1), default=rounds,
                        help="how many rounds, of which the least time is told: %(default)s if not given")
+    if has_before:
+        before(words)
     given = words.parse_args()
-    return given.program, given.rounds
+    return (given.program, given.rounds, given.before) if has_before else (given.program, given.rounds)
 
 
 def folder(word):
